@@ -4,3 +4,7 @@ pub mod Limits
 pub mod Header
 pub mod Parts
 pub mod Kept
+pub mod Effects
+pub mod Owed
+pub mod Central
+pub mod Worked

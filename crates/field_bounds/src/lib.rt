@@ -8,17 +8,21 @@ mod field;
 mod header;
 mod id;
 mod kind;
+mod laws;
 mod limits;
 mod macros;
 mod schema;
+mod worked;
 
 pub use entry::{Command, Entry, Escrow, Refusal, Reply};
 pub use fault::SchemaFault;
 pub use field::FieldSpec;
 pub use id::{FieldNo, SiteNo, TxnId};
 pub use kind::Kind;
+pub use laws::{one_central_store, outcomes_lie_between, share_is_exact};
 pub use limits::{MAX_CHANGE, MAX_ESCROWS, MAX_HEADER, MAX_NUMBER, MAX_OPEN};
 pub use schema::Schema;
+pub use worked::{worked_runs, worked_values, wrong_replies};
 
 #[cfg(test)]
 mod tests;

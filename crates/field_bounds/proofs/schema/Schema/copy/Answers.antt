@@ -1,4 +1,4 @@
-use Rattle.std.proofs.Common.{List, Ok, ◌∙◌, sym, ap, subst, rules}
+use Rattle.std.proofs.Common.{List, ◌∙◌, sym, ap, subst, rules}
 use Rattle.field_bounds.specs.Schema.{SchemaValue, FieldValue}
 use Rattle.field_bounds.specs.Limits.{IsSchema}
 use Rattle.field_bounds.proofs.Kept.{clone_is}

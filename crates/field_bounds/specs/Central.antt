@@ -1,0 +1,158 @@
+-- One trace of all sites, as a run of one central store.
+-- A trace has the newest entry first, so that the rest of a list is the front before its head.
+use Rattle.std.specs.Prelude.{◌≡◌, ℕ, ◌+◌, ◌<◌, ◌==◌, ℤ, pos, ◌+ℤ◌, ◌-ℤ◌, ◌≤ℤ◌, unsigned_abs, Bool, false, ◌&&◌, ◌||◌, if◌then◌else◌, List, [], ◌∷◌, length}
+use Rattle.field_bounds.specs.declared.kind.Kind.{Kind}
+use Rattle.field_bounds.specs.declared.kind.Kind.TheVariants.{Lower, Raise}
+use Rattle.field_bounds.specs.declared.id.TxnId.{TxnId}
+use Rattle.field_bounds.specs.declared.entry.Command.{Command}
+use Rattle.field_bounds.specs.declared.entry.Command.TheVariants.{Escrow, Read}
+use Rattle.field_bounds.specs.declared.entry.Reply.{Reply}
+use Rattle.field_bounds.specs.declared.entry.Reply.TheVariants.{Granted, Between, Refused}
+use Rattle.field_bounds.specs.declared.entry.Refusal.TheVariants.{Short}
+use Rattle.field_bounds.specs.declared.entry.Entry.{Entry}
+use Rattle.field_bounds.specs.Kind.{same_kind, kind_of}
+use Rattle.field_bounds.specs.Schema.{SchemaValue}
+use Rattle.field_bounds.specs.Parts.{field_at, sum_below}
+use Rattle.field_bounds.specs.Effects.{fresh, Effect, is_committed, is_open, share, effects}
+use Rattle.field_bounds.specs.Owed.{IsRun}
+
+-- ---- the entries of one site, and the fate of its transactions in the trace
+
+-- The entries of site s, in their order (this project).
+abbrev pub own : ℕ → List Entry → List Entry
+own s [] = []
+own s (e ∷ t) = if e.site.0 == s then e ∷ own s t else own s t
+
+-- What took effect at a site over the whole trace, on its fresh base (this project).
+abbrev pub at_site : SchemaValue → List Entry → ℕ → List Effect
+at_site schema t s = effects (fresh schema s) false (own s t)
+
+-- Whether a transaction of site s is committed in the trace (O'Neil 1986).
+abbrev pub is_committed_in : SchemaValue → List Entry → ℕ → TxnId → Bool
+is_committed_in schema t s txn = is_committed txn (at_site schema t s)
+
+-- Whether a transaction of site s is open in the trace (O'Neil 1986).
+abbrev pub is_open_in : SchemaValue → List Entry → ℕ → TxnId → Bool
+is_open_in schema t s txn = is_open txn (at_site schema t s)
+
+-- ---- sums over the trace
+
+-- The size of an entry's escrow, if it was granted on field f, of kind k, to a transaction that passes (this project).
+abbrev pub size_of : (ℕ → TxnId → Bool) → ℕ → Kind → ℕ → Command → Reply → ℕ
+size_of p f k s (Escrow txn field change) Granted =
+    if (field.0 == f) && same_kind (kind_of change) k && p s txn then unsigned_abs change else 0
+size_of p f k s command reply = 0
+
+-- The sizes of all such escrows of the trace, added up (this project).
+abbrev pub sizes : (ℕ → TxnId → Bool) → ℕ → Kind → List Entry → ℕ
+sizes p f k [] = 0
+sizes p f k (e ∷ t) = size_of p f k e.site.0 e.command e.reply + sizes p f k t
+
+-- The change of an entry's escrow, if it was granted on field f to a transaction that passes (this project).
+abbrev pub change_of : (ℕ → TxnId → Bool) → ℕ → ℕ → Command → Reply → ℤ
+change_of p f s (Escrow txn field change) Granted = if (field.0 == f) && p s txn then change else pos 0
+change_of p f s command reply = pos 0
+
+-- The changes of all such escrows of the trace, added up (this project).
+abbrev pub changes : (ℕ → TxnId → Bool) → ℕ → List Entry → ℤ
+changes p f [] = pos 0
+changes p f (e ∷ t) = change_of p f e.site.0 e.command e.reply +ℤ changes p f t
+
+-- ---- committed value, infimum, supremum and outcomes
+
+-- The committed value: the start value and the changes of all escrows whose transaction is committed (O'Neil 1986).
+abbrev pub committed : SchemaValue → List Entry → ℕ → ℤ
+committed schema t f = (field_at schema f).value +ℤ changes (is_committed_in schema t) f t
+
+-- The sizes of all escrows of a kind whose transaction is open (O'Neil 1986; each by itself: this project).
+abbrev pub open_sizes : SchemaValue → List Entry → ℕ → Kind → ℕ
+open_sizes schema t f k = sizes (is_open_in schema t) f k t
+
+-- The infimum: the committed value less all open lowerings (O'Neil 1986).
+abbrev pub inf : SchemaValue → List Entry → ℕ → ℤ
+inf schema t f = committed schema t f -ℤ pos (open_sizes schema t f Lower)
+
+-- The supremum: the committed value and all open raisings (O'Neil 1986).
+abbrev pub sup : SchemaValue → List Entry → ℕ → ℤ
+sup schema t f = committed schema t f +ℤ pos (open_sizes schema t f Raise)
+
+-- Whether a transaction is committed once the chosen open ones are, and the other open ones aborted (O'Neil 1986).
+abbrev pub is_committed_by : SchemaValue → List Entry → (ℕ → TxnId → Bool) → ℕ → TxnId → Bool
+is_committed_by schema t chosen s txn = is_committed_in schema t s txn || (is_open_in schema t s txn && chosen s txn)
+
+-- The outcome of a choice: the committed value once the open transactions have ended by it (O'Neil 1986).
+abbrev pub outcome : SchemaValue → List Entry → ℕ → (ℕ → TxnId → Bool) → ℤ
+outcome schema t f chosen = (field_at schema f).value +ℤ changes (is_committed_by schema t chosen) f t
+
+-- ---- the rules of one entry, over the front before it
+
+-- One central store may grant a lowering that leaves the infimum at the floor or above, and a raising that leaves
+-- the supremum at the ceiling or below (O'Neil 1986).
+abbrev pub MayBeGranted : SchemaValue → List Entry → ℕ → Kind → ℕ → Type 0
+MayBeGranted schema t f Lower n = (field_at schema f).floor ≤ℤ (inf schema t f -ℤ pos n)
+MayBeGranted schema t f Raise n = (sup schema t f +ℤ pos n) ≤ℤ (field_at schema f).ceiling
+
+-- An escrow on a field of the schema is granted only where one central store may grant it (this project).
+abbrev pub GrantRule : SchemaValue → List Entry → Command → Reply → Type 0
+GrantRule schema t (Escrow txn field change) Granted =
+    field.0 < length schema.fields → MayBeGranted schema t field.0 (kind_of change) (unsigned_abs change)
+GrantRule schema t command reply = Unit {0}
+
+-- Of a field of the schema, the number told is the site's share of the kind, and less than was asked (this project).
+abbrev pub IsShortage : SchemaValue → List Entry → ℕ → ℕ → Kind → ℕ → ℕ → Type 0
+IsShortage schema t s f k asked told =
+    f < length schema.fields → (told ≡ share (fresh schema s) f k (at_site schema t s)) × (told < asked)
+
+-- An escrow that is refused as short is told such a shortage (this project).
+abbrev pub ShortageRule : SchemaValue → List Entry → ℕ → Command → Reply → Type 0
+ShortageRule schema t s (Escrow txn field change) (Refused (Short told)) =
+    IsShortage schema t s field.0 (kind_of change) (unsigned_abs change) told
+ShortageRule schema t s command reply = Unit {0}
+
+-- The interval that a read tells of a field of the schema holds the committed value (this project).
+abbrev pub IntervalRule : SchemaValue → List Entry → Command → Reply → Type 0
+IntervalRule schema t (Read field) (Between lo hi) =
+    field.0 < length schema.fields → (lo ≤ℤ committed schema t field.0) × (committed schema t field.0 ≤ℤ hi)
+IntervalRule schema t command reply = Unit {0}
+
+-- An entry keeps the rules over the front before it, and its site is in the schema (this project).
+pub record KeepsRules (schema : SchemaValue) (t : List Entry) (e : Entry) : Type 0 where
+  pub site : e.site.0 < schema.sites
+  pub grant : GrantRule schema t e.command e.reply
+  pub shortage : ShortageRule schema t e.site.0 e.command e.reply
+  pub interval : IntervalRule schema t e.command e.reply
+
+-- A trace is a run of one central store: each entry keeps the rules over the front before it (this project).
+abbrev pub IsCentral : SchemaValue → List Entry → Type 0
+IsCentral schema [] = Unit {0}
+IsCentral schema (e ∷ t) = IsCentral schema t × KeepsRules schema t e
+
+-- ---- soundness
+
+-- Each entry's site is in the schema (this project).
+abbrev pub IsAtSites : SchemaValue → List Entry → Type 0
+IsAtSites schema [] = Unit {0}
+IsAtSites schema (e ∷ t) = IsAtSites schema t × (e.site.0 < schema.sites)
+
+-- A trace is sound: each entry's site is in the schema, and each reply is owed after its own site's entries alone,
+-- on a fresh base (this project).
+pub record IsSound (schema : SchemaValue) (t : List Entry) : Type 0 where
+  pub sites : IsAtSites schema t
+  pub runs : (s : ℕ) → s < schema.sites → IsRun schema s (fresh schema s) (own s t)
+
+-- ---- conservation
+
+-- The shares of all sites of a kind on a field, added up (Balegas and others 2015).
+abbrev pub shares : SchemaValue → List Entry → ℕ → Kind → ℕ
+shares schema t f k = sum_below schema.sites (λ s. share (fresh schema s) f k (at_site schema t s))
+
+-- Rights are conserved: the infimum lies above the floor, and the supremum below the ceiling, by exactly the shares
+-- of all sites (Balegas and others 2015 for the floor, this project for both and for open escrows).
+pub record IsConserved (schema : SchemaValue) (t : List Entry) : Type 0 where
+  pub lowering : (f : ℕ) → inf schema t f ≡ ((field_at schema f).floor +ℤ pos (shares schema t f Lower))
+  pub raising : (f : ℕ) → sup schema t f +ℤ pos (shares schema t f Raise) ≡ (field_at schema f).ceiling
+
+-- Rights are conserved in every front of a trace, from the empty one to the whole one (this project).
+abbrev pub IsConservedThroughout : SchemaValue → List Entry → Type 0
+IsConservedThroughout schema [] = IsConserved schema []
+IsConservedThroughout schema (e ∷ t) = IsConservedThroughout schema t × IsConserved schema (e ∷ t)

@@ -1,0 +1,164 @@
+-- The reply that a site owes after its own entries, the newest first.
+use Rattle.std.specs.Prelude.{◌≡◌, ℕ, ◌+◌, ◌==◌, nat_lt, nat_le, ℤ, pos, ◌+ℤ◌, ◌-ℤ◌, unsigned_abs, Bool, false, true, not, ◌&&◌, if◌then◌else◌, List, [], ◌∷◌, length, MatchOption, Option, Some, None, is_none}
+use Rattle.field_bounds.specs.declared.kind.Kind.{Kind}
+use Rattle.field_bounds.specs.declared.kind.Kind.TheVariants.{Lower, Raise}
+use Rattle.field_bounds.specs.declared.id.TxnId.{TxnId}
+use Rattle.field_bounds.specs.declared.id.FieldNo.{FieldNo}
+use Rattle.field_bounds.specs.declared.entry.Command.{Command}
+use Rattle.field_bounds.specs.declared.entry.Command.TheVariants.{Begin, Escrow, Commit, Abort, Read}
+use Rattle.field_bounds.specs.declared.entry.Reply.{Reply}
+use Rattle.field_bounds.specs.declared.entry.Reply.TheVariants.{Begun, Granted, Committed, Aborted, Between, Refused}
+use Rattle.field_bounds.specs.declared.entry.Refusal.{Refusal}
+use Rattle.field_bounds.specs.declared.entry.Refusal.TheVariants.{NoField, NoTransaction, Zero, TooLarge, Short, TooManyOpen, TooManyEscrows, NumbersFull}
+use Rattle.field_bounds.specs.declared.entry.Entry.{Entry}
+use Rattle.field_bounds.specs.Kind.{kind_of}
+use Rattle.field_bounds.specs.Schema.{SchemaValue}
+use Rattle.field_bounds.specs.Parts.{field_at}
+use Rattle.field_bounds.specs.Effects.{Base, Effect, is_begun, is_open, open_txns, escrows_of, share, own_rights, effects}
+
+-- ---- epochs and counts
+
+abbrev pub epoch_after : ℕ → Reply → ℕ
+epoch_after epoch reply = epoch
+
+-- The epoch in which a site stands.
+abbrev pub epoch_of : Base → List Entry → ℕ
+epoch_of base [] = base.epoch
+epoch_of base (e ∷ o) = epoch_after (epoch_of base o) e.reply
+
+abbrev pub count_after : (Reply → Bool) → ℕ → Reply → ℕ
+count_after p n reply = (if p reply then 1 else 0) + n
+
+-- The replies of this epoch that pass.
+abbrev pub count_since : (Reply → Bool) → List Entry → ℕ
+count_since p [] = 0
+count_since p (e ∷ o) = count_after p (count_since p o) e.reply
+
+abbrev pub is_begun_reply : Reply → Bool
+is_begun_reply (Begun txn) = true
+is_begun_reply reply = false
+
+-- How many transactions are open, and how many escrows a transaction has.
+abbrev pub count_open : List Effect → ℕ
+count_open es = length (open_txns es)
+
+abbrev pub count_escrows : TxnId → List Effect → ℕ
+count_escrows id es = length (escrows_of id es)
+
+-- ---- the ladder of refusals (this project; O'Neil 1986 for the test of an escrow)
+
+-- Where a site stands when a command comes.
+pub record Place : Type 0 where
+  pub schema : SchemaValue
+  pub site : ℕ
+  pub base : Base
+  pub entries : List Entry
+  pub effects : List Effect
+
+-- Where a site stands after these entries.
+abbrev pub place : SchemaValue → ℕ → Base → List Entry → Place
+place schema site base entries =
+    record { schema = schema; site = site; base = base; entries = entries; effects = effects base false entries }
+
+-- A test, with the refusal where it holds.
+abbrev pub Test : Type 0
+Test = Bool × Refusal
+
+abbrev pub when : Bool → Refusal → Test
+when test refusal = (test, refusal)
+
+-- The refusal of the first test that holds.
+abbrev pub first : List Test → Option Refusal
+first [] = None
+first (test ∷ rest) = if test.0 then Some test.1 else first rest
+
+-- The greatest amount or change without its sign, the most open transactions, the most escrows of one, and the last
+-- transaction number of an epoch.
+abbrev pub max_change : ℕ
+max_change = 2_000_000_000_000_000
+
+abbrev pub max_open : ℕ
+max_open = 64
+
+abbrev pub max_escrows : ℕ
+max_escrows = 16
+
+abbrev pub max_number : ℕ
+max_number = 1_000_000_000
+
+-- The share and the own rights of a kind on a field, where the site stands.
+abbrev pub free : Place → FieldNo → Kind → ℕ
+free at field kind = share at.base field.0 kind at.effects
+
+abbrev pub owned : Place → FieldNo → Kind → ℕ
+owned at field kind = own_rights at.base field.0 kind at.effects
+
+-- The tests, each with its refusal.
+abbrev pub no_field : Place → FieldNo → Test
+no_field at field = when (nat_le (length at.schema.fields) field.0) NoField
+
+abbrev pub no_transaction : Place → TxnId → Test
+no_transaction at txn = when (not (is_begun txn at.effects && is_open txn at.effects)) NoTransaction
+
+abbrev pub zero_asked : ℕ → Test
+zero_asked n = when (n == 0) Zero
+
+abbrev pub too_large : ℕ → ℕ → Test
+too_large most n = when (nat_lt most n) TooLarge
+
+abbrev pub short : Place → FieldNo → Kind → ℕ → Test
+short at field kind q = when (nat_lt (free at field kind) q) (Short (free at field kind))
+
+abbrev pub too_many_open : Place → Test
+too_many_open at = when (nat_le max_open (count_open at.effects)) TooManyOpen
+
+abbrev pub too_many_escrows : Place → TxnId → Test
+too_many_escrows at txn = when (nat_le max_escrows (count_escrows txn at.effects)) TooManyEscrows
+
+abbrev pub numbers_full : Place → Test
+numbers_full at = when (nat_le max_number (count_since is_begun_reply at.entries)) NumbersFull
+
+-- The ladder: the tests of a command, in their order.
+abbrev pub refusals : Place → Command → List Test
+refusals at Begin = too_many_open at ∷ numbers_full at ∷ []
+refusals at (Escrow txn field change) =
+    no_field at field ∷ no_transaction at txn ∷ zero_asked (unsigned_abs change) ∷ too_large max_change (unsigned_abs change)
+    ∷ short at field (kind_of change) (unsigned_abs change) ∷ too_many_escrows at txn ∷ []
+refusals at (Commit txn) = no_transaction at txn ∷ []
+refusals at (Abort txn) = no_transaction at txn ∷ []
+refusals at (Read field) = no_field at field ∷ []
+
+-- ---- the answer where no refusal holds
+
+-- Between which values the committed value of a field lies: as far above the floor as the site has lowering rights,
+-- and as far below the ceiling as it has raising rights.
+abbrev pub interval_at : Place → FieldNo → ℤ × ℤ
+interval_at at field =
+    ((field_at at.schema field.0).floor +ℤ pos (owned at field Lower), (field_at at.schema field.0).ceiling -ℤ pos (owned at field Raise))
+
+abbrev pub answer : Place → Command → Reply
+answer at Begin = Begun (record { epoch = epoch_of at.base at.entries; number = count_since is_begun_reply at.entries + 1 })
+answer at (Escrow txn field change) = Granted
+answer at (Commit txn) = Committed
+answer at (Abort txn) = Aborted
+answer at (Read field) = Between (interval_at at field).0 (interval_at at field).1
+
+-- What a Read would answer, and none where it would be refused.
+abbrev pub interval_of : Place → FieldNo → Option (ℤ × ℤ)
+interval_of at field = if is_none (first (refusals at (Read field))) then Some (interval_at at field) else None
+
+-- A reply that touches neither rights nor transactions.
+abbrev pub is_quiet : Reply → Bool
+is_quiet (Between lo hi) = true
+is_quiet (Refused refusal) = true
+is_quiet reply = false
+
+-- The site owes this reply to this command: the first refusal that holds, or the answer.
+abbrev pub Fits : Place → Command → Reply → Type 0
+Fits at command reply =
+    MatchOption (first (refusals at command)) (reply ≡ answer at command) (λ refusal. reply ≡ Refused refusal)
+
+-- Each entry of a history fits those before it.
+abbrev pub IsRun : SchemaValue → ℕ → Base → List Entry → Type 0
+IsRun schema s base [] = Unit {0}
+IsRun schema s base (e ∷ o) = IsRun schema s base o × Fits (place schema s base o) e.command e.reply

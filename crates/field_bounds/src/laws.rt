@@ -1,0 +1,53 @@
+//! Laws of the definitions, each as the contract of a function that does nothing.
+
+ghost use Rattle.std.specs.Prelude.{ℕ, ◌≤◌, ◌≤ℤ◌, List, Bool};
+ghost use Rattle.field_bounds.specs.declared.id.TxnId.{TxnId};
+ghost use Rattle.field_bounds.specs.declared.kind.Kind.{Kind};
+ghost use Rattle.field_bounds.specs.declared.entry.Entry.{Entry};
+ghost use Rattle.field_bounds.specs.Schema.{SchemaValue};
+ghost use Rattle.field_bounds.specs.Limits.{IsSchema};
+ghost use Rattle.field_bounds.specs.Parts.{field_at};
+ghost use Rattle.field_bounds.specs.Effects.{Base, effects, rights_in, rights_out};
+ghost use Rattle.field_bounds.specs.Owed.{IsRun};
+ghost use Rattle.field_bounds.specs.Central.{inf, sup, outcome, IsCentral, IsSound, IsConservedThroughout};
+
+/// At a site whose replies are all owed, the rights that went out never exceed those that came in:
+/// the share, which is their difference, is never cut off at 0.
+pub fn share_is_exact()
+    ensures covered { (schema : SchemaValue) (s : ℕ) (base : Base) (o : List Entry) (kept : Bool) →
+        IsRun schema s base o → (f : ℕ) (k : Kind) →
+        rights_out f k (effects base kept o) ≤ rights_in base f k (effects base kept o) }
+{}
+
+/// Every sound trace is a run of one central store. If each site gave the replies that it owes
+/// after its own entries alone, then, over the entries of all sites in one order: an escrow was
+/// granted only where the infimum and supremum of one central store allow it, an escrow refused as
+/// short was told the site's share, which is less than was asked, and an interval that was read
+/// holds the committed value (`central`). At every moment the infimum lies above the floor, and the
+/// supremum below the ceiling, by exactly the rights that the sites have free (`conserved`). So no
+/// field can be taken past a bound, however the open transactions end (`bounded`). A trace has the
+/// newest entry first.
+///
+/// Source: O'Neil 1986 for infimum, supremum and the test of a grant, Balegas and others 2015 for
+/// rights that are divided among sites, this project for the rules and the theorem.
+pub fn one_central_store()
+    ensures central { (schema : SchemaValue) (trace : List Entry) →
+        IsSchema schema → IsSound schema trace → IsCentral schema trace }
+    ensures conserved { (schema : SchemaValue) (trace : List Entry) →
+        IsSchema schema → IsSound schema trace → IsConservedThroughout schema trace }
+    ensures bounded { (schema : SchemaValue) (trace : List Entry) →
+        IsSchema schema → IsSound schema trace → (f : ℕ) →
+        ((field_at schema f).floor ≤ℤ inf schema trace f)
+        × (sup schema trace f ≤ℤ (field_at schema f).ceiling) }
+{}
+
+/// Whichever of the open transactions of a trace are committed and whichever aborted, the value
+/// that is left lies from the infimum to the supremum.
+///
+/// Source: O'Neil 1986.
+pub fn outcomes_lie_between()
+    ensures within { (schema : SchemaValue) (trace : List Entry) (f : ℕ)
+        (chosen : ℕ → TxnId → Bool) →
+        (inf schema trace f ≤ℤ outcome schema trace f chosen)
+        × (outcome schema trace f chosen ≤ℤ sup schema trace f) }
+{}

@@ -1,0 +1,113 @@
+-- The rights of a site: for each field, by number, the free and the held ones of both kinds
+-- (Balegas and others 2015; this project for the two kinds).
+use Rattle.std.specs.Prelude.{◌≡◌, ℕ, ◌+◌, ◌-◌, ◌<◌, ◌≤◌, List, All, length, sum_by, slice_index_or, slice_set, unsigned_abs, fold}
+use Rattle.field_bounds.specs.declared.kind.Kind.{Kind}
+use Rattle.field_bounds.specs.declared.kind.Kind.TheVariants.{Lower, Raise}
+use Rattle.field_bounds.specs.declared.entry.Escrow.{Escrow}
+use Rattle.field_bounds.specs.Kind.{other, kind_of}
+use Rattle.field_bounds.specs.Schema.{SchemaValue}
+use Rattle.field_bounds.specs.Parts.{field_at, width_of, part_of}
+use Rattle.site_rights.specs.declared.field_rights.Amounts.{Amounts}
+use Rattle.site_rights.specs.declared.field_rights.FieldRights.{FieldRights}
+use Rattle.site_rights.specs.declared.field_rights.Outcome.{Outcome}
+use Rattle.site_rights.specs.declared.field_rights.Outcome.TheVariants.{Committed, Aborted}
+use Rattle.field_bounds.specs.Effects.{takes}
+
+-- The amounts of a kind.
+abbrev pub amounts_of : FieldRights → Kind → Amounts
+amounts_of r Lower = r.lower
+amounts_of r Raise = r.raise
+
+-- The same rights with other amounts of a kind.
+abbrev pub with_amounts : FieldRights → Kind → Amounts → FieldRights
+with_amounts r Lower a = record r { lower = a }
+with_amounts r Raise a = record r { raise = a }
+
+-- The four amounts together are at most the width, and the width is within the greatest change.
+abbrev pub IsWithinWidth : FieldRights → Type 0
+IsWithinWidth r =
+    (r.lower.free + r.lower.held + r.raise.free + r.raise.held ≤ r.width) × (r.width ≤ 2_000_000_000_000_000)
+
+-- What stands in for the rights on a field that isn't there.
+abbrev pub no_rights : FieldRights
+no_rights = record { width = 0; lower = record { free = 0; held = 0 }; raise = record { free = 0; held = 0 } }
+
+-- The rights on a field.
+abbrev pub row_at : List FieldRights → ℕ → FieldRights
+row_at rows f = slice_index_or rows f no_rights
+
+-- The free rights of a kind on a field, the held ones, and both together.
+abbrev pub free_at : List FieldRights → ℕ → Kind → ℕ
+free_at rows f k = (amounts_of (row_at rows f) k).free
+
+abbrev pub held_at : List FieldRights → ℕ → Kind → ℕ
+held_at rows f k = (amounts_of (row_at rows f) k).held
+
+abbrev pub own_at : List FieldRights → ℕ → Kind → ℕ
+own_at rows f k = free_at rows f k + held_at rows f k
+
+-- Amounts with q more, or q fewer, free or held ones.
+abbrev pub more_free : ℕ → Amounts → Amounts
+more_free q a = record a { free = a.free + q }
+
+abbrev pub fewer_free : ℕ → Amounts → Amounts
+fewer_free q a = record a { free = a.free - q }
+
+abbrev pub more_held : ℕ → Amounts → Amounts
+more_held q a = record a { held = a.held + q }
+
+abbrev pub fewer_held : ℕ → Amounts → Amounts
+fewer_held q a = record a { held = a.held - q }
+
+-- q free rights of a kind set aside.
+abbrev pub taken : FieldRights → Kind → ℕ → FieldRights
+taken r k q = with_amounts r k (more_held q (fewer_free q (amounts_of r k)))
+
+-- q held rights of a kind set free again.
+abbrev pub given_back : FieldRights → Kind → ℕ → FieldRights
+given_back r k q = with_amounts r k (more_free q (fewer_held q (amounts_of r k)))
+
+-- q held rights of a kind turned into free ones of the other kind.
+abbrev pub turned : FieldRights → Kind → ℕ → FieldRights
+turned r k q =
+    with_amounts (with_amounts r k (fewer_held q (amounts_of r k))) (other k) (more_free q (amounts_of r (other k)))
+
+-- What the end of a transaction does to held rights: they turn, or are given back.
+abbrev pub ending : Outcome → FieldRights → Kind → ℕ → FieldRights
+ending Committed = turned
+ending Aborted = given_back
+
+-- A change of the rights on one field; all others stay.
+abbrev pub at_field : (FieldRights → Kind → ℕ → FieldRights) → List FieldRights → ℕ → Kind → ℕ → List FieldRights
+at_field change rows f k q = slice_set rows f (change (row_at rows f) k q)
+
+-- The same by an escrow, and by escrows one after another.
+abbrev pub by_escrow : (FieldRights → Kind → ℕ → FieldRights) → List FieldRights → Escrow → List FieldRights
+by_escrow change rows e = at_field change rows e.field.0 (kind_of e.change) (unsigned_abs e.change)
+
+abbrev pub by_escrows : (FieldRights → Kind → ℕ → FieldRights) → List FieldRights → List Escrow → List FieldRights
+by_escrows change rows es = fold (by_escrow change) rows es
+
+-- Each escrow is on a field that is there.
+abbrev pub AreInRange : List FieldRights → List Escrow → Type 0
+AreInRange rows es = All (λ e. e.field.0 < length rows) es
+
+-- What an escrow takes is held.
+pub record CanEnd (rows : List FieldRights) (e : Escrow) : Type 0 where
+  pub in_range : e.field.0 < length rows
+  pub held : unsigned_abs e.change ≤ held_at rows e.field.0 (kind_of e.change)
+
+-- What the escrows take together, of each field and kind, is held.
+abbrev pub AreHeld : List FieldRights → List Escrow → Type 0
+AreHeld rows es = (f : ℕ) (k : Kind) → f < length rows → sum_by (takes f k) es ≤ held_at rows f k
+
+-- The rights on a field that a site begins with: its parts are free, and none are held.
+pub record IsFresh (schema : SchemaValue) (site field : ℕ) (r : FieldRights) : Type 0 where
+  pub width : r.width ≡ width_of (field_at schema field)
+  pub free : (k : Kind) → (amounts_of r k).free ≡ part_of schema site field k
+  pub held : (k : Kind) → (amounts_of r k).held ≡ 0
+
+-- The rights that a site begins with, on every field of the schema.
+pub record AreFresh (schema : SchemaValue) (site : ℕ) (rows : List FieldRights) : Type 0 where
+  pub count : length rows ≡ length schema.fields
+  pub each : (f : ℕ) → f < length rows → IsFresh schema site f (row_at rows f)

@@ -1,0 +1,178 @@
+//! The rights of one site.
+
+ghost use Rattle.std.specs.Prelude.{◌≡◌, ◌+◌, ◌<◌, ◌≤◌, ◌↔◌, length, OnOk, IfErr, OnErr, IsOk, IfOk, All};
+ghost use Rattle.site_rights.specs.Rights.{IsFresh, IsWithinWidth, free_at, held_at, own_at, at_field, taken, given_back, turned, by_escrow, by_escrows, ending, CanEnd, AreFresh, AreHeld, AreInRange};
+
+use crate::field_rights::{Amounts, FieldRights, Outcome, Short};
+use field_bounds::{Escrow, FieldNo, Kind, Schema, SiteNo, both_kinds};
+use std::alloc::{AllocError, Global};
+use std::marker::Model;
+
+/// The rights of one site. Contracts see, by number of field, the width of the field and the free
+/// and held rights of both kinds.
+#[derive(Drop)]
+pub struct Rights {
+    rows: Vec<FieldRights>,
+}
+
+impl Model for Rights {
+    ghost use Rattle.std.specs.Prelude.{List, All};
+    ghost use Rattle.site_rights.specs.declared.field_rights.FieldRights.{FieldRights};
+    ghost use Rattle.site_rights.specs.Rights.{IsWithinWidth};
+
+    ghost Value = { List FieldRights };
+
+    ghost view = { λ r. r.rows.items };
+
+    ghost invariant = { λ r. All IsWithinWidth r.rows.items };
+}
+
+impl Rights {
+    /// The rights that a site begins with: its parts are free, and none are held. The error is want
+    /// of memory. Costs one row for each field; no later call takes memory.
+    pub fn new(alloc: Global, schema: &Schema, site: SiteNo) -> Result<Rights, AllocError>
+        requires site_in { site.0 < schema.now.sites }
+        ensures fresh { IfOk result (λ rights. AreFresh schema.now site.0 rights) }
+    {
+        let mut rows = Vec::new(alloc);
+        for number in 0..schema.fields() {
+            rows.push(first_rights(schema, site, FieldNo(number)))?;
+        }
+        Ok(Rights { rows })
+    }
+
+    /// The free rights of a kind on a field: the site's share, at most 2,000,000,000,000,000.
+    pub fn free(&self, field: FieldNo, kind: Kind) -> u64
+        requires in_schema { field.0 < length self.now }
+        ensures value { result ≡ free_at self.now field.0 kind }
+        ensures most { result ≤ 2_000_000_000_000_000 }
+    {
+        self.amounts(field, kind).free
+    }
+
+    /// The rights of a kind on a field that open transactions have set aside, at most
+    /// 2,000,000,000,000,000.
+    pub fn held(&self, field: FieldNo, kind: Kind) -> u64
+        requires in_schema { field.0 < length self.now }
+        ensures value { result ≡ held_at self.now field.0 kind }
+        ensures most { result ≤ 2_000_000_000_000_000 }
+    {
+        self.amounts(field, kind).held
+    }
+
+    /// Free and held rights of a kind on a field together, at most 2,000,000,000,000,000.
+    pub fn own(&self, field: FieldNo, kind: Kind) -> u64
+        requires in_schema { field.0 < length self.now }
+        ensures value { result ≡ own_at self.now field.0 kind }
+        ensures most { result ≤ 2_000_000_000_000_000 }
+    {
+        let amounts = self.amounts(field, kind);
+        amounts.free + amounts.held
+    }
+
+    /// Sets free rights aside, or answers the share and changes nothing where fewer are free than
+    /// are asked.
+    pub fn take(&mut self, field: FieldNo, kind: Kind, amount: u64) -> Result<(), Short>
+        requires in_schema { field.0 < length self.old }
+        ensures enough { IsOk result ↔ (amount ≤ free_at self.old field.0 kind) }
+        ensures ok { OnOk result (self.new ≡ at_field taken self.old field.0 kind amount) }
+        ensures short { IfErr result (λ short. short.share ≡ free_at self.old field.0 kind) }
+        ensures err { OnErr result (self.new ≡ self.old) }
+    {
+        let share = self.free(field, kind);
+        if amount > share {
+            return Err(Short { share });
+        }
+        let row = &mut self.rows[usize::from(field.0)];
+        both_kinds!(kind, row, |own| {
+            own.free -= amount;
+            own.held += amount;
+        });
+        Ok(())
+    }
+
+    /// Sets held rights free again, of the same kind.
+    pub fn give_back(&mut self, field: FieldNo, kind: Kind, amount: u64)
+        requires in_schema { field.0 < length self.old }
+        requires there { amount ≤ held_at self.old field.0 kind }
+        ensures given_back { self.new ≡ at_field given_back self.old field.0 kind amount }
+    {
+        let row = &mut self.rows[usize::from(field.0)];
+        both_kinds!(kind, row, |own| {
+            own.held -= amount;
+            own.free += amount;
+        });
+    }
+
+    /// Turns held rights of a kind into free rights of the other kind: what was lowered can be
+    /// raised again, and the reverse.
+    pub fn turn(&mut self, field: FieldNo, kind: Kind, amount: u64)
+        requires in_schema { field.0 < length self.old }
+        requires there { amount ≤ held_at self.old field.0 kind }
+        ensures turned { self.new ≡ at_field turned self.old field.0 kind amount }
+    {
+        let row = &mut self.rows[usize::from(field.0)];
+        both_kinds!(kind, row, |own, other| {
+            own.held -= amount;
+            other.free += amount;
+        });
+    }
+
+    /// Ends the escrows of a transaction one after another: each one's held rights turn where it
+    /// committed, and are given back where it aborted. Costs one step for each escrow.
+    pub fn end(&mut self, escrows: &[Escrow], outcome: Outcome)
+        requires in_schema { AreInRange self.old escrows.now }
+        requires there { AreHeld self.old escrows.now }
+        ensures ended { self.new ≡ by_escrows (ending outcome) self.old escrows.now }
+    {
+        for escrow in escrows {
+            self.end_one(escrow, outcome);
+        }
+    }
+
+    fn end_one(&mut self, escrow: &Escrow, outcome: Outcome)
+        requires can { CanEnd self.old escrow.now }
+        ensures ended { self.new ≡ by_escrow (ending outcome) self.old escrow.now }
+    {
+        let kind = Kind::of(escrow.change);
+        let amount = escrow.change.unsigned_abs();
+        match outcome {
+            Outcome::Committed => self.turn(escrow.field, kind, amount),
+            Outcome::Aborted => self.give_back(escrow.field, kind, amount),
+        }
+    }
+
+    fn amounts(&self, field: FieldNo, kind: Kind) -> Amounts
+        requires in_schema { field.0 < length self.now }
+        ensures free { result.free ≡ free_at self.now field.0 kind }
+        ensures held { result.held ≡ held_at self.now field.0 kind }
+        ensures most { result.free + result.held ≤ 2_000_000_000_000_000 }
+    {
+        let row = self.rows[usize::from(field.0)];
+        match kind {
+            Kind::Lower => row.lower,
+            Kind::Raise => row.raise,
+        }
+    }
+}
+
+/// The rights on a field that a site begins with.
+fn first_rights(schema: &Schema, site: SiteNo, field: FieldNo) -> FieldRights
+    requires site_in { site.0 < schema.now.sites }
+    requires field_in { field.0 < length schema.now.fields }
+    ensures fresh { IsFresh schema.now site.0 field.0 result }
+    ensures within { IsWithinWidth result }
+{
+    let (floor, ceiling, _) = schema.bounds(field);
+    FieldRights {
+        width: ceiling.abs_diff(floor),
+        lower: Amounts {
+            free: schema.part(site, field, Kind::Lower),
+            held: 0,
+        },
+        raise: Amounts {
+            free: schema.part(site, field, Kind::Raise),
+            held: 0,
+        },
+    }
+}

@@ -1,0 +1,4 @@
+pub mod JournalLaws
+pub mod Lists
+pub mod Matching
+pub mod Standing

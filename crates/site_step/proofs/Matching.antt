@@ -1,0 +1,211 @@
+-- What one more effect does to the rights and the open transactions that match the effects.
+use Rattle.std.proofs.Common.{◌≡◌, ℕ, ◌+◌, ◌-◌, ◌<◌, ◌≤◌, Bool, true, false, not, cond, ◌&&◌, ◌||◌, List, [], ◌∷◌, ◌++◌, length, map, reverse, filter, refl, sym, ap, subst, ◌∙◌, arith, inl, inr, eqb}
+use Rattle.std.specs.Prelude.{All, sum_by, unsigned_abs}
+use Rattle.std.specs.List.{list_any}
+use Rattle.std.proofs.lemmas.Bool.{cases_Bool, and_parts, or_parts}
+use Rattle.std.proofs.lemmas.List.{length-map, length-reverse, map-append}
+use Rattle.std.proofs.lemmas.List.Elements.{All-cons, All-nil}
+use Rattle.field_bounds.specs.declared.kind.Kind.{Kind}
+use Rattle.field_bounds.specs.declared.id.TxnId.{TxnId}
+use Rattle.field_bounds.specs.declared.entry.Escrow.{Escrow}
+use Rattle.field_bounds.specs.Kind.{other, kind_of}
+use Rattle.field_bounds.specs.Schema.{SchemaValue}
+use Rattle.field_bounds.specs.Effects.{Effect, Begins, Grants, Commits, Aborts, fresh, same_txn, begun, open_txns, is_begun, is_committed, is_dropped, is_open, escrows_of, takes, granted, share, held}
+use Rattle.field_bounds.specs.Owed.{count_open, count_escrows}
+use Rattle.field_bounds.proofs.Lawful.{IsLawful, MayGrant, granted-mono, same_txn-true}
+use Rattle.field_bounds.proofs.Steps.{same_txn-sym, of_txn, of_txn_is, share_grant, held_grant, share_commit, held_commit, share_abort, held_abort, new_is_unused}
+use Rattle.site_rights.specs.declared.field_rights.FieldRights.{FieldRights}
+use Rattle.site_rights.specs.declared.field_rights.Outcome.{Outcome}
+use Rattle.site_rights.specs.declared.field_rights.Outcome.TheVariants.{Committed, Aborted}
+use Rattle.site_rights.specs.Rights.{free_at, held_at, taken, ending, by_escrow, by_escrows, AreInRange, AreHeld}
+use Rattle.site_rights.proofs.RightsLaws.{frees, length-by_escrow, length-by_escrows, free_at-taken, held_at-taken, free_at-by_escrows, held_at-by_escrows}
+use Rattle.site_step.specs.Journal.{Row, stands, escrows_at, with_escrow, added, without}
+use Rattle.site_step.specs.State.{row_of, journal_of, Matches}
+use Rattle.site_step.proofs.Lists.{reverse-cons, list_any-reverse, sum_by-reverse, filter-reverse, All-reverse, list_any-map, map-agree, map-map, filter-agree, filter-and, filter-map}
+
+-- ---- what is read of the journal
+
+pub length-journal_of : (es : List Effect) → length (journal_of es) ≡ count_open es
+length-journal_of es = length-map (reverse (open_txns es)) (row_of es) ∙ length-reverse (open_txns es)
+
+found_here : (a o b : Bool) → (a ≡ true → o ≡ b) → (a && b) ≡ (a && o)
+found_here true o b h = sym (h refl)
+found_here false o b h = refl
+
+any_open : (t : TxnId) (es all : List Effect) → list_any (λ u. same_txn u t) (filter (λ id. is_open id all) (begun es)) ≡ (is_begun t es && is_open t all)
+any_open t [] all = refl
+any_open t (Begins txn ∷ es) all =
+    elim (cases_Bool (is_open txn all)) [
+      | inl opened ↦ rw opened (ap (λ b. same_txn txn t || b) (any_open t es all) ∙ joined (same_txn txn t) (is_begun t es) (is_open t all) (λ same. ap (λ (x : TxnId). is_open x all) (sym (same_txn-true txn t same)) ∙ opened))
+      | inr closed ↦ rw closed (any_open t es all ∙ passed (same_txn txn t) (is_begun t es) (is_open t all) (λ same. ap (λ (x : TxnId). is_open x all) (sym (same_txn-true txn t same)) ∙ closed))
+    ]
+  where
+    joined : (s b o : Bool) → (s ≡ true → o ≡ true) → (s || (b && o)) ≡ ((s || b) && o)
+    joined true b o h = sym (h refl)
+    joined false b o h = refl
+
+    passed : (s b o : Bool) → (s ≡ true → o ≡ false) → (b && o) ≡ ((s || b) && o)
+    passed true true o h = refl
+    passed true false o h = sym (h refl)
+    passed false b o h = refl
+any_open t (Grants txn field change ∷ es) all = any_open t es all
+any_open t (Commits txn ∷ es) all = any_open t es all
+any_open t (Aborts txn ∷ es) all = any_open t es all
+
+pub stands-journal_of : (t : TxnId) (es : List Effect) → stands t (journal_of es) ≡ (is_begun t es && is_open t es)
+stands-journal_of t es =
+    list_any-map (λ (r : Row). same_txn r.0 t) (row_of es) (reverse (open_txns es))
+    ∙ list_any-reverse (λ u. same_txn u t) (open_txns es)
+    ∙ any_open t es es
+
+escrows_in : (t : TxnId) (es : List Effect) (ts : List TxnId) → list_any (λ u. same_txn u t) ts ≡ true → escrows_at t (map (row_of es) ts) ≡ reverse (escrows_of t es)
+escrows_in t es [] h = cc
+escrows_in t es (u ∷ ts) h =
+    elim (cases_Bool (same_txn u t)) [
+      | inl same ↦ rw same (ap (λ (x : TxnId). reverse (escrows_of x es)) (same_txn-true u t same))
+      | inr apart ↦ rw apart (escrows_in t es ts (rw apart at h))
+    ]
+
+pub escrows_at-journal_of : (t : TxnId) (es : List Effect) → (is_begun t es && is_open t es) ≡ true → escrows_at t (journal_of es) ≡ reverse (escrows_of t es)
+escrows_at-journal_of t es opened =
+    escrows_in t es (reverse (open_txns es)) (list_any-reverse (λ u. same_txn u t) (open_txns es) ∙ any_open t es es ∙ opened)
+
+-- ---- what changes the journal
+
+pub journal_of-begin : (t : TxnId) (es : List Effect) → is_open t es ≡ true → escrows_of t es ≡ [] → journal_of (Begins t ∷ es) ≡ journal_of es ++ (t, []) ∷ []
+journal_of-begin t es opened none =
+    let first : open_txns (Begins t ∷ es) ≡ t ∷ open_txns es = rw opened refl in
+    let last : ◌≡◌ {A = Row} (t, reverse (escrows_of t es)) (t, []) = ap (λ (xs : List Escrow). (t, reverse xs)) none in
+    ap (λ (ts : List TxnId). map (row_of es) (reverse ts)) first
+    ∙ ap (map (row_of es)) (reverse-cons t (open_txns es))
+    ∙ map-append (row_of es) (reverse (open_txns es)) (t ∷ [])
+    ∙ ap (λ (r : Row). journal_of es ++ r ∷ []) last
+
+one_more : (txn : TxnId) (e : Escrow) (es : List Effect) (u : TxnId) → with_escrow txn e (row_of es u) ≡ row_of (Grants txn e.field.0 e.change ∷ es) u
+one_more txn e es u = by (same_txn u txn)
+  where
+    by : (b : Bool) → ◌≡◌ {A = Row} (cond b (u, reverse (escrows_of u es) ++ e ∷ []) (u, reverse (escrows_of u es))) (u, reverse (cond b (e ∷ escrows_of u es) (escrows_of u es)))
+    by true = ap (λ (xs : List Escrow). (u, xs)) (sym (reverse-cons e (escrows_of u es)))
+    by false = refl
+
+pub journal_of-grant : (txn : TxnId) (e : Escrow) (es : List Effect) → added txn e (journal_of es) ≡ journal_of (Grants txn e.field.0 e.change ∷ es)
+journal_of-grant txn e es =
+    map-map (with_escrow txn e) (row_of es) (reverse (open_txns es))
+    ∙ map-agree (λ u. with_escrow txn e (row_of es u)) (row_of (Grants txn e.field.0 e.change ∷ es)) (one_more txn e es) (reverse (open_txns es))
+
+-- the effect of an end
+abbrev pub ended : Outcome → TxnId → Effect
+ended Committed t = Commits t
+ended Aborted t = Aborts t
+
+commit_closes : (s c d : Bool) → (not (s || c) && not d) ≡ ((not c && not d) && not s)
+commit_closes true true d = refl
+commit_closes true false true = refl
+commit_closes true false false = refl
+commit_closes false true d = refl
+commit_closes false false true = refl
+commit_closes false false false = refl
+
+abort_closes : (s c d : Bool) → (not c && not (s || d)) ≡ ((not c && not d) && not s)
+abort_closes true true d = refl
+abort_closes true false true = refl
+abort_closes true false false = refl
+abort_closes false true d = refl
+abort_closes false false true = refl
+abort_closes false false false = refl
+
+open_then : (o : Outcome) (t : TxnId) (es : List Effect) (u : TxnId) → is_open u (ended o t ∷ es) ≡ (is_open u es && not (same_txn u t))
+open_then Committed t es u = commit_closes (same_txn t u) (is_committed u es) (is_dropped u es) ∙ ap (λ b. is_open u es && not b) (same_txn-sym t u)
+open_then Aborted t es u = abort_closes (same_txn t u) (is_committed u es) (is_dropped u es) ∙ ap (λ b. is_open u es && not b) (same_txn-sym t u)
+
+begun_then : (o : Outcome) (t : TxnId) (es : List Effect) → begun (ended o t ∷ es) ≡ begun es
+begun_then Committed t es = refl
+begun_then Aborted t es = refl
+
+row_then : (o : Outcome) (t : TxnId) (es : List Effect) → row_of (ended o t ∷ es) ≡ row_of es
+row_then Committed t es = refl
+row_then Aborted t es = refl
+
+pub journal_of-end : (o : Outcome) (t : TxnId) (es : List Effect) → without t (journal_of es) ≡ journal_of (ended o t ∷ es)
+journal_of-end o t es =
+    let left : open_txns (ended o t ∷ es) ≡ filter (λ u. not (same_txn u t)) (open_txns es) =
+    ap (filter (λ id. is_open id (ended o t ∷ es))) (begun_then o t es)
+    ∙ filter-agree (λ id. is_open id (ended o t ∷ es)) (λ id. is_open id es && not (same_txn id t)) (open_then o t es) (begun es)
+    ∙ filter-and (λ id. is_open id es) (λ id. not (same_txn id t)) (begun es) in
+    filter-map (λ (r : Row). not (same_txn r.0 t)) (row_of es) (reverse (open_txns es))
+    ∙ ap (map (row_of es)) (filter-reverse (λ u. not (same_txn u t)) (open_txns es) ∙ ap reverse (sym left))
+    ∙ ap (λ (f : TxnId → Row). map f (reverse (open_txns (ended o t ∷ es)))) (sym (row_then o t es))
+
+-- ---- what changes rights and journal together
+
+module _ (schema : SchemaValue) (s : ℕ) (es : List Effect) (lawful : IsLawful schema (fresh schema s) es) (rows : List FieldRights) (journal : List Row) (was : Matches schema s es rows journal) where
+  pub matches_begin : (t : TxnId) → is_begun t es ≡ false → Matches schema s (Begins t ∷ es) rows (journal ++ (t, []) ∷ [])
+  matches_begin t new =
+      let unused = new_is_unused schema (fresh schema s) t es lawful new in
+      let opened : is_open t es ≡ true = rw (unused.uncommitted, unused.undropped) refl in
+      record {
+        count = was.count;
+        free = λ f k l. was.free f k l;
+        held = λ f k l. was.held f k l;
+        journal = ap (λ (j : List Row). j ++ (t, []) ∷ []) was.journal ∙ sym (journal_of-begin t es opened unused.no_escrow);
+      }
+
+  pub matches_grant : (txn : TxnId) (e : Escrow) → e.field.0 < length rows → is_open txn es ≡ true → Matches schema s (Grants txn e.field.0 e.change ∷ es) (by_escrow taken rows e) (added txn e journal)
+  matches_grant txn e range opened =
+      let same = length-by_escrow taken rows e in
+      record {
+        count = same ∙ was.count;
+        free = λ f k l. omega (arith, free_at-taken rows e f k range, was.free f k (omega (arith, l, same)), share_grant schema (fresh schema s) es lawful f k txn e opened);
+        held = λ f k l. omega (arith, held_at-taken rows e f k range, was.held f k (omega (arith, l, same)), held_grant schema (fresh schema s) es lawful f k txn e opened);
+        journal = ap (added txn e) was.journal ∙ journal_of-grant txn e es;
+      }
+
+  -- the escrows of a transaction are on fields of the schema, and held while it is open
+  in_range_of : (t : TxnId) (fs : List Effect) → IsLawful schema (fresh schema s) fs → AreInRange rows (escrows_of t fs)
+  in_range_of t [] l = All-nil (λ (e : Escrow). e.field.0 < length rows)
+  in_range_of t (Grants txn field change ∷ fs) l =
+      let before = in_range_of t fs l.0 in
+      by (same_txn t txn) before (All-cons (λ (e : Escrow). e.field.0 < length rows) (record { field = record { 0 = field }; change = change }) (escrows_of t fs) (omega (arith, was.count, l.1.in_schema)) before)
+    where
+      by : (b : Bool) → AreInRange rows (escrows_of t fs) → AreInRange rows (record { field = record { 0 = field }; change = change } ∷ escrows_of t fs)
+          → AreInRange rows (cond b (record { field = record { 0 = field }; change = change } ∷ escrows_of t fs) (escrows_of t fs))
+      by true before more = more
+      by false before more = before
+  in_range_of t (Begins txn ∷ fs) l = in_range_of t fs l.0
+  in_range_of t (Commits txn ∷ fs) l = in_range_of t fs l.0
+  in_range_of t (Aborts txn ∷ fs) l = in_range_of t fs l.0
+
+  pub are_in_range : (t : TxnId) → AreInRange rows (reverse (escrows_of t es))
+  are_in_range t = All-reverse (λ (e : Escrow). e.field.0 < length rows) (escrows_of t es) (in_range_of t es lawful)
+
+  sum_is : (t : TxnId) (f : ℕ) (k : Kind) → sum_by (takes f k) (reverse (escrows_of t es)) ≡ of_txn t f k es
+  sum_is t f k = sum_by-reverse (takes f k) (escrows_of t es) ∙ sym (of_txn_is t f k es)
+
+  pub are_held : (t : TxnId) → is_open t es ≡ true → AreHeld rows (reverse (escrows_of t es))
+  are_held t opened f k l =
+      let fewer = granted-mono (λ id. same_txn t id) (λ id. is_open id es) (λ id same. ap (λ (x : TxnId). is_open x es) (sym (same_txn-true t id same)) ∙ opened) f k es in
+      omega (arith, sum_is t f k, was.held f k l, fewer)
+
+  share_end : (o : Outcome) (t : TxnId) → is_open t es ≡ true → (f : ℕ) (k : Kind) → share (fresh schema s) f k (ended o t ∷ es) ≡ share (fresh schema s) f k es + of_txn t f (frees o k) es
+  share_end Committed t opened f k = share_commit schema (fresh schema s) es lawful f k t opened
+  share_end Aborted t opened f k = share_abort schema (fresh schema s) es lawful f k t opened
+
+  held_end : (o : Outcome) (t : TxnId) → is_open t es ≡ true → (f : ℕ) (k : Kind) → held f k (ended o t ∷ es) + of_txn t f k es ≡ held f k es
+  held_end Committed t opened f k = held_commit schema (fresh schema s) es lawful f k t opened
+  held_end Aborted t opened f k = held_abort schema (fresh schema s) es lawful f k t opened
+
+  pub matches_end : (o : Outcome) (t : TxnId) → is_open t es ≡ true → Matches schema s (ended o t ∷ es) (by_escrows (ending o) rows (reverse (escrows_of t es))) (without t journal)
+  matches_end o t opened =
+      let gone = reverse (escrows_of t es) in
+      let same = length-by_escrows (ending o) rows gone in
+      let range = are_in_range t in
+      record {
+        count = same ∙ was.count;
+        free = λ f k l.
+            let l' : f < length rows = omega (arith, l, same) in
+            omega (arith, free_at-by_escrows o rows gone range f k, was.free f k l', sum_is t f (frees o k), share_end o t opened f k);
+        held = λ f k l.
+            let l' : f < length rows = omega (arith, l, same) in
+            omega (arith, held_at-by_escrows o rows gone range (are_held t opened) f k l', was.held f k l', sum_is t f k, held_end o t opened f k);
+        journal = ap (without t) was.journal ∙ journal_of-end o t es;
+      }

@@ -1,0 +1,174 @@
+-- What one more entry does to what a site stands on.
+use Rattle.std.proofs.Common.{◌≡◌, ℕ, ◌+◌, ◌<◌, ◌≤◌, Bool, true, false, ◌&&◌, List, [], ◌∷◌, ◌++◌, length, reverse, refl, sym, ap, subst, ◌∙◌, arith, Option, Some, None, MatchOption}
+use Rattle.std.specs.Prelude.{unsigned_abs, IsOk, OnOk, Result, Ok, Err}
+use Rattle.std.proofs.lemmas.Bool.{ltb-false}
+use Rattle.std.proofs.lemmas.List.{reverse-append}
+use Rattle.field_bounds.specs.declared.id.SiteNo.{SiteNo}
+use Rattle.field_bounds.specs.declared.id.TxnId.{TxnId}
+use Rattle.field_bounds.specs.declared.entry.Escrow.{Escrow}
+use Rattle.field_bounds.specs.declared.entry.Entry.{Entry}
+use Rattle.field_bounds.specs.declared.entry.Command.{Command}
+use Rattle.field_bounds.specs.declared.entry.Command.TheVariants.{Begin, Escrow as Ask, Commit, Abort}
+use Rattle.field_bounds.specs.declared.entry.Reply.{Reply}
+use Rattle.field_bounds.specs.declared.entry.Reply.TheVariants.{Begun, Granted, Committed as SaysCommitted, Aborted as SaysAborted, Between, Refused}
+use Rattle.field_bounds.specs.declared.entry.Refusal.{Refusal}
+use Rattle.field_bounds.specs.Kind.{kind_of}
+use Rattle.field_bounds.specs.Schema.{SchemaValue}
+use Rattle.field_bounds.specs.Effects.{Base, Effect, fresh, after, effects, is_begun, is_open, escrows_of}
+use Rattle.field_bounds.specs.Owed.{Place, place, refusals, first, answer, epoch_of, count_since, is_begun_reply, is_quiet, Fits}
+use Rattle.field_bounds.proofs.Refused.{none_holds, begun_and_open, is_below}
+use Rattle.field_bounds.proofs.Runs.{Ran, run_leaves, next_is_new}
+use Rattle.site_rights.specs.declared.field_rights.FieldRights.{FieldRights}
+use Rattle.site_rights.specs.declared.field_rights.Outcome.{Outcome}
+use Rattle.site_rights.specs.declared.field_rights.Outcome.TheVariants.{Committed, Aborted}
+use Rattle.site_rights.specs.Rights.{free_at, taken, ending, by_escrow, by_escrows, AreInRange, AreHeld, AreFresh}
+use Rattle.site_step.specs.Journal.{Row, stands, escrows_at, added, without}
+use Rattle.site_step.specs.Site.{end_command, end_reply}
+use Rattle.site_step.specs.State.{Matches, StandsOn}
+use Rattle.site_step.proofs.Matching.{ended, matches_begin, matches_grant, matches_end, are_in_range, are_held, stands-journal_of, escrows_at-journal_of}
+
+-- a reply that is owed
+pub answer_fits : (at : Place) (c : Command) (r : Reply) → first (refusals at c) ≡ None → r ≡ answer at c → Fits at c r
+answer_fits at c r none same = rw none same
+
+pub refusal_fits : (at : Place) (c : Command) (x : Refusal) → first (refusals at c) ≡ Some x → Fits at c (Refused x)
+refusal_fits at c x some = rw some refl
+
+pub quiet_has_no_effect : (base : Base) (kept : Bool) (c : Command) (r : Reply) (es : List Effect) → is_quiet r ≡ true → (after base kept c r es ≡ es) × (is_begun_reply r ≡ false)
+quiet_has_no_effect base kept Begin (Begun txn) es h = cc
+quiet_has_no_effect base kept (Ask txn field change) Granted es h = cc
+quiet_has_no_effect base kept (Commit txn) SaysCommitted es h = cc
+quiet_has_no_effect base kept (Abort txn) SaysAborted es h = cc
+quiet_has_no_effect base kept c (Between lo hi) es h = (refl, refl)
+quiet_has_no_effect base kept c (Refused refusal) es h = (refl, refl)
+quiet_has_no_effect base kept c r es h = cc
+
+epoch_stays : (base : Base) (o : List Entry) → epoch_of base o ≡ base.epoch
+epoch_stays base [] = refl
+epoch_stays base (e ∷ o) = epoch_stays base o
+
+-- a site that has answered nothing
+pub stands_fresh : (schema : SchemaValue) (s : ℕ) (rows : List FieldRights) → AreFresh schema s rows → StandsOn schema s [] rows [] 0
+stands_fresh schema s rows fresh =
+    record {
+      run = tt;
+      matches = record {
+        count = fresh.count;
+        free = λ f k l. (fresh.each f l).free k ∙ omega arith;
+        held = λ f k l. (fresh.each f l).held k;
+        journal = refl;
+      };
+      last = refl;
+    }
+
+pub ok_gives : {A E : Type 0} {P : Type 0} (r : Result A E) → IsOk r → OnOk r P → P
+ok_gives (Ok a) is p = p
+ok_gives (Err e) is p = absurd cc
+
+-- the same at equal things
+pub stands_moved : (schema schema' : SchemaValue) (s s' : ℕ) (o o' : List Entry) (rows rows' : List FieldRights) (journal journal' : List Row) (number number' : ℕ)
+    → schema' ≡ schema → s' ≡ s → o' ≡ o → rows' ≡ rows → journal' ≡ journal → number' ≡ number → StandsOn schema s o rows journal number → StandsOn schema' s' o' rows' journal' number'
+stands_moved schema schema' s s' o o' rows rows' journal journal' number number' e0 e1 e2 e3 e4 e5 was =
+    rw (e0, e1, e2, e3, e4, e5) was
+
+-- a history in order, with one more entry at its end, seen the newest first
+pub history_grows : (history kept grown : List Entry) (e : Entry) → kept ≡ history → grown ≡ kept ++ e ∷ [] → reverse grown ≡ e ∷ reverse history
+history_grows history kept grown e same more =
+    ap reverse more ∙ reverse-append kept (e ∷ []) ∙ ap (λ (xs : List Entry). e ∷ reverse xs) same
+
+module _ (schema : SchemaValue) (s : ℕ) (o : List Entry) (rows : List FieldRights) (journal : List Row) (number : ℕ) (was : StandsOn schema s o rows journal number) where
+  abbrev base : Base
+  base = fresh schema s
+
+  abbrev es : List Effect
+  es = effects base false o
+
+  abbrev at : Place
+  at = place schema s base o
+
+  ran : Ran schema base o
+  ran = run_leaves schema s base o was.run
+
+  -- an entry that has no effect
+  pub stands_quiet : (e : Entry) → Fits at e.command e.reply → after base false e.command e.reply es ≡ es → is_begun_reply e.reply ≡ false → StandsOn schema s (e ∷ o) rows journal number
+  stands_quiet e fits quiet begins_none =
+      record {
+        run = (was.run, fits);
+        matches = subst (λ (x : List Effect). Matches schema s x rows journal) (sym quiet) was.matches;
+        last = rw begins_none (omega (arith, was.last));
+      }
+
+  abbrev next : TxnId
+  next = record { epoch = 0; number = number + 1 }
+
+  pub next_is : ◌≡◌ {A = TxnId} next (record { epoch = epoch_of base o; number = count_since is_begun_reply o + 1 })
+  next_is = rw (epoch_stays base o, was.last) refl
+
+  pub next_is_closed : stands next journal ≡ false
+  next_is_closed =
+      let new : is_begun next es ≡ false = subst (λ (t : TxnId). is_begun t es ≡ false) (sym next_is) (next_is_new (epoch_of base o) (count_since is_begun_reply o) es ran.numbered) in
+      ap (stands next) was.matches.journal ∙ stands-journal_of next es ∙ ap (λ b. b && is_open next es) new
+
+  pub stands_begin : (n : SiteNo) → first (refusals at Begin) ≡ None → StandsOn schema s (record { site = n; command = Begin; reply = Begun next } ∷ o) rows (journal ++ (next, []) ∷ []) (number + 1)
+  stands_begin n none =
+      let new : is_begun next es ≡ false = subst (λ (t : TxnId). is_begun t es ≡ false) (sym next_is) (next_is_new (epoch_of base o) (count_since is_begun_reply o) es ran.numbered) in
+      record {
+        run = (was.run, answer_fits at Begin (Begun next) none (ap (λ (t : TxnId). Begun t) next_is));
+        matches = matches_begin schema s es ran.lawful rows journal was.matches next new;
+        last = omega (arith, was.last);
+      }
+
+  -- what the ladder tells of an escrow that isn't refused
+  pub opened_by : (txn : TxnId) (e : Escrow) → first (refusals at (Ask txn e.field e.change)) ≡ None → (is_begun txn es ≡ true) × (is_open txn es ≡ true)
+  opened_by txn e none = begun_and_open (is_begun txn es) (is_open txn es) (none_holds (refusals at (Ask txn e.field e.change)) none).1.0
+
+  pub in_range_by : (txn : TxnId) (e : Escrow) → first (refusals at (Ask txn e.field e.change)) ≡ None → e.field.0 < length rows
+  in_range_by txn e none = omega (arith, was.matches.count, is_below _ _ (none_holds (refusals at (Ask txn e.field e.change)) none).0)
+
+  pub enough_by : (txn : TxnId) (e : Escrow) → first (refusals at (Ask txn e.field e.change)) ≡ None → unsigned_abs e.change ≤ free_at rows e.field.0 (kind_of e.change)
+  enough_by txn e none =
+      omega (arith, was.matches.free e.field.0 (kind_of e.change) (in_range_by txn e none), ltb-false _ _ (none_holds (refusals at (Ask txn e.field e.change)) none).1.1.1.1.0)
+
+  both_true : (a b : Bool) → a ≡ true → b ≡ true → (a && b) ≡ true
+  both_true a b x y = rw (x, y) refl
+
+  pub stands_open : (txn : TxnId) → (is_begun txn es ≡ true) × (is_open txn es ≡ true) → stands txn journal ≡ true
+  stands_open txn both = ap (stands txn) was.matches.journal ∙ stands-journal_of txn es ∙ both_true (is_begun txn es) (is_open txn es) both.0 both.1
+
+  pub stands_grant : (n : SiteNo) (txn : TxnId) (e : Escrow) → e.field.0 < length rows → first (refusals at (Ask txn e.field e.change)) ≡ None
+      → StandsOn schema s (record { site = n; command = Ask txn e.field e.change; reply = Granted } ∷ o) (by_escrow taken rows e) (added txn e journal) number
+  stands_grant n txn e range none =
+      record {
+        run = (was.run, answer_fits at (Ask txn e.field e.change) Granted none refl);
+        matches = matches_grant schema s es ran.lawful rows journal was.matches txn e range (opened_by txn e none).1;
+        last = omega (arith, was.last);
+      }
+
+  -- what the ladder tells of an end that isn't refused
+  pub end_opened : (outcome : Outcome) (txn : TxnId) → first (refusals at (end_command outcome txn)) ≡ None → (is_begun txn es ≡ true) × (is_open txn es ≡ true)
+  end_opened Committed txn none = begun_and_open (is_begun txn es) (is_open txn es) (none_holds (refusals at (Commit txn)) none).0
+  end_opened Aborted txn none = begun_and_open (is_begun txn es) (is_open txn es) (none_holds (refusals at (Abort txn)) none).0
+
+  abbrev pub ending_escrows : TxnId → List Escrow
+  ending_escrows txn = reverse (escrows_of txn es)
+
+  pub escrows_are : (txn : TxnId) → (is_begun txn es ≡ true) × (is_open txn es ≡ true) → escrows_at txn journal ≡ ending_escrows txn
+  escrows_are txn both = ap (escrows_at txn) was.matches.journal ∙ escrows_at-journal_of txn es (both_true (is_begun txn es) (is_open txn es) both.0 both.1)
+
+  pub can_end_in : (txn : TxnId) → AreInRange rows (ending_escrows txn)
+  can_end_in txn = are_in_range schema s es ran.lawful rows journal was.matches txn
+
+  pub can_end_held : (txn : TxnId) → (is_begun txn es ≡ true) × (is_open txn es ≡ true) → AreHeld rows (ending_escrows txn)
+  can_end_held txn both = are_held schema s es ran.lawful rows journal was.matches txn both.1
+
+  stands_ended : (n : SiteNo) (outcome : Outcome) (txn : TxnId) → first (refusals at (end_command outcome txn)) ≡ None → Matches schema s (ended outcome txn ∷ es) (by_escrows (ending outcome) rows (ending_escrows txn)) (without txn journal)
+      → StandsOn schema s (record { site = n; command = end_command outcome txn; reply = end_reply outcome } ∷ o) (by_escrows (ending outcome) rows (ending_escrows txn)) (without txn journal) number
+  stands_ended n Committed txn none matches =
+      record { run = (was.run, answer_fits at (Commit txn) SaysCommitted none refl); matches = matches; last = omega (arith, was.last) }
+  stands_ended n Aborted txn none matches =
+      record { run = (was.run, answer_fits at (Abort txn) SaysAborted none refl); matches = matches; last = omega (arith, was.last) }
+
+  pub stands_end : (n : SiteNo) (outcome : Outcome) (txn : TxnId) → first (refusals at (end_command outcome txn)) ≡ None
+      → StandsOn schema s (record { site = n; command = end_command outcome txn; reply = end_reply outcome } ∷ o) (by_escrows (ending outcome) rows (ending_escrows txn)) (without txn journal) number
+  stands_end n outcome txn none =
+      stands_ended n outcome txn none (matches_end schema s es ran.lawful rows journal was.matches outcome txn (end_opened outcome txn none).1)
