@@ -13,7 +13,7 @@ use Rattle.std.proofs.lemmas.Option.{get_or_from_slice_get, slice_get-map}
 use Rattle.field_bounds.specs.declared.schema.FieldBounds.{FieldBounds}
 use Rattle.field_bounds.specs.declared.fault.SchemaFault.{SchemaFault}
 use Rattle.field_bounds.specs.declared.fault.SchemaFault.TheVariants.{Name, NameUsed, Bounds}
-use Rattle.field_bounds.specs.Schema.{FieldValue}
+use Rattle.field_bounds.specs.Schema.{FieldValue, SchemaValue}
 use Rattle.field_bounds.specs.Limits.{is_name, is_used, has_bounds, field_fault, first_fault, or_else, unless, IsField, HasOwnNames, IsSchema}
 use Rattle.field_bounds.specs.Kept.{entry_value, kept_values}
 
@@ -79,11 +79,22 @@ kept_all : {A : Type 0} (o : Option SchemaFault) (x y : A) → unless o x ≡ Ok
 kept_all None x y h = (refl, cc)
 kept_all (Some e) x y h = absurd cc
 
+-- what the limits let pass is within them
+pub IsSchema-of : (sites : ℕ) (fs : List FieldValue) (s : SchemaValue) → 1 ≤ sites → sites ≤ 16 → 1 ≤ length fs → length fs ≤ 64 → unless (first_fault [] fs) (record { sites = sites; fields = fs }) ≡ Ok s → IsSchema s
+IsSchema-of sites fs s some few some_field few_fields h =
+    let made : SchemaValue = record { sites = sites; fields = fs } in
+    let p = kept_all (first_fault [] fs) made s h in
+    let q = all_pass [] fs p.0 in
+    subst IsSchema p.1 (record { some_site = some; few_sites = few; some_field = some_field; few_fields = few_fields; each = q.0; own_names = q.1 })
+
+made_of : {A B : Type 0} (g : A → B) (o : Option SchemaFault) (x y : A) → unless o x ≡ Ok y → unless o (g x) ≡ Ok (g y)
+made_of g None x y h = let same : x ≡ y = cc in ap (λ z. Ok (g z)) same
+made_of g (Some e) x y h = absurd cc
+
 pub IsSchema-from : (sites : ℕ) (fs kept : List FieldValue) → 1 ≤ sites → sites ≤ 16 → 1 ≤ length fs → length fs ≤ 64 → unless (first_fault [] fs) fs ≡ Ok kept → IsSchema (record { sites = sites; fields = kept })
 IsSchema-from sites fs kept some few some_field few_fields h =
-    let p = kept_all (first_fault [] fs) fs kept h in
-    let q = all_pass [] fs p.0 in
-    subst (λ k. IsSchema (record { sites = sites; fields = k })) p.1 (record { some_site = some; few_sites = few; some_field = some_field; few_fields = few_fields; each = q.0; own_names = q.1 })
+    let of : List FieldValue → SchemaValue = λ (k : List FieldValue). record { sites = sites; fields = k } in
+    IsSchema-of sites fs (of kept) some few some_field few_fields (made_of of (first_fault [] fs) fs kept h)
 
 -- ---- a name that is no text
 

@@ -23,6 +23,11 @@ abbrev pub own : ℕ → List Entry → List Entry
 own s [] = []
 own s (e ∷ t) = if e.site.0 == s then e ∷ own s t else own s t
 
+-- Each entry is of site s (this project).
+abbrev pub AreOf : ℕ → List Entry → Type 0
+AreOf s [] = Unit {0}
+AreOf s (e ∷ t) = (e.site.0 ≡ s) × AreOf s t
+
 -- What took effect at a site over the whole trace, on its fresh base (this project).
 abbrev pub at_site : SchemaValue → List Entry → ℕ → List Effect
 at_site schema t s = effects (fresh schema s) false (own s t)

@@ -1,6 +1,6 @@
 -- What a change of the rights does to the free and held ones of each field and kind.
 use Rattle.std.proofs.Common.{◌≡◌, ◌≢◌, ℕ, ◌+◌, ◌-◌, ◌==◌, ◌&&◌, ◌<◌, ◌≤◌, Bool, true, false, cond, List, [], ◌∷◌, length, refl, ap, sym, ◌∙◌, subst, arith, set, get_or, pos, negsuc, ℤ, inl, inr, get_or-set_other, get_or-set_same, take, ◌⊎◌}
-use Rattle.std.specs.Prelude.{slice_set, unsigned_abs, All, sum_by}
+use Rattle.std.specs.Prelude.{slice_set, unsigned_abs, sum_by}
 use Rattle.std.proofs.Math.ListN.{length-set}
 use Rattle.std.proofs.lemmas.List.Sums.{sum_by-cons, sum_by-take-le, sum_by_more}
 use Rattle.std.proofs.lemmas.List.Elements.{All-head, All-tail, All-weaker, All-take, All-get_or}

@@ -1,23 +1,22 @@
 -- What one more effect does to the rights and the open transactions that match the effects.
-use Rattle.std.proofs.Common.{◌≡◌, ℕ, ◌+◌, ◌-◌, ◌<◌, ◌≤◌, Bool, true, false, not, cond, ◌&&◌, ◌||◌, List, [], ◌∷◌, ◌++◌, length, map, reverse, filter, refl, sym, ap, subst, ◌∙◌, arith, inl, inr, eqb}
-use Rattle.std.specs.Prelude.{All, sum_by, unsigned_abs}
+use Rattle.std.proofs.Common.{◌≡◌, ℕ, ◌+◌, ◌<◌, Bool, true, false, not, cond, ◌&&◌, ◌||◌, List, [], ◌∷◌, ◌++◌, length, map, reverse, filter, refl, sym, ap, ◌∙◌, arith, inl, inr}
+use Rattle.std.specs.Prelude.{sum_by}
 use Rattle.std.specs.List.{list_any}
-use Rattle.std.proofs.lemmas.Bool.{cases_Bool, and_parts, or_parts}
+use Rattle.std.proofs.lemmas.Bool.{cases_Bool}
 use Rattle.std.proofs.lemmas.List.{length-map, length-reverse, map-append}
 use Rattle.std.proofs.lemmas.List.Elements.{All-cons, All-nil}
 use Rattle.field_bounds.specs.declared.kind.Kind.{Kind}
 use Rattle.field_bounds.specs.declared.id.TxnId.{TxnId}
 use Rattle.field_bounds.specs.declared.entry.Escrow.{Escrow}
-use Rattle.field_bounds.specs.Kind.{other, kind_of}
 use Rattle.field_bounds.specs.Schema.{SchemaValue}
-use Rattle.field_bounds.specs.Effects.{Effect, Begins, Grants, Commits, Aborts, fresh, same_txn, begun, open_txns, is_begun, is_committed, is_dropped, is_open, escrows_of, takes, granted, share, held}
-use Rattle.field_bounds.specs.Owed.{count_open, count_escrows}
-use Rattle.field_bounds.proofs.Lawful.{IsLawful, MayGrant, granted-mono, same_txn-true}
+use Rattle.field_bounds.specs.Effects.{Effect, Begins, Grants, Commits, Aborts, fresh, same_txn, begun, open_txns, is_begun, is_committed, is_dropped, is_open, escrows_of, takes, share, held}
+use Rattle.field_bounds.specs.Owed.{count_open}
+use Rattle.field_bounds.proofs.Lawful.{IsLawful, granted-mono, same_txn-true}
 use Rattle.field_bounds.proofs.Steps.{same_txn-sym, of_txn, of_txn_is, share_grant, held_grant, share_commit, held_commit, share_abort, held_abort, new_is_unused}
 use Rattle.site_rights.specs.declared.field_rights.FieldRights.{FieldRights}
 use Rattle.site_rights.specs.declared.field_rights.Outcome.{Outcome}
 use Rattle.site_rights.specs.declared.field_rights.Outcome.TheVariants.{Committed, Aborted}
-use Rattle.site_rights.specs.Rights.{free_at, held_at, taken, ending, by_escrow, by_escrows, AreInRange, AreHeld}
+use Rattle.site_rights.specs.Rights.{taken, ending, by_escrow, by_escrows, AreInRange, AreHeld}
 use Rattle.site_rights.proofs.RightsLaws.{frees, length-by_escrow, length-by_escrows, free_at-taken, held_at-taken, free_at-by_escrows, held_at-by_escrows}
 use Rattle.site_step.specs.Journal.{Row, stands, escrows_at, with_escrow, added, without}
 use Rattle.site_step.specs.State.{row_of, journal_of, Matches}

@@ -1,11 +1,11 @@
-use Rattle.std.proofs.Common.{◌≡◌, ◌<◌, ◌≤◌, List, ◌∷◌, None, length, reverse, refl, rules, sym, ap, subst, arith, ◌∙◌, SFits, w64}
+use Rattle.std.proofs.Common.{◌≡◌, ◌≤◌, List, ◌∷◌, None, reverse, refl, rules, sym, ap, subst, ◌∙◌, SFits, w64}
 use Rattle.std.specs.Prelude.{unsigned_abs}
 use Rattle.std.proofs.lemmas.Int.{to_z-of_z}
 use Rattle.field_bounds.specs.declared.entry.Entry.{Entry}
 use Rattle.field_bounds.specs.declared.entry.Command.TheVariants.{Escrow as Ask}
 use Rattle.field_bounds.specs.declared.entry.Reply.TheVariants.{Granted}
 use Rattle.field_bounds.specs.Kind.{kind_of}
-use Rattle.field_bounds.specs.Owed.{first, refusals, Fits}
+use Rattle.field_bounds.specs.Owed.{first, refusals}
 use Rattle.site_rights.specs.Rights.{free_at, by_escrow, taken}
 use Rattle.site_step.specs.Journal.{added}
 use Rattle.site_step.specs.Site.{SiteValue, here, with_entry}

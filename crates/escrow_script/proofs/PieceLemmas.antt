@@ -1,0 +1,272 @@
+-- One piece of input, and all of them.
+use Rattle.std.proofs.Common.{◌≡◌, ◌≢◌, ℕ, ◌+◌, ◌-◌, ◌<◌, ◌≤◌, List, [], ◌++◌, Option, length, take, drop, refl, sym, ap, ◌∙◌, subst, append_assoc, append-nil, take-append-drop, arith, inl, inr}
+use Rattle.std.proofs.lemmas.List.{length-append, length-take-le, length-drop, take-take}
+use Rattle.std.proofs.Math.Seq.{take-append-add}
+use Rattle.std.specs.Io.KnownBytes.{Appends, Consumes, IsAtEnd}
+use Rattle.std.proofs.KnownBytes.{Appends-trans, Appends-nil, Consumes-trans, Consumes-nil}
+use Rattle.escrow_script.specs.declared.script.Script.{Script}
+use Rattle.escrow_script.specs.declared.fault.ScriptFault.{ScriptFault}
+use Rattle.escrow_script.specs.declared.fault.ScriptFault.TheVariants.{Read, TooLong, Write, Header, NoMemory}
+use Rattle.escrow_script.specs.declared.watched.Ended.{Ended}
+use Rattle.escrow_script.specs.Lines.{whole_lines}
+use Rattle.escrow_script.specs.Watched.{AppendsFront, GaveNothing}
+use Rattle.escrow_script.specs.Run.{At, HasWritten, Stops, Stands, StopsAfter, HasEndedAt, IsFresh, RunsThrough, Answers, Fails, Leaves, LeavesAll, WritesText, WritesFor}
+use Rattle.escrow_script.proofs.RunLemmas.{At-written, Stops-along, kept-nil, IsTextOf-stands}
+
+-- a fault that tells less of the end
+pub Stops-weaker : (fault : ScriptFault) (read : List ℕ) (s : Script) (before after : Option (List ℕ)) (P Q : Type 0)
+    → (P → Q) → Stops fault read s before after P → Stops fault read s before after Q
+Stops-weaker (Header e) read s before after P Q f stops = record {
+  front = stops.front;
+  back = stops.back;
+  parts = stops.parts;
+  why = (
+    stops.why.0,
+    elim stops.why.1 [
+      | inl h ↦ inl (h.0, elim h.1 [ inl k ↦ inl k | inr k ↦ inr (k.0, f k.1) ])
+      | inr h ↦ inr h
+    ],
+  );
+  text = stops.text;
+}
+Stops-weaker Read read s before after P Q f stops = record { front = stops.front; back = stops.back; parts = stops.parts; why = stops.why; text = stops.text }
+Stops-weaker TooLong read s before after P Q f stops = record { front = stops.front; back = stops.back; parts = stops.parts; why = stops.why; text = stops.text }
+Stops-weaker Write read s before after P Q f stops = record { front = stops.front; back = stops.back; parts = stops.parts; why = stops.why; text = stops.text }
+Stops-weaker NoMemory read s before after P Q f stops = record { front = stops.front; back = stops.back; parts = stops.parts; why = stops.why; text = stops.text }
+
+leaves : (read : List ℕ) (s : Script) (before after : Option (List ℕ)) → At read s before after → Leaves before after s.out.items (whole_lines read)
+leaves read s before after at = (at.written, at.appended, IsTextOf-stands s.machine (whole_lines read) (at.written ++ s.out.items) at.stands)
+
+pub Stops-read : (read : List ℕ) (s : Script) (before after : Option (List ℕ)) (ended : Type 0)
+    → At read s before after → Stops Read read s before after ended
+Stops-read read s before after ended at = record {
+  front = read;
+  back = [];
+  parts = append-nil read;
+  why = refl;
+  text = leaves read s before after at;
+}
+
+-- more bytes than the limit
+pub Stops-past : (read piece more : List ℕ) (s : Script) (before after : Option (List ℕ)) (ended : Type 0)
+    → 268435456 ≤ length (read ++ piece) → more ≢ [] → At (read ++ piece) s before after
+    → Stops TooLong (read ++ (piece ++ more)) s before after ended
+Stops-past read piece more s before after ended long some at = record {
+  front = read ++ piece;
+  back = more;
+  parts = append_assoc read piece more;
+  why = (some, inr long);
+  text = leaves (read ++ piece) s before after at;
+}
+
+module _ (from middle to before written after : Option (List ℕ)) (old new : Script) (bytes : ℕ) where
+  -- the read gave nothing
+  pub Stands-end : (n : ℕ) (buf : List ℕ) (ended : Ended) → n ≡ 0 → 0 < length buf
+      → Consumes middle to (take n buf) × (n ≡ 0 → 0 < length buf → IsAtEnd to) → (n ≡ 0 → 0 < length buf → GaveNothing ended)
+      → HasWritten old new → Appends written after old.out.items → Stands from middle before written old bytes
+      → Stands from to before after new (bytes + 0) × (◌≡◌ {A = ℕ} 0 0 → HasEndedAt to ended)
+  Stands-end n buf ended none room consumed nothing step appended stands =
+      let whole : stands.read ++ take n buf ≡ stands.read = ap (λ k. stands.read ++ take k buf) none ∙ append-nil stands.read in (
+        record {
+          read = stands.read;
+          consumed = subst (Consumes from to) whole (Consumes-trans from middle to stands.read (take n buf) stands.consumed consumed.0);
+          at = At-written stands.read old new before written after stands.at step appended;
+          count = omega (arith, stands.count);
+          within = omega (arith, stands.within);
+        },
+        λ _. (consumed.1 none room, nothing none room),
+      )
+
+  -- the read gave a piece, and it was taken
+  pub Stands-more : (wrote : Script) (wrote_to : Option (List ℕ)) (n : ℕ) (buf piece : List ℕ) → piece ≡ take n buf → n ≤ length buf
+      → bytes + n ≤ 268435456 → Consumes middle to (take n buf)
+      → HasWritten old wrote → Appends written wrote_to old.out.items
+      → ((read : List ℕ) (b : Option (List ℕ)) → At read wrote b wrote_to → At (read ++ piece) new b after)
+      → Stands from middle before written old bytes
+      → Stands from to before after new (bytes + n)
+  Stands-more wrote wrote_to n buf piece e fits within consumed step appended goes stands = record {
+    read = stands.read ++ take n buf;
+    consumed = Consumes-trans from middle to stands.read (take n buf) stands.consumed consumed;
+    at = subst (λ l. At (stands.read ++ l) new before after) e
+        (goes stands.read before (At-written stands.read old wrote before written wrote_to stands.at step appended));
+    count = rw (length-append stands.read (take n buf), length-take-le n buf fits) (ap (λ k. k + n) stands.count);
+    within = within;
+  }
+
+  split_piece : (n k : ℕ) (buf piece : List ℕ) → piece ≡ take k buf → k ≤ n → piece ++ drop k (take n buf) ≡ take n buf
+  split_piece n k buf piece e h =
+      ap (λ l. l ++ drop k (take n buf)) (e ∙ sym (take-take k n buf h)) ∙ take-append-drop k (take n buf)
+
+  -- the fault came in the piece
+  pub Stops-more : (wrote : Script) (wrote_to : Option (List ℕ)) (fault : ScriptFault) (n k : ℕ) (buf piece : List ℕ) (ended : Ended)
+      → piece ≡ take k buf → k ≤ n → Consumes middle to (take n buf)
+      → HasWritten old wrote → Appends written wrote_to old.out.items
+      → ((read more : List ℕ) (b : Option (List ℕ)) → At read wrote b wrote_to → Stops fault (read ++ (piece ++ more)) new b after ⊥)
+      → Stands from middle before written old bytes
+      → StopsAfter from to before after new ended fault
+  Stops-more wrote wrote_to fault n k buf piece ended e h consumed step appended stops stands =
+      let rest = drop k (take n buf) in (
+        stands.read ++ take n buf,
+        Consumes-trans from middle to stands.read (take n buf) stands.consumed consumed,
+        Stops-along fault (stands.read ++ (piece ++ rest)) (stands.read ++ take n buf) new before after (HasEndedAt to ended)
+            (ap (λ l. stands.read ++ l) (split_piece n k buf piece e h))
+            (Stops-weaker fault _ new before after ⊥ (HasEndedAt to ended) (λ x. absurd x)
+            (stops stands.read rest before (At-written stands.read old wrote before written wrote_to stands.at step appended))),
+      )
+
+  rest_some : (n k : ℕ) (buf : List ℕ) → k < n → n ≤ length buf → drop k (take n buf) ≢ []
+  rest_some n k buf h fits = λ none.
+      let l : length (drop k (take n buf)) ≡ n - k = length-drop k (take n buf) ∙ ap (λ m. m - k) (length-take-le n buf fits) in
+      let z : length (drop k (take n buf)) ≡ 0 = ap length none in
+      absurd (omega arith)
+
+  -- the piece went past the limit
+  pub Stops-over : (wrote : Script) (wrote_to : Option (List ℕ)) (n k : ℕ) (buf piece : List ℕ) (ended : Ended)
+      → piece ≡ take k buf → k < n → n ≤ length buf → bytes + k ≡ 268435456 → Consumes middle to (take n buf)
+      → HasWritten old wrote → Appends written wrote_to old.out.items
+      → ((read : List ℕ) (b : Option (List ℕ)) → At read wrote b wrote_to → At (read ++ piece) new b after)
+      → Stands from middle before written old bytes
+      → StopsAfter from to before after new ended TooLong
+  Stops-over wrote wrote_to n k buf piece ended e h fits full consumed step appended goes stands =
+      let rest = drop k (take n buf) in
+      let size : length (stands.read ++ piece) ≡ length stands.read + k =
+      length-append stands.read piece ∙ ap (λ m. length stands.read + m) (ap length e ∙ length-take-le k buf (omega arith)) in (
+        stands.read ++ take n buf,
+        Consumes-trans from middle to stands.read (take n buf) stands.consumed consumed,
+        Stops-along TooLong (stands.read ++ (piece ++ rest)) (stands.read ++ take n buf) new before after (HasEndedAt to ended)
+            (ap (λ l. stands.read ++ l) (split_piece n k buf piece e (omega arith)))
+            (Stops-past stands.read piece rest new before after (HasEndedAt to ended) (omega (arith, size, full, stands.count)) (rest_some n k buf h fits)
+            (goes stands.read before (At-written stands.read old wrote before written wrote_to stands.at step appended))),
+      )
+
+-- ---- the whole run
+
+At-start : (s : Script) (w : Option (List ℕ)) → IsFresh s → At [] s w w
+At-start s w fresh = record {
+  written = [];
+  appended = Appends-nil w;
+  stands = rw fresh.machine (refl, fresh.out);
+  line = fresh.line ∙ sym (kept-nil s.machine);
+  lines = fresh.lines;
+}
+
+pub Stands-start : (from before : Option (List ℕ)) (s : Script) → IsFresh s → Stands from from before before s 0
+Stands-start from before s fresh = record {
+  read = [];
+  consumed = Consumes-nil from;
+  at = At-start s before fresh;
+  count = refl;
+  within = omega arith;
+}
+
+pub Stops-memory : (from before : Option (List ℕ)) (s : Script) (ended : Ended) → IsFresh s → StopsAfter from from before before s ended NoMemory
+Stops-memory from before s ended fresh = (
+  [],
+  Consumes-nil from,
+  record {
+    front = [];
+    back = [];
+    parts = refl;
+    why = tt;
+    text = leaves [] s before before (At-start s before fresh);
+  },
+)
+
+pub Answers-written : (from to before middle after : Option (List ℕ)) (s : Script)
+    → RunsThrough from to before middle s → Appends middle after s.out.items → Answers from to before after
+Answers-written from to before middle after s runs appended =
+    let (read, consumed, end, (schema, (entries, (written, wrote, has)))) = runs in record {
+      read = read;
+      consumed = consumed;
+      end = end;
+      schema = schema;
+      entries = entries;
+      text = written ++ s.out.items;
+      answered = has;
+      written = Appends-trans before middle after written s.out.items wrote appended;
+    }
+
+-- the fault was a write's, and nothing was written after it
+pub Fails-write : (from to before after : Option (List ℕ)) (s : Script) (ended : Ended)
+    → StopsAfter from to before after s ended Write → Fails from to before after ended Write
+Fails-write from to before after s ended stops =
+    let (read, consumed, st) = stops in record {
+      front = st.front;
+      back = st.back;
+      consumed = subst (Consumes from to) (sym st.parts) consumed;
+      why = tt;
+      written = inl st.text;
+    }
+
+-- a front of what is known and of what is written after it
+AppendsFront-after : (before middle after : Option (List ℕ)) (written out : List ℕ) → Appends before middle written
+    → AppendsFront middle after out → AppendsFront before after (written ++ out)
+AppendsFront-after before middle after written out wrote front = (
+  length written + front.0,
+  subst (Appends before after)
+      (sym (take-append-add written out front.0))
+      (Appends-trans before middle after written (take front.0 out) wrote front.1),
+)
+
+-- the last write failed after a run that was through
+pub Fails-last : (from to before middle after : Option (List ℕ)) (s : Script) (ended : Ended)
+    → RunsThrough from to before middle s → AppendsFront middle after s.out.items → Fails from to before after ended Write
+Fails-last from to before middle after s ended runs front =
+    let (read, consumed, end, (schema, (entries, (written, wrote, has)))) = runs in record {
+      front = read;
+      back = [];
+      consumed = subst (Consumes from to) (sym (append-nil read)) consumed;
+      why = tt;
+      written = inr (
+        refl,
+        (
+          written ++ s.out.items,
+          inr (schema, (entries, has)),
+          AppendsFront-after before middle after written s.out.items wrote front,
+        ),
+      );
+    }
+
+-- what is written, with the buffer, at a fault that is no write's
+Leaves-other : (fault : ScriptFault) (out : List ℕ) (lines : List (List ℕ)) (before after : Option (List ℕ)) → fault ≢ Write
+    → WritesText fault out before after lines → Leaves before after out lines
+Leaves-other Write out lines before after other = absurd (other refl)
+Leaves-other Read out lines before after other = λ h. h
+Leaves-other TooLong out lines before after other = λ h. h
+Leaves-other (Header e) out lines before after other = λ h. h
+Leaves-other NoMemory out lines before after other = λ h. h
+
+-- the last write failed after a fault
+pub Fails-again : (fault : ScriptFault) (from to before middle after : Option (List ℕ)) (s : Script) (ended : Ended) → fault ≢ Write
+    → StopsAfter from to before middle s ended fault → AppendsFront middle after s.out.items → Fails from to before after ended Write
+Fails-again fault from to before middle after s ended other stops front =
+    let (read, consumed, st) = stops in
+    let (written, wrote, text) = Leaves-other fault s.out.items (whole_lines st.front) before middle other st.text in record {
+      front = st.front;
+      back = st.back;
+      consumed = subst (Consumes from to) (sym st.parts) consumed;
+      why = tt;
+      written = inl (written ++ s.out.items, text, AppendsFront-after before middle after written s.out.items wrote front);
+    }
+
+WritesFor-other : (fault : ScriptFault) (front back : List ℕ) (before after : Option (List ℕ)) → fault ≢ Write
+    → LeavesAll before after (whole_lines front) → WritesFor fault before after front back
+WritesFor-other Write front back before after other = absurd (other refl)
+WritesFor-other Read front back before after other = λ h. h
+WritesFor-other TooLong front back before after other = λ h. h
+WritesFor-other (Header e) front back before after other = λ h. h
+WritesFor-other NoMemory front back before after other = λ h. h
+
+-- a fault after which the buffer was written
+pub Fails-other : (fault : ScriptFault) (from to before middle after : Option (List ℕ)) (s : Script) (ended : Ended) → fault ≢ Write
+    → StopsAfter from to before middle s ended fault → Appends middle after s.out.items → Fails from to before after ended fault
+Fails-other fault from to before middle after s ended other stops appended =
+    let (read, consumed, st) = stops in
+    let (written, wrote, text) = Leaves-other fault s.out.items (whole_lines st.front) before middle other st.text in record {
+      front = st.front;
+      back = st.back;
+      consumed = subst (Consumes from to) (sym st.parts) consumed;
+      why = st.why;
+      written = WritesFor-other fault st.front st.back before after other
+          (written ++ s.out.items, text, Appends-trans before middle after written s.out.items wrote appended);
+    }

@@ -1,0 +1,15 @@
+use Rattle.std.proofs.Common.{◌≡◌, ◌-◌, ◌≤◌, vec_len}
+use Rattle.escrow_script.specs.Run.{Stands}
+use Rattle.escrow_script.proofs.script.Script.run_to_end.Given as goal
+
+abbrev pub invariant-pieces : goal.invariant-pieces
+invariant-pieces g l = record {
+  size : vec_len l.buffer ≡ 65536;
+  bound : l.bytes ≤ 268435456;
+  within : l.self.lines ≤ 1000000;
+  stands : Stands (g.R.Read.remaining l.initial.reader) (g.R.Read.remaining l.reader)
+      (g.W.Write.contents l.initial.writer) (g.W.Write.contents l.writer) l.self l.bytes;
+}
+
+abbrev pub decreases-pieces : goal.decreases-pieces
+decreases-pieces g l = 268435456 - l.bytes

@@ -1,0 +1,9 @@
+pub mod Faults
+pub mod Words
+pub mod Reading
+pub mod Replies
+pub mod Watched
+pub mod Start
+pub mod Lines
+pub mod Text
+pub mod Run

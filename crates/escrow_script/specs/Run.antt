@@ -1,0 +1,236 @@
+-- What the parts of a run do to its state, and what a run reads and writes (this project).
+use Rattle.std.specs.Prelude.{◌≡◌, ◌≢◌, ℕ, ◌+◌, ◌-◌, ◌<◌, ◌≤◌, List, [], ◌∷◌, ◌++◌, length, take, ◌⊎◌, Option, None, Some, IsNone, Ok, Err}
+use Rattle.std.specs.Io.KnownBytes.{Appends, Consumes, IsAtEnd}
+use Rattle.field_bounds.specs.Schema.{SchemaValue}
+use Rattle.field_bounds.specs.declared.entry.Entry.{Entry}
+use Rattle.field_bounds.specs.declared.fault.SchemaFault.TheVariants as schema_faults
+use Rattle.escrow_script.specs.declared.machine.Machine.{Machine}
+use Rattle.escrow_script.specs.declared.script.Script.{Script}
+use Rattle.escrow_script.specs.declared.fault.ScriptFault.{ScriptFault}
+use Rattle.escrow_script.specs.declared.fault.ScriptFault.TheVariants.{Read, TooLong, Write, Header, NoMemory}
+use Rattle.escrow_script.specs.declared.watched.Ended.{Ended}
+use Rattle.escrow_script.specs.Start.{start_of}
+use Rattle.escrow_script.specs.Text.{line_command, line_text, answer, first_site, Answered, HasText, IsTextOf}
+use Rattle.escrow_script.specs.Lines.{whole_lines, last_part, script_lines}
+use Rattle.escrow_script.specs.Watched.{AppendsFront, GaveNothing}
+
+-- A line with the next bytes: all of them in a header line, and else as many as fit 257.
+abbrev pub with_piece : Option Machine → List ℕ → List ℕ → List ℕ
+with_piece None line piece = line ++ piece
+with_piece (Some m) line piece = line ++ take (257 - length line) piece
+
+-- The line has the piece at its end, and all else is as before.
+pub record HasKept (old new : Script) (piece : List ℕ) : Type 0 where
+  pub line : new.line.items ≡ with_piece old.machine old.line.items piece
+  pub machine : new.machine ≡ old.machine
+  pub lines : new.lines ≡ old.lines
+  pub out : new.out.items ≡ old.out.items
+
+-- Why a piece can't be kept.
+abbrev pub KeepFault : ScriptFault → Script → List ℕ → Type 0
+KeepFault (Header fault) old piece =
+    (fault ≡ schema_faults.TooLong) × IsNone old.machine × (65536 < length old.line.items + length piece)
+KeepFault NoMemory old piece = Unit {0}
+KeepFault _ old piece = ⊥
+
+-- A piece wasn't kept, and what is to be written is as before.
+pub record CannotKeep (old new : Script) (piece : List ℕ) (fault : ScriptFault) : Type 0 where
+  pub why : KeepFault fault old piece
+  pub out : new.out.items ≡ old.out.items
+
+-- What a line does to the machine: a header line starts it, and the site answers any other.
+abbrev pub Moves : Option Machine → List ℕ → Option Machine → Type 0
+Moves None line None = ⊥
+Moves None line (Some m) = (start_of line ≡ Ok m.schema) × (m.site ≡ first_site m.schema [])
+Moves (Some m) line None = ⊥
+Moves (Some m) line (Some n) = (n.schema ≡ m.schema) × Answered (line_command m.schema line) m.site n.site
+
+-- What a line adds to what is to be written.
+abbrev pub added : Option Machine → List ℕ → Option Machine → List ℕ
+added None line after = line_text line
+added (Some m) line None = []
+added (Some m) line (Some n) = answer (line_command m.schema line) line n.site.history
+
+-- The machine has the line, and what it answers is to be written.
+pub record HasEnded (old new : Script) : Type 0 where
+  pub machine : Moves old.machine old.line.items new.machine
+  pub line : new.line.items ≡ []
+  pub lines : new.lines ≡ old.lines + 1
+  pub out : new.out.items ≡ old.out.items ++ added old.machine old.line.items new.machine
+
+-- Why a line can't be ended.
+abbrev pub EndFault : ScriptFault → Script → Type 0
+EndFault (Header fault) old = IsNone old.machine × (start_of old.line.items ≡ Err fault)
+EndFault NoMemory old = Unit {0}
+EndFault _ old = ⊥
+
+-- A line wasn't ended, and what is to be written is as before.
+pub record CannotEnd (old new : Script) (fault : ScriptFault) : Type 0 where
+  pub why : EndFault fault old
+  pub out : new.out.items ≡ old.out.items
+
+-- As much of a line as is kept: all of a header line, and else 257 bytes.
+abbrev pub kept : Option Machine → List ℕ → List ℕ
+kept None line = line
+kept (Some m) line = take 257 line
+
+-- The machine after the lines, whose text this is.
+abbrev pub StandsFor : Option Machine → List (List ℕ) → List ℕ → Type 0
+StandsFor None lines text = (lines ≡ []) × (text ≡ [])
+StandsFor (Some m) lines text =
+    (entries : List Entry) × (m.site ≡ first_site m.schema entries) × HasText m.schema entries lines text
+
+-- The state after these bytes, with the writer's known bytes before and after.
+pub record At (read : List ℕ) (s : Script) (before after : Option (List ℕ)) : Type 0 where
+  pub written : List ℕ
+  pub appended : Appends before after written
+  pub stands : StandsFor s.machine (whole_lines read) (written ++ s.out.items)
+  pub line : s.line.items ≡ kept s.machine (last_part read)
+  pub lines : s.lines ≡ length (whole_lines read)
+
+-- The output is written.
+pub record HasWritten (old new : Script) : Type 0 where
+  pub machine : new.machine ≡ old.machine
+  pub line : new.line.items ≡ old.line.items
+  pub lines : new.lines ≡ old.lines
+  pub out : new.out.items ≡ []
+
+-- The bytes begin with LF (10).
+abbrev pub BeginsWithBreak : List ℕ → Type 0
+BeginsWithBreak bs = (rest : List ℕ) × (bs ≡ 10 ∷ rest)
+
+-- What a fault says of the bytes in front of it and of those that were read after them.
+abbrev pub Explains : ScriptFault → List ℕ → List ℕ → Type 0 → Type 0
+Explains Read front back ended = back ≡ []
+Explains TooLong front back ended = (back ≢ []) × ((1000000 ≤ length (whole_lines front)) ⊎ (268435456 ≤ length front))
+Explains Write front back ended = Unit {0}
+Explains (Header fault) front back ended = (whole_lines front ≡ [])
+    × (((start_of front ≡ Err fault) × (BeginsWithBreak back ⊎ ((back ≡ []) × ended)))
+    ⊎ ((fault ≡ schema_faults.TooLong) × (65536 < length front)))
+Explains NoMemory front back ended = Unit {0}
+
+-- The known bytes grow by bytes that, with those in the buffer, are the text of the lines.
+abbrev pub Leaves : Option (List ℕ) → Option (List ℕ) → List ℕ → List (List ℕ) → Type 0
+Leaves before after out lines = (written : List ℕ) × Appends before after written × IsTextOf lines (written ++ out)
+
+-- The known bytes grow by a front of the text of the lines.
+abbrev pub LeavesFront : Option (List ℕ) → Option (List ℕ) → List (List ℕ) → Type 0
+LeavesFront before after lines = (text : List ℕ) × IsTextOf lines text × AppendsFront before after text
+
+-- The known bytes grow by the text of the lines.
+abbrev pub LeavesAll : Option (List ℕ) → Option (List ℕ) → List (List ℕ) → Type 0
+LeavesAll before after lines = (text : List ℕ) × IsTextOf lines text × Appends before after text
+
+-- At a write fault a front of the text is written, and else all of it but what is in the buffer.
+abbrev pub WritesText : ScriptFault → List ℕ → Option (List ℕ) → Option (List ℕ) → List (List ℕ) → Type 0
+WritesText Write out before after lines = LeavesFront before after lines
+WritesText _ out before after lines = Leaves before after out lines
+
+-- The fault came in these bytes, and what is written, with the buffer, is the text of the whole lines in
+-- front of it.
+pub record Stops (fault : ScriptFault) (read : List ℕ) (s : Script) (before after : Option (List ℕ)) (ended : Type 0) : Type 0 where
+  pub front : List ℕ
+  pub back : List ℕ
+  pub parts : front ++ back ≡ read
+  pub why : Explains fault front back ended
+  pub text : WritesText fault s.out.items before after (whole_lines front)
+
+-- The bytes are taken in: this holds wherever the run stands, for all that was read before.
+abbrev pub GoesOn : Script → Script → Option (List ℕ) → Option (List ℕ) → List ℕ → Type 0
+GoesOn old new middle after bytes =
+    (read : List ℕ) (before : Option (List ℕ)) → At read old before middle → At (read ++ bytes) new before after
+
+-- The fault came in the bytes, whatever is read after them.
+abbrev pub StopsIn : Script → Script → Option (List ℕ) → Option (List ℕ) → List ℕ → ScriptFault → Type 0
+StopsIn old new middle after bytes fault =
+    (read more : List ℕ) (before : Option (List ℕ)) → At read old before middle
+    → Stops fault (read ++ (bytes ++ more)) new before after ⊥
+
+-- The known bytes grow by bytes that, with those in the buffer, are the text of the lines under some schema.
+abbrev pub Completes : Option (List ℕ) → Option (List ℕ) → List ℕ → List (List ℕ) → Type 0
+Completes before after out lines = (schema : SchemaValue) × ((entries : List Entry)
+    × ((written : List ℕ) × Appends before after written × HasText schema entries lines (written ++ out)))
+
+-- At the end of the input, what is written, with the buffer, is the whole text.
+abbrev pub Finishes : Script → Script → Type 0
+Finishes old new =
+    (read : List ℕ) (before after : Option (List ℕ)) → At read old before after
+    → Completes before after new.out.items (script_lines read)
+
+-- The fault came at the end of the input.
+abbrev pub StopsAtEnd : Script → Script → ScriptFault → Type 0
+StopsAtEnd old new fault =
+    (read : List ℕ) (before after : Option (List ℕ)) → At read old before after → Stops fault read new before after (Unit {0})
+
+-- The known bytes of a reader lose what was read, and the state is that after it.
+pub record Stands (from to before after : Option (List ℕ)) (s : Script) (bytes : ℕ) : Type 0 where
+  pub read : List ℕ
+  pub consumed : Consumes from to read
+  pub at : At read s before after
+  pub count : bytes ≡ length read
+  pub within : bytes ≤ 268435456
+
+-- Nothing was read, and nothing is to be written.
+pub record IsFresh (s : Script) : Type 0 where
+  pub machine : s.machine ≡ None
+  pub line : s.line.items ≡ []
+  pub lines : s.lines ≡ 0
+  pub out : s.out.items ≡ []
+
+-- All of the input is read, and what is written, with the buffer, is its text.
+abbrev pub RunsThrough : Option (List ℕ) → Option (List ℕ) → Option (List ℕ) → Option (List ℕ) → Script → Type 0
+RunsThrough from to before after s =
+    (read : List ℕ) × Consumes from to read × IsAtEnd to × Completes before after s.out.items (script_lines read)
+
+-- The input has ended: no known byte is left, and a read gave nothing.
+abbrev pub HasEndedAt : Option (List ℕ) → Ended → Type 0
+HasEndedAt to ended = IsAtEnd to × GaveNothing ended
+
+-- The fault came in what was read.
+abbrev pub StopsAfter : Option (List ℕ) → Option (List ℕ) → Option (List ℕ) → Option (List ℕ) → Script → Ended → ScriptFault → Type 0
+StopsAfter from to before after s ended fault =
+    (read : List ℕ) × Consumes from to read × Stops fault read s before after (HasEndedAt to ended)
+
+-- After one more piece: with a count of 0 the input has ended.
+abbrev pub StandsNext : Option (List ℕ) → Option (List ℕ) → Option (List ℕ) → Option (List ℕ)
+    → Script → Script → Ended → ℕ → ℕ → Type 0
+StandsNext middle to written after old new ended bytes count =
+    (from before : Option (List ℕ)) → Stands from middle before written old bytes
+    → Stands from to before after new (bytes + count) × (count ≡ 0 → HasEndedAt to ended)
+
+-- The fault came in the next piece, or at its read or write.
+abbrev pub StopsNext : Option (List ℕ) → Option (List ℕ) → Option (List ℕ) → Option (List ℕ)
+    → Script → Script → Ended → ℕ → ScriptFault → Type 0
+StopsNext middle to written after old new ended bytes fault =
+    (from before : Option (List ℕ)) → Stands from middle before written old bytes
+    → StopsAfter from to before after new ended fault
+
+-- All known bytes of the reader are read, and the text of their lines is written.
+pub record Answers (from to before after : Option (List ℕ)) : Type 0 where
+  pub read : List ℕ
+  pub consumed : Consumes from to read
+  pub end : IsAtEnd to
+  pub schema : SchemaValue
+  pub entries : List Entry
+  pub text : List ℕ
+  pub answered : HasText schema entries (script_lines read) text
+  pub written : Appends before after text
+
+-- At a write fault a front of the text is written, of the whole lines in front of the fault or of the whole
+-- input, and else the text of the whole lines in front of the fault.
+abbrev pub WritesFor : ScriptFault → Option (List ℕ) → Option (List ℕ) → List ℕ → List ℕ → Type 0
+WritesFor Write before after front back =
+    LeavesFront before after (whole_lines front) ⊎ ((back ≡ []) × LeavesFront before after (script_lines front))
+WritesFor _ before after front back = LeavesAll before after (whole_lines front)
+
+-- What was read is the front, with the whole lines that are answered, and the back, where the fault came.
+pub record Fails (from to before after : Option (List ℕ)) (ended : Ended) (fault : ScriptFault) : Type 0 where
+  pub front : List ℕ
+  pub back : List ℕ
+  pub consumed : Consumes from to (front ++ back)
+  pub why : Explains fault front back (HasEndedAt to ended)
+  pub written : WritesFor fault before after front back
+
+-- The same, where nobody asks how the last read ended.
+abbrev pub FailsSomehow : Option (List ℕ) → Option (List ℕ) → Option (List ℕ) → Option (List ℕ) → ScriptFault → Type 0
+FailsSomehow from to before after fault = (ended : Ended) × Fails from to before after ended fault

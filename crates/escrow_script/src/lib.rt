@@ -1,0 +1,19 @@
+//! Scripts of commands, read line by line and answered line by line, over any reader and writer.
+#![tactic(auto)]
+
+mod command;
+mod fault;
+mod machine;
+mod number;
+mod reply;
+mod script;
+mod verb;
+mod watched;
+mod word;
+mod words;
+
+pub use fault::ScriptFault;
+pub use script::run_script;
+
+#[cfg(test)]
+mod tests;

@@ -1,0 +1,391 @@
+//! The loop of a script: pieces of input in, whole lines to the machine, pieces of output out.
+
+ghost use Rattle.std.specs.Prelude.{◌≡◌, ◌≢◌, ℕ, ◌+◌, ◌-◌, ◌^◌, ◌<◌, ◌≤◌, [], ◌∷◌, ◌++◌, length, take, All, OnOk, OnErr, IfOk, IfErr, MatchOption, vec_len, ◌↔◌, IsTrue, IsSome};
+ghost use Rattle.escrow_script.specs.Run.{Answers, Fails, FailsSomehow};
+ghost use Rattle.escrow_script.specs.Watched.{HasFailed, GaveNothing, IsRefusal};
+
+use crate::fault::ScriptFault;
+use crate::machine::{Machine, add_line};
+use crate::watched::{Ended, read_watched, write_watched};
+use field_bounds::{MAX_HEADER, SchemaFault};
+use std::alloc::{AllocError, Global};
+use std::io::{Read, Write};
+
+// The most lines of an input, the header line included.
+const MOST_LINES: u32 = 1_000_000;
+
+// The most bytes of an input.
+const MOST_BYTES: u64 = 268_435_456;
+
+// As much of a line behind the header as tells that it is too long.
+const LINE_KEPT: usize = 257;
+
+// How much is read in one call, and how much output is gathered before a write.
+const PIECE: usize = 65_536;
+
+// The bytes before the first LF, and those after it.
+fn split_line(bytes: &[u8]) -> Option<(&[u8], &[u8])>
+    ensures { MatchOption result (All (λ b. b ≢ 10) bytes.now)
+        (λ parts. All (λ b. b ≢ 10) parts.0.now × (bytes.now ≡ parts.0.now ++ 10 ∷ parts.1.now)) }
+{
+    match bytes.iter().position(|byte| *byte == b'\n') {
+        Some(at) => Some((&bytes[..at], &bytes[at + 1..])),
+        None => None,
+    }
+}
+
+// The first bytes.
+fn front(bytes: &[u8], count: usize) -> &[u8]
+    requires { count ≤ length bytes.now }
+    ensures { result.now ≡ take count bytes.now }
+{
+    &bytes[..count]
+}
+
+fn new_buffer(alloc: Global) -> Result<Vec<u8>, AllocError>
+    ensures { IfOk result (λ buffer. vec_len buffer ≡ 65536) }
+{
+    vec![in alloc; 0u8; PIECE]
+}
+
+// The machine once the header line came, the bytes of the line that is being read, the whole lines
+// so far, and what is to be written.
+#[derive(Drop)]
+struct Script {
+    alloc: Global,
+    machine: Option<Machine>,
+    line: Vec<u8>,
+    lines: u32,
+    out: Vec<u8>,
+}
+
+impl Script {
+    ghost use Rattle.std.specs.Io.KnownBytes.{Appends};
+    ghost use Rattle.escrow_script.specs.Run.{HasKept, CannotKeep, HasEnded, CannotEnd, HasWritten, GoesOn, StopsIn, Finishes, StopsAtEnd, IsFresh, RunsThrough, StopsAfter, StandsNext, StopsNext};
+    ghost use Rattle.escrow_script.specs.Watched.{AppendsFront};
+
+    fn new(alloc: Global) -> Script
+        ensures { IsFresh result }
+    {
+        Script {
+            alloc,
+            machine: None,
+            line: Vec::new(alloc),
+            lines: 0,
+            out: Vec::new(alloc),
+        }
+    }
+
+    // Adds the next bytes of a line.
+    fn keep(&mut self, piece: &[u8]) -> Result<(), ScriptFault>
+        ensures ok { OnOk result (HasKept self.old self.new piece.now) }
+        ensures err { IfErr result (CannotKeep self.old self.new piece.now) }
+        ensures not_read { IfErr result (λ fault. fault ≢ ScriptFault.Read) }
+        ensures not_write { IfErr result (λ fault. fault ≢ ScriptFault.Write) }
+    {
+        if self.machine.is_some() {
+            let room = LINE_KEPT.saturating_sub(self.line.len()).min(piece.len());
+            self.line.extend_from_slice(front(piece, room))?;
+            return Ok(());
+        }
+        if piece.len() > MAX_HEADER.saturating_sub(self.line.len()) {
+            return Err(ScriptFault::Header(SchemaFault::TooLong));
+        }
+        self.line.extend_from_slice(piece)?;
+        Ok(())
+    }
+
+    // Gives the line to the machine.
+    fn end_line(&mut self) -> Result<(), ScriptFault>
+        requires { self.old.lines < 2 ^ 32 - 1 }
+        ensures ok { OnOk result (HasEnded self.old self.new) }
+        ensures err { IfErr result (CannotEnd self.old self.new) }
+        ensures not_read { IfErr result (λ fault. fault ≢ ScriptFault.Read) }
+        ensures not_write { IfErr result (λ fault. fault ≢ ScriptFault.Write) }
+    {
+        match &mut self.machine {
+            Some(machine) => machine.answer(self.alloc, self.line.as_slice(), &mut self.out)?,
+            None => {
+                let machine = Machine::from_header(self.alloc, self.line.as_slice())?;
+                add_line(&mut self.out, self.line.as_slice())?;
+                self.machine = Some(machine);
+            }
+        }
+        self.line.clear();
+        self.lines += 1;
+        Ok(())
+    }
+
+    // Writes what is to be written.
+    fn write_out<W: Write>(
+        &mut self,
+        writer: &mut W,
+        write_end: &mut Ended,
+    ) -> Result<(), ScriptFault>
+        ensures ok { OnOk result (HasWritten self.old self.new
+            × Appends (W.contents writer.old) (W.contents writer.new) self.old.out.items) }
+        ensures front { OnErr result (AppendsFront
+            (W.contents writer.old) (W.contents writer.new) self.old.out.items) }
+        ensures fault { IfErr result (λ fault. fault ≡ ScriptFault.Write) }
+        ensures refused { OnErr result (IsRefusal write_end.new) }
+    {
+        if write_watched(writer, self.out.as_slice(), write_end).is_err() {
+            return Err(ScriptFault::Write);
+        }
+        self.out.clear();
+        Ok(())
+    }
+
+    // Takes a whole line, whose LF was read.
+    fn take_line<W: Write>(
+        &mut self,
+        line: &[u8],
+        writer: &mut W,
+        write_end: &mut Ended,
+    ) -> Result<(), ScriptFault>
+        requires room { self.old.lines < 1000000 }
+        requires unbroken { All (λ b. b ≢ 10) line.now }
+        ensures ok { OnOk result (GoesOn self.old self.new
+            (W.contents writer.old) (W.contents writer.new) (line.now ++ 10 ∷ [])) }
+        ensures err { IfErr result (StopsIn self.old self.new
+            (W.contents writer.old) (W.contents writer.new) (line.now ++ 10 ∷ [])) }
+        ensures lines { OnOk result (self.new.lines ≡ self.old.lines + 1) }
+        ensures refused { IfErr result (λ fault. fault ≡ ScriptFault.Write → IsRefusal write_end.new) }
+        ensures not_read { IfErr result (λ fault. fault ≢ ScriptFault.Read) }
+    {
+        self.keep(line)?;
+        self.end_line()?;
+        if self.out.len() >= PIECE {
+            self.write_out(writer, write_end)?;
+        }
+        Ok(())
+    }
+
+    // Takes the next bytes of the input.
+    fn take_piece<W: Write>(
+        &mut self,
+        piece: &[u8],
+        writer: &mut W,
+        write_end: &mut Ended,
+    ) -> Result<(), ScriptFault>
+        requires { self.old.lines ≤ 1000000 }
+        ensures ok { OnOk result (GoesOn self.old self.new
+            (W.contents writer.old) (W.contents writer.new) piece.now) }
+        ensures err { IfErr result (StopsIn self.old self.new
+            (W.contents writer.old) (W.contents writer.new) piece.now) }
+        ensures lines { OnOk result (self.new.lines ≤ 1000000) }
+        ensures refused { IfErr result (λ fault. fault ≡ ScriptFault.Write → IsRefusal write_end.new) }
+        ensures not_read { IfErr result (λ fault. fault ≢ ScriptFault.Read) }
+    {
+        let mut rest = piece;
+        'lines: while let Some((line, after)) = split_line(rest) {
+            if self.lines >= MOST_LINES {
+                return Err(ScriptFault::TooLong);
+            }
+            self.take_line(line, writer, write_end)?;
+            rest = after;
+        }
+        if rest.is_empty() {
+            return Ok(());
+        }
+        if self.lines >= MOST_LINES {
+            return Err(ScriptFault::TooLong);
+        }
+        self.keep(rest)?;
+        Ok(())
+    }
+
+    // Whether a header line came, and the line that is being read has no byte.
+    fn is_between_lines(&self) -> bool
+        ensures { IsTrue result ↔ (IsSome self.now.machine × (self.now.line.items ≡ [])) }
+    {
+        self.machine.is_some() && self.line.is_empty()
+    }
+
+    // Takes the end of the input: a last line without LF, and a header line of no bytes.
+    fn end_input(&mut self) -> Result<(), ScriptFault>
+        requires { self.old.lines ≤ 1000000 }
+        ensures ok { OnOk result (Finishes self.old self.new) }
+        ensures err { IfErr result (StopsAtEnd self.old self.new) }
+        ensures not_read { IfErr result (λ fault. fault ≢ ScriptFault.Read) }
+        ensures not_write { IfErr result (λ fault. fault ≢ ScriptFault.Write) }
+    {
+        if self.is_between_lines() {
+            return Ok(());
+        }
+        self.end_line()?;
+        Ok(())
+    }
+
+    // Writes what is to be written, then reads the next piece and takes it. The answer is the
+    // piece's length, and 0 at the end of the input.
+    fn take_next<R: Read, W: Write>(
+        &mut self,
+        buffer: &mut [u8],
+        bytes: u64,
+        reader: &mut R,
+        read_end: &mut Ended,
+        writer: &mut W,
+        write_end: &mut Ended,
+    ) -> Result<u64, ScriptFault>
+        requires some { 0 < length buffer.old }
+        requires bytes { bytes ≤ 268435456 }
+        requires lines { self.old.lines ≤ 1000000 }
+        ensures ok { IfOk result (StandsNext (R.remaining reader.old) (R.remaining reader.new)
+            (W.contents writer.old) (W.contents writer.new) self.old self.new read_end.new bytes) }
+        ensures err { IfErr result (StopsNext (R.remaining reader.old) (R.remaining reader.new)
+            (W.contents writer.old) (W.contents writer.new) self.old self.new read_end.new bytes) }
+        ensures lines { OnOk result (self.new.lines ≤ 1000000) }
+        ensures within { IfOk result (λ count. bytes + count ≤ 268435456) }
+        ensures refused { IfErr result (λ fault. fault ≡ ScriptFault.Write → IsRefusal write_end.new) }
+        ensures failed { IfErr result (λ fault. fault ≡ ScriptFault.Read → HasFailed read_end.new) }
+    {
+        self.write_out(writer, write_end)?;
+        let count = match read_watched(reader, buffer, read_end) {
+            Ok(count) => count,
+            Err(_) => return Err(ScriptFault::Read),
+        };
+        if count == 0 {
+            return Ok(0);
+        }
+        let room = MOST_BYTES - bytes;
+        if count as u64 > room {
+            self.take_piece(front(buffer, room as usize), writer, write_end)?;
+            return Err(ScriptFault::TooLong);
+        }
+        self.take_piece(front(buffer, count), writer, write_end)?;
+        Ok(count as u64)
+    }
+
+    // Takes the whole input. Some of the output may stay in the buffer.
+    fn run_to_end<R: Read, W: Write>(
+        &mut self,
+        reader: &mut R,
+        read_end: &mut Ended,
+        writer: &mut W,
+        write_end: &mut Ended,
+    ) -> Result<(), ScriptFault>
+        requires { IsFresh self.old }
+        ensures ok { OnOk result (RunsThrough (R.remaining reader.old) (R.remaining reader.new)
+            (W.contents writer.old) (W.contents writer.new) self.new) }
+        ensures err { IfErr result (StopsAfter (R.remaining reader.old) (R.remaining reader.new)
+            (W.contents writer.old) (W.contents writer.new) self.new read_end.new) }
+        ensures end { OnOk result (GaveNothing read_end.new) }
+        ensures refused { IfErr result (λ fault. fault ≡ ScriptFault.Write → IsRefusal write_end.new) }
+        ensures failed { IfErr result (λ fault. fault ≡ ScriptFault.Read → HasFailed read_end.new) }
+    {
+        let mut buffer = new_buffer(self.alloc)?;
+        let mut bytes = 0u64;
+        'pieces: loop {
+            let count = self.take_next(
+                buffer.as_mut_slice(),
+                bytes,
+                reader,
+                read_end,
+                writer,
+                write_end,
+            )?;
+            if count == 0 {
+                break;
+            }
+            bytes += count;
+        }
+        self.end_input()?;
+        Ok(())
+    }
+}
+
+// Runs a script, and keeps how the last read and the last write ended.
+fn run_watched<R: Read, W: Write>(
+    alloc: Global,
+    reader: &mut R,
+    read_end: &mut Ended,
+    writer: &mut W,
+    write_end: &mut Ended,
+) -> Result<(), ScriptFault>
+    ensures ok { OnOk result (Answers (R.remaining reader.old) (R.remaining reader.new)
+        (W.contents writer.old) (W.contents writer.new)) }
+    ensures end { OnOk result (GaveNothing read_end.new) }
+    ensures fault { IfErr result (Fails (R.remaining reader.old) (R.remaining reader.new)
+        (W.contents writer.old) (W.contents writer.new) read_end.new) }
+    ensures read { IfErr result (λ fault. fault ≡ ScriptFault.Read → HasFailed read_end.new) }
+    ensures write { IfErr result (λ fault. fault ≡ ScriptFault.Write → IsRefusal write_end.new) }
+{
+    let mut script = Script::new(alloc);
+    match script.run_to_end(reader, read_end, writer, write_end) {
+        Ok(()) => {
+            script.write_out(writer, write_end)?;
+            Ok(())
+        }
+        Err(fault) => match fault {
+            ScriptFault::Write => Err(ScriptFault::Write),
+            other => {
+                script.write_out(writer, write_end)?;
+                Err(other)
+            }
+        },
+    }
+}
+
+/// Runs a script: a header line, and then command lines, each answered by a line.
+///
+/// Line 1 is a header of one site and one field, and is written as it was read. Every other line is
+/// a command line, answered by `LINE -> REPLY`, or is answered by `bad line` and changes nothing. A
+/// line ends with LF; a last line without LF counts where it has at least one byte.
+///
+/// The faults are those of the input, line by line: `Header` and `NoMemory`; `TooLong` where a byte
+/// follows the 1,000,000th line or the 268,435,456th byte; `Read` where a read answers an error of
+/// any kind, which isn't tried again. At each of them the text of the whole lines before it was
+/// written, and at `Header` nothing. `Write` comes where a write answers an error of any kind or
+/// takes no byte; then a front of the text was written.
+///
+/// Output is written before each read, once 64 KiB of it have gathered behind a line, and at the
+/// end. Costs 64 KiB for input and somewhat more for output, and memory for the site, which keeps
+/// each entry.
+pub fn run_script<R: Read, W: Write>(
+    alloc: Global,
+    reader: &mut R,
+    writer: &mut W,
+) -> Result<(), ScriptFault>
+    // All the input is read, and its text is written.
+    ensures ok { OnOk result (Answers (R.remaining reader.old) (R.remaining reader.new)
+        (W.contents writer.old) (W.contents writer.new)) }
+
+    // A fault comes for a reason, and the text of the whole lines before it is written.
+    ensures fault { IfErr result (FailsSomehow (R.remaining reader.old) (R.remaining reader.new)
+        (W.contents writer.old) (W.contents writer.new)) }
+{
+    let mut read_end = Ended::new();
+    let mut write_end = Ended::new();
+    run_watched(alloc, reader, &mut read_end, writer, &mut write_end)
+}
+
+#[cfg(test)]
+mod tests {
+    use super::*;
+    use std::test::Fail;
+
+    // What is left of the longest input is taken, and a byte more ends the run.
+    #[test]
+    fn keeps_the_limit_of_bytes(rt: HostRuntime) -> Result<(), Fail> {
+        let alloc = rt.alloc();
+        for (input, wanted) in [
+            ("", Ok(0)),
+            ("four", Ok(4)),
+            ("fours", Err(ScriptFault::TooLong)),
+        ] {
+            let mut script = Script::new(alloc);
+            let taken = script.take_next(
+                &mut [0; 16],
+                MOST_BYTES - 4,
+                &mut input.as_bytes(),
+                &mut Ended::new(),
+                &mut Vec::new(alloc),
+                &mut Ended::new(),
+            );
+            assert_eq!(rt; taken, wanted);
+            assert_eq!(rt; script.line.len(), input.len().min(4));
+        }
+        Ok(())
+    }
+}

@@ -1,0 +1,333 @@
+//! What no clause says: the texts, whole runs, and readers and writers that fail.
+
+use crate::{ScriptFault, run_script};
+use field_bounds::SchemaFault;
+use std::alloc::{AllocError, Global};
+use std::io;
+use std::io::{ErrorKind, Read, Write};
+use std::process::Abort;
+use std::test::Fail;
+
+const HEADER: &str =
+    "{\"sites\":1,\"fields\":[{\"name\":\"stock\",\"floor\":0,\"ceiling\":100,\"value\":40}]}";
+
+/// A script beside the output that it is to give.
+#[derive(Drop)]
+struct Talk {
+    input: String,
+    wanted: String,
+}
+
+impl Talk {
+    fn new(alloc: Global, header: &str) -> Result<Talk, AllocError> {
+        Ok(Talk {
+            input: format!(in alloc; "{header}\n")?,
+            wanted: format!(in alloc; "{header}\n")?,
+        })
+    }
+
+    fn row(&mut self, line: &str, reply: &str) -> Result<(), AllocError> {
+        write!(self.input, "{line}\n")?;
+        write!(self.wanted, "{line} -> {reply}\n")
+    }
+
+    fn rows(&mut self, rows: &[(&str, &str)]) -> Result<(), AllocError> {
+        for (line, reply) in rows {
+            self.row(*line, *reply)?;
+        }
+        Ok(())
+    }
+
+    fn bad(&mut self, line: &str) -> Result<(), AllocError> {
+        write!(self.input, "{line}\n")?;
+        write!(self.wanted, "bad line\n")
+    }
+
+    fn check(&self, rt: &impl Abort, alloc: Global) {
+        let mut reader = self.input.as_bytes();
+        let mut out = Vec::new(alloc);
+        let end = run_script(alloc, &mut reader, &mut out);
+        assert_eq!(rt; end, Ok(()));
+        assert_eq!(rt; str::from_utf8(out.as_slice()), Ok(self.wanted.as_str()));
+    }
+}
+
+/// A reader that gives a byte a read.
+#[derive(Drop)]
+struct Trickle<'a>(&'a [u8]);
+
+impl Read for Trickle<'_> {
+    fn read(&mut self, buf: &mut [u8]) -> io::Result<usize> {
+        let count = buf.len().min(1);
+        self.0.read(&mut buf[..count])
+    }
+}
+
+/// A reader whose every read fails.
+#[derive(Drop)]
+struct Broken(ErrorKind);
+
+impl Read for Broken {
+    fn read(&mut self, _buf: &mut [u8]) -> io::Result<usize> {
+        Err(self.0.into())
+    }
+}
+
+/// A writer that takes so many bytes, five a write, and then fails or takes none.
+#[derive(Drop)]
+struct Narrow {
+    taken: Vec<u8>,
+    room: usize,
+    fails: bool,
+}
+
+impl Write for Narrow {
+    fn write(&mut self, buf: &[u8]) -> io::Result<usize> {
+        if self.room == 0 && self.fails {
+            return Err(ErrorKind::Interrupted.into());
+        }
+        let count = buf.len().min(self.room).min(5);
+        self.taken.extend_from_slice(&buf[..count])?;
+        self.room -= count;
+        Ok(count)
+    }
+
+    fn flush(&mut self) -> io::Result<()> {
+        Ok(())
+    }
+}
+
+#[test]
+fn answers_commands(rt: HostRuntime) -> Result<(), Fail> {
+    let alloc = rt.alloc();
+    let mut talk = Talk::new(alloc, HEADER)?;
+    talk.rows(&[
+        ("0 begin", "begun 0.1"),
+        ("0 escrow 0.1 stock -20", "granted"),
+        ("0 read stock", "between 40 40"),
+        ("0 commit 0.1", "committed"),
+        ("0 read stock", "between 20 20"),
+    ])?;
+    talk.check(&rt, alloc);
+    let mut talk = Talk::new(alloc, HEADER)?;
+    talk.rows(&[
+        ("0 begin", "begun 0.1"),
+        ("0 escrow 0.1 stock -41", "refused 7 short 40"),
+        ("0 escrow 0.1 stock 60", "granted"),
+        ("0 read stock", "between 40 40"),
+        ("0 commit 0.1", "committed"),
+        ("0 read stock", "between 100 100"),
+        ("0 begin", "begun 0.2"),
+        ("0 escrow 0.2 stock -100", "granted"),
+        ("0 abort 0.2", "aborted"),
+        ("0 read stock", "between 100 100"),
+        ("0 read #1", "refused 3 no field"),
+        ("0 read #65535", "refused 3 no field"),
+        ("0 commit 0.7", "refused 4 no transaction"),
+        ("0 abort 4294967295.4294967295", "refused 4 no transaction"),
+        ("0 begin", "begun 0.3"),
+        ("0 escrow 0.3 stock 0", "refused 5 zero"),
+    ])?;
+    talk.check(&rt, alloc);
+    Ok(())
+}
+
+#[test]
+fn keeps_the_widest_fields(rt: HostRuntime) -> Result<(), Fail> {
+    let alloc = rt.alloc();
+    let mut talk = Talk::new(
+        alloc,
+        "{\"sites\":1,\"fields\":[{\"name\":\"stock\",\"floor\":7,\"ceiling\":7,\"value\":7}]}",
+    )?;
+    talk.rows(&[
+        ("0 read stock", "between 7 7"),
+        ("0 begin", "begun 0.1"),
+        ("0 escrow 0.1 stock 1", "refused 7 short 0"),
+        ("0 escrow 0.1 stock -1", "refused 7 short 0"),
+    ])?;
+    talk.check(&rt, alloc);
+    let mut talk = Talk::new(
+        alloc,
+        "{\"sites\":1,\"fields\":[{\"name\":\"stock\",\"floor\":-1000000000000000,\"ceiling\":1000000000000000,\"value\":1000000000000000}]}",
+    )?;
+    talk.rows(&[
+        ("0 begin", "begun 0.1"),
+        (
+            "0 escrow 0.1 stock -2000000000000001",
+            "refused 6 too large",
+        ),
+        (
+            "0 escrow 0.1 stock -9223372036854775808",
+            "refused 6 too large",
+        ),
+        ("0 escrow 0.1 stock -2000000000000000", "granted"),
+        ("0 commit 0.1", "committed"),
+        (
+            "0 read stock",
+            "between -1000000000000000 -1000000000000000",
+        ),
+    ])?;
+    talk.check(&rt, alloc);
+    Ok(())
+}
+
+#[test]
+fn refuses_past_the_limits(rt: HostRuntime) -> Result<(), Fail> {
+    let alloc = rt.alloc();
+    let mut talk = Talk::new(alloc, HEADER)?;
+    talk.row("0 begin", "begun 0.1")?;
+    for _ in 0..16 {
+        talk.row("0 escrow 0.1 stock -1", "granted")?;
+    }
+    talk.row("0 escrow 0.1 stock -1", "refused 13 too many escrows")?;
+    talk.row("0 escrow 0.1 stock -25", "refused 7 short 24")?;
+    for number in 2..=64u32 {
+        let reply = format!(in alloc; "begun 0.{number}")?;
+        talk.row("0 begin", reply.as_str())?;
+    }
+    talk.row("0 begin", "refused 12 too many open")?;
+    talk.check(&rt, alloc);
+    Ok(())
+}
+
+#[test]
+fn answers_bad_lines(rt: HostRuntime) -> Result<(), Fail> {
+    let alloc = rt.alloc();
+    let mut talk = Talk::new(alloc, HEADER)?;
+    talk.row("0 begin", "begun 0.1")?;
+    for line in [
+        "0 read sock",
+        "2 begin",
+        "1 begin",
+        "0  begin",
+        "",
+        "0 begin ",
+        " 0 begin",
+        "00 begin",
+        "0 escrow 0.1 stock -0",
+        "0 escrow 0.1 stock +1",
+        "0 escrow 0.1 stock 9223372036854775808",
+        "0 escrow 0.01 stock 1",
+        "0 commit 0.4294967296",
+        "0 commit 1",
+        "0 read #0",
+        "0 read #65536",
+        "0 read #01",
+        "65536 begin",
+        "0 begin\r",
+        "0 Begin",
+        "0 give 1 stock lower 1",
+        "0 share stock",
+        "0 restart",
+        "deliver 1",
+        "0 begin torn 3",
+    ] {
+        talk.bad(line)?;
+    }
+    let long = vec![in alloc; b'x'; 257]?;
+    talk.bad(str::from_utf8(long.as_slice())?)?;
+    let long = vec![in alloc; b' '; 70_000]?;
+    talk.bad(str::from_utf8(long.as_slice())?)?;
+    talk.row("0 begin", "begun 0.2")?;
+    // The last line has no LF.
+    write!(talk.input, "0 begin")?;
+    write!(talk.wanted, "0 begin -> begun 0.3\n")?;
+    talk.check(&rt, alloc);
+    let mut out = Vec::new(alloc);
+    let end = run_script(alloc, &mut Trickle(talk.input.as_bytes()), &mut out);
+    assert_eq!(rt; end, Ok(()));
+    assert_eq!(rt; str::from_utf8(out.as_slice()), Ok(talk.wanted.as_str()));
+    Ok(())
+}
+
+#[test]
+fn tells_bad_headers(rt: HostRuntime) -> Result<(), Fail> {
+    let alloc = rt.alloc();
+    let two_fields =
+        "{\"sites\":1,\"fields\":[{\"name\":\"stock\",\"floor\":0,\"ceiling\":1,\"value\":0},{\"name\":\"seats\",\"floor\":0,\"ceiling\":1,\"value\":0}]}\n";
+    for (header, fault) in [
+        ("", SchemaFault::NotJson),
+        ("\n0 begin\n", SchemaFault::NotJson),
+        ("{\"sites\":1}\n0 begin\n", SchemaFault::Shape),
+        (
+            "{\"sites\":0,\"fields\":[{\"name\":\"stock\",\"floor\":0,\"ceiling\":100,\"value\":40}]}",
+            SchemaFault::SiteCount,
+        ),
+        (
+            "{\"sites\":2,\"fields\":[{\"name\":\"stock\",\"floor\":0,\"ceiling\":100,\"value\":40}]}\n",
+            SchemaFault::SiteCount,
+        ),
+        (two_fields, SchemaFault::FieldCount),
+    ] {
+        let mut out = Vec::new(alloc);
+        let end = run_script(alloc, &mut header.as_bytes(), &mut out);
+        assert_eq!(rt; end, Err(ScriptFault::Header(fault)), "at {header}");
+        assert_eq!(rt; out.len(), 0);
+    }
+    // The 65,537th byte of a header ends the run before the next read.
+    for (spaces, wanted) in [
+        (65_537, ScriptFault::Header(SchemaFault::TooLong)),
+        (65_536, ScriptFault::Read),
+    ] {
+        let mut out = Vec::new(alloc);
+        let mut reader = io::repeat(b' ')
+            .take(spaces)
+            .chain(Broken(ErrorKind::Other));
+        let end = run_script(alloc, &mut reader, &mut out);
+        assert_eq!(rt; end, Err(wanted));
+        assert_eq!(rt; out.len(), 0);
+    }
+    // A header is echoed with its CR and, where its LF is missing, with LF.
+    let mut out = Vec::new(alloc);
+    let header = format!(in alloc; "{HEADER}\r")?;
+    let end = run_script(alloc, &mut header.as_bytes(), &mut out);
+    assert_eq!(rt; end, Ok(()));
+    let wanted = format!(in alloc; "{HEADER}\r\n")?;
+    assert_eq!(rt; str::from_utf8(out.as_slice()), Ok(wanted.as_str()));
+    Ok(())
+}
+
+#[test]
+fn keeps_the_limit_of_lines(rt: HostRuntime) -> Result<(), Fail> {
+    let alloc = rt.alloc();
+    let header = format!(in alloc; "{HEADER}\n")?;
+    // 999,999 lines behind the header, and a byte more.
+    for (more, wanted) in [(0, Ok(())), (1, Err(ScriptFault::TooLong))] {
+        let lines = io::repeat(b'\n').take(999_999);
+        let mut reader = header
+            .as_bytes()
+            .chain(lines)
+            .chain(io::repeat(b'x').take(more));
+        let mut out = Vec::new(alloc);
+        let end = run_script(alloc, &mut reader, &mut out);
+        assert_eq!(rt; end, wanted);
+        assert_eq!(rt; out.len(), header.len() + 9 * 999_999);
+    }
+    Ok(())
+}
+
+#[test]
+fn ends_where_reads_and_writes_fail(rt: HostRuntime) -> Result<(), Fail> {
+    let alloc = rt.alloc();
+    let input = format!(in alloc; "{HEADER}\n0 begin\n0 read")?;
+    let wanted = format!(in alloc; "{HEADER}\n0 begin -> begun 0.1\n")?;
+    for kind in [ErrorKind::Interrupted, ErrorKind::UnexpectedEof] {
+        let mut out = Vec::new(alloc);
+        let mut reader = input.as_bytes().chain(Broken(kind));
+        let end = run_script(alloc, &mut reader, &mut out);
+        assert_eq!(rt; end, Err(ScriptFault::Read));
+        assert_eq!(rt; str::from_utf8(out.as_slice()), Ok(wanted.as_str()));
+    }
+    let input = format!(in alloc; "{HEADER}\n0 begin\n")?;
+    for (room, fails) in [(0, true), (0, false), (77, true), (77, false)] {
+        let mut writer = Narrow {
+            taken: Vec::new(alloc),
+            room,
+            fails,
+        };
+        let end = run_script(alloc, &mut input.as_bytes(), &mut writer);
+        assert_eq!(rt; end, Err(ScriptFault::Write));
+        assert_eq!(rt; writer.taken.as_slice(), &wanted.as_bytes()[..room]);
+    }
+    Ok(())
+}
