@@ -73,7 +73,7 @@ impl Read for Broken {
     }
 }
 
-/// A writer that takes so many bytes, five a write, and then fails or takes none.
+/// A writer that takes so many bytes, one a write, and then fails or takes none.
 #[derive(Drop)]
 struct Narrow {
     taken: Vec<u8>,
@@ -86,7 +86,7 @@ impl Write for Narrow {
         if self.room == 0 && self.fails {
             return Err(ErrorKind::Interrupted.into());
         }
-        let count = buf.len().min(self.room).min(5);
+        let count = buf.len().min(self.room).min(1);
         self.taken.extend_from_slice(&buf[..count])?;
         self.room -= count;
         Ok(count)
@@ -306,28 +306,79 @@ fn keeps_the_limit_of_lines(rt: HostRuntime) -> Result<(), Fail> {
     Ok(())
 }
 
+/// A script of one site, each line beside what answers it.
+const ROW: [(&str, &str); 6] = [
+    (HEADER, HEADER),
+    ("0 begin", "0 begin -> begun 0.1"),
+    (
+        "0 escrow 0.1 stock -20",
+        "0 escrow 0.1 stock -20 -> granted",
+    ),
+    ("0 read stock", "0 read stock -> between 40 40"),
+    ("0 commit 0.1", "0 commit 0.1 -> committed"),
+    ("0 read stock", "0 read stock -> between 20 20"),
+];
+
+/// The input of the row.
+fn row_input(alloc: Global) -> Result<String, AllocError> {
+    let mut input = String::new(alloc);
+    for (line, _) in &ROW {
+        write!(input, "{line}\n")?;
+    }
+    Ok(input)
+}
+
+/// What answers the whole lines among the first so many bytes of the row.
+fn row_output(alloc: Global, bytes: usize) -> Result<String, AllocError> {
+    let mut output = String::new(alloc);
+    let mut left = bytes;
+    for (line, answer) in &ROW {
+        if left <= line.len() {
+            break;
+        }
+        left -= line.len() + 1;
+        write!(output, "{answer}\n")?;
+    }
+    Ok(output)
+}
+
 #[test]
-fn ends_where_reads_and_writes_fail(rt: HostRuntime) -> Result<(), Fail> {
+fn ends_where_a_read_fails(rt: HostRuntime) -> Result<(), Fail> {
     let alloc = rt.alloc();
-    let input = format!(in alloc; "{HEADER}\n0 begin\n0 read")?;
-    let wanted = format!(in alloc; "{HEADER}\n0 begin -> begun 0.1\n")?;
-    for kind in [ErrorKind::Interrupted, ErrorKind::UnexpectedEof] {
+    let input = row_input(alloc)?;
+    for count in 0..=input.len() {
+        let kind = if count % 2 == 0 {
+            ErrorKind::Interrupted
+        } else {
+            ErrorKind::Other
+        };
         let mut out = Vec::new(alloc);
-        let mut reader = input.as_bytes().chain(Broken(kind));
+        let mut reader = Trickle(&input.as_bytes()[..count]).chain(Broken(kind));
         let end = run_script(alloc, &mut reader, &mut out);
         assert_eq!(rt; end, Err(ScriptFault::Read));
+        let wanted = row_output(alloc, count)?;
         assert_eq!(rt; str::from_utf8(out.as_slice()), Ok(wanted.as_str()));
     }
-    let input = format!(in alloc; "{HEADER}\n0 begin\n")?;
-    for (room, fails) in [(0, true), (0, false), (77, true), (77, false)] {
+    Ok(())
+}
+
+#[test]
+fn ends_where_a_write_fails(rt: HostRuntime) -> Result<(), Fail> {
+    let alloc = rt.alloc();
+    let input = row_input(alloc)?;
+    let wanted = row_output(alloc, input.len())?;
+    for room in 0..=wanted.len() {
         let mut writer = Narrow {
             taken: Vec::new(alloc),
             room,
-            fails,
+            fails: room % 2 == 0,
         };
         let end = run_script(alloc, &mut input.as_bytes(), &mut writer);
-        assert_eq!(rt; end, Err(ScriptFault::Write));
+        assert_eq!(rt; end.is_ok(), room == wanted.len());
         assert_eq!(rt; writer.taken.as_slice(), &wanted.as_bytes()[..room]);
+        if room < wanted.len() {
+            assert_eq!(rt; end, Err(ScriptFault::Write));
+        }
     }
     Ok(())
 }
