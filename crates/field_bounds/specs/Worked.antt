@@ -1,12 +1,12 @@
 -- Worked rows: what one site was asked and the replies that it owed, in the order in which they came (this project).
-use Rattle.std.specs.Prelude.{ℕ, ℤ, pos, neg_ℤ, List, [], ◌∷◌, ◌++◌, reverse, replicate, codes}
+use Rattle.std.specs.Prelude.{ℕ, zero, suc, ℤ, pos, neg_ℤ, List, [], ◌∷◌, ◌++◌, reverse, replicate, codes}
 use Rattle.field_bounds.specs.declared.id.TxnId.{TxnId}
 use Rattle.field_bounds.specs.declared.id.FieldNo.{FieldNo}
 use Rattle.field_bounds.specs.declared.entry.Command.{Command}
 use Rattle.field_bounds.specs.declared.entry.Command.TheVariants.{Begin, Escrow, Commit, Abort, Read}
 use Rattle.field_bounds.specs.declared.entry.Reply.{Reply}
 use Rattle.field_bounds.specs.declared.entry.Reply.TheVariants.{Begun, Granted, Committed, Aborted, Between, Refused}
-use Rattle.field_bounds.specs.declared.entry.Refusal.TheVariants.{NoField, NoTransaction, Zero, TooLarge, Short, TooManyEscrows}
+use Rattle.field_bounds.specs.declared.entry.Refusal.TheVariants.{NoField, NoTransaction, Zero, TooLarge, Short, TooManyOpen, TooManyEscrows}
 use Rattle.field_bounds.specs.declared.entry.Entry.{Entry}
 use Rattle.field_bounds.specs.Schema.{SchemaValue}
 use Rattle.field_bounds.specs.Effects.{fresh}
@@ -134,3 +134,12 @@ sixteen =
     ++ asked (lower_by 1 1) (Refused TooManyEscrows)
     ∷ asked (lower_by 1 25) (Refused (Short 24))
     ∷ []
+
+-- So many transactions are begun, none of them ended.
+abbrev pub begins : ℕ → List Entry
+begins zero = []
+begins (suc n) = begins n ++ asked Begin (Begun (txn (suc n))) ∷ []
+
+-- 64 transactions are open; one more is refused.
+abbrev pub crowded : List Entry
+crowded = begins 64 ++ asked Begin (Refused TooManyOpen) ∷ []

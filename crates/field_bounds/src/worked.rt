@@ -7,7 +7,7 @@ ghost use Rattle.field_bounds.specs.declared.entry.Refusal.{Refusal};
 ghost use Rattle.field_bounds.specs.declared.entry.Reply.TheVariants.{Begun, Granted, Committed, Aborted, Between, Refused};
 ghost use Rattle.field_bounds.specs.Limits.{IsSchema};
 ghost use Rattle.field_bounds.specs.Central.{committed, inf, sup, IsSound};
-ghost use Rattle.field_bounds.specs.Worked.{shelf, fixed, widest, stock, txn, lower_by, IsOwed, IsWrong, lowered, raised, unmoved, emptied, given_back, sixteen};
+ghost use Rattle.field_bounds.specs.Worked.{shelf, fixed, widest, stock, txn, lower_by, IsOwed, IsWrong, lowered, raised, unmoved, emptied, given_back, sixteen, crowded};
 
 /// Each reply of these rows is owed.
 ///
@@ -19,6 +19,7 @@ pub fn worked_runs()
     ensures emptied { IsOwed widest emptied }
     ensures given_back { IsOwed shelf given_back }
     ensures sixteen { IsOwed shelf sixteen }
+    ensures crowded { IsOwed shelf crowded }
 {}
 
 /// At each place of the row `lowered`, where 20 are taken from 40, these other replies aren't owed.
