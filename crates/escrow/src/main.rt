@@ -3,7 +3,7 @@
 
 use clap::error::ErrorKind;
 use clap::{Command, Error};
-use escrow_script::{ScriptFault, run_script};
+use escrow_script::{ScriptFault, Watched, run_script};
 use std::alloc::{AllocError, Global};
 use std::process::ExitCode;
 use std::rt::Env;
@@ -112,7 +112,11 @@ fn tell_refused(rt: &(impl Print + Eprint), error: &Error) -> u8 {
 
 fn main(rt: HostRuntime) -> ExitCode {
     let ended = match read_task(&rt) {
-        Ok(Task::Run) => run_script(rt.alloc(), &mut rt.stdin(), &mut rt.stdout()),
+        Ok(Task::Run) => run_script(
+            rt.alloc(),
+            &mut Watched::new(rt.stdin()),
+            &mut Watched::new(rt.stdout()),
+        ),
         Err(error) => return ExitCode::from(tell_refused(&rt, &error)),
     };
     match ended {

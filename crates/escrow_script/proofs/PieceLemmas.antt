@@ -7,9 +7,10 @@ use Rattle.std.proofs.KnownBytes.{Appends-trans, Appends-nil, Consumes-trans, Co
 use Rattle.escrow_script.specs.declared.script.Script.{Script}
 use Rattle.escrow_script.specs.declared.fault.ScriptFault.{ScriptFault}
 use Rattle.escrow_script.specs.declared.fault.ScriptFault.TheVariants.{Read, TooLong, Write, Header, NoMemory}
-use Rattle.escrow_script.specs.declared.watched.Ended.{Ended}
+use Rattle.escrow_script.specs.declared.watched.End.{End}
+use Rattle.escrow_script.specs.declared.watched.End.TheVariants.{Nothing}
 use Rattle.escrow_script.specs.Lines.{whole_lines}
-use Rattle.escrow_script.specs.Watched.{AppendsFront, GaveNothing}
+use Rattle.escrow_script.specs.Watched.{AppendsFront}
 use Rattle.escrow_script.specs.Run.{At, HasWritten, Stops, Stands, StopsAfter, HasEndedAt, IsFresh, RunsThrough, Answers, Fails, Leaves, LeavesAll, WritesText, WritesFor}
 use Rattle.escrow_script.proofs.RunLemmas.{At-written, Stops-along, kept-nil, IsTextOf-stands}
 
@@ -61,8 +62,8 @@ Stops-past read piece more s before after ended long some at = record {
 
 module _ (from middle to before written after : Option (List ℕ)) (old new : Script) (bytes : ℕ) where
   -- the read gave nothing
-  pub Stands-end : (n : ℕ) (buf : List ℕ) (ended : Ended) → n ≡ 0 → 0 < length buf
-      → Consumes middle to (take n buf) × (n ≡ 0 → 0 < length buf → IsAtEnd to) → (n ≡ 0 → 0 < length buf → GaveNothing ended)
+  pub Stands-end : (n : ℕ) (buf : List ℕ) (ended : End) → n ≡ 0 → 0 < length buf
+      → Consumes middle to (take n buf) × (n ≡ 0 → 0 < length buf → IsAtEnd to) → (n ≡ 0 → 0 < length buf → ended ≡ Nothing)
       → HasWritten old new → Appends written after old.out.items → Stands from middle before written old bytes
       → Stands from to before after new (bytes + 0) × (◌≡◌ {A = ℕ} 0 0 → HasEndedAt to ended)
   Stands-end n buf ended none room consumed nothing step appended stands =
@@ -98,7 +99,7 @@ module _ (from middle to before written after : Option (List ℕ)) (old new : Sc
       ap (λ l. l ++ drop k (take n buf)) (e ∙ sym (take-take k n buf h)) ∙ take-append-drop k (take n buf)
 
   -- the fault came in the piece
-  pub Stops-more : (wrote : Script) (wrote_to : Option (List ℕ)) (fault : ScriptFault) (n k : ℕ) (buf piece : List ℕ) (ended : Ended)
+  pub Stops-more : (wrote : Script) (wrote_to : Option (List ℕ)) (fault : ScriptFault) (n k : ℕ) (buf piece : List ℕ) (ended : End)
       → piece ≡ take k buf → k ≤ n → Consumes middle to (take n buf)
       → HasWritten old wrote → Appends written wrote_to old.out.items
       → ((read more : List ℕ) (b : Option (List ℕ)) → At read wrote b wrote_to → Stops fault (read ++ (piece ++ more)) new b after ⊥)
@@ -121,7 +122,7 @@ module _ (from middle to before written after : Option (List ℕ)) (old new : Sc
       absurd (omega arith)
 
   -- the piece went past the limit
-  pub Stops-over : (wrote : Script) (wrote_to : Option (List ℕ)) (n k : ℕ) (buf piece : List ℕ) (ended : Ended)
+  pub Stops-over : (wrote : Script) (wrote_to : Option (List ℕ)) (n k : ℕ) (buf piece : List ℕ) (ended : End)
       → piece ≡ take k buf → k < n → n ≤ length buf → bytes + k ≡ 268435456 → Consumes middle to (take n buf)
       → HasWritten old wrote → Appends written wrote_to old.out.items
       → ((read : List ℕ) (b : Option (List ℕ)) → At read wrote b wrote_to → At (read ++ piece) new b after)
@@ -159,7 +160,7 @@ Stands-start from before s fresh = record {
   within = omega arith;
 }
 
-pub Stops-memory : (from before : Option (List ℕ)) (s : Script) (ended : Ended) → IsFresh s → StopsAfter from from before before s ended NoMemory
+pub Stops-memory : (from before : Option (List ℕ)) (s : Script) (ended : End) → IsFresh s → StopsAfter from from before before s ended NoMemory
 Stops-memory from before s ended fresh = (
   [],
   Consumes-nil from,
@@ -187,7 +188,7 @@ Answers-written from to before middle after s runs appended =
     }
 
 -- the fault was a write's, and nothing was written after it
-pub Fails-write : (from to before after : Option (List ℕ)) (s : Script) (ended : Ended)
+pub Fails-write : (from to before after : Option (List ℕ)) (s : Script) (ended : End)
     → StopsAfter from to before after s ended Write → Fails from to before after ended Write
 Fails-write from to before after s ended stops =
     let (read, consumed, st) = stops in record {
@@ -209,7 +210,7 @@ AppendsFront-after before middle after written out wrote front = (
 )
 
 -- the last write failed after a run that was through
-pub Fails-last : (from to before middle after : Option (List ℕ)) (s : Script) (ended : Ended)
+pub Fails-last : (from to before middle after : Option (List ℕ)) (s : Script) (ended : End)
     → RunsThrough from to before middle s → AppendsFront middle after s.out.items → Fails from to before after ended Write
 Fails-last from to before middle after s ended runs front =
     let (read, consumed, end, (schema, (entries, (written, wrote, has)))) = runs in record {
@@ -237,7 +238,7 @@ Leaves-other (Header e) out lines before after other = λ h. h
 Leaves-other NoMemory out lines before after other = λ h. h
 
 -- the last write failed after a fault
-pub Fails-again : (fault : ScriptFault) (from to before middle after : Option (List ℕ)) (s : Script) (ended : Ended) → fault ≢ Write
+pub Fails-again : (fault : ScriptFault) (from to before middle after : Option (List ℕ)) (s : Script) (ended : End) → fault ≢ Write
     → StopsAfter from to before middle s ended fault → AppendsFront middle after s.out.items → Fails from to before after ended Write
 Fails-again fault from to before middle after s ended other stops front =
     let (read, consumed, st) = stops in
@@ -258,7 +259,7 @@ WritesFor-other (Header e) front back before after other = λ h. h
 WritesFor-other NoMemory front back before after other = λ h. h
 
 -- a fault after which the buffer was written
-pub Fails-other : (fault : ScriptFault) (from to before middle after : Option (List ℕ)) (s : Script) (ended : Ended) → fault ≢ Write
+pub Fails-other : (fault : ScriptFault) (from to before middle after : Option (List ℕ)) (s : Script) (ended : End) → fault ≢ Write
     → StopsAfter from to before middle s ended fault → Appends middle after s.out.items → Fails from to before after ended fault
 Fails-other fault from to before middle after s ended other stops appended =
     let (read, consumed, st) = stops in

@@ -8,11 +8,12 @@ use Rattle.escrow_script.specs.declared.machine.Machine.{Machine}
 use Rattle.escrow_script.specs.declared.script.Script.{Script}
 use Rattle.escrow_script.specs.declared.fault.ScriptFault.{ScriptFault}
 use Rattle.escrow_script.specs.declared.fault.ScriptFault.TheVariants.{Read, TooLong, Write, Header, NoMemory}
-use Rattle.escrow_script.specs.declared.watched.Ended.{Ended}
+use Rattle.escrow_script.specs.declared.watched.End.{End}
+use Rattle.escrow_script.specs.declared.watched.End.TheVariants.{Nothing}
 use Rattle.escrow_script.specs.Start.{start_of}
 use Rattle.escrow_script.specs.Text.{line_command, line_text, answer, first_site, Answered, HasText, IsTextOf}
 use Rattle.escrow_script.specs.Lines.{whole_lines, last_part, script_lines}
-use Rattle.escrow_script.specs.Watched.{AppendsFront, GaveNothing}
+use Rattle.escrow_script.specs.Watched.{AppendsFront}
 
 -- A line with the next bytes: all of them in a header line, and else as many as fit 257.
 abbrev pub with_piece : Option Machine → List ℕ → List ℕ → List ℕ
@@ -182,28 +183,28 @@ abbrev pub RunsThrough : Option (List ℕ) → Option (List ℕ) → Option (Lis
 RunsThrough from to before after s =
     (read : List ℕ) × Consumes from to read × IsAtEnd to × Completes before after s.out.items (script_lines read)
 
--- The input has ended: no known byte is left, and a read gave nothing.
-abbrev pub HasEndedAt : Option (List ℕ) → Ended → Type 0
-HasEndedAt to ended = IsAtEnd to × GaveNothing ended
+-- The input has ended: no known byte is left, and the last read gave nothing.
+abbrev pub HasEndedAt : Option (List ℕ) → End → Type 0
+HasEndedAt to last = IsAtEnd to × (last ≡ Nothing)
 
 -- The fault came in what was read.
-abbrev pub StopsAfter : Option (List ℕ) → Option (List ℕ) → Option (List ℕ) → Option (List ℕ) → Script → Ended → ScriptFault → Type 0
-StopsAfter from to before after s ended fault =
-    (read : List ℕ) × Consumes from to read × Stops fault read s before after (HasEndedAt to ended)
+abbrev pub StopsAfter : Option (List ℕ) → Option (List ℕ) → Option (List ℕ) → Option (List ℕ) → Script → End → ScriptFault → Type 0
+StopsAfter from to before after s last fault =
+    (read : List ℕ) × Consumes from to read × Stops fault read s before after (HasEndedAt to last)
 
 -- After one more piece: with a count of 0 the input has ended.
 abbrev pub StandsNext : Option (List ℕ) → Option (List ℕ) → Option (List ℕ) → Option (List ℕ)
-    → Script → Script → Ended → ℕ → ℕ → Type 0
-StandsNext middle to written after old new ended bytes count =
+    → Script → Script → End → ℕ → ℕ → Type 0
+StandsNext middle to written after old new last bytes count =
     (from before : Option (List ℕ)) → Stands from middle before written old bytes
-    → Stands from to before after new (bytes + count) × (count ≡ 0 → HasEndedAt to ended)
+    → Stands from to before after new (bytes + count) × (count ≡ 0 → HasEndedAt to last)
 
 -- The fault came in the next piece, or at its read or write.
 abbrev pub StopsNext : Option (List ℕ) → Option (List ℕ) → Option (List ℕ) → Option (List ℕ)
-    → Script → Script → Ended → ℕ → ScriptFault → Type 0
-StopsNext middle to written after old new ended bytes fault =
+    → Script → Script → End → ℕ → ScriptFault → Type 0
+StopsNext middle to written after old new last bytes fault =
     (from before : Option (List ℕ)) → Stands from middle before written old bytes
-    → StopsAfter from to before after new ended fault
+    → StopsAfter from to before after new last fault
 
 -- All known bytes of the reader are read, and the text of their lines is written.
 pub record Answers (from to before after : Option (List ℕ)) : Type 0 where
@@ -224,13 +225,9 @@ WritesFor Write before after front back =
 WritesFor _ before after front back = LeavesAll before after (whole_lines front)
 
 -- What was read is the front, with the whole lines that are answered, and the back, where the fault came.
-pub record Fails (from to before after : Option (List ℕ)) (ended : Ended) (fault : ScriptFault) : Type 0 where
+pub record Fails (from to before after : Option (List ℕ)) (last : End) (fault : ScriptFault) : Type 0 where
   pub front : List ℕ
   pub back : List ℕ
   pub consumed : Consumes from to (front ++ back)
-  pub why : Explains fault front back (HasEndedAt to ended)
+  pub why : Explains fault front back (HasEndedAt to last)
   pub written : WritesFor fault before after front back
-
--- The same, where nobody asks how the last read ended.
-abbrev pub FailsSomehow : Option (List ℕ) → Option (List ℕ) → Option (List ℕ) → Option (List ℕ) → ScriptFault → Type 0
-FailsSomehow from to before after fault = (ended : Ended) × Fails from to before after ended fault

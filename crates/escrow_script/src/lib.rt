@@ -14,6 +14,7 @@ mod words;
 
 pub use fault::ScriptFault;
 pub use script::run_script;
+pub use watched::{End, Watched};
 
 #[cfg(test)]
 mod tests;

@@ -1,12 +1,12 @@
 //! The loop of a script: pieces of input in, whole lines to the machine, pieces of output out.
 
 ghost use Rattle.std.specs.Prelude.{◌≡◌, ◌≢◌, ℕ, ◌+◌, ◌-◌, ◌^◌, ◌<◌, ◌≤◌, [], ◌∷◌, ◌++◌, length, take, All, OnOk, OnErr, IfOk, IfErr, MatchOption, vec_len, ◌↔◌, IsTrue, IsSome};
-ghost use Rattle.escrow_script.specs.Run.{Answers, Fails, FailsSomehow};
-ghost use Rattle.escrow_script.specs.Watched.{HasFailed, GaveNothing, IsRefusal};
+ghost use Rattle.escrow_script.specs.Run.{Answers, Fails};
+ghost use Rattle.escrow_script.specs.Watched.{known, last_of, HasFailed, GaveNothing, HasRefused};
 
 use crate::fault::ScriptFault;
 use crate::machine::{Machine, add_line};
-use crate::watched::{Ended, read_watched, write_watched};
+use crate::watched::Watched;
 use field_bounds::{MAX_HEADER, SchemaFault};
 use std::alloc::{AllocError, Global};
 use std::io::{Read, Write};
@@ -117,19 +117,15 @@ impl Script {
     }
 
     // Writes what is to be written.
-    fn write_out<W: Write>(
-        &mut self,
-        writer: &mut W,
-        write_end: &mut Ended,
-    ) -> Result<(), ScriptFault>
+    fn write_out<W: Write>(&mut self, writer: &mut Watched<W>) -> Result<(), ScriptFault>
         ensures ok { OnOk result (HasWritten self.old self.new
-            × Appends (W.contents writer.old) (W.contents writer.new) self.old.out.items) }
+            × Appends (known W.contents writer.old) (known W.contents writer.new) self.old.out.items) }
         ensures front { OnErr result (AppendsFront
-            (W.contents writer.old) (W.contents writer.new) self.old.out.items) }
+            (known W.contents writer.old) (known W.contents writer.new) self.old.out.items) }
         ensures fault { IfErr result (λ fault. fault ≡ ScriptFault.Write) }
-        ensures refused { OnErr result (IsRefusal write_end.new) }
+        ensures refused { OnErr result (HasRefused writer.new) }
     {
-        if write_watched(writer, self.out.as_slice(), write_end).is_err() {
+        if writer.write_all(self.out.as_slice()).is_err() {
             return Err(ScriptFault::Write);
         }
         self.out.clear();
@@ -140,23 +136,22 @@ impl Script {
     fn take_line<W: Write>(
         &mut self,
         line: &[u8],
-        writer: &mut W,
-        write_end: &mut Ended,
+        writer: &mut Watched<W>,
     ) -> Result<(), ScriptFault>
         requires room { self.old.lines < 1000000 }
         requires unbroken { All (λ b. b ≢ 10) line.now }
         ensures ok { OnOk result (GoesOn self.old self.new
-            (W.contents writer.old) (W.contents writer.new) (line.now ++ 10 ∷ [])) }
+            (known W.contents writer.old) (known W.contents writer.new) (line.now ++ 10 ∷ [])) }
         ensures err { IfErr result (StopsIn self.old self.new
-            (W.contents writer.old) (W.contents writer.new) (line.now ++ 10 ∷ [])) }
+            (known W.contents writer.old) (known W.contents writer.new) (line.now ++ 10 ∷ [])) }
         ensures lines { OnOk result (self.new.lines ≡ self.old.lines + 1) }
-        ensures refused { IfErr result (λ fault. fault ≡ ScriptFault.Write → IsRefusal write_end.new) }
+        ensures refused { IfErr result (λ fault. fault ≡ ScriptFault.Write → HasRefused writer.new) }
         ensures not_read { IfErr result (λ fault. fault ≢ ScriptFault.Read) }
     {
         self.keep(line)?;
         self.end_line()?;
         if self.out.len() >= PIECE {
-            self.write_out(writer, write_end)?;
+            self.write_out(writer)?;
         }
         Ok(())
     }
@@ -165,16 +160,15 @@ impl Script {
     fn take_piece<W: Write>(
         &mut self,
         piece: &[u8],
-        writer: &mut W,
-        write_end: &mut Ended,
+        writer: &mut Watched<W>,
     ) -> Result<(), ScriptFault>
         requires { self.old.lines ≤ 1000000 }
         ensures ok { OnOk result (GoesOn self.old self.new
-            (W.contents writer.old) (W.contents writer.new) piece.now) }
+            (known W.contents writer.old) (known W.contents writer.new) piece.now) }
         ensures err { IfErr result (StopsIn self.old self.new
-            (W.contents writer.old) (W.contents writer.new) piece.now) }
+            (known W.contents writer.old) (known W.contents writer.new) piece.now) }
         ensures lines { OnOk result (self.new.lines ≤ 1000000) }
-        ensures refused { IfErr result (λ fault. fault ≡ ScriptFault.Write → IsRefusal write_end.new) }
+        ensures refused { IfErr result (λ fault. fault ≡ ScriptFault.Write → HasRefused writer.new) }
         ensures not_read { IfErr result (λ fault. fault ≢ ScriptFault.Read) }
     {
         let mut rest = piece;
@@ -182,7 +176,7 @@ impl Script {
             if self.lines >= MOST_LINES {
                 return Err(ScriptFault::TooLong);
             }
-            self.take_line(line, writer, write_end)?;
+            self.take_line(line, writer)?;
             rest = after;
         }
         if rest.is_empty() {
@@ -223,25 +217,23 @@ impl Script {
         &mut self,
         buffer: &mut [u8],
         bytes: u64,
-        reader: &mut R,
-        read_end: &mut Ended,
-        writer: &mut W,
-        write_end: &mut Ended,
+        reader: &mut Watched<R>,
+        writer: &mut Watched<W>,
     ) -> Result<u64, ScriptFault>
         requires some { 0 < length buffer.old }
         requires bytes { bytes ≤ 268435456 }
         requires lines { self.old.lines ≤ 1000000 }
-        ensures ok { IfOk result (StandsNext (R.remaining reader.old) (R.remaining reader.new)
-            (W.contents writer.old) (W.contents writer.new) self.old self.new read_end.new bytes) }
-        ensures err { IfErr result (StopsNext (R.remaining reader.old) (R.remaining reader.new)
-            (W.contents writer.old) (W.contents writer.new) self.old self.new read_end.new bytes) }
+        ensures ok { IfOk result (StandsNext (known R.remaining reader.old) (known R.remaining reader.new)
+            (known W.contents writer.old) (known W.contents writer.new) self.old self.new (last_of reader.new) bytes) }
+        ensures err { IfErr result (StopsNext (known R.remaining reader.old) (known R.remaining reader.new)
+            (known W.contents writer.old) (known W.contents writer.new) self.old self.new (last_of reader.new) bytes) }
         ensures lines { OnOk result (self.new.lines ≤ 1000000) }
         ensures within { IfOk result (λ count. bytes + count ≤ 268435456) }
-        ensures refused { IfErr result (λ fault. fault ≡ ScriptFault.Write → IsRefusal write_end.new) }
-        ensures failed { IfErr result (λ fault. fault ≡ ScriptFault.Read → HasFailed read_end.new) }
+        ensures refused { IfErr result (λ fault. fault ≡ ScriptFault.Write → HasRefused writer.new) }
+        ensures failed { IfErr result (λ fault. fault ≡ ScriptFault.Read → HasFailed reader.new) }
     {
-        self.write_out(writer, write_end)?;
-        let count = match read_watched(reader, buffer, read_end) {
+        self.write_out(writer)?;
+        let count = match reader.read(buffer) {
             Ok(count) => count,
             Err(_) => return Err(ScriptFault::Read),
         };
@@ -250,41 +242,32 @@ impl Script {
         }
         let room = MOST_BYTES - bytes;
         if count as u64 > room {
-            self.take_piece(front(buffer, room as usize), writer, write_end)?;
+            self.take_piece(front(buffer, room as usize), writer)?;
             return Err(ScriptFault::TooLong);
         }
-        self.take_piece(front(buffer, count), writer, write_end)?;
+        self.take_piece(front(buffer, count), writer)?;
         Ok(count as u64)
     }
 
     // Takes the whole input. Some of the output may stay in the buffer.
     fn run_to_end<R: Read, W: Write>(
         &mut self,
-        reader: &mut R,
-        read_end: &mut Ended,
-        writer: &mut W,
-        write_end: &mut Ended,
+        reader: &mut Watched<R>,
+        writer: &mut Watched<W>,
     ) -> Result<(), ScriptFault>
         requires { IsFresh self.old }
-        ensures ok { OnOk result (RunsThrough (R.remaining reader.old) (R.remaining reader.new)
-            (W.contents writer.old) (W.contents writer.new) self.new) }
-        ensures err { IfErr result (StopsAfter (R.remaining reader.old) (R.remaining reader.new)
-            (W.contents writer.old) (W.contents writer.new) self.new read_end.new) }
-        ensures end { OnOk result (GaveNothing read_end.new) }
-        ensures refused { IfErr result (λ fault. fault ≡ ScriptFault.Write → IsRefusal write_end.new) }
-        ensures failed { IfErr result (λ fault. fault ≡ ScriptFault.Read → HasFailed read_end.new) }
+        ensures ok { OnOk result (RunsThrough (known R.remaining reader.old) (known R.remaining reader.new)
+            (known W.contents writer.old) (known W.contents writer.new) self.new) }
+        ensures err { IfErr result (StopsAfter (known R.remaining reader.old) (known R.remaining reader.new)
+            (known W.contents writer.old) (known W.contents writer.new) self.new (last_of reader.new)) }
+        ensures end { OnOk result (GaveNothing reader.new) }
+        ensures refused { IfErr result (λ fault. fault ≡ ScriptFault.Write → HasRefused writer.new) }
+        ensures failed { IfErr result (λ fault. fault ≡ ScriptFault.Read → HasFailed reader.new) }
     {
         let mut buffer = new_buffer(self.alloc)?;
         let mut bytes = 0u64;
         'pieces: loop {
-            let count = self.take_next(
-                buffer.as_mut_slice(),
-                bytes,
-                reader,
-                read_end,
-                writer,
-                write_end,
-            )?;
+            let count = self.take_next(buffer.as_mut_slice(), bytes, reader, writer)?;
             if count == 0 {
                 break;
             }
@@ -292,38 +275,6 @@ impl Script {
         }
         self.end_input()?;
         Ok(())
-    }
-}
-
-// Runs a script, and keeps how the last read and the last write ended.
-fn run_watched<R: Read, W: Write>(
-    alloc: Global,
-    reader: &mut R,
-    read_end: &mut Ended,
-    writer: &mut W,
-    write_end: &mut Ended,
-) -> Result<(), ScriptFault>
-    ensures ok { OnOk result (Answers (R.remaining reader.old) (R.remaining reader.new)
-        (W.contents writer.old) (W.contents writer.new)) }
-    ensures end { OnOk result (GaveNothing read_end.new) }
-    ensures fault { IfErr result (Fails (R.remaining reader.old) (R.remaining reader.new)
-        (W.contents writer.old) (W.contents writer.new) read_end.new) }
-    ensures read { IfErr result (λ fault. fault ≡ ScriptFault.Read → HasFailed read_end.new) }
-    ensures write { IfErr result (λ fault. fault ≡ ScriptFault.Write → IsRefusal write_end.new) }
-{
-    let mut script = Script::new(alloc);
-    match script.run_to_end(reader, read_end, writer, write_end) {
-        Ok(()) => {
-            script.write_out(writer, write_end)?;
-            Ok(())
-        }
-        Err(fault) => match fault {
-            ScriptFault::Write => Err(ScriptFault::Write),
-            other => {
-                script.write_out(writer, write_end)?;
-                Err(other)
-            }
-        },
     }
 }
 
@@ -339,25 +290,48 @@ fn run_watched<R: Read, W: Write>(
 /// written, and at `Header` nothing. `Write` comes where a write answers an error of any kind or
 /// takes no byte; then a front of the text was written.
 ///
+/// Reader and writer are handed in watched, so that the contract can tell how their last calls
+/// ended; make each anew for a run, by `Watched::new`.
+///
 /// Output is written before each read, once 64 KiB of it have gathered behind a line, and at the
 /// end. Costs 64 KiB for input and somewhat more for output, and memory for the site, which keeps
 /// each entry.
 pub fn run_script<R: Read, W: Write>(
     alloc: Global,
-    reader: &mut R,
-    writer: &mut W,
+    reader: &mut Watched<R>,
+    writer: &mut Watched<W>,
 ) -> Result<(), ScriptFault>
     // All the input is read, and its text is written.
-    ensures ok { OnOk result (Answers (R.remaining reader.old) (R.remaining reader.new)
-        (W.contents writer.old) (W.contents writer.new)) }
+    ensures ok { OnOk result (Answers (known R.remaining reader.old) (known R.remaining reader.new)
+        (known W.contents writer.old) (known W.contents writer.new)) }
+
+    // That is so only after a read that had room and gave nothing.
+    ensures end { OnOk result (GaveNothing reader.new) }
 
     // A fault comes for a reason, and the text of the whole lines before it is written.
-    ensures fault { IfErr result (FailsSomehow (R.remaining reader.old) (R.remaining reader.new)
-        (W.contents writer.old) (W.contents writer.new)) }
+    ensures fault { IfErr result (Fails (known R.remaining reader.old) (known R.remaining reader.new)
+        (known W.contents writer.old) (known W.contents writer.new) (last_of reader.new)) }
+
+    // A read fault comes only where a read failed.
+    ensures read { IfErr result (λ fault. fault ≡ ScriptFault.Read → HasFailed reader.new) }
+
+    // A write fault comes only where a write failed, or took none of its bytes.
+    ensures write { IfErr result (λ fault. fault ≡ ScriptFault.Write → HasRefused writer.new) }
 {
-    let mut read_end = Ended::new();
-    let mut write_end = Ended::new();
-    run_watched(alloc, reader, &mut read_end, writer, &mut write_end)
+    let mut script = Script::new(alloc);
+    match script.run_to_end(reader, writer) {
+        Ok(()) => {
+            script.write_out(writer)?;
+            Ok(())
+        }
+        Err(fault) => match fault {
+            ScriptFault::Write => Err(ScriptFault::Write),
+            other => {
+                script.write_out(writer)?;
+                Err(other)
+            }
+        },
+    }
 }
 
 #[cfg(test)]
@@ -378,10 +352,8 @@ mod tests {
             let taken = script.take_next(
                 &mut [0; 16],
                 MOST_BYTES - 4,
-                &mut input.as_bytes(),
-                &mut Ended::new(),
-                &mut Vec::new(alloc),
-                &mut Ended::new(),
+                &mut Watched::new(input.as_bytes()),
+                &mut Watched::new(Vec::new(alloc)),
             );
             assert_eq!(rt; taken, wanted);
             assert_eq!(rt; script.line.len(), input.len().min(4));

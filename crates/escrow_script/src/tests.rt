@@ -1,6 +1,6 @@
 //! What no clause says: the texts, whole runs, and readers and writers that fail.
 
-use crate::{ScriptFault, run_script};
+use crate::{End, ScriptFault, Watched, run_script};
 use field_bounds::SchemaFault;
 use std::alloc::{AllocError, Global};
 use std::io;
@@ -10,6 +10,13 @@ use std::test::Fail;
 
 const HEADER: &str =
     "{\"sites\":1,\"fields\":[{\"name\":\"stock\",\"floor\":0,\"ceiling\":100,\"value\":40}]}";
+
+/// How a run over a reader ended, and what it wrote.
+fn run<R: Read + Drop>(alloc: Global, reader: R) -> (Result<(), ScriptFault>, Vec<u8>) {
+    let mut writer = Watched::new(Vec::new(alloc));
+    let end = run_script(alloc, &mut Watched::new(reader), &mut writer);
+    (end, writer.into_inner())
+}
 
 /// A script beside the output that it is to give.
 #[derive(Drop)]
@@ -44,9 +51,7 @@ impl Talk {
     }
 
     fn check(&self, rt: &impl Abort, alloc: Global) {
-        let mut reader = self.input.as_bytes();
-        let mut out = Vec::new(alloc);
-        let end = run_script(alloc, &mut reader, &mut out);
+        let (end, out) = run(alloc, self.input.as_bytes());
         assert_eq!(rt; end, Ok(()));
         assert_eq!(rt; str::from_utf8(out.as_slice()), Ok(self.wanted.as_str()));
     }
@@ -233,8 +238,7 @@ fn answers_bad_lines(rt: HostRuntime) -> Result<(), Fail> {
     write!(talk.input, "0 begin")?;
     write!(talk.wanted, "0 begin -> begun 0.3\n")?;
     talk.check(&rt, alloc);
-    let mut out = Vec::new(alloc);
-    let end = run_script(alloc, &mut Trickle(talk.input.as_bytes()), &mut out);
+    let (end, out) = run(alloc, Trickle(talk.input.as_bytes()));
     assert_eq!(rt; end, Ok(()));
     assert_eq!(rt; str::from_utf8(out.as_slice()), Ok(talk.wanted.as_str()));
     Ok(())
@@ -259,8 +263,7 @@ fn tells_bad_headers(rt: HostRuntime) -> Result<(), Fail> {
         ),
         (two_fields, SchemaFault::FieldCount),
     ] {
-        let mut out = Vec::new(alloc);
-        let end = run_script(alloc, &mut header.as_bytes(), &mut out);
+        let (end, out) = run(alloc, header.as_bytes());
         assert_eq!(rt; end, Err(ScriptFault::Header(fault)), "at {header}");
         assert_eq!(rt; out.len(), 0);
     }
@@ -269,18 +272,16 @@ fn tells_bad_headers(rt: HostRuntime) -> Result<(), Fail> {
         (65_537, ScriptFault::Header(SchemaFault::TooLong)),
         (65_536, ScriptFault::Read),
     ] {
-        let mut out = Vec::new(alloc);
-        let mut reader = io::repeat(b' ')
+        let reader = io::repeat(b' ')
             .take(spaces)
             .chain(Broken(ErrorKind::Other));
-        let end = run_script(alloc, &mut reader, &mut out);
+        let (end, out) = run(alloc, reader);
         assert_eq!(rt; end, Err(wanted));
         assert_eq!(rt; out.len(), 0);
     }
     // A header is echoed with its CR and, where its LF is missing, with LF.
-    let mut out = Vec::new(alloc);
     let header = format!(in alloc; "{HEADER}\r")?;
-    let end = run_script(alloc, &mut header.as_bytes(), &mut out);
+    let (end, out) = run(alloc, header.as_bytes());
     assert_eq!(rt; end, Ok(()));
     let wanted = format!(in alloc; "{HEADER}\r\n")?;
     assert_eq!(rt; str::from_utf8(out.as_slice()), Ok(wanted.as_str()));
@@ -294,12 +295,11 @@ fn keeps_the_limit_of_lines(rt: HostRuntime) -> Result<(), Fail> {
     // 999,999 lines behind the header, and a byte more.
     for (more, wanted) in [(0, Ok(())), (1, Err(ScriptFault::TooLong))] {
         let lines = io::repeat(b'\n').take(999_999);
-        let mut reader = header
+        let reader = header
             .as_bytes()
             .chain(lines)
             .chain(io::repeat(b'x').take(more));
-        let mut out = Vec::new(alloc);
-        let end = run_script(alloc, &mut reader, &mut out);
+        let (end, out) = run(alloc, reader);
         assert_eq!(rt; end, wanted);
         assert_eq!(rt; out.len(), header.len() + 9 * 999_999);
     }
@@ -352,9 +352,8 @@ fn ends_where_a_read_fails(rt: HostRuntime) -> Result<(), Fail> {
         } else {
             ErrorKind::Other
         };
-        let mut out = Vec::new(alloc);
-        let mut reader = Trickle(&input.as_bytes()[..count]).chain(Broken(kind));
-        let end = run_script(alloc, &mut reader, &mut out);
+        let reader = Trickle(&input.as_bytes()[..count]).chain(Broken(kind));
+        let (end, out) = run(alloc, reader);
         assert_eq!(rt; end, Err(ScriptFault::Read));
         let wanted = row_output(alloc, count)?;
         assert_eq!(rt; str::from_utf8(out.as_slice()), Ok(wanted.as_str()));
@@ -368,14 +367,18 @@ fn ends_where_a_write_fails(rt: HostRuntime) -> Result<(), Fail> {
     let input = row_input(alloc)?;
     let wanted = row_output(alloc, input.len())?;
     for room in 0..=wanted.len() {
-        let mut writer = Narrow {
+        let mut writer = Watched::new(Narrow {
             taken: Vec::new(alloc),
             room,
             fails: room % 2 == 0,
-        };
-        let end = run_script(alloc, &mut input.as_bytes(), &mut writer);
+        });
+        let end = run_script(alloc, &mut Watched::new(input.as_bytes()), &mut writer);
         assert_eq!(rt; end.is_ok(), room == wanted.len());
-        assert_eq!(rt; writer.taken.as_slice(), &wanted.as_bytes()[..room]);
+        assert!(rt; writer.last() != End::NotCalled);
+        assert_eq!(rt;
+            writer.into_inner().taken.as_slice(),
+            &wanted.as_bytes()[..room]
+        );
         if room < wanted.len() {
             assert_eq!(rt; end, Err(ScriptFault::Write));
         }

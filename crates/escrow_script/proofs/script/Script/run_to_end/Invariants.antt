@@ -1,5 +1,6 @@
 use Rattle.std.proofs.Common.{◌≡◌, ◌-◌, ◌≤◌, vec_len}
 use Rattle.escrow_script.specs.Run.{Stands}
+use Rattle.escrow_script.specs.Watched.{known}
 use Rattle.escrow_script.proofs.script.Script.run_to_end.Given as goal
 
 abbrev pub invariant-pieces : goal.invariant-pieces
@@ -7,8 +8,8 @@ invariant-pieces g l = record {
   size : vec_len l.buffer ≡ 65536;
   bound : l.bytes ≤ 268435456;
   within : l.self.lines ≤ 1000000;
-  stands : Stands (g.R.Read.remaining l.initial.reader) (g.R.Read.remaining l.reader)
-      (g.W.Write.contents l.initial.writer) (g.W.Write.contents l.writer) l.self l.bytes;
+  stands : Stands (known g.R.Read.remaining l.initial.reader) (known g.R.Read.remaining l.reader)
+      (known g.W.Write.contents l.initial.writer) (known g.W.Write.contents l.writer) l.self l.bytes;
 }
 
 abbrev pub decreases-pieces : goal.decreases-pieces

@@ -1,5 +1,6 @@
 use Rattle.std.proofs.Common.{◌≡◌, ℕ, List, ◌≤◌, ◌++◌, length}
 use Rattle.escrow_script.specs.Run.{GoesOn}
+use Rattle.escrow_script.specs.Watched.{known}
 use Rattle.escrow_script.proofs.script.Script.take_piece.Given as goal
 
 abbrev pub invariant-lines : goal.invariant-lines
@@ -7,7 +8,7 @@ invariant-lines g l = record {
   within : l.self.lines ≤ 1000000;
   done : List ℕ;
   split : l.piece ≡ done ++ l.rest;
-  goes : GoesOn l.initial.self l.self (g.W.Write.contents l.initial.writer) (g.W.Write.contents l.writer) done;
+  goes : GoesOn l.initial.self l.self (known g.W.Write.contents l.initial.writer) (known g.W.Write.contents l.writer) done;
 }
 
 abbrev pub decreases-lines : goal.decreases-lines
