@@ -24,14 +24,16 @@ Statuses: 0 done; 1 a read or write failed, or the input is too long;
 const RUN_ABOUT: &str = "Answers the script on standard input, line by line";
 
 const RUN_EXAMPLE: &str = "\
-Line 1 is a JSON header: one site, and one field with its floor, ceiling and
-value. Each other line is a command of the site:
+Line 1 is a JSON header: the number of sites, 1 to 16, and 1 to 64 fields, each
+with its floor, ceiling and value. The rights to lower and to raise a field are
+divided evenly among the sites. Each other line is a command at a site:
 
   SITE begin                    opens a transaction, ID, told as 0.1
   SITE escrow ID FIELD CHANGE   sets a change aside, below 0 to lower
   SITE commit ID                makes the changes of a transaction permanent
   SITE abort ID                 gives them back
   SITE read FIELD               tells between which values the field lies
+  SITE share FIELD              tells the site's free rights to lower and to raise
 
 Each is answered by the line, an arrow and the reply. Any other line is
 answered by `bad line`, and changes nothing.

@@ -3,6 +3,8 @@ pub mod SignedNumbers
 pub mod WordLemmas
 pub mod FieldLemmas
 pub mod LineLemmas
+pub mod RowLemmas
 pub mod TextLemmas
 pub mod RunLemmas
 pub mod PieceLemmas
+pub mod OneText

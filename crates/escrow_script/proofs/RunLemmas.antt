@@ -11,11 +11,11 @@ use Rattle.escrow_script.specs.declared.script.Script.{Script}
 use Rattle.escrow_script.specs.declared.fault.ScriptFault.{ScriptFault}
 use Rattle.escrow_script.specs.declared.fault.ScriptFault.TheVariants.{Read, TooLong, Write, Header, NoMemory}
 use Rattle.field_bounds.specs.declared.fault.SchemaFault.TheVariants as schema_faults
-use Rattle.escrow_script.specs.Start.{start_of}
+use Rattle.field_bounds.specs.Header.{schema_of}
 use Rattle.escrow_script.specs.Lines.{whole_lines, last_part, last_line, with_header, script_lines}
 use Rattle.escrow_script.specs.Text.{IsTextOf}
 use Rattle.escrow_script.specs.Watched.{AppendsFront}
-use Rattle.escrow_script.specs.Run.{At, HasKept, CannotKeep, HasEnded, CannotEnd, HasWritten, Stops, kept, added, with_piece, BeginsWithBreak, Leaves, LeavesFront, StandsFor, Moves, Completes}
+use Rattle.escrow_script.specs.Run.{At, HasKept, CannotKeep, HasEnded, CannotEnd, HasWritten, Stops, kept, with_piece, BeginsWithBreak, Leaves, LeavesFront, StandsFor, Moves, Completes}
 use Rattle.escrow_script.proofs.LineLemmas.{whole_lines-unbroken, last_part-unbroken, whole_lines-broken, last_part-broken, last_part_after-none}
 use Rattle.escrow_script.proofs.TextLemmas.{StandsFor-more, with_piece-kept}
 
@@ -25,7 +25,7 @@ StandsFor-along m n ks ls s t em el et stands =
 
 pub IsTextOf-stands : (m : Option Machine) (lines : List (List ℕ)) (text : List ℕ) → StandsFor m lines text → IsTextOf lines text
 IsTextOf-stands None lines text stands = inl stands
-IsTextOf-stands (Some m) lines text stands = inr (m.schema, (stands.0, stands.2))
+IsTextOf-stands (Some m) lines text stands = inr (m.row.schema, (stands.0, stands.2))
 
 -- with a piece that has no LF
 pub At-kept : (read piece : List ℕ) (old new : Script) (before after : Option (List ℕ)) → All (λ b. b ≢ 10) piece
@@ -56,13 +56,9 @@ none_lines (Some m) lines text none stands = cc
 Ended-stands : (read : List ℕ) (old new : Script) (before after : Option (List ℕ)) (at : At read old before after) → HasEnded old new
     → StandsFor new.machine (whole_lines read ++ last_part read ∷ []) (at.written ++ new.out.items)
 Ended-stands read old new before after at step =
-    let moves : Moves old.machine (kept old.machine (last_part read)) new.machine =
-    subst (λ l. Moves old.machine l new.machine) at.line step.machine in
-    let more = StandsFor-more old.machine new.machine (whole_lines read) (last_part read) (at.written ++ old.out.items) at.stands moves in
-    let text : (at.written ++ old.out.items) ++ added old.machine (kept old.machine (last_part read)) new.machine ≡ at.written ++ new.out.items =
-    append_assoc at.written old.out.items (added old.machine (kept old.machine (last_part read)) new.machine)
-    ∙ ap (λ l. at.written ++ l) (ap (λ l. old.out.items ++ added old.machine l new.machine) (sym at.line) ∙ sym step.out) in
-    subst (StandsFor new.machine (whole_lines read ++ last_part read ∷ [])) text more
+    let moves : Moves old.machine (kept old.machine (last_part read)) new.machine old.out.items new.out.items =
+    subst (λ l. Moves old.machine l new.machine old.out.items new.out.items) at.line step.machine in
+    StandsFor-more old.machine new.machine (whole_lines read) (last_part read) at.written old.out.items new.out.items at.stands moves
 
 -- with an LF
 pub At-ended : (read : List ℕ) (old new : Script) (before after : Option (List ℕ))
@@ -145,14 +141,14 @@ pub Stops-end : (fault : ScriptFault) (read back : List ℕ) (old new : Script) 
     → (BeginsWithBreak back ⊎ ((back ≡ []) × ended)) → At read old before after → CannotEnd old new fault
     → Stops fault (read ++ back) new before after ended
 Stops-end (Header e) read back old new before after ended breaks at step =
-    let why : IsNone old.machine × (start_of old.line.items ≡ Err e) = step.why in
+    let why : IsNone old.machine × (schema_of old.line.items ≡ Err e) = step.why in
     let none = none_lines old.machine (whole_lines read) (at.written ++ old.out.items) why.0 at.stands in
     let all : old.line.items ≡ read = at.line ∙ kept_of_none old.machine (last_part read) why.0 ∙ last_part_after-none [] read none in
     record {
       front = read;
       back = back;
       parts = refl;
-      why = (none, inl (ap start_of (sym all) ∙ why.1, breaks));
+      why = (none, inl (ap schema_of (sym all) ∙ why.1, breaks));
       text = At-leaves read old new before after at step.out;
     }
 Stops-end NoMemory read back old new before after ended breaks at step = record {
@@ -224,7 +220,7 @@ last_lines (Some m) wl lp text stands not_both =
 Completes-stands : (m : Option Machine) (lines : List (List ℕ)) (before after : Option (List ℕ)) (written out : List ℕ) → IsSome m
     → Appends before after written → StandsFor m lines (written ++ out) → Completes before after out lines
 Completes-stands None lines before after written out some appended stands = cc
-Completes-stands (Some m) lines before after written out some appended stands = (m.schema, (stands.0, (written, appended, stands.2)))
+Completes-stands (Some m) lines before after written out some appended stands = (m.row.schema, (stands.0, (written, appended, stands.2)))
 
 some_lines : (m : Option Machine) (wl : List (List ℕ)) (text : List ℕ) → IsSome m → StandsFor m wl text → with_header (wl ++ []) ≡ wl
 some_lines None wl text some stands = cc
@@ -239,11 +235,11 @@ Finishes-between read s before after some empty at =
     subst (Completes before after s.out.items) (sym same)
     (Completes-stands s.machine (whole_lines read) before after at.written s.out.items some at.appended at.stands)
 
-moved_some : (m n : Option Machine) (line : List ℕ) → Moves m line n → IsSome n
-moved_some None None line moves = absurd moves
-moved_some None (Some n) line moves = refl
-moved_some (Some m) None line moves = absurd moves
-moved_some (Some m) (Some n) line moves = refl
+moved_some : (m n : Option Machine) (line out grown : List ℕ) → Moves m line n out grown → IsSome n
+moved_some None None line out grown moves = absurd moves
+moved_some None (Some n) line out grown moves = refl
+moved_some (Some m) None line out grown moves = absurd moves
+moved_some (Some m) (Some n) line out grown moves = refl
 
 pub Finishes-ended : (read : List ℕ) (old new : Script) (before after : Option (List ℕ))
     → (IsSome old.machine → old.line.items ≡ [] → ⊥) → At read old before after → HasEnded old new
@@ -255,7 +251,7 @@ Finishes-ended read old new before after not_both at step =
     let same : script_lines read ≡ wl ++ lp ∷ [] = last_lines old.machine wl lp (at.written ++ old.out.items) at.stands some in
     subst (Completes before after new.out.items) (sym same)
     (Completes-stands new.machine (wl ++ lp ∷ []) before after at.written new.out.items
-    (moved_some old.machine new.machine old.line.items step.machine) at.appended (Ended-stands read old new before after at step))
+    (moved_some old.machine new.machine old.line.items old.out.items new.out.items step.machine) at.appended (Ended-stands read old new before after at step))
 
 -- ---- bytes that are some
 

@@ -1,27 +1,24 @@
 -- What is written for lines, one after another.
-use Rattle.std.proofs.Common.{◌≡◌, ℕ, ◌<◌, ◌-◌, ◌==◌, Bool, true, false, cond, Result, Err, List, [], ◌∷◌, ◌++◌, Option, None, Some, Ok, length, take, reverse, map, ◌+◌, ◌⊎◌, inl, inr, refl, sym, ap, ◌∙◌, subst, append_assoc, append-nil, arith}
+use Rattle.std.proofs.Common.{◌≡◌, ℕ, ◌<◌, ◌-◌, List, [], ◌∷◌, ◌++◌, Option, None, Some, Ok, length, take, reverse, map, ◌+◌, ◌⊎◌, inl, inr, refl, sym, ap, ◌∙◌, subst, append_assoc, append-nil, arith, codes}
 use Rattle.std.specs.List.{filter_map, cons_option}
 use Rattle.std.proofs.lemmas.List.{length-take, take-append-le, take_all, reverse-append}
 use Rattle.std.proofs.Math.Seq.{take-append-add}
 use Rattle.std.proofs.lemmas.Bool.{cases_lt, lt-ltb}
 use Rattle.field_bounds.specs.Schema.{SchemaValue}
-use Rattle.field_bounds.specs.Effects.{fresh}
-use Rattle.field_bounds.specs.Owed.{IsRun, place, Fits}
-use Rattle.site_step.specs.Site.{SiteValue, Applies}
+use Rattle.field_bounds.specs.Header.{schema_of}
+use Rattle.field_bounds.specs.Central.{asked_of, IsSound}
+use Rattle.field_bounds.specs.declared.id.SiteNo.{SiteNo}
 use Rattle.field_bounds.specs.declared.entry.Command.{Command}
 use Rattle.field_bounds.specs.declared.entry.Entry.{Entry}
-use Rattle.field_bounds.specs.declared.entry.Reply.{Reply}
-use Rattle.field_bounds.specs.declared.fault.SchemaFault.{SchemaFault}
-use Rattle.field_bounds.specs.declared.fault.SchemaFault.TheVariants.{SiteCount, FieldCount}
-use Rattle.field_bounds.specs.Limits.{IsSchema}
-use Rattle.field_bounds.specs.Header.{schema_of}
-use Rattle.field_bounds.specs.Central.{AreOf, IsCentral}
-use Rattle.field_bounds.proofs.Alone.{schema_of-limits, alone_is_sound}
+use Rattle.field_bounds.proofs.Alone.{schema_of-limits}
+use Rattle.field_bounds.proofs.Sound.{sound_empty, sound_more}
 use Rattle.field_bounds.proofs.Headline.{sound_is_central}
-use Rattle.escrow_script.specs.Start.{start_of, with_one_of_each}
 use Rattle.escrow_script.specs.declared.machine.Machine.{Machine}
-use Rattle.escrow_script.specs.Text.{line_command, line_text, answer, answers, entries_before, first_site, Answered, Notes, HasText}
-use Rattle.escrow_script.specs.Run.{with_piece, kept, Moves, added, StandsFor}
+use Rattle.escrow_script.specs.declared.row.SiteRow.{SiteRow}
+use Rattle.escrow_script.specs.Row.{AreSitesOf}
+use Rattle.escrow_script.specs.Text.{line_command, line_text, entry_text, answer, answers, entries_before, Notes, HasText}
+use Rattle.escrow_script.specs.Run.{with_piece, kept, Answered, Moves, StandsFor}
+use Rattle.escrow_script.proofs.RowLemmas.{fits_at, sites_after}
 
 -- ---- as much of a line as is kept
 
@@ -68,64 +65,40 @@ with_piece-kept (Some m) line piece = take_of_append 257 line piece
 
 -- ---- one more line
 
-entries_before-noted : (schema : SchemaValue) (c : Option Command) (old new : List Entry) → Notes schema c old new → entries_before c new ≡ old
+entries_before-noted : (schema : SchemaValue) (c : Option (SiteNo × Command)) (old new : List Entry) → Notes schema c old new → entries_before c new ≡ old
 entries_before-noted schema None old new h = h
-entries_before-noted schema (Some command) old [] h = absurd h
-entries_before-noted schema (Some command) old (entry ∷ before) h = h.0
+entries_before-noted schema (Some asked) old [] h = absurd h
+entries_before-noted schema (Some asked) old (entry ∷ before) h = h.0
 
-IsRun-noted : (schema : SchemaValue) (c : Option Command) (old new : List Entry) → Notes schema c old new
-    → IsRun schema 0 (fresh schema 0) old → IsRun schema 0 (fresh schema 0) new
-IsRun-noted schema None old new h run = subst (λ es. IsRun schema 0 (fresh schema 0) es) (sym h) run
-IsRun-noted schema (Some command) old [] h run = absurd h
-IsRun-noted schema (Some command) old (entry ∷ before) h run = (
-  subst (λ es. IsRun schema 0 (fresh schema 0) es) (sym h.0) run,
-  subst (λ es. Fits (place schema 0 (fresh schema 0) es) entry.command entry.reply) (sym h.0) h.2,
-)
+sound-noted : (schema : SchemaValue) (c : Option (SiteNo × Command)) (old new : List Entry) → Notes schema c old new
+    → IsSound schema old → IsSound schema new
+sound-noted schema None old new h sound = subst (IsSound schema) (sym h) sound
+sound-noted schema (Some asked) old [] h sound = absurd h
+sound-noted schema (Some asked) old (entry ∷ before) h sound =
+    subst (λ t. IsSound schema (entry ∷ t)) (sym h.0) (sound_more schema entry old sound h.2 h.3)
 
-AreOf-noted : (schema : SchemaValue) (c : Option Command) (old new : List Entry) → Notes schema c old new → AreOf 0 old → AreOf 0 new
-AreOf-noted schema None old new h are = subst (AreOf 0) (sym h) are
-AreOf-noted schema (Some command) old [] h are = absurd h
-AreOf-noted schema (Some command) old (entry ∷ before) h are = (h.3, subst (AreOf 0) (sym h.0) are)
+commands-noted : (schema : SchemaValue) (c : Option (SiteNo × Command)) (old new : List Entry) (commands : List (SiteNo × Command)) → Notes schema c old new
+    → map asked_of old ≡ commands → map asked_of new ≡ cons_option c commands
+commands-noted schema None old new commands h e = ap (map asked_of) h ∙ e
+commands-noted schema (Some asked) old [] commands h e = absurd h
+commands-noted schema (Some asked) old (entry ∷ before) commands h e =
+    ap (λ c. c ∷ map asked_of before) h.1 ∙ ap (λ l. asked ∷ l) (ap (map asked_of) h.0 ∙ e)
 
--- ---- one central store
-
-one_of_each-is : (s schema : SchemaValue) → with_one_of_each (Ok s) ≡ Ok schema → s ≡ schema
-one_of_each-is s schema h = by (s.sites == 1) (length s.fields == 1) h
-  where
-    by : (one each : Bool) → cond one (cond each (Ok s) (Err FieldCount)) (Err SiteCount) ≡ Ok schema → s ≡ schema
-    by true true h = cc
-    by true false h = absurd cc
-    by false each h = absurd cc
-
-started_limits : (header : List ℕ) (r : Result SchemaValue SchemaFault) (schema : SchemaValue) → schema_of header ≡ r → with_one_of_each r ≡ Ok schema → IsSchema schema
-started_limits header (Ok s) schema read h = subst IsSchema (one_of_each-is s schema h) (schema_of-limits header s read)
-started_limits header (Err fault) schema read h = absurd cc
-
-start_of-limits : (header : List ℕ) (schema : SchemaValue) → start_of header ≡ Ok schema → IsSchema schema
-unfolding start_of
-start_of-limits header schema h = started_limits header (schema_of header) schema refl h
-
--- entries of the one site, each with the reply that it owes, are a run of one central store
-central_of : (header : List ℕ) (schema : SchemaValue) (entries : List Entry) → start_of header ≡ Ok schema → AreOf 0 entries → IsRun schema 0 (fresh schema 0) entries → IsCentral schema entries
-central_of header schema entries start are run =
-    let limits = start_of-limits header schema start in
-    sound_is_central schema limits entries (alone_is_sound schema 0 entries limits.some_site are run)
-
--- what a site that answered a line has noted
-answered-noted : (schema : SchemaValue) (c : Option Command) (old : List Entry) (v w : SiteValue) → v ≡ first_site schema old → Answered c v w
-    → (new : List Entry) × (w ≡ first_site schema new) × Notes schema c old new
-answered-noted schema None old v w e h = (old, h ∙ e, refl)
-answered-noted schema (Some command) old v w e h =
-    let (reply, applies) = subst (λ x. (r : Reply) × Applies x command r w) e h in
-    (record { site = record { 0 = 0 }; command = command; reply = reply } ∷ old, applies.entry, (refl, refl, applies.fits, refl))
-
-commands-noted : (schema : SchemaValue) (c : Option Command) (old new : List Entry) (commands : List Command) → Notes schema c old new
-    → map (λ entry. entry.command) old ≡ commands → map (λ entry. entry.command) new ≡ cons_option c commands
-commands-noted schema None old new commands h e = ap (map (λ entry. entry.command)) h ∙ e
-commands-noted schema (Some command) old [] commands h e = absurd h
-commands-noted schema (Some command) old (entry ∷ before) commands h e =
-    ap (λ c. c ∷ map (λ entry. entry.command) before) h.1
-    ∙ ap (λ l. command ∷ l) (ap (map (λ entry. entry.command)) h.0 ∙ e)
+-- what sites that answered a line have noted
+answered-noted : (c : Option (SiteNo × Command)) (line : List ℕ) (old new : SiteRow) (out grown : List ℕ) (t : List Entry)
+    → AreSitesOf old.schema t old.sites.items → Answered c line old new out grown
+    → (u : List Entry) × (new.schema ≡ old.schema) × AreSitesOf old.schema u new.sites.items × Notes old.schema c t u × (grown ≡ out ++ answer c line u)
+answered-noted None line old new out grown t are h =
+    (t, ap (λ r. r.schema) h.0, subst (λ r. AreSitesOf old.schema t r.sites.items) (sym h.0) are, refl, h.1)
+answered-noted (Some asked) line old new out grown t are h =
+    let (reply, same, below, applies, text) = h in
+    let entry : Entry = record { site = asked.0; command = asked.1; reply = reply } in (
+      entry ∷ t,
+      same,
+      sites_after old.schema t old.sites.items new.sites.items asked.0 asked.1 reply below are applies,
+      (refl, refl, below, fits_at old.schema t old.sites.items new.sites.items asked.0 asked.1 reply below are applies),
+      text,
+    )
 
 -- the text with an answer to one more line
 pub HasText-more : (schema : SchemaValue) (old new : List Entry) (lines : List (List ℕ)) (line text : List ℕ)
@@ -136,6 +109,7 @@ HasText-more schema old new lines line text has notes =
     let more = answer (line_command schema line) line new in
     let same : answers schema (line ∷ reverse has.behind) new ≡ answers schema (reverse has.behind) old ++ more =
     ap (λ es. answers schema (reverse has.behind) es ++ more) (entries_before-noted schema (line_command schema line) old new notes) in
+    let sound : IsSound schema new = sound-noted schema (line_command schema line) old new notes has.sound in
     record {
       header = has.header;
       behind = has.behind ++ line ∷ [];
@@ -143,55 +117,53 @@ HasText-more schema old new lines line text has notes =
       start = has.start;
       commands = commands-noted schema (line_command schema line) old new (filter_map (line_command schema) (reverse has.behind)) notes has.commands
           ∙ ap (filter_map (line_command schema)) (sym back);
-      sites = AreOf-noted schema (line_command schema line) old new notes has.sites;
-      run = IsRun-noted schema (line_command schema line) old new notes has.run;
-      central = central_of has.header schema new has.start (AreOf-noted schema (line_command schema line) old new notes has.sites)
-          (IsRun-noted schema (line_command schema line) old new notes has.run);
+      sound = sound;
+      central = sound_is_central schema (schema_of-limits has.header schema has.start) new sound;
       written = ap (λ t. t ++ more) has.written
           ∙ append_assoc (line_text has.header) (answers schema (reverse has.behind) old) more
           ∙ ap (λ t. line_text has.header ++ t) (sym same ∙ ap (λ ls. answers schema ls new) (sym back));
     }
 
 -- the text of the header line
-HasText-start : (schema : SchemaValue) (line : List ℕ) → start_of line ≡ Ok schema → HasText schema [] (line ∷ []) (line_text line)
+HasText-start : (schema : SchemaValue) (line : List ℕ) → schema_of line ≡ Ok schema → HasText schema [] (line ∷ []) (line_text line)
 HasText-start schema line start = record {
   header = line;
   behind = [];
   parts = refl;
   start = start;
   commands = refl;
-  sites = tt;
-  run = tt;
+  sound = sound_empty schema;
   central = tt;
   written = sym (append-nil (line_text line));
 }
 
--- a machine whose site has these entries
+-- a machine whose sites have these entries
 stands-along : (n : Machine) (schema : SchemaValue) (entries : List Entry) (lines : List (List ℕ)) (text text' : List ℕ)
-    → n.schema ≡ schema → n.site ≡ first_site schema entries → text ≡ text' → HasText schema entries lines text → StandsFor (Some n) lines text'
-stands-along n schema entries lines text text' same is e has = (
+    → n.row.schema ≡ schema → AreSitesOf schema entries n.row.sites.items → text ≡ text' → HasText schema entries lines text → StandsFor (Some n) lines text'
+stands-along n schema entries lines text text' same are e has = (
   entries,
-  is ∙ ap (λ s. first_site s entries) (sym same),
+  subst (λ s. AreSitesOf s entries n.row.sites.items) (sym same) are,
   subst (λ s. HasText s entries lines text') (sym same) (subst (HasText schema entries lines) e has),
 )
 
 -- the machine after one more line
-pub StandsFor-more : (m n : Option Machine) (lines : List (List ℕ)) (line text : List ℕ)
-    → StandsFor m lines text → Moves m (kept m line) n → StandsFor n (lines ++ line ∷ []) (text ++ added m (kept m line) n)
-StandsFor-more None None lines line text stands moves = absurd moves
-StandsFor-more None (Some n) lines line text stands moves =
+pub StandsFor-more : (m n : Option Machine) (lines : List (List ℕ)) (line written out grown : List ℕ)
+    → StandsFor m lines (written ++ out) → Moves m (kept m line) n out grown → StandsFor n (lines ++ line ∷ []) (written ++ grown)
+StandsFor-more None None lines line written out grown stands moves = absurd moves
+StandsFor-more None (Some n) lines line written out grown stands moves =
+    let (start, are, text) = moves in
     let first : lines ++ line ∷ [] ≡ line ∷ [] = ap (λ l. l ++ line ∷ []) stands.0 in
-    let only : text ++ line_text line ≡ line_text line = ap (λ t. t ++ line_text line) stands.1 in
-    ([], moves.1, rw (first, only) (HasText-start n.schema line moves.0))
-StandsFor-more (Some m) None lines line text stands moves = absurd moves
-StandsFor-more (Some m) (Some n) lines line text stands moves =
-    let (old, is, has) = stands in
-    let answered : Answered (line_command m.schema line) m.site n.site =
-    subst (λ c. Answered c m.site n.site) (line_command-kept m.schema line) moves.1 in
-    let (new, is_new, notes) = answered-noted m.schema (line_command m.schema line) old m.site n.site is answered in
-    let more = HasText-more m.schema old new lines line text has notes in
-    let entries : n.site.history ≡ new = ap (λ v. v.history) is_new in
-    let told : answer (line_command m.schema (take 257 line)) (take 257 line) n.site.history ≡ answer (line_command m.schema line) line new =
-    ap (λ es. answer (line_command m.schema (take 257 line)) (take 257 line) es) entries ∙ answer-kept m.schema line new in
-    stands-along n m.schema new (lines ++ line ∷ []) _ (text ++ added (Some m) (take 257 line) (Some n)) moves.0 is_new
-    (ap (λ a. text ++ a) (sym told)) more
+    let only : written ++ grown ≡ line_text line =
+    ap (λ t. written ++ t) text ∙ sym (append_assoc written out (line_text line)) ∙ ap (λ t. t ++ line_text line) stands.1 in
+    ([], are, rw (first, only) (HasText-start n.row.schema line start))
+StandsFor-more (Some m) None lines line written out grown stands moves = absurd moves
+StandsFor-more (Some m) (Some n) lines line written out grown stands moves =
+    let schema = m.row.schema in
+    let (old, are, has) = stands in
+    let (new, same, are_new, notes, text) = answered-noted (line_command schema (take 257 line)) (take 257 line) m.row n.row out grown old are moves in
+    let noted : Notes schema (line_command schema line) old new = subst (λ c. Notes schema c old new) (line_command-kept schema line) notes in
+    let told : (written ++ out) ++ answer (line_command schema line) line new ≡ written ++ grown =
+    append_assoc written out (answer (line_command schema line) line new)
+    ∙ ap (λ t. written ++ t) (ap (λ a. out ++ a) (sym (answer-kept schema line new)) ∙ sym text) in
+    stands-along n schema new (lines ++ line ∷ []) _ (written ++ grown) same are_new told
+    (HasText-more schema old new lines line (written ++ out) has noted)

@@ -3,7 +3,7 @@ pub mod Words
 pub mod Reading
 pub mod Replies
 pub mod Watched
-pub mod Start
+pub mod Row
 pub mod Lines
 pub mod Text
 pub mod Run

@@ -86,7 +86,7 @@ beside (e ∷ table) w = if bytes_eq w e.0 then Some e.1 else beside table w
 -- The commands by their words.
 abbrev pub verb_table : List (List ℕ × Verb)
 verb_table = (codes "begin", verbs.Begin) ∷ (codes "escrow", verbs.Escrow) ∷ (codes "commit", verbs.Commit)
-    ∷ (codes "abort", verbs.Abort) ∷ (codes "read", verbs.Read) ∷ []
+    ∷ (codes "abort", verbs.Abort) ∷ (codes "read", verbs.Read) ∷ (codes "share", verbs.Share) ∷ []
 
 -- The command that the word names.
 unfoldable pub verb_of : List ℕ → Option Verb
@@ -109,6 +109,9 @@ arguments_at schema verbs.Abort ws = do
 arguments_at schema verbs.Read ws = do
   field ← word_at (field_of schema) ws
   Some (commands.Read field.0, field.1)
+arguments_at schema verbs.Share ws = do
+  field ← word_at (field_of schema) ws
+  Some (commands.Share field.0, field.1)
 
 -- The site and the command of a list of words, and the words after them.
 unfoldable pub command_at : SchemaValue → List (List ℕ) → Option ((SiteNo × Command) × List (List ℕ))

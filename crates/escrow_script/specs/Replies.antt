@@ -5,7 +5,7 @@ use Rattle.field_bounds.specs.declared.id.TxnId.{TxnId}
 use Rattle.field_bounds.specs.declared.entry.Refusal.{Refusal}
 use Rattle.field_bounds.specs.declared.entry.Refusal.TheVariants.{NoField, NoTransaction, Zero, TooLarge, Short, TooManyOpen, TooManyEscrows, NumbersFull}
 use Rattle.field_bounds.specs.declared.entry.Reply.{Reply}
-use Rattle.field_bounds.specs.declared.entry.Reply.TheVariants.{Begun, Granted, Committed, Aborted, Between, Refused}
+use Rattle.field_bounds.specs.declared.entry.Reply.TheVariants.{Begun, Granted, Committed, Aborted, Between, Shares, Refused}
 
 -- A transaction: epoch and number with a point (46) between them.
 abbrev pub id_text : TxnId → List ℕ
@@ -29,4 +29,5 @@ reply_text Granted = codes "granted"
 reply_text Committed = codes "committed"
 reply_text Aborted = codes "aborted"
 reply_text (Between lo hi) = codes "between " ++ signed_decimal lo ++ (32 ∷ signed_decimal hi)
+reply_text (Shares lower raise) = codes "share " ++ decimal lower ++ (32 ∷ decimal raise)
 reply_text (Refused r) = codes "refused " ++ refusal_text r

@@ -1,17 +1,22 @@
 -- What the parts of a run do to its state, and what a run reads and writes (this project).
-use Rattle.std.specs.Prelude.{◌≡◌, ◌≢◌, ℕ, ◌+◌, ◌-◌, ◌<◌, ◌≤◌, List, [], ◌∷◌, ◌++◌, length, take, ◌⊎◌, Option, None, Some, IsNone, Ok, Err}
+use Rattle.std.specs.Prelude.{◌≡◌, ◌≢◌, ℕ, ◌+◌, ◌-◌, ◌<◌, ◌≤◌, List, [], ◌∷◌, ◌++◌, length, take, ◌⊎◌, Option, None, Some, IsNone, Ok, Err, codes}
 use Rattle.std.specs.Io.KnownBytes.{Appends, Consumes, IsAtEnd}
 use Rattle.field_bounds.specs.Schema.{SchemaValue}
+use Rattle.field_bounds.specs.Header.{schema_of}
+use Rattle.field_bounds.specs.declared.id.SiteNo.{SiteNo}
+use Rattle.field_bounds.specs.declared.entry.Command.{Command}
+use Rattle.field_bounds.specs.declared.entry.Reply.{Reply}
 use Rattle.field_bounds.specs.declared.entry.Entry.{Entry}
 use Rattle.field_bounds.specs.declared.fault.SchemaFault.TheVariants as schema_faults
+use Rattle.escrow_script.specs.declared.row.SiteRow.{SiteRow}
 use Rattle.escrow_script.specs.declared.machine.Machine.{Machine}
 use Rattle.escrow_script.specs.declared.script.Script.{Script}
 use Rattle.escrow_script.specs.declared.fault.ScriptFault.{ScriptFault}
 use Rattle.escrow_script.specs.declared.fault.ScriptFault.TheVariants.{Read, TooLong, Write, Header, NoMemory}
 use Rattle.escrow_script.specs.declared.watched.End.{End}
 use Rattle.escrow_script.specs.declared.watched.End.TheVariants.{Nothing}
-use Rattle.escrow_script.specs.Start.{start_of}
-use Rattle.escrow_script.specs.Text.{line_command, line_text, answer, first_site, Answered, HasText, IsTextOf}
+use Rattle.escrow_script.specs.Row.{AreSitesOf, AppliesAt}
+use Rattle.escrow_script.specs.Text.{line_command, line_text, entry_text, HasText, IsTextOf}
 use Rattle.escrow_script.specs.Lines.{whole_lines, last_part, script_lines}
 use Rattle.escrow_script.specs.Watched.{AppendsFront}
 
@@ -39,29 +44,32 @@ pub record CannotKeep (old new : Script) (piece : List ℕ) (fault : ScriptFault
   pub why : KeepFault fault old piece
   pub out : new.out.items ≡ old.out.items
 
--- What a line does to the machine: a header line starts it, and the site answers any other.
-abbrev pub Moves : Option Machine → List ℕ → Option Machine → Type 0
-Moves None line None = ⊥
-Moves None line (Some m) = (start_of line ≡ Ok m.schema) × (m.site ≡ first_site m.schema [])
-Moves (Some m) line None = ⊥
-Moves (Some m) line (Some n) = (n.schema ≡ m.schema) × Answered (line_command m.schema line) m.site n.site
+-- What the sites do with a line: one of them answers the command that it spells, or none is asked; and what is to be
+-- written grows by the answer.
+abbrev pub Answered : Option (SiteNo × Command) → List ℕ → SiteRow → SiteRow → List ℕ → List ℕ → Type 0
+Answered None line old new out grown = (new ≡ old) × (grown ≡ out ++ line_text (codes "bad line"))
+Answered (Some asked) line old new out grown =
+    (reply : Reply) × (new.schema ≡ old.schema) × (asked.0.0 < old.schema.sites)
+    × AppliesAt old.sites.items asked.0 asked.1 reply new.sites.items × (grown ≡ out ++ entry_text line reply)
 
--- What a line adds to what is to be written.
-abbrev pub added : Option Machine → List ℕ → Option Machine → List ℕ
-added None line after = line_text line
-added (Some m) line None = []
-added (Some m) line (Some n) = answer (line_command m.schema line) line n.site.history
+-- What a line does to the machine, and to what is to be written: a header line starts the sites of its schema and is
+-- written as it is, and any other line is answered.
+abbrev pub Moves : Option Machine → List ℕ → Option Machine → List ℕ → List ℕ → Type 0
+Moves None line None out grown = ⊥
+Moves None line (Some m) out grown =
+    (schema_of line ≡ Ok m.row.schema) × AreSitesOf m.row.schema [] m.row.sites.items × (grown ≡ out ++ line_text line)
+Moves (Some m) line None out grown = ⊥
+Moves (Some m) line (Some n) out grown = Answered (line_command m.row.schema line) line m.row n.row out grown
 
 -- The machine has the line, and what it answers is to be written.
 pub record HasEnded (old new : Script) : Type 0 where
-  pub machine : Moves old.machine old.line.items new.machine
+  pub machine : Moves old.machine old.line.items new.machine old.out.items new.out.items
   pub line : new.line.items ≡ []
   pub lines : new.lines ≡ old.lines + 1
-  pub out : new.out.items ≡ old.out.items ++ added old.machine old.line.items new.machine
 
 -- Why a line can't be ended.
 abbrev pub EndFault : ScriptFault → Script → Type 0
-EndFault (Header fault) old = IsNone old.machine × (start_of old.line.items ≡ Err fault)
+EndFault (Header fault) old = IsNone old.machine × (schema_of old.line.items ≡ Err fault)
 EndFault NoMemory old = Unit {0}
 EndFault _ old = ⊥
 
@@ -79,7 +87,7 @@ kept (Some m) line = take 257 line
 abbrev pub StandsFor : Option Machine → List (List ℕ) → List ℕ → Type 0
 StandsFor None lines text = (lines ≡ []) × (text ≡ [])
 StandsFor (Some m) lines text =
-    (entries : List Entry) × (m.site ≡ first_site m.schema entries) × HasText m.schema entries lines text
+    (entries : List Entry) × AreSitesOf m.row.schema entries m.row.sites.items × HasText m.row.schema entries lines text
 
 -- The state after these bytes, with the writer's known bytes before and after.
 pub record At (read : List ℕ) (s : Script) (before after : Option (List ℕ)) : Type 0 where
@@ -106,7 +114,7 @@ Explains Read front back ended = back ≡ []
 Explains TooLong front back ended = (back ≢ []) × ((1000000 ≤ length (whole_lines front)) ⊎ (268435456 ≤ length front))
 Explains Write front back ended = Unit {0}
 Explains (Header fault) front back ended = (whole_lines front ≡ [])
-    × (((start_of front ≡ Err fault) × (BeginsWithBreak back ⊎ ((back ≡ []) × ended)))
+    × (((schema_of front ≡ Err fault) × (BeginsWithBreak back ⊎ ((back ≡ []) × ended)))
     ⊎ ((fault ≡ schema_faults.TooLong) × (65536 < length front)))
 Explains NoMemory front back ended = Unit {0}
 

@@ -1,6 +1,6 @@
 //! Command lines as text.
 
-ghost use Rattle.std.specs.Prelude.{◌≡◌};
+ghost use Rattle.std.specs.Prelude.{◌≡◌, ◌<◌, IfSome};
 ghost use Rattle.escrow_script.specs.Words.{words_of};
 ghost use Rattle.escrow_script.specs.Text.{line_command};
 ghost use Rattle.escrow_script.specs.Reading.{Gives, word_at, site_of, id_of, field_of, signed_of, verb_of, arguments_at, command_at, command_of, acting_of};
@@ -74,6 +74,10 @@ impl Words<'_> {
                 let field = self.field(schema)?;
                 Some(Command::Read { field })
             }
+            Verb::Share => {
+                let field = self.field(schema)?;
+                Some(Command::Share { field })
+            }
         }
     }
 
@@ -106,7 +110,8 @@ fn command_read(schema: &Schema, line: &[u8]) -> Option<(SiteNo, Command)>
 /// The site and the command that the line spells, where the site is in the schema. Costs no memory.
 #[tactic(auto, unfolding(crate::specs::Reading::acting_of))]
 fn read_command(schema: &Schema, line: &[u8]) -> Option<(SiteNo, Command)>
-    ensures { result ≡ acting_of schema.now line.now }
+    ensures command { result ≡ acting_of schema.now line.now }
+    ensures in_schema { IfSome result (λ asked. asked.0.0 < schema.now.sites) }
 {
     let (site, command) = command_read(schema, line)?;
     if site.0 < schema.sites() {
@@ -116,15 +121,15 @@ fn read_command(schema: &Schema, line: &[u8]) -> Option<(SiteNo, Command)>
     }
 }
 
-/// The command that a line behind the header spells, where its site is in the schema and the line
-/// has at most 256 bytes. Costs no memory.
+/// The site and the command that a line behind the header spells, where the site is in the schema
+/// and the line has at most 256 bytes. Costs no memory.
 #[tactic(auto, unfolding(crate::specs::Text::line_command))]
-pub(crate) fn line_command(schema: &Schema, line: &[u8]) -> Option<Command>
-    ensures { result ≡ line_command schema.now line.now }
+pub(crate) fn line_command(schema: &Schema, line: &[u8]) -> Option<(SiteNo, Command)>
+    ensures command { result ≡ line_command schema.now line.now }
+    ensures in_schema { IfSome result (λ asked. asked.0.0 < schema.now.sites) }
 {
     if line.len() > MOST_LINE {
         return None;
     }
-    let (_, command) = read_command(schema, line)?;
-    Some(command)
+    read_command(schema, line)
 }

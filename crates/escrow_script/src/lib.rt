@@ -3,9 +3,11 @@
 
 mod command;
 mod fault;
+mod laws;
 mod machine;
 mod number;
 mod reply;
+mod row;
 mod script;
 mod verb;
 mod watched;
@@ -13,6 +15,7 @@ mod word;
 mod words;
 
 pub use fault::ScriptFault;
+pub use laws::one_text;
 pub use script::run_script;
 pub use watched::{End, Watched};
 

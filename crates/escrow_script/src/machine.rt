@@ -1,14 +1,15 @@
-//! The site that a header line starts, and its answers to the lines behind it.
+//! The sites that a header line starts, and their answers to the lines behind it.
 
 ghost use Rattle.std.specs.Prelude.{◌≡◌, [], ◌∷◌, ◌++◌, ◌≤◌, length, take, codes, Ok, OnOk, OnErr, IfOk, IfErr};
-ghost use Rattle.escrow_script.specs.Start.{start_of, TellsStart};
-ghost use Rattle.escrow_script.specs.Text.{line_command, line_text, answer, first_site, Answered};
+ghost use Rattle.field_bounds.specs.Header.{schema_of};
+ghost use Rattle.escrow_script.specs.Faults.{TellsHeader};
+ghost use Rattle.escrow_script.specs.Text.{line_command, line_text};
 
 use crate::command::line_command;
 use crate::fault::ScriptFault;
 use crate::reply::ReplyText;
-use field_bounds::{Schema, SchemaFault, SiteNo};
-use site_step::Site;
+use crate::row::SiteRow;
+use field_bounds::Schema;
 use std::alloc::{AllocError, Global};
 
 // Adds a piece, or, where memory is refused, cuts back to the first `kept` bytes.
@@ -47,44 +48,28 @@ fn add_entry(out: &mut Vec<u8>, command: &[u8], reply: &[u8]) -> Result<(), Allo
     add(out, kept, b"\n")
 }
 
-// The schema that a header line tells, where it has one site and one field.
-#[tactic(auto, unfolding(crate::specs::Start::start_of))]
-fn header_schema(alloc: Global, header: &[u8]) -> Result<Schema, ScriptFault>
-    ensures ok { IfOk result (λ schema. start_of header.now ≡ Ok schema) }
-    ensures err { IfErr result (λ fault. TellsStart fault (start_of header.now)) }
-{
-    let schema = Schema::from_header(alloc, header)?;
-    if schema.sites() != 1 {
-        return Err(ScriptFault::Header(SchemaFault::SiteCount));
-    }
-    if schema.fields() != 1 {
-        return Err(ScriptFault::Header(SchemaFault::FieldCount));
-    }
-    Ok(schema)
-}
-
-/// A site under the schema of a header line.
+/// The sites under the schema of a header line.
 #[derive(Drop)]
 pub(crate) struct Machine {
-    schema: Schema,
-    site: Site,
+    row: SiteRow,
     // The text of the last reply; its memory is used again.
     reply: String,
 }
 
 impl Machine {
-    /// The site that a header line, without its LF, starts. At this stage a schema has one site and
-    /// one field.
+    ghost use Rattle.escrow_script.specs.Row.{AreSitesOf};
+    ghost use Rattle.escrow_script.specs.Run.{Answered};
+
+    /// The sites that a header line, without its LF, starts.
     pub(crate) fn from_header(alloc: Global, header: &[u8]) -> Result<Machine, ScriptFault>
-        ensures ok { IfOk result (λ machine. start_of header.now ≡ Ok machine.schema) }
-        ensures fresh { IfOk result (λ machine. machine.site ≡ first_site machine.schema []) }
-        ensures err { IfErr result (λ fault. TellsStart fault (start_of header.now)) }
+        ensures ok { IfOk result (λ machine. schema_of header.now ≡ Ok machine.row.schema) }
+        ensures fresh { IfOk result (λ machine.
+            AreSitesOf machine.row.schema [] machine.row.sites.items) }
+        ensures err { IfErr result (λ fault. TellsHeader fault (schema_of header.now)) }
     {
-        let schema = header_schema(alloc, header)?;
-        let site = Site::fresh(alloc, schema.copy()?, SiteNo(0))?;
+        let schema = Schema::from_header(alloc, header)?;
         Ok(Machine {
-            schema,
-            site,
+            row: SiteRow::fresh(alloc, schema)?,
             reply: String::new(alloc),
         })
     }
@@ -97,17 +82,14 @@ impl Machine {
         line: &[u8],
         out: &mut Vec<u8>,
     ) -> Result<(), AllocError>
-        ensures schema { self.new.schema ≡ self.old.schema }
-        ensures answered { OnOk result (Answered (line_command self.old.schema line.now)
-            self.old.site self.new.site) }
-        ensures ok { OnOk result (out.new.items ≡ out.old.items
-            ++ answer (line_command self.old.schema line.now) line.now self.new.site.history) }
+        ensures ok { OnOk result (Answered (line_command self.old.row.schema line.now) line.now
+            self.old.row self.new.row out.old.items out.new.items) }
         ensures err { OnErr result (out.new.items ≡ out.old.items) }
     {
-        match line_command(&self.schema, line) {
+        match line_command(self.row.schema(), line) {
             None => add_line(out, b"bad line"),
-            Some(command) => {
-                let reply = ReplyText(self.site.apply(alloc, command)?);
+            Some((site, command)) => {
+                let reply = ReplyText(self.row.apply(alloc, site, command)?);
                 self.reply.clear();
                 write!(self.reply, "{reply}")?;
                 add_entry(out, line, self.reply.as_bytes())

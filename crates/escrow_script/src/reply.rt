@@ -58,6 +58,7 @@ impl fmt::Display for ReplyText {
             Reply::Committed => write!(f, "committed"),
             Reply::Aborted => write!(f, "aborted"),
             Reply::Between { lo, hi } => write!(f, "between {lo} {hi}"),
+            Reply::Shares { lower, raise } => write!(f, "share {lower} {raise}"),
             Reply::Refused(refusal) => {
                 let refusal = RefusalText(refusal);
                 write!(f, "refused {refusal}")

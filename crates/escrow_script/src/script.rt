@@ -280,9 +280,10 @@ impl Script {
 
 /// Runs a script: a header line, and then command lines, each answered by a line.
 ///
-/// Line 1 is a header of one site and one field, and is written as it was read. Every other line is
-/// a command line, answered by `LINE -> REPLY`, or is answered by `bad line` and changes nothing. A
-/// line ends with LF; a last line without LF counts where it has at least one byte.
+/// Line 1 is a header, and is written as it was read. Every other line is a command line, answered
+/// by `LINE -> REPLY` at the site that it names, or is answered by `bad line` and changes nothing.
+/// Nothing passes between the sites. A line ends with LF; a last line without LF counts where it
+/// has at least one byte.
 ///
 /// The faults are those of the input, line by line: `Header` and `NoMemory`; `TooLong` where a byte
 /// follows the 1,000,000th line or the 268,435,456th byte; `Read` where a read answers an error of
@@ -294,8 +295,8 @@ impl Script {
 /// ended; make each anew for a run, by `Watched::new`.
 ///
 /// Output is written before each read, once 64 KiB of it have gathered behind a line, and at the
-/// end. Costs 64 KiB for input and somewhat more for output, and memory for the site, which keeps
-/// each entry.
+/// end. Costs 64 KiB for input and somewhat more for output, and memory for the sites, which
+/// keep each entry.
 pub fn run_script<R: Read, W: Write>(
     alloc: Global,
     reader: &mut Watched<R>,

@@ -102,90 +102,183 @@ impl Write for Narrow {
     }
 }
 
-#[test]
-fn answers_commands(rt: HostRuntime) -> Result<(), Fail> {
-    let alloc = rt.alloc();
-    let mut talk = Talk::new(alloc, HEADER)?;
-    talk.rows(&[
-        ("0 begin", "begun 0.1"),
-        ("0 escrow 0.1 stock -20", "granted"),
-        ("0 read stock", "between 40 40"),
-        ("0 commit 0.1", "committed"),
-        ("0 read stock", "between 20 20"),
-    ])?;
-    talk.check(&rt, alloc);
-    let mut talk = Talk::new(alloc, HEADER)?;
-    talk.rows(&[
-        ("0 begin", "begun 0.1"),
-        ("0 escrow 0.1 stock -41", "refused 7 short 40"),
-        ("0 escrow 0.1 stock 60", "granted"),
-        ("0 read stock", "between 40 40"),
-        ("0 commit 0.1", "committed"),
-        ("0 read stock", "between 100 100"),
-        ("0 begin", "begun 0.2"),
-        ("0 escrow 0.2 stock -100", "granted"),
-        ("0 abort 0.2", "aborted"),
-        ("0 read stock", "between 100 100"),
-        ("0 read #1", "refused 3 no field"),
-        ("0 read #65535", "refused 3 no field"),
-        ("0 commit 0.7", "refused 4 no transaction"),
-        ("0 abort 4294967295.4294967295", "refused 4 no transaction"),
-        ("0 begin", "begun 0.3"),
-        ("0 escrow 0.3 stock 0", "refused 5 zero"),
-    ])?;
-    talk.check(&rt, alloc);
+/// Two sites, which have half of the rights each: lower 20, raise 30.
+const HALVED: &str =
+    "{\"sites\":2,\"fields\":[{\"name\":\"stock\",\"floor\":0,\"ceiling\":100,\"value\":40}]}";
+
+/// Two fields of one site.
+const TWINS: &str =
+    "{\"sites\":1,\"fields\":[{\"name\":\"a\",\"floor\":0,\"ceiling\":10,\"value\":5},{\"name\":\"b\",\"floor\":0,\"ceiling\":10,\"value\":5}]}";
+
+/// A field that can't be moved.
+const FIXED: &str =
+    "{\"sites\":1,\"fields\":[{\"name\":\"stock\",\"floor\":7,\"ceiling\":7,\"value\":7}]}";
+
+/// The widest field, at its ceiling.
+const WIDEST: &str =
+    "{\"sites\":1,\"fields\":[{\"name\":\"stock\",\"floor\":-1000000000000000,\"ceiling\":1000000000000000,\"value\":1000000000000000}]}";
+
+/// Headers, each with command lines and what is replied to them.
+const WORKED: [(&str, &[(&str, &str)]); 10] = [
+    (
+        HEADER,
+        &[
+            ("0 begin", "begun 0.1"),
+            ("0 escrow 0.1 stock -20", "granted"),
+            ("0 read stock", "between 40 40"),
+            ("0 commit 0.1", "committed"),
+            ("0 read stock", "between 20 20"),
+        ],
+    ),
+    (
+        HEADER,
+        &[
+            ("0 begin", "begun 0.1"),
+            ("0 escrow 0.1 stock -41", "refused 7 short 40"),
+            ("0 escrow 0.1 stock 60", "granted"),
+            ("0 read stock", "between 40 40"),
+            ("0 commit 0.1", "committed"),
+            ("0 read stock", "between 100 100"),
+            ("0 begin", "begun 0.2"),
+            ("0 escrow 0.2 stock -100", "granted"),
+            ("0 abort 0.2", "aborted"),
+            ("0 read stock", "between 100 100"),
+            ("0 read #1", "refused 3 no field"),
+            ("0 read #65535", "refused 3 no field"),
+            ("0 share #1", "refused 3 no field"),
+            ("0 commit 0.7", "refused 4 no transaction"),
+            ("0 abort 4294967295.4294967295", "refused 4 no transaction"),
+            ("0 begin", "begun 0.3"),
+            ("0 escrow 0.3 stock 0", "refused 5 zero"),
+        ],
+    ),
+    (
+        FIXED,
+        &[
+            ("0 read stock", "between 7 7"),
+            ("0 begin", "begun 0.1"),
+            ("0 escrow 0.1 stock 1", "refused 7 short 0"),
+            ("0 escrow 0.1 stock -1", "refused 7 short 0"),
+        ],
+    ),
+    (
+        WIDEST,
+        &[
+            ("0 begin", "begun 0.1"),
+            (
+                "0 escrow 0.1 stock -2000000000000001",
+                "refused 6 too large",
+            ),
+            (
+                "0 escrow 0.1 stock -9223372036854775808",
+                "refused 6 too large",
+            ),
+            ("0 escrow 0.1 stock -2000000000000000", "granted"),
+            ("0 commit 0.1", "committed"),
+            (
+                "0 read stock",
+                "between -1000000000000000 -1000000000000000",
+            ),
+        ],
+    ),
+    (
+        HALVED,
+        &[
+            ("0 begin", "begun 0.1"),
+            ("0 escrow 0.1 stock -20", "granted"),
+            ("0 read stock", "between 20 70"),
+            ("0 commit 0.1", "committed"),
+            ("0 share stock", "share 0 50"),
+            ("0 read stock", "between 0 50"),
+        ],
+    ),
+    (
+        HALVED,
+        &[
+            ("0 begin", "begun 0.1"),
+            ("0 escrow 0.1 stock -21", "refused 7 short 20"),
+        ],
+    ),
+    (
+        HALVED,
+        &[
+            ("0 begin", "begun 0.1"),
+            ("0 escrow 0.1 stock 5", "granted"),
+            ("0 escrow 0.1 stock -3", "granted"),
+            ("0 commit 0.1", "committed"),
+            ("0 share stock", "share 22 28"),
+            ("0 read stock", "between 22 72"),
+        ],
+    ),
+    (
+        HALVED,
+        &[
+            ("0 begin", "begun 0.1"),
+            ("0 escrow 0.1 stock -20", "granted"),
+            ("0 abort 0.1", "aborted"),
+            ("0 begin", "begun 0.2"),
+            ("0 escrow 0.2 stock -20", "granted"),
+        ],
+    ),
+    (
+        HALVED,
+        &[
+            ("0 begin", "begun 0.1"),
+            ("1 begin", "begun 0.1"),
+            ("1 escrow 0.1 stock -20", "granted"),
+            ("0 commit 0.1", "committed"),
+            ("0 share stock", "share 20 30"),
+            ("1 share stock", "share 0 30"),
+            ("1 commit 0.1", "committed"),
+            ("1 commit 0.1", "refused 4 no transaction"),
+            ("1 share stock", "share 0 50"),
+            ("0 read stock", "between 20 70"),
+        ],
+    ),
+    (
+        TWINS,
+        &[
+            ("0 begin", "begun 0.1"),
+            ("0 escrow 0.1 a -5", "granted"),
+            ("0 escrow 0.1 b 5", "granted"),
+            ("0 escrow 0.1 b -5", "granted"),
+            ("0 commit 0.1", "committed"),
+            ("0 share a", "share 0 10"),
+            ("0 share b", "share 5 5"),
+        ],
+    ),
+];
+
+fn check_row(
+    rt: &impl Abort,
+    alloc: Global,
+    header: &str,
+    rows: &[(&str, &str)],
+) -> Result<(), AllocError> {
+    let mut talk = Talk::new(alloc, header)?;
+    talk.rows(rows)?;
+    talk.check(rt, alloc);
     Ok(())
 }
 
 #[test]
-fn keeps_the_widest_fields(rt: HostRuntime) -> Result<(), Fail> {
-    let alloc = rt.alloc();
-    let mut talk = Talk::new(
-        alloc,
-        "{\"sites\":1,\"fields\":[{\"name\":\"stock\",\"floor\":7,\"ceiling\":7,\"value\":7}]}",
-    )?;
-    talk.rows(&[
-        ("0 read stock", "between 7 7"),
-        ("0 begin", "begun 0.1"),
-        ("0 escrow 0.1 stock 1", "refused 7 short 0"),
-        ("0 escrow 0.1 stock -1", "refused 7 short 0"),
-    ])?;
-    talk.check(&rt, alloc);
-    let mut talk = Talk::new(
-        alloc,
-        "{\"sites\":1,\"fields\":[{\"name\":\"stock\",\"floor\":-1000000000000000,\"ceiling\":1000000000000000,\"value\":1000000000000000}]}",
-    )?;
-    talk.rows(&[
-        ("0 begin", "begun 0.1"),
-        (
-            "0 escrow 0.1 stock -2000000000000001",
-            "refused 6 too large",
-        ),
-        (
-            "0 escrow 0.1 stock -9223372036854775808",
-            "refused 6 too large",
-        ),
-        ("0 escrow 0.1 stock -2000000000000000", "granted"),
-        ("0 commit 0.1", "committed"),
-        (
-            "0 read stock",
-            "between -1000000000000000 -1000000000000000",
-        ),
-    ])?;
-    talk.check(&rt, alloc);
+fn answers_worked_rows(rt: HostRuntime) -> Result<(), Fail> {
+    for (header, rows) in &WORKED {
+        check_row(&rt, rt.alloc(), *header, *rows)?;
+    }
     Ok(())
 }
 
 #[test]
 fn refuses_past_the_limits(rt: HostRuntime) -> Result<(), Fail> {
     let alloc = rt.alloc();
-    let mut talk = Talk::new(alloc, HEADER)?;
+    let mut talk = Talk::new(alloc, HALVED)?;
     talk.row("0 begin", "begun 0.1")?;
     for _ in 0..16 {
         talk.row("0 escrow 0.1 stock -1", "granted")?;
     }
     talk.row("0 escrow 0.1 stock -1", "refused 13 too many escrows")?;
-    talk.row("0 escrow 0.1 stock -25", "refused 7 short 24")?;
+    talk.row("0 escrow 0.1 stock -5", "refused 7 short 4")?;
     for number in 2..=64u32 {
         let reply = format!(in alloc; "begun 0.{number}")?;
         talk.row("0 begin", reply.as_str())?;
@@ -222,7 +315,8 @@ fn answers_bad_lines(rt: HostRuntime) -> Result<(), Fail> {
         "0 begin\r",
         "0 Begin",
         "0 give 1 stock lower 1",
-        "0 share stock",
+        "0 share sock",
+        "0 share",
         "0 restart",
         "deliver 1",
         "0 begin torn 3",
@@ -247,8 +341,6 @@ fn answers_bad_lines(rt: HostRuntime) -> Result<(), Fail> {
 #[test]
 fn tells_bad_headers(rt: HostRuntime) -> Result<(), Fail> {
     let alloc = rt.alloc();
-    let two_fields =
-        "{\"sites\":1,\"fields\":[{\"name\":\"stock\",\"floor\":0,\"ceiling\":1,\"value\":0},{\"name\":\"seats\",\"floor\":0,\"ceiling\":1,\"value\":0}]}\n";
     for (header, fault) in [
         ("", SchemaFault::NotJson),
         ("\n0 begin\n", SchemaFault::NotJson),
@@ -257,11 +349,6 @@ fn tells_bad_headers(rt: HostRuntime) -> Result<(), Fail> {
             "{\"sites\":0,\"fields\":[{\"name\":\"stock\",\"floor\":0,\"ceiling\":100,\"value\":40}]}",
             SchemaFault::SiteCount,
         ),
-        (
-            "{\"sites\":2,\"fields\":[{\"name\":\"stock\",\"floor\":0,\"ceiling\":100,\"value\":40}]}\n",
-            SchemaFault::SiteCount,
-        ),
-        (two_fields, SchemaFault::FieldCount),
     ] {
         let (end, out) = run(alloc, header.as_bytes());
         assert_eq!(rt; end, Err(ScriptFault::Header(fault)), "at {header}");

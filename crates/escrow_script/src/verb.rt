@@ -10,6 +10,7 @@ pub(crate) enum Verb {
     Commit,
     Abort,
     Read,
+    Share,
 }
 
 fn is_text(word: &[u8], text: &str) -> bool
@@ -33,6 +34,8 @@ pub(crate) fn verb_named(word: &[u8]) -> Option<Verb>
         Some(Verb::Abort)
     } else if is_text(word, "read") {
         Some(Verb::Read)
+    } else if is_text(word, "share") {
+        Some(Verb::Share)
     } else {
         None
     }

@@ -3,7 +3,7 @@ use Rattle.std.proofs.Common.{◌≡◌, ℕ, ◌+◌, ◌≤◌, Bool, true, fa
 use Rattle.std.proofs.lemmas.Bool.{cases_Bool, ltb-false, or_cases}
 use Rattle.field_bounds.specs.declared.id.TxnId.{TxnId}
 use Rattle.field_bounds.specs.declared.entry.Command.{Command}
-use Rattle.field_bounds.specs.declared.entry.Command.TheVariants.{Begin, Escrow, Commit, Abort, Read}
+use Rattle.field_bounds.specs.declared.entry.Command.TheVariants.{Begin, Escrow, Commit, Abort, Read, Share}
 use Rattle.field_bounds.specs.declared.entry.Reply.{Reply}
 use Rattle.field_bounds.specs.declared.entry.Reply.TheVariants.{Begun, Granted, Committed, Aborted, Refused}
 use Rattle.field_bounds.specs.declared.entry.Refusal.{Refusal}
@@ -90,6 +90,7 @@ module _ (schema : SchemaValue) (s : ℕ) (base : Base) (o : List Entry) where
   answer_is_lawful (Commit txn) h numbered l = (l, begun_and_open (is_begun txn es) (is_open txn es) (none_holds (refusals at (Commit txn)) h).0)
   answer_is_lawful (Abort txn) h numbered l = (l, begun_and_open (is_begun txn es) (is_open txn es) (none_holds (refusals at (Abort txn)) h).0)
   answer_is_lawful (Read field) h numbered l = l
+  answer_is_lawful (Share field) h numbered l = l
 
   answer_is_numbered : (c : Command) → IsNumbered epoch count es → IsNumbered epoch (count_since is_begun_reply (record { site = record { 0 = s }; command = c; reply = answer at c } ∷ o)) (after base false c (answer at c) es)
   answer_is_numbered Begin numbered = numbered_more epoch (count + 1) (1 + count) (after base false Begin (answer at Begin) es) (omega arith) (numbered_begin epoch count es numbered)
@@ -100,6 +101,7 @@ module _ (schema : SchemaValue) (s : ℕ) (base : Base) (o : List Entry) where
   answer_is_numbered (Abort txn) numbered =
       let was = numbered_more epoch count (0 + count) es (omega arith) numbered in record { epochs = was.epochs; numbers = was.numbers }
   answer_is_numbered (Read field) numbered = numbered_more epoch count (0 + count) es (omega arith) numbered
+  answer_is_numbered (Share field) numbered = numbered_more epoch count (0 + count) es (omega arith) numbered
 
   -- what a run leaves, after one more entry that fits
   pub record Stays (c : Command) (r : Reply) : Type 0 where

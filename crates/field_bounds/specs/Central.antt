@@ -3,6 +3,7 @@
 use Rattle.std.specs.Prelude.{◌≡◌, ℕ, ◌+◌, ◌<◌, ◌==◌, ℤ, pos, ◌+ℤ◌, ◌-ℤ◌, ◌≤ℤ◌, unsigned_abs, Bool, false, ◌&&◌, ◌||◌, if◌then◌else◌, List, [], ◌∷◌, length}
 use Rattle.field_bounds.specs.declared.kind.Kind.{Kind}
 use Rattle.field_bounds.specs.declared.kind.Kind.TheVariants.{Lower, Raise}
+use Rattle.field_bounds.specs.declared.id.SiteNo.{SiteNo}
 use Rattle.field_bounds.specs.declared.id.TxnId.{TxnId}
 use Rattle.field_bounds.specs.declared.entry.Command.{Command}
 use Rattle.field_bounds.specs.declared.entry.Command.TheVariants.{Escrow, Read}
@@ -27,6 +28,10 @@ own s (e ∷ t) = if e.site.0 == s then e ∷ own s t else own s t
 abbrev pub AreOf : ℕ → List Entry → Type 0
 AreOf s [] = Unit {0}
 AreOf s (e ∷ t) = (e.site.0 ≡ s) × AreOf s t
+
+-- What an entry was asked, and at which site (this project).
+abbrev pub asked_of : Entry → SiteNo × Command
+asked_of e = (e.site, e.command)
 
 -- What took effect at a site over the whole trace, on its fresh base (this project).
 abbrev pub at_site : SchemaValue → List Entry → ℕ → List Effect

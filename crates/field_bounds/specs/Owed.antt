@@ -5,9 +5,9 @@ use Rattle.field_bounds.specs.declared.kind.Kind.TheVariants.{Lower, Raise}
 use Rattle.field_bounds.specs.declared.id.TxnId.{TxnId}
 use Rattle.field_bounds.specs.declared.id.FieldNo.{FieldNo}
 use Rattle.field_bounds.specs.declared.entry.Command.{Command}
-use Rattle.field_bounds.specs.declared.entry.Command.TheVariants.{Begin, Escrow, Commit, Abort, Read}
+use Rattle.field_bounds.specs.declared.entry.Command.TheVariants.{Begin, Escrow, Commit, Abort, Read, Share}
 use Rattle.field_bounds.specs.declared.entry.Reply.{Reply}
-use Rattle.field_bounds.specs.declared.entry.Reply.TheVariants.{Begun, Granted, Committed, Aborted, Between, Refused}
+use Rattle.field_bounds.specs.declared.entry.Reply.TheVariants.{Begun, Granted, Committed, Aborted, Between, Shares, Refused}
 use Rattle.field_bounds.specs.declared.entry.Refusal.{Refusal}
 use Rattle.field_bounds.specs.declared.entry.Refusal.TheVariants.{NoField, NoTransaction, Zero, TooLarge, Short, TooManyOpen, TooManyEscrows, NumbersFull}
 use Rattle.field_bounds.specs.declared.entry.Entry.{Entry}
@@ -127,6 +127,7 @@ refusals at (Escrow txn field change) =
 refusals at (Commit txn) = no_transaction at txn ∷ []
 refusals at (Abort txn) = no_transaction at txn ∷ []
 refusals at (Read field) = no_field at field ∷ []
+refusals at (Share field) = no_field at field ∷ []
 
 -- ---- the answer where no refusal holds
 
@@ -136,20 +137,30 @@ abbrev pub interval_at : Place → FieldNo → ℤ × ℤ
 interval_at at field =
     ((field_at at.schema field.0).floor +ℤ pos (owned at field Lower), (field_at at.schema field.0).ceiling -ℤ pos (owned at field Raise))
 
+-- The free rights of a field, to lower and to raise it.
+abbrev pub shares_at : Place → FieldNo → ℕ × ℕ
+shares_at at field = (free at field Lower, free at field Raise)
+
 abbrev pub answer : Place → Command → Reply
 answer at Begin = Begun (record { epoch = epoch_of at.base at.entries; number = count_since is_begun_reply at.entries + 1 })
 answer at (Escrow txn field change) = Granted
 answer at (Commit txn) = Committed
 answer at (Abort txn) = Aborted
 answer at (Read field) = Between (interval_at at field).0 (interval_at at field).1
+answer at (Share field) = Shares (shares_at at field).0 (shares_at at field).1
 
 -- What a Read would answer, and none where it would be refused.
 abbrev pub interval_of : Place → FieldNo → Option (ℤ × ℤ)
 interval_of at field = if is_none (first (refusals at (Read field))) then Some (interval_at at field) else None
 
+-- What a Share would answer, and none where it would be refused.
+abbrev pub shares_of : Place → FieldNo → Option (ℕ × ℕ)
+shares_of at field = if is_none (first (refusals at (Share field))) then Some (shares_at at field) else None
+
 -- A reply that touches neither rights nor transactions.
 abbrev pub is_quiet : Reply → Bool
 is_quiet (Between lo hi) = true
+is_quiet (Shares lower raise) = true
 is_quiet (Refused refusal) = true
 is_quiet reply = false
 

@@ -1,23 +1,27 @@
--- Worked rows: what one site was asked and the replies that it owed, in the order in which they came (this project).
+-- Worked rows: what sites were asked and the replies that they owed, in the order in which they came (this project).
 use Rattle.std.specs.Prelude.{ℕ, zero, suc, ℤ, pos, neg_ℤ, List, [], ◌∷◌, ◌++◌, reverse, replicate, codes}
 use Rattle.field_bounds.specs.declared.id.TxnId.{TxnId}
 use Rattle.field_bounds.specs.declared.id.FieldNo.{FieldNo}
 use Rattle.field_bounds.specs.declared.entry.Command.{Command}
-use Rattle.field_bounds.specs.declared.entry.Command.TheVariants.{Begin, Escrow, Commit, Abort, Read}
+use Rattle.field_bounds.specs.declared.entry.Command.TheVariants.{Begin, Escrow, Commit, Abort, Read, Share}
 use Rattle.field_bounds.specs.declared.entry.Reply.{Reply}
-use Rattle.field_bounds.specs.declared.entry.Reply.TheVariants.{Begun, Granted, Committed, Aborted, Between, Refused}
+use Rattle.field_bounds.specs.declared.entry.Reply.TheVariants.{Begun, Granted, Committed, Aborted, Between, Shares, Refused}
 use Rattle.field_bounds.specs.declared.entry.Refusal.TheVariants.{NoField, NoTransaction, Zero, TooLarge, Short, TooManyOpen, TooManyEscrows}
 use Rattle.field_bounds.specs.declared.entry.Entry.{Entry}
 use Rattle.field_bounds.specs.Schema.{SchemaValue}
 use Rattle.field_bounds.specs.Effects.{fresh}
 use Rattle.field_bounds.specs.Owed.{place, Fits, IsRun}
 
--- ---- schemas of one site, which has all rights
+-- ---- schemas
 
--- A schema of one site and one field, named stock.
+-- A schema of so many sites and one field, named stock.
+abbrev pub divided : ℕ → ℤ → ℤ → ℤ → SchemaValue
+divided sites floor ceiling value =
+    record { sites = sites; fields = record { name = codes "stock"; floor = floor; ceiling = ceiling; value = value } ∷ [] }
+
+-- A schema of one site, which has all rights.
 abbrev pub alone : ℤ → ℤ → ℤ → SchemaValue
-alone floor ceiling value =
-    record { sites = 1; fields = record { name = codes "stock"; floor = floor; ceiling = ceiling; value = value } ∷ [] }
+alone floor ceiling value = divided 1 floor ceiling value
 
 -- From 0 to 100, at 40.
 abbrev pub shelf : SchemaValue
@@ -31,15 +35,38 @@ fixed = alone (pos 7) (pos 7) (pos 7)
 abbrev pub widest : SchemaValue
 widest = alone (neg_ℤ (pos 1_000_000_000_000_000)) (pos 1_000_000_000_000_000) (pos 1_000_000_000_000_000)
 
+-- Two sites, and a field from 0 to 100 at 40: each site has 20 rights to lower it and 30 to raise it.
+abbrev pub halved : SchemaValue
+halved = divided 2 (pos 0) (pos 100) (pos 40)
+
+-- The same at 41, where one right of each kind is left over.
+abbrev pub uneven : SchemaValue
+uneven = divided 2 (pos 0) (pos 100) (pos 41)
+
+-- One site and two fields, each from 0 to 10, at 5.
+abbrev pub twins : SchemaValue
+twins =
+    record {
+      sites = 1;
+      fields =
+          record { name = codes "a"; floor = pos 0; ceiling = pos 10; value = pos 5 }
+          ∷ record { name = codes "b"; floor = pos 0; ceiling = pos 10; value = pos 5 }
+          ∷ [];
+    }
+
 -- ---- how a row is written
 
--- The field of the schema.
+-- The first field of a schema.
 abbrev pub stock : FieldNo
 stock = record { 0 = 0 }
 
--- A field that isn't in the schema.
+-- A field that isn't in the schemas of one field.
 abbrev pub unknown : FieldNo
 unknown = record { 0 = 1 }
+
+-- The second field of `twins`.
+abbrev pub second : FieldNo
+second = record { 0 = 1 }
 
 -- The transaction of a number, in the first epoch.
 abbrev pub txn : ℕ → TxnId
@@ -53,9 +80,13 @@ lower_by n change = Escrow (txn n) stock (neg_ℤ (pos change))
 abbrev pub raise_by : ℕ → ℕ → Command
 raise_by n change = Escrow (txn n) stock (pos change)
 
+-- An entry of a site.
+abbrev pub asked_at : ℕ → Command → Reply → Entry
+asked_at s command reply = record { site = record { 0 = s }; command = command; reply = reply }
+
 -- An entry of site 0.
 abbrev pub asked : Command → Reply → Entry
-asked command reply = record { site = record { 0 = 0 }; command = command; reply = reply }
+asked command reply = asked_at 0 command reply
 
 -- The field was read to be exactly this.
 abbrev pub read_as : ℤ → Entry
@@ -124,6 +155,7 @@ given_back =
     ∷ asked (raise_by 2 0) (Refused Zero)
     ∷ asked (Commit (txn 7)) (Refused NoTransaction)
     ∷ asked (Read unknown) (Refused NoField)
+    ∷ asked (Share unknown) (Refused NoField)
     ∷ []
 
 -- A transaction has sixteen escrows; one more is refused, and as short where the share is less.
@@ -143,3 +175,65 @@ begins (suc n) = begins n ++ asked Begin (Begun (txn (suc n))) ∷ []
 -- 64 transactions are open; one more is refused.
 abbrev pub crowded : List Entry
 crowded = begins 64 ++ asked Begin (Refused TooManyOpen) ∷ []
+
+-- ---- rows of site 0 of two
+
+-- A site lowers by all that it may, 20 of the 40, and what it spent turns into rights to raise.
+abbrev pub half_lowered : List Entry
+half_lowered =
+    asked Begin (Begun (txn 1))
+    ∷ asked (lower_by 1 20) Granted
+    ∷ asked (Read stock) (Between (pos 20) (pos 70))
+    ∷ asked (Commit (txn 1)) Committed
+    ∷ asked (Share stock) (Shares 0 50)
+    ∷ asked (Read stock) (Between (pos 0) (pos 50))
+    ∷ []
+
+-- 21 are more than the site's share, though the field stands at 40.
+abbrev pub half_short : List Entry
+half_short =
+    asked Begin (Begun (txn 1))
+    ∷ asked (lower_by 1 21) (Refused (Short 20))
+    ∷ []
+
+-- One transaction raises by 5 and lowers by 3.
+abbrev pub half_both : List Entry
+half_both =
+    asked Begin (Begun (txn 1))
+    ∷ asked (raise_by 1 5) Granted
+    ∷ asked (lower_by 1 3) Granted
+    ∷ asked (Commit (txn 1)) Committed
+    ∷ asked (Share stock) (Shares 22 28)
+    ∷ asked (Read stock) (Between (pos 22) (pos 72))
+    ∷ []
+
+-- ---- a row of two fields
+
+-- The first field is lowered to its floor; the second is raised and lowered by as much.
+abbrev pub two_fields : List Entry
+two_fields =
+    asked Begin (Begun (txn 1))
+    ∷ asked (lower_by 1 5) Granted
+    ∷ asked (Escrow (txn 1) second (pos 5)) Granted
+    ∷ asked (Escrow (txn 1) second (neg_ℤ (pos 5))) Granted
+    ∷ asked (Commit (txn 1)) Committed
+    ∷ asked (Share stock) (Shares 0 10)
+    ∷ asked (Share second) (Shares 5 5)
+    ∷ []
+
+-- ---- a row of two sites
+
+-- Site 0 lowers by its 20 and site 1 raises by its 30, in turns. Each numbers its own transactions, and reads from its
+-- own rights alone.
+abbrev pub in_turns : List Entry
+in_turns =
+    asked_at 0 Begin (Begun (txn 1))
+    ∷ asked_at 1 Begin (Begun (txn 1))
+    ∷ asked_at 0 (lower_by 1 20) Granted
+    ∷ asked_at 1 (raise_by 1 30) Granted
+    ∷ asked_at 0 (Commit (txn 1)) Committed
+    ∷ asked_at 1 (Read stock) (Between (pos 20) (pos 70))
+    ∷ asked_at 1 (Commit (txn 1)) Committed
+    ∷ asked_at 0 (Share stock) (Shares 0 50)
+    ∷ asked_at 1 (Share stock) (Shares 50 0)
+    ∷ []

@@ -35,6 +35,10 @@ pub enum Command {
     Read {
         field: FieldNo,
     },
+    /// Asks how many rights of each kind the site has free on the field.
+    Share {
+        field: FieldNo,
+    },
 }
 
 /// Why a site refuses a command. The numbers in the texts of programs are the wire's, and leave
@@ -68,6 +72,9 @@ pub enum Reply {
     Aborted,
     /// The committed value lies between these two, both included.
     Between { lo: i64, hi: i64 },
+    /// The free rights of the site on the field, to lower and to raise it: in rights, each 0 to
+    /// 2,000,000,000,000,000.
+    Shares { lower: u64, raise: u64 },
     Refused(Refusal),
 }
 

@@ -1,15 +1,17 @@
 //! Laws of the definitions, each as the contract of a function that does nothing.
 
-ghost use Rattle.std.specs.Prelude.{ℕ, ◌≤◌, ◌≤ℤ◌, List, Bool};
+ghost use Rattle.std.specs.Prelude.{◌≡◌, ℕ, ◌≤◌, ◌≤ℤ◌, List, Bool, map};
 ghost use Rattle.field_bounds.specs.declared.id.TxnId.{TxnId};
 ghost use Rattle.field_bounds.specs.declared.kind.Kind.{Kind};
+ghost use Rattle.field_bounds.specs.declared.entry.Command.{Command};
+ghost use Rattle.field_bounds.specs.declared.entry.Reply.{Reply};
 ghost use Rattle.field_bounds.specs.declared.entry.Entry.{Entry};
 ghost use Rattle.field_bounds.specs.Schema.{SchemaValue};
 ghost use Rattle.field_bounds.specs.Limits.{IsSchema};
 ghost use Rattle.field_bounds.specs.Parts.{field_at};
 ghost use Rattle.field_bounds.specs.Effects.{Base, effects, rights_in, rights_out};
-ghost use Rattle.field_bounds.specs.Owed.{IsRun};
-ghost use Rattle.field_bounds.specs.Central.{inf, sup, outcome, IsCentral, IsSound, IsConservedThroughout};
+ghost use Rattle.field_bounds.specs.Owed.{Place, Fits, IsRun};
+ghost use Rattle.field_bounds.specs.Central.{AreOf, asked_of, inf, sup, outcome, IsCentral, IsSound, IsConservedThroughout};
 
 /// At a site whose replies are all owed, the rights that went out never exceed those that came in:
 /// the share, which is their difference, is never cut off at 0.
@@ -17,6 +19,22 @@ pub fn share_is_exact()
     ensures covered { (schema : SchemaValue) (s : ℕ) (base : Base) (o : List Entry) (kept : Bool) →
         IsRun schema s base o → (f : ℕ) (k : Kind) →
         rights_out f k (effects base kept o) ≤ rights_in base f k (effects base kept o) }
+{}
+
+/// A list of commands has exactly one list of owed replies: a command is owed one reply where its
+/// site stands (`only`), a site's history is told by its commands alone (`history`), and a sound
+/// trace by its commands with their sites (`trace`).
+///
+/// Source: this project.
+pub fn one_reply()
+    ensures only { (at : Place) (command : Command) (reply other : Reply) →
+        Fits at command reply → Fits at command other → reply ≡ other }
+    ensures history { (schema : SchemaValue) (s : ℕ) (base : Base) (o p : List Entry) →
+        IsRun schema s base o → IsRun schema s base p → AreOf s o → AreOf s p →
+        map (λ e. e.command) o ≡ map (λ e. e.command) p → o ≡ p }
+    ensures trace { (schema : SchemaValue) (t u : List Entry) →
+        IsSound schema t → IsSound schema u →
+        map asked_of t ≡ map asked_of u → t ≡ u }
 {}
 
 /// Every sound trace is a run of one central store. If each site gave the replies that it owes

@@ -19,10 +19,10 @@ pub use fault::SchemaFault;
 pub use field::FieldSpec;
 pub use id::{FieldNo, SiteNo, TxnId};
 pub use kind::Kind;
-pub use laws::{one_central_store, outcomes_lie_between, share_is_exact};
+pub use laws::{one_central_store, one_reply, outcomes_lie_between, share_is_exact};
 pub use limits::{MAX_CHANGE, MAX_ESCROWS, MAX_HEADER, MAX_NUMBER, MAX_OPEN};
 pub use schema::Schema;
-pub use worked::{worked_runs, worked_values, wrong_replies};
+pub use worked::{worked_runs, worked_sites, worked_values, wrong_replies, wrong_shares};
 
 #[cfg(test)]
 mod tests;

@@ -161,6 +161,8 @@ fn equality(rt: HostRuntime) {
         Command::Abort { txn },
         Command::Read { field },
         Command::Read { field: FieldNo(1) },
+        Command::Share { field },
+        Command::Share { field: FieldNo(1) },
     ];
     assert_differ(&rt, &commands);
     let replies = [
@@ -170,6 +172,8 @@ fn equality(rt: HostRuntime) {
         Reply::Committed,
         Reply::Aborted,
         Reply::Between { lo: 0, hi: 1 },
+        Reply::Shares { lower: 0, raise: 1 },
+        Reply::Shares { lower: 1, raise: 0 },
         Reply::Refused(Refusal::Zero),
         Reply::Refused(Refusal::Short { share: 1 }),
         Reply::Refused(Refusal::Short { share: 2 }),

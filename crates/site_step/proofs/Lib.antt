@@ -1,4 +1,2 @@
-pub mod JournalLaws
-pub mod Lists
 pub mod Matching
 pub mod Standing

@@ -18,9 +18,9 @@ use Rattle.site_rights.specs.declared.field_rights.Outcome.{Outcome}
 use Rattle.site_rights.specs.declared.field_rights.Outcome.TheVariants.{Committed, Aborted}
 use Rattle.site_rights.specs.Rights.{taken, ending, by_escrow, by_escrows, AreInRange, AreHeld}
 use Rattle.site_rights.proofs.RightsLaws.{frees, length-by_escrow, length-by_escrows, free_at-taken, held_at-taken, free_at-by_escrows, held_at-by_escrows}
-use Rattle.site_step.specs.Journal.{Row, stands, escrows_at, with_escrow, added, without}
+use Rattle.escrow_journal.specs.Journal.{Row, stands, escrows_at, with_escrow, added, without}
 use Rattle.site_step.specs.State.{row_of, journal_of, Matches}
-use Rattle.site_step.proofs.Lists.{reverse-cons, list_any-reverse, sum_by-reverse, filter-reverse, All-reverse, list_any-map, map-agree, map-map, filter-agree, filter-and, filter-map}
+use Rattle.escrow_journal.proofs.Lists.{reverse-cons, list_any-reverse, sum_by-reverse, filter-reverse, All-reverse, list_any-map, map-agree, map-map, filter-agree, filter-and, filter-map}
 
 -- ---- what is read of the journal
 

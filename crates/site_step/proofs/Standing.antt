@@ -2,7 +2,7 @@
 use Rattle.std.proofs.Common.{◌≡◌, ℕ, ◌+◌, ◌<◌, ◌≤◌, Bool, true, false, ◌&&◌, List, [], ◌∷◌, ◌++◌, length, reverse, refl, sym, ap, subst, ◌∙◌, arith, Some, None}
 use Rattle.std.specs.Prelude.{unsigned_abs, IsOk, OnOk, Result, Ok, Err}
 use Rattle.std.proofs.lemmas.Bool.{ltb-false}
-use Rattle.std.proofs.lemmas.List.{reverse-append}
+use Rattle.std.proofs.lemmas.List.{reverse-append, length-reverse}
 use Rattle.field_bounds.specs.declared.id.SiteNo.{SiteNo}
 use Rattle.field_bounds.specs.declared.id.TxnId.{TxnId}
 use Rattle.field_bounds.specs.declared.entry.Escrow.{Escrow}
@@ -10,22 +10,22 @@ use Rattle.field_bounds.specs.declared.entry.Entry.{Entry}
 use Rattle.field_bounds.specs.declared.entry.Command.{Command}
 use Rattle.field_bounds.specs.declared.entry.Command.TheVariants.{Begin, Escrow as Ask, Commit, Abort}
 use Rattle.field_bounds.specs.declared.entry.Reply.{Reply}
-use Rattle.field_bounds.specs.declared.entry.Reply.TheVariants.{Begun, Granted, Committed as SaysCommitted, Aborted as SaysAborted, Between, Refused}
+use Rattle.field_bounds.specs.declared.entry.Reply.TheVariants.{Begun, Granted, Committed as SaysCommitted, Aborted as SaysAborted, Between, Shares, Refused}
 use Rattle.field_bounds.specs.declared.entry.Refusal.{Refusal}
 use Rattle.field_bounds.specs.Kind.{kind_of}
 use Rattle.field_bounds.specs.Schema.{SchemaValue}
 use Rattle.field_bounds.specs.Effects.{Base, Effect, fresh, after, effects, is_begun, is_open, escrows_of}
-use Rattle.field_bounds.specs.Owed.{Place, place, refusals, first, answer, epoch_of, count_since, is_begun_reply, is_quiet, Fits}
+use Rattle.field_bounds.specs.Owed.{Place, place, refusals, first, answer, epoch_of, count_since, is_begun_reply, is_quiet, Fits, max_open, max_escrows}
 use Rattle.field_bounds.proofs.Refused.{none_holds, begun_and_open, is_below}
 use Rattle.field_bounds.proofs.Runs.{Ran, run_leaves, next_is_new}
 use Rattle.site_rights.specs.declared.field_rights.FieldRights.{FieldRights}
 use Rattle.site_rights.specs.declared.field_rights.Outcome.{Outcome}
 use Rattle.site_rights.specs.declared.field_rights.Outcome.TheVariants.{Committed, Aborted}
 use Rattle.site_rights.specs.Rights.{free_at, taken, ending, by_escrow, by_escrows, AreInRange, AreHeld, AreFresh}
-use Rattle.site_step.specs.Journal.{Row, stands, escrows_at, added, without}
+use Rattle.escrow_journal.specs.Journal.{Row, stands, escrows_at, added, without}
 use Rattle.site_step.specs.Site.{end_command, end_reply}
 use Rattle.site_step.specs.State.{Matches, StandsOn}
-use Rattle.site_step.proofs.Matching.{ended, matches_begin, matches_grant, matches_end, are_in_range, are_held, stands-journal_of, escrows_at-journal_of}
+use Rattle.site_step.proofs.Matching.{ended, matches_begin, matches_grant, matches_end, are_in_range, are_held, length-journal_of, stands-journal_of, escrows_at-journal_of}
 
 -- a reply that is owed
 pub answer_fits : (at : Place) (c : Command) (r : Reply) → first (refusals at c) ≡ None → r ≡ answer at c → Fits at c r
@@ -40,6 +40,7 @@ quiet_has_no_effect base kept (Ask txn field change) Granted es h = cc
 quiet_has_no_effect base kept (Commit txn) SaysCommitted es h = cc
 quiet_has_no_effect base kept (Abort txn) SaysAborted es h = cc
 quiet_has_no_effect base kept c (Between lo hi) es h = (refl, refl)
+quiet_has_no_effect base kept c (Shares lower raise) es h = (refl, refl)
 quiet_has_no_effect base kept c (Refused refusal) es h = (refl, refl)
 quiet_has_no_effect base kept c r es h = cc
 
@@ -118,6 +119,11 @@ module _ (schema : SchemaValue) (s : ℕ) (o : List Entry) (rows : List FieldRig
         last = omega (arith, was.last);
       }
 
+  -- what the ladder tells of a begin that isn't refused
+  pub room_by : first (refusals at Begin) ≡ None → length journal < max_open
+  room_by none =
+      omega (arith, ap length was.matches.journal, length-journal_of es, is_below _ _ (none_holds (refusals at Begin) none).0)
+
   -- what the ladder tells of an escrow that isn't refused
   pub opened_by : (txn : TxnId) (e : Escrow) → first (refusals at (Ask txn e.field e.change)) ≡ None → (is_begun txn es ≡ true) × (is_open txn es ≡ true)
   opened_by txn e none = begun_and_open (is_begun txn es) (is_open txn es) (none_holds (refusals at (Ask txn e.field e.change)) none).1.0
@@ -134,6 +140,13 @@ module _ (schema : SchemaValue) (s : ℕ) (o : List Entry) (rows : List FieldRig
 
   pub stands_open : (txn : TxnId) → (is_begun txn es ≡ true) × (is_open txn es ≡ true) → stands txn journal ≡ true
   stands_open txn both = ap (stands txn) was.matches.journal ∙ stands-journal_of txn es ∙ both_true (is_begun txn es) (is_open txn es) both.0 both.1
+
+  pub few_by : (txn : TxnId) (e : Escrow) → first (refusals at (Ask txn e.field e.change)) ≡ None → length (escrows_at txn journal) < max_escrows
+  few_by txn e none =
+      let both = opened_by txn e none in
+      let same : escrows_at txn journal ≡ reverse (escrows_of txn es) =
+      ap (escrows_at txn) was.matches.journal ∙ escrows_at-journal_of txn es (both_true (is_begun txn es) (is_open txn es) both.0 both.1) in
+      omega (arith, ap length same, length-reverse (escrows_of txn es), is_below _ _ (none_holds (refusals at (Ask txn e.field e.change)) none).1.1.1.1.1.0)
 
   pub stands_grant : (n : SiteNo) (txn : TxnId) (e : Escrow) → e.field.0 < length rows → first (refusals at (Ask txn e.field e.change)) ≡ None
       → StandsOn schema s (record { site = n; command = Ask txn e.field e.change; reply = Granted } ∷ o) (by_escrow taken rows e) (added txn e journal) number

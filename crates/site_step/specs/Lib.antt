@@ -1,3 +1,2 @@
-pub mod Journal
 pub mod Site
 pub mod State

@@ -8,7 +8,7 @@ use Rattle.field_bounds.specs.Effects.{Effect, fresh, open_txns, escrows_of, sha
 use Rattle.field_bounds.specs.Owed.{count_since, is_begun_reply, IsRun}
 use Rattle.site_rights.specs.declared.field_rights.FieldRights.{FieldRights}
 use Rattle.site_rights.specs.Rights.{free_at, held_at}
-use Rattle.site_step.specs.Journal.{Row}
+use Rattle.escrow_journal.specs.Journal.{Row}
 
 -- A transaction with its escrows in order of grant.
 abbrev pub row_of : List Effect → TxnId → Row

@@ -1,7 +1,6 @@
 //! One site: it decides each command alone, by the rights that it holds, and keeps what it answered.
 #![tactic(auto)]
 
-mod journal;
 mod site;
 
 pub use site::Site;

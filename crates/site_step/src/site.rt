@@ -2,10 +2,12 @@
 
 ghost use Rattle.std.specs.Prelude.{◌≡◌, ◌&&◌, ◌<◌, ◌≤◌, nat_lt, ◌∷◌, true, None, Some, [], length, reverse, OnOk, OnErr, IfOk, pos, neg_ℤ, ◌+ℤ◌, ◌-ℤ◌, ◌≤ℤ◌};
 ghost use Rattle.field_bounds.specs.Effects.{is_begun, is_open};
-ghost use Rattle.field_bounds.specs.Owed.{count_open, count_escrows, count_since, is_begun_reply, free, owned, no_transaction, interval_at, interval_of, is_quiet, first, refusals, Fits, IsRun};
+ghost use Rattle.field_bounds.specs.Owed.{count_open, count_escrows, count_since, is_begun_reply, free, owned, no_field, no_transaction, interval_at, interval_of, shares_of, is_quiet, first, refusals, Fits, IsRun};
+ghost use Rattle.site_rights.specs.Rights.{ending, by_escrows, AreInRange, AreHeld};
+ghost use Rattle.escrow_journal.specs.Journal.{stands, escrows_at, without};
 ghost use Rattle.site_step.specs.Site.{here, base_of, end_command, end_reply, Applies};
 
-use crate::journal::Journal;
+use escrow_journal::Journal;
 use field_bounds::{
     Command, Entry, Escrow, FieldNo, Kind, MAX_CHANGE, MAX_ESCROWS, MAX_NUMBER, MAX_OPEN, Refusal,
     Reply, Schema, SiteNo, TxnId, by_command, refuse_first,
@@ -76,6 +78,19 @@ fn end_reply(outcome: Outcome) -> Reply
     }
 }
 
+/// Takes an open transaction out of the journal and ends its escrows.
+fn close(journal: &mut Journal, rights: &mut Rights, txn: TxnId, outcome: Outcome)
+    requires open { stands txn journal.old ≡ true }
+    requires in_schema { AreInRange rights.old (escrows_at txn journal.old) }
+    requires there { AreHeld rights.old (escrows_at txn journal.old) }
+    ensures journal { journal.new ≡ without txn journal.old }
+    ensures rights { rights.new ≡ by_escrows (ending outcome) rights.old (escrows_at txn journal.old) }
+{
+    if let Some(escrows) = journal.take_out(txn) {
+        rights.end(&escrows, outcome);
+    }
+}
+
 impl Site {
     /// A site that has answered nothing: its parts are its free rights, and no transaction is open.
     /// The error is want of memory. Costs one row for each field.
@@ -122,6 +137,18 @@ impl Site {
         Some(self.bounds_known(field))
     }
 
+    /// The site's free rights on the field, to lower and to raise it, in rights: what a Share
+    /// answers, and None where a Share is refused, which is where the field isn't in the schema.
+    /// Costs no memory.
+    pub fn share(&self, field: FieldNo) -> Option<(u64, u64)>
+        ensures value { result ≡ shares_of (here self.now) field }
+    {
+        if !self.has(field) {
+            return None;
+        }
+        Some((self.free(field, Kind::Lower), self.free(field, Kind::Raise)))
+    }
+
     /// Answers a command and adds the entry to the history. The reply is the one that the site owes
     /// after its own entries. A refusal changes nothing but the history; after want of memory
     /// nothing has changed.
@@ -142,6 +169,7 @@ impl Site {
             Commit { txn } => self.end(txn, Outcome::Committed),
             Abort { txn } => self.end(txn, Outcome::Aborted),
             Read { field } => self.read(field),
+            Share { field } => self.tell_shares(field),
         }
     }
 
@@ -167,7 +195,10 @@ impl Site {
         requires { (is_begun txn (here self.now).effects && is_open txn (here self.now).effects) ≡ true }
         ensures { result ≡ count_escrows txn (here self.now).effects }
     {
-        self.journal.escrow_count(txn)
+        match self.journal.escrows(txn) {
+            Some(escrows) => escrows.len(),
+            None => 0,
+        }
     }
 
     fn begun_count(&self) -> u32
@@ -176,7 +207,7 @@ impl Site {
         self.last
     }
 
-    fn share(&self, field: FieldNo, kind: Kind) -> u64
+    fn free(&self, field: FieldNo, kind: Kind) -> u64
         requires { field.0 < length self.now.schema.fields }
         ensures value { result ≡ free (here self.now) field kind }
         ensures most { result ≤ 2_000_000_000_000_000 }
@@ -201,7 +232,8 @@ impl Site {
             Escrow { txn, field, change } => self.escrow_refusal(txn, field, change),
             Commit { txn } => self.end_refusal(txn),
             Abort { txn } => self.end_refusal(txn),
-            Read { field } => self.read_refusal(field),
+            Read { field } => self.field_refusal(field),
+            Share { field } => self.field_refusal(field),
         }
     }
 
@@ -224,7 +256,7 @@ impl Site {
             !self.is_open(txn) => Refusal::NoTransaction,
             amount == 0 => Refusal::Zero,
             amount > MAX_CHANGE => Refusal::TooLarge,
-            self.share(field, kind) < amount => Refusal::Short { share: self.share(field, kind) },
+            self.free(field, kind) < amount => Refusal::Short { share: self.free(field, kind) },
             self.escrow_count(txn) >= MAX_ESCROWS => Refusal::TooManyEscrows,
         }
     }
@@ -237,8 +269,8 @@ impl Site {
         }
     }
 
-    fn read_refusal(&self, field: FieldNo) -> Option<Refusal>
-        ensures { result ≡ first (refusals (here self.now) (Command.Read field)) }
+    fn field_refusal(&self, field: FieldNo) -> Option<Refusal>
+        ensures { result ≡ first (no_field (here self.now) field ∷ []) }
     {
         refuse_first! {
             !self.has(field) => Refusal::NoField,
@@ -267,6 +299,16 @@ impl Site {
     {
         let (lo, hi) = self.bounds_known(field);
         self.note(Command::Read { field }, Reply::Between { lo, hi })
+    }
+
+    fn tell_shares(&mut self, field: FieldNo) -> Result<Reply, AllocError>
+        requires unrefused { first (refusals (here self.old) (Command.Share field)) ≡ None }
+        ensures ok { IfOk result (λ reply. Applies self.old (Command.Share field) reply self.new) }
+        ensures err { OnErr result (self.new ≡ self.old) }
+    {
+        let lower = self.free(field, Kind::Lower);
+        let raise = self.free(field, Kind::Raise);
+        self.note(Command::Share { field }, Reply::Shares { lower, raise })
     }
 
     /// The floor raised by the lowering rights that are left, and the ceiling lowered by the raising
@@ -332,9 +374,7 @@ impl Site {
         ensures err { OnErr result (self.new ≡ self.old) }
     {
         self.history.reserve(1)?;
-        if let Some(escrows) = self.journal.take_out(txn) {
-            self.rights.end(&escrows, outcome);
-        }
+        close(&mut self.journal, &mut self.rights, txn, outcome);
         let reply = end_reply(outcome);
         self.history.push(Entry {
             site: self.number,

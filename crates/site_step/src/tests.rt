@@ -52,6 +52,8 @@ fn each_call(rt: HostRuntime) -> Result<(), Fail> {
     let commit = Command::Commit { txn: FIRST };
     assert_eq!(rt; answer(alloc, &mut site, commit), Some(Reply::Committed));
     assert_eq!(rt; site.interval(STOCK), Some((0, 50)));
+    assert_eq!(rt; site.share(STOCK), Some((0, 50)));
+    assert_eq!(rt; site.share(FieldNo(1)), None);
     assert_eq!(rt; site.interval(FieldNo(1)), None);
     assert_eq!(rt; site.site(), SiteNo(1));
     assert_eq!(rt; site.history().len(), 4);

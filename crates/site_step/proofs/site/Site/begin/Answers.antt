@@ -5,12 +5,18 @@ use Rattle.field_bounds.specs.declared.entry.Command.TheVariants.{Begin}
 use Rattle.field_bounds.specs.declared.entry.Reply.TheVariants.{Begun}
 use Rattle.field_bounds.specs.Owed.{first, refusals, Fits}
 use Rattle.site_step.specs.Site.{SiteValue, here, with_entry}
-use Rattle.site_step.proofs.Standing.{answer_fits, stands_moved, history_grows, next_is, next_is_closed, stands_begin}
+use Rattle.site_step.proofs.Standing.{answer_fits, stands_moved, history_grows, next_is, next_is_closed, room_by, stands_begin}
 use Rattle.site_step.proofs.site.Site.begin.Goals as goal
 
-pub begin-requires : goal.begin-requires
-begin-requires c =
+pub begin-requires-clause-closed : goal.begin-requires-clause-closed
+begin-requires-clause-closed c =
     let i = c.self.inside in next_is_closed i.schema i.number.0 (reverse i.history.items) i.rights i.journal i.last c.self.invariant
+
+pub begin-requires-clause-room : goal.begin-requires-clause-room
+begin-requires-clause-room c =
+    let i = c.self.inside in
+    let unrefused = subst (λ (v : SiteValue). first (refusals (here v) Begin) ≡ None) (sym c.self.view_is) c.requires.unrefused in
+    room_by i.schema i.number.0 (reverse i.history.items) i.rights i.journal i.last c.self.invariant unrefused
 
 pub invariant_of-self-2 : goal.invariant_of-self-2
 invariant_of-self-2 c =

@@ -7,19 +7,26 @@ use Rattle.field_bounds.specs.declared.entry.Reply.TheVariants.{Granted}
 use Rattle.field_bounds.specs.Kind.{kind_of}
 use Rattle.field_bounds.specs.Owed.{first, refusals}
 use Rattle.site_rights.specs.Rights.{free_at, by_escrow, taken}
-use Rattle.site_step.specs.Journal.{added}
+use Rattle.escrow_journal.specs.Journal.{added}
 use Rattle.site_step.specs.Site.{SiteValue, here, with_entry}
-use Rattle.site_step.proofs.Standing.{answer_fits, stands_moved, history_grows, opened_by, stands_open, in_range_by, enough_by, ok_gives, stands_grant}
+use Rattle.site_step.proofs.Standing.{answer_fits, stands_moved, history_grows, opened_by, stands_open, few_by, in_range_by, enough_by, ok_gives, stands_grant}
 use Rattle.site_step.proofs.site.Site.grant.Goals as goal
 
-pub add-requires : goal.add-requires
-add-requires c =
+pub add-requires-clause-open : goal.add-requires-clause-open
+add-requires-clause-open c =
     let i = c.self.inside in
     let o = reverse i.history.items in
     let e = c.args.escrow in
     let unrefused = subst (λ (v : SiteValue). first (refusals (here v) (Ask c.args.txn e.field e.change)) ≡ None) (sym c.self.view_is) c.requires.unrefused in
     stands_open i.schema i.number.0 o i.rights i.journal i.last c.self.invariant c.args.txn
     (opened_by i.schema i.number.0 o i.rights i.journal i.last c.self.invariant c.args.txn e unrefused)
+
+pub add-requires-clause-room : goal.add-requires-clause-room
+add-requires-clause-room c =
+    let i = c.self.inside in
+    let e = c.args.escrow in
+    let unrefused = subst (λ (v : SiteValue). first (refusals (here v) (Ask c.args.txn e.field e.change)) ≡ None) (sym c.self.view_is) c.requires.unrefused in
+    few_by i.schema i.number.0 (reverse i.history.items) i.rights i.journal i.last c.self.invariant c.args.txn e unrefused
 
 pub invariant_of-self-2 : goal.invariant_of-self-2
 invariant_of-self-2 c =

@@ -1,0 +1,71 @@
+use super::*;
+use field_bounds::{Escrow, FieldNo, TxnId};
+use std::alloc::Global;
+
+const FIRST: TxnId = TxnId {
+    epoch: 0,
+    number: 1,
+};
+
+const SECOND: TxnId = TxnId {
+    epoch: 0,
+    number: 2,
+};
+
+const LOWER: Escrow = Escrow {
+    field: FieldNo(0),
+    change: -20,
+};
+
+const RAISE: Escrow = Escrow {
+    field: FieldNo(3),
+    change: 7,
+};
+
+/// The transaction begun, or None where memory was refused or it can't be.
+fn begun(alloc: Global, journal: &mut Journal, txn: TxnId) -> Option<()> {
+    if journal.is_open(txn) || journal.count() >= 64 {
+        return None;
+    }
+    journal.begin(alloc, txn).ok()
+}
+
+/// The escrow added, or None where memory was refused or it can't be.
+fn added(journal: &mut Journal, txn: TxnId, escrow: Escrow) -> Option<()> {
+    if journal.escrows(txn)?.len() >= 16 {
+        return None;
+    }
+    journal.add(txn, escrow).ok()
+}
+
+/// Two transactions opened, the first with an escrow that lowers and one that raises.
+fn two_open(alloc: Global, journal: &mut Journal) -> Option<()> {
+    begun(alloc, journal, FIRST)?;
+    begun(alloc, journal, SECOND)?;
+    added(journal, FIRST, LOWER)?;
+    added(journal, FIRST, RAISE)
+}
+
+/// The escrow of a transaction at a place, or None where there is none.
+fn escrow_at(journal: &Journal, txn: TxnId, at: usize) -> Option<Escrow> {
+    journal.escrows(txn)?.get(at).copied()
+}
+
+/// The newest escrow of a transaction that is taken out, or None where there is none.
+fn newest_taken(journal: &mut Journal, txn: TxnId) -> Option<Escrow> {
+    journal.take_out(txn)?.pop()
+}
+
+#[test]
+fn each_call(rt: HostRuntime) {
+    let mut journal = Journal::new(rt.alloc());
+    assert_eq!(rt; two_open(rt.alloc(), &mut journal), Some(()));
+    assert_eq!(rt; journal.count(), 2);
+    assert_eq!(rt; escrow_at(&journal, FIRST, 0), Some(LOWER));
+    assert_eq!(rt; escrow_at(&journal, FIRST, 1), Some(RAISE));
+    assert_eq!(rt; escrow_at(&journal, SECOND, 0), None);
+    assert_eq!(rt; newest_taken(&mut journal, FIRST), Some(RAISE));
+    assert!(rt; !journal.is_open(FIRST) && journal.is_open(SECOND));
+    journal.clear();
+    assert_eq!(rt; journal.count(), 0);
+}
