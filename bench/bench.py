@@ -1,5 +1,5 @@
 #!/usr/bin/env python3
-"""Measures `escrow run` on a long script, beside a plain Rust program of the same shape.
+"""Measures `escrow run` on long scripts, beside a plain Rust program of the same shape.
 
     bench/bench.py [LINES [TURNS]]
 
@@ -8,6 +8,10 @@ most that `run` takes), and TURNS how often each program runs (5). The lines are
 a commit and a read, over and over, and the changes go down and up in turn, so every escrow is
 granted. It prints, for the best turn of each program, the time, lines a second and peak memory, and
 fails where the two programs differ in what they write. Needs `rt`, and `rustc` for the plain one.
+
+Beside that it runs a script a tenth as long, and one of the same length over a schema of 64 fields,
+at the last of which all commands are: lines a second must stay as they were, since no command's
+cost grows with the history or with the number of fields.
 """
 
 import filecmp
@@ -19,21 +23,23 @@ import tempfile
 import time
 
 TOP = os.path.dirname(os.path.dirname(os.path.abspath(__file__)))
-HEADER = '{"sites":1,"fields":[{"name":"stock","floor":0,"ceiling":100,"value":40}]}\n'
 
 
-def write_input(path, lines):
+def write_input(path, lines, fields):
+    rows = ",".join(
+        f'{{"name":"stock{place}","floor":0,"ceiling":100,"value":40}}' for place in range(1, fields + 1)
+    )
     with open(path, "w", encoding="ascii") as script:
-        script.write(HEADER)
+        script.write(f'{{"sites":1,"fields":[{rows}]}}\n')
         for place in range(lines - 1):
             number = place // 4 + 1
             change = "-20" if number % 2 == 1 else "20"
             script.write(
                 (
                     "0 begin\n",
-                    f"0 escrow 0.{number} stock {change}\n",
+                    f"0 escrow 0.{number} stock{fields} {change}\n",
                     f"0 commit 0.{number}\n",
-                    "0 read stock\n",
+                    f"0 read stock{fields}\n",
                 )[place % 4]
             )
 
@@ -64,17 +70,18 @@ def measure(name, words, source, target, lines, turns):
 def main():
     lines = int(sys.argv[1]) if len(sys.argv) > 1 else 1_000_000
     turns = int(sys.argv[2]) if len(sys.argv) > 2 else 5
-    if lines < 1 or turns < 1:
+    if lines < 10 or turns < 1:
         sys.exit(__doc__)
     # Builds the program, where that has to be done.
     subprocess.run([os.path.join(TOP, "escrow"), "--help"], stdout=subprocess.DEVNULL, check=True)
     program = os.path.join(TOP, "crates", "escrow", "out", "escrow")
     with tempfile.TemporaryDirectory() as folder:
         source = os.path.join(folder, "script")
-        write_input(source, lines)
-        print(f"{lines:,} lines, {os.path.getsize(source):,} bytes, best of {turns}")
         proved = os.path.join(folder, "proved")
-        ours = measure("escrow", [program, "run"], source, proved, lines, turns)
+        for length, fields in ((lines // 10, 1), (lines, 64), (lines, 1)):
+            write_input(source, length, fields)
+            print(f"{length:,} lines, {os.path.getsize(source):,} bytes, {fields} fields, best of {turns}")
+            ours = measure("escrow", [program, "run"], source, proved, length, turns)
         if shutil.which("rustc") is None:
             print("no rustc here: nothing to compare with")
             return

@@ -102,11 +102,6 @@ escrows_at-place t (r ∷ rs) d h =
       | inr there ↦ rw (position_or_len-there (λ (r : Row). same_txn r.0 t) r rs there, there) (escrows_at-place t rs d (rw there at h))
     ]
 
-pub escrows_at-none : (t : TxnId) (rows : List Row) → stands t rows ≡ false → escrows_at t rows ≡ []
-escrows_at-none t [] h = refl
-escrows_at-none t (r ∷ rs) h =
-    let parts = or_parts (same_txn r.0 t) (stands t rs) h in rw parts.0 (escrows_at-none t rs parts.1)
-
 -- what keeps the rows distinct
 list_any-push : {X : Type 0} (p : X → Bool) (xs : List X) (x : X) → list_any p (xs ++ x ∷ []) ≡ (list_any p xs || p x)
 list_any-push p xs x = list_any-append p xs (x ∷ []) ∙ ap (λ b. list_any p xs || b) (or-false (p x))
@@ -159,10 +154,7 @@ AreDistinct-push (x ∷ xs) r d h =
     let parts = or_parts (same_txn x.0 r.0) (stands r.0 xs) h in
     (stands-push x.0 xs r ∙ ap (λ b. b || same_txn r.0 x.0) d.0 ∙ same_txn-sym r.0 x.0 ∙ parts.0, AreDistinct-push xs r d.1 parts.1)
 
--- ---- what keeps the rows a journal
-
-pub empty_is : IsJournal []
-empty_is = record { distinct = tt; few = omega arith; short = All-nil IsShort }
+-- ---- what keeps the rows a journal: one more transaction, one fewer, one more escrow
 
 pub begun_is : (rows : List Row) (t : TxnId) → IsJournal rows → stands t rows ≡ false → length rows < max_open → IsJournal (rows ++ (t, []) ∷ [])
 begun_is rows t was closed room =

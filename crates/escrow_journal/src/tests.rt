@@ -1,5 +1,5 @@
 use super::*;
-use field_bounds::{Escrow, FieldNo, TxnId};
+use field_bounds::{Escrow, FieldNo, MAX_ESCROWS, MAX_OPEN, TxnId};
 use std::alloc::Global;
 
 const FIRST: TxnId = TxnId {
@@ -24,7 +24,7 @@ const RAISE: Escrow = Escrow {
 
 /// The transaction begun, or None where memory was refused or it can't be.
 fn begun(alloc: Global, journal: &mut Journal, txn: TxnId) -> Option<()> {
-    if journal.is_open(txn) || journal.count() >= 64 {
+    if journal.is_open(txn) || journal.count() >= MAX_OPEN {
         return None;
     }
     journal.begin(alloc, txn).ok()
@@ -32,7 +32,7 @@ fn begun(alloc: Global, journal: &mut Journal, txn: TxnId) -> Option<()> {
 
 /// The escrow added, or None where memory was refused or it can't be.
 fn added(journal: &mut Journal, txn: TxnId, escrow: Escrow) -> Option<()> {
-    if journal.escrows(txn)?.len() >= 16 {
+    if journal.escrows(txn)?.len() >= MAX_ESCROWS {
         return None;
     }
     journal.add(txn, escrow).ok()

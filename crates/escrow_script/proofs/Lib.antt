@@ -1,7 +1,3 @@
-pub mod Numbers
-pub mod SignedNumbers
-pub mod WordLemmas
-pub mod FieldLemmas
 pub mod LineLemmas
 pub mod RowLemmas
 pub mod TextLemmas

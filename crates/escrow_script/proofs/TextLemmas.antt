@@ -1,22 +1,21 @@
 -- What is written for lines, one after another.
-use Rattle.std.proofs.Common.{◌≡◌, ℕ, ◌<◌, ◌-◌, List, [], ◌∷◌, ◌++◌, Option, None, Some, Ok, length, take, reverse, map, ◌+◌, ◌⊎◌, inl, inr, refl, sym, ap, ◌∙◌, subst, append_assoc, append-nil, arith, codes}
-use Rattle.std.specs.List.{filter_map, cons_option}
+use Rattle.std.proofs.Common.{◌≡◌, ℕ, ◌<◌, ◌-◌, List, [], ◌∷◌, ◌++◌, Option, None, Some, Ok, length, take, reverse, ◌+◌, ◌⊎◌, inl, inr, refl, sym, ap, ◌∙◌, subst, append_assoc, append-nil, arith, codes}
 use Rattle.std.proofs.lemmas.List.{length-take, take-append-le, take_all, reverse-append}
 use Rattle.std.proofs.Math.Seq.{take-append-add}
-use Rattle.std.proofs.lemmas.Bool.{cases_lt, lt-ltb}
+use Rattle.std.proofs.lemmas.Bool.{cases_lt}
 use Rattle.field_bounds.specs.Schema.{SchemaValue}
 use Rattle.field_bounds.specs.Header.{schema_of}
 use Rattle.field_bounds.specs.Central.{asked_of, IsSound}
-use Rattle.field_bounds.specs.declared.id.SiteNo.{SiteNo}
-use Rattle.field_bounds.specs.declared.entry.Command.{Command}
 use Rattle.field_bounds.specs.declared.entry.Entry.{Entry}
 use Rattle.field_bounds.proofs.Alone.{schema_of-limits}
 use Rattle.field_bounds.proofs.Sound.{sound_empty, sound_more}
 use Rattle.field_bounds.proofs.Headline.{sound_is_central}
+use Rattle.entry_text.specs.Spelling.{command_text, reply_text, entry_text}
+use Rattle.entry_text.proofs.Entries.{entry_line}
 use Rattle.escrow_script.specs.declared.machine.Machine.{Machine}
 use Rattle.escrow_script.specs.declared.row.SiteRow.{SiteRow}
 use Rattle.escrow_script.specs.Row.{AreSitesOf}
-use Rattle.escrow_script.specs.Text.{line_command, line_text, entry_text, answer, answers, entries_before, Notes, HasText}
+use Rattle.escrow_script.specs.Text.{line_text, IsAnswer, AreAnswers, HasText}
 use Rattle.escrow_script.specs.Run.{with_piece, kept, Answered, Moves, StandsFor}
 use Rattle.escrow_script.proofs.RowLemmas.{fits_at, sites_after}
 
@@ -28,23 +27,14 @@ kept_cases line = elim (cases_lt 256 (length line)) [
   | inr h ↦ inl (take_all 257 line (omega arith))
 ]
 
-line_command-long : (schema : SchemaValue) (line : List ℕ) → 256 < length line → line_command schema line ≡ None
-unfolding line_command
-line_command-long schema line h = rw (lt-ltb 256 (length line) h) refl
-
-pub line_command-kept : (schema : SchemaValue) (line : List ℕ) → line_command schema (take 257 line) ≡ line_command schema line
-line_command-kept schema line = elim (kept_cases line) [
-  | inl e ↦ ap (line_command schema) e
-  | inr h ↦ line_command-long schema (take 257 line) h.1 ∙ sym (line_command-long schema line h.0)
-]
-
--- a machine that is given as much of a line as is kept answers as to the whole line
-answer-kept : (schema : SchemaValue) (line : List ℕ) (entries : List Entry)
-    → answer (line_command schema (take 257 line)) (take 257 line) entries ≡ answer (line_command schema line) line entries
-answer-kept schema line entries = elim (kept_cases line) [
-  | inl e ↦ ap (λ l. answer (line_command schema l) l entries) e
-  | inr h ↦ ap (λ c. answer c (take 257 line) entries) (line_command-long schema (take 257 line) h.1)
-      ∙ sym (ap (λ c. answer c line entries) (line_command-long schema line h.0))
+-- sites that are given as much of a line as is kept answer as to the whole line
+Answered-kept : (line : List ℕ) (old new : SiteRow) (out grown : List ℕ) → Answered (take 257 line) old new out grown → Answered line old new out grown
+Answered-kept line old new out grown answered = elim (kept_cases line) [
+  | inl e ↦ subst (λ l. Answered l old new out grown) e answered
+  | inr long ↦ elim answered [
+    | inl bad ↦ inl (λ asked asks. omega (arith, asks.short, long.0), bad.1, bad.2)
+    | inr asked ↦ absurd (omega (arith, asked.1.short, long.1))
+  ]
 ]
 
 take_of_append : (n : ℕ) (xs ys : List ℕ) → take n xs ++ take (n - length (take n xs)) ys ≡ take n (xs ++ ys)
@@ -65,63 +55,56 @@ with_piece-kept (Some m) line piece = take_of_append 257 line piece
 
 -- ---- one more line
 
-entries_before-noted : (schema : SchemaValue) (c : Option (SiteNo × Command)) (old new : List Entry) → Notes schema c old new → entries_before c new ≡ old
-entries_before-noted schema None old new h = h
-entries_before-noted schema (Some asked) old [] h = absurd h
-entries_before-noted schema (Some asked) old (entry ∷ before) h = h.0
+-- the sites, the entries and the answer once a line was answered
+pub record Grows (schema : SchemaValue) (line : List ℕ) (new : SiteRow) (t : List Entry) (out grown : List ℕ) : Type 0 where
+  pub entries : List Entry
+  pub last : List ℕ
+  pub same : new.schema ≡ schema
+  pub are : AreSitesOf schema entries new.sites.items
+  pub answer : IsAnswer schema line t entries last
+  pub sound : IsSound schema entries
+  pub text : grown ≡ out ++ last
 
-sound-noted : (schema : SchemaValue) (c : Option (SiteNo × Command)) (old new : List Entry) → Notes schema c old new
-    → IsSound schema old → IsSound schema new
-sound-noted schema None old new h sound = subst (IsSound schema) (sym h) sound
-sound-noted schema (Some asked) old [] h sound = absurd h
-sound-noted schema (Some asked) old (entry ∷ before) h sound =
-    subst (λ t. IsSound schema (entry ∷ t)) (sym h.0) (sound_more schema entry old sound h.2 h.3)
-
-commands-noted : (schema : SchemaValue) (c : Option (SiteNo × Command)) (old new : List Entry) (commands : List (SiteNo × Command)) → Notes schema c old new
-    → map asked_of old ≡ commands → map asked_of new ≡ cons_option c commands
-commands-noted schema None old new commands h e = ap (map asked_of) h ∙ e
-commands-noted schema (Some asked) old [] commands h e = absurd h
-commands-noted schema (Some asked) old (entry ∷ before) commands h e =
-    ap (λ c. c ∷ map asked_of before) h.1 ∙ ap (λ l. asked ∷ l) (ap (map asked_of) h.0 ∙ e)
-
--- what sites that answered a line have noted
-answered-noted : (c : Option (SiteNo × Command)) (line : List ℕ) (old new : SiteRow) (out grown : List ℕ) (t : List Entry)
-    → AreSitesOf old.schema t old.sites.items → Answered c line old new out grown
-    → (u : List Entry) × (new.schema ≡ old.schema) × AreSitesOf old.schema u new.sites.items × Notes old.schema c t u × (grown ≡ out ++ answer c line u)
-answered-noted None line old new out grown t are h =
-    (t, ap (λ r. r.schema) h.0, subst (λ r. AreSitesOf old.schema t r.sites.items) (sym h.0) are, refl, h.1)
-answered-noted (Some asked) line old new out grown t are h =
-    let (reply, same, below, applies, text) = h in
-    let entry : Entry = record { site = asked.0; command = asked.1; reply = reply } in (
-      entry ∷ t,
-      same,
-      sites_after old.schema t old.sites.items new.sites.items asked.0 asked.1 reply below are applies,
-      (refl, refl, below, fits_at old.schema t old.sites.items new.sites.items asked.0 asked.1 reply below are applies),
-      text,
-    )
+answered-grows : (line : List ℕ) (old new : SiteRow) (out grown : List ℕ) (t : List Entry)
+    → AreSitesOf old.schema t old.sites.items → IsSound old.schema t → Answered line old new out grown → Grows old.schema line new t out grown
+answered-grows line old new out grown t are sound (inl bad) =
+    record {
+      entries = t;
+      last = line_text (codes "bad line");
+      same = ap (λ r. r.schema) bad.1;
+      are = subst (λ r. AreSitesOf old.schema t r.sites.items) (sym bad.1) are;
+      answer = inl (bad.0, refl, refl);
+      sound = sound;
+      text = bad.2;
+    }
+answered-grows line old new out grown t are sound (inr asked) =
+    let (entry, asks, same, applies, text) = asked in record {
+      entries = entry ∷ t;
+      last = _;
+      same = same;
+      are = sites_after old.schema t old.sites.items new.sites.items entry.site entry.command entry.reply asks.site are applies;
+      answer = inr (entry, asks, refl, refl);
+      sound = sound_more old.schema entry t sound asks.site
+          (fits_at old.schema t old.sites.items new.sites.items entry.site entry.command entry.reply asks.site are applies);
+      text = text;
+    }
 
 -- the text with an answer to one more line
-pub HasText-more : (schema : SchemaValue) (old new : List Entry) (lines : List (List ℕ)) (line text : List ℕ)
-    → HasText schema old lines text → Notes schema (line_command schema line) old new
-    → HasText schema new (lines ++ line ∷ []) (text ++ answer (line_command schema line) line new)
-HasText-more schema old new lines line text has notes =
+pub HasText-more : (schema : SchemaValue) (old new : List Entry) (lines : List (List ℕ)) (line text last : List ℕ)
+    → HasText schema old lines text → IsAnswer schema line old new last → IsSound schema new
+    → HasText schema new (lines ++ line ∷ []) (text ++ last)
+HasText-more schema old new lines line text last has answer sound =
     let back : reverse (has.behind ++ line ∷ []) ≡ line ∷ reverse has.behind = reverse-append has.behind (line ∷ []) in
-    let more = answer (line_command schema line) line new in
-    let same : answers schema (line ∷ reverse has.behind) new ≡ answers schema (reverse has.behind) old ++ more =
-    ap (λ es. answers schema (reverse has.behind) es ++ more) (entries_before-noted schema (line_command schema line) old new notes) in
-    let sound : IsSound schema new = sound-noted schema (line_command schema line) old new notes has.sound in
     record {
       header = has.header;
       behind = has.behind ++ line ∷ [];
+      body = has.body ++ last;
       parts = ap (λ l. l ++ line ∷ []) has.parts;
       start = has.start;
-      commands = commands-noted schema (line_command schema line) old new (filter_map (line_command schema) (reverse has.behind)) notes has.commands
-          ∙ ap (filter_map (line_command schema)) (sym back);
+      answers = subst (λ ls. AreAnswers schema ls new (has.body ++ last)) (sym back) (old, (has.body, last, has.answers, answer, refl));
       sound = sound;
       central = sound_is_central schema (schema_of-limits has.header schema has.start) new sound;
-      written = ap (λ t. t ++ more) has.written
-          ∙ append_assoc (line_text has.header) (answers schema (reverse has.behind) old) more
-          ∙ ap (λ t. line_text has.header ++ t) (sym same ∙ ap (λ ls. answers schema ls new) (sym back));
+      written = ap (λ t. t ++ last) has.written ∙ append_assoc (line_text has.header) has.body last;
     }
 
 -- the text of the header line
@@ -129,9 +112,10 @@ HasText-start : (schema : SchemaValue) (line : List ℕ) → schema_of line ≡ 
 HasText-start schema line start = record {
   header = line;
   behind = [];
+  body = [];
   parts = refl;
   start = start;
-  commands = refl;
+  answers = (refl, refl);
   sound = sound_empty schema;
   central = tt;
   written = sym (append-nil (line_text line));
@@ -158,12 +142,17 @@ StandsFor-more None (Some n) lines line written out grown stands moves =
     ([], are, rw (first, only) (HasText-start n.row.schema line start))
 StandsFor-more (Some m) None lines line written out grown stands moves = absurd moves
 StandsFor-more (Some m) (Some n) lines line written out grown stands moves =
-    let schema = m.row.schema in
     let (old, are, has) = stands in
-    let (new, same, are_new, notes, text) = answered-noted (line_command schema (take 257 line)) (take 257 line) m.row n.row out grown old are moves in
-    let noted : Notes schema (line_command schema line) old new = subst (λ c. Notes schema c old new) (line_command-kept schema line) notes in
-    let told : (written ++ out) ++ answer (line_command schema line) line new ≡ written ++ grown =
-    append_assoc written out (answer (line_command schema line) line new)
-    ∙ ap (λ t. written ++ t) (ap (λ a. out ++ a) (sym (answer-kept schema line new)) ∙ sym text) in
-    stands-along n schema new (lines ++ line ∷ []) _ (written ++ grown) same are_new told
-    (HasText-more schema old new lines line (written ++ out) has noted)
+    let grows = answered-grows line m.row n.row out grown old are has.sound (Answered-kept line m.row n.row out grown moves) in
+    stands-along n m.row.schema grows.entries (lines ++ line ∷ []) _ (written ++ grown) grows.same grows.are
+    (append_assoc written out grows.last ∙ ap (λ t. written ++ t) (sym grows.text))
+    (HasText-more m.row.schema old grows.entries lines line (written ++ out) grows.last has grows.answer grows.sound)
+
+-- a command line, an arrow and a reply are the text of their entry
+pub entry_added : (schema : SchemaValue) (e : Entry) (line reply out grown : List ℕ) → line ≡ command_text schema e.site e.command → reply ≡ reply_text e.reply
+    → grown ≡ out ++ (line ++ codes " -> " ++ reply ++ 10 ∷ []) → grown ≡ out ++ line_text (entry_text schema e)
+entry_added schema e line reply out grown spelled replied added =
+    added ∙ ap (λ t. out ++ t)
+    (ap (λ l. l ++ codes " -> " ++ reply ++ 10 ∷ []) spelled
+    ∙ ap (λ r. command_text schema e.site e.command ++ codes " -> " ++ r ++ 10 ∷ []) replied
+    ∙ ap (λ l. l ++ 10 ∷ []) (append_assoc (command_text schema e.site e.command) (codes " -> ") (reply_text e.reply) ∙ entry_line schema e))

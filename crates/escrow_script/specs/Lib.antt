@@ -1,7 +1,4 @@
 pub mod Faults
-pub mod Words
-pub mod Reading
-pub mod Replies
 pub mod Watched
 pub mod Row
 pub mod Lines

@@ -3,9 +3,7 @@ use Rattle.std.specs.Prelude.{◌≡◌, ◌≢◌, ℕ, ◌+◌, ◌-◌, ◌<�
 use Rattle.std.specs.Io.KnownBytes.{Appends, Consumes, IsAtEnd}
 use Rattle.field_bounds.specs.Schema.{SchemaValue}
 use Rattle.field_bounds.specs.Header.{schema_of}
-use Rattle.field_bounds.specs.declared.id.SiteNo.{SiteNo}
-use Rattle.field_bounds.specs.declared.entry.Command.{Command}
-use Rattle.field_bounds.specs.declared.entry.Reply.{Reply}
+use Rattle.field_bounds.specs.Central.{asked_of}
 use Rattle.field_bounds.specs.declared.entry.Entry.{Entry}
 use Rattle.field_bounds.specs.declared.fault.SchemaFault.TheVariants as schema_faults
 use Rattle.escrow_script.specs.declared.row.SiteRow.{SiteRow}
@@ -16,7 +14,8 @@ use Rattle.escrow_script.specs.declared.fault.ScriptFault.TheVariants.{Read, Too
 use Rattle.escrow_script.specs.declared.watched.End.{End}
 use Rattle.escrow_script.specs.declared.watched.End.TheVariants.{Nothing}
 use Rattle.escrow_script.specs.Row.{AreSitesOf, AppliesAt}
-use Rattle.escrow_script.specs.Text.{line_command, line_text, entry_text, HasText, IsTextOf}
+use Rattle.entry_text.specs.Spelling.{entry_text}
+use Rattle.escrow_script.specs.Text.{line_text, Asks, IsBad, HasText, IsTextOf}
 use Rattle.escrow_script.specs.Lines.{whole_lines, last_part, script_lines}
 use Rattle.escrow_script.specs.Watched.{AppendsFront}
 
@@ -44,13 +43,14 @@ pub record CannotKeep (old new : Script) (piece : List ℕ) (fault : ScriptFault
   pub why : KeepFault fault old piece
   pub out : new.out.items ≡ old.out.items
 
--- What the sites do with a line: one of them answers the command that it spells, or none is asked; and what is to be
--- written grows by the answer.
-abbrev pub Answered : Option (SiteNo × Command) → List ℕ → SiteRow → SiteRow → List ℕ → List ℕ → Type 0
-Answered None line old new out grown = (new ≡ old) × (grown ≡ out ++ line_text (codes "bad line"))
-Answered (Some asked) line old new out grown =
-    (reply : Reply) × (new.schema ≡ old.schema) × (asked.0.0 < old.schema.sites)
-    × AppliesAt old.sites.items asked.0 asked.1 reply new.sites.items × (grown ≡ out ++ entry_text line reply)
+-- What the sites do with a line, and what is to be written before and after it: a bad line changes no site, and one of
+-- them answers what any other line asks.
+abbrev pub Answered : List ℕ → SiteRow → SiteRow → List ℕ → List ℕ → Type 0
+Answered line old new out grown =
+    (IsBad old.schema line × (new ≡ old) × (grown ≡ out ++ line_text (codes "bad line")))
+    ⊎ ((entry : Entry) × Asks old.schema line (asked_of entry) × (new.schema ≡ old.schema)
+    × AppliesAt old.sites.items entry.site entry.command entry.reply new.sites.items
+    × (grown ≡ out ++ line_text (entry_text old.schema entry)))
 
 -- What a line does to the machine, and to what is to be written: a header line starts the sites of its schema and is
 -- written as it is, and any other line is answered.
@@ -59,7 +59,7 @@ Moves None line None out grown = ⊥
 Moves None line (Some m) out grown =
     (schema_of line ≡ Ok m.row.schema) × AreSitesOf m.row.schema [] m.row.sites.items × (grown ≡ out ++ line_text line)
 Moves (Some m) line None out grown = ⊥
-Moves (Some m) line (Some n) out grown = Answered (line_command m.row.schema line) line m.row n.row out grown
+Moves (Some m) line (Some n) out grown = Answered line m.row n.row out grown
 
 -- The machine has the line, and what it answers is to be written.
 pub record HasEnded (old new : Script) : Type 0 where

@@ -3,12 +3,12 @@
 ghost use Rattle.std.specs.Prelude.{◌≡◌, [], ◌∷◌, ◌++◌, ◌≤◌, length, take, codes, Ok, OnOk, OnErr, IfOk, IfErr};
 ghost use Rattle.field_bounds.specs.Header.{schema_of};
 ghost use Rattle.escrow_script.specs.Faults.{TellsHeader};
-ghost use Rattle.escrow_script.specs.Text.{line_command, line_text};
+ghost use Rattle.escrow_script.specs.Text.{line_text};
 
-use crate::command::line_command;
 use crate::fault::ScriptFault;
-use crate::reply::ReplyText;
+use crate::line::line_command;
 use crate::row::SiteRow;
+use entry_text::put_reply;
 use field_bounds::Schema;
 use std::alloc::{AllocError, Global};
 
@@ -82,16 +82,15 @@ impl Machine {
         line: &[u8],
         out: &mut Vec<u8>,
     ) -> Result<(), AllocError>
-        ensures ok { OnOk result (Answered (line_command self.old.row.schema line.now) line.now
-            self.old.row self.new.row out.old.items out.new.items) }
+        ensures ok { OnOk result (Answered line.now self.old.row self.new.row
+            out.old.items out.new.items) }
         ensures err { OnErr result (out.new.items ≡ out.old.items) }
     {
         match line_command(self.row.schema(), line) {
             None => add_line(out, b"bad line"),
             Some((site, command)) => {
-                let reply = ReplyText(self.row.apply(alloc, site, command)?);
-                self.reply.clear();
-                write!(self.reply, "{reply}")?;
+                let reply = self.row.apply(alloc, site, command)?;
+                put_reply(&mut self.reply, reply)?;
                 add_entry(out, line, self.reply.as_bytes())
             }
         }

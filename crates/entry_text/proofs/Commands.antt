@@ -1,0 +1,164 @@
+-- Commands are read as they are spelled.
+use Rattle.std.proofs.Common.{◌≡◌, ℕ, List, ◌∷◌, ◌++◌, Option, Some, None, refl, ap, subst, ◌∙◌}
+use Rattle.std.specs.Prelude.{codes}
+use Rattle.std.specs.List.{AllByRecursion}
+use Rattle.std.proofs.lemmas.Option.{some_pair_parts}
+use Rattle.field_bounds.specs.declared.id.SiteNo.{SiteNo}
+use Rattle.field_bounds.specs.declared.entry.Command.{Command}
+use Rattle.field_bounds.specs.declared.entry.Command.TheVariants.{Begin, Escrow, Commit, Abort, Read, Share}
+use Rattle.field_bounds.specs.Schema.{SchemaValue}
+use Rattle.field_bounds.specs.Limits.{IsSchema}
+use Rattle.line_words.specs.Reading.{◌>>=◌, word_at}
+use Rattle.line_words.proofs.Numbers.{bind_some}
+use Rattle.line_words.proofs.WordLemmas.{IsWord, word_from_test}
+use Rattle.line_words.proofs.Forms.{IsRead, IsForm, found, taking, word_takes, word_again, made_of}
+use Rattle.line_words.proofs.WordKinds.{signed_read, beside_takes}
+use Rattle.line_words.proofs.Lines.{line_found, line_fits, line_only}
+use Rattle.entry_text.specs.declared.verb.Verb.{Verb}
+use Rattle.entry_text.specs.declared.verb.Verb.TheVariants as verbs
+use Rattle.entry_text.specs.Spelling.{command_words, command_text, site_text}
+use Rattle.entry_text.specs.Ranges.{CommandFits, SiteFits}
+use Rattle.entry_text.specs.Commands.{verb_of, verb_table, escrow_at, arguments_at, command_at, command_of}
+use Rattle.entry_text.proofs.WordKinds.{site_read, id_read, field_read}
+
+-- ---- the first word
+
+abbrev pub verb_text : Verb → List ℕ
+verb_text verbs.Begin = codes "begin"
+verb_text verbs.Escrow = codes "escrow"
+verb_text verbs.Commit = codes "commit"
+verb_text verbs.Abort = codes "abort"
+verb_text verbs.Read = codes "read"
+verb_text verbs.Share = codes "share"
+
+verb_takes : (w : List ℕ) (v : Verb) → verb_of w ≡ Some v → w ≡ verb_text v
+unfolding verb_of
+verb_takes w v e = beside_takes verb_text verb_table (refl, (refl, (refl, (refl, (refl, (refl, tt)))))) w v e
+
+verb_again : (v : Verb) → verb_of (verb_text v) ≡ Some v
+unfolding verb_of
+verb_again verbs.Begin = refl
+verb_again verbs.Escrow = refl
+verb_again verbs.Commit = refl
+verb_again verbs.Abort = refl
+verb_again verbs.Read = refl
+verb_again verbs.Share = refl
+
+verb_word : (v : Verb) → IsWord (verb_text v)
+verb_word verbs.Begin = word_from_test (verb_text verbs.Begin) refl
+verb_word verbs.Escrow = word_from_test (verb_text verbs.Escrow) refl
+verb_word verbs.Commit = word_from_test (verb_text verbs.Commit) refl
+verb_word verbs.Abort = word_from_test (verb_text verbs.Abort) refl
+verb_word verbs.Read = word_from_test (verb_text verbs.Read) refl
+verb_word verbs.Share = word_from_test (verb_text verbs.Share) refl
+
+verb_read : IsRead (λ (v : Verb). Unit {0}) verb_text verb_of
+verb_read = record { takes = λ w v e. (tt, verb_takes w v e); again = λ v fits. verb_again v; plain = λ v fits. verb_word v }
+
+-- ---- the words after it
+
+-- a command that was put together is the one that was found
+made : {ws : List (List ℕ)} (schema : SchemaValue) (b c : Command) (after rest : List (List ℕ)) → found b after ≡ found c rest → CommandFits b → ws ≡ command_words schema b ++ after → CommandFits c × (ws ≡ command_words schema c ++ rest)
+made {ws} schema b c after rest e fits is = made_of CommandFits (command_words schema) ws b c after rest e fits is
+
+arguments_takes : (schema : SchemaValue) → IsSchema schema → (v : Verb) (ws : List (List ℕ)) (c : Command) (rest : List (List ℕ)) → arguments_at schema v ws ≡ found c rest → CommandFits c × (verb_text v ∷ ws ≡ command_words schema c ++ rest)
+unfolding arguments_at escrow_at
+arguments_takes schema is verbs.Begin ws c rest e = made schema Begin c ws rest e tt refl
+arguments_takes schema is verbs.Escrow ws c rest e =
+    taking id_read _ ws _ e (λ txn r1 f1 w1 e1.
+    taking (field_read schema is) _ r1 _ e1 (λ field r2 f2 w2 e2.
+    taking signed_read _ r2 _ e2 (λ change r3 f3 w3 e3.
+    made schema (Escrow txn field change) c r3 rest e3 (f1, f2, f3) (cc (w1, w2, w3)))))
+arguments_takes schema is verbs.Commit ws c rest e =
+    taking id_read _ ws _ e (λ txn r1 f1 w1 e1.
+    made schema (Commit txn) c r1 rest e1 f1 (cc w1))
+arguments_takes schema is verbs.Abort ws c rest e =
+    taking id_read _ ws _ e (λ txn r1 f1 w1 e1.
+    made schema (Abort txn) c r1 rest e1 f1 (cc w1))
+arguments_takes schema is verbs.Read ws c rest e =
+    taking (field_read schema is) _ ws _ e (λ field r1 f1 w1 e1.
+    made schema (Read field) c r1 rest e1 f1 (cc w1))
+arguments_takes schema is verbs.Share ws c rest e =
+    taking (field_read schema is) _ ws _ e (λ field r1 f1 w1 e1.
+    made schema (Share field) c r1 rest e1 f1 (cc w1))
+
+-- after the first word, the arguments give the command again
+after_verb : (schema : SchemaValue) → IsSchema schema → (c : Command) (rest : List (List ℕ)) → CommandFits c → (word_at verb_of (command_words schema c ++ rest) >>= λ v. arguments_at schema v.0 v.1) ≡ found c rest
+unfolding arguments_at escrow_at
+after_verb schema is Begin rest fits = word_again verb_read _ verbs.Begin rest tt
+after_verb schema is (Escrow txn field change) rest fits =
+    word_again verb_read _ verbs.Escrow _ tt ∙ word_again id_read _ txn _ fits.0 ∙ word_again (field_read schema is) _ field _ fits.1 ∙ word_again signed_read _ change rest fits.2
+after_verb schema is (Commit txn) rest fits =
+    word_again verb_read _ verbs.Commit _ tt ∙ word_again id_read _ txn rest fits
+after_verb schema is (Abort txn) rest fits =
+    word_again verb_read _ verbs.Abort _ tt ∙ word_again id_read _ txn rest fits
+after_verb schema is (Read field) rest fits =
+    word_again verb_read _ verbs.Read _ tt ∙ word_again (field_read schema is) _ field rest fits
+after_verb schema is (Share field) rest fits =
+    word_again verb_read _ verbs.Share _ tt ∙ word_again (field_read schema is) _ field rest fits
+
+command_plain : (schema : SchemaValue) → IsSchema schema → (c : Command) → CommandFits c → AllByRecursion IsWord (command_words schema c)
+command_plain schema is Begin fits = (verb_word verbs.Begin, tt)
+command_plain schema is (Escrow txn field change) fits = (verb_word verbs.Escrow, (id_read.plain txn fits.0, ((field_read schema is).plain field fits.1, (signed_read.plain change fits.2, tt))))
+command_plain schema is (Commit txn) fits = (verb_word verbs.Commit, (id_read.plain txn fits, tt))
+command_plain schema is (Abort txn) fits = (verb_word verbs.Abort, (id_read.plain txn fits, tt))
+command_plain schema is (Read field) fits = (verb_word verbs.Read, ((field_read schema is).plain field fits, tt))
+command_plain schema is (Share field) fits = (verb_word verbs.Share, ((field_read schema is).plain field fits, tt))
+
+-- ---- a whole command
+
+abbrev pub site_command : SchemaValue → SiteNo × Command → List (List ℕ)
+site_command schema x = site_text x.0 ∷ command_words schema x.1
+
+abbrev with_site : SchemaValue → SiteNo × List (List ℕ) → Option ((SiteNo × Command) × List (List ℕ))
+with_site schema site = word_at verb_of site.1 >>= λ verb. arguments_at schema verb.0 verb.1 >>= λ command. found (site.0, command.0) command.1
+
+abbrev pub SiteCommandFits : SiteNo × Command → Type 0
+SiteCommandFits x = SiteFits x.0 × CommandFits x.1
+
+command_takes : (schema : SchemaValue) → IsSchema schema → (ws : List (List ℕ)) (x : SiteNo × Command) (rest : List (List ℕ)) → command_at schema ws ≡ found x rest → SiteFits x.0 × CommandFits x.1 × (ws ≡ site_command schema x ++ rest)
+unfolding command_at
+command_takes schema is ws x rest e =
+    let s = word_takes site_read (with_site schema) ws (x, rest) e in
+    let v = word_takes verb_read (λ verb. arguments_at schema verb.0 verb.1 >>= λ command. found (s.value, command.0) command.1) s.rest (x, rest) s.on in
+    let a = bind_some (arguments_at schema v.value v.rest) (λ command. found (s.value, command.0) command.1) (x, rest) v.on in
+    let p = some_pair_parts (s.value, a.0.0) x a.0.1 rest a.2 in
+    let site-is : s.value ≡ x.0 = ap (λ (y : SiteNo × Command). y.0) p.0 in
+    let command-is : a.0.0 ≡ x.1 = ap (λ (y : SiteNo × Command). y.1) p.0 in
+    let t = arguments_takes schema is v.value v.rest a.0.0 a.0.1 a.1 in (
+      subst SiteFits site-is s.fits,
+      subst CommandFits command-is t.0,
+      s.words ∙ ap (λ (l : List (List ℕ)). site_text s.value ∷ l) (v.words ∙ t.1)
+          ∙ ap (λ (y : SiteNo × Command). site_command schema y ++ a.0.1) p.0
+          ∙ ap (λ (r : List (List ℕ)). site_command schema x ++ r) p.1,
+    )
+
+-- the two halves of a step that was found
+bind_again : {A B C : Type 0} (o : Option A) (f : A → Option B) (g : B → Option C) (y : B) → (o >>= f) ≡ Some y → (o >>= λ x. f x >>= g) ≡ g y
+bind_again (Some x) f g y e = ap (λ (r : Option _). r >>= g) e
+bind_again None f g y e = absurd cc
+
+command_again : (schema : SchemaValue) → IsSchema schema → (x : SiteNo × Command) (rest : List (List ℕ)) → SiteFits x.0 → CommandFits x.1 → command_at schema (site_command schema x ++ rest) ≡ found x rest
+unfolding command_at
+command_again schema is x rest s c =
+    word_again site_read (with_site schema) x.0 (command_words schema x.1 ++ rest) s
+    ∙ bind_again (word_at verb_of (command_words schema x.1 ++ rest)) (λ verb. arguments_at schema verb.0 verb.1) (λ command. found (x.0, command.0) command.1) (x.1, rest) (after_verb schema is x.1 rest c)
+
+pub command_form : (schema : SchemaValue) → IsSchema schema → IsForm SiteCommandFits (site_command schema) (command_at schema)
+command_form schema is = record {
+  takes = λ ws x rest e. let t = command_takes schema is ws x rest e in ((t.0, t.1), t.2);
+  again = λ x rest fits. command_again schema is x rest fits.0 fits.1;
+  plain = λ x fits. (site_read.plain x.0 fits.0, command_plain schema is x.1 fits.1);
+}
+
+pub command_found : (schema : SchemaValue) → IsSchema schema → (bytes : List ℕ) (x : SiteNo × Command) → command_of schema bytes ≡ Some x → bytes ≡ command_text schema x.0 x.1
+unfolding command_of
+command_found schema is bytes x e = line_found (command_form schema is) bytes x e
+
+pub command_fits : (schema : SchemaValue) → IsSchema schema → (bytes : List ℕ) (x : SiteNo × Command) → command_of schema bytes ≡ Some x → SiteFits x.0 × CommandFits x.1
+unfolding command_of
+command_fits schema is bytes x e = line_fits (command_form schema is) bytes x e
+
+pub command_only : (schema : SchemaValue) → IsSchema schema → (x : SiteNo × Command) → SiteFits x.0 → CommandFits x.1 → command_of schema (command_text schema x.0 x.1) ≡ Some x
+unfolding command_of
+command_only schema is x s c = line_only (command_form schema is) x (site_text x.0) (command_words schema x.1) refl (s, c)

@@ -1,0 +1,6 @@
+pub mod FieldLemmas
+pub mod WordKinds
+pub mod Commands
+pub mod Replies
+pub mod Entries
+pub mod LineLengths

@@ -1,0 +1,59 @@
+-- What words spell a command, as functions on lists of words (this project).
+use Rattle.std.specs.Prelude.{ℕ, List, [], ◌∷◌, Option, Some, codes}
+use Rattle.field_bounds.specs.Schema.{SchemaValue}
+use Rattle.field_bounds.specs.declared.id.SiteNo.{SiteNo}
+use Rattle.field_bounds.specs.declared.entry.Command.{Command}
+use Rattle.field_bounds.specs.declared.entry.Command.TheVariants as commands
+use Rattle.line_words.specs.Words.{words}
+use Rattle.line_words.specs.Reading.{◌>>=◌, signed_of, beside, word_at, ended}
+use Rattle.entry_text.specs.declared.verb.Verb.{Verb}
+use Rattle.entry_text.specs.declared.verb.Verb.TheVariants as verbs
+use Rattle.entry_text.specs.Reading.{site_of, id_of, field_of}
+
+-- The commands by their words.
+abbrev pub verb_table : List (List ℕ × Verb)
+verb_table = (codes "begin", verbs.Begin) ∷ (codes "escrow", verbs.Escrow) ∷ (codes "commit", verbs.Commit)
+    ∷ (codes "abort", verbs.Abort) ∷ (codes "read", verbs.Read) ∷ (codes "share", verbs.Share) ∷ []
+
+-- The command that the word names.
+unfoldable pub verb_of : List ℕ → Option Verb
+verb_of w = beside verb_table w
+
+-- An escrow's transaction, field and change, and the words after them.
+unfoldable pub escrow_at : SchemaValue → List (List ℕ) → Option (Command × List (List ℕ))
+escrow_at schema ws = do
+  txn ← word_at id_of ws
+  field ← word_at (field_of schema) txn.1
+  change ← word_at signed_of field.1
+  Some (commands.Escrow txn.0 field.0 change.0, change.1)
+
+-- The command of a name with its arguments, and the words after them.
+unfoldable pub arguments_at : SchemaValue → Verb → List (List ℕ) → Option (Command × List (List ℕ))
+arguments_at schema verbs.Begin ws = Some (commands.Begin, ws)
+arguments_at schema verbs.Escrow ws = escrow_at schema ws
+arguments_at schema verbs.Commit ws = do
+  txn ← word_at id_of ws
+  Some (commands.Commit txn.0, txn.1)
+arguments_at schema verbs.Abort ws = do
+  txn ← word_at id_of ws
+  Some (commands.Abort txn.0, txn.1)
+arguments_at schema verbs.Read ws = do
+  field ← word_at (field_of schema) ws
+  Some (commands.Read field.0, field.1)
+arguments_at schema verbs.Share ws = do
+  field ← word_at (field_of schema) ws
+  Some (commands.Share field.0, field.1)
+
+-- The site and the command of a list of words, and the words after them.
+unfoldable pub command_at : SchemaValue → List (List ℕ) → Option ((SiteNo × Command) × List (List ℕ))
+command_at schema ws = do
+  site ← word_at site_of ws
+  verb ← word_at verb_of site.1
+  command ← arguments_at schema verb.0 verb.1
+  Some ((site.0, command.0), command.1)
+
+-- The site and the command that a line spells.
+unfoldable pub command_of : SchemaValue → List ℕ → Option (SiteNo × Command)
+command_of schema bytes = do
+  command ← command_at schema (words bytes)
+  ended command

@@ -1,0 +1,89 @@
+-- The one text of each value under a schema (this project).
+use Rattle.std.specs.Prelude.{ℕ, List, [], ◌∷◌, ◌++◌, length, if◌then◌else◌, nat_lt, codes}
+use Rattle.std.specs.Fmt.{decimal, signed_decimal}
+use Rattle.field_bounds.specs.declared.kind.Kind.{Kind}
+use Rattle.field_bounds.specs.declared.kind.Kind.TheVariants.{Lower, Raise}
+use Rattle.field_bounds.specs.declared.id.SiteNo.{SiteNo}
+use Rattle.field_bounds.specs.declared.id.FieldNo.{FieldNo}
+use Rattle.field_bounds.specs.declared.id.TxnId.{TxnId}
+use Rattle.field_bounds.specs.declared.entry.Command.{Command}
+use Rattle.field_bounds.specs.declared.entry.Command.TheVariants.{Begin, Escrow, Commit, Abort, Read, Share}
+use Rattle.field_bounds.specs.declared.entry.Refusal.{Refusal}
+use Rattle.field_bounds.specs.declared.entry.Refusal.TheVariants.{NoField, NoTransaction, Zero, TooLarge, Short, TooManyOpen, TooManyEscrows, NumbersFull}
+use Rattle.field_bounds.specs.declared.entry.Reply.{Reply}
+use Rattle.field_bounds.specs.declared.entry.Reply.TheVariants.{Begun, Granted, Committed, Aborted, Between, Shares, Refused}
+use Rattle.field_bounds.specs.declared.entry.Entry.{Entry}
+use Rattle.field_bounds.specs.Schema.{SchemaValue}
+use Rattle.field_bounds.specs.Parts.{field_at}
+use Rattle.line_words.specs.Words.{line}
+
+-- ---- words
+
+-- A site: its number.
+abbrev pub site_text : SiteNo → List ℕ
+site_text s = decimal s.0
+
+-- A transaction: epoch and number with a point (46) between them.
+abbrev pub id_text : TxnId → List ℕ
+id_text t = decimal t.epoch ++ (46 ∷ decimal t.number)
+
+-- A kind of right.
+abbrev pub kind_text : Kind → List ℕ
+kind_text Lower = codes "lower"
+kind_text Raise = codes "raise"
+
+-- A field: its name, or a sharp (35) and its number where the schema has no field of the number.
+abbrev pub field_text : SchemaValue → FieldNo → List ℕ
+field_text schema f = if nat_lt f.0 (length schema.fields) then (field_at schema f.0).name else (35 ∷ decimal f.0)
+
+-- ---- commands
+
+-- The words of a command, after that of its site.
+abbrev pub command_words : SchemaValue → Command → List (List ℕ)
+command_words schema Begin = codes "begin" ∷ []
+command_words schema (Escrow txn field change) = codes "escrow" ∷ id_text txn ∷ field_text schema field ∷ signed_decimal change ∷ []
+command_words schema (Commit txn) = codes "commit" ∷ id_text txn ∷ []
+command_words schema (Abort txn) = codes "abort" ∷ id_text txn ∷ []
+command_words schema (Read field) = codes "read" ∷ field_text schema field ∷ []
+command_words schema (Share field) = codes "share" ∷ field_text schema field ∷ []
+
+-- A command at a site.
+abbrev pub command_text : SchemaValue → SiteNo → Command → List ℕ
+command_text schema site command = line (site_text site ∷ command_words schema command)
+
+-- ---- replies
+
+-- The words of a refusal: its number first.
+abbrev pub refusal_words : Refusal → List (List ℕ)
+refusal_words NoField = codes "3" ∷ codes "no" ∷ codes "field" ∷ []
+refusal_words NoTransaction = codes "4" ∷ codes "no" ∷ codes "transaction" ∷ []
+refusal_words Zero = codes "5" ∷ codes "zero" ∷ []
+refusal_words TooLarge = codes "6" ∷ codes "too" ∷ codes "large" ∷ []
+refusal_words (Short share) = codes "7" ∷ codes "short" ∷ decimal share ∷ []
+refusal_words TooManyOpen = codes "12" ∷ codes "too" ∷ codes "many" ∷ codes "open" ∷ []
+refusal_words TooManyEscrows = codes "13" ∷ codes "too" ∷ codes "many" ∷ codes "escrows" ∷ []
+refusal_words NumbersFull = codes "14" ∷ codes "numbers" ∷ codes "full" ∷ []
+
+-- The words of a reply.
+abbrev pub reply_words : Reply → List (List ℕ)
+reply_words (Begun txn) = codes "begun" ∷ id_text txn ∷ []
+reply_words Granted = codes "granted" ∷ []
+reply_words Committed = codes "committed" ∷ []
+reply_words Aborted = codes "aborted" ∷ []
+reply_words (Between lo hi) = codes "between" ∷ signed_decimal lo ∷ signed_decimal hi ∷ []
+reply_words (Shares lower raise) = codes "share" ∷ decimal lower ∷ decimal raise ∷ []
+reply_words (Refused refusal) = codes "refused" ∷ refusal_words refusal
+
+-- A reply.
+abbrev pub reply_text : Reply → List ℕ
+reply_text reply = line (reply_words reply)
+
+-- ---- entries
+
+-- The words of an entry: site, command, an arrow and the reply.
+abbrev pub entry_words : SchemaValue → Entry → List (List ℕ)
+entry_words schema e = site_text e.site ∷ (command_words schema e.command ++ codes "->" ∷ reply_words e.reply)
+
+-- An entry.
+abbrev pub entry_text : SchemaValue → Entry → List ℕ
+entry_text schema e = line (entry_words schema e)

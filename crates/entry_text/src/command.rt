@@ -1,0 +1,88 @@
+//! Commands as text.
+
+ghost use Rattle.std.specs.Prelude.{◌≡◌, IfSome, Some};
+ghost use Rattle.field_bounds.specs.declared.id.SiteNo.{SiteNo as Site};
+ghost use Rattle.field_bounds.specs.declared.entry.Command.{Command as CommandType};
+ghost use Rattle.line_words.specs.Reading.{Gives};
+ghost use Rattle.entry_text.specs.Spelling.{command_text};
+ghost use Rattle.entry_text.specs.Ranges.{SiteFits, CommandFits};
+ghost use Rattle.entry_text.specs.Commands.{escrow_at, arguments_at, command_at, command_of};
+
+use crate::verb::{Verb, verb_at};
+use crate::word::{field_at, signed_at, site_at, txn_at, within_limits};
+use field_bounds::{Command, Schema, SiteNo};
+use line_words::Words;
+
+#[tactic(auto, unfolding(crate::specs::Commands::escrow_at))]
+fn escrow(line: &mut Words<'_>, schema: &Schema) -> Option<Command>
+    ensures { Gives result line.new (escrow_at schema.now line.old) }
+{
+    let txn = txn_at(line)?;
+    let field = field_at(line, schema)?;
+    let change = signed_at(line)?;
+    Some(Command::Escrow { txn, field, change })
+}
+
+#[tactic(auto, unfolding(crate::specs::Commands::arguments_at))]
+fn arguments(line: &mut Words<'_>, schema: &Schema, verb: Verb) -> Option<Command>
+    ensures { Gives result line.new (arguments_at schema.now verb line.old) }
+{
+    match verb {
+        Verb::Begin => Some(Command::Begin),
+        Verb::Escrow => escrow(line, schema),
+        Verb::Commit => {
+            let txn = txn_at(line)?;
+            Some(Command::Commit { txn })
+        }
+        Verb::Abort => {
+            let txn = txn_at(line)?;
+            Some(Command::Abort { txn })
+        }
+        Verb::Read => {
+            let field = field_at(line, schema)?;
+            Some(Command::Read { field })
+        }
+        Verb::Share => {
+            let field = field_at(line, schema)?;
+            Some(Command::Share { field })
+        }
+    }
+}
+
+/// Takes a site and a command.
+#[tactic(auto, unfolding(crate::specs::Commands::command_at))]
+pub(crate) fn command(line: &mut Words<'_>, schema: &Schema) -> Option<(SiteNo, Command)>
+    ensures { Gives result line.new (command_at schema.now line.old) }
+{
+    let site = site_at(line)?;
+    let verb = verb_at(line)?;
+    let command = arguments(line, schema, verb)?;
+    Some((site, command))
+}
+
+#[tactic(auto, unfolding(crate::specs::Commands::command_of))]
+fn command_read(schema: &Schema, line: &[u8]) -> Option<(SiteNo, Command)>
+    ensures { result ≡ command_of schema.now line.now }
+{
+    let mut words = Words::new(line);
+    let command = command(&mut words, schema)?;
+    if words.is_empty() {
+        Some(command)
+    } else {
+        None
+    }
+}
+
+/// The site and the command that the line, without its LF, spells under the schema. The site may lie
+/// outside the schema. None where the line spells no command.
+///
+/// Costs a pass over the line and at most one look-up in a map, and no memory.
+pub fn read_command(schema: &Schema, line: &[u8]) -> Option<(SiteNo, Command)>
+    ensures found { IfSome result (λ asked. line.now ≡ command_text schema.now asked.0 asked.1) }
+    ensures fits { IfSome result (λ asked. SiteFits asked.0 × CommandFits asked.1) }
+    ensures only { (site : Site) (command : CommandType) → SiteFits site → CommandFits command
+        → line.now ≡ command_text schema.now site command → result ≡ Some (site, command) }
+{
+    within_limits(schema);
+    command_read(schema, line)
+}

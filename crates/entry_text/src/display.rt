@@ -1,0 +1,131 @@
+//! What each value is displayed as.
+
+ghost use Rattle.std.specs.Prelude.{Some};
+ghost use Rattle.line_words.specs.Words.{line};
+ghost use Rattle.entry_text.specs.Spelling.{id_text, field_text, command_text, refusal_words, reply_text};
+
+use field_bounds::{Command, FieldNo, Refusal, Reply, Schema, SiteNo, TxnId};
+use std::fmt;
+
+/// A transaction, as `EPOCH.NUMBER`.
+#[derive(Clone, Copy)]
+struct TxnText(TxnId);
+
+impl fmt::Display for TxnText {
+    ghost output = { λ t. Some (id_text t.0) };
+
+    fn fmt<W: fmt::Write>(&self, f: &mut fmt::Formatter<W>) -> fmt::Result {
+        let epoch = self.0.epoch;
+        let number = self.0.number;
+        write!(f, "{epoch}.{number}")
+    }
+}
+
+/// A field beside the schema that names it.
+#[derive(Drop)]
+struct FieldText<'a> {
+    schema: &'a Schema,
+    field: FieldNo,
+}
+
+impl fmt::Display for FieldText<'_> {
+    ghost output = { λ x. Some (field_text x.schema.now x.field) };
+
+    fn fmt<W: fmt::Write>(&self, f: &mut fmt::Formatter<W>) -> fmt::Result {
+        let number = self.field.0;
+        if number < self.schema.fields() {
+            let name = self.schema.name(self.field);
+            write!(f, "{name}")
+        } else {
+            write!(f, "#{number}")
+        }
+    }
+}
+
+/// A command beside its site and the schema that names its field.
+#[derive(Drop)]
+pub(crate) struct CommandText<'a> {
+    pub(crate) schema: &'a Schema,
+    pub(crate) site: SiteNo,
+    pub(crate) command: Command,
+}
+
+impl fmt::Display for CommandText<'_> {
+    ghost output = { λ x. Some (command_text x.schema.now x.site x.command) };
+
+    fn fmt<W: fmt::Write>(&self, f: &mut fmt::Formatter<W>) -> fmt::Result {
+        let schema = self.schema;
+        let site = self.site.0;
+        match self.command {
+            Command::Begin => write!(f, "{site} begin"),
+            Command::Escrow { txn, field, change } => {
+                let txn = TxnText(txn);
+                let field = FieldText { schema, field };
+                write!(f, "{site} escrow {txn} {field} {change}")
+            }
+            Command::Commit { txn } => {
+                let txn = TxnText(txn);
+                write!(f, "{site} commit {txn}")
+            }
+            Command::Abort { txn } => {
+                let txn = TxnText(txn);
+                write!(f, "{site} abort {txn}")
+            }
+            Command::Read { field } => {
+                let field = FieldText { schema, field };
+                write!(f, "{site} read {field}")
+            }
+            Command::Share { field } => {
+                let field = FieldText { schema, field };
+                write!(f, "{site} share {field}")
+            }
+        }
+    }
+}
+
+/// A refusal, as its number and its words.
+#[derive(Clone, Copy)]
+struct RefusalText(Refusal);
+
+impl fmt::Display for RefusalText {
+    ghost output = { λ r. Some (line (refusal_words r.0)) };
+
+    fn fmt<W: fmt::Write>(&self, f: &mut fmt::Formatter<W>) -> fmt::Result {
+        match self.0 {
+            Refusal::NoField => write!(f, "3 no field"),
+            Refusal::NoTransaction => write!(f, "4 no transaction"),
+            Refusal::Zero => write!(f, "5 zero"),
+            Refusal::TooLarge => write!(f, "6 too large"),
+            Refusal::Short { share } => write!(f, "7 short {share}"),
+            Refusal::TooManyOpen => write!(f, "12 too many open"),
+            Refusal::TooManyEscrows => write!(f, "13 too many escrows"),
+            Refusal::NumbersFull => write!(f, "14 numbers full"),
+        }
+    }
+}
+
+/// A reply, as it stands behind the arrow of an entry.
+#[derive(Clone, Copy)]
+pub(crate) struct ReplyText(pub(crate) Reply);
+
+impl fmt::Display for ReplyText {
+    ghost output = { λ r. Some (reply_text r.0) };
+
+    fn fmt<W: fmt::Write>(&self, f: &mut fmt::Formatter<W>) -> fmt::Result {
+        match self.0 {
+            Reply::Begun(txn) => {
+                let txn = TxnText(txn);
+                write!(f, "begun {txn}")
+            }
+            Reply::Granted => write!(f, "granted"),
+            Reply::Committed => write!(f, "committed"),
+            Reply::Aborted => write!(f, "aborted"),
+            Reply::Between { lo, hi } => write!(f, "between {lo} {hi}"),
+            Reply::Shares { lower, raise } => write!(f, "share {lower} {raise}"),
+            Reply::Refused(refusal) => {
+                let refusal = RefusalText(refusal);
+                write!(f, "refused {refusal}")
+            }
+        }
+    }
+}

@@ -1,0 +1,28 @@
+//! Commands, replies and entries as text, both ways: each value has one text, and each text is of at
+//! most one value.
+//!
+//! A text is words with one space between them. Commands, replies and entries are readers of words,
+//! one after another, so that a new command or reply is a few lines in each file.
+//!
+//! Source: this project.
+#![tactic(auto)]
+
+mod command;
+mod display;
+mod entry;
+mod laws;
+mod refusal;
+mod reply;
+mod verb;
+mod word;
+mod writing;
+
+pub use command::read_command;
+pub use entry::read_entry;
+pub use laws::texts_are_lines;
+pub use line_words::{read_number, read_signed};
+pub use word::{read_field, read_kind};
+pub use writing::{append_entry, put_reply, write_command, write_entry};
+
+#[cfg(test)]
+mod tests;

@@ -1,0 +1,101 @@
+//! Replies as text.
+
+ghost use Rattle.std.specs.Prelude.{◌≡◌};
+ghost use Rattle.line_words.specs.Reading.{Gives, word_at};
+ghost use Rattle.entry_text.specs.Replies.{label_of, between_at, shares_at, reply_after, reply_at};
+
+use crate::refusal::refusal;
+use crate::verb::is_text;
+use crate::word::{number_at, signed_at, txn_at};
+use field_bounds::Reply;
+use line_words::Words;
+
+/// The word that says which reply it is.
+#[derive(Clone, Copy)]
+pub(crate) enum Label {
+    Begun,
+    Granted,
+    Committed,
+    Aborted,
+    Between,
+    Shares,
+    Refused,
+}
+
+#[tactic(auto, unfolding(crate::specs::Replies::label_of))]
+fn label_named(word: &[u8]) -> Option<Label>
+    ensures { result ≡ label_of word.now }
+{
+    if is_text(word, "begun") {
+        Some(Label::Begun)
+    } else if is_text(word, "granted") {
+        Some(Label::Granted)
+    } else if is_text(word, "committed") {
+        Some(Label::Committed)
+    } else if is_text(word, "aborted") {
+        Some(Label::Aborted)
+    } else if is_text(word, "between") {
+        Some(Label::Between)
+    } else if is_text(word, "share") {
+        Some(Label::Shares)
+    } else if is_text(word, "refused") {
+        Some(Label::Refused)
+    } else {
+        None
+    }
+}
+
+#[tactic(auto, unfolding(line_words::specs::Reading::word_at))]
+fn label_at(line: &mut Words<'_>) -> Option<Label>
+    ensures { Gives result line.new (word_at label_of line.old) }
+{
+    label_named(line.next()?)
+}
+
+#[tactic(auto, unfolding(crate::specs::Replies::between_at))]
+fn between(line: &mut Words<'_>) -> Option<Reply>
+    ensures { Gives result line.new (between_at line.old) }
+{
+    let lo = signed_at(line)?;
+    let hi = signed_at(line)?;
+    Some(Reply::Between { lo, hi })
+}
+
+#[tactic(auto, unfolding(crate::specs::Replies::shares_at))]
+fn shares(line: &mut Words<'_>) -> Option<Reply>
+    ensures { Gives result line.new (shares_at line.old) }
+{
+    let lower = number_at(line)?;
+    let raise = number_at(line)?;
+    Some(Reply::Shares { lower, raise })
+}
+
+#[tactic(auto, unfolding(crate::specs::Replies::reply_after))]
+fn reply_for(line: &mut Words<'_>, label: Label) -> Option<Reply>
+    ensures { Gives result line.new (reply_after label line.old) }
+{
+    match label {
+        Label::Begun => {
+            let txn = txn_at(line)?;
+            Some(Reply::Begun(txn))
+        }
+        Label::Granted => Some(Reply::Granted),
+        Label::Committed => Some(Reply::Committed),
+        Label::Aborted => Some(Reply::Aborted),
+        Label::Between => between(line),
+        Label::Shares => shares(line),
+        Label::Refused => {
+            let refusal = refusal(line)?;
+            Some(Reply::Refused(refusal))
+        }
+    }
+}
+
+/// Takes a reply.
+#[tactic(auto, unfolding(crate::specs::Replies::reply_at))]
+pub(crate) fn reply(line: &mut Words<'_>) -> Option<Reply>
+    ensures { Gives result line.new (reply_at line.old) }
+{
+    let label = label_at(line)?;
+    reply_for(line, label)
+}

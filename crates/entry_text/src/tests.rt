@@ -1,0 +1,267 @@
+use super::*;
+use field_bounds::{
+    Command, Entry, FieldNo, FieldSpec, Kind, Refusal, Reply, Schema, SiteNo, TxnId,
+};
+use std::alloc::Global;
+use std::process::Abort;
+use std::test::Fail;
+
+const STOCK: FieldNo = FieldNo(0);
+
+const FIRST: TxnId = TxnId {
+    epoch: 0,
+    number: 1,
+};
+
+/// Two sites, on one field from 0 to 100 at 40.
+fn stock(rt: &impl Abort, alloc: Global) -> Result<Schema, Fail> {
+    let stock = FieldSpec {
+        name: String::from_str(alloc, "stock")?,
+        floor: 0,
+        ceiling: 100,
+        value: 40,
+    };
+    let schema = Schema::new(alloc, 2, vec![in alloc; stock]?)?;
+    assert!(rt; schema.sites() == 2);
+    Ok(schema)
+}
+
+/// The line is read as the command at the site, which is written as the line.
+fn is_command(alloc: Global, schema: &Schema, line: &str, site: u16, command: Command) -> bool {
+    let site = SiteNo(site);
+    if read_command(schema, line.as_bytes()) != Some((site, command)) {
+        return false;
+    }
+    match write_command(alloc, schema, site, command) {
+        Ok(text) => text.as_str() == line,
+        Err(_) => false,
+    }
+}
+
+fn is_no_command(schema: &Schema, line: &str) -> bool {
+    read_command(schema, line.as_bytes()).is_none()
+}
+
+/// The line is read as the entry of a begin at site 0 with the reply, which is written as the line.
+fn is_reply(alloc: Global, schema: &Schema, line: &str, reply: Reply) -> bool {
+    let entry = Entry {
+        site: SiteNo(0),
+        command: Command::Begin,
+        reply,
+    };
+    if read_entry(schema, line.as_bytes()) != Some(entry) {
+        return false;
+    }
+    match write_entry(alloc, schema, entry) {
+        Ok(text) => text.as_str() == line,
+        Err(_) => false,
+    }
+}
+
+fn is_refusal(alloc: Global, schema: &Schema, line: &str, refusal: Refusal) -> bool {
+    is_reply(alloc, schema, line, Reply::Refused(refusal))
+}
+
+/// A read and a share of one field.
+fn spells_field(alloc: Global, schema: &Schema, read: &str, share: &str, field: FieldNo) -> bool {
+    is_command(alloc, schema, read, 0, Command::Read { field })
+        && is_command(alloc, schema, share, 0, Command::Share { field })
+}
+
+#[test]
+fn spells_commands(rt: HostRuntime) -> Result<(), Fail> {
+    let alloc = rt.alloc();
+    let schema = stock(&rt, alloc)?;
+    let escrow = Command::Escrow {
+        txn: FIRST,
+        field: STOCK,
+        change: -20,
+    };
+    let commit = Command::Commit { txn: FIRST };
+    let abort = Command::Abort { txn: FIRST };
+    assert!(rt; is_command(alloc, &schema, "0 begin", 0, Command::Begin));
+    assert!(rt; is_command(alloc, &schema, "65535 begin", 65535, Command::Begin));
+    assert!(rt; is_command(alloc, &schema, "1 escrow 0.1 stock -20", 1, escrow));
+    assert!(rt; is_command(alloc, &schema, "0 commit 0.1", 0, commit));
+    assert!(rt; is_command(alloc, &schema, "0 abort 0.1", 0, abort));
+    Ok(())
+}
+
+#[test]
+fn spells_fields(rt: HostRuntime) -> Result<(), Fail> {
+    let alloc = rt.alloc();
+    let schema = stock(&rt, alloc)?;
+    assert!(rt; spells_field(alloc, &schema, "0 read stock", "0 share stock", STOCK));
+    assert!(rt; spells_field(alloc, &schema, "0 read #1", "0 share #1", FieldNo(1)));
+    assert!(rt;
+        spells_field(
+            alloc,
+            &schema,
+            "0 read #65535",
+            "0 share #65535",
+            FieldNo(65535)
+        )
+    );
+    Ok(())
+}
+
+#[test]
+fn reads_words(rt: HostRuntime) -> Result<(), Fail> {
+    let schema = stock(&rt, rt.alloc())?;
+    assert_eq!(rt; read_field(&schema, b"stock"), Some(STOCK));
+    assert_eq!(rt; read_field(&schema, b"#0"), None);
+    assert_eq!(rt; read_kind(b"raise"), Some(Kind::Raise));
+    assert_eq!(rt; read_kind(b"rise"), None);
+    assert_eq!(rt; read_number(b"20"), Some(20));
+    assert_eq!(rt; read_signed(b"-20"), Some(-20));
+    Ok(())
+}
+
+#[test]
+fn has_its_law(rt: HostRuntime) -> Result<(), Fail> {
+    let schema = stock(&rt, rt.alloc())?;
+    texts_are_lines(&schema);
+    Ok(())
+}
+
+#[test]
+fn refuses_other_commands(rt: HostRuntime) -> Result<(), Fail> {
+    let schema = stock(&rt, rt.alloc())?;
+    assert!(rt; is_no_command(&schema, ""));
+    assert!(rt; is_no_command(&schema, "00 begin"));
+    assert!(rt; is_no_command(&schema, "0  begin"));
+    assert!(rt; is_no_command(&schema, "65536 begin"));
+    assert!(rt; is_no_command(&schema, "0 escrow 0.1 stock -0"));
+    assert!(rt; is_no_command(&schema, "0 escrow 0.01 stock 1"));
+    Ok(())
+}
+
+#[test]
+fn refuses_other_fields(rt: HostRuntime) -> Result<(), Fail> {
+    let schema = stock(&rt, rt.alloc())?;
+    assert!(rt; is_no_command(&schema, "0 read #0"));
+    assert!(rt; is_no_command(&schema, "0 read #65536"));
+    assert!(rt; is_no_command(&schema, "0 read stock "));
+    assert!(rt; is_no_command(&schema, "0 read sock"));
+    Ok(())
+}
+
+#[test]
+fn spells_replies(rt: HostRuntime) -> Result<(), Fail> {
+    let alloc = rt.alloc();
+    let schema = stock(&rt, alloc)?;
+    let between = Reply::Between { lo: -1, hi: 70 };
+    let shares = Reply::Shares {
+        lower: 18446744073709551615,
+        raise: 0,
+    };
+    let latest = TxnId {
+        epoch: 4294967295,
+        number: 7,
+    };
+    assert!(rt;
+        is_reply(
+            alloc,
+            &schema,
+            "0 begin -> begun 4294967295.7",
+            Reply::Begun(latest)
+        )
+    );
+    assert!(rt; is_reply(alloc, &schema, "0 begin -> granted", Reply::Granted));
+    assert!(rt; is_reply(alloc, &schema, "0 begin -> committed", Reply::Committed));
+    assert!(rt; is_reply(alloc, &schema, "0 begin -> aborted", Reply::Aborted));
+    assert!(rt; is_reply(alloc, &schema, "0 begin -> between -1 70", between));
+    assert!(rt;
+        is_reply(
+            alloc,
+            &schema,
+            "0 begin -> share 18446744073709551615 0",
+            shares
+        )
+    );
+    assert!(rt; read_entry(&schema, b"0 begin->granted").is_none());
+    Ok(())
+}
+
+#[test]
+fn spells_refusals(rt: HostRuntime) -> Result<(), Fail> {
+    let alloc = rt.alloc();
+    let schema = stock(&rt, alloc)?;
+    let short = Refusal::Short { share: 20 };
+    assert!(rt;
+        is_refusal(
+            alloc,
+            &schema,
+            "0 begin -> refused 3 no field",
+            Refusal::NoField
+        )
+    );
+    assert!(rt;
+        is_refusal(
+            alloc,
+            &schema,
+            "0 begin -> refused 4 no transaction",
+            Refusal::NoTransaction
+        )
+    );
+    assert!(rt; is_refusal(alloc, &schema, "0 begin -> refused 5 zero", Refusal::Zero));
+    assert!(rt;
+        is_refusal(
+            alloc,
+            &schema,
+            "0 begin -> refused 6 too large",
+            Refusal::TooLarge
+        )
+    );
+    assert!(rt; is_refusal(alloc, &schema, "0 begin -> refused 7 short 20", short));
+    Ok(())
+}
+
+#[test]
+fn spells_refusals_at_limits(rt: HostRuntime) -> Result<(), Fail> {
+    let alloc = rt.alloc();
+    let schema = stock(&rt, alloc)?;
+    let many = Refusal::TooManyEscrows;
+    assert!(rt;
+        is_refusal(
+            alloc,
+            &schema,
+            "0 begin -> refused 12 too many open",
+            Refusal::TooManyOpen
+        )
+    );
+    assert!(rt;
+        is_refusal(
+            alloc,
+            &schema,
+            "0 begin -> refused 13 too many escrows",
+            many
+        )
+    );
+    assert!(rt;
+        is_refusal(
+            alloc,
+            &schema,
+            "0 begin -> refused 14 numbers full",
+            Refusal::NumbersFull
+        )
+    );
+    Ok(())
+}
+
+#[test]
+fn appends_entries(rt: HostRuntime) -> Result<(), Fail> {
+    let alloc = rt.alloc();
+    let schema = stock(&rt, alloc)?;
+    let entry = Entry {
+        site: SiteNo(1),
+        command: Command::Begin,
+        reply: Reply::Begun(FIRST),
+    };
+    let mut text = String::new(alloc);
+    let mut out = vec![in alloc; b'#']?;
+    append_entry(&mut out, &mut text, &schema, entry)?;
+    append_entry(&mut out, &mut text, &schema, entry)?;
+    assert!(rt; out.as_slice() == b"#1 begin -> begun 0.11 begin -> begun 0.1".as_slice());
+    Ok(())
+}

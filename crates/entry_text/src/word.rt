@@ -1,0 +1,166 @@
+//! The readers of one word.
+
+ghost use Rattle.std.specs.Prelude.{◌≡◌, ◌==◌, ◌^◌, IfSome, Some, position};
+ghost use Rattle.field_bounds.specs.declared.kind.Kind.{Kind as KindType};
+ghost use Rattle.field_bounds.specs.declared.id.FieldNo.{FieldNo as FieldNumber};
+ghost use Rattle.field_bounds.specs.Limits.{IsSchema};
+ghost use Rattle.line_words.specs.Reading.{Gives, word_at, below, number_of, signed_of, only_of};
+ghost use Rattle.entry_text.specs.Spelling.{kind_text, field_text};
+ghost use Rattle.entry_text.specs.Ranges.{FieldFits};
+ghost use Rattle.entry_text.specs.Reading.{site_of, id_of, kind_of, named, field_of};
+
+use crate::verb::is_text;
+use field_bounds::{FieldNo, Kind, Schema, SiteNo, TxnId};
+use line_words::{Words, read_number, read_signed};
+
+fn small(word: &[u8]) -> Option<u16>
+    ensures { result ≡ below (2 ^ 16) word.now }
+{
+    u16::try_from(read_number(word)?).ok()
+}
+
+fn medium(word: &[u8]) -> Option<u32>
+    ensures { result ≡ below (2 ^ 32) word.now }
+{
+    u32::try_from(read_number(word)?).ok()
+}
+
+#[tactic(auto, unfolding(crate::specs::Reading::site_of))]
+fn site(word: &[u8]) -> Option<SiteNo>
+    ensures { result ≡ site_of word.now }
+{
+    Some(SiteNo(small(word)?))
+}
+
+fn place_of_dot(bytes: &[u8]) -> Option<usize>
+    ensures { result ≡ position (λ b. b == 46) bytes.now }
+{
+    bytes.iter().position(|b| *b == b'.')
+}
+
+#[tactic(auto, unfolding(crate::specs::Reading::id_of))]
+fn txn(word: &[u8]) -> Option<TxnId>
+    ensures { result ≡ id_of word.now }
+{
+    let dot = place_of_dot(word)?;
+    let epoch = medium(&word[..dot])?;
+    let number = medium(&word[dot + 1..])?;
+    Some(TxnId { epoch, number })
+}
+
+#[tactic(auto, unfolding(crate::specs::Reading::kind_of))]
+fn kind(word: &[u8]) -> Option<Kind>
+    ensures { result ≡ kind_of word.now }
+{
+    if is_text(word, "lower") {
+        Some(Kind::Lower)
+    } else if is_text(word, "raise") {
+        Some(Kind::Raise)
+    } else {
+        None
+    }
+}
+
+fn named(schema: &Schema, word: &[u8]) -> Option<FieldNo>
+    ensures { result ≡ named schema.now word.now }
+{
+    schema.field_no_of(word)
+}
+
+#[tactic(auto, unfolding(crate::specs::Reading::field_of))]
+fn field(schema: &Schema, word: &[u8]) -> Option<FieldNo>
+    ensures { result ≡ field_of schema.now word.now }
+{
+    match word {
+        [b'#', digits @ ..] => {
+            let number = small(digits)?;
+            if number < schema.fields() {
+                return None;
+            }
+            Some(FieldNo(number))
+        }
+        _ => named(schema, word),
+    }
+}
+
+#[tactic(auto, unfolding(line_words::specs::Reading::only_of))]
+fn only(word: &[u8], text: &str) -> Option<()>
+    ensures { result ≡ only_of text.now word.now }
+{
+    if is_text(word, text) { Some(()) } else { None }
+}
+
+/// That the schema is within its limits, on which the readers' contracts rest.
+pub(crate) fn within_limits(schema: &Schema)
+    ensures limits { IsSchema schema.now }
+{
+    let _fields = schema.fields();
+}
+
+/// The kind that the word spells: `lower` or `raise`. None where it spells none. Costs no memory.
+pub fn read_kind(word: &[u8]) -> Option<Kind>
+    ensures found { IfSome result (λ k. word.now ≡ kind_text k) }
+    ensures only { (k : KindType) → word.now ≡ kind_text k → result ≡ Some k }
+{
+    kind(word)
+}
+
+/// The field that the word spells: a name of the schema, or `#` and a number from the count of
+/// fields to 65535. So each field number has one spelling under a schema. None where the word
+/// spells none. Costs one look-up in a map, and no memory.
+pub fn read_field(schema: &Schema, word: &[u8]) -> Option<FieldNo>
+    ensures found { IfSome result (λ f. word.now ≡ field_text schema.now f) }
+    ensures only { (f : FieldNumber) → FieldFits f → word.now ≡ field_text schema.now f
+        → result ≡ Some f }
+{
+    within_limits(schema);
+    field(schema, word)
+}
+
+/// Takes a number.
+#[tactic(auto, unfolding(line_words::specs::Reading::word_at))]
+pub(crate) fn number_at(line: &mut Words<'_>) -> Option<u64>
+    ensures { Gives result line.new (word_at (number_of (2 ^ 64)) line.old) }
+{
+    read_number(line.next()?)
+}
+
+/// Takes a number with a sign.
+#[tactic(auto, unfolding(line_words::specs::Reading::word_at))]
+pub(crate) fn signed_at(line: &mut Words<'_>) -> Option<i64>
+    ensures { Gives result line.new (word_at signed_of line.old) }
+{
+    read_signed(line.next()?)
+}
+
+/// Takes a site: a number up to 65535.
+#[tactic(auto, unfolding(line_words::specs::Reading::word_at))]
+pub(crate) fn site_at(line: &mut Words<'_>) -> Option<SiteNo>
+    ensures { Gives result line.new (word_at site_of line.old) }
+{
+    site(line.next()?)
+}
+
+/// Takes a transaction: `EPOCH.NUMBER`, each a number of u32.
+#[tactic(auto, unfolding(line_words::specs::Reading::word_at))]
+pub(crate) fn txn_at(line: &mut Words<'_>) -> Option<TxnId>
+    ensures { Gives result line.new (word_at id_of line.old) }
+{
+    txn(line.next()?)
+}
+
+/// Takes a field.
+#[tactic(auto, unfolding(line_words::specs::Reading::word_at))]
+pub(crate) fn field_at(line: &mut Words<'_>, schema: &Schema) -> Option<FieldNo>
+    ensures { Gives result line.new (word_at (field_of schema.now) line.old) }
+{
+    field(schema, line.next()?)
+}
+
+/// Takes a word that has to be this text.
+#[tactic(auto, unfolding(line_words::specs::Reading::word_at))]
+pub(crate) fn expect(line: &mut Words<'_>, text: &str) -> Option<()>
+    ensures { Gives result line.new (word_at (only_of text.now) line.old) }
+{
+    only(line.next()?, text)
+}

@@ -1,0 +1,6 @@
+pub mod Bytes
+pub mod Spaced
+pub mod OneWord
+pub mod RecordKinds
+pub mod Pairs
+pub mod Lines

@@ -1,0 +1,6 @@
+pub mod Medium
+pub mod Media
+pub mod Text
+pub mod Reading
+pub mod Logs
+pub mod Faults

@@ -1,0 +1,25 @@
+//! What a site keeps across a stop: a medium of bytes with its law, and the records that are
+//! written to it, one line each, so that a torn end can't corrupt what was kept before.
+//!
+//! Source: this project.
+#![tactic(auto)]
+
+mod laws;
+mod log;
+mod medium;
+mod memory;
+mod reading;
+mod record;
+mod torn;
+mod writing;
+
+pub use laws::{no_text_begins_another, torn_end_keeps_records};
+pub use log::{RecordFault, read_records};
+pub use medium::{Device, Medium, MediumFault, Mishap};
+pub use memory::MemoryMedium;
+pub use record::{Escrows, Record};
+pub use torn::TornMedium;
+pub use writing::write_record;
+
+#[cfg(test)]
+mod tests;

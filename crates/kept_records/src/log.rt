@@ -1,0 +1,62 @@
+//! Records one after the other.
+
+ghost use Rattle.std.specs.Prelude.{◌≡◌, ◌==◌, IfOk, IfErr, position};
+ghost use Rattle.kept_records.specs.declared.log.RecordFault.TheVariants.{NoMemory};
+ghost use Rattle.kept_records.specs.Logs.{Reads, AreAll};
+ghost use Rattle.kept_records.specs.Faults.{TellsBadLine, TellsNoLog};
+
+use crate::reading::{LineFault, read_line};
+use crate::record::Record;
+use std::alloc::{AllocFailed, Global};
+use thiserror::Error;
+
+/// Why records weren't read.
+#[derive(Clone, Copy, Debug, PartialEq, Eq, Error)]
+pub enum RecordFault {
+    /// This line, counted from 1, is the first that is no record.
+    #[error("line {0} is no record")]
+    Line(u64),
+    #[error("out of memory")]
+    NoMemory,
+}
+
+impl<T: Drop> From<AllocFailed<T>> for RecordFault {
+    ghost from_gives = { λ _ e. e ≡ NoMemory };
+
+    fn from(_refused: AllocFailed<T>) -> RecordFault {
+        RecordFault::NoMemory
+    }
+}
+
+fn line_feed(bytes: &[u8]) -> Option<usize>
+    ensures { result ≡ position (λ b. b == 10) bytes.now }
+{
+    bytes.iter().position(|b| *b == b'\n')
+}
+
+/// The records whose texts the bytes are, and the length of these texts in bytes: up to and with
+/// the last line feed. What lies behind it is a torn record, whatever it is, and is left out. A line
+/// up to and with its line feed that is the text of no record is the fault `Line`, counted from 1,
+/// and the lines before it are records; so bytes that are a log are never refused for a line. The
+/// other fault is want of memory. Costs a pass over the bytes, and memory for the records.
+pub fn read_records(alloc: Global, bytes: &[u8]) -> Result<(Vec<Record>, usize), RecordFault>
+    ensures reads { IfOk result (λ read. Reads bytes.now read.0.items read.1) }
+    ensures only { IfOk result (λ read. AreAll bytes.now read.0.items read.1) }
+    ensures line { IfErr result (λ fault. TellsBadLine fault bytes.now) }
+    ensures no_log { IfErr result (λ fault. TellsNoLog fault bytes.now) }
+{
+    let mut records = Vec::new(alloc);
+    let mut length = 0;
+    let mut rest = bytes;
+    while let Some(end) = line_feed(rest) {
+        let kept = match read_line(alloc, &rest[..end]) {
+            Ok(kept) => kept,
+            Err(LineFault::NoRecord) => return Err(RecordFault::Line(records.len() as u64 + 1)),
+            Err(LineFault::NoMemory) => return Err(RecordFault::NoMemory),
+        };
+        records.push(kept)?;
+        length += end + 1;
+        rest = &rest[end + 1..];
+    }
+    Ok((records, length))
+}

@@ -1,0 +1,220 @@
+//! Reading one record.
+
+ghost use Rattle.std.specs.Prelude.{◌≡◌, ◌≤◌, ◌==◌, IfSome, position};
+ghost use Rattle.line_words.specs.Words.{words};
+ghost use Rattle.line_words.specs.Reading.{word_at, Gives};
+ghost use Rattle.kept_records.specs.declared.reading.LineFault.TheVariants.{NoMemory};
+ghost use Rattle.kept_records.specs.Reading.{number_within, change_of, kind_of, total_from, escrows_from, commit_from, gift_from, accept_from, restart_from, record_of, Tells};
+
+use crate::record::{Escrows, Record};
+use field_bounds::{Escrow, FieldNo, Kind, MAX_CHANGE, MAX_ESCROWS, MAX_NUMBER, SiteNo, TxnId};
+use line_words::{Words, read_number, read_signed};
+use std::alloc::{AllocFailed, Global};
+
+// The greatest total of a gift or of an acceptance, ten to the eighteenth.
+const MAX_TOTAL: u64 = 1_000_000_000_000_000_000;
+
+// The greatest number of a site or of a field.
+const MAX_PLACE: u64 = 65_535;
+
+// The greatest epoch, and the greatest number of a transaction.
+const LAST: u64 = MAX_NUMBER as u64;
+
+/// Why a line isn't read.
+#[derive(Clone, Copy, Debug, PartialEq, Eq)]
+pub(crate) enum LineFault {
+    NoRecord,
+    NoMemory,
+}
+
+impl<T: Drop> From<AllocFailed<T>> for LineFault {
+    ghost from_gives = { λ _ e. e ≡ NoMemory };
+
+    fn from(_refused: AllocFailed<T>) -> LineFault {
+        LineFault::NoMemory
+    }
+}
+
+// What a gift and an acceptance tell, with the other site.
+struct Total {
+    other: SiteNo,
+    field: FieldNo,
+    kind: Kind,
+    total: u64,
+}
+
+#[tactic(auto, unfolding(crate::specs::Reading::number_within))]
+fn number(word: &[u8], least: u64, most: u64) -> Option<u64>
+    ensures value { result ≡ number_within least most word.now }
+    ensures most { IfSome result (λ n. n ≤ most) }
+{
+    let number = read_number(word)?;
+    if least <= number && number <= most {
+        Some(number)
+    } else {
+        None
+    }
+}
+
+#[tactic(auto, unfolding(crate::specs::Reading::change_of))]
+fn change(word: &[u8]) -> Option<i64>
+    ensures { result ≡ change_of word.now }
+{
+    let change = read_signed(word)?;
+    let size = change.unsigned_abs();
+    if 1 <= size && size <= MAX_CHANGE {
+        Some(change)
+    } else {
+        None
+    }
+}
+
+fn kind(word: &[u8]) -> Option<Kind>
+    ensures { result ≡ kind_of word.now }
+{
+    match word {
+        [b'l'] => Some(Kind::Lower),
+        [b'r'] => Some(Kind::Raise),
+        _ => None,
+    }
+}
+
+#[tactic(auto, unfolding(line_words::specs::Reading::word_at))]
+fn take_number(words: &mut Words, least: u64, most: u64) -> Option<u64>
+    ensures value { Gives result words.new (word_at (number_within least most) words.old) }
+    ensures most { IfSome result (λ n. n ≤ most) }
+{
+    number(words.next()?, least, most)
+}
+
+#[tactic(auto, unfolding(line_words::specs::Reading::word_at))]
+fn take_kind(words: &mut Words) -> Option<Kind>
+    ensures { Gives result words.new (word_at kind_of words.old) }
+{
+    kind(words.next()?)
+}
+
+#[tactic(auto, unfolding(crate::specs::Reading::total_from))]
+fn take_total(mut words: Words) -> Option<Total>
+    ensures { result ≡ total_from words.entry }
+{
+    let other = take_number(&mut words, 0, MAX_PLACE)?;
+    let field = take_number(&mut words, 0, MAX_PLACE)?;
+    let kind = take_kind(&mut words)?;
+    let total = take_number(&mut words, 1, MAX_TOTAL)?;
+    match words.next() {
+        Some(_) => None,
+        None => Some(Total {
+            other: SiteNo(other as u16),
+            field: FieldNo(field as u16),
+            kind,
+            total,
+        }),
+    }
+}
+
+#[tactic(auto, unfolding(crate::specs::Reading::gift_from))]
+fn take_gift(words: Words) -> Option<Record>
+    ensures { result ≡ gift_from words.entry }
+{
+    let Total {
+        other,
+        field,
+        kind,
+        total,
+    } = take_total(words)?;
+    Some(Record::Gift {
+        to: other,
+        field,
+        kind,
+        total,
+    })
+}
+
+#[tactic(auto, unfolding(crate::specs::Reading::accept_from))]
+fn take_accept(words: Words) -> Option<Record>
+    ensures { result ≡ accept_from words.entry }
+{
+    let Total {
+        other,
+        field,
+        kind,
+        total,
+    } = take_total(words)?;
+    Some(Record::Accept {
+        from: other,
+        field,
+        kind,
+        total,
+    })
+}
+
+#[tactic(auto, unfolding(crate::specs::Reading::restart_from))]
+fn take_restart(mut words: Words) -> Option<Record>
+    ensures { result ≡ restart_from words.entry }
+{
+    let epoch = take_number(&mut words, 1, LAST)?;
+    match words.next() {
+        Some(_) => None,
+        None => Some(Record::Restart {
+            epoch: epoch as u32,
+        }),
+    }
+}
+
+// Pairs of a field and a change up to the end of the line.
+fn take_escrows(alloc: Global, mut words: Words) -> Result<Escrows, LineFault>
+    ensures { Tells result (escrows_from words.entry) }
+{
+    let mut escrows = Vec::new(alloc);
+    while let Some(first) = words.next() {
+        let Some(field) = number(first, 0, MAX_PLACE) else {
+            return Err(LineFault::NoRecord);
+        };
+        let Some(second) = words.next() else {
+            return Err(LineFault::NoRecord);
+        };
+        let Some(change) = change(second) else {
+            return Err(LineFault::NoRecord);
+        };
+        escrows.push(Escrow {
+            field: FieldNo(field as u16),
+            change,
+        })?;
+    }
+    Ok(Escrows::new(escrows))
+}
+
+#[tactic(auto, unfolding(crate::specs::Reading::commit_from))]
+fn take_commit(alloc: Global, mut words: Words) -> Result<Record, LineFault>
+    ensures { Tells result (commit_from words.entry) }
+{
+    let epoch = take_number(&mut words, 0, LAST).ok_or(LineFault::NoRecord)?;
+    let number = take_number(&mut words, 1, LAST).ok_or(LineFault::NoRecord)?;
+    let escrows = take_escrows(alloc, words)?;
+    let count = escrows.as_slice().len();
+    if 1 <= count && count <= MAX_ESCROWS {
+        let txn = TxnId {
+            epoch: epoch as u32,
+            number: number as u32,
+        };
+        Ok(Record::Commit { txn, escrows })
+    } else {
+        Err(LineFault::NoRecord)
+    }
+}
+
+/// The record whose text is the line and a line feed.
+#[tactic(auto, unfolding(crate::specs::Reading::record_of))]
+pub(crate) fn read_line(alloc: Global, line: &[u8]) -> Result<Record, LineFault>
+    ensures { Tells result (record_of (words line.now)) }
+{
+    let mut words = Words::new(line);
+    match words.next() {
+        Some([b'C']) => take_commit(alloc, words),
+        Some([b'G']) => take_gift(words).ok_or(LineFault::NoRecord),
+        Some([b'A']) => take_accept(words).ok_or(LineFault::NoRecord),
+        Some([b'R']) => take_restart(words).ok_or(LineFault::NoRecord),
+        _ => Err(LineFault::NoRecord),
+    }
+}

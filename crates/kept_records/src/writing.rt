@@ -1,0 +1,125 @@
+//! Writing records.
+
+ghost use Rattle.std.specs.Prelude.{◌≡◌, ◌++◌, ◌∷◌, OnOk, IfOk};
+ghost use Rattle.std.specs.Fmt.{decimal, signed_decimal};
+ghost use Rattle.kept_records.specs.Text.{text, letter_of, words_of, spaced, kind_word, escrow_words, total_words, IsRecord};
+ghost use Rattle.kept_records.specs.Logs.{TearsClean};
+
+use crate::record::Record;
+use field_bounds::{Escrow, FieldNo, Kind, SiteNo};
+use itoa::Buffer;
+use std::alloc::{AllocError, Global};
+
+// Adds a space and a word.
+fn push_word(line: &mut Vec<u8>, word: &[u8]) -> Result<(), AllocError>
+    ensures { OnOk result (line.new.items ≡ line.old.items ++ 32 ∷ word.now) }
+{
+    line.push(b' ')?;
+    line.extend_from_slice(word)?;
+    Ok(())
+}
+
+// Adds a space and a number.
+fn push_number(line: &mut Vec<u8>, number: u64) -> Result<(), AllocError>
+    ensures { OnOk result (line.new.items ≡ line.old.items ++ 32 ∷ decimal number) }
+{
+    let mut buffer = Buffer::new();
+    push_word(line, buffer.format(number).as_bytes())
+}
+
+// Adds a space and a number with its sign.
+fn push_signed(line: &mut Vec<u8>, number: i64) -> Result<(), AllocError>
+    ensures { OnOk result (line.new.items ≡ line.old.items ++ 32 ∷ signed_decimal number) }
+{
+    let mut buffer = Buffer::new();
+    push_word(line, buffer.format(number).as_bytes())
+}
+
+fn kind_letter(kind: Kind) -> &'static [u8]
+    ensures { result.now ≡ kind_word kind }
+{
+    match kind {
+        Kind::Lower => b"l",
+        Kind::Raise => b"r",
+    }
+}
+
+// Adds the words of the escrows, a space before each.
+fn push_escrows(line: &mut Vec<u8>, escrows: &[Escrow]) -> Result<(), AllocError>
+    ensures { OnOk result (line.new.items ≡ line.old.items ++ spaced (escrow_words escrows.now)) }
+{
+    for escrow in escrows {
+        push_number(line, u64::from(escrow.field.0))?;
+        push_signed(line, escrow.change)?;
+    }
+    Ok(())
+}
+
+// Adds the words of a gift or of an acceptance, a space before each.
+fn push_total(
+    line: &mut Vec<u8>,
+    other: SiteNo,
+    field: FieldNo,
+    kind: Kind,
+    total: u64,
+) -> Result<(), AllocError>
+    ensures { OnOk result (line.new.items ≡ line.old.items ++ spaced (total_words other field kind total)) }
+{
+    push_number(line, u64::from(other.0))?;
+    push_number(line, u64::from(field.0))?;
+    push_word(line, kind_letter(kind))?;
+    push_number(line, total)
+}
+
+fn letter(kept: &Record) -> u8
+    ensures { result ≡ letter_of kept.now }
+{
+    match kept {
+        Record::Commit { .. } => b'C',
+        Record::Gift { .. } => b'G',
+        Record::Accept { .. } => b'A',
+        Record::Restart { .. } => b'R',
+    }
+}
+
+// Adds the words of a record behind its letter, a space before each.
+fn push_words(line: &mut Vec<u8>, kept: &Record) -> Result<(), AllocError>
+    ensures { OnOk result (line.new.items ≡ line.old.items ++ spaced (words_of kept.now)) }
+{
+    match kept {
+        Record::Commit { txn, escrows } => {
+            push_number(line, u64::from(txn.epoch))?;
+            push_number(line, u64::from(txn.number))?;
+            push_escrows(line, escrows.as_slice())
+        }
+        Record::Gift {
+            to,
+            field,
+            kind,
+            total,
+        } => push_total(line, *to, *field, *kind, *total),
+        Record::Accept {
+            from,
+            field,
+            kind,
+            total,
+        } => push_total(line, *from, *field, *kind, *total),
+        Record::Restart { epoch } => push_number(line, u64::from(*epoch)),
+    }
+}
+
+/// The text of a record, its line feed included. Its numbers have to lie in the ranges that
+/// `Record` tells. A front of the text is the whole text, or has no line feed: so an append that
+/// fails, or a stop, leaves the whole record or none. The error is want of memory. Costs a pass
+/// over the record, and memory for the text.
+pub fn write_record(alloc: Global, kept: &Record) -> Result<Vec<u8>, AllocError>
+    requires ranges { IsRecord kept.now }
+    ensures text { IfOk result (λ line. line.items ≡ text kept.now) }
+    ensures torn { IfOk result (λ line. TearsClean line.items) }
+{
+    let mut line = Vec::new(alloc);
+    line.push(letter(kept))?;
+    push_words(&mut line, kept)?;
+    line.push(b'\n')?;
+    Ok(line)
+}
