@@ -4,7 +4,7 @@ use Rattle.std.specs.Prelude.{codes}
 use Rattle.std.specs.List.{AllByRecursion}
 use Rattle.field_bounds.specs.declared.entry.Entry.{Entry}
 use Rattle.field_bounds.specs.declared.entry.Reply.{Reply}
-use Rattle.field_bounds.specs.declared.entry.Reply.TheVariants.{Begun, Granted, Committed, Aborted, Between, Shares, Refused}
+use Rattle.field_bounds.specs.declared.entry.Reply.TheVariants.{Begun, Granted, Committed, Aborted, Given, Stated, Accepted, Between, Shares, Refused}
 use Rattle.field_bounds.specs.Schema.{SchemaValue}
 use Rattle.field_bounds.specs.Limits.{IsSchema}
 use Rattle.line_words.specs.Words.{line}
@@ -58,6 +58,9 @@ after_arrow (Begun txn) = refl
 after_arrow Granted = refl
 after_arrow Committed = refl
 after_arrow Aborted = refl
+after_arrow (Given total) = refl
+after_arrow (Stated total) = refl
+after_arrow (Accepted gain) = refl
 after_arrow (Between lo hi) = refl
 after_arrow (Shares lower raise) = refl
 after_arrow (Refused refusal) = refl

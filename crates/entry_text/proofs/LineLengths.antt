@@ -9,20 +9,22 @@ use Rattle.std.proofs.lemmas.Fmt.{length-decimal-le}
 use Rattle.std.proofs.lemmas.List.{length-append}
 use Rattle.std.proofs.lemmas.Bool.{cases_lt, and_parts}
 use Rattle.std.proofs.lemmas.Bool.Decides.{nat_tests}
+use Rattle.field_bounds.specs.declared.kind.Kind.{Kind}
+use Rattle.field_bounds.specs.declared.kind.Kind.TheVariants.{Lower, Raise}
 use Rattle.field_bounds.specs.declared.id.FieldNo.{FieldNo}
 use Rattle.field_bounds.specs.declared.id.TxnId.{TxnId}
 use Rattle.field_bounds.specs.declared.entry.Command.{Command}
-use Rattle.field_bounds.specs.declared.entry.Command.TheVariants.{Begin, Escrow, Commit, Abort, Read, Share}
+use Rattle.field_bounds.specs.declared.entry.Command.TheVariants.{Begin, Escrow, Commit, Abort, Give, Restate, Accept, Read, Share}
 use Rattle.field_bounds.specs.declared.entry.Refusal.{Refusal}
-use Rattle.field_bounds.specs.declared.entry.Refusal.TheVariants.{NoField, NoTransaction, Zero, TooLarge, Short, TooManyOpen, TooManyEscrows, NumbersFull}
+use Rattle.field_bounds.specs.declared.entry.Refusal.TheVariants.{NoSite, NoField, NoTransaction, Zero, TooLarge, Short, SelfGift, LedgerFull, NotYours, Forged, TooManyOpen, TooManyEscrows, NumbersFull, NothingGiven}
 use Rattle.field_bounds.specs.declared.entry.Reply.{Reply}
-use Rattle.field_bounds.specs.declared.entry.Reply.TheVariants.{Begun, Granted, Committed, Aborted, Between, Shares, Refused}
+use Rattle.field_bounds.specs.declared.entry.Reply.TheVariants.{Begun, Granted, Committed, Aborted, Given, Stated, Accepted, Between, Shares, Refused}
 use Rattle.field_bounds.specs.Schema.{FieldValue, SchemaValue}
 use Rattle.field_bounds.specs.Limits.{is_name, is_name_length, is_name_byte, IsField, IsSchema}
 use Rattle.field_bounds.specs.Parts.{no_field}
 use Rattle.line_words.specs.Words.{line}
 use Rattle.line_words.proofs.WordLemmas.{IsWord}
-use Rattle.entry_text.specs.Spelling.{id_text, field_text, site_text, command_words, refusal_words, reply_words, entry_words}
+use Rattle.entry_text.specs.Spelling.{id_text, kind_text, field_text, site_text, command_words, refusal_words, reply_words, entry_words}
 use Rattle.entry_text.specs.Ranges.{IdFits, FieldFits, CommandFits, RefusalFits, ReplyFits}
 use Rattle.entry_text.specs.Lines.{CommandsAreLines, EntriesAreLines}
 use Rattle.entry_text.proofs.FieldLemmas.{in_schema, past_schema}
@@ -77,6 +79,10 @@ signed_width (negsuc n) fits = omega (arith, wide (suc n) (omega (arith, ints, f
 id_width : (t : TxnId) → IdFits t → length (id_text t) ≤ 21
 id_width t fits = omega (arith, length-append (decimal t.epoch) (46 ∷ decimal t.number), middle t.epoch fits.0, middle t.number fits.1)
 
+kind_width : (k : Kind) → length (kind_text k) ≤ 5
+kind_width Lower = omega arith
+kind_width Raise = omega arith
+
 name_length : (w : List ℕ) → is_name w ≡ true → length w ≤ 32
 unfolding is_name is_name_length
 name_length w e =
@@ -102,24 +108,36 @@ command_room schema is Begin fits = omega arith
 command_room schema is (Escrow txn field change) fits = omega (arith, id_width txn fits.0, field_width schema is field fits.1, signed_width change fits.2)
 command_room schema is (Commit txn) fits = omega (arith, id_width txn fits)
 command_room schema is (Abort txn) fits = omega (arith, id_width txn fits)
+command_room schema is (Give to field kind amount) fits = omega (arith, narrow to.0 fits.0, field_width schema is field fits.1, kind_width kind, wide amount fits.2)
+command_room schema is (Restate to field kind) fits = omega (arith, narrow to.0 fits.0, field_width schema is field fits.1, kind_width kind)
+command_room schema is (Accept s) fits = omega (arith, narrow s.from.0 fits.0, narrow s.to.0 fits.1, field_width schema is s.field fits.2, kind_width s.kind, wide s.total fits.3)
 command_room schema is (Read field) fits = omega (arith, field_width schema is field fits)
 command_room schema is (Share field) fits = omega (arith, field_width schema is field fits)
 
 refusal_room : (r : Refusal) → RefusalFits r → room (refusal_words r) ≤ 40
+refusal_room NoSite fits = omega arith
 refusal_room NoField fits = omega arith
 refusal_room NoTransaction fits = omega arith
 refusal_room Zero fits = omega arith
 refusal_room TooLarge fits = omega arith
 refusal_room (Short share) fits = omega (arith, wide share fits)
+refusal_room SelfGift fits = omega arith
+refusal_room (LedgerFull total) fits = omega (arith, wide total fits)
+refusal_room NotYours fits = omega arith
+refusal_room (Forged room) fits = omega (arith, wide room fits)
 refusal_room TooManyOpen fits = omega arith
 refusal_room TooManyEscrows fits = omega arith
 refusal_room NumbersFull fits = omega arith
+refusal_room NothingGiven fits = omega arith
 
 reply_room : (r : Reply) → ReplyFits r → room (reply_words r) ≤ 60
 reply_room (Begun txn) fits = omega (arith, id_width txn fits)
 reply_room Granted fits = omega arith
 reply_room Committed fits = omega arith
 reply_room Aborted fits = omega arith
+reply_room (Given total) fits = omega (arith, wide total fits)
+reply_room (Stated total) fits = omega (arith, wide total fits)
+reply_room (Accepted gain) fits = omega (arith, wide gain fits)
 reply_room (Between lo hi) fits = omega (arith, signed_width lo fits.0, signed_width hi fits.1)
 reply_room (Shares lower raise) fits = omega (arith, wide lower fits.0, wide raise fits.1)
 reply_room (Refused refusal) fits = omega (arith, refusal_room refusal fits)

@@ -3,9 +3,9 @@ use Rattle.std.proofs.Common.{◌≡◌, ℕ, List, ◌∷◌, ◌++◌, Some, r
 use Rattle.std.specs.Prelude.{codes}
 use Rattle.std.specs.List.{AllByRecursion}
 use Rattle.field_bounds.specs.declared.entry.Refusal.{Refusal}
-use Rattle.field_bounds.specs.declared.entry.Refusal.TheVariants.{NoField, NoTransaction, Zero, TooLarge, Short, TooManyOpen, TooManyEscrows, NumbersFull}
+use Rattle.field_bounds.specs.declared.entry.Refusal.TheVariants.{NoSite, NoField, NoTransaction, Zero, TooLarge, Short, SelfGift, LedgerFull, NotYours, Forged, TooManyOpen, TooManyEscrows, NumbersFull, NothingGiven}
 use Rattle.field_bounds.specs.declared.entry.Reply.{Reply}
-use Rattle.field_bounds.specs.declared.entry.Reply.TheVariants.{Begun, Granted, Committed, Aborted, Between, Shares, Refused}
+use Rattle.field_bounds.specs.declared.entry.Reply.TheVariants.{Begun, Granted, Committed, Aborted, Given, Stated, Accepted, Between, Shares, Refused}
 use Rattle.line_words.proofs.WordLemmas.{IsWord, word_from_test}
 use Rattle.line_words.proofs.Forms.{IsRead, IsForm, found, taking, word_again, taking_form, form_again, made_of}
 use Rattle.line_words.proofs.WordKinds.{number_read, signed_read, only_read, beside_takes}
@@ -15,45 +15,63 @@ use Rattle.entry_text.specs.declared.reply.Label.{Label}
 use Rattle.entry_text.specs.declared.reply.Label.TheVariants as labels
 use Rattle.entry_text.specs.Spelling.{refusal_words, reply_words}
 use Rattle.entry_text.specs.Ranges.{RefusalFits, ReplyFits}
-use Rattle.entry_text.specs.Replies.{reason_of, reason_table, two_at, three_at, short_at, refusal_after, refusal_at, label_of, label_table, between_at, shares_at, reply_after, reply_at}
+use Rattle.entry_text.specs.Replies.{reason_of, reason_table, two_at, three_at, short_at, ledger_full_at, forged_at, refusal_after, refusal_at, label_of, label_table, between_at, shares_at, reply_after, reply_at}
 use Rattle.entry_text.proofs.WordKinds.{id_read}
 
 -- ---- refusals
 
 abbrev reason_text : Reason → List ℕ
+reason_text reasons.NoSite = codes "2"
 reason_text reasons.NoField = codes "3"
 reason_text reasons.NoTransaction = codes "4"
 reason_text reasons.Zero = codes "5"
 reason_text reasons.TooLarge = codes "6"
 reason_text reasons.Short = codes "7"
+reason_text reasons.SelfGift = codes "8"
+reason_text reasons.LedgerFull = codes "9"
+reason_text reasons.NotYours = codes "10"
+reason_text reasons.Forged = codes "11"
 reason_text reasons.TooManyOpen = codes "12"
 reason_text reasons.TooManyEscrows = codes "13"
 reason_text reasons.NumbersFull = codes "14"
+reason_text reasons.NothingGiven = codes "15"
 
 reason_takes : (w : List ℕ) (r : Reason) → reason_of w ≡ Some r → w ≡ reason_text r
 unfolding reason_of
-reason_takes w r e = beside_takes reason_text reason_table (refl, (refl, (refl, (refl, (refl, (refl, (refl, (refl, tt)))))))) w r e
+reason_takes w r e = beside_takes reason_text reason_table (refl, (refl, (refl, (refl, (refl, (refl, (refl, (refl, (refl, (refl, (refl, (refl, (refl, (refl, tt)))))))))))))) w r e
 
 reason_again : (r : Reason) → reason_of (reason_text r) ≡ Some r
 unfolding reason_of
+reason_again reasons.NoSite = refl
 reason_again reasons.NoField = refl
 reason_again reasons.NoTransaction = refl
 reason_again reasons.Zero = refl
 reason_again reasons.TooLarge = refl
 reason_again reasons.Short = refl
+reason_again reasons.SelfGift = refl
+reason_again reasons.LedgerFull = refl
+reason_again reasons.NotYours = refl
+reason_again reasons.Forged = refl
 reason_again reasons.TooManyOpen = refl
 reason_again reasons.TooManyEscrows = refl
 reason_again reasons.NumbersFull = refl
+reason_again reasons.NothingGiven = refl
 
 reason_word : (r : Reason) → IsWord (reason_text r)
+reason_word reasons.NoSite = word_from_test (reason_text reasons.NoSite) refl
 reason_word reasons.NoField = word_from_test (reason_text reasons.NoField) refl
 reason_word reasons.NoTransaction = word_from_test (reason_text reasons.NoTransaction) refl
 reason_word reasons.Zero = word_from_test (reason_text reasons.Zero) refl
 reason_word reasons.TooLarge = word_from_test (reason_text reasons.TooLarge) refl
 reason_word reasons.Short = word_from_test (reason_text reasons.Short) refl
+reason_word reasons.SelfGift = word_from_test (reason_text reasons.SelfGift) refl
+reason_word reasons.LedgerFull = word_from_test (reason_text reasons.LedgerFull) refl
+reason_word reasons.NotYours = word_from_test (reason_text reasons.NotYours) refl
+reason_word reasons.Forged = word_from_test (reason_text reasons.Forged) refl
 reason_word reasons.TooManyOpen = word_from_test (reason_text reasons.TooManyOpen) refl
 reason_word reasons.TooManyEscrows = word_from_test (reason_text reasons.TooManyEscrows) refl
 reason_word reasons.NumbersFull = word_from_test (reason_text reasons.NumbersFull) refl
+reason_word reasons.NothingGiven = word_from_test (reason_text reasons.NothingGiven) refl
 
 reason_read : IsRead (λ (r : Reason). Unit {0}) reason_text reason_of
 reason_read = record { takes = λ w r e. (tt, reason_takes w r e); again = λ r fits. reason_again r; plain = λ r fits. reason_word r }
@@ -63,7 +81,11 @@ made_refusal : {ws : List (List ℕ)} (b v : Refusal) (after rest : List (List �
 made_refusal {ws} b v after rest e fits is = made_of RefusalFits refusal_words ws b v after rest e fits is
 
 after_reason : (r : Reason) (ws : List (List ℕ)) (v : Refusal) (rest : List (List ℕ)) → refusal_after r ws ≡ found v rest → RefusalFits v × (reason_text r ∷ ws ≡ refusal_words v ++ rest)
-unfolding refusal_after two_at three_at short_at
+unfolding refusal_after two_at three_at short_at ledger_full_at forged_at
+after_reason reasons.NoSite ws v rest e =
+    taking (only_read (codes "no") refl) _ ws _ e (λ a r1 f1 w1 e1.
+    taking (only_read (codes "site") refl) _ r1 _ e1 (λ b r2 f2 w2 e2.
+    made_refusal NoSite v r2 rest e2 tt (cc (w1, w2))))
 after_reason reasons.NoField ws v rest e =
     taking (only_read (codes "no") refl) _ ws _ e (λ a r1 f1 w1 e1.
     taking (only_read (codes "field") refl) _ r1 _ e1 (λ b r2 f2 w2 e2.
@@ -83,6 +105,23 @@ after_reason reasons.Short ws v rest e =
     taking (only_read (codes "short") refl) _ ws _ e (λ a r1 f1 w1 e1.
     taking number_read _ r1 _ e1 (λ share r2 f2 w2 e2.
     made_refusal (Short share) v r2 rest e2 f2 (cc (w1, w2))))
+after_reason reasons.SelfGift ws v rest e =
+    taking (only_read (codes "self") refl) _ ws _ e (λ a r1 f1 w1 e1.
+    taking (only_read (codes "gift") refl) _ r1 _ e1 (λ b r2 f2 w2 e2.
+    made_refusal SelfGift v r2 rest e2 tt (cc (w1, w2))))
+after_reason reasons.LedgerFull ws v rest e =
+    taking (only_read (codes "ledger") refl) _ ws _ e (λ a r1 f1 w1 e1.
+    taking (only_read (codes "full") refl) _ r1 _ e1 (λ b r2 f2 w2 e2.
+    taking number_read _ r2 _ e2 (λ total r3 f3 w3 e3.
+    made_refusal (LedgerFull total) v r3 rest e3 f3 (cc (w1, w2, w3)))))
+after_reason reasons.NotYours ws v rest e =
+    taking (only_read (codes "not") refl) _ ws _ e (λ a r1 f1 w1 e1.
+    taking (only_read (codes "yours") refl) _ r1 _ e1 (λ b r2 f2 w2 e2.
+    made_refusal NotYours v r2 rest e2 tt (cc (w1, w2))))
+after_reason reasons.Forged ws v rest e =
+    taking (only_read (codes "forged") refl) _ ws _ e (λ a r1 f1 w1 e1.
+    taking number_read _ r1 _ e1 (λ room r2 f2 w2 e2.
+    made_refusal (Forged room) v r2 rest e2 f2 (cc (w1, w2))))
 after_reason reasons.TooManyOpen ws v rest e =
     taking (only_read (codes "too") refl) _ ws _ e (λ a r1 f1 w1 e1.
     taking (only_read (codes "many") refl) _ r1 _ e1 (λ b r2 f2 w2 e2.
@@ -97,6 +136,10 @@ after_reason reasons.NumbersFull ws v rest e =
     taking (only_read (codes "numbers") refl) _ ws _ e (λ a r1 f1 w1 e1.
     taking (only_read (codes "full") refl) _ r1 _ e1 (λ b r2 f2 w2 e2.
     made_refusal NumbersFull v r2 rest e2 tt (cc (w1, w2))))
+after_reason reasons.NothingGiven ws v rest e =
+    taking (only_read (codes "nothing") refl) _ ws _ e (λ a r1 f1 w1 e1.
+    taking (only_read (codes "given") refl) _ r1 _ e1 (λ b r2 f2 w2 e2.
+    made_refusal NothingGiven v r2 rest e2 tt (cc (w1, w2))))
 
 refusal_takes : (ws : List (List ℕ)) (v : Refusal) (rest : List (List ℕ)) → refusal_at ws ≡ found v rest → RefusalFits v × (ws ≡ refusal_words v ++ rest)
 unfolding refusal_at
@@ -105,25 +148,37 @@ refusal_takes ws v rest e =
     let t = after_reason r r1 v rest e1 in (t.0, w1 ∙ t.1))
 
 refusal_again : (v : Refusal) (rest : List (List ℕ)) → RefusalFits v → refusal_at (refusal_words v ++ rest) ≡ found v rest
-unfolding refusal_at refusal_after two_at three_at short_at
+unfolding refusal_at refusal_after two_at three_at short_at ledger_full_at forged_at
+refusal_again NoSite rest fits = word_again reason_read _ reasons.NoSite _ tt ∙ word_again (only_read (codes "no") refl) _ tt _ tt ∙ word_again (only_read (codes "site") refl) _ tt rest tt
 refusal_again NoField rest fits = word_again reason_read _ reasons.NoField _ tt ∙ word_again (only_read (codes "no") refl) _ tt _ tt ∙ word_again (only_read (codes "field") refl) _ tt rest tt
 refusal_again NoTransaction rest fits = word_again reason_read _ reasons.NoTransaction _ tt ∙ word_again (only_read (codes "no") refl) _ tt _ tt ∙ word_again (only_read (codes "transaction") refl) _ tt rest tt
 refusal_again Zero rest fits = word_again reason_read _ reasons.Zero _ tt ∙ word_again (only_read (codes "zero") refl) _ tt rest tt
 refusal_again TooLarge rest fits = word_again reason_read _ reasons.TooLarge _ tt ∙ word_again (only_read (codes "too") refl) _ tt _ tt ∙ word_again (only_read (codes "large") refl) _ tt rest tt
 refusal_again (Short share) rest fits = word_again reason_read _ reasons.Short _ tt ∙ word_again (only_read (codes "short") refl) _ tt _ tt ∙ word_again number_read _ share rest fits
+refusal_again SelfGift rest fits = word_again reason_read _ reasons.SelfGift _ tt ∙ word_again (only_read (codes "self") refl) _ tt _ tt ∙ word_again (only_read (codes "gift") refl) _ tt rest tt
+refusal_again (LedgerFull total) rest fits = word_again reason_read _ reasons.LedgerFull _ tt ∙ word_again (only_read (codes "ledger") refl) _ tt _ tt ∙ word_again (only_read (codes "full") refl) _ tt _ tt ∙ word_again number_read _ total rest fits
+refusal_again NotYours rest fits = word_again reason_read _ reasons.NotYours _ tt ∙ word_again (only_read (codes "not") refl) _ tt _ tt ∙ word_again (only_read (codes "yours") refl) _ tt rest tt
+refusal_again (Forged room) rest fits = word_again reason_read _ reasons.Forged _ tt ∙ word_again (only_read (codes "forged") refl) _ tt _ tt ∙ word_again number_read _ room rest fits
 refusal_again TooManyOpen rest fits = word_again reason_read _ reasons.TooManyOpen _ tt ∙ word_again (only_read (codes "too") refl) _ tt _ tt ∙ word_again (only_read (codes "many") refl) _ tt _ tt ∙ word_again (only_read (codes "open") refl) _ tt rest tt
 refusal_again TooManyEscrows rest fits = word_again reason_read _ reasons.TooManyEscrows _ tt ∙ word_again (only_read (codes "too") refl) _ tt _ tt ∙ word_again (only_read (codes "many") refl) _ tt _ tt ∙ word_again (only_read (codes "escrows") refl) _ tt rest tt
 refusal_again NumbersFull rest fits = word_again reason_read _ reasons.NumbersFull _ tt ∙ word_again (only_read (codes "numbers") refl) _ tt _ tt ∙ word_again (only_read (codes "full") refl) _ tt rest tt
+refusal_again NothingGiven rest fits = word_again reason_read _ reasons.NothingGiven _ tt ∙ word_again (only_read (codes "nothing") refl) _ tt _ tt ∙ word_again (only_read (codes "given") refl) _ tt rest tt
 
 refusal_plain : (v : Refusal) → RefusalFits v → AllByRecursion IsWord (refusal_words v)
+refusal_plain NoSite fits = (reason_word reasons.NoSite, (word_from_test (codes "no") refl, (word_from_test (codes "site") refl, tt)))
 refusal_plain NoField fits = (reason_word reasons.NoField, (word_from_test (codes "no") refl, (word_from_test (codes "field") refl, tt)))
 refusal_plain NoTransaction fits = (reason_word reasons.NoTransaction, (word_from_test (codes "no") refl, (word_from_test (codes "transaction") refl, tt)))
 refusal_plain Zero fits = (reason_word reasons.Zero, (word_from_test (codes "zero") refl, tt))
 refusal_plain TooLarge fits = (reason_word reasons.TooLarge, (word_from_test (codes "too") refl, (word_from_test (codes "large") refl, tt)))
 refusal_plain (Short share) fits = (reason_word reasons.Short, (word_from_test (codes "short") refl, (number_read.plain share fits, tt)))
+refusal_plain SelfGift fits = (reason_word reasons.SelfGift, (word_from_test (codes "self") refl, (word_from_test (codes "gift") refl, tt)))
+refusal_plain (LedgerFull total) fits = (reason_word reasons.LedgerFull, (word_from_test (codes "ledger") refl, (word_from_test (codes "full") refl, (number_read.plain total fits, tt))))
+refusal_plain NotYours fits = (reason_word reasons.NotYours, (word_from_test (codes "not") refl, (word_from_test (codes "yours") refl, tt)))
+refusal_plain (Forged room) fits = (reason_word reasons.Forged, (word_from_test (codes "forged") refl, (number_read.plain room fits, tt)))
 refusal_plain TooManyOpen fits = (reason_word reasons.TooManyOpen, (word_from_test (codes "too") refl, (word_from_test (codes "many") refl, (word_from_test (codes "open") refl, tt))))
 refusal_plain TooManyEscrows fits = (reason_word reasons.TooManyEscrows, (word_from_test (codes "too") refl, (word_from_test (codes "many") refl, (word_from_test (codes "escrows") refl, tt))))
 refusal_plain NumbersFull fits = (reason_word reasons.NumbersFull, (word_from_test (codes "numbers") refl, (word_from_test (codes "full") refl, tt)))
+refusal_plain NothingGiven fits = (reason_word reasons.NothingGiven, (word_from_test (codes "nothing") refl, (word_from_test (codes "given") refl, tt)))
 
 pub refusal_form : IsForm RefusalFits refusal_words refusal_at
 refusal_form = record { takes = refusal_takes; again = refusal_again; plain = refusal_plain }
@@ -135,13 +190,16 @@ label_text labels.Begun = codes "begun"
 label_text labels.Granted = codes "granted"
 label_text labels.Committed = codes "committed"
 label_text labels.Aborted = codes "aborted"
+label_text labels.Given = codes "given"
+label_text labels.Stated = codes "stated"
+label_text labels.Accepted = codes "accepted"
 label_text labels.Between = codes "between"
 label_text labels.Shares = codes "share"
 label_text labels.Refused = codes "refused"
 
 label_takes : (w : List ℕ) (l : Label) → label_of w ≡ Some l → w ≡ label_text l
 unfolding label_of
-label_takes w l e = beside_takes label_text label_table (refl, (refl, (refl, (refl, (refl, (refl, (refl, tt))))))) w l e
+label_takes w l e = beside_takes label_text label_table (refl, (refl, (refl, (refl, (refl, (refl, (refl, (refl, (refl, (refl, tt)))))))))) w l e
 
 label_again : (l : Label) → label_of (label_text l) ≡ Some l
 unfolding label_of
@@ -149,6 +207,9 @@ label_again labels.Begun = refl
 label_again labels.Granted = refl
 label_again labels.Committed = refl
 label_again labels.Aborted = refl
+label_again labels.Given = refl
+label_again labels.Stated = refl
+label_again labels.Accepted = refl
 label_again labels.Between = refl
 label_again labels.Shares = refl
 label_again labels.Refused = refl
@@ -158,6 +219,9 @@ label_word labels.Begun = word_from_test (label_text labels.Begun) refl
 label_word labels.Granted = word_from_test (label_text labels.Granted) refl
 label_word labels.Committed = word_from_test (label_text labels.Committed) refl
 label_word labels.Aborted = word_from_test (label_text labels.Aborted) refl
+label_word labels.Given = word_from_test (label_text labels.Given) refl
+label_word labels.Stated = word_from_test (label_text labels.Stated) refl
+label_word labels.Accepted = word_from_test (label_text labels.Accepted) refl
 label_word labels.Between = word_from_test (label_text labels.Between) refl
 label_word labels.Shares = word_from_test (label_text labels.Shares) refl
 label_word labels.Refused = word_from_test (label_text labels.Refused) refl
@@ -177,6 +241,15 @@ after_label labels.Begun ws v rest e =
 after_label labels.Granted ws v rest e = made_reply Granted v ws rest e tt refl
 after_label labels.Committed ws v rest e = made_reply Committed v ws rest e tt refl
 after_label labels.Aborted ws v rest e = made_reply Aborted v ws rest e tt refl
+after_label labels.Given ws v rest e =
+    taking number_read _ ws _ e (λ total r1 f1 w1 e1.
+    made_reply (Given total) v r1 rest e1 f1 (cc w1))
+after_label labels.Stated ws v rest e =
+    taking number_read _ ws _ e (λ total r1 f1 w1 e1.
+    made_reply (Stated total) v r1 rest e1 f1 (cc w1))
+after_label labels.Accepted ws v rest e =
+    taking number_read _ ws _ e (λ gain r1 f1 w1 e1.
+    made_reply (Accepted gain) v r1 rest e1 f1 (cc w1))
 after_label labels.Between ws v rest e =
     taking signed_read _ ws _ e (λ lo r1 f1 w1 e1.
     taking signed_read _ r1 _ e1 (λ hi r2 f2 w2 e2.
@@ -201,6 +274,9 @@ reply_again (Begun txn) rest fits = word_again label_read _ labels.Begun _ tt �
 reply_again Granted rest fits = word_again label_read _ labels.Granted rest tt
 reply_again Committed rest fits = word_again label_read _ labels.Committed rest tt
 reply_again Aborted rest fits = word_again label_read _ labels.Aborted rest tt
+reply_again (Given total) rest fits = word_again label_read _ labels.Given _ tt ∙ word_again number_read _ total rest fits
+reply_again (Stated total) rest fits = word_again label_read _ labels.Stated _ tt ∙ word_again number_read _ total rest fits
+reply_again (Accepted gain) rest fits = word_again label_read _ labels.Accepted _ tt ∙ word_again number_read _ gain rest fits
 reply_again (Between lo hi) rest fits = word_again label_read _ labels.Between _ tt ∙ word_again signed_read _ lo _ fits.0 ∙ word_again signed_read _ hi rest fits.1
 reply_again (Shares lower raise) rest fits = word_again label_read _ labels.Shares _ tt ∙ word_again number_read _ lower _ fits.0 ∙ word_again number_read _ raise rest fits.1
 reply_again (Refused refusal) rest fits = word_again label_read _ labels.Refused _ tt ∙ form_again refusal_form _ refusal rest fits
@@ -210,6 +286,9 @@ reply_plain (Begun txn) fits = (label_word labels.Begun, (id_read.plain txn fits
 reply_plain Granted fits = (label_word labels.Granted, tt)
 reply_plain Committed fits = (label_word labels.Committed, tt)
 reply_plain Aborted fits = (label_word labels.Aborted, tt)
+reply_plain (Given total) fits = (label_word labels.Given, (number_read.plain total fits, tt))
+reply_plain (Stated total) fits = (label_word labels.Stated, (number_read.plain total fits, tt))
+reply_plain (Accepted gain) fits = (label_word labels.Accepted, (number_read.plain gain fits, tt))
 reply_plain (Between lo hi) fits = (label_word labels.Between, (signed_read.plain lo fits.0, (signed_read.plain hi fits.1, tt)))
 reply_plain (Shares lower raise) fits = (label_word labels.Shares, (number_read.plain lower fits.0, (number_read.plain raise fits.1, tt)))
 reply_plain (Refused refusal) fits = (label_word labels.Refused, refusal_plain refusal fits)

@@ -5,11 +5,11 @@ use Rattle.field_bounds.specs.declared.id.SiteNo.{SiteNo}
 use Rattle.field_bounds.specs.declared.id.FieldNo.{FieldNo}
 use Rattle.field_bounds.specs.declared.id.TxnId.{TxnId}
 use Rattle.field_bounds.specs.declared.entry.Command.{Command}
-use Rattle.field_bounds.specs.declared.entry.Command.TheVariants.{Begin, Escrow, Commit, Abort, Read, Share}
+use Rattle.field_bounds.specs.declared.entry.Command.TheVariants.{Begin, Escrow, Commit, Abort, Give, Restate, Accept, Read, Share}
 use Rattle.field_bounds.specs.declared.entry.Refusal.{Refusal}
-use Rattle.field_bounds.specs.declared.entry.Refusal.TheVariants.{NoField, NoTransaction, Zero, TooLarge, Short, TooManyOpen, TooManyEscrows, NumbersFull}
+use Rattle.field_bounds.specs.declared.entry.Refusal.TheVariants.{NoSite, NoField, NoTransaction, Zero, TooLarge, Short, SelfGift, LedgerFull, NotYours, Forged, TooManyOpen, TooManyEscrows, NumbersFull, NothingGiven}
 use Rattle.field_bounds.specs.declared.entry.Reply.{Reply}
-use Rattle.field_bounds.specs.declared.entry.Reply.TheVariants.{Begun, Granted, Committed, Aborted, Between, Shares, Refused}
+use Rattle.field_bounds.specs.declared.entry.Reply.TheVariants.{Begun, Granted, Committed, Aborted, Given, Stated, Accepted, Between, Shares, Refused}
 use Rattle.field_bounds.specs.declared.entry.Entry.{Entry}
 
 -- A site's number is a u16.
@@ -24,25 +24,34 @@ FieldFits f = f.0 < 2 ^ 16
 abbrev pub IdFits : TxnId → Type 0
 IdFits t = (t.epoch < 2 ^ 32) × (t.number < 2 ^ 32)
 
--- What a command names fits, and a change is an i64.
+-- What a command names fits, a change is an i64, an amount or a total a u64.
 abbrev pub CommandFits : Command → Type 0
 CommandFits Begin = Unit {0}
 CommandFits (Escrow txn field change) = IdFits txn × FieldFits field × FitsSigned w64 change
 CommandFits (Commit txn) = IdFits txn
 CommandFits (Abort txn) = IdFits txn
+CommandFits (Give to field kind amount) = SiteFits to × FieldFits field × (amount < 2 ^ 64)
+CommandFits (Restate to field kind) = SiteFits to × FieldFits field
+CommandFits (Accept statement) = SiteFits statement.from × SiteFits statement.to × FieldFits statement.field × (statement.total < 2 ^ 64)
 CommandFits (Read field) = FieldFits field
 CommandFits (Share field) = FieldFits field
 
--- A share is a u64.
+-- What a refusal tells is a u64.
 abbrev pub RefusalFits : Refusal → Type 0
+RefusalFits NoSite = Unit {0}
 RefusalFits NoField = Unit {0}
 RefusalFits NoTransaction = Unit {0}
 RefusalFits Zero = Unit {0}
 RefusalFits TooLarge = Unit {0}
 RefusalFits (Short share) = share < 2 ^ 64
+RefusalFits SelfGift = Unit {0}
+RefusalFits (LedgerFull total) = total < 2 ^ 64
+RefusalFits NotYours = Unit {0}
+RefusalFits (Forged room) = room < 2 ^ 64
 RefusalFits TooManyOpen = Unit {0}
 RefusalFits TooManyEscrows = Unit {0}
 RefusalFits NumbersFull = Unit {0}
+RefusalFits NothingGiven = Unit {0}
 
 -- Values are i64, rights u64.
 abbrev pub ReplyFits : Reply → Type 0
@@ -50,6 +59,9 @@ ReplyFits (Begun txn) = IdFits txn
 ReplyFits Granted = Unit {0}
 ReplyFits Committed = Unit {0}
 ReplyFits Aborted = Unit {0}
+ReplyFits (Given total) = total < 2 ^ 64
+ReplyFits (Stated total) = total < 2 ^ 64
+ReplyFits (Accepted gain) = gain < 2 ^ 64
 ReplyFits (Between lo hi) = FitsSigned w64 lo × FitsSigned w64 hi
 ReplyFits (Shares lower raise) = (lower < 2 ^ 64) × (raise < 2 ^ 64)
 ReplyFits (Refused refusal) = RefusalFits refusal

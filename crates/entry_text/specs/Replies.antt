@@ -15,8 +15,9 @@ use Rattle.entry_text.specs.Reading.{id_of}
 
 -- The refusals by their numbers.
 abbrev pub reason_table : List (List ℕ × Reason)
-reason_table = (codes "3", reasons.NoField) ∷ (codes "4", reasons.NoTransaction) ∷ (codes "5", reasons.Zero) ∷ (codes "6", reasons.TooLarge)
-    ∷ (codes "7", reasons.Short) ∷ (codes "12", reasons.TooManyOpen) ∷ (codes "13", reasons.TooManyEscrows) ∷ (codes "14", reasons.NumbersFull) ∷ []
+reason_table = (codes "2", reasons.NoSite) ∷ (codes "3", reasons.NoField) ∷ (codes "4", reasons.NoTransaction) ∷ (codes "5", reasons.Zero) ∷ (codes "6", reasons.TooLarge)
+    ∷ (codes "7", reasons.Short) ∷ (codes "8", reasons.SelfGift) ∷ (codes "9", reasons.LedgerFull) ∷ (codes "10", reasons.NotYours) ∷ (codes "11", reasons.Forged)
+    ∷ (codes "12", reasons.TooManyOpen) ∷ (codes "13", reasons.TooManyEscrows) ∷ (codes "14", reasons.NumbersFull) ∷ (codes "15", reasons.NothingGiven) ∷ []
 
 -- The refusal that the word numbers.
 unfoldable pub reason_of : List ℕ → Option Reason
@@ -42,8 +43,24 @@ short_at ws = do
   share ← word_at (number_of (2 ^ 64)) a.1
   Some (refusals.Short share.0, share.1)
 
+-- A refusal that tells the total given so far.
+unfoldable pub ledger_full_at : List (List ℕ) → Option (Refusal × List (List ℕ))
+ledger_full_at ws = do
+  a ← word_at (only_of (codes "ledger")) ws
+  b ← word_at (only_of (codes "full")) a.1
+  total ← word_at (number_of (2 ^ 64)) b.1
+  Some (refusals.LedgerFull total.0, total.1)
+
+-- A refusal that tells the room.
+unfoldable pub forged_at : List (List ℕ) → Option (Refusal × List (List ℕ))
+forged_at ws = do
+  a ← word_at (only_of (codes "forged")) ws
+  room ← word_at (number_of (2 ^ 64)) a.1
+  Some (refusals.Forged room.0, room.1)
+
 -- The refusal of a number with its words, and the words after them.
 unfoldable pub refusal_after : Reason → List (List ℕ) → Option (Refusal × List (List ℕ))
+refusal_after reasons.NoSite ws = two_at (codes "no") (codes "site") refusals.NoSite ws
 refusal_after reasons.NoField ws = two_at (codes "no") (codes "field") refusals.NoField ws
 refusal_after reasons.NoTransaction ws = two_at (codes "no") (codes "transaction") refusals.NoTransaction ws
 refusal_after reasons.Zero ws = do
@@ -51,9 +68,14 @@ refusal_after reasons.Zero ws = do
   Some (refusals.Zero, a.1)
 refusal_after reasons.TooLarge ws = two_at (codes "too") (codes "large") refusals.TooLarge ws
 refusal_after reasons.Short ws = short_at ws
+refusal_after reasons.SelfGift ws = two_at (codes "self") (codes "gift") refusals.SelfGift ws
+refusal_after reasons.LedgerFull ws = ledger_full_at ws
+refusal_after reasons.NotYours ws = two_at (codes "not") (codes "yours") refusals.NotYours ws
+refusal_after reasons.Forged ws = forged_at ws
 refusal_after reasons.TooManyOpen ws = three_at (codes "too") (codes "many") (codes "open") refusals.TooManyOpen ws
 refusal_after reasons.TooManyEscrows ws = three_at (codes "too") (codes "many") (codes "escrows") refusals.TooManyEscrows ws
 refusal_after reasons.NumbersFull ws = two_at (codes "numbers") (codes "full") refusals.NumbersFull ws
+refusal_after reasons.NothingGiven ws = two_at (codes "nothing") (codes "given") refusals.NothingGiven ws
 
 -- The refusal of a list of words, and the words after it.
 unfoldable pub refusal_at : List (List ℕ) → Option (Refusal × List (List ℕ))
@@ -66,6 +88,7 @@ refusal_at ws = do
 -- The replies by their words.
 abbrev pub label_table : List (List ℕ × Label)
 label_table = (codes "begun", labels.Begun) ∷ (codes "granted", labels.Granted) ∷ (codes "committed", labels.Committed) ∷ (codes "aborted", labels.Aborted)
+    ∷ (codes "given", labels.Given) ∷ (codes "stated", labels.Stated) ∷ (codes "accepted", labels.Accepted)
     ∷ (codes "between", labels.Between) ∷ (codes "share", labels.Shares) ∷ (codes "refused", labels.Refused) ∷ []
 
 -- The reply that the word names.
@@ -94,6 +117,15 @@ reply_after labels.Begun ws = do
 reply_after labels.Granted ws = Some (replies.Granted, ws)
 reply_after labels.Committed ws = Some (replies.Committed, ws)
 reply_after labels.Aborted ws = Some (replies.Aborted, ws)
+reply_after labels.Given ws = do
+  total ← word_at (number_of (2 ^ 64)) ws
+  Some (replies.Given total.0, total.1)
+reply_after labels.Stated ws = do
+  total ← word_at (number_of (2 ^ 64)) ws
+  Some (replies.Stated total.0, total.1)
+reply_after labels.Accepted ws = do
+  gain ← word_at (number_of (2 ^ 64)) ws
+  Some (replies.Accepted gain.0, gain.1)
 reply_after labels.Between ws = between_at ws
 reply_after labels.Shares ws = shares_at ws
 reply_after labels.Refused ws = do

@@ -7,11 +7,11 @@ use Rattle.field_bounds.specs.declared.id.SiteNo.{SiteNo}
 use Rattle.field_bounds.specs.declared.id.FieldNo.{FieldNo}
 use Rattle.field_bounds.specs.declared.id.TxnId.{TxnId}
 use Rattle.field_bounds.specs.declared.entry.Command.{Command}
-use Rattle.field_bounds.specs.declared.entry.Command.TheVariants.{Begin, Escrow, Commit, Abort, Read, Share}
+use Rattle.field_bounds.specs.declared.entry.Command.TheVariants.{Begin, Escrow, Commit, Abort, Give, Restate, Accept, Read, Share}
 use Rattle.field_bounds.specs.declared.entry.Refusal.{Refusal}
-use Rattle.field_bounds.specs.declared.entry.Refusal.TheVariants.{NoField, NoTransaction, Zero, TooLarge, Short, TooManyOpen, TooManyEscrows, NumbersFull}
+use Rattle.field_bounds.specs.declared.entry.Refusal.TheVariants.{NoSite, NoField, NoTransaction, Zero, TooLarge, Short, SelfGift, LedgerFull, NotYours, Forged, TooManyOpen, TooManyEscrows, NumbersFull, NothingGiven}
 use Rattle.field_bounds.specs.declared.entry.Reply.{Reply}
-use Rattle.field_bounds.specs.declared.entry.Reply.TheVariants.{Begun, Granted, Committed, Aborted, Between, Shares, Refused}
+use Rattle.field_bounds.specs.declared.entry.Reply.TheVariants.{Begun, Granted, Committed, Aborted, Given, Stated, Accepted, Between, Shares, Refused}
 use Rattle.field_bounds.specs.declared.entry.Entry.{Entry}
 use Rattle.field_bounds.specs.Schema.{SchemaValue}
 use Rattle.field_bounds.specs.Parts.{field_at}
@@ -44,6 +44,9 @@ command_words schema Begin = codes "begin" ∷ []
 command_words schema (Escrow txn field change) = codes "escrow" ∷ id_text txn ∷ field_text schema field ∷ signed_decimal change ∷ []
 command_words schema (Commit txn) = codes "commit" ∷ id_text txn ∷ []
 command_words schema (Abort txn) = codes "abort" ∷ id_text txn ∷ []
+command_words schema (Give to field kind amount) = codes "give" ∷ site_text to ∷ field_text schema field ∷ kind_text kind ∷ decimal amount ∷ []
+command_words schema (Restate to field kind) = codes "restate" ∷ site_text to ∷ field_text schema field ∷ kind_text kind ∷ []
+command_words schema (Accept statement) = codes "accept" ∷ site_text statement.from ∷ site_text statement.to ∷ field_text schema statement.field ∷ kind_text statement.kind ∷ decimal statement.total ∷ []
 command_words schema (Read field) = codes "read" ∷ field_text schema field ∷ []
 command_words schema (Share field) = codes "share" ∷ field_text schema field ∷ []
 
@@ -55,14 +58,20 @@ command_text schema site command = line (site_text site ∷ command_words schema
 
 -- The words of a refusal: its number first.
 abbrev pub refusal_words : Refusal → List (List ℕ)
+refusal_words NoSite = codes "2" ∷ codes "no" ∷ codes "site" ∷ []
 refusal_words NoField = codes "3" ∷ codes "no" ∷ codes "field" ∷ []
 refusal_words NoTransaction = codes "4" ∷ codes "no" ∷ codes "transaction" ∷ []
 refusal_words Zero = codes "5" ∷ codes "zero" ∷ []
 refusal_words TooLarge = codes "6" ∷ codes "too" ∷ codes "large" ∷ []
 refusal_words (Short share) = codes "7" ∷ codes "short" ∷ decimal share ∷ []
+refusal_words SelfGift = codes "8" ∷ codes "self" ∷ codes "gift" ∷ []
+refusal_words (LedgerFull total) = codes "9" ∷ codes "ledger" ∷ codes "full" ∷ decimal total ∷ []
+refusal_words NotYours = codes "10" ∷ codes "not" ∷ codes "yours" ∷ []
+refusal_words (Forged room) = codes "11" ∷ codes "forged" ∷ decimal room ∷ []
 refusal_words TooManyOpen = codes "12" ∷ codes "too" ∷ codes "many" ∷ codes "open" ∷ []
 refusal_words TooManyEscrows = codes "13" ∷ codes "too" ∷ codes "many" ∷ codes "escrows" ∷ []
 refusal_words NumbersFull = codes "14" ∷ codes "numbers" ∷ codes "full" ∷ []
+refusal_words NothingGiven = codes "15" ∷ codes "nothing" ∷ codes "given" ∷ []
 
 -- The words of a reply.
 abbrev pub reply_words : Reply → List (List ℕ)
@@ -70,6 +79,9 @@ reply_words (Begun txn) = codes "begun" ∷ id_text txn ∷ []
 reply_words Granted = codes "granted" ∷ []
 reply_words Committed = codes "committed" ∷ []
 reply_words Aborted = codes "aborted" ∷ []
+reply_words (Given total) = codes "given" ∷ decimal total ∷ []
+reply_words (Stated total) = codes "stated" ∷ decimal total ∷ []
+reply_words (Accepted gain) = codes "accepted" ∷ decimal gain ∷ []
 reply_words (Between lo hi) = codes "between" ∷ signed_decimal lo ∷ signed_decimal hi ∷ []
 reply_words (Shares lower raise) = codes "share" ∷ decimal lower ∷ decimal raise ∷ []
 reply_words (Refused refusal) = codes "refused" ∷ refusal_words refusal

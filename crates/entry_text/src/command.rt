@@ -6,11 +6,11 @@ ghost use Rattle.field_bounds.specs.declared.entry.Command.{Command as CommandTy
 ghost use Rattle.line_words.specs.Reading.{Gives};
 ghost use Rattle.entry_text.specs.Spelling.{command_text};
 ghost use Rattle.entry_text.specs.Ranges.{SiteFits, CommandFits};
-ghost use Rattle.entry_text.specs.Commands.{escrow_at, arguments_at, command_at, command_of};
+ghost use Rattle.entry_text.specs.Commands.{escrow_at, give_at, restate_at, accept_at, arguments_at, command_at, command_of};
 
 use crate::verb::{Verb, verb_at};
-use crate::word::{field_at, signed_at, site_at, txn_at, within_limits};
-use field_bounds::{Command, Schema, SiteNo};
+use crate::word::{field_at, kind_at, number_at, signed_at, site_at, txn_at, within_limits};
+use field_bounds::{Command, Schema, SiteNo, Statement};
 use line_words::Words;
 
 #[tactic(auto, unfolding(crate::specs::Commands::escrow_at))]
@@ -21,6 +21,50 @@ fn escrow(line: &mut Words<'_>, schema: &Schema) -> Option<Command>
     let field = field_at(line, schema)?;
     let change = signed_at(line)?;
     Some(Command::Escrow { txn, field, change })
+}
+
+#[tactic(auto, unfolding(crate::specs::Commands::give_at))]
+fn give(line: &mut Words<'_>, schema: &Schema) -> Option<Command>
+    ensures { Gives result line.new (give_at schema.now line.old) }
+{
+    let to = site_at(line)?;
+    let field = field_at(line, schema)?;
+    let kind = kind_at(line)?;
+    let amount = number_at(line)?;
+    Some(Command::Give {
+        to,
+        field,
+        kind,
+        amount,
+    })
+}
+
+#[tactic(auto, unfolding(crate::specs::Commands::restate_at))]
+fn restate(line: &mut Words<'_>, schema: &Schema) -> Option<Command>
+    ensures { Gives result line.new (restate_at schema.now line.old) }
+{
+    let to = site_at(line)?;
+    let field = field_at(line, schema)?;
+    let kind = kind_at(line)?;
+    Some(Command::Restate { to, field, kind })
+}
+
+#[tactic(auto, unfolding(crate::specs::Commands::accept_at))]
+fn accept(line: &mut Words<'_>, schema: &Schema) -> Option<Command>
+    ensures { Gives result line.new (accept_at schema.now line.old) }
+{
+    let from = site_at(line)?;
+    let to = site_at(line)?;
+    let field = field_at(line, schema)?;
+    let kind = kind_at(line)?;
+    let total = number_at(line)?;
+    Some(Command::Accept(Statement {
+        from,
+        to,
+        field,
+        kind,
+        total,
+    }))
 }
 
 #[tactic(auto, unfolding(crate::specs::Commands::arguments_at))]
@@ -38,6 +82,9 @@ fn arguments(line: &mut Words<'_>, schema: &Schema, verb: Verb) -> Option<Comman
             let txn = txn_at(line)?;
             Some(Command::Abort { txn })
         }
+        Verb::Give => give(line, schema),
+        Verb::Restate => restate(line, schema),
+        Verb::Accept => accept(line, schema),
         Verb::Read => {
             let field = field_at(line, schema)?;
             Some(Command::Read { field })

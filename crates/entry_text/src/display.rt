@@ -2,9 +2,9 @@
 
 ghost use Rattle.std.specs.Prelude.{Some};
 ghost use Rattle.line_words.specs.Words.{line};
-ghost use Rattle.entry_text.specs.Spelling.{id_text, field_text, command_text, refusal_words, reply_text};
+ghost use Rattle.entry_text.specs.Spelling.{id_text, kind_text, field_text, command_text, refusal_words, reply_text};
 
-use field_bounds::{Command, FieldNo, Refusal, Reply, Schema, SiteNo, TxnId};
+use field_bounds::{Command, FieldNo, Kind, Refusal, Reply, Schema, SiteNo, TxnId};
 use std::fmt;
 
 /// A transaction, as `EPOCH.NUMBER`.
@@ -18,6 +18,21 @@ impl fmt::Display for TxnText {
         let epoch = self.0.epoch;
         let number = self.0.number;
         write!(f, "{epoch}.{number}")
+    }
+}
+
+/// A kind of right, as `lower` or `raise`.
+#[derive(Clone, Copy)]
+struct KindText(Kind);
+
+impl fmt::Display for KindText {
+    ghost output = { λ k. Some (kind_text k.0) };
+
+    fn fmt<W: fmt::Write>(&self, f: &mut fmt::Formatter<W>) -> fmt::Result {
+        match self.0 {
+            Kind::Lower => write!(f, "lower"),
+            Kind::Raise => write!(f, "raise"),
+        }
     }
 }
 
@@ -71,6 +86,34 @@ impl fmt::Display for CommandText<'_> {
                 let txn = TxnText(txn);
                 write!(f, "{site} abort {txn}")
             }
+            Command::Give {
+                to,
+                field,
+                kind,
+                amount,
+            } => {
+                let to = to.0;
+                let field = FieldText { schema, field };
+                let kind = KindText(kind);
+                write!(f, "{site} give {to} {field} {kind} {amount}")
+            }
+            Command::Restate { to, field, kind } => {
+                let to = to.0;
+                let field = FieldText { schema, field };
+                let kind = KindText(kind);
+                write!(f, "{site} restate {to} {field} {kind}")
+            }
+            Command::Accept(statement) => {
+                let from = statement.from.0;
+                let to = statement.to.0;
+                let field = FieldText {
+                    schema,
+                    field: statement.field,
+                };
+                let kind = KindText(statement.kind);
+                let total = statement.total;
+                write!(f, "{site} accept {from} {to} {field} {kind} {total}")
+            }
             Command::Read { field } => {
                 let field = FieldText { schema, field };
                 write!(f, "{site} read {field}")
@@ -92,14 +135,20 @@ impl fmt::Display for RefusalText {
 
     fn fmt<W: fmt::Write>(&self, f: &mut fmt::Formatter<W>) -> fmt::Result {
         match self.0 {
+            Refusal::NoSite => write!(f, "2 no site"),
             Refusal::NoField => write!(f, "3 no field"),
             Refusal::NoTransaction => write!(f, "4 no transaction"),
             Refusal::Zero => write!(f, "5 zero"),
             Refusal::TooLarge => write!(f, "6 too large"),
             Refusal::Short { share } => write!(f, "7 short {share}"),
+            Refusal::SelfGift => write!(f, "8 self gift"),
+            Refusal::LedgerFull { total } => write!(f, "9 ledger full {total}"),
+            Refusal::NotYours => write!(f, "10 not yours"),
+            Refusal::Forged { room } => write!(f, "11 forged {room}"),
             Refusal::TooManyOpen => write!(f, "12 too many open"),
             Refusal::TooManyEscrows => write!(f, "13 too many escrows"),
             Refusal::NumbersFull => write!(f, "14 numbers full"),
+            Refusal::NothingGiven => write!(f, "15 nothing given"),
         }
     }
 }
@@ -120,6 +169,9 @@ impl fmt::Display for ReplyText {
             Reply::Granted => write!(f, "granted"),
             Reply::Committed => write!(f, "committed"),
             Reply::Aborted => write!(f, "aborted"),
+            Reply::Given { total } => write!(f, "given {total}"),
+            Reply::Stated { total } => write!(f, "stated {total}"),
+            Reply::Accepted { gain } => write!(f, "accepted {gain}"),
             Reply::Between { lo, hi } => write!(f, "between {lo} {hi}"),
             Reply::Shares { lower, raise } => write!(f, "share {lower} {raise}"),
             Reply::Refused(refusal) => {

@@ -2,7 +2,7 @@
 
 ghost use Rattle.std.specs.Prelude.{◌≡◌};
 ghost use Rattle.line_words.specs.Reading.{Gives, word_at};
-ghost use Rattle.entry_text.specs.Replies.{reason_of, two_at, three_at, short_at, refusal_after, refusal_at};
+ghost use Rattle.entry_text.specs.Replies.{reason_of, two_at, three_at, short_at, ledger_full_at, forged_at, refusal_after, refusal_at};
 
 use crate::verb::is_text;
 use crate::word::{expect, number_at};
@@ -12,21 +12,29 @@ use line_words::Words;
 /// The number that says which refusal it is.
 #[derive(Clone, Copy)]
 pub(crate) enum Reason {
+    NoSite,
     NoField,
     NoTransaction,
     Zero,
     TooLarge,
     Short,
+    SelfGift,
+    LedgerFull,
+    NotYours,
+    Forged,
     TooManyOpen,
     TooManyEscrows,
     NumbersFull,
+    NothingGiven,
 }
 
 #[tactic(auto, unfolding(crate::specs::Replies::reason_of))]
 fn reason_named(word: &[u8]) -> Option<Reason>
     ensures { result ≡ reason_of word.now }
 {
-    if is_text(word, "3") {
+    if is_text(word, "2") {
+        Some(Reason::NoSite)
+    } else if is_text(word, "3") {
         Some(Reason::NoField)
     } else if is_text(word, "4") {
         Some(Reason::NoTransaction)
@@ -36,12 +44,22 @@ fn reason_named(word: &[u8]) -> Option<Reason>
         Some(Reason::TooLarge)
     } else if is_text(word, "7") {
         Some(Reason::Short)
+    } else if is_text(word, "8") {
+        Some(Reason::SelfGift)
+    } else if is_text(word, "9") {
+        Some(Reason::LedgerFull)
+    } else if is_text(word, "10") {
+        Some(Reason::NotYours)
+    } else if is_text(word, "11") {
+        Some(Reason::Forged)
     } else if is_text(word, "12") {
         Some(Reason::TooManyOpen)
     } else if is_text(word, "13") {
         Some(Reason::TooManyEscrows)
     } else if is_text(word, "14") {
         Some(Reason::NumbersFull)
+    } else if is_text(word, "15") {
+        Some(Reason::NothingGiven)
     } else {
         None
     }
@@ -88,11 +106,31 @@ fn short(line: &mut Words<'_>) -> Option<Refusal>
     Some(Refusal::Short { share })
 }
 
+#[tactic(auto, unfolding(crate::specs::Replies::ledger_full_at))]
+fn ledger_full(line: &mut Words<'_>) -> Option<Refusal>
+    ensures { Gives result line.new (ledger_full_at line.old) }
+{
+    expect(line, "ledger")?;
+    expect(line, "full")?;
+    let total = number_at(line)?;
+    Some(Refusal::LedgerFull { total })
+}
+
+#[tactic(auto, unfolding(crate::specs::Replies::forged_at))]
+fn forged(line: &mut Words<'_>) -> Option<Refusal>
+    ensures { Gives result line.new (forged_at line.old) }
+{
+    expect(line, "forged")?;
+    let room = number_at(line)?;
+    Some(Refusal::Forged { room })
+}
+
 #[tactic(auto, unfolding(crate::specs::Replies::refusal_after))]
 fn refusal_for(line: &mut Words<'_>, reason: Reason) -> Option<Refusal>
     ensures { Gives result line.new (refusal_after reason line.old) }
 {
     match reason {
+        Reason::NoSite => two(line, "no", "site", Refusal::NoSite),
         Reason::NoField => two(line, "no", "field", Refusal::NoField),
         Reason::NoTransaction => two(line, "no", "transaction", Refusal::NoTransaction),
         Reason::Zero => {
@@ -101,9 +139,14 @@ fn refusal_for(line: &mut Words<'_>, reason: Reason) -> Option<Refusal>
         }
         Reason::TooLarge => two(line, "too", "large", Refusal::TooLarge),
         Reason::Short => short(line),
+        Reason::SelfGift => two(line, "self", "gift", Refusal::SelfGift),
+        Reason::LedgerFull => ledger_full(line),
+        Reason::NotYours => two(line, "not", "yours", Refusal::NotYours),
+        Reason::Forged => forged(line),
         Reason::TooManyOpen => three(line, "too", "many", "open", Refusal::TooManyOpen),
         Reason::TooManyEscrows => three(line, "too", "many", "escrows", Refusal::TooManyEscrows),
         Reason::NumbersFull => two(line, "numbers", "full", Refusal::NumbersFull),
+        Reason::NothingGiven => two(line, "nothing", "given", Refusal::NothingGiven),
     }
 }
 

@@ -17,6 +17,9 @@ pub(crate) enum Label {
     Granted,
     Committed,
     Aborted,
+    Given,
+    Stated,
+    Accepted,
     Between,
     Shares,
     Refused,
@@ -34,6 +37,12 @@ fn label_named(word: &[u8]) -> Option<Label>
         Some(Label::Committed)
     } else if is_text(word, "aborted") {
         Some(Label::Aborted)
+    } else if is_text(word, "given") {
+        Some(Label::Given)
+    } else if is_text(word, "stated") {
+        Some(Label::Stated)
+    } else if is_text(word, "accepted") {
+        Some(Label::Accepted)
     } else if is_text(word, "between") {
         Some(Label::Between)
     } else if is_text(word, "share") {
@@ -82,6 +91,18 @@ fn reply_for(line: &mut Words<'_>, label: Label) -> Option<Reply>
         Label::Granted => Some(Reply::Granted),
         Label::Committed => Some(Reply::Committed),
         Label::Aborted => Some(Reply::Aborted),
+        Label::Given => {
+            let total = number_at(line)?;
+            Some(Reply::Given { total })
+        }
+        Label::Stated => {
+            let total = number_at(line)?;
+            Some(Reply::Stated { total })
+        }
+        Label::Accepted => {
+            let gain = number_at(line)?;
+            Some(Reply::Accepted { gain })
+        }
         Label::Between => between(line),
         Label::Shares => shares(line),
         Label::Refused => {

@@ -1,6 +1,6 @@
 use super::*;
 use field_bounds::{
-    Command, Entry, FieldNo, FieldSpec, Kind, Refusal, Reply, Schema, SiteNo, TxnId,
+    Command, Entry, FieldNo, FieldSpec, Kind, Refusal, Reply, Schema, SiteNo, Statement, TxnId,
 };
 use std::alloc::Global;
 use std::process::Abort;
@@ -84,6 +84,42 @@ fn spells_commands(rt: HostRuntime) -> Result<(), Fail> {
     assert!(rt; is_command(alloc, &schema, "1 escrow 0.1 stock -20", 1, escrow));
     assert!(rt; is_command(alloc, &schema, "0 commit 0.1", 0, commit));
     assert!(rt; is_command(alloc, &schema, "0 abort 0.1", 0, abort));
+    Ok(())
+}
+
+#[test]
+fn spells_gifts(rt: HostRuntime) -> Result<(), Fail> {
+    let alloc = rt.alloc();
+    let schema = stock(&rt, alloc)?;
+    let give = Command::Give {
+        to: SiteNo(1),
+        field: STOCK,
+        kind: Kind::Lower,
+        amount: 18446744073709551615,
+    };
+    let restate = Command::Restate {
+        to: SiteNo(65535),
+        field: FieldNo(1),
+        kind: Kind::Raise,
+    };
+    let accept = Command::Accept(Statement {
+        from: SiteNo(0),
+        to: SiteNo(1),
+        field: STOCK,
+        kind: Kind::Lower,
+        total: 30,
+    });
+    assert!(rt;
+        is_command(
+            alloc,
+            &schema,
+            "0 give 1 stock lower 18446744073709551615",
+            0,
+            give
+        )
+    );
+    assert!(rt; is_command(alloc, &schema, "0 restate 65535 #1 raise", 0, restate));
+    assert!(rt; is_command(alloc, &schema, "1 accept 0 1 stock lower 30", 1, accept));
     Ok(())
 }
 
@@ -180,6 +216,101 @@ fn spells_replies(rt: HostRuntime) -> Result<(), Fail> {
         )
     );
     assert!(rt; read_entry(&schema, b"0 begin->granted").is_none());
+    Ok(())
+}
+
+#[test]
+fn refuses_other_gifts(rt: HostRuntime) -> Result<(), Fail> {
+    let schema = stock(&rt, rt.alloc())?;
+    assert!(rt; is_no_command(&schema, "0 give 65536 stock lower 1"));
+    assert!(rt; is_no_command(&schema, "0 give 1 stock lower 18446744073709551616"));
+    assert!(rt; is_no_command(&schema, "0 restate 1 stock"));
+    assert!(rt; is_no_command(&schema, "0 accept 0 1 stock rise 30"));
+    Ok(())
+}
+
+#[test]
+fn spells_gift_replies(rt: HostRuntime) -> Result<(), Fail> {
+    let alloc = rt.alloc();
+    let schema = stock(&rt, alloc)?;
+    let stated = Reply::Stated {
+        total: 18446744073709551615,
+    };
+    assert!(rt;
+        is_reply(
+            alloc,
+            &schema,
+            "0 begin -> given 30",
+            Reply::Given { total: 30 }
+        )
+    );
+    assert!(rt;
+        is_reply(
+            alloc,
+            &schema,
+            "0 begin -> stated 18446744073709551615",
+            stated
+        )
+    );
+    assert!(rt;
+        is_reply(
+            alloc,
+            &schema,
+            "0 begin -> accepted 0",
+            Reply::Accepted { gain: 0 }
+        )
+    );
+    Ok(())
+}
+
+#[test]
+fn spells_gift_refusals(rt: HostRuntime) -> Result<(), Fail> {
+    let alloc = rt.alloc();
+    let schema = stock(&rt, alloc)?;
+    let full = Refusal::LedgerFull { total: 30 };
+    assert!(rt;
+        is_refusal(
+            alloc,
+            &schema,
+            "0 begin -> refused 2 no site",
+            Refusal::NoSite
+        )
+    );
+    assert!(rt;
+        is_refusal(
+            alloc,
+            &schema,
+            "0 begin -> refused 8 self gift",
+            Refusal::SelfGift
+        )
+    );
+    assert!(rt; is_refusal(alloc, &schema, "0 begin -> refused 9 ledger full 30", full));
+    Ok(())
+}
+
+#[test]
+fn spells_statement_refusals(rt: HostRuntime) -> Result<(), Fail> {
+    let alloc = rt.alloc();
+    let schema = stock(&rt, alloc)?;
+    let forged = Refusal::Forged { room: 60 };
+    let nothing = Refusal::NothingGiven;
+    assert!(rt;
+        is_refusal(
+            alloc,
+            &schema,
+            "0 begin -> refused 10 not yours",
+            Refusal::NotYours
+        )
+    );
+    assert!(rt; is_refusal(alloc, &schema, "0 begin -> refused 11 forged 60", forged));
+    assert!(rt;
+        is_refusal(
+            alloc,
+            &schema,
+            "0 begin -> refused 15 nothing given",
+            nothing
+        )
+    );
     Ok(())
 }
 

@@ -12,6 +12,9 @@ pub(crate) enum Verb {
     Escrow,
     Commit,
     Abort,
+    Give,
+    Restate,
+    Accept,
     Read,
     Share,
 }
@@ -36,6 +39,12 @@ fn verb_named(word: &[u8]) -> Option<Verb>
         Some(Verb::Commit)
     } else if is_text(word, "abort") {
         Some(Verb::Abort)
+    } else if is_text(word, "give") {
+        Some(Verb::Give)
+    } else if is_text(word, "restate") {
+        Some(Verb::Restate)
+    } else if is_text(word, "accept") {
+        Some(Verb::Accept)
     } else if is_text(word, "read") {
         Some(Verb::Read)
     } else if is_text(word, "share") {

@@ -149,6 +149,14 @@ pub(crate) fn txn_at(line: &mut Words<'_>) -> Option<TxnId>
     txn(line.next()?)
 }
 
+/// Takes a kind.
+#[tactic(auto, unfolding(line_words::specs::Reading::word_at))]
+pub(crate) fn kind_at(line: &mut Words<'_>) -> Option<Kind>
+    ensures { Gives result line.new (word_at kind_of line.old) }
+{
+    kind(line.next()?)
+}
+
 /// Takes a field.
 #[tactic(auto, unfolding(line_words::specs::Reading::word_at))]
 pub(crate) fn field_at(line: &mut Words<'_>, schema: &Schema) -> Option<FieldNo>

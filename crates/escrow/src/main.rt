@@ -32,6 +32,9 @@ divided evenly among the sites. Each other line is a command at a site:
   SITE escrow ID FIELD CHANGE   sets a change aside, below 0 to lower
   SITE commit ID                makes the changes of a transaction permanent
   SITE abort ID                 gives them back
+  SITE give TO FIELD KIND N     gives N free rights to site TO; KIND is lower or
+                                raise
+  SITE restate TO FIELD KIND    tells the total of such gifts again
   SITE read FIELD               tells between which values the field lies
   SITE share FIELD              tells the site's free rights to lower and to raise
 

@@ -1,21 +1,23 @@
 -- What is written for lines, one after another.
-use Rattle.std.proofs.Common.{◌≡◌, ℕ, ◌<◌, ◌-◌, List, [], ◌∷◌, ◌++◌, Option, None, Some, Ok, length, take, reverse, ◌+◌, ◌⊎◌, inl, inr, refl, sym, ap, ◌∙◌, subst, append_assoc, append-nil, arith, codes}
+use Rattle.std.proofs.Common.{◌≡◌, ℕ, ◌<◌, ◌-◌, false, List, [], ◌∷◌, ◌++◌, Option, None, Some, Ok, length, take, reverse, ◌+◌, ◌⊎◌, inl, inr, refl, sym, ap, ◌∙◌, subst, append_assoc, append-nil, arith, codes}
 use Rattle.std.proofs.lemmas.List.{length-take, take-append-le, take_all, reverse-append}
 use Rattle.std.proofs.Math.Seq.{take-append-add}
 use Rattle.std.proofs.lemmas.Bool.{cases_lt}
 use Rattle.field_bounds.specs.Schema.{SchemaValue}
 use Rattle.field_bounds.specs.Header.{schema_of}
 use Rattle.field_bounds.specs.Central.{asked_of, IsSound}
+use Rattle.field_bounds.specs.declared.entry.Command.{Command}
+use Rattle.field_bounds.specs.declared.entry.Command.TheVariants.{Begin, Escrow, Commit, Abort, Give, Restate, Accept, Read, Share}
 use Rattle.field_bounds.specs.declared.entry.Entry.{Entry}
 use Rattle.field_bounds.proofs.Alone.{schema_of-limits}
-use Rattle.field_bounds.proofs.Sound.{sound_empty, sound_more}
+use Rattle.field_bounds.proofs.Sound.{sound_empty, is_accept, sound_more_plain}
 use Rattle.field_bounds.proofs.Headline.{sound_is_central}
 use Rattle.entry_text.specs.Spelling.{command_text, reply_text, entry_text}
 use Rattle.entry_text.proofs.Entries.{entry_line}
 use Rattle.escrow_script.specs.declared.machine.Machine.{Machine}
 use Rattle.escrow_script.specs.declared.row.SiteRow.{SiteRow}
 use Rattle.escrow_script.specs.Row.{AreSitesOf}
-use Rattle.escrow_script.specs.Text.{line_text, IsAnswer, AreAnswers, HasText}
+use Rattle.escrow_script.specs.Text.{line_text, IsStep, IsAnswer, AreAnswers, HasText}
 use Rattle.escrow_script.specs.Run.{with_piece, kept, Answered, Moves, StandsFor}
 use Rattle.escrow_script.proofs.RowLemmas.{fits_at, sites_after}
 
@@ -55,6 +57,18 @@ with_piece-kept (Some m) line piece = take_of_append 257 line piece
 
 -- ---- one more line
 
+-- what a script asks is no acceptance
+step_plain : (c : Command) → IsStep c → is_accept c ≡ false
+step_plain (Accept told) step = absurd step
+step_plain Begin step = refl
+step_plain (Escrow txn field change) step = refl
+step_plain (Commit txn) step = refl
+step_plain (Abort txn) step = refl
+step_plain (Give to field kind amount) step = refl
+step_plain (Restate to field kind) step = refl
+step_plain (Read field) step = refl
+step_plain (Share field) step = refl
+
 -- the sites, the entries and the answer once a line was answered
 pub record Grows (schema : SchemaValue) (line : List ℕ) (new : SiteRow) (t : List Entry) (out grown : List ℕ) : Type 0 where
   pub entries : List Entry
@@ -84,7 +98,7 @@ answered-grows line old new out grown t are sound (inr asked) =
       same = same;
       are = sites_after old.schema t old.sites.items new.sites.items entry.site entry.command entry.reply asks.site are applies;
       answer = inr (entry, asks, refl, refl);
-      sound = sound_more old.schema entry t sound asks.site
+      sound = sound_more_plain old.schema entry t sound asks.site (step_plain entry.command asks.step)
           (fits_at old.schema t old.sites.items new.sites.items entry.site entry.command entry.reply asks.site are applies);
       text = text;
     }

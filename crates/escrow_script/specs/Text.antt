@@ -6,6 +6,7 @@ use Rattle.field_bounds.specs.Header.{schema_of}
 use Rattle.field_bounds.specs.Central.{asked_of, IsSound, IsCentral}
 use Rattle.field_bounds.specs.declared.id.SiteNo.{SiteNo}
 use Rattle.field_bounds.specs.declared.entry.Command.{Command}
+use Rattle.field_bounds.specs.declared.entry.Command.TheVariants.{Accept}
 use Rattle.field_bounds.specs.declared.entry.Entry.{Entry}
 use Rattle.entry_text.specs.Spelling.{command_text, entry_text}
 use Rattle.entry_text.specs.Ranges.{SiteFits, CommandFits}
@@ -14,13 +15,19 @@ use Rattle.entry_text.specs.Ranges.{SiteFits, CommandFits}
 abbrev pub line_text : List ℕ → List ℕ
 line_text line = line ++ 10 ∷ []
 
--- A line behind the header asks this of a site: it is the command's text, of at most 256 bytes, and the site is in the
--- schema.
+-- A script asks any command of a site but an acceptance: a statement reaches a site only as it was issued.
+abbrev pub IsStep : Command → Type 0
+IsStep (Accept told) = ⊥
+IsStep command = Unit {0}
+
+-- A line behind the header asks this of a site: it is the command's text, of at most 256 bytes, the site is in the
+-- schema, and a script may ask the command.
 pub record Asks (schema : SchemaValue) (line : List ℕ) (asked : SiteNo × Command) : Type 0 where
   pub text : line ≡ command_text schema asked.0 asked.1
   pub fits : SiteFits asked.0 × CommandFits asked.1
   pub site : asked.0.0 < schema.sites
   pub short : length line ≤ 256
+  pub step : IsStep asked.1
 
 -- A bad line asks nothing.
 abbrev pub IsBad : SchemaValue → List ℕ → Type 0

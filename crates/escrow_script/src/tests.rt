@@ -119,7 +119,7 @@ const WIDEST: &str =
     "{\"sites\":1,\"fields\":[{\"name\":\"stock\",\"floor\":-1000000000000000,\"ceiling\":1000000000000000,\"value\":1000000000000000}]}";
 
 /// Headers, each with command lines and what is replied to them.
-const WORKED: [(&str, &[(&str, &str)]); 10] = [
+const WORKED: [(&str, &[(&str, &str)]); 12] = [
     (
         HEADER,
         &[
@@ -236,6 +236,31 @@ const WORKED: [(&str, &[(&str, &str)]); 10] = [
         ],
     ),
     (
+        HALVED,
+        &[
+            ("0 give 0 stock lower 1", "refused 8 self gift"),
+            ("0 restate 1 stock raise", "refused 15 nothing given"),
+            ("0 begin", "begun 0.1"),
+            ("0 escrow 0.1 stock 0", "refused 5 zero"),
+            ("0 read #1", "refused 3 no field"),
+        ],
+    ),
+    (
+        HALVED,
+        &[
+            ("0 give 1 stock lower 21", "refused 7 short 20"),
+            ("0 give 2 stock lower 1", "refused 2 no site"),
+            ("0 give 1 stock lower 20", "given 20"),
+            ("0 share stock", "share 0 30"),
+            ("0 read stock", "between 0 70"),
+            ("0 give 1 stock raise 7", "given 7"),
+            ("0 give 1 stock raise 3", "given 10"),
+            ("0 restate 1 stock raise", "stated 10"),
+            ("0 share stock", "share 0 20"),
+            ("1 share stock", "share 20 30"),
+        ],
+    ),
+    (
         TWINS,
         &[
             ("0 begin", "begun 0.1"),
@@ -314,7 +339,9 @@ fn answers_bad_lines(rt: HostRuntime) -> Result<(), Fail> {
         "65536 begin",
         "0 begin\r",
         "0 Begin",
-        "0 give 1 stock lower 1",
+        "0 accept 1 0 stock lower 5",
+        "0 give 1 stock lower",
+        "0 give 1 stock up 1",
         "0 share sock",
         "0 share",
         "0 restart",

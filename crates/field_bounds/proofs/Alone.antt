@@ -1,18 +1,23 @@
 -- A schema that was read is within the limits, and a trace of one site alone is sound.
-use Rattle.std.proofs.Common.{◌≡◌, ◌≢◌, ℕ, ◌<◌, ℤ, Bool, true, false, cond, List, [], ◌∷◌, length, Result, Ok, Err, refl, sym, ◌∙◌, ap, subst, inl, inr, eqb}
+use Rattle.std.proofs.Common.{◌≡◌, ◌≢◌, ℕ, ◌<◌, ℤ, Bool, true, false, cond, List, [], ◌∷◌, length, Result, Ok, Err, refl, sym, ◌∙◌, ap, subst, inl, inr, eqb, arith}
 use Rattle.std.specs.Prelude.{nat_lt, nat_le}
-use Rattle.std.proofs.lemmas.Bool.{and_parts, cases_Bool, eqb-true, eqb-false, eq-eqb, ne_eqb, leb-true}
+use Rattle.std.proofs.lemmas.Bool.{and_parts, cases_Bool, eqb-true, eqb-false, eq-eqb, ne_eqb, leb-true, leb-false}
 use Rattle.serde_json.specs.Data.{Data}
 use Rattle.field_bounds.specs.declared.fault.SchemaFault.{SchemaFault}
 use Rattle.field_bounds.specs.declared.fault.SchemaFault.TheVariants.{SiteCount, FieldCount, TooLong}
+use Rattle.field_bounds.specs.declared.entry.Command.{Command}
+use Rattle.field_bounds.specs.declared.entry.Command.TheVariants.{Accept}
+use Rattle.field_bounds.specs.declared.entry.Reply.{Reply}
+use Rattle.field_bounds.specs.declared.entry.Reply.TheVariants.{Accepted}
 use Rattle.field_bounds.specs.declared.entry.Entry.{Entry}
 use Rattle.field_bounds.specs.Schema.{FieldValue, SchemaValue, ◌>>=◌}
 use Rattle.field_bounds.specs.Limits.{max_header, is_site_count, is_field_count, first_fault, unless, count_of, of_parts, IsSchema}
 use Rattle.field_bounds.specs.Header.{parts_of, data_of, schema_of}
 use Rattle.field_bounds.specs.Effects.{fresh}
-use Rattle.field_bounds.specs.Owed.{IsRun}
-use Rattle.field_bounds.specs.Central.{own, AreOf, IsAtSites, IsSound}
+use Rattle.field_bounds.specs.Owed.{Place, place, Fits, IsRun}
+use Rattle.field_bounds.specs.Central.{own, AreOf, StatementRule, IsAtSites, IsTold, IsSound}
 use Rattle.field_bounds.proofs.Kept.{IsSchema-of}
+use Rattle.field_bounds.proofs.Refused.{answered}
 
 -- ---- what is read is within the limits
 
@@ -59,11 +64,12 @@ at_sites : (schema : SchemaValue) (s : ℕ) (o : List Entry) → s < schema.site
 at_sites schema s [] below h = tt
 at_sites schema s (e ∷ o) below h = (at_sites schema s o below h.1, subst (λ (x : ℕ). x < schema.sites) (sym h.0) below)
 
--- A history of owed replies at one site is a sound trace.
-pub alone_is_sound : (schema : SchemaValue) (s : ℕ) (o : List Entry) → s < schema.sites → AreOf s o → IsRun schema s (fresh schema s) o → IsSound schema o
-alone_is_sound schema s o below are run =
+-- A history of owed replies at one site, in which each statement that is accepted was issued, is a sound trace.
+pub alone_is_sound : (schema : SchemaValue) (s : ℕ) (o : List Entry) → s < schema.sites → AreOf s o → IsTold o → IsRun schema s (fresh schema s) o → IsSound schema o
+alone_is_sound schema s o below are told run =
     record {
       sites = at_sites schema s o below are;
+      statements = told;
       runs = λ other inside.
           elim (cases_Bool (eqb other s)) [
             | inl same ↦
@@ -72,3 +78,17 @@ alone_is_sound schema s o below are run =
             | inr apart ↦ subst (IsRun schema other (fresh schema other)) (sym (own-none s other o (λ e. eqb-false other s apart e) are)) tt
           ];
     }
+
+-- the only site of a schema accepts nothing: no other site can give to it
+only_site_rule : (at : Place) (t : List Entry) (c : Command) (r : Reply) → at.schema.sites ≡ 1 → at.site ≡ 0 → Fits at c r → StatementRule t c r
+only_site_rule at t (Accept told) (Accepted gain) one here fits =
+    let none = (answered at (Accept told) (Accepted gain) fits refl).0 in
+    let from = leb-false _ _ none.0 in
+    let apart : told.from.0 ≡ at.site → ⊥ = eqb-false told.from.0 at.site none.1.1.1.1.1.0 in
+    absurd (apart (omega (arith, from, one, here)))
+only_site_rule at t c r one here fits = tt
+
+pub only_site_is_told : (schema : SchemaValue) (o : List Entry) → schema.sites ≡ 1 → IsRun schema 0 (fresh schema 0) o → IsTold o
+only_site_is_told schema [] one run = tt
+only_site_is_told schema (e ∷ o) one run =
+    (only_site_is_told schema o one run.0, only_site_rule (place schema 0 (fresh schema 0) o) o e.command e.reply one refl run.1)

@@ -1,5 +1,5 @@
 -- The sums of all sites are tied to the committed value and its bounds.
-use Rattle.std.proofs.Common.{◌≡◌, ℕ, zero, suc, ◌+◌, ◌<◌, ◌≤◌, Bool, false, ◌&&◌, ◌||◌, List, [], ◌∷◌, sym, ◌∙◌, arith}
+use Rattle.std.proofs.Common.{◌≡◌, ℕ, zero, suc, ◌+◌, ◌-◌, ◌<◌, ◌≤◌, Bool, false, ◌&&◌, ◌||◌, List, [], ◌∷◌, sym, ◌∙◌, arith, eqb}
 use Rattle.std.proofs.lemmas.Int.{ints}
 use Rattle.std.proofs.lemmas.Bool.{or_left, and_parts}
 use Rattle.std.specs.Prelude.{ℤ, pos, ◌+ℤ◌, ◌-ℤ◌, ◌≤ℤ◌, unsigned_abs, slice_index_or}
@@ -12,13 +12,14 @@ use Rattle.field_bounds.specs.Kind.{other}
 use Rattle.field_bounds.specs.Schema.{FieldValue, SchemaValue}
 use Rattle.field_bounds.specs.Limits.{IsField, IsSchema}
 use Rattle.field_bounds.specs.Parts.{total_of, no_field, field_at, part_of, sum_below}
-use Rattle.field_bounds.specs.Effects.{is_committed, is_open, granted, share, fresh}
-use Rattle.field_bounds.specs.Central.{own, at_site, sizes, is_committed_in, is_open_in, outcome, open_sizes, inf, sup, shares, IsSound, IsConserved, IsConservedThroughout}
+use Rattle.field_bounds.specs.Effects.{is_committed, is_open, granted, gifts, share, fresh}
+use Rattle.field_bounds.specs.Central.{own, at_site, sizes, is_committed_in, is_open_in, outcome, open_sizes, inf, sup, shares, in_flight, given_between, accepted_between, IsSound, IsConserved, IsConservedThroughout}
 use Rattle.field_bounds.proofs.Parts.{shares_add_up}
 use Rattle.field_bounds.proofs.Lawful.{IsLawful}
 use Rattle.field_bounds.proofs.Runs.{run_is_lawful}
-use Rattle.field_bounds.proofs.Sums.{sum_below-same, sum_below-add}
-use Rattle.field_bounds.proofs.Shares.{balance}
+use Rattle.field_bounds.proofs.Sums.{sum_below-same, sum_below-add, sum_below-zero, sum_below-swap}
+use Rattle.field_bounds.proofs.Shares.{balance, gifts_split, gains_split}
+use Rattle.field_bounds.proofs.Ledgers.{accepted_is_given}
 use Rattle.field_bounds.proofs.Traces.{effects_sizes, sizes_split, changes_split, sizes-mono, sizes-or, sound_front}
 
 -- every outcome lies from inf to sup
@@ -71,24 +72,65 @@ module _ (schema : SchemaValue) (good : IsSchema schema) (t : List Entry) (sound
   pub lawful_at : (s : ℕ) → s < schema.sites → IsLawful schema (fresh schema s) (at_site schema t s)
   lawful_at s below = run_is_lawful schema s (fresh schema s) (own s t) (sound.runs s below) false
 
-  -- one site: its share, with what it has committed and holds open
-  site_balance : (f : ℕ) (k : Kind) (s : ℕ) → s < schema.sites → (free_of f k s + committed_of f k s) + open_of f k s ≡ part_of schema s f k + committed_of f (other k) s
-  site_balance f k s below = balance schema (fresh schema s) (at_site schema t s) (lawful_at s below) f k
+  -- what a site gave to all, and what it accepted from all
+  given_by : ℕ → Kind → ℕ → ℕ
+  given_by f k s = sum_below schema.sites (λ to. given_between schema t f k s to)
+
+  accepted_by : ℕ → Kind → ℕ → ℕ
+  accepted_by f k s = sum_below schema.sites (λ from. accepted_between schema t f k from s)
+
+  -- one site: its share, with what it has committed, holds open and gave
+  site_balance : (f : ℕ) (k : Kind) (s : ℕ) → s < schema.sites
+      → ((free_of f k s + committed_of f k s) + open_of f k s) + given_by f k s ≡ (part_of schema s f k + committed_of f (other k) s) + accepted_by f k s
+  unfolding given_by accepted_by
+  site_balance f k s below =
+      let lawful = lawful_at s below in
+      omega (
+        arith,
+        balance schema (fresh schema s) (at_site schema t s) lawful f k,
+        gifts_split schema (fresh schema s) (at_site schema t s) lawful f k,
+        gains_split schema (fresh schema s) (at_site schema t s) lawful f k,
+        sum_below-zero schema.sites,
+        sum_below-same schema.sites (λ to. gifts (λ site. eqb site to) f k (at_site schema t s)) (λ to. given_between schema t f k s to) (λ to less. omega arith),
+      )
 
   total : (ℕ → ℕ) → ℕ
   total F = sum_below schema.sites F
 
   -- all sites
-  all_balance : (f : ℕ) (k : Kind) → (shares schema t f k + total (committed_of f k)) + total (open_of f k) ≡ total_of (field_at schema f) k + total (committed_of f (other k))
+  all_balance : (f : ℕ) (k : Kind)
+      → ((shares schema t f k + total (committed_of f k)) + total (open_of f k)) + total (given_by f k) ≡ (total_of (field_at schema f) k + total (committed_of f (other k))) + total (accepted_by f k)
   unfolding total
   all_balance f k =
       omega (
         arith,
-        sum_below-same schema.sites (λ s. (free_of f k s + committed_of f k s) + open_of f k s) (λ s. part_of schema s f k + committed_of f (other k) s) (site_balance f k),
+        sum_below-same schema.sites (λ s. ((free_of f k s + committed_of f k s) + open_of f k s) + given_by f k s) (λ s. (part_of schema s f k + committed_of f (other k) s) + accepted_by f k s) (site_balance f k),
+        sum_below-add schema.sites (λ s. (free_of f k s + committed_of f k s) + open_of f k s) (given_by f k),
         sum_below-add schema.sites (λ s. free_of f k s + committed_of f k s) (open_of f k),
         sum_below-add schema.sites (free_of f k) (committed_of f k),
+        sum_below-add schema.sites (λ s. part_of schema s f k + committed_of f (other k) s) (accepted_by f k),
         sum_below-add schema.sites (λ s. part_of schema s f k) (committed_of f (other k)),
         shares_add_up (total_of (field_at schema f) k) schema.sites good.some_site,
+      )
+
+  -- what was given is in flight or accepted
+  flight : (f : ℕ) (k : Kind) → in_flight schema t f k + total (accepted_by f k) ≡ total (given_by f k)
+  unfolding given_by accepted_by total
+  flight f k =
+      let between : ℕ → ℕ → ℕ = λ from to. accepted_between schema t f k from to in
+      omega (
+        arith,
+        sum_below-swap schema.sites schema.sites (λ from to. between from to),
+        sum_below-add schema.sites (λ from. sum_below schema.sites (λ to. given_between schema t f k from to - between from to)) (λ from. sum_below schema.sites (λ to. between from to)),
+        sum_below-same schema.sites
+            (λ from. sum_below schema.sites (λ to. given_between schema t f k from to - between from to) + sum_below schema.sites (λ to. between from to))
+            (given_by f k)
+            (λ from less. omega (
+              arith,
+              sum_below-add schema.sites (λ to. given_between schema t f k from to - between from to) (λ to. between from to),
+              sum_below-same schema.sites (λ to. (given_between schema t f k from to - between from to) + between from to) (λ to. given_between schema t f k from to)
+                  (λ to small. omega (arith, accepted_is_given schema t sound f k from to)),
+            )),
       )
 
   -- a sum over the trace is the sum over what took effect at each site
@@ -97,14 +139,15 @@ module _ (schema : SchemaValue) (good : IsSchema schema) (t : List Entry) (sound
       sizes_split p f k schema t sound.sites
       ∙ sum_below-same schema.sites (λ s. sizes (λ _. p s) f k (own s t)) (λ s. granted (p s) f k (at_site schema t s)) (λ s below. sym (effects_sizes (fresh schema s) (p s) f k false (own s t)))
 
-  -- what the sites may take is what is not taken yet
+  -- what the sites may take, with what is in flight, is what is not taken yet
   pub conserved : (f : ℕ) (k : Kind)
-      → shares schema t f k + sizes (is_committed_in schema t) f k t + open_sizes schema t f k ≡ total_of (field_at schema f) k + sizes (is_committed_in schema t) f (other k) t
+      → shares schema t f k + in_flight schema t f k + sizes (is_committed_in schema t) f k t + open_sizes schema t f k ≡ total_of (field_at schema f) k + sizes (is_committed_in schema t) f (other k) t
   unfolding total
   conserved f k =
       omega (
         arith,
         all_balance f k,
+        flight f k,
         traced (is_committed_in schema t) f k,
         traced (is_committed_in schema t) f (other k),
         traced (is_open_in schema t) f k,
@@ -119,6 +162,7 @@ module _ (schema : SchemaValue) (good : IsSchema schema) (t : List Entry) (sound
         raising = λ f.
             let high = above_is (field_at schema f).value (field_at schema f).ceiling (is_ordered schema good f).ceiling in
             omega (arith, ints, conserved f Raise, changes_split (is_committed_in schema t) f t, high);
+        accepted = λ f from to k. accepted_is_given schema t sound f k from to;
       }
 
 -- in every front of a sound trace rights are conserved

@@ -6,7 +6,7 @@ use Rattle.std.specs.Prelude.{unsigned_abs, ℤ, pos, ◌+ℤ◌, ◌-ℤ◌, �
 use Rattle.field_bounds.specs.declared.kind.Kind.{Kind}
 use Rattle.field_bounds.specs.declared.kind.Kind.TheVariants.{Lower, Raise}
 use Rattle.field_bounds.specs.declared.entry.Command.{Command}
-use Rattle.field_bounds.specs.declared.entry.Command.TheVariants.{Begin, Escrow, Read}
+use Rattle.field_bounds.specs.declared.entry.Command.TheVariants.{Begin, Escrow, Give, Read}
 use Rattle.field_bounds.specs.declared.entry.Reply.{Reply}
 use Rattle.field_bounds.specs.declared.entry.Reply.TheVariants.{Granted, Between, Refused}
 use Rattle.field_bounds.specs.declared.entry.Refusal.{Refusal}
@@ -19,23 +19,10 @@ use Rattle.field_bounds.specs.Parts.{field_at}
 use Rattle.field_bounds.specs.Effects.{is_open, granted, own_rights, share, fresh}
 use Rattle.field_bounds.specs.Owed.{Place, Test, place, first, refusals, answer, Fits}
 use Rattle.field_bounds.specs.Central.{own, at_site, is_open_in, open_sizes, inf, sup, shares, MayBeGranted, GrantRule, ShortageRule, IntervalRule, KeepsRules, IsCentral, IsSound, IsConserved}
-use Rattle.field_bounds.proofs.Refused.{NoneHolds, match_cases, none_holds}
+use Rattle.field_bounds.proofs.Refused.{match_cases, is_refused, answered}
 use Rattle.field_bounds.proofs.Sums.{term_below}
 use Rattle.field_bounds.proofs.Traces.{sound_front, sound_fits}
 use Rattle.field_bounds.proofs.Conserved.{is_conserved, traced, free_of, open_of}
-
--- ---- a reply that is no refusal is the answer, and no test holds
-
-abbrev is_refused : Reply → Bool
-is_refused (Refused x) = true
-is_refused r = false
-
-answered : (at : Place) (c : Command) (r : Reply) → Fits at c r → is_refused r ≡ false → NoneHolds (refusals at c) × (r ≡ answer at c)
-answered at c r fits plain =
-    elim (match_cases (first (refusals at c)) _ _ fits) [
-      | inl refused ↦ let yes : is_refused r ≡ true = ap is_refused refused.2 in cc
-      | inr met ↦ (none_holds (refusals at c) met.0, met.1)
-    ]
 
 -- ---- a refusal Short comes from a test for it, and no test before that holds
 
@@ -109,6 +96,12 @@ module _ (schema : SchemaValue) (good : IsSchema schema) (t : List Entry) (sound
         | inl here ↦ (sym here.1, omega (arith, ltb-true _ _ here.0, here.1))
         | inr none ↦ absurd none.1
       ]
+  shortage_step (Give to field kind amount) (Refused (Short h)) fits =
+      let holds = short_fits (place schema s (fresh schema s) (own s t)) (Give to field kind amount) h fits in
+      λ known. elim holds.1.1.1.1 [
+        | inl here ↦ (sym here.1, omega (arith, ltb-true _ _ here.0, here.1))
+        | inr none ↦ absurd none.1.1
+      ]
   shortage_step c r fits = tt
 
   interval_step : (c : Command) (r : Reply) → Fits (place schema s (fresh schema s) (own s t)) c r → IntervalRule schema t c r
@@ -132,6 +125,7 @@ keeps_rules schema good e t sound =
       grant = grant_step schema good t front e.site.0 below e.command e.reply fits;
       shortage = shortage_step schema good t front e.site.0 below e.command e.reply fits;
       interval = interval_step schema good t front e.site.0 below e.command e.reply fits;
+      statement = sound.statements.1;
     }
 
 -- every sound trace is central

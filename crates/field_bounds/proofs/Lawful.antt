@@ -7,7 +7,7 @@ use Rattle.field_bounds.specs.declared.kind.Kind.TheVariants.{Lower, Raise}
 use Rattle.field_bounds.specs.declared.id.TxnId.{TxnId}
 use Rattle.field_bounds.specs.Kind.{kind_of, same_kind, other}
 use Rattle.field_bounds.specs.Schema.{SchemaValue}
-use Rattle.field_bounds.specs.Effects.{Base, Effect, Begins, Grants, Commits, Aborts, same_txn, is_begun, is_committed, is_dropped, is_aborted, is_open, granted, rights_in, rights_out, share}
+use Rattle.field_bounds.specs.Effects.{Base, Effect, Begins, Grants, Commits, Aborts, Gives, Accepts, same_txn, is_begun, is_committed, is_dropped, is_aborted, is_open, granted, rights_in, rights_out, share}
 
 -- what an escrow that is granted keeps to
 pub record MayGrant (schema : SchemaValue) (base : Base) (es : List Effect) (txn : TxnId) (f : ℕ) (change : ℕ) (k : Kind) : Type 0 where
@@ -16,12 +16,25 @@ pub record MayGrant (schema : SchemaValue) (base : Base) (es : List Effect) (txn
   pub begun : is_begun txn es ≡ true
   pub opened : is_open txn es ≡ true
 
+-- what a gift keeps to
+pub record MayGive (schema : SchemaValue) (base : Base) (es : List Effect) (to f : ℕ) (k : Kind) (amount : ℕ) : Type 0 where
+  pub to_site : to < schema.sites
+  pub in_schema : f < length schema.fields
+  pub enough : amount ≤ share base f k es
+
+-- what an acceptance keeps to
+pub record MayAccept (schema : SchemaValue) (from f : ℕ) : Type 0 where
+  pub from_site : from < schema.sites
+  pub in_schema : f < length schema.fields
+
 -- what may take effect after these effects
 abbrev pub MayFollow : SchemaValue → Base → List Effect → Effect → Type 0
 MayFollow schema base es (Begins txn) = is_begun txn es ≡ false
 MayFollow schema base es (Grants txn f change) = MayGrant schema base es txn f (unsigned_abs change) (kind_of change)
 MayFollow schema base es (Commits txn) = (is_begun txn es ≡ true) × (is_open txn es ≡ true)
 MayFollow schema base es (Aborts txn) = (is_begun txn es ≡ true) × (is_open txn es ≡ true)
+MayFollow schema base es (Gives to f k amount) = MayGive schema base es to f k amount
+MayFollow schema base es (Accepts from f k total) = MayAccept schema from f
 
 abbrev pub IsLawful : SchemaValue → Base → List Effect → Type 0
 IsLawful schema base [] = Unit {0}
@@ -54,8 +67,10 @@ granted-mono p q h f k (Grants txn field change ∷ es) =
 granted-mono p q h f k (Begins txn ∷ es) = granted-mono p q h f k es
 granted-mono p q h f k (Commits txn ∷ es) = granted-mono p q h f k es
 granted-mono p q h f k (Aborts txn ∷ es) = granted-mono p q h f k es
+granted-mono p q h f k (Gives to field kind amount ∷ es) = granted-mono p q h f k es
+granted-mono p q h f k (Accepts from field kind total ∷ es) = granted-mono p q h f k es
 
--- an escrow of the kind takes at most the share, and one of another kind or field takes nothing
+-- an escrow or a gift of the kind takes at most the share, and one of another kind or field takes nothing
 taken : (share_of : ℕ → Kind → ℕ) (field f : ℕ) (kind k : Kind) (p : Bool) (n : ℕ) → n ≤ share_of field kind → cond (eqb field f && same_kind kind k && p) n 0 ≤ share_of f k
 taken share_of field f kind k p n h =
     elim (cases_Bool (eqb field f && same_kind kind k && p)) as (λ _. cond (eqb field f && same_kind kind k && p) n 0 ≤ share_of f k) [
@@ -100,3 +115,6 @@ covered schema base (Aborts txn ∷ es) lawful f k =
       covered schema base es lawful.0 f k,
       granted-mono (λ id. is_aborted id es) (λ id. is_aborted id (Aborts txn ∷ es)) (λ id. stays_dropped (is_committed id es) (is_dropped id es) (same_txn txn id)) f k es,
     )
+covered schema base (Gives to field kind amount ∷ es) lawful f k =
+    omega (arith, covered schema base es lawful.0 f k, taken (λ f' k'. share base f' k' es) field f kind k true amount lawful.1.enough)
+covered schema base (Accepts from field kind total ∷ es) lawful f k = omega (arith, covered schema base es lawful.0 f k)

@@ -1,9 +1,12 @@
 -- What the ladder of refusals tells of a reply that fits.
-use Rattle.std.proofs.Common.{◌≡◌, ℕ, ◌<◌, Bool, true, false, not, ◌&&◌, List, [], ◌∷◌, nat_le, refl, inl, inr, Option, Some, None}
+use Rattle.std.proofs.Common.{◌≡◌, ℕ, ◌<◌, Bool, true, false, not, ◌&&◌, List, [], ◌∷◌, nat_le, refl, ap, inl, inr, Option, Some, None}
 use Rattle.std.proofs.lemmas.Bool.{and_parts, not-false, leb-false}
 use Rattle.std.specs.Prelude.{◌⊎◌, MatchOption, if◌then◌else◌}
+use Rattle.field_bounds.specs.declared.entry.Command.{Command}
+use Rattle.field_bounds.specs.declared.entry.Reply.{Reply}
+use Rattle.field_bounds.specs.declared.entry.Reply.TheVariants.{Refused}
 use Rattle.field_bounds.specs.declared.entry.Refusal.{Refusal}
-use Rattle.field_bounds.specs.Owed.{Test, first}
+use Rattle.field_bounds.specs.Owed.{Place, Test, first, refusals, answer, Fits}
 
 -- no test of the list holds
 abbrev pub NoneHolds : List Test → Type 0
@@ -27,3 +30,16 @@ begun_and_open b c h = and_parts b c (not-false _ h)
 
 pub is_below : (m n : ℕ) → nat_le n m ≡ false → m < n
 is_below m n h = leb-false n m h
+
+-- ---- a reply that is no refusal is the answer, and no test holds
+
+abbrev pub is_refused : Reply → Bool
+is_refused (Refused x) = true
+is_refused r = false
+
+pub answered : (at : Place) (c : Command) (r : Reply) → Fits at c r → is_refused r ≡ false → NoneHolds (refusals at c) × (r ≡ answer at c)
+answered at c r fits plain =
+    elim (match_cases (first (refusals at c)) _ _ fits) [
+      | inl refused ↦ let yes : is_refused r ≡ true = ap is_refused refused.2 in cc
+      | inr met ↦ (none_holds (refusals at c) met.0, met.1)
+    ]

@@ -3,9 +3,9 @@ use Rattle.std.proofs.Common.{◌≡◌, ℕ, ◌+◌, ◌≤◌, Bool, true, fa
 use Rattle.std.proofs.lemmas.Bool.{cases_Bool, ltb-false, or_cases}
 use Rattle.field_bounds.specs.declared.id.TxnId.{TxnId}
 use Rattle.field_bounds.specs.declared.entry.Command.{Command}
-use Rattle.field_bounds.specs.declared.entry.Command.TheVariants.{Begin, Escrow, Commit, Abort, Read, Share}
+use Rattle.field_bounds.specs.declared.entry.Command.TheVariants.{Begin, Escrow, Commit, Abort, Give, Restate, Accept, Read, Share}
 use Rattle.field_bounds.specs.declared.entry.Reply.{Reply}
-use Rattle.field_bounds.specs.declared.entry.Reply.TheVariants.{Begun, Granted, Committed, Aborted, Refused}
+use Rattle.field_bounds.specs.declared.entry.Reply.TheVariants.{Begun, Granted, Committed, Aborted, Given, Accepted, Refused}
 use Rattle.field_bounds.specs.declared.entry.Refusal.{Refusal}
 use Rattle.field_bounds.specs.declared.entry.Entry.{Entry}
 use Rattle.field_bounds.specs.Schema.{SchemaValue}
@@ -55,6 +55,8 @@ after_kept base kept Begin (Begun txn) es = refl
 after_kept base kept (Escrow txn field change) Granted es = refl
 after_kept base kept (Commit txn) Committed es = refl
 after_kept base kept (Abort txn) Aborted es = refl
+after_kept base kept (Give to field kind amount) (Given total) es = refl
+after_kept base kept (Accept told) (Accepted gain) es = refl
 after_kept base kept c r es = refl
 
 -- nothing is in doubt
@@ -89,6 +91,13 @@ module _ (schema : SchemaValue) (s : ℕ) (base : Base) (o : List Entry) where
       (l, record { in_schema = is_below _ _ none.0; enough = ltb-false _ _ none.1.1.1.1.0; begun = both.0; opened = both.1 })
   answer_is_lawful (Commit txn) h numbered l = (l, begun_and_open (is_begun txn es) (is_open txn es) (none_holds (refusals at (Commit txn)) h).0)
   answer_is_lawful (Abort txn) h numbered l = (l, begun_and_open (is_begun txn es) (is_open txn es) (none_holds (refusals at (Abort txn)) h).0)
+  answer_is_lawful (Give to field kind amount) h numbered l =
+      let none = none_holds (refusals at (Give to field kind amount)) h in
+      (l, record { to_site = is_below _ _ none.0; in_schema = is_below _ _ none.1.0; enough = ltb-false _ _ none.1.1.1.1.0 })
+  answer_is_lawful (Restate to field kind) h numbered l = l
+  answer_is_lawful (Accept told) h numbered l =
+      let none = none_holds (refusals at (Accept told)) h in
+      (l, record { from_site = is_below _ _ none.0; in_schema = is_below _ _ none.1.1.0 })
   answer_is_lawful (Read field) h numbered l = l
   answer_is_lawful (Share field) h numbered l = l
 
@@ -99,6 +108,11 @@ module _ (schema : SchemaValue) (s : ℕ) (base : Base) (o : List Entry) where
   answer_is_numbered (Commit txn) numbered =
       let was = numbered_more epoch count (0 + count) es (omega arith) numbered in record { epochs = was.epochs; numbers = was.numbers }
   answer_is_numbered (Abort txn) numbered =
+      let was = numbered_more epoch count (0 + count) es (omega arith) numbered in record { epochs = was.epochs; numbers = was.numbers }
+  answer_is_numbered (Give to field kind amount) numbered =
+      let was = numbered_more epoch count (0 + count) es (omega arith) numbered in record { epochs = was.epochs; numbers = was.numbers }
+  answer_is_numbered (Restate to field kind) numbered = numbered_more epoch count (0 + count) es (omega arith) numbered
+  answer_is_numbered (Accept told) numbered =
       let was = numbered_more epoch count (0 + count) es (omega arith) numbered in record { epochs = was.epochs; numbers = was.numbers }
   answer_is_numbered (Read field) numbered = numbered_more epoch count (0 + count) es (omega arith) numbered
   answer_is_numbered (Share field) numbered = numbered_more epoch count (0 + count) es (omega arith) numbered

@@ -8,7 +8,7 @@ use Rattle.field_bounds.specs.declared.id.TxnId.{TxnId}
 use Rattle.field_bounds.specs.declared.entry.Escrow.{Escrow}
 use Rattle.field_bounds.specs.Kind.{kind_of, same_kind, other}
 use Rattle.field_bounds.specs.Schema.{SchemaValue}
-use Rattle.field_bounds.specs.Effects.{Base, Effect, Begins, Grants, Commits, Aborts, same_txn, is_begun, is_committed, is_dropped, is_aborted, is_open, escrows_of, takes, granted, share, held}
+use Rattle.field_bounds.specs.Effects.{Base, Effect, Begins, Grants, Commits, Aborts, Gives, Accepts, same_txn, is_begun, is_committed, is_dropped, is_aborted, is_open, escrows_of, takes, granted, accepted, share, held}
 use Rattle.field_bounds.proofs.Lawful.{IsLawful, covered, open_parts, same_txn-true}
 
 both_step : (on p q : Bool) (n : ℕ) → (p ≡ true → q ≡ false) → cond (on && (p || q)) n 0 ≡ cond (on && p) n 0 + cond (on && q) n 0
@@ -24,6 +24,8 @@ granted-or p q h f k (Grants txn field change ∷ es) =
 granted-or p q h f k (Begins txn ∷ es) = granted-or p q h f k es
 granted-or p q h f k (Commits txn ∷ es) = granted-or p q h f k es
 granted-or p q h f k (Aborts txn ∷ es) = granted-or p q h f k es
+granted-or p q h f k (Gives to field kind amount ∷ es) = granted-or p q h f k es
+granted-or p q h f k (Accepts from field kind total ∷ es) = granted-or p q h f k es
 
 -- tests that agree on what was begun
 pub granted-same : (schema : SchemaValue) (base : Base) (p q : TxnId → Bool) (f : ℕ) (k : Kind) (es : List Effect) → IsLawful schema base es → ((id : TxnId) → is_begun id es ≡ true → p id ≡ q id) → granted p f k es ≡ granted q f k es
@@ -35,6 +37,8 @@ granted-same schema base p q f k (Grants txn field change ∷ es) lawful h =
 granted-same schema base p q f k (Begins txn ∷ es) lawful h = granted-same schema base p q f k es lawful.0 (λ id begun. h id (or_right (same_txn txn id) (is_begun id es) begun))
 granted-same schema base p q f k (Commits txn ∷ es) lawful h = granted-same schema base p q f k es lawful.0 h
 granted-same schema base p q f k (Aborts txn ∷ es) lawful h = granted-same schema base p q f k es lawful.0 h
+granted-same schema base p q f k (Gives to field kind amount ∷ es) lawful h = granted-same schema base p q f k es lawful.0 h
+granted-same schema base p q f k (Accepts from field kind total ∷ es) lawful h = granted-same schema base p q f k es lawful.0 h
 
 weigh_none : (on p : Bool) (n : ℕ) → p ≡ false → cond (on && p) n 0 ≡ 0
 weigh_none true p n h = rw h refl
@@ -146,6 +150,17 @@ module _ (schema : SchemaValue) (base : Base) (es : List Effect) (lawful : IsLaw
   held_grant txn e opened =
       omega (arith, weigh_one (eqb e.field.0 f && same_kind (kind_of e.change) k) (is_open txn es) (unsigned_abs e.change) opened)
 
+  -- a gift leaves the share, and nothing else does
+  pub share_give : (to field : ℕ) (kind : Kind) (amount : ℕ)
+      → share base f k (Gives to field kind amount ∷ es) ≡ share base f k es - cond (eqb field f && same_kind kind k) amount 0
+  share_give to field kind amount =
+      omega (arith, covered schema base es lawful f k, weigh_true (eqb field f && same_kind kind k) amount)
+
+  -- a gain comes to the share
+  pub share_accept : (from field : ℕ) (kind : Kind) (total : ℕ)
+      → share base f k (Accepts from field kind total ∷ es) ≡ share base f k es + cond (eqb field f && same_kind kind k) (total - accepted base from f k es) 0
+  share_accept from field kind total = omega (arith, covered schema base es lawful f k)
+
 -- ---- the escrows of one transaction
 
 weigh_case : (on p : Bool) (n : ℕ) → cond (on && p) n 0 ≡ cond p (cond on n 0) 0
@@ -168,6 +183,8 @@ of_txn_is id f k (Grants txn field change ∷ es) =
 of_txn_is id f k (Begins txn ∷ es) = of_txn_is id f k es
 of_txn_is id f k (Commits txn ∷ es) = of_txn_is id f k es
 of_txn_is id f k (Aborts txn ∷ es) = of_txn_is id f k es
+of_txn_is id f k (Gives to field kind amount ∷ es) = of_txn_is id f k es
+of_txn_is id f k (Accepts from field kind total ∷ es) = of_txn_is id f k es
 
 -- ---- an id that was never begun
 
@@ -201,3 +218,9 @@ new_is_unused schema base id (Aborts txn ∷ es) lawful new =
     let was = new_is_unused schema base id es lawful.0 new in
     let apart = not_this true txn id es lawful.1.0 new in
     record { uncommitted = was.uncommitted; undropped = rw apart was.undropped; no_escrow = was.no_escrow }
+new_is_unused schema base id (Gives to field kind amount ∷ es) lawful new =
+    let was = new_is_unused schema base id es lawful.0 new in
+    record { uncommitted = was.uncommitted; undropped = was.undropped; no_escrow = was.no_escrow }
+new_is_unused schema base id (Accepts from field kind total ∷ es) lawful new =
+    let was = new_is_unused schema base id es lawful.0 new in
+    record { uncommitted = was.uncommitted; undropped = was.undropped; no_escrow = was.no_escrow }

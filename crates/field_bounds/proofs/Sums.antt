@@ -37,3 +37,9 @@ term_below (suc n) F i below =
       | inl same ↦ subst (λ (j : ℕ). F j ≤ sum_below n F + F n) same (omega arith)
       | inr apart ↦ omega (arith, term_below n F i (omega (arith, below)))
     ]
+
+-- a sum of sums, taken the other way round
+pub sum_below-swap : (m n : ℕ) (F : ℕ → ℕ → ℕ) → sum_below m (λ i. sum_below n (λ j. F i j)) ≡ sum_below n (λ j. sum_below m (λ i. F i j))
+sum_below-swap zero n F = sym (sum_below-zero n)
+sum_below-swap (suc m) n F =
+    omega (arith, sum_below-swap m n F, sum_below-add n (λ j. sum_below m (λ i. F i j)) (λ j. F m j))

@@ -7,9 +7,9 @@ use Rattle.field_bounds.specs.declared.kind.Kind.{Kind}
 use Rattle.field_bounds.specs.declared.kind.Kind.TheVariants.{Lower, Raise}
 use Rattle.field_bounds.specs.declared.id.TxnId.{TxnId}
 use Rattle.field_bounds.specs.declared.entry.Command.{Command}
-use Rattle.field_bounds.specs.declared.entry.Command.TheVariants.{Begin, Escrow, Commit, Abort}
+use Rattle.field_bounds.specs.declared.entry.Command.TheVariants.{Begin, Escrow, Commit, Abort, Give, Accept}
 use Rattle.field_bounds.specs.declared.entry.Reply.{Reply}
-use Rattle.field_bounds.specs.declared.entry.Reply.TheVariants.{Begun, Granted, Committed, Aborted}
+use Rattle.field_bounds.specs.declared.entry.Reply.TheVariants.{Begun, Granted, Committed, Aborted, Given, Accepted}
 use Rattle.field_bounds.specs.declared.entry.Entry.{Entry}
 use Rattle.field_bounds.specs.Kind.{kind_of, same_kind}
 use Rattle.field_bounds.specs.Schema.{SchemaValue}
@@ -34,7 +34,7 @@ run_front schema s base false e o run = run
 -- the front before the last entry of a sound trace is sound
 pub sound_front : (schema : SchemaValue) (e : Entry) (t : List Entry) → IsSound schema (e ∷ t) → IsSound schema t
 sound_front schema e t sound =
-    record { sites = sound.sites.0; runs = λ s below. run_front schema s (fresh schema s) (eqb e.site.0 s) e (own s t) (sound.runs s below) }
+    record { sites = sound.sites.0; statements = sound.statements.0; runs = λ s below. run_front schema s (fresh schema s) (eqb e.site.0 s) e (own s t) (sound.runs s below) }
 
 -- the last entry of a sound trace is owed after its site's entries before it
 pub sound_fits : (schema : SchemaValue) (e : Entry) (t : List Entry) → IsSound schema (e ∷ t) → Fits (place schema e.site.0 (fresh schema e.site.0) (own e.site.0 t)) e.command e.reply
@@ -51,6 +51,8 @@ module _ (base : Base) (p : TxnId → Bool) (f : ℕ) (k : Kind) where
   after_sizes kept s Begin (Begun txn) es = sym (zero-add (granted p f k es))
   after_sizes kept s (Commit txn) Committed es = sym (zero-add (granted p f k es))
   after_sizes kept s (Abort txn) Aborted es = sym (zero-add (granted p f k es))
+  after_sizes kept s (Give to field kind amount) (Given total) es = sym (zero-add (granted p f k es))
+  after_sizes kept s (Accept told) (Accepted gain) es = sym (zero-add (granted p f k es))
   after_sizes kept s c r es = sym (zero-add (granted p f k es))
 
   -- what took effect has the escrows that were granted, whatever is kept

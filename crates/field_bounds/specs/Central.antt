@@ -1,21 +1,22 @@
 -- One trace of all sites, as a run of one central store.
 -- A trace has the newest entry first, so that the rest of a list is the front before its head.
-use Rattle.std.specs.Prelude.{◌≡◌, ℕ, ◌+◌, ◌<◌, ◌==◌, ℤ, pos, ◌+ℤ◌, ◌-ℤ◌, ◌≤ℤ◌, unsigned_abs, Bool, false, ◌&&◌, ◌||◌, if◌then◌else◌, List, [], ◌∷◌, length}
+use Rattle.std.specs.Prelude.{◌≡◌, ℕ, ◌+◌, ◌-◌, ◌<◌, ◌≤◌, ◌==◌, ℤ, pos, ◌+ℤ◌, ◌-ℤ◌, ◌≤ℤ◌, unsigned_abs, Bool, false, ◌&&◌, ◌||◌, if◌then◌else◌, List, [], ◌∷◌, length}
 use Rattle.field_bounds.specs.declared.kind.Kind.{Kind}
 use Rattle.field_bounds.specs.declared.kind.Kind.TheVariants.{Lower, Raise}
 use Rattle.field_bounds.specs.declared.id.SiteNo.{SiteNo}
 use Rattle.field_bounds.specs.declared.id.TxnId.{TxnId}
 use Rattle.field_bounds.specs.declared.entry.Command.{Command}
-use Rattle.field_bounds.specs.declared.entry.Command.TheVariants.{Escrow, Read}
+use Rattle.field_bounds.specs.declared.entry.Command.TheVariants.{Escrow, Give, Accept, Read}
 use Rattle.field_bounds.specs.declared.entry.Reply.{Reply}
-use Rattle.field_bounds.specs.declared.entry.Reply.TheVariants.{Granted, Between, Refused}
+use Rattle.field_bounds.specs.declared.entry.Reply.TheVariants.{Granted, Accepted, Between, Refused}
 use Rattle.field_bounds.specs.declared.entry.Refusal.TheVariants.{Short}
 use Rattle.field_bounds.specs.declared.entry.Entry.{Entry}
 use Rattle.field_bounds.specs.Kind.{same_kind, kind_of}
 use Rattle.field_bounds.specs.Schema.{SchemaValue}
 use Rattle.field_bounds.specs.Parts.{field_at, sum_below}
-use Rattle.field_bounds.specs.Effects.{fresh, Effect, is_committed, is_open, share, effects}
+use Rattle.field_bounds.specs.Effects.{fresh, Effect, is_committed, is_open, given, accepted, share, effects}
 use Rattle.field_bounds.specs.Owed.{IsRun}
+use Rattle.field_bounds.specs.Statements.{IsIssued}
 
 -- ---- the entries of one site, and the fate of its transactions in the trace
 
@@ -113,10 +114,11 @@ abbrev pub IsShortage : SchemaValue → List Entry → ℕ → ℕ → Kind → 
 IsShortage schema t s f k asked told =
     f < length schema.fields → (told ≡ share (fresh schema s) f k (at_site schema t s)) × (told < asked)
 
--- An escrow that is refused as short is told such a shortage (this project).
+-- An escrow or a gift that is refused as short is told such a shortage (this project).
 abbrev pub ShortageRule : SchemaValue → List Entry → ℕ → Command → Reply → Type 0
 ShortageRule schema t s (Escrow txn field change) (Refused (Short told)) =
     IsShortage schema t s field.0 (kind_of change) (unsigned_abs change) told
+ShortageRule schema t s (Give to field kind amount) (Refused (Short told)) = IsShortage schema t s field.0 kind amount told
 ShortageRule schema t s command reply = Unit {0}
 
 -- The interval that a read tells of a field of the schema holds the committed value (this project).
@@ -125,12 +127,18 @@ IntervalRule schema t (Read field) (Between lo hi) =
     field.0 < length schema.fields → (lo ≤ℤ committed schema t field.0) × (committed schema t field.0 ≤ℤ hi)
 IntervalRule schema t command reply = Unit {0}
 
+-- A statement that is accepted was issued before (this project).
+abbrev pub StatementRule : List Entry → Command → Reply → Type 0
+StatementRule t (Accept told) (Accepted gain) = IsIssued told t
+StatementRule t command reply = Unit {0}
+
 -- An entry keeps the rules over the front before it, and its site is in the schema (this project).
 pub record KeepsRules (schema : SchemaValue) (t : List Entry) (e : Entry) : Type 0 where
   pub site : e.site.0 < schema.sites
   pub grant : GrantRule schema t e.command e.reply
   pub shortage : ShortageRule schema t e.site.0 e.command e.reply
   pub interval : IntervalRule schema t e.command e.reply
+  pub statement : StatementRule t e.command e.reply
 
 -- A trace is a run of one central store: each entry keeps the rules over the front before it (this project).
 abbrev pub IsCentral : SchemaValue → List Entry → Type 0
@@ -144,11 +152,32 @@ abbrev pub IsAtSites : SchemaValue → List Entry → Type 0
 IsAtSites schema [] = Unit {0}
 IsAtSites schema (e ∷ t) = IsAtSites schema t × (e.site.0 < schema.sites)
 
--- A trace is sound: each entry's site is in the schema, and each reply is owed after its own site's entries alone,
--- on a fresh base (this project).
+-- Each statement that is accepted was issued before (this project).
+abbrev pub IsTold : List Entry → Type 0
+IsTold [] = Unit {0}
+IsTold (e ∷ t) = IsTold t × StatementRule t e.command e.reply
+
+-- A trace is sound: each entry's site is in the schema, each statement that is accepted was issued before, and each reply
+-- is owed after its own site's entries alone, on a fresh base (this project).
 pub record IsSound (schema : SchemaValue) (t : List Entry) : Type 0 where
   pub sites : IsAtSites schema t
+  pub statements : IsTold t
   pub runs : (s : ℕ) → s < schema.sites → IsRun schema s (fresh schema s) (own s t)
+
+-- ---- rights in flight
+
+-- The total that one site has given to another, of a kind on a field (Balegas and others 2015).
+abbrev pub given_between : SchemaValue → List Entry → ℕ → Kind → ℕ → ℕ → ℕ
+given_between schema t f k from to = given (fresh schema from) to f k (at_site schema t from)
+
+-- The greatest total that one site has accepted from another (Balegas and others 2015).
+abbrev pub accepted_between : SchemaValue → List Entry → ℕ → Kind → ℕ → ℕ → ℕ
+accepted_between schema t f k from to = accepted (fresh schema to) from f k (at_site schema t to)
+
+-- The rights in flight: what was given and isn't accepted yet, between any two sites, added up (this project).
+abbrev pub in_flight : SchemaValue → List Entry → ℕ → Kind → ℕ
+in_flight schema t f k =
+    sum_below schema.sites (λ from. sum_below schema.sites (λ to. given_between schema t f k from to - accepted_between schema t f k from to))
 
 -- ---- conservation
 
@@ -157,10 +186,12 @@ abbrev pub shares : SchemaValue → List Entry → ℕ → Kind → ℕ
 shares schema t f k = sum_below schema.sites (λ s. share (fresh schema s) f k (at_site schema t s))
 
 -- Rights are conserved: the infimum lies above the floor, and the supremum below the ceiling, by exactly the shares
--- of all sites (Balegas and others 2015 for the floor, this project for both and for open escrows).
+-- of all sites and the rights in flight; and no site has accepted more from another than that gave it (Balegas and
+-- others 2015 for the floor, this project for both, for open escrows and for what is in flight).
 pub record IsConserved (schema : SchemaValue) (t : List Entry) : Type 0 where
-  pub lowering : (f : ℕ) → inf schema t f ≡ ((field_at schema f).floor +ℤ pos (shares schema t f Lower))
-  pub raising : (f : ℕ) → sup schema t f +ℤ pos (shares schema t f Raise) ≡ (field_at schema f).ceiling
+  pub lowering : (f : ℕ) → inf schema t f ≡ ((field_at schema f).floor +ℤ pos (shares schema t f Lower + in_flight schema t f Lower))
+  pub raising : (f : ℕ) → sup schema t f +ℤ pos (shares schema t f Raise + in_flight schema t f Raise) ≡ (field_at schema f).ceiling
+  pub accepted : (f from to : ℕ) (k : Kind) → accepted_between schema t f k from to ≤ given_between schema t f k from to
 
 -- Rights are conserved in every front of a trace, from the empty one to the whole one (this project).
 abbrev pub IsConservedThroughout : SchemaValue → List Entry → Type 0

@@ -1,27 +1,30 @@
--- What took effect at one site, and the sums over it: fates and rights.
+-- What took effect at one site, and the sums over it: fates, ledgers and rights.
 -- Lists of entries and of effects have the newest first, so that the rest of a list is what came before its head.
-use Rattle.std.specs.Prelude.{ℕ, ◌+◌, ◌-◌, ◌==◌, ℤ, unsigned_abs, Bool, true, false, not, ◌&&◌, ◌||◌, if◌then◌else◌, List, [], ◌∷◌, filter}
+use Rattle.std.specs.Prelude.{ℕ, ◌+◌, ◌-◌, ◌==◌, max, ℤ, unsigned_abs, Bool, true, false, not, ◌&&◌, ◌||◌, if◌then◌else◌, List, [], ◌∷◌, filter}
 use Rattle.field_bounds.specs.declared.kind.Kind.{Kind}
 use Rattle.field_bounds.specs.declared.id.TxnId.{TxnId}
 use Rattle.field_bounds.specs.declared.entry.Escrow.{Escrow as EscrowOf}
 use Rattle.field_bounds.specs.declared.entry.Command.{Command}
-use Rattle.field_bounds.specs.declared.entry.Command.TheVariants.{Begin, Escrow, Commit, Abort}
+use Rattle.field_bounds.specs.declared.entry.Command.TheVariants.{Begin, Escrow, Commit, Abort, Give, Accept}
 use Rattle.field_bounds.specs.declared.entry.Reply.{Reply}
-use Rattle.field_bounds.specs.declared.entry.Reply.TheVariants.{Begun, Granted, Committed, Aborted}
+use Rattle.field_bounds.specs.declared.entry.Reply.TheVariants.{Begun, Granted, Committed, Aborted, Given, Accepted}
 use Rattle.field_bounds.specs.declared.entry.Entry.{Entry}
 use Rattle.field_bounds.specs.Kind.{other, same_kind, kind_of}
 use Rattle.field_bounds.specs.Schema.{SchemaValue}
 use Rattle.field_bounds.specs.Parts.{part_of}
 
--- What a site's history stands on: whether it is up, its epoch, and its rights by field and kind (this project).
+-- What a site's history stands on: whether it is up, its epoch, its rights by field and kind, and the totals that it
+-- has given to and accepted from each site, by site, field and kind (this project).
 pub record Base : Type 0 where
   pub up : Bool
   pub epoch : ℕ
   pub rights : ℕ → Kind → ℕ
+  pub given : ℕ → ℕ → Kind → ℕ
+  pub accepted : ℕ → ℕ → Kind → ℕ
 
--- The base of a site that has answered nothing yet: up, at epoch 0, with its parts.
+-- The base of a site that has answered nothing yet: up, at epoch 0, with its parts, and nothing given or accepted.
 abbrev pub fresh : SchemaValue → ℕ → Base
-fresh schema s = record { up = true; epoch = 0; rights = part_of schema s }
+fresh schema s = record { up = true; epoch = 0; rights = part_of schema s; given = λ _ _ _. 0; accepted = λ _ _ _. 0 }
 
 -- What an entry, once it took effect, did at its site (this project).
 pub data Effect : Type 0 where
@@ -29,6 +32,8 @@ pub data Effect : Type 0 where
   Grants : (txn : TxnId) (field : ℕ) (change : ℤ) → Effect
   Commits : (txn : TxnId) → Effect
   Aborts : (txn : TxnId) → Effect
+  Gives : (to : ℕ) (field : ℕ) (kind : Kind) (amount : ℕ) → Effect
+  Accepts : (from : ℕ) (field : ℕ) (kind : Kind) (total : ℕ) → Effect
 
 -- Whether two ids name one transaction.
 abbrev pub same_txn : TxnId → TxnId → Bool
@@ -88,16 +93,48 @@ granted p f k (Grants txn field change ∷ es) =
     (if (field == f) && same_kind (kind_of change) k && p txn then unsigned_abs change else 0) + granted p f k es
 granted p f k (_ ∷ es) = granted p f k es
 
+-- The amounts given away of a kind on field f, to the sites that pass.
+abbrev pub gifts : (ℕ → Bool) → ℕ → Kind → List Effect → ℕ
+gifts p f k [] = 0
+gifts p f k (Gives to field kind amount ∷ es) =
+    (if (field == f) && same_kind kind k && p to then amount else 0) + gifts p f k es
+gifts p f k (_ ∷ es) = gifts p f k es
+
+-- ---- ledgers (Balegas and others 2015: totals that only grow, merged by the greater)
+
+-- The total given to a site.
+abbrev pub given : Base → ℕ → ℕ → Kind → List Effect → ℕ
+given base to f k es = base.given to f k + gifts (λ site. site == to) f k es
+
+-- The greatest total accepted from a site.
+abbrev pub accepted : Base → ℕ → ℕ → Kind → List Effect → ℕ
+accepted base from f k [] = base.accepted from f k
+accepted base from f k (Accepts site field kind total ∷ es) =
+    if (field == f) && same_kind kind k && (site == from)
+    then max total (accepted base from f k es)
+    else accepted base from f k es
+accepted base from f k (_ ∷ es) = accepted base from f k es
+
+-- What each accepted total had above those accepted before it from its site, added up.
+abbrev pub gains : Base → ℕ → Kind → List Effect → ℕ
+gains base f k [] = 0
+gains base f k (Accepts site field kind total ∷ es) =
+    (if (field == f) && same_kind kind k then total - accepted base site f k es else 0) + gains base f k es
+gains base f k (_ ∷ es) = gains base f k es
+
 -- ---- the rights of a site (Balegas and others 2015: what was gained less what was spent; this project for the two kinds)
 
--- What gave rights: the base, the escrows that were aborted, and those of the other kind that were committed.
+-- What gave rights: the base, the escrows that were aborted, those of the other kind that were committed, and the gains.
 abbrev pub rights_in : Base → ℕ → Kind → List Effect → ℕ
 rights_in base f k es =
-    base.rights f k + granted (λ id. is_aborted id es) f k es + granted (λ id. is_committed id es) f (other k) es
+    base.rights f k
+    + granted (λ id. is_aborted id es) f k es
+    + granted (λ id. is_committed id es) f (other k) es
+    + gains base f k es
 
--- What took rights: every escrow that was granted.
+-- What took rights: every escrow that was granted, and every gift.
 abbrev pub rights_out : ℕ → Kind → List Effect → ℕ
-rights_out f k es = granted (λ _. true) f k es
+rights_out f k es = granted (λ _. true) f k es + gifts (λ _. true) f k es
 
 -- The share: the rights that are free.
 abbrev pub share : Base → ℕ → Kind → List Effect → ℕ
@@ -118,6 +155,8 @@ after base kept Begin (Begun txn) es = Begins txn ∷ es
 after base kept (Escrow txn field change) Granted es = Grants txn field.0 change ∷ es
 after base kept (Commit txn) Committed es = Commits txn ∷ es
 after base kept (Abort txn) Aborted es = Aborts txn ∷ es
+after base kept (Give to field kind amount) (Given total) es = Gives to.0 field.0 kind amount ∷ es
+after base kept (Accept told) (Accepted gain) es = Accepts told.from.0 told.field.0 told.kind told.total ∷ es
 after base kept command reply es = es
 
 -- Whether what stands in doubt before this reply was kept, if it was after it.

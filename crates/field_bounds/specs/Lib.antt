@@ -6,5 +6,7 @@ pub mod Parts
 pub mod Kept
 pub mod Effects
 pub mod Owed
+pub mod Statements
 pub mod Central
 pub mod Worked
+pub mod WorkedGifts

@@ -1,20 +1,22 @@
 -- The reply that a site owes after its own entries, the newest first.
-use Rattle.std.specs.Prelude.{◌≡◌, ℕ, ◌+◌, ◌==◌, nat_lt, nat_le, ℤ, pos, ◌+ℤ◌, ◌-ℤ◌, unsigned_abs, Bool, false, true, not, ◌&&◌, if◌then◌else◌, List, [], ◌∷◌, length, MatchOption, Option, Some, None, is_none}
+use Rattle.std.specs.Prelude.{◌≡◌, ℕ, ◌+◌, ◌-◌, ◌==◌, nat_lt, nat_le, ℤ, pos, ◌+ℤ◌, ◌-ℤ◌, unsigned_abs, Bool, false, true, not, ◌&&◌, if◌then◌else◌, List, [], ◌∷◌, length, MatchOption, Option, Some, None, is_none}
 use Rattle.field_bounds.specs.declared.kind.Kind.{Kind}
 use Rattle.field_bounds.specs.declared.kind.Kind.TheVariants.{Lower, Raise}
 use Rattle.field_bounds.specs.declared.id.TxnId.{TxnId}
 use Rattle.field_bounds.specs.declared.id.FieldNo.{FieldNo}
+use Rattle.field_bounds.specs.declared.id.SiteNo.{SiteNo}
 use Rattle.field_bounds.specs.declared.entry.Command.{Command}
-use Rattle.field_bounds.specs.declared.entry.Command.TheVariants.{Begin, Escrow, Commit, Abort, Read, Share}
+use Rattle.field_bounds.specs.declared.entry.Command.TheVariants.{Begin, Escrow, Commit, Abort, Give, Restate, Accept, Read, Share}
 use Rattle.field_bounds.specs.declared.entry.Reply.{Reply}
-use Rattle.field_bounds.specs.declared.entry.Reply.TheVariants.{Begun, Granted, Committed, Aborted, Between, Shares, Refused}
+use Rattle.field_bounds.specs.declared.entry.Reply.TheVariants.{Begun, Granted, Committed, Aborted, Given, Stated, Accepted, Between, Shares, Refused}
 use Rattle.field_bounds.specs.declared.entry.Refusal.{Refusal}
-use Rattle.field_bounds.specs.declared.entry.Refusal.TheVariants.{NoField, NoTransaction, Zero, TooLarge, Short, TooManyOpen, TooManyEscrows, NumbersFull}
+use Rattle.field_bounds.specs.declared.entry.Refusal.TheVariants.{NoSite, NoField, NoTransaction, Zero, TooLarge, Short, SelfGift, LedgerFull, NotYours, Forged, TooManyOpen, TooManyEscrows, NumbersFull, NothingGiven}
 use Rattle.field_bounds.specs.declared.entry.Entry.{Entry}
+use Rattle.field_bounds.specs.declared.entry.Statement.{Statement}
 use Rattle.field_bounds.specs.Kind.{kind_of}
 use Rattle.field_bounds.specs.Schema.{SchemaValue}
-use Rattle.field_bounds.specs.Parts.{field_at}
-use Rattle.field_bounds.specs.Effects.{Base, Effect, is_begun, is_open, open_txns, escrows_of, share, own_rights, effects}
+use Rattle.field_bounds.specs.Parts.{field_at, width_of}
+use Rattle.field_bounds.specs.Effects.{Base, Effect, is_begun, is_open, open_txns, escrows_of, given, accepted, share, own_rights, effects}
 
 -- ---- epochs and counts
 
@@ -72,10 +74,13 @@ abbrev pub first : List Test → Option Refusal
 first [] = None
 first (test ∷ rest) = if test.0 then Some test.1 else first rest
 
--- The greatest amount or change without its sign, the most open transactions, the most escrows of one, and the last
--- transaction number of an epoch.
+-- The greatest amount or change without its sign, the greatest total of gifts from one site to another on a field and of
+-- a kind, the most open transactions, the most escrows of one, and the last transaction number of an epoch.
 abbrev pub max_change : ℕ
 max_change = 2_000_000_000_000_000
+
+abbrev pub max_total : ℕ
+max_total = 1_000_000_000_000_000_000
 
 abbrev pub max_open : ℕ
 max_open = 64
@@ -93,7 +98,22 @@ free at field kind = share at.base field.0 kind at.effects
 abbrev pub owned : Place → FieldNo → Kind → ℕ
 owned at field kind = own_rights at.base field.0 kind at.effects
 
+-- The total given so far to a site, of a kind on a field.
+abbrev pub told_so_far : Place → SiteNo → FieldNo → Kind → ℕ
+told_so_far at to field kind = given at.base to.0 field.0 kind at.effects
+
+-- What a stated total has above the greatest one accepted before from its site.
+abbrev pub gain_of : Place → SiteNo → FieldNo → Kind → ℕ → ℕ
+gain_of at from field kind total = total - accepted at.base from.0 field.0 kind at.effects
+
+-- The room: what the site's own rights of both kinds leave of the field's width.
+abbrev pub room : Place → FieldNo → ℕ
+room at field = width_of (field_at at.schema field.0) - (owned at field Lower + owned at field Raise)
+
 -- The tests, each with its refusal.
+abbrev pub no_site : Place → SiteNo → Test
+no_site at site = when (nat_le at.schema.sites site.0) NoSite
+
 abbrev pub no_field : Place → FieldNo → Test
 no_field at field = when (nat_le (length at.schema.fields) field.0) NoField
 
@@ -108,6 +128,22 @@ too_large most n = when (nat_lt most n) TooLarge
 
 abbrev pub short : Place → FieldNo → Kind → ℕ → Test
 short at field kind q = when (nat_lt (free at field kind) q) (Short (free at field kind))
+
+abbrev pub self_gift : Place → SiteNo → Test
+self_gift at site = when (site.0 == at.site) SelfGift
+
+abbrev pub ledger_full : Place → SiteNo → FieldNo → Kind → ℕ → Test
+ledger_full at to field kind amount =
+    when (nat_lt max_total (told_so_far at to field kind + amount)) (LedgerFull (told_so_far at to field kind))
+
+abbrev pub not_yours : Place → SiteNo → Test
+not_yours at to = when (not (to.0 == at.site)) NotYours
+
+abbrev pub forged : Place → Statement → Test
+forged at told = when (nat_lt (room at told.field) (gain_of at told.from told.field told.kind told.total)) (Forged (room at told.field))
+
+abbrev pub nothing_given : Place → SiteNo → FieldNo → Kind → Test
+nothing_given at to field kind = when (told_so_far at to field kind == 0) NothingGiven
 
 abbrev pub too_many_open : Place → Test
 too_many_open at = when (nat_le max_open (count_open at.effects)) TooManyOpen
@@ -126,6 +162,13 @@ refusals at (Escrow txn field change) =
     ∷ short at field (kind_of change) (unsigned_abs change) ∷ too_many_escrows at txn ∷ []
 refusals at (Commit txn) = no_transaction at txn ∷ []
 refusals at (Abort txn) = no_transaction at txn ∷ []
+refusals at (Give to field kind amount) =
+    no_site at to ∷ no_field at field ∷ zero_asked amount ∷ too_large max_change amount
+    ∷ short at field kind amount ∷ self_gift at to ∷ ledger_full at to field kind amount ∷ []
+refusals at (Restate to field kind) = no_site at to ∷ no_field at field ∷ self_gift at to ∷ nothing_given at to field kind ∷ []
+refusals at (Accept told) =
+    no_site at told.from ∷ no_site at told.to ∷ no_field at told.field ∷ zero_asked told.total ∷ too_large max_total told.total
+    ∷ self_gift at told.from ∷ not_yours at told.to ∷ forged at told ∷ []
 refusals at (Read field) = no_field at field ∷ []
 refusals at (Share field) = no_field at field ∷ []
 
@@ -146,6 +189,9 @@ answer at Begin = Begun (record { epoch = epoch_of at.base at.entries; number = 
 answer at (Escrow txn field change) = Granted
 answer at (Commit txn) = Committed
 answer at (Abort txn) = Aborted
+answer at (Give to field kind amount) = Given (told_so_far at to field kind + amount)
+answer at (Restate to field kind) = Stated (told_so_far at to field kind)
+answer at (Accept told) = Accepted (gain_of at told.from told.field told.kind told.total)
 answer at (Read field) = Between (interval_at at field).0 (interval_at at field).1
 answer at (Share field) = Shares (shares_at at field).0 (shares_at at field).1
 
@@ -157,8 +203,9 @@ interval_of at field = if is_none (first (refusals at (Read field))) then Some (
 abbrev pub shares_of : Place → FieldNo → Option (ℕ × ℕ)
 shares_of at field = if is_none (first (refusals at (Share field))) then Some (shares_at at field) else None
 
--- A reply that touches neither rights nor transactions.
+-- A reply that touches neither rights nor transactions nor totals.
 abbrev pub is_quiet : Reply → Bool
+is_quiet (Stated total) = true
 is_quiet (Between lo hi) = true
 is_quiet (Shares lower raise) = true
 is_quiet (Refused refusal) = true

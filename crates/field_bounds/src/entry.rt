@@ -1,6 +1,7 @@
 //! What a site is asked, what it answers, and the entry that it keeps of both.
 
 use crate::id::{FieldNo, SiteNo, TxnId};
+use crate::kind::Kind;
 
 /// A quantity set aside by a transaction: a change of a field, below 0 to lower it and above 0 to
 /// raise it.
@@ -10,6 +11,22 @@ use crate::id::{FieldNo, SiteNo, TxnId};
 pub struct Escrow {
     pub field: FieldNo,
     pub change: i64,
+}
+
+/// What a giver tells of its gifts: the rights of a kind on a field that it has given to another
+/// site so far, all gifts together, in rights, 1 to 1,000,000,000,000,000,000 where a site issued
+/// it. Each statement holds all that the earlier ones told, so one that comes late, twice, never or
+/// out of order does no harm.
+///
+/// Source: Balegas and others 2015 for transfers that are kept as entries that only grow, this
+/// project for the statement.
+#[derive(Clone, Copy, Debug, PartialEq, Eq)]
+pub struct Statement {
+    pub from: SiteNo,
+    pub to: SiteNo,
+    pub field: FieldNo,
+    pub kind: Kind,
+    pub total: u64,
 }
 
 /// What a site is asked.
@@ -31,6 +48,22 @@ pub enum Command {
     Abort {
         txn: TxnId,
     },
+    /// Gives free rights of a kind on a field to another site, so many.
+    Give {
+        to: SiteNo,
+        field: FieldNo,
+        kind: Kind,
+        amount: u64,
+    },
+    /// Asks for a statement of what was given so far.
+    Restate {
+        to: SiteNo,
+        field: FieldNo,
+        kind: Kind,
+    },
+    /// Takes in a statement of another site: what it tells beyond the statements taken in before
+    /// becomes free rights here.
+    Accept(Statement),
     /// Asks between which values the field's committed value lies.
     Read {
         field: FieldNo,
@@ -45,22 +78,37 @@ pub enum Command {
 /// room for the refusals of later stages.
 #[derive(Clone, Copy, Debug, PartialEq, Eq)]
 pub enum Refusal {
+    /// A site that is named isn't in the schema.
+    NoSite,
     /// The field isn't in the schema.
     NoField,
     /// The transaction isn't open at this site.
     NoTransaction,
-    /// The change is 0.
+    /// The amount, the change or the stated total is 0.
     Zero,
-    /// The change without its sign is above 2,000,000,000,000,000.
+    /// The amount or the change without its sign is above 2,000,000,000,000,000, or the stated total
+    /// above 1,000,000,000,000,000,000.
     TooLarge,
     /// More is asked than the site's share of the kind, which is told.
     Short { share: u64 },
+    /// The other site is this site.
+    SelfGift,
+    /// The total given so far, which is told, and the amount are together above
+    /// 1,000,000,000,000,000,000.
+    LedgerFull { total: u64 },
+    /// The statement is for another site.
+    NotYours,
+    /// The gain is above the room, which is told: the field's width less the rights of both kinds
+    /// that the site has.
+    Forged { room: u64 },
     /// 64 transactions are open.
     TooManyOpen,
     /// The transaction has 16 escrows.
     TooManyEscrows,
     /// The epoch's last transaction number is 1,000,000,000.
     NumbersFull,
+    /// Nothing was given yet, so there is nothing to state.
+    NothingGiven,
 }
 
 /// What a site answers.
@@ -70,6 +118,13 @@ pub enum Reply {
     Granted,
     Committed,
     Aborted,
+    /// The amount was given, and this is the total given so far, in rights.
+    Given { total: u64 },
+    /// This is the total given so far, in rights.
+    Stated { total: u64 },
+    /// The statement was taken in, and so many rights became free by it: 0 where nothing in it was
+    /// new.
+    Accepted { gain: u64 },
     /// The committed value lies between these two, both included.
     Between { lo: i64, hi: i64 },
     /// The free rights of the site on the field, to lower and to raise it: in rights, each 0 to

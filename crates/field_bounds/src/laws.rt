@@ -38,16 +38,18 @@ pub fn one_reply()
 {}
 
 /// Every sound trace is a run of one central store. If each site gave the replies that it owes
-/// after its own entries alone, then, over the entries of all sites in one order: an escrow was
-/// granted only where the infimum and supremum of one central store allow it, an escrow refused as
-/// short was told the site's share, which is less than was asked, and an interval that was read
-/// holds the committed value (`central`). At every moment the infimum lies above the floor, and the
-/// supremum below the ceiling, by exactly the rights that the sites have free (`conserved`). So no
-/// field can be taken past a bound, however the open transactions end (`bounded`). A trace has the
-/// newest entry first.
+/// after its own entries alone, and took in only statements that were issued before, then, over the
+/// entries of all sites in one order: an escrow was granted only where the infimum and supremum of
+/// one central store allow it, an escrow or a gift refused as short was told the site's share, which
+/// is less than was asked, and an interval that was read holds the committed value (`central`). At
+/// every moment the infimum lies above the floor, and the supremum below the ceiling, by exactly the
+/// rights that the sites have free and those in flight, which were given and aren't accepted yet;
+/// and no site has accepted more than it was given (`conserved`). So no field can be taken past a
+/// bound, however the open transactions end, and whichever statements come late, twice or never
+/// (`bounded`). A trace has the newest entry first.
 ///
 /// Source: O'Neil 1986 for infimum, supremum and the test of a grant, Balegas and others 2015 for
-/// rights that are divided among sites, this project for the rules and the theorem.
+/// rights that are divided among sites and transferred, this project for the rules and the theorem.
 pub fn one_central_store()
     ensures central { (schema : SchemaValue) (trace : List Entry) →
         IsSchema schema → IsSound schema trace → IsCentral schema trace }

@@ -48,9 +48,9 @@ macro_rules! refuse_first {
 /// this stands.
 #[macro_export]
 macro_rules! by_command {
-    ($command:expr; $($name:ident $({ $($field:ident),* })? => $arm:expr),* $(,)?) => {
+    ($command:expr; $($name:ident $({ $($field:ident),* })? $(($part:ident))? => $arm:expr),* $(,)?) => {
         match $command {
-            $(Command::$name $({ $($field),* })? => $arm,)*
+            $(Command::$name $({ $($field),* })? $(($part))? => $arm,)*
         }
     };
 }

@@ -159,6 +159,10 @@ fn equality(rt: HostRuntime) {
         Command::Commit { txn },
         Command::Commit { txn: next },
         Command::Abort { txn },
+        GIVE,
+        RESTATE,
+        Command::Accept(told(5)),
+        Command::Accept(told(6)),
         Command::Read { field },
         Command::Read { field: FieldNo(1) },
         Command::Share { field },
@@ -171,12 +175,19 @@ fn equality(rt: HostRuntime) {
         Reply::Granted,
         Reply::Committed,
         Reply::Aborted,
+        Reply::Given { total: 5 },
+        Reply::Stated { total: 5 },
+        Reply::Accepted { gain: 5 },
+        Reply::Accepted { gain: 0 },
         Reply::Between { lo: 0, hi: 1 },
         Reply::Shares { lower: 0, raise: 1 },
         Reply::Shares { lower: 1, raise: 0 },
         Reply::Refused(Refusal::Zero),
         Reply::Refused(Refusal::Short { share: 1 }),
         Reply::Refused(Refusal::Short { share: 2 }),
+        Reply::Refused(Refusal::LedgerFull { total: 1 }),
+        Reply::Refused(Refusal::Forged { room: 1 }),
+        Reply::Refused(Refusal::NotYours),
     ];
     assert_differ(&rt, &replies);
     let command = Command::Begin;
@@ -195,4 +206,74 @@ fn equality(rt: HostRuntime) {
     let raise = Escrow { field, change: 1 };
     let lower = Escrow { field, change: -1 };
     assert_differ(&rt, &[raise, lower]);
+}
+
+/// A gift of 5 lowering rights on the first field to site 1.
+const GIVE: Command = Command::Give {
+    to: SiteNo(1),
+    field: FieldNo(0),
+    kind: Kind::Lower,
+    amount: 5,
+};
+
+/// The same asked to be told again.
+const RESTATE: Command = Command::Restate {
+    to: SiteNo(1),
+    field: FieldNo(0),
+    kind: Kind::Lower,
+};
+
+/// What site 0 tells site 1 of its gifts.
+fn told(total: u64) -> Statement {
+    Statement {
+        from: SiteNo(0),
+        to: SiteNo(1),
+        field: FieldNo(0),
+        kind: Kind::Lower,
+        total,
+    }
+}
+
+/// The statement of an entry of site 0.
+fn stated(command: Command, reply: Reply) -> Option<Statement> {
+    statement_of(&Entry {
+        site: SiteNo(0),
+        command,
+        reply,
+    })
+}
+
+#[test]
+fn statements(rt: HostRuntime) {
+    let given = Reply::Given { total: 8 };
+    let restated = Reply::Stated { total: 8 };
+    let gained = Reply::Accepted { gain: 8 };
+    assert_eq!(rt; stated(GIVE, given), Some(told(8)));
+    assert_eq!(rt; stated(RESTATE, restated), Some(told(8)));
+    assert_eq!(rt; stated(GIVE, restated), None);
+    assert_eq!(rt; stated(RESTATE, given), None);
+    assert_eq!(rt; stated(Command::Accept(told(8)), gained), None);
+    assert_eq!(rt; stated(GIVE, Reply::Refused(Refusal::NoSite)), None);
+}
+
+/// The last amount that a command bears, read by the arm of its name; 0 where it bears none.
+fn amount_of(command: Command) -> u64 {
+    by_command! { command;
+        Begin => 0,
+        Escrow { txn, field, change } => change.unsigned_abs(),
+        Commit { txn } => 0,
+        Abort { txn } => 0,
+        Give { to, field, kind, amount } => amount,
+        Restate { to, field, kind } => 0,
+        Accept(told) => told.total,
+        Read { field } => 0,
+        Share { field } => 0,
+    }
+}
+
+#[test]
+fn arms(rt: HostRuntime) {
+    assert_eq!(rt; amount_of(GIVE), 5);
+    assert_eq!(rt; amount_of(Command::Accept(told(6))), 6);
+    assert_eq!(rt; amount_of(Command::Begin), 0);
 }

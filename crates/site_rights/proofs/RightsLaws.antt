@@ -13,7 +13,7 @@ use Rattle.field_bounds.specs.Effects.{takes}
 use Rattle.site_rights.specs.declared.field_rights.FieldRights.{FieldRights}
 use Rattle.site_rights.specs.declared.field_rights.Outcome.{Outcome}
 use Rattle.site_rights.specs.declared.field_rights.Outcome.TheVariants.{Committed, Aborted}
-use Rattle.site_rights.specs.Rights.{amounts_of, no_rights, row_at, free_at, held_at, taken, ending, by_escrow, by_escrows, AreInRange, AreHeld, CanEnd}
+use Rattle.site_rights.specs.Rights.{amounts_of, no_rights, row_at, free_at, held_at, width_at, at_field, taken, dropped, added, ending, by_escrow, by_escrows, AreInRange, AreHeld, CanEnd}
 
 -- by how much a change lowers, or raises
 abbrev pub size : Kind → ℤ → ℕ
@@ -177,3 +177,106 @@ can_end o rows es i e d range h lt at =
       in_range = omega (arith, length-by_escrows (ending o) rows (take i es));
       held = omega (arith, held, more, own, h e.field.0 k in_range, sum_by-take-le (takes e.field.0 k) es (i + 1));
     }
+
+-- ---- rights that leave and come
+
+row_at-field : (change : FieldRights → Kind → ℕ → FieldRights) (rows : List FieldRights) (f g : ℕ) (kind : Kind) (q : ℕ) → f < length rows
+    → row_at (at_field change rows f kind q) g ≡ cond (f == g) (change (row_at rows g) kind q) (row_at rows g)
+row_at-field change rows f g kind q h = row_at-set rows f g (change (row_at rows f) kind q) h ∙ moved (cases_Bool (f == g))
+  where
+    moved : ((f == g) ≡ true) ⊎ ((f == g) ≡ false) → cond (f == g) (change (row_at rows f) kind q) (row_at rows g) ≡ cond (f == g) (change (row_at rows g) kind q) (row_at rows g)
+    moved (inl same) = ap (λ (x : ℕ). cond (f == g) (change (get_or rows x no_rights) kind q) (row_at rows g)) (eqb-true f g same)
+    moved (inr differs) = rw differs refl
+
+dropped_free : (r : FieldRights) (kind k : Kind) (q : ℕ) → (amounts_of (dropped r kind q) k).free ≡ (amounts_of r k).free - cond (same_kind kind k) q 0
+dropped_free r Lower Lower q = refl
+dropped_free r Lower Raise q = omega arith
+dropped_free r Raise Lower q = omega arith
+dropped_free r Raise Raise q = refl
+
+dropped_held : (r : FieldRights) (kind k : Kind) (q : ℕ) → (amounts_of (dropped r kind q) k).held ≡ (amounts_of r k).held
+dropped_held r Lower Lower q = refl
+dropped_held r Lower Raise q = refl
+dropped_held r Raise Lower q = refl
+dropped_held r Raise Raise q = refl
+
+added_free : (r : FieldRights) (kind k : Kind) (q : ℕ) → (amounts_of (added r kind q) k).free ≡ (amounts_of r k).free + cond (same_kind kind k) q 0
+added_free r Lower Lower q = refl
+added_free r Lower Raise q = omega arith
+added_free r Raise Lower q = omega arith
+added_free r Raise Raise q = refl
+
+added_held : (r : FieldRights) (kind k : Kind) (q : ℕ) → (amounts_of (added r kind q) k).held ≡ (amounts_of r k).held
+added_held r Lower Lower q = refl
+added_held r Lower Raise q = refl
+added_held r Raise Lower q = refl
+added_held r Raise Raise q = refl
+
+-- rights that leave a field leave the free ones of their kind
+pub free_at-dropped : (rows : List FieldRights) (f g : ℕ) (kind k : Kind) (q : ℕ) → f < length rows → free_at (at_field dropped rows f kind q) g k ≡ free_at rows g k - cond ((f == g) && same_kind kind k) q 0
+free_at-dropped rows f g kind k q h = ap (λ r. (amounts_of r k).free) (row_at-field dropped rows f g kind q h) ∙ one (f == g)
+  where
+    one : (b : Bool) → (amounts_of (cond b (dropped (row_at rows g) kind q) (row_at rows g)) k).free ≡ free_at rows g k - cond (b && same_kind kind k) q 0
+    one true = dropped_free (row_at rows g) kind k q
+    one false = omega arith
+
+pub held_at-dropped : (rows : List FieldRights) (f g : ℕ) (kind k : Kind) (q : ℕ) → f < length rows → held_at (at_field dropped rows f kind q) g k ≡ held_at rows g k
+held_at-dropped rows f g kind k q h = ap (λ r. (amounts_of r k).held) (row_at-field dropped rows f g kind q h) ∙ one (f == g)
+  where
+    one : (b : Bool) → (amounts_of (cond b (dropped (row_at rows g) kind q) (row_at rows g)) k).held ≡ held_at rows g k
+    one true = dropped_held (row_at rows g) kind k q
+    one false = refl
+
+-- rights that come to a field come to the free ones of their kind
+pub free_at-added : (rows : List FieldRights) (f g : ℕ) (kind k : Kind) (q : ℕ) → f < length rows → free_at (at_field added rows f kind q) g k ≡ free_at rows g k + cond ((f == g) && same_kind kind k) q 0
+free_at-added rows f g kind k q h = ap (λ r. (amounts_of r k).free) (row_at-field added rows f g kind q h) ∙ one (f == g)
+  where
+    one : (b : Bool) → (amounts_of (cond b (added (row_at rows g) kind q) (row_at rows g)) k).free ≡ free_at rows g k + cond (b && same_kind kind k) q 0
+    one true = added_free (row_at rows g) kind k q
+    one false = omega arith
+
+pub held_at-added : (rows : List FieldRights) (f g : ℕ) (kind k : Kind) (q : ℕ) → f < length rows → held_at (at_field added rows f kind q) g k ≡ held_at rows g k
+held_at-added rows f g kind k q h = ap (λ r. (amounts_of r k).held) (row_at-field added rows f g kind q h) ∙ one (f == g)
+  where
+    one : (b : Bool) → (amounts_of (cond b (added (row_at rows g) kind q) (row_at rows g)) k).held ≡ held_at rows g k
+    one true = added_held (row_at rows g) kind k q
+    one false = refl
+
+-- ---- no change of rights changes a width
+
+abbrev pub KeepsWidth : (FieldRights → Kind → ℕ → FieldRights) → Type 0
+KeepsWidth change = (r : FieldRights) (k : Kind) (q : ℕ) → (change r k q).width ≡ r.width
+
+pub taken_keeps : KeepsWidth taken
+taken_keeps r Lower q = refl
+taken_keeps r Raise q = refl
+
+pub ending_keeps : (o : Outcome) → KeepsWidth (ending o)
+ending_keeps Committed r Lower q = refl
+ending_keeps Committed r Raise q = refl
+ending_keeps Aborted r Lower q = refl
+ending_keeps Aborted r Raise q = refl
+
+pub dropped_keeps : KeepsWidth dropped
+dropped_keeps r Lower q = refl
+dropped_keeps r Raise q = refl
+
+pub added_keeps : KeepsWidth added
+added_keeps r Lower q = refl
+added_keeps r Raise q = refl
+
+pub width_at-field : (change : FieldRights → Kind → ℕ → FieldRights) → KeepsWidth change → (rows : List FieldRights) (f g : ℕ) (kind : Kind) (q : ℕ) → f < length rows
+    → width_at (at_field change rows f kind q) g ≡ width_at rows g
+width_at-field change keeps rows f g kind q h = ap (λ (r : FieldRights). r.width) (row_at-field change rows f g kind q h) ∙ one (f == g)
+  where
+    one : (b : Bool) → (cond b (change (row_at rows g) kind q) (row_at rows g)).width ≡ width_at rows g
+    one true = keeps (row_at rows g) kind q
+    one false = refl
+
+pub width_at-by_escrows : (change : FieldRights → Kind → ℕ → FieldRights) → KeepsWidth change → (rows : List FieldRights) (es : List Escrow) → AreInRange rows es → (g : ℕ)
+    → width_at (by_escrows change rows es) g ≡ width_at rows g
+width_at-by_escrows change keeps rows [] range g = refl
+width_at-by_escrows change keeps rows (e ∷ es) range g =
+    let lt : e.field.0 < length rows = All-head (λ (e : Escrow). e.field.0 < length rows) e es range in
+    let rest = AreInRange-same rows (by_escrow change rows e) es (length-by_escrow change rows e) (All-tail (λ (e : Escrow). e.field.0 < length rows) e es range) in
+    width_at-by_escrows change keeps (by_escrow change rows e) es rest g ∙ width_at-field change keeps rows e.field.0 g (kind_of e.change) (unsigned_abs e.change) lt

@@ -46,6 +46,13 @@ held_at rows f k = (amounts_of (row_at rows f) k).held
 abbrev pub own_at : List FieldRights → ℕ → Kind → ℕ
 own_at rows f k = free_at rows f k + held_at rows f k
 
+-- The width of a field, and the room on it: what the own rights of both kinds leave of the width.
+abbrev pub width_at : List FieldRights → ℕ → ℕ
+width_at rows f = (row_at rows f).width
+
+abbrev pub room_at : List FieldRights → ℕ → ℕ
+room_at rows f = width_at rows f - (own_at rows f Lower + own_at rows f Raise)
+
 -- Amounts with q more, or q fewer, free or held ones.
 abbrev pub more_free : ℕ → Amounts → Amounts
 more_free q a = record a { free = a.free + q }
@@ -71,6 +78,13 @@ given_back r k q = with_amounts r k (more_free q (fewer_held q (amounts_of r k))
 abbrev pub turned : FieldRights → Kind → ℕ → FieldRights
 turned r k q =
     with_amounts (with_amounts r k (fewer_held q (amounts_of r k))) (other k) (more_free q (amounts_of r (other k)))
+
+-- q free rights of a kind gone, and q more of them.
+abbrev pub dropped : FieldRights → Kind → ℕ → FieldRights
+dropped r k q = with_amounts r k (fewer_free q (amounts_of r k))
+
+abbrev pub added : FieldRights → Kind → ℕ → FieldRights
+added r k q = with_amounts r k (more_free q (amounts_of r k))
 
 -- What the end of a transaction does to held rights: they turn, or are given back.
 abbrev pub ending : Outcome → FieldRights → Kind → ℕ → FieldRights

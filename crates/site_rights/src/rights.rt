@@ -1,7 +1,7 @@
 //! The rights of one site.
 
 ghost use Rattle.std.specs.Prelude.{◌≡◌, ◌+◌, ◌<◌, ◌≤◌, ◌↔◌, length, OnOk, IfErr, OnErr, IsOk, IfOk, All};
-ghost use Rattle.site_rights.specs.Rights.{IsFresh, IsWithinWidth, free_at, held_at, own_at, at_field, taken, given_back, turned, by_escrow, by_escrows, ending, CanEnd, AreFresh, AreHeld, AreInRange};
+ghost use Rattle.site_rights.specs.Rights.{IsFresh, IsWithinWidth, free_at, held_at, own_at, room_at, at_field, taken, given_back, turned, dropped, added, by_escrow, by_escrows, ending, CanEnd, AreFresh, AreHeld, AreInRange};
 
 use crate::field_rights::{Amounts, FieldRights, Outcome, Short};
 use field_bounds::{Escrow, FieldNo, Kind, Schema, SiteNo, both_kinds};
@@ -70,6 +70,18 @@ impl Rights {
         amounts.free + amounts.held
     }
 
+    /// What the site's own rights of both kinds leave of the field's width: so many rights more it may
+    /// come to hold on the field, at most 2,000,000,000,000,000.
+    pub fn room(&self, field: FieldNo) -> u64
+        requires in_schema { field.0 < length self.now }
+        ensures value { result ≡ room_at self.now field.0 }
+        ensures most { result ≤ 2_000_000_000_000_000 }
+    {
+        let row = self.rows[usize::from(field.0)];
+        let own = row.lower.free + row.lower.held + row.raise.free + row.raise.held;
+        row.width - own
+    }
+
     /// Sets free rights aside, or answers the share and changes nothing where fewer are free than
     /// are asked.
     pub fn take(&mut self, field: FieldNo, kind: Kind, amount: u64) -> Result<(), Short>
@@ -79,10 +91,7 @@ impl Rights {
         ensures short { IfErr result (λ short. short.share ≡ free_at self.old field.0 kind) }
         ensures err { OnErr result (self.new ≡ self.old) }
     {
-        let share = self.free(field, kind);
-        if amount > share {
-            return Err(Short { share });
-        }
+        self.check_free(field, kind, amount)?;
         let row = &mut self.rows[usize::from(field.0)];
         both_kinds!(kind, row, |own| {
             own.free -= amount;
@@ -118,6 +127,36 @@ impl Rights {
         });
     }
 
+    /// Lets free rights leave the site, as those that it gives away do, or answers the share and
+    /// changes nothing where fewer are free than are asked.
+    pub fn drop_free(&mut self, field: FieldNo, kind: Kind, amount: u64) -> Result<(), Short>
+        requires in_schema { field.0 < length self.old }
+        ensures enough { IsOk result ↔ (amount ≤ free_at self.old field.0 kind) }
+        ensures ok { OnOk result (self.new ≡ at_field dropped self.old field.0 kind amount) }
+        ensures short { IfErr result (λ short. short.share ≡ free_at self.old field.0 kind) }
+        ensures err { OnErr result (self.new ≡ self.old) }
+    {
+        self.check_free(field, kind, amount)?;
+        let row = &mut self.rows[usize::from(field.0)];
+        both_kinds!(kind, row, |giving| {
+            giving.free -= amount;
+        });
+        Ok(())
+    }
+
+    /// Lets free rights come to the site, as those that it was given do. There has to be room for
+    /// them, which `room` tells.
+    pub fn add(&mut self, field: FieldNo, kind: Kind, amount: u64)
+        requires in_schema { field.0 < length self.old }
+        requires room { amount ≤ room_at self.old field.0 }
+        ensures added { self.new ≡ at_field added self.old field.0 kind amount }
+    {
+        let row = &mut self.rows[usize::from(field.0)];
+        both_kinds!(kind, row, |gaining| {
+            gaining.free += amount;
+        });
+    }
+
     /// Ends the escrows of a transaction one after another: each one's held rights turn where it
     /// committed, and are given back where it aborted. Costs one step for each escrow.
     pub fn end(&mut self, escrows: &[Escrow], outcome: Outcome)
@@ -140,6 +179,19 @@ impl Rights {
             Outcome::Committed => self.turn(escrow.field, kind, amount),
             Outcome::Aborted => self.give_back(escrow.field, kind, amount),
         }
+    }
+
+    /// Answers the share where fewer rights are free than are asked.
+    fn check_free(&self, field: FieldNo, kind: Kind, amount: u64) -> Result<(), Short>
+        requires in_schema { field.0 < length self.now }
+        ensures enough { IsOk result ↔ (amount ≤ free_at self.now field.0 kind) }
+        ensures short { IfErr result (λ short. short.share ≡ free_at self.now field.0 kind) }
+    {
+        let share = self.free(field, kind);
+        if amount > share {
+            return Err(Short { share });
+        }
+        Ok(())
     }
 
     fn amounts(&self, field: FieldNo, kind: Kind) -> Amounts

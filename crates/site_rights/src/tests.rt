@@ -1,5 +1,8 @@
+ghost use Rattle.std.specs.Prelude.{◌<◌, length, IfSome};
+
 use super::*;
 use field_bounds::{FieldNo, FieldSpec, Kind, Schema, SiteNo};
+use std::alloc::Global;
 use std::test::Fail;
 
 const STOCK: FieldNo = FieldNo(0);
@@ -31,4 +34,50 @@ fn second_of_two_sites(rt: HostRuntime) -> Result<(), Fail> {
     assert!(rt; rights.held(STOCK, Kind::Lower) == 5);
     rights.end(&[], Outcome::Committed);
     Ok(())
+}
+
+/// The rights of site 1 of two, 20 to lower the field and 30 to raise it, or None where memory was
+/// refused.
+fn half(alloc: Global) -> Option<Rights>
+    ensures in_schema { IfSome result (λ rights. 0 < length rights) }
+{
+    let field = FieldSpec {
+        name: String::from_str(alloc, "stock").ok()?,
+        floor: 0,
+        ceiling: 100,
+        value: 40,
+    };
+    let schema = Schema::new(alloc, 2, vec![in alloc; field].ok()?).ok()?;
+    if schema.sites() < 2 || schema.fields() == 0 {
+        return None;
+    }
+    Rights::new(alloc, &schema, SiteNo(1)).ok()
+}
+
+/// What is answered where 21 of 20 free lowering rights are to leave, and then 20.
+fn given_away(rights: &mut Rights) -> (Result<(), Short>, Result<(), Short>)
+    requires in_schema { 0 < length rights.old }
+    ensures in_schema { 0 < length rights.new }
+{
+    let many = rights.drop_free(STOCK, Kind::Lower, 21);
+    let all = rights.drop_free(STOCK, Kind::Lower, 20);
+    (many, all)
+}
+
+/// The room, and the raising rights once that many more came to them.
+fn filled_up(rights: &mut Rights) -> (u64, u64)
+    requires in_schema { 0 < length rights.old }
+{
+    let room = rights.room(STOCK);
+    rights.add(STOCK, Kind::Raise, room);
+    (room, rights.own(STOCK, Kind::Raise))
+}
+
+#[test]
+fn rights_leave_and_come(rt: HostRuntime) {
+    if let Some(mut rights) = half(rt.alloc()) {
+        let short = Short { share: 20 };
+        assert_eq!(rt; given_away(&mut rights), (Err(short), Ok(())));
+        assert_eq!(rt; filled_up(&mut rights), (70, 100));
+    }
 }

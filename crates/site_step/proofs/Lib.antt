@@ -1,2 +1,4 @@
+pub mod Holding
 pub mod Matching
 pub mod Standing
+pub mod Widths

@@ -1,25 +1,28 @@
 -- What one more effect does to the rights and the open transactions that match the effects.
-use Rattle.std.proofs.Common.{◌≡◌, ℕ, ◌+◌, ◌<◌, Bool, true, false, not, cond, ◌&&◌, ◌||◌, List, [], ◌∷◌, ◌++◌, length, map, reverse, filter, refl, sym, ap, ◌∙◌, arith, inl, inr}
-use Rattle.std.specs.Prelude.{sum_by}
+use Rattle.std.proofs.Common.{◌≡◌, ℕ, ◌+◌, ◌-◌, ◌==◌, ◌<◌, Bool, true, false, not, cond, ◌&&◌, ◌||◌, List, [], ◌∷◌, ◌++◌, length, map, reverse, filter, refl, sym, ap, ◌∙◌, arith, inl, inr}
+use Rattle.std.specs.Prelude.{sum_by, unsigned_abs}
 use Rattle.std.specs.List.{list_any}
-use Rattle.std.proofs.lemmas.Bool.{cases_Bool}
+use Rattle.std.proofs.lemmas.Bool.{cases_Bool, and_parts, eqb-true}
 use Rattle.std.proofs.lemmas.List.{length-map, length-reverse, map-append}
+use Rattle.std.proofs.Math.ListN.{length-set}
 use Rattle.std.proofs.lemmas.List.Elements.{All-cons, All-nil}
 use Rattle.field_bounds.specs.declared.kind.Kind.{Kind}
 use Rattle.field_bounds.specs.declared.id.TxnId.{TxnId}
 use Rattle.field_bounds.specs.declared.entry.Escrow.{Escrow}
+use Rattle.field_bounds.specs.Kind.{same_kind, kind_of}
 use Rattle.field_bounds.specs.Schema.{SchemaValue}
-use Rattle.field_bounds.specs.Effects.{Effect, Begins, Grants, Commits, Aborts, fresh, same_txn, begun, open_txns, is_begun, is_committed, is_dropped, is_open, escrows_of, takes, share, held}
+use Rattle.field_bounds.specs.Effects.{Effect, Begins, Grants, Commits, Aborts, Gives, Accepts, fresh, accepted, same_txn, begun, open_txns, is_begun, is_committed, is_dropped, is_open, escrows_of, takes, share, held}
 use Rattle.field_bounds.specs.Owed.{count_open}
-use Rattle.field_bounds.proofs.Lawful.{IsLawful, granted-mono, same_txn-true}
-use Rattle.field_bounds.proofs.Steps.{same_txn-sym, of_txn, of_txn_is, share_grant, held_grant, share_commit, held_commit, share_abort, held_abort, new_is_unused}
+use Rattle.field_bounds.proofs.Lawful.{IsLawful, granted-mono, same_txn-true, same_kind-true}
+use Rattle.field_bounds.proofs.Steps.{same_txn-sym, of_txn, of_txn_is, share_grant, held_grant, share_commit, held_commit, share_abort, held_abort, share_give, share_accept, new_is_unused}
 use Rattle.site_rights.specs.declared.field_rights.FieldRights.{FieldRights}
 use Rattle.site_rights.specs.declared.field_rights.Outcome.{Outcome}
 use Rattle.site_rights.specs.declared.field_rights.Outcome.TheVariants.{Committed, Aborted}
-use Rattle.site_rights.specs.Rights.{taken, ending, by_escrow, by_escrows, AreInRange, AreHeld}
-use Rattle.site_rights.proofs.RightsLaws.{frees, length-by_escrow, length-by_escrows, free_at-taken, held_at-taken, free_at-by_escrows, held_at-by_escrows}
+use Rattle.site_rights.specs.Rights.{at_field, taken, ending, dropped, added as gained, by_escrow, by_escrows, AreInRange, AreHeld}
+use Rattle.site_rights.proofs.RightsLaws.{frees, length-by_escrow, length-by_escrows, free_at-taken, held_at-taken, free_at-by_escrows, held_at-by_escrows, free_at-dropped, held_at-dropped, free_at-added, held_at-added}
 use Rattle.escrow_journal.specs.Journal.{Row, stands, escrows_at, with_escrow, added, without}
 use Rattle.site_step.specs.State.{row_of, journal_of, Matches}
+use Rattle.site_step.proofs.Widths.{taken_keeps, dropped_keeps, added_keeps, width-at_field, width-by_escrows}
 use Rattle.escrow_journal.proofs.Lists.{reverse-cons, list_any-reverse, sum_by-reverse, filter-reverse, All-reverse, list_any-map, map-agree, map-map, filter-agree, filter-and, filter-map}
 
 -- ---- what is read of the journal
@@ -50,6 +53,8 @@ any_open t (Begins txn ∷ es) all =
 any_open t (Grants txn field change ∷ es) all = any_open t es all
 any_open t (Commits txn ∷ es) all = any_open t es all
 any_open t (Aborts txn ∷ es) all = any_open t es all
+any_open t (Gives to field kind amount ∷ es) all = any_open t es all
+any_open t (Accepts from field kind total ∷ es) all = any_open t es all
 
 pub stands-journal_of : (t : TxnId) (es : List Effect) → stands t (journal_of es) ≡ (is_begun t es && is_open t es)
 stands-journal_of t es =
@@ -144,6 +149,7 @@ module _ (schema : SchemaValue) (s : ℕ) (es : List Effect) (lawful : IsLawful 
       let opened : is_open t es ≡ true = rw (unused.uncommitted, unused.undropped) refl in
       record {
         count = was.count;
+        width = λ f l. was.width f l;
         free = λ f k l. was.free f k l;
         held = λ f k l. was.held f k l;
         journal = ap (λ (j : List Row). j ++ (t, []) ∷ []) was.journal ∙ sym (journal_of-begin t es opened unused.no_escrow);
@@ -154,6 +160,7 @@ module _ (schema : SchemaValue) (s : ℕ) (es : List Effect) (lawful : IsLawful 
       let same = length-by_escrow taken rows e in
       record {
         count = same ∙ was.count;
+        width = λ f l. width-at_field taken taken_keeps rows e.field.0 f (kind_of e.change) (unsigned_abs e.change) range ∙ was.width f (omega (arith, l, same));
         free = λ f k l. omega (arith, free_at-taken rows e f k range, was.free f k (omega (arith, l, same)), share_grant schema (fresh schema s) es lawful f k txn e opened);
         held = λ f k l. omega (arith, held_at-taken rows e f k range, was.held f k (omega (arith, l, same)), held_grant schema (fresh schema s) es lawful f k txn e opened);
         journal = ap (added txn e) was.journal ∙ journal_of-grant txn e es;
@@ -173,6 +180,8 @@ module _ (schema : SchemaValue) (s : ℕ) (es : List Effect) (lawful : IsLawful 
   in_range_of t (Begins txn ∷ fs) l = in_range_of t fs l.0
   in_range_of t (Commits txn ∷ fs) l = in_range_of t fs l.0
   in_range_of t (Aborts txn ∷ fs) l = in_range_of t fs l.0
+  in_range_of t (Gives to field kind amount ∷ fs) l = in_range_of t fs l.0
+  in_range_of t (Accepts from field kind total ∷ fs) l = in_range_of t fs l.0
 
   pub are_in_range : (t : TxnId) → AreInRange rows (reverse (escrows_of t es))
   are_in_range t = All-reverse (λ (e : Escrow). e.field.0 < length rows) (escrows_of t es) (in_range_of t es lawful)
@@ -200,6 +209,7 @@ module _ (schema : SchemaValue) (s : ℕ) (es : List Effect) (lawful : IsLawful 
       let range = are_in_range t in
       record {
         count = same ∙ was.count;
+        width = λ f l. width-by_escrows o rows gone range f ∙ was.width f (omega (arith, l, same));
         free = λ f k l.
             let l' : f < length rows = omega (arith, l, same) in
             omega (arith, free_at-by_escrows o rows gone range f k, was.free f k l', sum_is t f (frees o k), share_end o t opened f k);
@@ -207,4 +217,49 @@ module _ (schema : SchemaValue) (s : ℕ) (es : List Effect) (lawful : IsLawful 
             let l' : f < length rows = omega (arith, l, same) in
             omega (arith, held_at-by_escrows o rows gone range (are_held t opened) f k l', was.held f k l', sum_is t f k, held_end o t opened f k);
         journal = ap (without t) was.journal ∙ journal_of-end o t es;
+      }
+
+  -- what leaves and comes by a gift and an acceptance
+  pub matches_give : (to field : ℕ) (kind : Kind) (amount : ℕ) → field < length rows → Matches schema s (Gives to field kind amount ∷ es) (at_field dropped rows field kind amount) journal
+  matches_give to field kind amount range =
+      let same : length (at_field dropped rows field kind amount) ≡ length rows = length-set rows field _ in
+      record {
+        count = same ∙ was.count;
+        width = λ f l. width-at_field dropped dropped_keeps rows field f kind amount range ∙ was.width f (omega (arith, l, same));
+        free = λ f k l. omega (arith, free_at-dropped rows field f kind k amount range, was.free f k (omega (arith, l, same)), share_give schema (fresh schema s) es lawful f k to field kind amount);
+        held = λ f k l. held_at-dropped rows field f kind k amount range ∙ was.held f k (omega (arith, l, same));
+        journal = was.journal;
+      }
+
+  gained_there : (gain : ℕ → Kind → ℕ) (field f : ℕ) (kind k : Kind) → cond ((field == f) && same_kind kind k) (gain field kind) 0 ≡ cond ((field == f) && same_kind kind k) (gain f k) 0
+  gained_there gain field f kind k =
+      elim (cases_Bool ((field == f) && same_kind kind k)) [
+        | inl here ↦
+            let both = and_parts (field == f) (same_kind kind k) here in
+            let at_field_of : field ≡ f = eqb-true field f both.0 in
+            let of_kind : kind ≡ k = same_kind-true kind k both.1 in
+            let same : gain field kind ≡ gain f k = cc (at_field_of, of_kind) in
+            rw here same
+        | inr there ↦ rw there refl
+      ]
+
+  pub matches_accept : (from field : ℕ) (kind : Kind) (total gain : ℕ) → field < length rows → gain ≡ total - accepted (fresh schema s) from field kind es
+      → Matches schema s (Accepts from field kind total ∷ es) (at_field gained rows field kind gain) journal
+  matches_accept from field kind total gain range is =
+      let same : length (at_field gained rows field kind gain) ≡ length rows = length-set rows field _ in
+      let of : ℕ → Kind → ℕ = λ f k. total - accepted (fresh schema s) from f k es in
+      record {
+        count = same ∙ was.count;
+        width = λ f l. width-at_field gained added_keeps rows field f kind gain range ∙ was.width f (omega (arith, l, same));
+        free = λ f k l.
+            omega (
+              arith,
+              free_at-added rows field f kind k gain range,
+              ap (λ (n : ℕ). cond ((field == f) && same_kind kind k) n 0) is,
+              gained_there of field f kind k,
+              was.free f k (omega (arith, l, same)),
+              share_accept schema (fresh schema s) es lawful f k from field kind total,
+            );
+        held = λ f k l. held_at-added rows field f kind k gain range ∙ was.held f k (omega (arith, l, same));
+        journal = was.journal;
       }

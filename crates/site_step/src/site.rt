@@ -7,11 +7,14 @@ ghost use Rattle.site_rights.specs.Rights.{ending, by_escrows, AreInRange, AreHe
 ghost use Rattle.escrow_journal.specs.Journal.{stands, escrows_at, without};
 ghost use Rattle.site_step.specs.Site.{here, base_of, end_command, end_reply, Applies};
 
+mod gifts;
+
 use escrow_journal::Journal;
 use field_bounds::{
     Command, Entry, Escrow, FieldNo, Kind, MAX_CHANGE, MAX_ESCROWS, MAX_NUMBER, MAX_OPEN, Refusal,
     Reply, Schema, SiteNo, TxnId, by_command, refuse_first,
 };
+use gift_ledger::Ledger;
 use site_rights::{Outcome, Rights};
 use std::alloc::{AllocError, Global};
 use std::marker::Model;
@@ -24,6 +27,7 @@ pub struct Site {
     number: SiteNo,
     rights: Rights,
     journal: Journal,
+    ledger: Ledger,
     last: u32,
     history: Vec<Entry>,
 }
@@ -37,7 +41,7 @@ impl Model for Site {
 
     ghost view = { λ s. record { schema = s.schema; site = s.number; history = reverse s.history.items } };
 
-    ghost invariant = { λ s. StandsOn s.schema s.number.0 (reverse s.history.items) s.rights s.journal s.last };
+    ghost invariant = { λ s. StandsOn s.schema s.number.0 (reverse s.history.items) s.rights s.journal s.ledger s.last };
 }
 
 /// A floor raised by rights.
@@ -93,17 +97,20 @@ fn close(journal: &mut Journal, rights: &mut Rights, txn: TxnId, outcome: Outcom
 
 impl Site {
     /// A site that has answered nothing: its parts are its free rights, and no transaction is open.
-    /// The error is want of memory. Costs one row for each field.
+    /// The error is want of memory. Costs one row for each field, and one more for each site and
+    /// field.
     pub fn fresh(alloc: Global, schema: Schema, site: SiteNo) -> Result<Site, AllocError>
         requires in_schema { site.0 < schema.sites }
         ensures fresh { IfOk result (λ made. made ≡ record { schema = schema; site = site; history = [] }) }
     {
         let rights = Rights::new(alloc, &schema, site)?;
+        let ledger = Ledger::new(alloc, &schema, site)?;
         Ok(Site {
             schema,
             number: site,
             rights,
             journal: Journal::new(alloc),
+            ledger,
             last: 0,
             history: Vec::new(alloc),
         })
@@ -154,8 +161,9 @@ impl Site {
     /// nothing has changed.
     ///
     /// Costs a look through the open transactions, at most 64, for a command that names one, and
-    /// one step for each escrow of a transaction that ends. Nothing that it does grows with the
-    /// history.
+    /// one step for each escrow of a transaction that ends. A Give, a Restate and an Accept look at
+    /// one total and at the rights on one field. Nothing that it does grows with the history, the
+    /// number of fields or the number of sites.
     pub fn apply(&mut self, alloc: Global, command: Command) -> Result<Reply, AllocError>
         ensures ok { IfOk result (λ reply. Applies self.old command reply self.new) }
         ensures err { OnErr result (self.new ≡ self.old) }
@@ -168,6 +176,9 @@ impl Site {
             Escrow { txn, field, change } => self.grant(txn, Escrow { field, change }),
             Commit { txn } => self.end(txn, Outcome::Committed),
             Abort { txn } => self.end(txn, Outcome::Aborted),
+            Give { to, field, kind, amount } => self.give(to, field, kind, amount),
+            Restate { to, field, kind } => self.restate(to, field, kind),
+            Accept(told) => self.accept(told),
             Read { field } => self.read(field),
             Share { field } => self.tell_shares(field),
         }
@@ -232,6 +243,9 @@ impl Site {
             Escrow { txn, field, change } => self.escrow_refusal(txn, field, change),
             Commit { txn } => self.end_refusal(txn),
             Abort { txn } => self.end_refusal(txn),
+            Give { to, field, kind, amount } => self.give_refusal(to, field, kind, amount),
+            Restate { to, field, kind } => self.restate_refusal(to, field, kind),
+            Accept(told) => self.accept_refusal(told),
             Read { field } => self.field_refusal(field),
             Share { field } => self.field_refusal(field),
         }

@@ -1,5 +1,7 @@
 use super::*;
-use field_bounds::{Command, FieldNo, FieldSpec, Refusal, Reply, Schema, SiteNo, TxnId};
+use field_bounds::{
+    Command, FieldNo, FieldSpec, Kind, Refusal, Reply, Schema, SiteNo, Statement, TxnId,
+};
 use std::alloc::Global;
 use std::process::Abort;
 use std::test::Fail;
@@ -11,8 +13,8 @@ const FIRST: TxnId = TxnId {
     number: 1,
 };
 
-/// The second of two sites, on one field from 0 to 100 at 40.
-fn second_site(rt: &impl Abort, alloc: Global) -> Result<Site, Fail> {
+/// One of two sites, on one field from 0 to 100 at 40.
+fn site_of_two(rt: &impl Abort, alloc: Global, number: u16) -> Result<Site, Fail> {
     let stock = FieldSpec {
         name: String::from_str(alloc, "stock")?,
         floor: 0,
@@ -20,8 +22,8 @@ fn second_site(rt: &impl Abort, alloc: Global) -> Result<Site, Fail> {
         value: 40,
     };
     let schema = Schema::new(alloc, 2, vec![in alloc; stock]?)?;
-    assert!(rt; schema.sites() == 2);
-    Ok(Site::fresh(alloc, schema, SiteNo(1))?)
+    assert!(rt; number < schema.sites());
+    Ok(Site::fresh(alloc, schema, SiteNo(number))?)
 }
 
 fn lower(change: i64) -> Command {
@@ -32,6 +34,33 @@ fn lower(change: i64) -> Command {
     }
 }
 
+fn give_lower(to: u16, amount: u64) -> Command {
+    Command::Give {
+        to: SiteNo(to),
+        field: STOCK,
+        kind: Kind::Lower,
+        amount,
+    }
+}
+
+fn restate_lower(to: u16) -> Command {
+    Command::Restate {
+        to: SiteNo(to),
+        field: STOCK,
+        kind: Kind::Lower,
+    }
+}
+
+fn accept_lower(from: u16, to: u16, total: u64) -> Command {
+    Command::Accept(Statement {
+        from: SiteNo(from),
+        to: SiteNo(to),
+        field: STOCK,
+        kind: Kind::Lower,
+        total,
+    })
+}
+
 /// What the site answers, or None where memory was refused.
 fn answer(alloc: Global, site: &mut Site, command: Command) -> Option<Reply> {
     site.apply(alloc, command).ok()
@@ -40,7 +69,7 @@ fn answer(alloc: Global, site: &mut Site, command: Command) -> Option<Reply> {
 #[test]
 fn each_call(rt: HostRuntime) -> Result<(), Fail> {
     let alloc = rt.alloc();
-    let mut site = second_site(&rt, alloc)?;
+    let mut site = site_of_two(&rt, alloc, 1)?;
     let short = Reply::Refused(Refusal::Short { share: 20 });
     assert_eq!(rt;
         answer(alloc, &mut site, Command::Begin),
@@ -57,5 +86,92 @@ fn each_call(rt: HostRuntime) -> Result<(), Fail> {
     assert_eq!(rt; site.interval(FieldNo(1)), None);
     assert_eq!(rt; site.site(), SiteNo(1));
     assert_eq!(rt; site.history().len(), 4);
+    Ok(())
+}
+
+#[test]
+fn gives(rt: HostRuntime) -> Result<(), Fail> {
+    let alloc = rt.alloc();
+    let mut site = site_of_two(&rt, alloc, 0)?;
+    let short = Reply::Refused(Refusal::Short { share: 20 });
+    let no_site = Reply::Refused(Refusal::NoSite);
+    let shares = Reply::Shares {
+        lower: 0,
+        raise: 30,
+    };
+    let between = Reply::Between { lo: 0, hi: 70 };
+    let share = Command::Share { field: STOCK };
+    let read = Command::Read { field: STOCK };
+    assert_eq!(rt; answer(alloc, &mut site, give_lower(1, 21)), Some(short));
+    assert_eq!(rt; answer(alloc, &mut site, give_lower(2, 1)), Some(no_site));
+    assert_eq!(rt;
+        answer(alloc, &mut site, give_lower(1, 20)),
+        Some(Reply::Given { total: 20 })
+    );
+    assert_eq!(rt; answer(alloc, &mut site, share), Some(shares));
+    assert_eq!(rt; answer(alloc, &mut site, read), Some(between));
+    Ok(())
+}
+
+#[test]
+fn states(rt: HostRuntime) -> Result<(), Fail> {
+    let alloc = rt.alloc();
+    let mut site = site_of_two(&rt, alloc, 0)?;
+    let nothing = Reply::Refused(Refusal::NothingGiven);
+    let itself = Reply::Refused(Refusal::SelfGift);
+    assert_eq!(rt; answer(alloc, &mut site, give_lower(0, 1)), Some(itself));
+    assert_eq!(rt; answer(alloc, &mut site, restate_lower(1)), Some(nothing));
+    assert_eq!(rt;
+        answer(alloc, &mut site, give_lower(1, 3)),
+        Some(Reply::Given { total: 3 })
+    );
+    assert_eq!(rt;
+        answer(alloc, &mut site, give_lower(1, 2)),
+        Some(Reply::Given { total: 5 })
+    );
+    assert_eq!(rt;
+        answer(alloc, &mut site, restate_lower(1)),
+        Some(Reply::Stated { total: 5 })
+    );
+    assert_eq!(rt; site.share(STOCK), Some((15, 30)));
+    Ok(())
+}
+
+#[test]
+fn accepts_up_to_the_room(rt: HostRuntime) -> Result<(), Fail> {
+    let alloc = rt.alloc();
+    let mut site = site_of_two(&rt, alloc, 1)?;
+    let all = Reply::Accepted { gain: 50 };
+    let forged = Reply::Refused(Refusal::Forged { room: 0 });
+    let not_yours = Reply::Refused(Refusal::NotYours);
+    assert_eq!(rt;
+        answer(alloc, &mut site, accept_lower(0, 0, 50)),
+        Some(not_yours)
+    );
+    assert_eq!(rt; answer(alloc, &mut site, accept_lower(0, 1, 50)), Some(all));
+    assert_eq!(rt;
+        answer(alloc, &mut site, accept_lower(0, 1, 51)),
+        Some(forged)
+    );
+    assert_eq!(rt; site.share(STOCK), Some((70, 30)));
+    Ok(())
+}
+
+#[test]
+fn accepts_late_and_twice(rt: HostRuntime) -> Result<(), Fail> {
+    let alloc = rt.alloc();
+    let mut site = site_of_two(&rt, alloc, 1)?;
+    let five = Reply::Accepted { gain: 5 };
+    let nothing = Reply::Accepted { gain: 0 };
+    assert_eq!(rt; answer(alloc, &mut site, accept_lower(0, 1, 5)), Some(five));
+    assert_eq!(rt;
+        answer(alloc, &mut site, accept_lower(0, 1, 3)),
+        Some(nothing)
+    );
+    assert_eq!(rt;
+        answer(alloc, &mut site, accept_lower(0, 1, 5)),
+        Some(nothing)
+    );
+    assert_eq!(rt; site.share(STOCK), Some((25, 30)));
     Ok(())
 }

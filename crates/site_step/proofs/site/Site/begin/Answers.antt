@@ -10,13 +10,13 @@ use Rattle.site_step.proofs.site.Site.begin.Goals as goal
 
 pub begin-requires-clause-closed : goal.begin-requires-clause-closed
 begin-requires-clause-closed c =
-    let i = c.self.inside in next_is_closed i.schema i.number.0 (reverse i.history.items) i.rights i.journal i.last c.self.invariant
+    let i = c.self.inside in next_is_closed i.schema i.number.0 (reverse i.history.items) i.rights i.journal i.ledger i.last c.self.invariant
 
 pub begin-requires-clause-room : goal.begin-requires-clause-room
 begin-requires-clause-room c =
     let i = c.self.inside in
     let unrefused = subst (λ (v : SiteValue). first (refusals (here v) Begin) ≡ None) (sym c.self.view_is) c.requires.unrefused in
-    room_by i.schema i.number.0 (reverse i.history.items) i.rights i.journal i.last c.self.invariant unrefused
+    room_by i.schema i.number.0 (reverse i.history.items) i.rights i.journal i.ledger i.last c.self.invariant unrefused
 
 pub invariant_of-self-2 : goal.invariant_of-self-2
 invariant_of-self-2 c =
@@ -25,9 +25,9 @@ invariant_of-self-2 c =
     let t : TxnId = record { epoch = 0; number = i.last + 1 } in
     let e : Entry = record { site = i.number; command = Begin; reply = Begun t } in
     let unrefused = subst (λ (v : SiteValue). first (refusals (here v) Begin) ≡ None) (sym c.self.view_is) c.requires.unrefused in
-    stands_moved i.schema i.schema i.number.0 i.number.0 (e ∷ o) _ i.rights i.rights (i.journal ++ (t, []) ∷ []) _ (i.last + 1) (i.last + 1)
-    refl refl (history_grows i.history.items c.reserve.new.self.items c.push.new.self.items e c.in_ok-reserve.ensures.items c.in_ok-push.ensures.items) refl c.in_ok-begin.ensures.ok refl
-    (stands_begin i.schema i.number.0 o i.rights i.journal i.last c.self.invariant i.number unrefused)
+    stands_moved i.schema i.schema i.number.0 i.number.0 (e ∷ o) _ i.rights i.rights (i.journal ++ (t, []) ∷ []) _ i.ledger i.ledger (i.last + 1) (i.last + 1)
+    refl refl (history_grows i.history.items c.reserve.new.self.items c.push.new.self.items e c.in_ok-reserve.ensures.items c.in_ok-push.ensures.items) refl c.in_ok-begin.ensures.ok refl refl
+    (stands_begin i.schema i.number.0 o i.rights i.journal i.ledger i.last c.self.invariant i.number unrefused)
 
 pub returns-clause-ok : goal.returns-clause-ok
 returns-clause-ok c =
@@ -40,6 +40,6 @@ returns-clause-ok c =
     let grown = history_grows i.history.items c.reserve.new.self.items c.push.new.self.items e c.in_ok-reserve.ensures.items c.in_ok-push.ensures.items in
     record {
       fits = subst (λ (x : SiteValue). Fits (here x) Begin (Begun t)) c.self.view_is
-          (answer_fits (here v) Begin (Begun t) unrefused (ap (λ (x : TxnId). Begun x) (next_is i.schema i.number.0 o i.rights i.journal i.last c.self.invariant)));
+          (answer_fits (here v) Begin (Begun t) unrefused (ap (λ (x : TxnId). Begun x) (next_is i.schema i.number.0 o i.rights i.journal i.ledger i.last c.self.invariant)));
       entry = ap (λ (h : List Entry). record v { history = h }) grown ∙ ap (λ (x : SiteValue). with_entry x Begin (Begun t)) c.self.view_is;
     }

@@ -16,5 +16,5 @@ invariant_of-self-2 c =
     let fits = subst (λ (v : SiteValue). Fits (here v) c.args.command c.args.reply) (sym c.self.view_is) c.requires.fits in
     let quiet = quiet_has_no_effect base false c.args.command c.args.reply (effects base false o) c.requires.quiet in
     let grown = history_grows i.history.items i.history.items c.push.new.self.items e refl c.in_ok-push.ensures.items in
-    subst (λ (h : List Entry). StandsOn i.schema i.number.0 h i.rights i.journal i.last) (sym grown)
-    (stands_quiet i.schema i.number.0 o i.rights i.journal i.last c.self.invariant e fits quiet.0 quiet.1)
+    subst (λ (h : List Entry). StandsOn i.schema i.number.0 h i.rights i.journal i.ledger i.last) (sym grown)
+    (stands_quiet i.schema i.number.0 o i.rights i.journal i.ledger i.last c.self.invariant e fits quiet.0 quiet.1)

@@ -1,0 +1,162 @@
+-- No site has accepted more than it was given.
+use Rattle.std.proofs.Common.{◌≡◌, ℕ, ◌≤◌, max, Bool, true, false, ◌&&◌, cond, List, [], ◌∷◌, refl, sym, ap, subst, inl, inr, arith, eqb, Some}
+use Rattle.std.proofs.lemmas.Bool.{cases_Bool, cases_eq, eq-eqb, eqb-true, and_parts, not-false}
+use Rattle.field_bounds.specs.declared.kind.Kind.{Kind}
+use Rattle.field_bounds.specs.declared.kind.Kind.TheVariants.{Lower, Raise}
+use Rattle.field_bounds.specs.declared.id.SiteNo.{SiteNo}
+use Rattle.field_bounds.specs.declared.entry.Statement.{Statement}
+use Rattle.field_bounds.specs.declared.entry.Command.{Command}
+use Rattle.field_bounds.specs.declared.entry.Command.TheVariants.{Begin, Escrow, Commit, Abort, Give, Restate, Accept}
+use Rattle.field_bounds.specs.declared.entry.Reply.{Reply}
+use Rattle.field_bounds.specs.declared.entry.Reply.TheVariants.{Begun, Granted, Committed, Aborted, Given, Stated, Accepted}
+use Rattle.field_bounds.specs.declared.entry.Entry.{Entry}
+use Rattle.field_bounds.specs.Kind.{same_kind}
+use Rattle.field_bounds.specs.Schema.{SchemaValue}
+use Rattle.field_bounds.specs.Effects.{Base, Effect, Gives, after, effects, gifts, given, accepted, fresh}
+use Rattle.field_bounds.specs.Owed.{Place, place, Fits}
+use Rattle.field_bounds.specs.Statements.{told_by, IsIssued}
+use Rattle.field_bounds.specs.Central.{own, StatementRule, IsSound, given_between, accepted_between}
+use Rattle.field_bounds.proofs.Lawful.{same_kind-true}
+use Rattle.field_bounds.proofs.Refused.{answered}
+use Rattle.field_bounds.proofs.Traces.{own_here, own_there, sound_front, sound_fits}
+
+-- ---- what was given only grows
+
+module _ (base : Base) (p : ℕ → Bool) (f : ℕ) (k : Kind) where
+  gifts_grow : (kept : Bool) (c : Command) (r : Reply) (es : List Effect) → gifts p f k es ≤ gifts p f k (after base kept c r es)
+  gifts_grow kept Begin (Begun txn) es = omega arith
+  gifts_grow kept (Escrow txn field change) Granted es = omega arith
+  gifts_grow kept (Commit txn) Committed es = omega arith
+  gifts_grow kept (Abort txn) Aborted es = omega arith
+  gifts_grow kept (Give to field kind amount) (Given total) es = omega arith
+  gifts_grow kept (Accept told) (Accepted gain) es = omega arith
+  gifts_grow kept c r es = omega arith
+
+pub given_grows : (schema : SchemaValue) (e : Entry) (t : List Entry) (f : ℕ) (k : Kind) (from to : ℕ) → given_between schema t f k from to ≤ given_between schema (e ∷ t) f k from to
+given_grows schema e t f k from to =
+    let of : List Entry → ℕ = λ o. gifts (λ site. eqb site to) f k (effects (fresh schema from) false o) in
+    elim (cases_eq e.site.0 from) [
+      | inl here ↦ omega (arith, ap of (own_here from e t here), gifts_grow (fresh schema from) (λ site. eqb site to) f k false e.command e.reply (effects (fresh schema from) false (own from t)))
+      | inr there ↦ omega (arith, ap of (own_there from e t there))
+    ]
+
+-- ---- a statement tells no more than was given
+
+some_same : {A : Type 0} (a b : A) → Some a ≡ Some b → a ≡ b
+some_same a b h = cc
+
+abbrev IsCovered : Place → Command → Reply → Statement → Type 0
+IsCovered at c r told = told.total ≤ given at.base told.to.0 told.field.0 told.kind (after at.base false c r at.effects)
+
+same_kind-refl : (k : Kind) → same_kind k k ≡ true
+same_kind-refl Lower = refl
+same_kind-refl Raise = refl
+
+same_here : (n : ℕ) (k : Kind) (site : ℕ) → (eqb n n && same_kind k k && eqb site site) ≡ true
+same_here n k site = rw (eq-eqb n n refl, same_kind-refl k, eq-eqb site site refl) refl
+
+given_total : (m n : ℕ) → Given m ≡ Given n → m ≡ n
+given_total m n h = cc
+
+stated_total : (m n : ℕ) → Stated m ≡ Stated n → m ≡ n
+stated_total m n h = cc
+
+pub told_is_covered : (at : Place) (from : SiteNo) (c : Command) (r : Reply) (told : Statement) → Fits at c r → told_by from c r ≡ Some told → (told.from ≡ from) × IsCovered at c r told
+told_is_covered at from (Give to field kind amount) (Given total) told fits h =
+    let made : Statement = record { from = from; to = to; field = field; kind = kind; total = total } in
+    let is = given_total _ _ (answered at (Give to field kind amount) (Given total) fits refl).1 in
+    let on = same_here field.0 kind to.0 in
+    let covers : total ≤ given at.base to.0 field.0 kind (Gives to.0 field.0 kind amount ∷ at.effects) = rw on (omega (arith, is)) in
+    subst (λ (x : Statement). (x.from ≡ from) × IsCovered at (Give to field kind amount) (Given total) x) (some_same made told h) (refl, covers)
+told_is_covered at from (Restate to field kind) (Stated total) told fits h =
+    let made : Statement = record { from = from; to = to; field = field; kind = kind; total = total } in
+    let is = stated_total _ _ (answered at (Restate to field kind) (Stated total) fits refl).1 in
+    let covers : total ≤ given at.base to.0 field.0 kind at.effects = omega (arith, is) in
+    subst (λ (x : Statement). (x.from ≡ from) × IsCovered at (Restate to field kind) (Stated total) x) (some_same made told h) (refl, covers)
+told_is_covered at from c r told fits h = cc
+
+-- a statement that was issued tells no more than was given
+pub issued_is_covered : (schema : SchemaValue) (t : List Entry) → IsSound schema t → (told : Statement) → IsIssued told t
+    → told.total ≤ given_between schema t told.field.0 told.kind told.from.0 told.to.0
+issued_is_covered schema [] sound told issued = absurd issued
+issued_is_covered schema (e ∷ t) sound told (inr before) =
+    omega (
+      arith,
+      issued_is_covered schema t (sound_front schema e t sound) told before,
+      given_grows schema e t told.field.0 told.kind told.from.0 told.to.0,
+    )
+issued_is_covered schema (e ∷ t) sound told (inl now) =
+    let s = e.site.0 in
+    let base = fresh schema s in
+    let told_now = told_is_covered (place schema s base (own s t)) e.site e.command e.reply told (sound_fits schema e t sound) now in
+    let of : List Effect → ℕ = λ es. given base told.to.0 told.field.0 told.kind es in
+    let here : of (effects base false (own s (e ∷ t))) ≡ of (effects base false (e ∷ own s t)) =
+    ap (λ (o : List Entry). of (effects base false o)) (own_here s e t refl) in
+    let from_here : s ≡ told.from.0 = ap (λ (x : SiteNo). x.0) (sym told_now.0) in
+    subst (λ (from : ℕ). told.total ≤ given_between schema (e ∷ t) told.field.0 told.kind from told.to.0) from_here
+    (omega (arith, told_now.1, here))
+
+-- ---- what was accepted was told
+
+-- of f, k and a site, no more than a bound is accepted
+abbrev pub AcceptsWithin : ℕ → ℕ → ℕ → Kind → Command → Reply → Type 0
+AcceptsWithin bound from f k (Accept told) (Accepted gain) = told.from.0 ≡ from → told.field.0 ≡ f → told.kind ≡ k → told.total ≤ bound
+AcceptsWithin bound from f k c r = Unit {0}
+
+module _ (base : Base) (bound from f : ℕ) (k : Kind) where
+  merged : (told : Statement) (before : ℕ) → before ≤ bound → (told.from.0 ≡ from → told.field.0 ≡ f → told.kind ≡ k → told.total ≤ bound)
+      → cond (eqb told.field.0 f && same_kind told.kind k && eqb told.from.0 from) (max told.total before) before ≤ bound
+  merged told before low within =
+      elim (cases_Bool (eqb told.field.0 f && same_kind told.kind k && eqb told.from.0 from)) as (λ _. cond (eqb told.field.0 f && same_kind told.kind k && eqb told.from.0 from) (max told.total before) before ≤ bound) [
+        | inl on ↦
+            let parts = and_parts (eqb told.field.0 f && same_kind told.kind k) (eqb told.from.0 from) on in
+            let both = and_parts (eqb told.field.0 f) (same_kind told.kind k) parts.0 in
+            let small = within (eqb-true _ _ parts.1) (eqb-true _ _ both.0) (same_kind-true _ _ both.1) in
+            rw on (omega (arith, small))
+        | inr off ↦ rw off low
+      ]
+
+  accepted_after : (kept : Bool) (c : Command) (r : Reply) (es : List Effect) → accepted base from f k es ≤ bound → AcceptsWithin bound from f k c r → accepted base from f k (after base kept c r es) ≤ bound
+  accepted_after kept Begin (Begun txn) es low within = low
+  accepted_after kept (Escrow txn field change) Granted es low within = low
+  accepted_after kept (Commit txn) Committed es low within = low
+  accepted_after kept (Abort txn) Aborted es low within = low
+  accepted_after kept (Give to field kind amount) (Given total) es low within = low
+  accepted_after kept (Accept told) (Accepted gain) es low within = merged told (accepted base from f k es) low within
+  accepted_after kept c r es low within = low
+
+-- an acceptance is for this site
+pub accept_is_mine : (at : Place) (told : Statement) (gain : ℕ) → Fits at (Accept told) (Accepted gain) → told.to.0 ≡ at.site
+accept_is_mine at told gain fits = eqb-true _ _ (not-false _ (answered at (Accept told) (Accepted gain) fits refl).0.1.1.1.1.1.1.0)
+
+module _ (schema : SchemaValue) (e : Entry) (t : List Entry) (sound : IsSound schema (e ∷ t)) (from f : ℕ) (k : Kind) where
+  bounded : (told : Statement) → IsIssued told t → told.to.0 ≡ e.site.0 → told.from.0 ≡ from → told.field.0 ≡ f → told.kind ≡ k → told.total ≤ given_between schema (e ∷ t) f k from e.site.0
+  bounded told issued mine from_is field_is kind_is =
+      let covered = issued_is_covered schema t (sound_front schema e t sound) told issued in
+      let same : given_between schema t told.field.0 told.kind told.from.0 told.to.0 ≡ given_between schema t f k from e.site.0 = cc in
+      omega (arith, covered, same, given_grows schema e t f k from e.site.0)
+
+  accepts_within : (c : Command) (r : Reply) → Fits (place schema e.site.0 (fresh schema e.site.0) (own e.site.0 t)) c r → StatementRule t c r → AcceptsWithin (given_between schema (e ∷ t) f k from e.site.0) from f k c r
+  accepts_within (Accept told) (Accepted gain) fits issued =
+      bounded told issued (accept_is_mine (place schema e.site.0 (fresh schema e.site.0) (own e.site.0 t)) told gain fits)
+  accepts_within c r fits rule = tt
+
+-- no site has accepted more than it was given
+pub accepted_is_given : (schema : SchemaValue) (t : List Entry) → IsSound schema t → (f : ℕ) (k : Kind) (from to : ℕ)
+    → accepted_between schema t f k from to ≤ given_between schema t f k from to
+accepted_is_given schema [] sound f k from to = omega arith
+accepted_is_given schema (e ∷ t) sound f k from to =
+    let before = accepted_is_given schema t (sound_front schema e t sound) f k from to in
+    let low : accepted_between schema t f k from to ≤ given_between schema (e ∷ t) f k from to = omega (arith, before, given_grows schema e t f k from to) in
+    elim (cases_eq e.site.0 to) [
+      | inl here ↦
+          let IsLow : ℕ → List Entry → Type 0 = λ site o. accepted (fresh schema site) from f k (effects (fresh schema site) false o) ≤ given_between schema (e ∷ t) f k from site in
+          let s = e.site.0 in
+          let low_here : IsLow s (own s t) = subst (λ (x : ℕ). IsLow x (own x t)) (sym here) low in
+          let step : IsLow s (e ∷ own s t) =
+          accepted_after (fresh schema s) (given_between schema (e ∷ t) f k from s) from f k false e.command e.reply (effects (fresh schema s) false (own s t)) low_here
+          (accepts_within schema e t sound from f k e.command e.reply (sound_fits schema e t sound) sound.statements.1) in
+          subst (λ (x : ℕ). IsLow x (own x (e ∷ t))) here (subst (λ (o : List Entry). IsLow s o) (sym (own_here s e t refl)) step)
+      | inr there ↦
+          subst (λ (o : List Entry). accepted (fresh schema to) from f k (effects (fresh schema to) false o) ≤ given_between schema (e ∷ t) f k from to) (sym (own_there to e t there)) low
+    ]

@@ -1,0 +1,26 @@
+-- The statements by which gifts are told (Balegas and others 2015 for transfers as entries that only grow, this project
+-- for the statement).
+use Rattle.std.specs.Prelude.{◌≡◌, ◌⊎◌, List, [], ◌∷◌, Option, Some, None}
+use Rattle.field_bounds.specs.declared.id.SiteNo.{SiteNo}
+use Rattle.field_bounds.specs.declared.entry.Statement.{Statement}
+use Rattle.field_bounds.specs.declared.entry.Command.{Command}
+use Rattle.field_bounds.specs.declared.entry.Command.TheVariants.{Give, Restate}
+use Rattle.field_bounds.specs.declared.entry.Reply.{Reply}
+use Rattle.field_bounds.specs.declared.entry.Reply.TheVariants.{Given, Stated}
+use Rattle.field_bounds.specs.declared.entry.Entry.{Entry}
+
+-- What a command with its reply states, where a site gave the reply: a Give answered Given, and a Restate answered
+-- Stated, state the reply's total.
+abbrev pub told_by : SiteNo → Command → Reply → Option Statement
+told_by from (Give to field kind amount) (Given total) = Some (record { from = from; to = to; field = field; kind = kind; total = total })
+told_by from (Restate to field kind) (Stated total) = Some (record { from = from; to = to; field = field; kind = kind; total = total })
+told_by from command reply = None
+
+-- The statement that an entry issues, with its site as the giver.
+abbrev pub statement_of : Entry → Option Statement
+statement_of e = told_by e.site e.command e.reply
+
+-- Some entry issues the statement.
+abbrev pub IsIssued : Statement → List Entry → Type 0
+IsIssued statement [] = ⊥
+IsIssued statement (e ∷ t) = (statement_of e ≡ Some statement) ⊎ IsIssued statement t
