@@ -1,4 +1,4 @@
-use Rattle.std.proofs.Common.{◌≡◌, ℕ, ◌+◌, ◌∷◌, None, reverse, refl, sym, ap, subst, ◌∙◌}
+use Rattle.std.proofs.Common.{◌≡◌, ℕ, ◌+◌, ◌∷◌, None, reverse, refl, sym, ap, subst, ◌∙◌, arith}
 use Rattle.field_bounds.specs.declared.entry.Entry.{Entry}
 use Rattle.field_bounds.specs.declared.entry.Command.TheVariants.{Give}
 use Rattle.field_bounds.specs.declared.entry.Reply.TheVariants.{Given}
@@ -36,7 +36,7 @@ invariant_of-self-2 c =
     ∙ ap (λ (e : Entry). e ∷ o) same in
     let ledger : c.give.new.self ≡ with_total i.ledger to.0 field.0 kind total = on_ok (c.give.new.self ≡ with_total i.ledger to.0 field.0 kind total) c.give.result c.unwrap-total.result c.unwrap-total.ensures c.give.ensures.ok in
     let rows : c.drop_free-dropped.new.self ≡ at_field dropped i.rights field.0 kind amount =
-    ok_gives c.drop_free-dropped.result (c.drop_free-dropped.ensures.enough.1 can.enough) c.drop_free-dropped.ensures.ok in
+    ok_gives c.drop_free-dropped.result (c.drop_free-dropped.ensures.enough.1 (omega (arith, can.enough))) c.drop_free-dropped.ensures.ok in
     stands_moved i.schema i.schema i.number.0 i.number.0 (owed ∷ o) _ (at_field dropped i.rights field.0 kind amount) _ i.journal i.journal (with_total i.ledger to.0 field.0 kind total) _ i.last i.last
     refl refl grown rows refl ledger refl
     (stands_give i.schema i.number.0 o i.rights i.journal i.ledger i.last c.self.invariant i.number to field kind amount unrefused)
