@@ -33,14 +33,16 @@ fn gains(ledger: &mut Ledger) -> (u64, u64, u64)
     (first, late, more)
 }
 
-/// What is answered where the total to the other site would pass the greatest by 1.
+/// What is answered after 500 gifts that reach the greatest total, to one right more.
 #[tactic(auto, using(crate::proofs::LedgerLaws::place_stays))]
 fn overfull(ledger: &mut Ledger) -> Option<LedgerFull>
     requires place { IsPlace ledger.old 1 0 }
 {
-    ledger
-        .give(OTHER, STOCK, Kind::Raise, 1_000_000_000_000_000_000)
-        .ok()?;
+    for _ in 0..500 {
+        ledger
+            .give(OTHER, STOCK, Kind::Raise, 2_000_000_000_000_000)
+            .ok()?;
+    }
     ledger.give(OTHER, STOCK, Kind::Raise, 1).err()
 }
 
