@@ -8,16 +8,17 @@ use Rattle.field_bounds.specs.declared.fault.SchemaFault.TheVariants.{SiteCount,
 use Rattle.field_bounds.specs.declared.entry.Command.{Command}
 use Rattle.field_bounds.specs.declared.entry.Command.TheVariants.{Accept}
 use Rattle.field_bounds.specs.declared.entry.Reply.{Reply}
-use Rattle.field_bounds.specs.declared.entry.Reply.TheVariants.{Accepted}
+use Rattle.field_bounds.specs.declared.entry.Reply.TheVariants.{Accepted, Unsure}
 use Rattle.field_bounds.specs.declared.entry.Entry.{Entry}
+use Rattle.field_bounds.specs.declared.entry.Statement.{Statement}
 use Rattle.field_bounds.specs.Schema.{FieldValue, SchemaValue, ◌>>=◌}
 use Rattle.field_bounds.specs.Limits.{max_header, is_site_count, is_field_count, first_fault, unless, count_of, of_parts, IsSchema}
 use Rattle.field_bounds.specs.Header.{parts_of, data_of, schema_of}
 use Rattle.field_bounds.specs.Effects.{fresh}
-use Rattle.field_bounds.specs.Owed.{Place, place, Fits, IsRun}
+use Rattle.field_bounds.specs.Owed.{Place, place, AnswerFits, Fits, IsRun}
 use Rattle.field_bounds.specs.Central.{own, AreOf, StatementRule, IsAtSites, IsTold, IsSound}
 use Rattle.field_bounds.proofs.Kept.{IsSchema-of}
-use Rattle.field_bounds.proofs.Refused.{answered}
+use Rattle.field_bounds.proofs.Refused.{is_refused, not_refused}
 
 -- ---- what is read is within the limits
 
@@ -80,12 +81,16 @@ alone_is_sound schema s o below are told run =
     }
 
 -- the only site of a schema accepts nothing: no other site can give to it
+only_site_refuses : (at : Place) (told : Statement) (r : Reply) → at.schema.sites ≡ 1 → at.site ≡ 0 → AnswerFits at (Accept told) r → is_refused r ≡ false → ⊥
+only_site_refuses at told r one here fits met =
+    let none = not_refused at (Accept told) r fits met in
+    let from = leb-false _ _ none.1.0 in
+    let apart : told.from.0 ≡ at.site → ⊥ = eqb-false told.from.0 at.site none.1.1.1.1.1.1.0 in
+    apart (omega (arith, from, one, here))
+
 only_site_rule : (at : Place) (t : List Entry) (c : Command) (r : Reply) → at.schema.sites ≡ 1 → at.site ≡ 0 → Fits at c r → StatementRule t c r
-only_site_rule at t (Accept told) (Accepted gain) one here fits =
-    let none = (answered at (Accept told) (Accepted gain) fits refl).0 in
-    let from = leb-false _ _ none.0 in
-    let apart : told.from.0 ≡ at.site → ⊥ = eqb-false told.from.0 at.site none.1.1.1.1.1.0 in
-    absurd (apart (omega (arith, from, one, here)))
+only_site_rule at t (Accept told) (Accepted gain) one here fits = absurd (only_site_refuses at told (Accepted gain) one here fits refl)
+only_site_rule at t (Accept told) Unsure one here fits = absurd (only_site_refuses at told Unsure one here fits refl)
 only_site_rule at t c r one here fits = tt
 
 pub only_site_is_told : (schema : SchemaValue) (o : List Entry) → schema.sites ≡ 1 → IsRun schema 0 (fresh schema 0) o → IsTold o

@@ -129,7 +129,7 @@ module _ (schema : SchemaValue) (good : IsSchema schema) (t : List Entry) (sound
               arith,
               sum_below-add schema.sites (λ to. given_between schema t f k from to - between from to) (λ to. between from to),
               sum_below-same schema.sites (λ to. (given_between schema t f k from to - between from to) + between from to) (λ to. given_between schema t f k from to)
-                  (λ to small. omega (arith, accepted_is_given schema t sound f k from to)),
+                  (λ to small. omega (arith, accepted_is_given schema t sound false f k from to)),
             )),
       )
 
@@ -162,7 +162,7 @@ module _ (schema : SchemaValue) (good : IsSchema schema) (t : List Entry) (sound
         raising = λ f.
             let high = above_is (field_at schema f).value (field_at schema f).ceiling (is_ordered schema good f).ceiling in
             omega (arith, ints, conserved f Raise, changes_split (is_committed_in schema t) f t, high);
-        accepted = λ f from to k. accepted_is_given schema t sound f k from to;
+        accepted = λ f from to k. accepted_is_given schema t sound false f k from to;
       }
 
 -- in every front of a sound trace rights are conserved

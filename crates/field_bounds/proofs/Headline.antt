@@ -8,7 +8,7 @@ use Rattle.field_bounds.specs.declared.kind.Kind.TheVariants.{Lower, Raise}
 use Rattle.field_bounds.specs.declared.entry.Command.{Command}
 use Rattle.field_bounds.specs.declared.entry.Command.TheVariants.{Begin, Escrow, Give, Read}
 use Rattle.field_bounds.specs.declared.entry.Reply.{Reply}
-use Rattle.field_bounds.specs.declared.entry.Reply.TheVariants.{Granted, Between, Refused}
+use Rattle.field_bounds.specs.declared.entry.Reply.TheVariants.{Granted, Between, Unsure, Refused}
 use Rattle.field_bounds.specs.declared.entry.Refusal.{Refusal}
 use Rattle.field_bounds.specs.declared.entry.Refusal.TheVariants.{Short}
 use Rattle.field_bounds.specs.declared.entry.Entry.{Entry}
@@ -17,7 +17,7 @@ use Rattle.field_bounds.specs.Schema.{SchemaValue}
 use Rattle.field_bounds.specs.Limits.{IsSchema}
 use Rattle.field_bounds.specs.Parts.{field_at}
 use Rattle.field_bounds.specs.Effects.{is_open, granted, own_rights, share, fresh}
-use Rattle.field_bounds.specs.Owed.{Place, Test, place, first, refusals, answer, Fits}
+use Rattle.field_bounds.specs.Owed.{Place, Test, place, first, refusals, answer, AnswerFits, Fits}
 use Rattle.field_bounds.specs.Central.{own, at_site, is_open_in, open_sizes, inf, sup, shares, MayBeGranted, GrantRule, ShortageRule, IntervalRule, KeepsRules, IsCentral, IsSound, IsConserved}
 use Rattle.field_bounds.proofs.Refused.{match_cases, is_refused, answered}
 use Rattle.field_bounds.proofs.Sums.{term_below}
@@ -54,11 +54,14 @@ answer_is_no_refusal : (at : Place) (c : Command) → is_refused (answer at c) �
 answer_is_no_refusal at Begin = refl
 answer_is_no_refusal at c = refl
 
-short_fits : (at : Place) (c : Command) (h : ℕ) → Fits at c (Refused (Short h)) → ShortHolds (refusals at c) h
+short_fits : (at : Place) (c : Command) (h : ℕ) → AnswerFits at c (Refused (Short h)) → ShortHolds (refusals at c) h
 short_fits at c h fits =
     elim (match_cases (first (refusals at c)) _ _ fits) [
       | inl refused ↦ short_holds (refusals at c) h (refused.1 ∙ ap Some (sym (refused_same (Short h) refused.0 refused.2)))
-      | inr met ↦ let yes : is_refused (answer at c) ≡ true = ap is_refused (sym met.1) in let no = answer_is_no_refusal at c in cc
+      | inr met ↦ elim met.1 [
+        | inl same ↦ let refuses : is_refused (answer at c) ≡ true = ap is_refused (sym same) in let not_so = answer_is_no_refusal at c in cc
+        | inr unsure ↦ let refuses : is_refused Unsure ≡ true = ap is_refused (sym unsure.0) in cc
+      ]
     ]
 
 -- ---- the rules of one entry
@@ -85,20 +88,20 @@ module _ (schema : SchemaValue) (good : IsSchema schema) (t : List Entry) (sound
   grant_step : (c : Command) (r : Reply) → Fits (place schema s (fresh schema s) (own s t)) c r → GrantRule schema t c r
   grant_step (Escrow txn field change) Granted fits =
       let none = (answered (place schema s (fresh schema s) (own s t)) (Escrow txn field change) Granted fits refl).0 in
-      let enough : unsigned_abs change ≤ share (fresh schema s) field.0 (kind_of change) (at_site schema t s) = ltb-false _ _ none.1.1.1.1.0 in
+      let enough : unsigned_abs change ≤ share (fresh schema s) field.0 (kind_of change) (at_site schema t s) = ltb-false _ _ none.1.1.1.1.1.0 in
       λ known. may_be_granted field.0 (kind_of change) (unsigned_abs change) (omega (arith, enough, share_within field.0 (kind_of change)))
   grant_step c r fits = tt
 
   shortage_step : (c : Command) (r : Reply) → Fits (place schema s (fresh schema s) (own s t)) c r → ShortageRule schema t s c r
   shortage_step (Escrow txn field change) (Refused (Short h)) fits =
       let holds = short_fits (place schema s (fresh schema s) (own s t)) (Escrow txn field change) h fits in
-      λ known. elim holds.1.1.1.1 [
+      λ known. elim holds.1.1.1.1.1 [
         | inl here ↦ (sym here.1, omega (arith, ltb-true _ _ here.0, here.1))
         | inr none ↦ absurd none.1
       ]
   shortage_step (Give to field kind amount) (Refused (Short h)) fits =
       let holds = short_fits (place schema s (fresh schema s) (own s t)) (Give to field kind amount) h fits in
-      λ known. elim holds.1.1.1.1 [
+      λ known. elim holds.1.1.1.1.1 [
         | inl here ↦ (sym here.1, omega (arith, ltb-true _ _ here.0, here.1))
         | inr none ↦ absurd none.1.1
       ]

@@ -7,7 +7,7 @@ use Rattle.field_bounds.specs.declared.kind.Kind.TheVariants.{Lower, Raise}
 use Rattle.field_bounds.specs.declared.id.TxnId.{TxnId}
 use Rattle.field_bounds.specs.Kind.{kind_of, same_kind, other}
 use Rattle.field_bounds.specs.Schema.{SchemaValue}
-use Rattle.field_bounds.specs.Effects.{Base, Effect, Begins, Grants, Commits, Aborts, Gives, Accepts, same_txn, is_begun, is_committed, is_dropped, is_aborted, is_open, granted, rights_in, rights_out, share}
+use Rattle.field_bounds.specs.Effects.{Base, Effect, Begins, Grants, Commits, Aborts, Gives, Accepts, Stops, same_txn, is_begun, is_committed, is_dropped, is_aborted, is_open, granted, rights_in, rights_out, share}
 
 -- what an escrow that is granted keeps to
 pub record MayGrant (schema : SchemaValue) (base : Base) (es : List Effect) (txn : TxnId) (f : ℕ) (change : ℕ) (k : Kind) : Type 0 where
@@ -35,6 +35,7 @@ MayFollow schema base es (Commits txn) = (is_begun txn es ≡ true) × (is_open 
 MayFollow schema base es (Aborts txn) = (is_begun txn es ≡ true) × (is_open txn es ≡ true)
 MayFollow schema base es (Gives to f k amount) = MayGive schema base es to f k amount
 MayFollow schema base es (Accepts from f k total) = MayAccept schema from f
+MayFollow schema base es Stops = Unit {0}
 
 abbrev pub IsLawful : SchemaValue → Base → List Effect → Type 0
 IsLawful schema base [] = Unit {0}
@@ -69,6 +70,7 @@ granted-mono p q h f k (Commits txn ∷ es) = granted-mono p q h f k es
 granted-mono p q h f k (Aborts txn ∷ es) = granted-mono p q h f k es
 granted-mono p q h f k (Gives to field kind amount ∷ es) = granted-mono p q h f k es
 granted-mono p q h f k (Accepts from field kind total ∷ es) = granted-mono p q h f k es
+granted-mono p q h f k (Stops ∷ es) = granted-mono p q h f k es
 
 -- an escrow or a gift of the kind takes at most the share, and one of another kind or field takes nothing
 taken : (share_of : ℕ → Kind → ℕ) (field f : ℕ) (kind k : Kind) (p : Bool) (n : ℕ) → n ≤ share_of field kind → cond (eqb field f && same_kind kind k && p) n 0 ≤ share_of f k
@@ -114,6 +116,12 @@ covered schema base (Aborts txn ∷ es) lawful f k =
       arith,
       covered schema base es lawful.0 f k,
       granted-mono (λ id. is_aborted id es) (λ id. is_aborted id (Aborts txn ∷ es)) (λ id. stays_dropped (is_committed id es) (is_dropped id es) (same_txn txn id)) f k es,
+    )
+covered schema base (Stops ∷ es) lawful f k =
+    omega (
+      arith,
+      covered schema base es lawful.0 f k,
+      granted-mono (λ id. is_aborted id es) (λ id. is_aborted id (Stops ∷ es)) (λ id. stays_dropped (is_committed id es) (is_dropped id es) (is_begun id es)) f k es,
     )
 covered schema base (Gives to field kind amount ∷ es) lawful f k =
     omega (arith, covered schema base es lawful.0 f k, taken (λ f' k'. share base f' k' es) field f kind k true amount lawful.1.enough)

@@ -6,18 +6,18 @@ use Rattle.field_bounds.specs.declared.kind.Kind.TheVariants.{Lower, Raise}
 use Rattle.field_bounds.specs.declared.id.SiteNo.{SiteNo}
 use Rattle.field_bounds.specs.declared.entry.Statement.{Statement}
 use Rattle.field_bounds.specs.declared.entry.Command.{Command}
-use Rattle.field_bounds.specs.declared.entry.Command.TheVariants.{Begin, Escrow, Commit, Abort, Give, Restate, Accept}
+use Rattle.field_bounds.specs.declared.entry.Command.TheVariants.{Begin, Escrow, Commit, Abort, Give, Restate, Accept, Restart}
 use Rattle.field_bounds.specs.declared.entry.Reply.{Reply}
-use Rattle.field_bounds.specs.declared.entry.Reply.TheVariants.{Begun, Granted, Committed, Aborted, Given, Stated, Accepted}
+use Rattle.field_bounds.specs.declared.entry.Reply.TheVariants.{Begun, Granted, Committed, Aborted, Given, Stated, Accepted, Restarted, Unsure}
 use Rattle.field_bounds.specs.declared.entry.Entry.{Entry}
 use Rattle.field_bounds.specs.Kind.{same_kind}
 use Rattle.field_bounds.specs.Schema.{SchemaValue}
-use Rattle.field_bounds.specs.Effects.{Base, Effect, Gives, after, effects, gifts, given, accepted, fresh}
-use Rattle.field_bounds.specs.Owed.{Place, place, Fits}
+use Rattle.field_bounds.specs.Effects.{Base, Effect, Gives, after, effects, kept_before, says_kept, gifts, given, accepted, fresh}
+use Rattle.field_bounds.specs.Owed.{Place, place, refusals, Fits}
 use Rattle.field_bounds.specs.Statements.{told_by, IsIssued}
-use Rattle.field_bounds.specs.Central.{own, StatementRule, IsSound, given_between, accepted_between}
+use Rattle.field_bounds.specs.Central.{own, StatementRule, IsSound, given_between}
 use Rattle.field_bounds.proofs.Lawful.{same_kind-true}
-use Rattle.field_bounds.proofs.Refused.{answered}
+use Rattle.field_bounds.proofs.Refused.{answered, not_refused, NoneHolds}
 use Rattle.field_bounds.proofs.Traces.{own_here, own_there, sound_front, sound_fits}
 
 -- ---- what was given only grows
@@ -27,16 +27,58 @@ module _ (base : Base) (p : ℕ → Bool) (f : ℕ) (k : Kind) where
   gifts_grow kept Begin (Begun txn) es = omega arith
   gifts_grow kept (Escrow txn field change) Granted es = omega arith
   gifts_grow kept (Commit txn) Committed es = omega arith
+  gifts_grow true (Commit txn) Unsure es = omega arith
+  gifts_grow false (Commit txn) Unsure es = omega arith
   gifts_grow kept (Abort txn) Aborted es = omega arith
   gifts_grow kept (Give to field kind amount) (Given total) es = omega arith
+  gifts_grow true (Give to field kind amount) Unsure es = omega arith
+  gifts_grow false (Give to field kind amount) Unsure es = omega arith
   gifts_grow kept (Accept told) (Accepted gain) es = omega arith
+  gifts_grow true (Accept told) Unsure es = omega arith
+  gifts_grow false (Accept told) Unsure es = omega arith
+  gifts_grow kept Restart (Restarted epoch found) es = omega arith
   gifts_grow kept c r es = omega arith
+
+  kept_more : (c : Command) (r : Reply) (less more : List Effect) → gifts p f k less ≤ gifts p f k more → gifts p f k (after base false c r less) ≤ gifts p f k (after base true c r more)
+  kept_more Begin (Begun txn) less more h = h
+  kept_more (Escrow txn field change) Granted less more h = h
+  kept_more (Commit txn) Committed less more h = h
+  kept_more (Commit txn) Unsure less more h = h
+  kept_more (Abort txn) Aborted less more h = h
+  kept_more (Give to field kind amount) (Given total) less more h = omega (arith, h)
+  kept_more (Give to field kind amount) Unsure less more h = omega (arith, h)
+  kept_more (Accept told) (Accepted gain) less more h = h
+  kept_more (Accept told) Unsure less more h = h
+  kept_more Restart (Restarted epoch found) less more h = h
+  kept_more c r less more h = h
+
+  kept_step : (c : Command) (r : Reply) (o : List Entry) → gifts p f k (effects base false o) ≤ gifts p f k (effects base true o)
+      → gifts p f k (after base false c r (effects base (kept_before false r) o)) ≤ gifts p f k (after base true c r (effects base (kept_before true r) o))
+  kept_step c (Restarted epoch found) o before = kept_more c (Restarted epoch found) (effects base (says_kept found) o) (effects base (says_kept found) o) (omega arith)
+  kept_step c r o before = kept_more c r (effects base false o) (effects base true o) before
+
+  -- what is kept can only add to what was given
+  gifts_kept : (o : List Entry) → gifts p f k (effects base false o) ≤ gifts p f k (effects base true o)
+  gifts_kept [] = omega arith
+  gifts_kept (e ∷ o) = kept_step e.command e.reply o (gifts_kept o)
+
+  any_kept : (kept : Bool) (o : List Entry) → gifts p f k (effects base false o) ≤ gifts p f k (effects base kept o)
+  any_kept true o = gifts_kept o
+  any_kept false o = omega arith
+
+  gifts_after : (e : Entry) (o : List Entry) → gifts p f k (effects base false o) ≤ gifts p f k (effects base false (e ∷ o))
+  gifts_after e o =
+      omega (
+        arith,
+        gifts_grow false e.command e.reply (effects base (kept_before false e.reply) o),
+        any_kept (kept_before false e.reply) o,
+      )
 
 pub given_grows : (schema : SchemaValue) (e : Entry) (t : List Entry) (f : ℕ) (k : Kind) (from to : ℕ) → given_between schema t f k from to ≤ given_between schema (e ∷ t) f k from to
 given_grows schema e t f k from to =
     let of : List Entry → ℕ = λ o. gifts (λ site. eqb site to) f k (effects (fresh schema from) false o) in
     elim (cases_eq e.site.0 from) [
-      | inl here ↦ omega (arith, ap of (own_here from e t here), gifts_grow (fresh schema from) (λ site. eqb site to) f k false e.command e.reply (effects (fresh schema from) false (own from t)))
+      | inl here ↦ omega (arith, ap of (own_here from e t here), gifts_after (fresh schema from) (λ site. eqb site to) f k e (own from t))
       | inr there ↦ omega (arith, ap of (own_there from e t there))
     ]
 
@@ -75,6 +117,11 @@ told_is_covered at from (Restate to field kind) (Stated total) told fits h =
     subst (λ (x : Statement). (x.from ≡ from) × IsCovered at (Restate to field kind) (Stated total) x) (some_same made told h) (refl, covers)
 told_is_covered at from c r told fits h = cc
 
+kept_before_told : (from : SiteNo) (c : Command) (r : Reply) (told : Statement) → told_by from c r ≡ Some told → kept_before false r ≡ false
+kept_before_told from (Give to field kind amount) (Given total) told h = refl
+kept_before_told from (Restate to field kind) (Stated total) told h = refl
+kept_before_told from c r told h = cc
+
 -- a statement that was issued tells no more than was given
 pub issued_is_covered : (schema : SchemaValue) (t : List Entry) → IsSound schema t → (told : Statement) → IsIssued told t
     → told.total ≤ given_between schema t told.field.0 told.kind told.from.0 told.to.0
@@ -90,17 +137,20 @@ issued_is_covered schema (e ∷ t) sound told (inl now) =
     let base = fresh schema s in
     let told_now = told_is_covered (place schema s base (own s t)) e.site e.command e.reply told (sound_fits schema e t sound) now in
     let of : List Effect → ℕ = λ es. given base told.to.0 told.field.0 told.kind es in
+    let last_was : of (after base false e.command e.reply (effects base false (own s t))) ≡ of (effects base false (e ∷ own s t)) =
+    ap (λ (b : Bool). of (after base false e.command e.reply (effects base b (own s t)))) (sym (kept_before_told e.site e.command e.reply told now)) in
     let here : of (effects base false (own s (e ∷ t))) ≡ of (effects base false (e ∷ own s t)) =
     ap (λ (o : List Entry). of (effects base false o)) (own_here s e t refl) in
     let from_here : s ≡ told.from.0 = ap (λ (x : SiteNo). x.0) (sym told_now.0) in
     subst (λ (from : ℕ). told.total ≤ given_between schema (e ∷ t) told.field.0 told.kind from told.to.0) from_here
-    (omega (arith, told_now.1, here))
+    (omega (arith, told_now.1, last_was, here))
 
 -- ---- what was accepted was told
 
--- of f, k and a site, no more than a bound is accepted
+-- of f, k and a site, no more than a bound is accepted, also by an answer in doubt
 abbrev pub AcceptsWithin : ℕ → ℕ → ℕ → Kind → Command → Reply → Type 0
 AcceptsWithin bound from f k (Accept told) (Accepted gain) = told.from.0 ≡ from → told.field.0 ≡ f → told.kind ≡ k → told.total ≤ bound
+AcceptsWithin bound from f k (Accept told) Unsure = told.from.0 ≡ from → told.field.0 ≡ f → told.kind ≡ k → told.total ≤ bound
 AcceptsWithin bound from f k c r = Unit {0}
 
 module _ (base : Base) (bound from f : ℕ) (k : Kind) where
@@ -120,14 +170,21 @@ module _ (base : Base) (bound from f : ℕ) (k : Kind) where
   accepted_after kept Begin (Begun txn) es low within = low
   accepted_after kept (Escrow txn field change) Granted es low within = low
   accepted_after kept (Commit txn) Committed es low within = low
+  accepted_after true (Commit txn) Unsure es low within = low
+  accepted_after false (Commit txn) Unsure es low within = low
   accepted_after kept (Abort txn) Aborted es low within = low
   accepted_after kept (Give to field kind amount) (Given total) es low within = low
+  accepted_after true (Give to field kind amount) Unsure es low within = low
+  accepted_after false (Give to field kind amount) Unsure es low within = low
   accepted_after kept (Accept told) (Accepted gain) es low within = merged told (accepted base from f k es) low within
+  accepted_after true (Accept told) Unsure es low within = merged told (accepted base from f k es) low within
+  accepted_after false (Accept told) Unsure es low within = low
+  accepted_after kept Restart (Restarted epoch found) es low within = low
   accepted_after kept c r es low within = low
 
 -- an acceptance is for this site
-pub accept_is_mine : (at : Place) (told : Statement) (gain : ℕ) → Fits at (Accept told) (Accepted gain) → told.to.0 ≡ at.site
-accept_is_mine at told gain fits = eqb-true _ _ (not-false _ (answered at (Accept told) (Accepted gain) fits refl).0.1.1.1.1.1.1.0)
+accept_is_mine : (at : Place) (told : Statement) → NoneHolds (refusals at (Accept told)) → told.to.0 ≡ at.site
+accept_is_mine at told none = eqb-true _ _ (not-false _ none.1.1.1.1.1.1.1.0)
 
 module _ (schema : SchemaValue) (e : Entry) (t : List Entry) (sound : IsSound schema (e ∷ t)) (from f : ℕ) (k : Kind) where
   bounded : (told : Statement) → IsIssued told t → told.to.0 ≡ e.site.0 → told.from.0 ≡ from → told.field.0 ≡ f → told.kind ≡ k → told.total ≤ given_between schema (e ∷ t) f k from e.site.0
@@ -136,27 +193,36 @@ module _ (schema : SchemaValue) (e : Entry) (t : List Entry) (sound : IsSound sc
       let same : given_between schema t told.field.0 told.kind told.from.0 told.to.0 ≡ given_between schema t f k from e.site.0 = cc in
       omega (arith, covered, same, given_grows schema e t f k from e.site.0)
 
-  accepts_within : (c : Command) (r : Reply) → Fits (place schema e.site.0 (fresh schema e.site.0) (own e.site.0 t)) c r → StatementRule t c r → AcceptsWithin (given_between schema (e ∷ t) f k from e.site.0) from f k c r
+  abbrev here : Place
+  here = place schema e.site.0 (fresh schema e.site.0) (own e.site.0 t)
+
+  accepts_within : (c : Command) (r : Reply) → Fits here c r → StatementRule t c r → AcceptsWithin (given_between schema (e ∷ t) f k from e.site.0) from f k c r
   accepts_within (Accept told) (Accepted gain) fits issued =
-      bounded told issued (accept_is_mine (place schema e.site.0 (fresh schema e.site.0) (own e.site.0 t)) told gain fits)
+      bounded told issued (accept_is_mine here told (not_refused here (Accept told) (Accepted gain) fits refl))
+  accepts_within (Accept told) Unsure fits issued =
+      bounded told issued (accept_is_mine here told (not_refused here (Accept told) Unsure fits refl))
   accepts_within c r fits rule = tt
 
--- no site has accepted more than it was given
-pub accepted_is_given : (schema : SchemaValue) (t : List Entry) → IsSound schema t → (f : ℕ) (k : Kind) (from to : ℕ)
-    → accepted_between schema t f k from to ≤ given_between schema t f k from to
-accepted_is_given schema [] sound f k from to = omega arith
-accepted_is_given schema (e ∷ t) sound f k from to =
-    let before = accepted_is_given schema t (sound_front schema e t sound) f k from to in
-    let low : accepted_between schema t f k from to ≤ given_between schema (e ∷ t) f k from to = omega (arith, before, given_grows schema e t f k from to) in
+-- no site has accepted more than it was given, whatever is kept of what is in doubt
+pub accepted_is_given : (schema : SchemaValue) (t : List Entry) → IsSound schema t → (kept : Bool) (f : ℕ) (k : Kind) (from to : ℕ)
+    → accepted (fresh schema to) from f k (effects (fresh schema to) kept (own to t)) ≤ given_between schema t f k from to
+accepted_is_given schema [] sound kept f k from to = omega arith
+accepted_is_given schema (e ∷ t) sound kept f k from to =
+    let front = sound_front schema e t sound in
+    let most = given_between schema (e ∷ t) f k from in
     elim (cases_eq e.site.0 to) [
       | inl here ↦
-          let IsLow : ℕ → List Entry → Type 0 = λ site o. accepted (fresh schema site) from f k (effects (fresh schema site) false o) ≤ given_between schema (e ∷ t) f k from site in
           let s = e.site.0 in
-          let low_here : IsLow s (own s t) = subst (λ (x : ℕ). IsLow x (own x t)) (sym here) low in
+          let IsLow : ℕ → List Entry → Type 0 = λ site o. accepted (fresh schema site) from f k (effects (fresh schema site) kept o) ≤ most site in
+          let was = effects (fresh schema s) (kept_before kept e.reply) (own s t) in
+          let before = accepted_is_given schema t front (kept_before kept e.reply) f k from s in
+          let low : accepted (fresh schema s) from f k was ≤ most s = omega (arith, before, given_grows schema e t f k from s) in
           let step : IsLow s (e ∷ own s t) =
-          accepted_after (fresh schema s) (given_between schema (e ∷ t) f k from s) from f k false e.command e.reply (effects (fresh schema s) false (own s t)) low_here
+          accepted_after (fresh schema s) (most s) from f k kept e.command e.reply was low
           (accepts_within schema e t sound from f k e.command e.reply (sound_fits schema e t sound) sound.statements.1) in
           subst (λ (x : ℕ). IsLow x (own x (e ∷ t))) here (subst (λ (o : List Entry). IsLow s o) (sym (own_here s e t refl)) step)
       | inr there ↦
-          subst (λ (o : List Entry). accepted (fresh schema to) from f k (effects (fresh schema to) false o) ≤ given_between schema (e ∷ t) f k from to) (sym (own_there to e t there)) low
+          let before = accepted_is_given schema t front kept f k from to in
+          let low : accepted (fresh schema to) from f k (effects (fresh schema to) kept (own to t)) ≤ most to = omega (arith, before, given_grows schema e t f k from to) in
+          subst (λ (o : List Entry). accepted (fresh schema to) from f k (effects (fresh schema to) kept o) ≤ most to) (sym (own_there to e t there)) low
     ]

@@ -1,29 +1,30 @@
 -- What took effect in a run was allowed, whatever is said of what is in doubt.
-use Rattle.std.proofs.Common.{◌≡◌, ℕ, ◌+◌, ◌≤◌, Bool, true, false, None, List, [], ◌∷◌, refl, sym, ◌∙◌, ap, subst, inl, inr, arith}
-use Rattle.std.proofs.lemmas.Bool.{cases_Bool, ltb-false, or_cases}
+use Rattle.std.proofs.Common.{◌≡◌, ℕ, ◌+◌, ◌<◌, ◌≤◌, Bool, true, false, cond, None, List, ◌∷◌, refl, sym, ap, inl, inr, arith}
+use Rattle.std.proofs.lemmas.Bool.{cases_Bool, ltb-false, or_cases, or_parts}
 use Rattle.field_bounds.specs.declared.id.TxnId.{TxnId}
 use Rattle.field_bounds.specs.declared.entry.Command.{Command}
-use Rattle.field_bounds.specs.declared.entry.Command.TheVariants.{Begin, Escrow, Commit, Abort, Give, Restate, Accept, Read, Share}
-use Rattle.field_bounds.specs.declared.entry.Reply.{Reply}
-use Rattle.field_bounds.specs.declared.entry.Reply.TheVariants.{Begun, Granted, Committed, Aborted, Given, Accepted, Refused}
-use Rattle.field_bounds.specs.declared.entry.Refusal.{Refusal}
+use Rattle.field_bounds.specs.declared.entry.Command.TheVariants.{Begin, Escrow, Commit, Abort, Give, Restate, Accept, Read, Share, Restart}
+use Rattle.field_bounds.specs.declared.entry.Reply.TheVariants.{Unsure}
 use Rattle.field_bounds.specs.declared.entry.Entry.{Entry}
 use Rattle.field_bounds.specs.Schema.{SchemaValue}
-use Rattle.field_bounds.specs.Effects.{Base, Effect, Begins, same_txn, is_begun, is_open, after, effects}
-use Rattle.field_bounds.specs.Owed.{Place, place, refusals, first, answer, epoch_of, count_since, is_begun_reply, Fits, IsRun}
-use Rattle.field_bounds.proofs.Lawful.{IsLawful, same_txn-true}
-use Rattle.field_bounds.proofs.Refused.{none_holds, match_cases, begun_and_open, is_below}
+use Rattle.field_bounds.specs.Effects.{Base, Effect, Begins, Grants, Commits, Aborts, Gives, Accepts, Stops, same_txn, is_begun, is_committed, is_dropped, is_open, after, effects}
+use Rattle.field_bounds.specs.Owed.{Place, place, refusals, first, answer, epoch_of, count_since, count_after, is_begun_reply, IsRun}
+use Rattle.field_bounds.proofs.Lawful.{IsLawful, same_txn-true, open_parts}
+use Rattle.field_bounds.proofs.Refused.{none_holds, begun_and_open, is_below}
+use Rattle.field_bounds.proofs.Doubt.{run_holds}
 
--- every transaction begun so far stands in this epoch or an earlier one, and in this one has a number given out
+-- every transaction begun so far stands in this epoch or an earlier one; in this one it has a number given out, and in an
+-- earlier one it was dropped
 pub record IsNumbered (epoch count : ℕ) (es : List Effect) : Type 0 where
   pub epochs : (id : TxnId) → is_begun id es ≡ true → id.epoch ≤ epoch
   pub numbers : (id : TxnId) → is_begun id es ≡ true → id.epoch ≡ epoch → id.number ≤ count
+  pub current : (id : TxnId) → is_begun id es ≡ true → is_dropped id es ≡ false → id.epoch ≡ epoch
 
 numbered_more : (epoch few many : ℕ) (es : List Effect) → few ≤ many → IsNumbered epoch few es → IsNumbered epoch many es
 numbered_more epoch few many es le numbered =
-    record { epochs = numbered.epochs; numbers = λ id begun same. omega (arith, numbered.numbers id begun same) }
+    record { epochs = numbered.epochs; numbers = λ id begun same. omega (arith, numbered.numbers id begun same); current = numbered.current }
 
-abbrev next_id : ℕ → ℕ → TxnId
+abbrev pub next_id : ℕ → ℕ → TxnId
 next_id epoch count = record { epoch = epoch; number = count + 1 }
 
 -- the id that is given out next was never begun
@@ -47,27 +48,33 @@ numbered_begin epoch count es numbered =
             | inl same ↦ let n : count + 1 ≡ id.number = ap (λ (t : TxnId). t.number) (same_txn-true (next_id epoch count) id same) in omega (arith, n)
             | inr before ↦ omega (arith, numbered.numbers id before here)
           ];
+      current = λ id begun undropped.
+          elim (or_cases (same_txn (next_id epoch count) id) (is_begun id es) begun) [
+            | inl same ↦ ap (λ (t : TxnId). t.epoch) (sym (same_txn-true (next_id epoch count) id same))
+            | inr before ↦ numbered.current id before undropped
+          ];
     }
 
--- only an answer in doubt depends on what is kept
-pub after_kept : (base : Base) (kept : Bool) (c : Command) (r : Reply) (es : List Effect) → after base kept c r es ≡ after base false c r es
-after_kept base kept Begin (Begun txn) es = refl
-after_kept base kept (Escrow txn field change) Granted es = refl
-after_kept base kept (Commit txn) Committed es = refl
-after_kept base kept (Abort txn) Aborted es = refl
-after_kept base kept (Give to field kind amount) (Given total) es = refl
-after_kept base kept (Accept told) (Accepted gain) es = refl
-after_kept base kept c r es = refl
+numbered_abort : (epoch count : ℕ) (txn : TxnId) (es : List Effect) → IsNumbered epoch count es → IsNumbered epoch count (Aborts txn ∷ es)
+numbered_abort epoch count txn es numbered =
+    record {
+      epochs = numbered.epochs;
+      numbers = numbered.numbers;
+      current = λ id begun undropped. numbered.current id begun (or_parts (same_txn txn id) (is_dropped id es) undropped).1;
+    }
 
--- nothing is in doubt
-pub nothing_in_doubt : (base : Base) (kept : Bool) (o : List Entry) → effects base kept o ≡ effects base false o
-nothing_in_doubt base kept [] = refl
-nothing_in_doubt base kept (e ∷ o) =
-    after_kept base kept e.command e.reply (effects base kept o) ∙ ap (λ (es : List Effect). after base false e.command e.reply es) (nothing_in_doubt base kept o)
+numbered_stop : (n count m : ℕ) (es : List Effect) → n < m → IsNumbered n count es → IsNumbered m 0 (Stops ∷ es)
+numbered_stop n count m es later numbered =
+    record {
+      epochs = λ id begun. omega (arith, later, numbered.epochs id begun);
+      numbers = λ id begun same. absurd (omega (arith, later, same, numbered.epochs id begun));
+      current = λ id begun undropped. let not_begun : is_begun id es ≡ false = (or_parts (is_begun id es) (is_dropped id es) undropped).0 in cc;
+    }
 
-pub after_refused : (base : Base) (kept : Bool) (c : Command) (x : Refusal) (es : List Effect) → after base kept c (Refused x) es ≡ es
-after_refused base kept Begin x es = refl
-after_refused base kept c x es = refl
+-- what holds of the effects of a run
+pub record Stands (schema : SchemaValue) (base : Base) (epoch count : ℕ) (es : List Effect) : Type 0 where
+  pub numbered : IsNumbered epoch count es
+  pub lawful : IsLawful schema base es
 
 module _ (schema : SchemaValue) (s : ℕ) (base : Base) (o : List Entry) where
   abbrev es : List Effect
@@ -82,69 +89,98 @@ module _ (schema : SchemaValue) (s : ℕ) (base : Base) (o : List Entry) where
   abbrev count : ℕ
   count = count_since is_begun_reply o
 
-  -- what is answered may take effect
-  pub answer_is_lawful : (c : Command) → first (refusals at c) ≡ None → IsNumbered epoch count es → IsLawful schema base es → IsLawful schema base (after base false c (answer at c) es)
-  answer_is_lawful Begin h numbered l = (l, next_is_new epoch count es numbered)
-  answer_is_lawful (Escrow txn field change) h numbered l =
-      let none = none_holds (refusals at (Escrow txn field change)) h in
+  abbrev Now : ℕ → List Effect → Type 0
+  Now n now = Stands schema base epoch n now
+
+  abbrev Carries : Bool → Command → Type 0
+  Carries kept c = Now (count_after is_begun_reply count (answer at c)) (after base kept c (answer at c) es) × Now count (after base kept c Unsure es)
+
+  -- no transaction was begun
+  still : (now : List Effect) → Now count now → Now (0 + count) now
+  still now l = record { numbered = numbered_more epoch count (0 + count) now (omega arith) l.numbered; lawful = l.lawful }
+
+  either : (kept : Bool) (more : List Effect) → Now count more → Now count es → Now count (cond kept more es)
+  either true more m l = m
+  either false more m l = l
+
+  -- what is answered may take effect, and so may what is in doubt
+  carries : (c : Command) → first (refusals at c) ≡ None → (kept : Bool) → Now count es → Carries kept c
+  carries Begin h kept l =
+      let begun = numbered_more epoch (count + 1) (1 + count) (Begins (next_id epoch count) ∷ es) (omega arith) (numbered_begin epoch count es l.numbered) in
+      (record { numbered = begun; lawful = (l.lawful, next_is_new epoch count es l.numbered) }, l)
+  carries (Escrow txn field change) h kept l =
+      let none = (none_holds (refusals at (Escrow txn field change)) h).1 in
       let both = begun_and_open (is_begun txn es) (is_open txn es) none.1.0 in
-      (l, record { in_schema = is_below _ _ none.0; enough = ltb-false _ _ none.1.1.1.1.0; begun = both.0; opened = both.1 })
-  answer_is_lawful (Commit txn) h numbered l = (l, begun_and_open (is_begun txn es) (is_open txn es) (none_holds (refusals at (Commit txn)) h).0)
-  answer_is_lawful (Abort txn) h numbered l = (l, begun_and_open (is_begun txn es) (is_open txn es) (none_holds (refusals at (Abort txn)) h).0)
-  answer_is_lawful (Give to field kind amount) h numbered l =
-      let none = none_holds (refusals at (Give to field kind amount)) h in
-      (l, record { to_site = is_below _ _ none.0; in_schema = is_below _ _ none.1.0; enough = ltb-false _ _ none.1.1.1.1.0 })
-  answer_is_lawful (Restate to field kind) h numbered l = l
-  answer_is_lawful (Accept told) h numbered l =
-      let none = none_holds (refusals at (Accept told)) h in
-      (l, record { from_site = is_below _ _ none.0; in_schema = is_below _ _ none.1.1.0 })
-  answer_is_lawful (Read field) h numbered l = l
-  answer_is_lawful (Share field) h numbered l = l
+      let may : Now count (Grants txn field.0 change ∷ es) =
+      record {
+        numbered = record { epochs = l.numbered.epochs; numbers = l.numbered.numbers; current = l.numbered.current };
+        lawful = (l.lawful, record { in_schema = is_below _ _ none.0; enough = ltb-false _ _ none.1.1.1.1.0; begun = both.0; opened = both.1 });
+      } in
+      (still (Grants txn field.0 change ∷ es) may, l)
+  carries (Commit txn) h kept l =
+      let both = begun_and_open (is_begun txn es) (is_open txn es) (none_holds (refusals at (Commit txn)) h).1.0 in
+      let may : Now count (Commits txn ∷ es) =
+      record { numbered = record { epochs = l.numbered.epochs; numbers = l.numbered.numbers; current = l.numbered.current }; lawful = (l.lawful, both) } in
+      (still (Commits txn ∷ es) may, either kept (Commits txn ∷ es) may l)
+  carries (Abort txn) h kept l =
+      let both = begun_and_open (is_begun txn es) (is_open txn es) (none_holds (refusals at (Abort txn)) h).1.0 in
+      (still (Aborts txn ∷ es) (record { numbered = numbered_abort epoch count txn es l.numbered; lawful = (l.lawful, both) }), l)
+  carries (Give to field kind amount) h kept l =
+      let none = (none_holds (refusals at (Give to field kind amount)) h).1 in
+      let more : List Effect = Gives to.0 field.0 kind amount ∷ es in
+      let may : Now count more =
+      record {
+        numbered = record { epochs = l.numbered.epochs; numbers = l.numbered.numbers; current = l.numbered.current };
+        lawful = (l.lawful, record { to_site = is_below _ _ none.0; in_schema = is_below _ _ none.1.0; enough = ltb-false _ _ none.1.1.1.1.0 });
+      } in
+      (still more may, either kept more may l)
+  carries (Restate to field kind) h kept l = (still es l, l)
+  carries (Accept told) h kept l =
+      let none = (none_holds (refusals at (Accept told)) h).1 in
+      let more : List Effect = Accepts told.from.0 told.field.0 told.kind told.total ∷ es in
+      let may : Now count more =
+      record {
+        numbered = record { epochs = l.numbered.epochs; numbers = l.numbered.numbers; current = l.numbered.current };
+        lawful = (l.lawful, record { from_site = is_below _ _ none.0; in_schema = is_below _ _ none.1.1.0 });
+      } in
+      (still more may, either kept more may l)
+  carries (Read field) h kept l = (still es l, l)
+  carries (Share field) h kept l = (still es l, l)
+  carries Restart h kept l = (still es l, l)
 
-  answer_is_numbered : (c : Command) → IsNumbered epoch count es → IsNumbered epoch (count_since is_begun_reply (record { site = record { 0 = s }; command = c; reply = answer at c } ∷ o)) (after base false c (answer at c) es)
-  answer_is_numbered Begin numbered = numbered_more epoch (count + 1) (1 + count) (after base false Begin (answer at Begin) es) (omega arith) (numbered_begin epoch count es numbered)
-  answer_is_numbered (Escrow txn field change) numbered =
-      let was = numbered_more epoch count (0 + count) es (omega arith) numbered in record { epochs = was.epochs; numbers = was.numbers }
-  answer_is_numbered (Commit txn) numbered =
-      let was = numbered_more epoch count (0 + count) es (omega arith) numbered in record { epochs = was.epochs; numbers = was.numbers }
-  answer_is_numbered (Abort txn) numbered =
-      let was = numbered_more epoch count (0 + count) es (omega arith) numbered in record { epochs = was.epochs; numbers = was.numbers }
-  answer_is_numbered (Give to field kind amount) numbered =
-      let was = numbered_more epoch count (0 + count) es (omega arith) numbered in record { epochs = was.epochs; numbers = was.numbers }
-  answer_is_numbered (Restate to field kind) numbered = numbered_more epoch count (0 + count) es (omega arith) numbered
-  answer_is_numbered (Accept told) numbered =
-      let was = numbered_more epoch count (0 + count) es (omega arith) numbered in record { epochs = was.epochs; numbers = was.numbers }
-  answer_is_numbered (Read field) numbered = numbered_more epoch count (0 + count) es (omega arith) numbered
-  answer_is_numbered (Share field) numbered = numbered_more epoch count (0 + count) es (omega arith) numbered
+-- what a run leaves, whatever is kept
+pub run_stands : (schema : SchemaValue) (s : ℕ) (base : Base) (o : List Entry) → IsRun schema s base o → (kept : Bool)
+    → Stands schema base (epoch_of base o) (count_since is_begun_reply o) (effects base kept o)
+run_stands schema s base o run kept =
+    run_holds schema s base (Stands schema base)
+    (record {
+      start = record { numbered = record { epochs = λ id h. cc; numbers = λ id h. cc; current = λ id h. cc }; lawful = tt };
+      stop = λ n count m es later l. record { numbered = numbered_stop n count m es later l.numbered; lawful = (l.lawful, tt) };
+      carried = λ o c h kept l. carries schema s base o c h kept l;
+    }) o run kept
 
-  -- what a run leaves, after one more entry that fits
-  pub record Stays (c : Command) (r : Reply) : Type 0 where
-    pub numbered : IsNumbered epoch (count_since is_begun_reply (record { site = record { 0 = s }; command = c; reply = r } ∷ o)) (after base false c r es)
-    pub lawful : IsLawful schema base (after base false c r es)
-
-  pub fits_stays : (c : Command) (r : Reply) → Fits at c r → IsNumbered epoch count es → IsLawful schema base es → Stays c r
-  fits_stays c r fits numbered l =
-      elim (match_cases (first (refusals at c)) _ _ fits) [
-        | inl refused ↦
-            let same = sym (after_refused base false c refused.0 es) in
-            subst (Stays c) (sym refused.2)
-            (record {
-              numbered = subst (IsNumbered epoch (0 + count)) same (numbered_more epoch count (0 + count) es (omega arith) numbered);
-              lawful = subst (IsLawful schema base) same l;
-            })
-        | inr met ↦ subst (Stays c) (sym met.1) (record { numbered = answer_is_numbered c numbered; lawful = answer_is_lawful c met.0 numbered l })
-      ]
-
+-- the same, where what is in doubt is lost
 pub record Ran (schema : SchemaValue) (base : Base) (o : List Entry) : Type 0 where
   pub numbered : IsNumbered (epoch_of base o) (count_since is_begun_reply o) (effects base false o)
   pub lawful : IsLawful schema base (effects base false o)
 
 pub run_leaves : (schema : SchemaValue) (s : ℕ) (base : Base) (o : List Entry) → IsRun schema s base o → Ran schema base o
-run_leaves schema s base [] run = record { numbered = record { epochs = λ id h. cc; numbers = λ id h. cc }; lawful = tt }
-run_leaves schema s base (e ∷ o) run =
-    let before = run_leaves schema s base o run.0 in
-    let stays = fits_stays schema s base o e.command e.reply run.1 before.numbered before.lawful in
-    record { numbered = stays.numbered; lawful = stays.lawful }
+run_leaves schema s base o run =
+    let l = run_stands schema s base o run false in
+    record { numbered = l.numbered; lawful = l.lawful }
 
 pub run_is_lawful : (schema : SchemaValue) (s : ℕ) (base : Base) (o : List Entry) → IsRun schema s base o → (kept : Bool) → IsLawful schema base (effects base kept o)
-run_is_lawful schema s base o run kept = subst (IsLawful schema base) (sym (nothing_in_doubt base kept o)) (run_leaves schema s base o run).lawful
+run_is_lawful schema s base o run kept = (run_stands schema s base o run kept).lawful
+
+-- an open transaction is of the site's epoch
+pub open_is_current : (schema : SchemaValue) (s : ℕ) (base : Base) (o : List Entry) → IsRun schema s base o → (kept : Bool) (id : TxnId)
+    → is_begun id (effects base kept o) ≡ true → is_open id (effects base kept o) ≡ true → id.epoch ≡ epoch_of base o
+open_is_current schema s base o run kept id begun opened =
+    let all = effects base kept o in
+    (run_stands schema s base o run kept).numbered.current id begun (open_parts (is_committed id all) (is_dropped id all) opened).1
+
+-- the id that the next begin is answered was never begun
+pub begun_is_new : (schema : SchemaValue) (s : ℕ) (base : Base) (o : List Entry) → IsRun schema s base o → (kept : Bool)
+    → is_begun (next_id (epoch_of base o) (count_since is_begun_reply o)) (effects base kept o) ≡ false
+begun_is_new schema s base o run kept =
+    next_is_new (epoch_of base o) (count_since is_begun_reply o) (effects base kept o) (run_stands schema s base o run kept).numbered

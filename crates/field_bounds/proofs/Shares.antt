@@ -6,7 +6,7 @@ use Rattle.field_bounds.specs.declared.kind.Kind.{Kind}
 use Rattle.field_bounds.specs.declared.id.TxnId.{TxnId}
 use Rattle.field_bounds.specs.Kind.{kind_of, same_kind, other}
 use Rattle.field_bounds.specs.Schema.{SchemaValue}
-use Rattle.field_bounds.specs.Effects.{Base, Effect, Begins, Grants, Commits, Aborts, Gives, Accepts, is_committed, is_dropped, is_open, granted, gifts, accepted, gains, share}
+use Rattle.field_bounds.specs.Effects.{Base, Effect, Begins, Grants, Commits, Aborts, Gives, Accepts, Stops, is_committed, is_dropped, is_open, granted, gifts, accepted, gains, share}
 use Rattle.field_bounds.specs.Parts.{sum_below}
 use Rattle.field_bounds.proofs.Lawful.{IsLawful, covered}
 use Rattle.field_bounds.proofs.Sums.{sum_below_bump, sum_below-zero}
@@ -28,6 +28,7 @@ granted_split c d f k (Commits txn ∷ es) = granted_split c d f k es
 granted_split c d f k (Aborts txn ∷ es) = granted_split c d f k es
 granted_split c d f k (Gives to field kind amount ∷ es) = granted_split c d f k es
 granted_split c d f k (Accepts from field kind total ∷ es) = granted_split c d f k es
+granted_split c d f k (Stops ∷ es) = granted_split c d f k es
 
 -- the rights of one site, without the aborted escrows on either side
 pub balance : (schema : SchemaValue) (base : Base) (es : List Effect) → IsLawful schema base es → (f : ℕ) (k : Kind)
@@ -67,6 +68,7 @@ gifts_split schema base (Begins txn ∷ es) lawful f k = gifts_split schema base
 gifts_split schema base (Commits txn ∷ es) lawful f k = gifts_split schema base es lawful.0 f k
 gifts_split schema base (Aborts txn ∷ es) lawful f k = gifts_split schema base es lawful.0 f k
 gifts_split schema base (Accepts from field kind total ∷ es) lawful f k = gifts_split schema base es lawful.0 f k
+gifts_split schema base (Stops ∷ es) lawful f k = gifts_split schema base es lawful.0 f k
 
 gain_there : (on : Bool) (from total before : ℕ) → cond (on && eqb from from) (max total before) before ≡ before + cond on (total - before) 0
 gain_there true from total before = rw (eq-eqb from from refl) (omega arith)
@@ -97,3 +99,4 @@ gains_split schema base (Grants txn field change ∷ es) lawful f k = gains_spli
 gains_split schema base (Begins txn ∷ es) lawful f k = gains_split schema base es lawful.0 f k
 gains_split schema base (Commits txn ∷ es) lawful f k = gains_split schema base es lawful.0 f k
 gains_split schema base (Aborts txn ∷ es) lawful f k = gains_split schema base es lawful.0 f k
+gains_split schema base (Stops ∷ es) lawful f k = gains_split schema base es lawful.0 f k

@@ -5,7 +5,7 @@ use Rattle.field_bounds.specs.declared.entry.Statement.{Statement}
 use Rattle.field_bounds.specs.declared.entry.Command.{Command}
 use Rattle.field_bounds.specs.declared.entry.Command.TheVariants.{Accept}
 use Rattle.field_bounds.specs.declared.entry.Reply.{Reply}
-use Rattle.field_bounds.specs.declared.entry.Reply.TheVariants.{Accepted}
+use Rattle.field_bounds.specs.declared.entry.Reply.TheVariants.{Accepted, Unsure}
 use Rattle.field_bounds.specs.declared.entry.Entry.{Entry}
 use Rattle.field_bounds.specs.Schema.{SchemaValue}
 use Rattle.field_bounds.specs.Effects.{fresh}
@@ -44,11 +44,13 @@ is_accept command = false
 -- a command that takes none in answers for none
 pub rule_of_plain : (t : List Entry) (c : Command) (r : Reply) → is_accept c ≡ false → StatementRule t c r
 rule_of_plain t (Accept told) (Accepted gain) h = absurd cc
+rule_of_plain t (Accept told) Unsure h = absurd cc
 rule_of_plain t c r h = tt
 
 -- a statement that was issued may be taken in
 pub rule_of_issued : (t : List Entry) (told : Statement) (r : Reply) → IsIssued told t → StatementRule t (Accept told) r
 rule_of_issued t told (Accepted gain) h = h
+rule_of_issued t told Unsure h = h
 rule_of_issued t told r h = tt
 
 -- so an entry that takes none in leaves a sound trace sound

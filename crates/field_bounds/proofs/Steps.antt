@@ -8,7 +8,7 @@ use Rattle.field_bounds.specs.declared.id.TxnId.{TxnId}
 use Rattle.field_bounds.specs.declared.entry.Escrow.{Escrow}
 use Rattle.field_bounds.specs.Kind.{kind_of, same_kind, other}
 use Rattle.field_bounds.specs.Schema.{SchemaValue}
-use Rattle.field_bounds.specs.Effects.{Base, Effect, Begins, Grants, Commits, Aborts, Gives, Accepts, same_txn, is_begun, is_committed, is_dropped, is_aborted, is_open, escrows_of, takes, granted, accepted, share, held}
+use Rattle.field_bounds.specs.Effects.{Base, Effect, Begins, Grants, Commits, Aborts, Gives, Accepts, Stops, same_txn, is_begun, is_committed, is_dropped, is_aborted, is_open, escrows_of, takes, granted, accepted, share, held}
 use Rattle.field_bounds.proofs.Lawful.{IsLawful, covered, open_parts, same_txn-true}
 
 both_step : (on p q : Bool) (n : ℕ) → (p ≡ true → q ≡ false) → cond (on && (p || q)) n 0 ≡ cond (on && p) n 0 + cond (on && q) n 0
@@ -26,6 +26,7 @@ granted-or p q h f k (Commits txn ∷ es) = granted-or p q h f k es
 granted-or p q h f k (Aborts txn ∷ es) = granted-or p q h f k es
 granted-or p q h f k (Gives to field kind amount ∷ es) = granted-or p q h f k es
 granted-or p q h f k (Accepts from field kind total ∷ es) = granted-or p q h f k es
+granted-or p q h f k (Stops ∷ es) = granted-or p q h f k es
 
 -- tests that agree on what was begun
 pub granted-same : (schema : SchemaValue) (base : Base) (p q : TxnId → Bool) (f : ℕ) (k : Kind) (es : List Effect) → IsLawful schema base es → ((id : TxnId) → is_begun id es ≡ true → p id ≡ q id) → granted p f k es ≡ granted q f k es
@@ -39,8 +40,9 @@ granted-same schema base p q f k (Commits txn ∷ es) lawful h = granted-same sc
 granted-same schema base p q f k (Aborts txn ∷ es) lawful h = granted-same schema base p q f k es lawful.0 h
 granted-same schema base p q f k (Gives to field kind amount ∷ es) lawful h = granted-same schema base p q f k es lawful.0 h
 granted-same schema base p q f k (Accepts from field kind total ∷ es) lawful h = granted-same schema base p q f k es lawful.0 h
+granted-same schema base p q f k (Stops ∷ es) lawful h = granted-same schema base p q f k es lawful.0 h
 
-weigh_none : (on p : Bool) (n : ℕ) → p ≡ false → cond (on && p) n 0 ≡ 0
+pub weigh_none : (on p : Bool) (n : ℕ) → p ≡ false → cond (on && p) n 0 ≡ 0
 weigh_none true p n h = rw h refl
 weigh_none false p n h = refl
 
@@ -67,7 +69,7 @@ abbrev pub of_txn : TxnId → ℕ → Kind → List Effect → ℕ
 of_txn txn f k es = granted (λ id. same_txn txn id) f k es
 
 module _ (schema : SchemaValue) (base : Base) (es : List Effect) (lawful : IsLawful schema base es) (f : ℕ) (k : Kind) where
-  fate_here : (txn id : TxnId) → is_open txn es ≡ true → same_txn txn id ≡ true → (is_committed id es ≡ false) × (is_dropped id es ≡ false)
+  pub fate_here : (txn id : TxnId) → is_open txn es ≡ true → same_txn txn id ≡ true → (is_committed id es ≡ false) × (is_dropped id es ≡ false)
   fate_here txn id opened same =
       subst (λ (x : TxnId). (is_committed x es ≡ false) × (is_dropped x es ≡ false)) (same_txn-true txn id same) (open_parts (is_committed txn es) (is_dropped txn es) opened)
 
@@ -185,6 +187,7 @@ of_txn_is id f k (Commits txn ∷ es) = of_txn_is id f k es
 of_txn_is id f k (Aborts txn ∷ es) = of_txn_is id f k es
 of_txn_is id f k (Gives to field kind amount ∷ es) = of_txn_is id f k es
 of_txn_is id f k (Accepts from field kind total ∷ es) = of_txn_is id f k es
+of_txn_is id f k (Stops ∷ es) = of_txn_is id f k es
 
 -- ---- an id that was never begun
 
@@ -224,3 +227,6 @@ new_is_unused schema base id (Gives to field kind amount ∷ es) lawful new =
 new_is_unused schema base id (Accepts from field kind total ∷ es) lawful new =
     let was = new_is_unused schema base id es lawful.0 new in
     record { uncommitted = was.uncommitted; undropped = was.undropped; no_escrow = was.no_escrow }
+new_is_unused schema base id (Stops ∷ es) lawful new =
+    let was = new_is_unused schema base id es lawful.0 new in
+    record { uncommitted = was.uncommitted; undropped = rw new was.undropped; no_escrow = was.no_escrow }

@@ -7,9 +7,9 @@ use Rattle.field_bounds.specs.declared.kind.Kind.{Kind}
 use Rattle.field_bounds.specs.declared.kind.Kind.TheVariants.{Lower, Raise}
 use Rattle.field_bounds.specs.declared.id.TxnId.{TxnId}
 use Rattle.field_bounds.specs.declared.entry.Command.{Command}
-use Rattle.field_bounds.specs.declared.entry.Command.TheVariants.{Begin, Escrow, Commit, Abort, Give, Accept}
+use Rattle.field_bounds.specs.declared.entry.Command.TheVariants.{Begin, Escrow, Commit, Abort, Give, Accept, Restart}
 use Rattle.field_bounds.specs.declared.entry.Reply.{Reply}
-use Rattle.field_bounds.specs.declared.entry.Reply.TheVariants.{Begun, Granted, Committed, Aborted, Given, Accepted}
+use Rattle.field_bounds.specs.declared.entry.Reply.TheVariants.{Begun, Granted, Committed, Aborted, Given, Accepted, Restarted, Unsure}
 use Rattle.field_bounds.specs.declared.entry.Entry.{Entry}
 use Rattle.field_bounds.specs.Kind.{kind_of, same_kind}
 use Rattle.field_bounds.specs.Schema.{SchemaValue}
@@ -50,9 +50,16 @@ module _ (base : Base) (p : TxnId → Bool) (f : ℕ) (k : Kind) where
   after_sizes kept s (Escrow txn field change) Granted es = refl
   after_sizes kept s Begin (Begun txn) es = sym (zero-add (granted p f k es))
   after_sizes kept s (Commit txn) Committed es = sym (zero-add (granted p f k es))
+  after_sizes true s (Commit txn) Unsure es = sym (zero-add (granted p f k es))
+  after_sizes false s (Commit txn) Unsure es = sym (zero-add (granted p f k es))
   after_sizes kept s (Abort txn) Aborted es = sym (zero-add (granted p f k es))
   after_sizes kept s (Give to field kind amount) (Given total) es = sym (zero-add (granted p f k es))
+  after_sizes true s (Give to field kind amount) Unsure es = sym (zero-add (granted p f k es))
+  after_sizes false s (Give to field kind amount) Unsure es = sym (zero-add (granted p f k es))
   after_sizes kept s (Accept told) (Accepted gain) es = sym (zero-add (granted p f k es))
+  after_sizes true s (Accept told) Unsure es = sym (zero-add (granted p f k es))
+  after_sizes false s (Accept told) Unsure es = sym (zero-add (granted p f k es))
+  after_sizes kept s Restart (Restarted epoch found) es = sym (zero-add (granted p f k es))
   after_sizes kept s c r es = sym (zero-add (granted p f k es))
 
   -- what took effect has the escrows that were granted, whatever is kept

@@ -1,14 +1,14 @@
 -- One trace of all sites, as a run of one central store.
 -- A trace has the newest entry first, so that the rest of a list is the front before its head.
-use Rattle.std.specs.Prelude.{◌≡◌, ℕ, ◌+◌, ◌-◌, ◌<◌, ◌≤◌, ◌==◌, ℤ, pos, ◌+ℤ◌, ◌-ℤ◌, ◌≤ℤ◌, unsigned_abs, Bool, false, ◌&&◌, ◌||◌, if◌then◌else◌, List, [], ◌∷◌, length}
+use Rattle.std.specs.Prelude.{◌≡◌, ℕ, ◌+◌, ◌-◌, ◌<◌, ◌≤◌, ◌==◌, ℤ, pos, ◌+ℤ◌, ◌-ℤ◌, ◌≤ℤ◌, unsigned_abs, Bool, false, ◌&&◌, ◌||◌, if◌then◌else◌, List, [], ◌∷◌, length, Option, Some, None}
 use Rattle.field_bounds.specs.declared.kind.Kind.{Kind}
 use Rattle.field_bounds.specs.declared.kind.Kind.TheVariants.{Lower, Raise}
 use Rattle.field_bounds.specs.declared.id.SiteNo.{SiteNo}
 use Rattle.field_bounds.specs.declared.id.TxnId.{TxnId}
 use Rattle.field_bounds.specs.declared.entry.Command.{Command}
-use Rattle.field_bounds.specs.declared.entry.Command.TheVariants.{Escrow, Give, Accept, Read}
+use Rattle.field_bounds.specs.declared.entry.Command.TheVariants.{Escrow, Give, Accept, Read, Restart}
 use Rattle.field_bounds.specs.declared.entry.Reply.{Reply}
-use Rattle.field_bounds.specs.declared.entry.Reply.TheVariants.{Granted, Accepted, Between, Refused}
+use Rattle.field_bounds.specs.declared.entry.Reply.TheVariants.{Granted, Accepted, Between, Unsure, Refused}
 use Rattle.field_bounds.specs.declared.entry.Refusal.TheVariants.{Short}
 use Rattle.field_bounds.specs.declared.entry.Entry.{Entry}
 use Rattle.field_bounds.specs.Kind.{same_kind, kind_of}
@@ -33,6 +33,16 @@ AreOf s (e ∷ t) = (e.site.0 ≡ s) × AreOf s t
 -- What an entry was asked, and at which site (this project).
 abbrev pub asked_of : Entry → SiteNo × Command
 asked_of e = (e.site, e.command)
+
+-- The reply, where a site's entries alone don't tell it: one in doubt, or to a restart (this project).
+abbrev pub chosen_by : Command → Reply → Option Reply
+chosen_by Restart reply = Some reply
+chosen_by command Unsure = Some Unsure
+chosen_by command reply = None
+
+-- What an entry was asked, and the reply where that isn't told by the entries before it (this project).
+abbrev pub decided_of : Entry → (SiteNo × Command) × Option Reply
+decided_of e = (asked_of e, chosen_by e.command e.reply)
 
 -- What took effect at a site over the whole trace, on its fresh base (this project).
 abbrev pub at_site : SchemaValue → List Entry → ℕ → List Effect
@@ -127,9 +137,10 @@ IntervalRule schema t (Read field) (Between lo hi) =
     field.0 < length schema.fields → (lo ≤ℤ committed schema t field.0) × (committed schema t field.0 ≤ℤ hi)
 IntervalRule schema t command reply = Unit {0}
 
--- A statement that is accepted was issued before (this project).
+-- A statement that is accepted, or whose acceptance is in doubt, was issued before (this project).
 abbrev pub StatementRule : List Entry → Command → Reply → Type 0
 StatementRule t (Accept told) (Accepted gain) = IsIssued told t
+StatementRule t (Accept told) Unsure = IsIssued told t
 StatementRule t command reply = Unit {0}
 
 -- An entry keeps the rules over the front before it, and its site is in the schema (this project).
@@ -152,12 +163,12 @@ abbrev pub IsAtSites : SchemaValue → List Entry → Type 0
 IsAtSites schema [] = Unit {0}
 IsAtSites schema (e ∷ t) = IsAtSites schema t × (e.site.0 < schema.sites)
 
--- Each statement that is accepted was issued before (this project).
+-- Each statement that is accepted, or whose acceptance is in doubt, was issued before (this project).
 abbrev pub IsTold : List Entry → Type 0
 IsTold [] = Unit {0}
 IsTold (e ∷ t) = IsTold t × StatementRule t e.command e.reply
 
--- A trace is sound: each entry's site is in the schema, each statement that is accepted was issued before, and each reply
+-- A trace is sound: each entry's site is in the schema, each statement that is taken in was issued before, and each reply
 -- is owed after its own site's entries alone, on a fresh base (this project).
 pub record IsSound (schema : SchemaValue) (t : List Entry) : Type 0 where
   pub sites : IsAtSites schema t

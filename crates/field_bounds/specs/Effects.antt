@@ -5,9 +5,11 @@ use Rattle.field_bounds.specs.declared.kind.Kind.{Kind}
 use Rattle.field_bounds.specs.declared.id.TxnId.{TxnId}
 use Rattle.field_bounds.specs.declared.entry.Escrow.{Escrow as EscrowOf}
 use Rattle.field_bounds.specs.declared.entry.Command.{Command}
-use Rattle.field_bounds.specs.declared.entry.Command.TheVariants.{Begin, Escrow, Commit, Abort, Give, Accept}
+use Rattle.field_bounds.specs.declared.entry.Command.TheVariants.{Begin, Escrow, Commit, Abort, Give, Accept, Restart}
 use Rattle.field_bounds.specs.declared.entry.Reply.{Reply}
-use Rattle.field_bounds.specs.declared.entry.Reply.TheVariants.{Begun, Granted, Committed, Aborted, Given, Accepted}
+use Rattle.field_bounds.specs.declared.entry.Reply.TheVariants.{Begun, Granted, Committed, Aborted, Given, Accepted, Restarted, Unsure}
+use Rattle.field_bounds.specs.declared.entry.Last.{Last}
+use Rattle.field_bounds.specs.declared.entry.Last.TheVariants.{Nothing, Kept, Lost}
 use Rattle.field_bounds.specs.declared.entry.Entry.{Entry}
 use Rattle.field_bounds.specs.Kind.{other, same_kind, kind_of}
 use Rattle.field_bounds.specs.Schema.{SchemaValue}
@@ -34,6 +36,7 @@ pub data Effect : Type 0 where
   Aborts : (txn : TxnId) → Effect
   Gives : (to : ℕ) (field : ℕ) (kind : Kind) (amount : ℕ) → Effect
   Accepts : (from : ℕ) (field : ℕ) (kind : Kind) (total : ℕ) → Effect
+  Stops : Effect
 
 -- Whether two ids name one transaction.
 abbrev pub same_txn : TxnId → TxnId → Bool
@@ -51,10 +54,11 @@ is_committed id [] = false
 is_committed id (Commits txn ∷ es) = same_txn txn id || is_committed id es
 is_committed id (_ ∷ es) = is_committed id es
 
--- It was told to abort.
+-- It was told to abort, or the site stopped after its begin (this project for the stop).
 abbrev pub is_dropped : TxnId → List Effect → Bool
 is_dropped id [] = false
 is_dropped id (Aborts txn ∷ es) = same_txn txn id || is_dropped id es
+is_dropped id (Stops ∷ es) = is_begun id es || is_dropped id es
 is_dropped id (_ ∷ es) = is_dropped id es
 
 abbrev pub is_aborted : TxnId → List Effect → Bool
@@ -149,21 +153,32 @@ own_rights base f k es = share base f k es + held f k es
 
 -- ---- what took effect
 
--- The effects after a command that was answered; kept says whether one in doubt is known to be kept (this project).
+-- The effects after a command that was answered; one in doubt took effect where it was kept (this project).
 abbrev pub after : Base → Bool → Command → Reply → List Effect → List Effect
 after base kept Begin (Begun txn) es = Begins txn ∷ es
 after base kept (Escrow txn field change) Granted es = Grants txn field.0 change ∷ es
 after base kept (Commit txn) Committed es = Commits txn ∷ es
+after base kept (Commit txn) Unsure es = if kept then Commits txn ∷ es else es
 after base kept (Abort txn) Aborted es = Aborts txn ∷ es
 after base kept (Give to field kind amount) (Given total) es = Gives to.0 field.0 kind amount ∷ es
+after base kept (Give to field kind amount) Unsure es = if kept then Gives to.0 field.0 kind amount ∷ es else es
 after base kept (Accept told) (Accepted gain) es = Accepts told.from.0 told.field.0 told.kind told.total ∷ es
+after base kept (Accept told) Unsure es = if kept then Accepts told.from.0 told.field.0 told.kind told.total ∷ es else es
+after base kept Restart (Restarted epoch found) es = Stops ∷ es
 after base kept command reply es = es
 
--- Whether what stands in doubt before this reply was kept, if it was after it.
+-- Whether a restart found that what was in doubt is kept.
+abbrev pub says_kept : Last → Bool
+says_kept Kept = true
+says_kept Nothing = false
+says_kept Lost = false
+
+-- Whether what stands in doubt before this reply was kept, if what stands in doubt after it was.
 abbrev pub kept_before : Bool → Reply → Bool
+kept_before kept (Restarted epoch found) = says_kept found
 kept_before kept reply = kept
 
--- What took effect at a site; kept says whether the next restart, if any, keeps what is in doubt.
+-- What took effect at a site; kept says whether the next restart, if any, finds that what is in doubt is kept.
 abbrev pub effects : Base → Bool → List Entry → List Effect
 effects base kept [] = []
 effects base kept (e ∷ o) = after base kept e.command e.reply (effects base (kept_before kept e.reply) o)

@@ -10,3 +10,4 @@ pub mod Statements
 pub mod Central
 pub mod Worked
 pub mod WorkedGifts
+pub mod WorkedRestarts

@@ -1,16 +1,18 @@
 -- The reply that a site owes after its own entries, the newest first.
-use Rattle.std.specs.Prelude.{◌≡◌, ℕ, ◌+◌, ◌-◌, ◌==◌, nat_lt, nat_le, ℤ, pos, ◌+ℤ◌, ◌-ℤ◌, unsigned_abs, Bool, false, true, not, ◌&&◌, if◌then◌else◌, List, [], ◌∷◌, length, MatchOption, Option, Some, None, is_none}
+use Rattle.std.specs.Prelude.{◌≡◌, ℕ, ◌+◌, ◌-◌, ◌==◌, nat_lt, nat_le, ℤ, pos, ◌+ℤ◌, ◌-ℤ◌, unsigned_abs, Bool, false, true, not, ◌&&◌, if◌then◌else◌, ◌≤◌, ◌⊎◌, IsTrue, List, [], ◌∷◌, length, MatchOption, Option, Some, None, is_none}
 use Rattle.field_bounds.specs.declared.kind.Kind.{Kind}
 use Rattle.field_bounds.specs.declared.kind.Kind.TheVariants.{Lower, Raise}
 use Rattle.field_bounds.specs.declared.id.TxnId.{TxnId}
 use Rattle.field_bounds.specs.declared.id.FieldNo.{FieldNo}
 use Rattle.field_bounds.specs.declared.id.SiteNo.{SiteNo}
 use Rattle.field_bounds.specs.declared.entry.Command.{Command}
-use Rattle.field_bounds.specs.declared.entry.Command.TheVariants.{Begin, Escrow, Commit, Abort, Give, Restate, Accept, Read, Share}
+use Rattle.field_bounds.specs.declared.entry.Command.TheVariants.{Begin, Escrow, Commit, Abort, Give, Restate, Accept, Read, Share, Restart}
 use Rattle.field_bounds.specs.declared.entry.Reply.{Reply}
-use Rattle.field_bounds.specs.declared.entry.Reply.TheVariants.{Begun, Granted, Committed, Aborted, Given, Stated, Accepted, Between, Shares, Refused}
+use Rattle.field_bounds.specs.declared.entry.Reply.TheVariants.{Begun, Granted, Committed, Aborted, Given, Stated, Accepted, Between, Shares, Restarted, Unsure, StillDown, Refused}
+use Rattle.field_bounds.specs.declared.entry.Last.{Last}
+use Rattle.field_bounds.specs.declared.entry.Last.TheVariants.{Nothing}
 use Rattle.field_bounds.specs.declared.entry.Refusal.{Refusal}
-use Rattle.field_bounds.specs.declared.entry.Refusal.TheVariants.{NoSite, NoField, NoTransaction, Zero, TooLarge, Short, SelfGift, LedgerFull, NotYours, Forged, TooManyOpen, TooManyEscrows, NumbersFull, NothingGiven}
+use Rattle.field_bounds.specs.declared.entry.Refusal.TheVariants.{Down, NoSite, NoField, NoTransaction, Zero, TooLarge, Short, SelfGift, LedgerFull, NotYours, Forged, TooManyOpen, TooManyEscrows, NumbersFull, NothingGiven}
 use Rattle.field_bounds.specs.declared.entry.Entry.{Entry}
 use Rattle.field_bounds.specs.declared.entry.Statement.{Statement}
 use Rattle.field_bounds.specs.Kind.{kind_of}
@@ -18,20 +20,33 @@ use Rattle.field_bounds.specs.Schema.{SchemaValue}
 use Rattle.field_bounds.specs.Parts.{field_at, width_of}
 use Rattle.field_bounds.specs.Effects.{Base, Effect, is_begun, is_open, open_txns, escrows_of, given, accepted, share, own_rights, effects}
 
--- ---- epochs and counts
+-- ---- up or down, epochs and counts
+
+abbrev pub up_after : Bool → Reply → Bool
+up_after up (Restarted epoch found) = true
+up_after up Unsure = false
+up_after up StillDown = false
+up_after up reply = up
+
+-- Whether a site is up: its base is, or it restarted since, and nothing took it down after that (this project).
+abbrev pub is_up : Base → List Entry → Bool
+is_up base [] = base.up
+is_up base (e ∷ o) = up_after (is_up base o) e.reply
 
 abbrev pub epoch_after : ℕ → Reply → ℕ
+epoch_after epoch (Restarted new found) = new
 epoch_after epoch reply = epoch
 
--- The epoch in which a site stands.
+-- The epoch in which a site stands: that of the last restart, or the base's (this project).
 abbrev pub epoch_of : Base → List Entry → ℕ
 epoch_of base [] = base.epoch
 epoch_of base (e ∷ o) = epoch_after (epoch_of base o) e.reply
 
 abbrev pub count_after : (Reply → Bool) → ℕ → Reply → ℕ
+count_after p n (Restarted epoch found) = 0
 count_after p n reply = (if p reply then 1 else 0) + n
 
--- The replies of this epoch that pass.
+-- The replies since the last restart that pass.
 abbrev pub count_since : (Reply → Bool) → List Entry → ℕ
 count_since p [] = 0
 count_since p (e ∷ o) = count_after p (count_since p o) e.reply
@@ -39,6 +54,14 @@ count_since p (e ∷ o) = count_after p (count_since p o) e.reply
 abbrev pub is_begun_reply : Reply → Bool
 is_begun_reply (Begun txn) = true
 is_begun_reply reply = false
+
+abbrev pub is_unsure : Reply → Bool
+is_unsure Unsure = true
+is_unsure reply = false
+
+abbrev pub is_still_down : Reply → Bool
+is_still_down StillDown = true
+is_still_down reply = false
 
 -- How many transactions are open, and how many escrows a transaction has.
 abbrev pub count_open : List Effect → ℕ
@@ -75,7 +98,8 @@ first [] = None
 first (test ∷ rest) = if test.0 then Some test.1 else first rest
 
 -- The greatest amount or change without its sign, the greatest total of gifts from one site to another on a field and of
--- a kind, the most open transactions, the most escrows of one, and the last transaction number of an epoch.
+-- a kind, the most open transactions, the most escrows of one, and the last transaction number of
+-- an epoch, which is the last epoch too.
 abbrev pub max_change : ℕ
 max_change = 2_000_000_000_000_000
 
@@ -111,6 +135,9 @@ abbrev pub room : Place → FieldNo → ℕ
 room at field = width_of (field_at at.schema field.0) - (owned at field Lower + owned at field Raise)
 
 -- The tests, each with its refusal.
+abbrev pub down : Place → Test
+down at = when (not (is_up at.base at.entries)) Down
+
 abbrev pub no_site : Place → SiteNo → Test
 no_site at site = when (nat_le at.schema.sites site.0) NoSite
 
@@ -154,23 +181,25 @@ too_many_escrows at txn = when (nat_le max_escrows (count_escrows txn at.effects
 abbrev pub numbers_full : Place → Test
 numbers_full at = when (nat_le max_number (count_since is_begun_reply at.entries)) NumbersFull
 
--- The ladder: the tests of a command, in their order.
+-- The ladder: the tests of a command, in their order. What a restart may answer is said apart.
 abbrev pub refusals : Place → Command → List Test
-refusals at Begin = too_many_open at ∷ numbers_full at ∷ []
+refusals at Begin = down at ∷ too_many_open at ∷ numbers_full at ∷ []
 refusals at (Escrow txn field change) =
-    no_field at field ∷ no_transaction at txn ∷ zero_asked (unsigned_abs change) ∷ too_large max_change (unsigned_abs change)
-    ∷ short at field (kind_of change) (unsigned_abs change) ∷ too_many_escrows at txn ∷ []
-refusals at (Commit txn) = no_transaction at txn ∷ []
-refusals at (Abort txn) = no_transaction at txn ∷ []
+    down at ∷ no_field at field ∷ no_transaction at txn ∷ zero_asked (unsigned_abs change)
+    ∷ too_large max_change (unsigned_abs change) ∷ short at field (kind_of change) (unsigned_abs change) ∷ too_many_escrows at txn ∷ []
+refusals at (Commit txn) = down at ∷ no_transaction at txn ∷ []
+refusals at (Abort txn) = down at ∷ no_transaction at txn ∷ []
 refusals at (Give to field kind amount) =
-    no_site at to ∷ no_field at field ∷ zero_asked amount ∷ too_large max_change amount
+    down at ∷ no_site at to ∷ no_field at field ∷ zero_asked amount ∷ too_large max_change amount
     ∷ short at field kind amount ∷ self_gift at to ∷ ledger_full at to field kind amount ∷ []
-refusals at (Restate to field kind) = no_site at to ∷ no_field at field ∷ self_gift at to ∷ nothing_given at to field kind ∷ []
+refusals at (Restate to field kind) =
+    down at ∷ no_site at to ∷ no_field at field ∷ self_gift at to ∷ nothing_given at to field kind ∷ []
 refusals at (Accept told) =
-    no_site at told.from ∷ no_site at told.to ∷ no_field at told.field ∷ zero_asked told.total ∷ too_large max_total told.total
-    ∷ self_gift at told.from ∷ not_yours at told.to ∷ forged at told ∷ []
-refusals at (Read field) = no_field at field ∷ []
-refusals at (Share field) = no_field at field ∷ []
+    down at ∷ no_site at told.from ∷ no_site at told.to ∷ no_field at told.field ∷ zero_asked told.total
+    ∷ too_large max_total told.total ∷ self_gift at told.from ∷ not_yours at told.to ∷ forged at told ∷ []
+refusals at (Read field) = down at ∷ no_field at field ∷ []
+refusals at (Share field) = down at ∷ no_field at field ∷ []
+refusals at Restart = []
 
 -- ---- the answer where no refusal holds
 
@@ -184,6 +213,7 @@ interval_at at field =
 abbrev pub shares_at : Place → FieldNo → ℕ × ℕ
 shares_at at field = (free at field Lower, free at field Raise)
 
+-- The answer. A restart is owed none of its own: what it may answer rests on the medium too.
 abbrev pub answer : Place → Command → Reply
 answer at Begin = Begun (record { epoch = epoch_of at.base at.entries; number = count_since is_begun_reply at.entries + 1 })
 answer at (Escrow txn field change) = Granted
@@ -194,6 +224,7 @@ answer at (Restate to field kind) = Stated (told_so_far at to field kind)
 answer at (Accept told) = Accepted (gain_of at told.from told.field told.kind told.total)
 answer at (Read field) = Between (interval_at at field).0 (interval_at at field).1
 answer at (Share field) = Shares (shares_at at field).0 (shares_at at field).1
+answer at Restart = StillDown
 
 -- What a Read would answer, and none where it would be refused.
 abbrev pub interval_of : Place → FieldNo → Option (ℤ × ℤ)
@@ -211,10 +242,51 @@ is_quiet (Shares lower raise) = true
 is_quiet (Refused refusal) = true
 is_quiet reply = false
 
--- The site owes this reply to this command: the first refusal that holds, or the answer.
+-- Whether the command writes a record where it is answered, so that its answer may be in doubt (this project).
+abbrev pub writes : Place → Command → Bool
+writes at (Commit txn) = nat_lt 0 (count_escrows txn at.effects)
+writes at (Give to field kind amount) = true
+writes at (Accept told) = nat_lt 0 (gain_of at told.from told.field told.kind told.total)
+writes at command = false
+
+-- The reply is the first refusal that holds, or else the answer, or in doubt where the command writes.
+abbrev pub AnswerFits : Place → Command → Reply → Type 0
+AnswerFits at command reply =
+    MatchOption (first (refusals at command))
+    ((reply ≡ answer at command) ⊎ ((reply ≡ Unsure) × IsTrue (writes at command)))
+    (λ refusal. reply ≡ Refused refusal)
+
+-- ---- restarts (this project)
+
+-- The entry is a restart that was answered, with this finding.
+abbrev pub IsRestarted : Entry → Last → Type 0
+IsRestarted e found = (e.command ≡ Restart) × (epoch : ℕ) × (e.reply ≡ Restarted epoch found)
+
+-- A restart tells that nothing was in doubt exactly where no reply since the last restart was.
+abbrev pub TellsDoubt : Place → Last → Type 0
+TellsDoubt at found =
+    (count_since is_unsure at.entries ≡ 0 → found ≡ Nothing) × (found ≡ Nothing → count_since is_unsure at.entries ≡ 0)
+
+-- The greatest epoch that may be kept: each restart that failed since the last one may have used one up.
+abbrev pub last_epoch : Place → ℕ
+last_epoch at = epoch_of at.base at.entries + count_since is_still_down at.entries
+
+-- A restart may be answered with this epoch and this finding.
+abbrev pub MayRestart : Place → ℕ → Last → Type 0
+MayRestart at epoch found =
+    (epoch_of at.base at.entries + 1 ≤ epoch) × (epoch ≤ last_epoch at + 1) × (epoch ≤ max_number) × TellsDoubt at found
+
+-- What a restart may answer: it may fail at any time, and finds no epoch left only where that may be.
+abbrev pub RestartFits : Place → Reply → Type 0
+RestartFits at StillDown = Unit {0}
+RestartFits at (Refused refusal) = (refusal ≡ NumbersFull) × (max_number ≤ last_epoch at)
+RestartFits at (Restarted epoch found) = MayRestart at epoch found
+RestartFits at reply = ⊥
+
+-- The site may give this reply to this command.
 abbrev pub Fits : Place → Command → Reply → Type 0
-Fits at command reply =
-    MatchOption (first (refusals at command)) (reply ≡ answer at command) (λ refusal. reply ≡ Refused refusal)
+Fits at Restart reply = RestartFits at reply
+Fits at command reply = AnswerFits at command reply
 
 -- Each entry of a history fits those before it.
 abbrev pub IsRun : SchemaValue → ℕ → Base → List Entry → Type 0

@@ -72,12 +72,17 @@ pub enum Command {
     Share {
         field: FieldNo,
     },
+    /// Stops the site, and starts it again on what it kept: each open transaction is aborted, and
+    /// what is in doubt is settled. A site that is up may be asked too.
+    Restart,
 }
 
 /// Why a site refuses a command. The numbers in the texts of programs are the wire's, and leave
 /// room for the refusals of later stages.
 #[derive(Clone, Copy, Debug, PartialEq, Eq)]
 pub enum Refusal {
+    /// The site is down, and the command isn't a restart.
+    Down,
     /// A site that is named isn't in the schema.
     NoSite,
     /// The field isn't in the schema.
@@ -105,10 +110,24 @@ pub enum Refusal {
     TooManyOpen,
     /// The transaction has 16 escrows.
     TooManyEscrows,
-    /// The epoch's last transaction number is 1,000,000,000.
+    /// The epoch's last transaction number is 1,000,000,000 (for a begin), or the last epoch kept
+    /// is (for a restart).
     NumbersFull,
     /// Nothing was given yet, so there is nothing to state.
     NothingGiven,
+}
+
+/// What a restart found of the command that was answered with `Unsure` since the restart before.
+///
+/// Source: this project.
+#[derive(Clone, Copy, Debug, PartialEq, Eq)]
+pub enum Last {
+    /// No command was answered so.
+    Nothing,
+    /// It was kept: it takes effect now.
+    Kept,
+    /// It was lost: it never takes effect.
+    Lost,
 }
 
 /// What a site answers.
@@ -130,6 +149,15 @@ pub enum Reply {
     /// The free rights of the site on the field, to lower and to raise it: in rights, each 0 to
     /// 2,000,000,000,000,000.
     Shares { lower: u64, raise: u64 },
+    /// The site is up again, in this epoch, 1 to 1,000,000,000. Each transaction that was open is
+    /// aborted, and `last` settles what was in doubt.
+    Restarted { epoch: u32, last: Last },
+    /// The command may be kept or not, and the site is down: the next restart tells which. Only a
+    /// commit of a transaction with an escrow, a give, and an accept that brings a gain are
+    /// answered so.
+    Unsure,
+    /// The restart failed, and the site is down.
+    StillDown,
     Refused(Refusal),
 }
 

@@ -1,17 +1,18 @@
 //! Laws of the definitions, each as the contract of a function that does nothing.
 
-ghost use Rattle.std.specs.Prelude.{◌≡◌, ℕ, ◌≤◌, ◌≤ℤ◌, List, Bool, map};
+ghost use Rattle.std.specs.Prelude.{◌≡◌, ℕ, ◌≤◌, ◌≤ℤ◌, List, [], ◌∷◌, Bool, true, false, map};
 ghost use Rattle.field_bounds.specs.declared.id.TxnId.{TxnId};
 ghost use Rattle.field_bounds.specs.declared.kind.Kind.{Kind};
 ghost use Rattle.field_bounds.specs.declared.entry.Command.{Command};
+ghost use Rattle.field_bounds.specs.declared.entry.Last.{Last};
 ghost use Rattle.field_bounds.specs.declared.entry.Reply.{Reply};
 ghost use Rattle.field_bounds.specs.declared.entry.Entry.{Entry};
 ghost use Rattle.field_bounds.specs.Schema.{SchemaValue};
 ghost use Rattle.field_bounds.specs.Limits.{IsSchema};
 ghost use Rattle.field_bounds.specs.Parts.{field_at};
-ghost use Rattle.field_bounds.specs.Effects.{Base, effects, rights_in, rights_out};
-ghost use Rattle.field_bounds.specs.Owed.{Place, Fits, IsRun};
-ghost use Rattle.field_bounds.specs.Central.{AreOf, asked_of, inf, sup, outcome, IsCentral, IsSound, IsConservedThroughout};
+ghost use Rattle.field_bounds.specs.Effects.{Base, open_txns, held, share, own_rights, says_kept, effects, rights_in, rights_out};
+ghost use Rattle.field_bounds.specs.Owed.{Place, is_up, IsRestarted, Fits, IsRun};
+ghost use Rattle.field_bounds.specs.Central.{AreOf, chosen_by, decided_of, inf, sup, outcome, IsCentral, IsSound, IsConservedThroughout};
 
 /// At a site whose replies are all owed, the rights that went out never exceed those that came in:
 /// the share, which is their difference, is never cut off at 0.
@@ -21,20 +22,42 @@ pub fn share_is_exact()
         rights_out f k (effects base kept o) ≤ rights_in base f k (effects base kept o) }
 {}
 
-/// A list of commands has exactly one list of owed replies: a command is owed one reply where its
-/// site stands (`only`), a site's history is told by its commands alone (`history`), and a sound
-/// trace by its commands with their sites (`trace`).
+/// What a site is asked leaves one list of owed replies, once it is told which replies were in doubt
+/// and how each restart ended: these two rest on what is kept across a stop too. With that told, a
+/// command is owed one reply where its site stands (`only`), a site's history is told by its
+/// commands alone (`history`), and a sound trace by its commands with their sites (`trace`).
 ///
 /// Source: this project.
 pub fn one_reply()
     ensures only { (at : Place) (command : Command) (reply other : Reply) →
-        Fits at command reply → Fits at command other → reply ≡ other }
+        Fits at command reply → Fits at command other →
+        chosen_by command reply ≡ chosen_by command other → reply ≡ other }
     ensures history { (schema : SchemaValue) (s : ℕ) (base : Base) (o p : List Entry) →
         IsRun schema s base o → IsRun schema s base p → AreOf s o → AreOf s p →
-        map (λ e. e.command) o ≡ map (λ e. e.command) p → o ≡ p }
+        map decided_of o ≡ map decided_of p → o ≡ p }
     ensures trace { (schema : SchemaValue) (t u : List Entry) →
         IsSound schema t → IsSound schema u →
-        map asked_of t ≡ map asked_of u → t ≡ u }
+        map decided_of t ≡ map decided_of u → t ≡ u }
+{}
+
+/// A restart settles everything. While a site is up nothing is in doubt: what took effect doesn't
+/// rest on what the next restart finds (`sure`). After a restart no transaction is open (`closed`)
+/// and nothing is held (`held`), and the share is what the site's own rights were, with what was in
+/// doubt counted where the restart found it kept (`share`).
+///
+/// Source: this project.
+pub fn restarts_settle()
+    ensures sure { (base : Base) (o : List Entry) (kept : Bool) →
+        is_up base o ≡ true → effects base kept o ≡ effects base false o }
+    ensures closed { (base : Base) (o : List Entry) (kept : Bool) (e : Entry) (last : Last) →
+        IsRestarted e last → open_txns (effects base kept (e ∷ o)) ≡ [] }
+    ensures held { (schema : SchemaValue) (s : ℕ) (base : Base) (o : List Entry) (kept : Bool)
+        (e : Entry) (last : Last) → IsRun schema s base o → IsRestarted e last →
+        (f : ℕ) (k : Kind) → held f k (effects base kept (e ∷ o)) ≡ 0 }
+    ensures share { (schema : SchemaValue) (s : ℕ) (base : Base) (o : List Entry) (kept : Bool)
+        (e : Entry) (last : Last) → IsRun schema s base o → IsRestarted e last →
+        (f : ℕ) (k : Kind) → share base f k (effects base kept (e ∷ o))
+        ≡ own_rights base f k (effects base (says_kept last) o) }
 {}
 
 /// Every sound trace is a run of one central store. If each site gave the replies that it owes

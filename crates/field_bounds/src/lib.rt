@@ -13,18 +13,22 @@ mod kind;
 mod laws;
 mod limits;
 mod macros;
+mod restart_rows;
 mod schema;
 mod worked;
 
-pub use entry::{Command, Entry, Escrow, Refusal, Reply, Statement};
+pub use entry::{Command, Entry, Escrow, Last, Refusal, Reply, Statement};
 pub use fault::SchemaFault;
 pub use field::FieldSpec;
 pub use gift_rows::{worked_flight, worked_gifts, wrong_gifts};
 pub use id::{FieldNo, SiteNo, TxnId};
 pub use issued::statement_of;
 pub use kind::Kind;
-pub use laws::{one_central_store, one_reply, outcomes_lie_between, share_is_exact};
-pub use limits::{MAX_CHANGE, MAX_ESCROWS, MAX_HEADER, MAX_NUMBER, MAX_OPEN, MAX_TOTAL};
+pub use laws::{
+    one_central_store, one_reply, outcomes_lie_between, restarts_settle, share_is_exact,
+};
+pub use limits::{MAX_CHANGE, MAX_EPOCH, MAX_ESCROWS, MAX_HEADER, MAX_NUMBER, MAX_OPEN, MAX_TOTAL};
+pub use restart_rows::{worked_doubt, worked_restarts, wrong_restarts};
 pub use schema::Schema;
 pub use worked::{worked_runs, worked_sites, worked_values, wrong_replies, wrong_shares};
 

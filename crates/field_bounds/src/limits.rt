@@ -27,6 +27,9 @@ pub const MAX_ESCROWS: usize = 16;
 /// The greatest transaction number in an epoch.
 pub const MAX_NUMBER: u32 = 1_000_000_000;
 
+/// The greatest epoch of a site.
+pub const MAX_EPOCH: u32 = 1_000_000_000;
+
 /// The greatest total of gifts from one site to another on a field and of a kind, in rights: ten to
 /// the eighteenth.
 pub const MAX_TOTAL: u64 = 1_000_000_000_000_000_000;

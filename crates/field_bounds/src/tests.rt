@@ -167,6 +167,7 @@ fn equality(rt: HostRuntime) {
         Command::Read { field: FieldNo(1) },
         Command::Share { field },
         Command::Share { field: FieldNo(1) },
+        Command::Restart,
     ];
     assert_differ(&rt, &commands);
     let replies = [
@@ -188,6 +189,13 @@ fn equality(rt: HostRuntime) {
         Reply::Refused(Refusal::LedgerFull { total: 1 }),
         Reply::Refused(Refusal::Forged { room: 1 }),
         Reply::Refused(Refusal::NotYours),
+        Reply::Refused(Refusal::Down),
+        restarted(1, Last::Nothing),
+        restarted(2, Last::Nothing),
+        restarted(1, Last::Kept),
+        restarted(1, Last::Lost),
+        Reply::Unsure,
+        Reply::StillDown,
     ];
     assert_differ(&rt, &replies);
     let command = Command::Begin;
@@ -215,6 +223,11 @@ const GIVE: Command = Command::Give {
     kind: Kind::Lower,
     amount: 5,
 };
+
+/// A restart that ended so.
+fn restarted(epoch: u32, last: Last) -> Reply {
+    Reply::Restarted { epoch, last }
+}
 
 /// The same asked to be told again.
 const RESTATE: Command = Command::Restate {
@@ -254,6 +267,8 @@ fn statements(rt: HostRuntime) {
     assert_eq!(rt; stated(RESTATE, given), None);
     assert_eq!(rt; stated(Command::Accept(told(8)), gained), None);
     assert_eq!(rt; stated(GIVE, Reply::Refused(Refusal::NoSite)), None);
+    assert_eq!(rt; stated(GIVE, Reply::Unsure), None);
+    assert_eq!(rt; stated(Command::Restart, restarted(1, Last::Kept)), None);
 }
 
 /// The last amount that a command bears, read by the arm of its name; 0 where it bears none.
@@ -268,6 +283,7 @@ fn amount_of(command: Command) -> u64 {
         Accept(told) => told.total,
         Read { field } => 0,
         Share { field } => 0,
+        Restart => 0,
     }
 }
 

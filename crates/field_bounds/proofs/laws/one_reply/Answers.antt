@@ -2,7 +2,7 @@ use Rattle.field_bounds.proofs.Only.{only_reply, only_history, only_trace}
 use Rattle.field_bounds.proofs.laws.one_reply.Goals as goal
 
 pub returns-clause-only : goal.returns-clause-only
-returns-clause-only c = λ at command reply other h g. only_reply at command reply other h g
+returns-clause-only c = λ at command reply other h g same. only_reply at command reply other h g same
 
 pub returns-clause-history : goal.returns-clause-history
 returns-clause-history c = λ schema s base o p run ran are is h. only_history schema s base o p run ran are is h
