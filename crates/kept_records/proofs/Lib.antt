@@ -4,3 +4,4 @@ pub mod OneWord
 pub mod RecordKinds
 pub mod Pairs
 pub mod Lines
+pub mod Appending

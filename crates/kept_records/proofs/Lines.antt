@@ -129,20 +129,7 @@ bad_at (r ∷ rs) (s ∷ ss) bad behind rest p q nl nr none e =
 pub no_log : (bytes : List ℕ) (n : ℕ) → IsBadLine bytes n → (rs : List Record) (rest : List ℕ) → IsLog bytes rs rest → ⊥
 no_log bytes n bad rs rest log = bad_at bad.before rs bad.line bad.behind rest bad.each log.each bad.one_line log.no_lf bad.none (sym bad.parts ∙ log.parts)
 
--- ---- what a torn end leaves
-
-pub torn_append : (bytes : List ℕ) (rs : List Record) (r : Record) (k : ℕ) → IsLog bytes rs [] → IsRecord r → IsLog (bytes ++ take k (text r)) rs (take k (text r)) ⊎ IsLog (bytes ++ take k (text r)) (rs ++ r ∷ []) []
-torn_append bytes rs r k log fits =
-    let before : bytes ≡ flat_map text rs = log.parts ∙ append-nil (flat_map text rs) in
-    let added : bytes ++ take k (text r) ≡ flat_map text rs ++ take k (text r) = ap (λ (l : List ℕ). l ++ take k (text r)) before in
-    elim (torn_text r fits (text r) refl k) [
-      | inl torn ↦ inl (record { parts = added; each = log.each; no_lf = torn })
-      | inr whole ↦ inr (record {
-        parts = added ∙ ap (λ (l : List ℕ). flat_map text rs ++ l) whole ∙ sym (flat_push rs r) ∙ sym (append-nil (flat_map text (rs ++ r ∷ [])));
-        each = all_push rs r log.each fits;
-        no_lf = refl;
-      })
-    ]
+-- ---- what reading leaves of a log
 
 pub cut_log : (bytes : List ℕ) (rs : List Record) (n : ℕ) → Reads bytes rs n → IsLog (take n bytes) rs []
 cut_log bytes rs n reads = record { parts = reads.whole ∙ sym (append-nil (flat_map text rs)); each = reads.each; no_lf = refl }

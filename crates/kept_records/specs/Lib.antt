@@ -4,3 +4,5 @@ pub mod Text
 pub mod Reading
 pub mod Logs
 pub mod Faults
+pub mod Stands
+pub mod Keeping

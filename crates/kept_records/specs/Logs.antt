@@ -1,5 +1,5 @@
 -- Records in bytes, one line after the other (this project).
-use Rattle.std.specs.Prelude.{◌≡◌, ℕ, ◌+◌, ◌≤◌, List, [], ◌∷◌, ◌++◌, length, take, drop, ◌==◌, false, ◌⊎◌}
+use Rattle.std.specs.Prelude.{◌≡◌, ℕ, ◌+◌, ◌≤◌, List, [], ◌∷◌, ◌++◌, length, take, drop, Option, Some, None, ◌==◌, false, ◌⊎◌}
 use Rattle.std.specs.List.{flat_map, list_any, AllByRecursion}
 use Rattle.kept_records.specs.declared.record.Record.{Record}
 use Rattle.kept_records.specs.Text.{text, IsRecord}
@@ -39,6 +39,12 @@ pub record IsBadLine (bytes : List ℕ) (n : ℕ) : Type 0 where
   pub each : AllByRecursion IsRecord before
   pub one_line : HasNoLf line
   pub none : (r : Record) → IsRecord r → text r ≡ line ++ 10 ∷ [] → ⊥
+
+-- The records in front of the first line that is the text of no record, where there is such a line, or else all records,
+-- whose texts are the first so many bytes.
+abbrev pub IsFront : List ℕ → List Record → ℕ → Option ℕ → Type 0
+IsFront bytes rs n (Some line) = (bad : IsBadLine bytes line) × (bad.before ≡ rs)
+IsFront bytes rs n None = Reads bytes rs n × AreAll bytes rs n
 
 -- A front of the text is the whole text, or no line ends in it.
 abbrev pub TearsClean : List ℕ → Type 0

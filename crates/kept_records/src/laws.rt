@@ -1,6 +1,7 @@
 //! Laws of the records' texts, each as the contract of a function that does nothing.
 
-ghost use Rattle.std.specs.Prelude.{◌≡◌, ◌++◌, ◌∷◌, [], ◌⊎◌, List, ℕ, take};
+ghost use Rattle.std.specs.Prelude.{◌≡◌, ◌<◌, ◌≤◌, ◌++◌, ◌∷◌, [], ◌⊎◌, List, ℕ, length, take};
+ghost use Rattle.std.specs.List.{flat_map};
 ghost use Rattle.kept_records.specs.declared.record.Record.{Record};
 ghost use Rattle.kept_records.specs.Text.{text, IsRecord};
 ghost use Rattle.kept_records.specs.Logs.{IsLog, Reads};
@@ -27,4 +28,18 @@ pub fn torn_end_keeps_records()
         IsLog (bytes ++ take k (text r)) rs (take k (text r)) ⊎ IsLog (bytes ++ take k (text r)) (rs ++ r ∷ []) [] }
     ensures cut { (bytes : List ℕ) (rs : List Record) (n : ℕ) → Reads bytes rs n → IsLog (take n bytes) rs [] }
     ensures one { (bytes : List ℕ) (rs ss : List Record) (a b : List ℕ) → IsLog bytes rs a → IsLog bytes ss b → (rs ≡ ss) × (a ≡ b) }
+{}
+
+/// How many bytes of a record's text were kept tells what stands there. Behind a log with nothing
+/// behind its records, fewer bytes than the text has are a torn end, and the records are the same
+/// (`torn`); all of them are one more record (`whole`). A log that is cut to the length of its
+/// records' texts is a log of these records with nothing behind them (`cut`).
+///
+/// Source: this project.
+pub fn kept_bytes_tell_what_stands()
+    ensures torn { (bytes : List ℕ) (rs : List Record) (r : Record) (n : ℕ) → IsLog bytes rs [] → IsRecord r → n < length (text r) →
+        IsLog (bytes ++ take n (text r)) rs (take n (text r)) }
+    ensures whole { (bytes : List ℕ) (rs : List Record) (r : Record) (n : ℕ) → IsLog bytes rs [] → IsRecord r → length (text r) ≤ n →
+        IsLog (bytes ++ take n (text r)) (rs ++ r ∷ []) [] }
+    ensures cut { (bytes rest : List ℕ) (rs : List Record) (n : ℕ) → IsLog bytes rs rest → n ≡ length (flat_map text rs) → IsLog (take n bytes) rs [] }
 {}

@@ -4,6 +4,7 @@
 //! Source: this project.
 #![tactic(auto)]
 
+mod keeping;
 mod laws;
 mod log;
 mod medium;
@@ -13,8 +14,11 @@ mod record;
 mod torn;
 mod writing;
 
-pub use laws::{no_text_begins_another, torn_end_keeps_records};
-pub use log::{RecordFault, read_records};
+pub use keeping::{
+    ReadLog, append_record, append_restart, greatest_epoch, read_log, stands_behind,
+};
+pub use laws::{kept_bytes_tell_what_stands, no_text_begins_another, torn_end_keeps_records};
+pub use log::{Front, RecordFault, read_front, read_records};
 pub use medium::{Device, Medium, MediumFault, Mishap};
 pub use memory::MemoryMedium;
 pub use record::{Escrows, Record};

@@ -1,13 +1,15 @@
 //! Records one after the other.
 
-ghost use Rattle.std.specs.Prelude.{◌≡◌, ◌==◌, IfOk, IfErr, position};
+ghost use Rattle.std.specs.Prelude.{◌≡◌, ◌==◌, IfOk, IfErr, length, position};
+ghost use Rattle.std.specs.List.{flat_map};
 ghost use Rattle.kept_records.specs.declared.log.RecordFault.TheVariants.{NoMemory};
-ghost use Rattle.kept_records.specs.Logs.{Reads, AreAll};
+ghost use Rattle.kept_records.specs.Text.{text};
+ghost use Rattle.kept_records.specs.Logs.{Reads, AreAll, IsFront};
 ghost use Rattle.kept_records.specs.Faults.{TellsBadLine, TellsNoLog};
 
 use crate::reading::{LineFault, read_line};
 use crate::record::Record;
-use std::alloc::{AllocFailed, Global};
+use std::alloc::{AllocError, Global};
 use thiserror::Error;
 
 /// Why records weren't read.
@@ -20,18 +22,66 @@ pub enum RecordFault {
     NoMemory,
 }
 
-impl<T: Drop> From<AllocFailed<T>> for RecordFault {
+impl From<AllocError> for RecordFault {
     ghost from_gives = { λ _ e. e ≡ NoMemory };
 
-    fn from(_refused: AllocFailed<T>) -> RecordFault {
+    fn from(_refused: AllocError) -> RecordFault {
         RecordFault::NoMemory
     }
+}
+
+/// The records in front of the first line that is none, or all records where there is no such line.
+#[derive(Drop)]
+pub struct Front {
+    pub records: Vec<Record>,
+    /// The length of the records' texts, in bytes.
+    pub length: usize,
+    /// The first line, counted from 1, that is no record.
+    pub bad_line: Option<u64>,
 }
 
 fn line_feed(bytes: &[u8]) -> Option<usize>
     ensures { result ≡ position (λ b. b == 10) bytes.now }
 {
     bytes.iter().position(|b| *b == b'\n')
+}
+
+/// The records in front of the first line that is no record. A line is read where its line feed is
+/// there. Where each is a record, these are all the records of the bytes, and what lies behind them
+/// is a torn record, whatever it is. Else `bad_line` is the number of the records and 1: that line
+/// is the text of no record. The error is want of memory. Costs a pass over the bytes, and memory
+/// for the records.
+///
+/// Source: this project.
+pub fn read_front(alloc: Global, bytes: &[u8]) -> Result<Front, AllocError>
+    ensures front { IfOk result (λ front. IsFront bytes.now front.records.items front.length front.bad_line) }
+    ensures length { IfOk result (λ front. front.length ≡ length (flat_map text front.records.items)) }
+{
+    let mut records = Vec::new(alloc);
+    let mut length = 0;
+    let mut rest = bytes;
+    while let Some(end) = line_feed(rest) {
+        let kept = match read_line(alloc, &rest[..end]) {
+            Ok(kept) => kept,
+            Err(LineFault::NoRecord) => {
+                let bad_line = Some(records.len() as u64 + 1);
+                return Ok(Front {
+                    records,
+                    length,
+                    bad_line,
+                });
+            }
+            Err(LineFault::NoMemory) => return Err(AllocError),
+        };
+        records.push(kept)?;
+        length += end + 1;
+        rest = &rest[end + 1..];
+    }
+    Ok(Front {
+        records,
+        length,
+        bad_line: None,
+    })
 }
 
 /// The records whose texts the bytes are, and the length of these texts in bytes: up to and with
@@ -45,18 +95,9 @@ pub fn read_records(alloc: Global, bytes: &[u8]) -> Result<(Vec<Record>, usize),
     ensures line { IfErr result (λ fault. TellsBadLine fault bytes.now) }
     ensures no_log { IfErr result (λ fault. TellsNoLog fault bytes.now) }
 {
-    let mut records = Vec::new(alloc);
-    let mut length = 0;
-    let mut rest = bytes;
-    while let Some(end) = line_feed(rest) {
-        let kept = match read_line(alloc, &rest[..end]) {
-            Ok(kept) => kept,
-            Err(LineFault::NoRecord) => return Err(RecordFault::Line(records.len() as u64 + 1)),
-            Err(LineFault::NoMemory) => return Err(RecordFault::NoMemory),
-        };
-        records.push(kept)?;
-        length += end + 1;
-        rest = &rest[end + 1..];
+    let front = read_front(alloc, bytes)?;
+    match front.bad_line {
+        Some(line) => Err(RecordFault::Line(line)),
+        None => Ok((front.records, front.length)),
     }
-    Ok((records, length))
 }

@@ -1,3 +1,8 @@
+ghost use Rattle.std.specs.Prelude.{◌≡◌, ◌<◌, ◌≤◌, IfSome};
+ghost use Rattle.field_bounds.specs.Owed.{max_number};
+ghost use Rattle.kept_records.specs.Text.{IsRecord};
+ghost use Rattle.kept_records.specs.Keeping.{IsKept};
+
 use super::*;
 use field_bounds::{Escrow, FieldNo, Kind, SiteNo, TxnId};
 use std::alloc::Global;
@@ -270,4 +275,207 @@ fn mishaps_strike_once(rt: HostRuntime) {
     torn_appends(&rt, alloc, &mut medium);
     failed_cut(&rt, alloc, &mut medium);
     failed_read(&rt, alloc, &mut medium);
+}
+
+/// How many records stand in front of the first line that is none, how many bytes they take up, and
+/// that line.
+fn front_of(alloc: Global, text: &str) -> Option<(usize, usize, Option<u64>)> {
+    let front = read_front(alloc, text.as_bytes()).ok()?;
+    Some((front.records.len(), front.length, front.bad_line))
+}
+
+#[test]
+fn fronts(rt: HostRuntime) {
+    let alloc = rt.alloc();
+    assert_eq!(rt;
+        front_of(alloc, "R 1\nR 12\nR 03\nR 4\n"),
+        Some((2, 9, Some(3)))
+    );
+    assert_eq!(rt; front_of(alloc, "R 03\nR 4\n"), Some((0, 0, Some(1))));
+    assert_eq!(rt; front_of(alloc, "R 1\nR 12\nR 03"), Some((2, 9, None)));
+    assert_eq!(rt; front_of(alloc, ""), Some((0, 0, None)));
+}
+
+/// The greatest epoch of the records of a log.
+fn greatest_of(alloc: Global, text: &str) -> Option<u32> {
+    let (records, _) = read_records(alloc, text.as_bytes()).ok()?;
+    Some(greatest_epoch(&records))
+}
+
+#[test]
+fn greatest_epochs(rt: HostRuntime) {
+    let alloc = rt.alloc();
+    assert_eq!(rt; greatest_of(alloc, "R 2\nC 0 1 0 -20\nR 7\nR 3\n"), Some(7));
+    assert_eq!(rt; greatest_of(alloc, "C 9 1 0 -20\nR 7"), Some(0));
+}
+
+/// Whether a record that is no restart stands behind none, one, two and three records of a log.
+fn standing(alloc: Global, text: &str) -> Option<[bool; 4]> {
+    let (records, _) = read_records(alloc, text.as_bytes()).ok()?;
+    Some([
+        stands_behind(&records, 0),
+        stands_behind(&records, 1),
+        stands_behind(&records, 2),
+        stands_behind(&records, 3),
+    ])
+}
+
+#[test]
+fn records_behind_others(rt: HostRuntime) {
+    assert_eq!(rt;
+        standing(rt.alloc(), "C 0 1 0 -20\nR 1\nG 1 0 l 5\n"),
+        Some([true, false, true, false])
+    );
+}
+
+/// The text's bytes, or None where they are no log.
+fn log_of(alloc: Global, text: &str) -> Option<Vec<u8>>
+    ensures { IfSome result (λ bytes. IsKept bytes.items) }
+{
+    let bytes = Vec::from_slice(alloc, text.as_bytes()).ok()?;
+    match read_records(alloc, &bytes) {
+        Ok(_) => Some(bytes),
+        Err(_) => None,
+    }
+}
+
+/// How many records the medium holds, how many bytes they take up, and how many there are.
+fn log_lengths<M: Medium>(alloc: Global, medium: &mut M) -> Option<(usize, usize, usize)>
+    requires { IsKept (M.bytes medium.old) }
+{
+    let read = read_log(alloc, medium).ok()?;
+    Some((read.records.len(), read.whole, read.present))
+}
+
+#[test]
+fn a_log_is_read(rt: HostRuntime) {
+    let alloc = rt.alloc();
+    let Some(bytes) = log_of(alloc, "C 0 1 0 -20\nG 1 0") else {
+        return;
+    };
+    let mut medium = MemoryMedium::new(bytes);
+    assert_eq!(rt; log_lengths(alloc, &mut medium), Some((1, 12, 17)));
+    assert!(rt; holds(alloc, &mut medium, "C 0 1 0 -20\nG 1 0"));
+}
+
+#[test]
+fn a_log_whose_device_fails_is_not_read(rt: HostRuntime) {
+    let alloc = rt.alloc();
+    let Some(bytes) = log_of(alloc, "R 1\n") else {
+        return;
+    };
+    let mut medium = TornMedium::new(bytes);
+    medium.arm(Mishap::Read);
+    assert!(rt; matches!(read_log(alloc, &mut medium), Err(MediumFault::Device)));
+    assert_eq!(rt; log_lengths(alloc, &mut medium), Some((1, 4, 4)));
+    assert_eq!(rt; medium.failures(), 1);
+}
+
+/// Whether the record stands whole, or None where memory was refused.
+fn appended<M: Medium>(alloc: Global, medium: &mut M, kept: &Record) -> Option<bool>
+    requires { IsRecord kept.now }
+{
+    Some(append_record(alloc, medium, kept).ok()?.is_ok())
+}
+
+#[test]
+fn records_are_appended(rt: HostRuntime) {
+    let alloc = rt.alloc();
+    let Some(mut medium) = memory_of(alloc, "") else {
+        return;
+    };
+    let gift = Record::Gift {
+        to: SiteNo(1),
+        field: FieldNo(0),
+        kind: Kind::Lower,
+        total: 5,
+    };
+    assert_eq!(rt;
+        appended(alloc, &mut medium, &Record::Restart { epoch: 1 }),
+        Some(true)
+    );
+    assert_eq!(rt; appended(alloc, &mut medium, &gift), Some(true));
+    assert!(rt; holds(alloc, &mut medium, "R 1\nG 1 0 l 5\n"));
+}
+
+fn torn_restart(rt: &impl Abort, alloc: Global, kept: u64, wanted: &str) {
+    let Some(mut medium) = torn_of(alloc, "") else {
+        return;
+    };
+    medium.arm(Mishap::Append(kept));
+    assert_eq!(rt;
+        appended(alloc, &mut medium, &Record::Restart { epoch: 1 }),
+        Some(false)
+    );
+    assert!(rt; holds(alloc, &mut medium, wanted));
+    assert_eq!(rt; medium.failures(), 1);
+}
+
+#[test]
+fn a_torn_append_leaves_a_front(rt: HostRuntime) {
+    torn_restart(&rt, rt.alloc(), 2, "R ");
+    torn_restart(&rt, rt.alloc(), 4, "R 1\n");
+}
+
+/// Whether the restart stands behind so many bytes of the medium, or None where there are fewer or
+/// memory was refused.
+fn restarted<M: Medium>(alloc: Global, medium: &mut M, whole: usize, epoch: u32) -> Option<bool>
+    requires some { 0 < epoch }
+    requires most { epoch ≤ max_number }
+{
+    let present = medium.read_all(alloc).ok()?.len();
+    if present < whole {
+        return None;
+    }
+    Some(
+        append_restart(alloc, medium, whole, present, epoch)
+            .ok()?
+            .is_ok(),
+    )
+}
+
+#[test]
+fn a_restart_is_appended(rt: HostRuntime) {
+    let alloc = rt.alloc();
+    let Some(mut medium) = memory_of(alloc, "C 0 1 0 -20\nR 1") else {
+        return;
+    };
+    assert_eq!(rt; restarted(alloc, &mut medium, 12, 1), Some(true));
+    assert!(rt; holds(alloc, &mut medium, "C 0 1 0 -20\nR 1\n"));
+    assert_eq!(rt;
+        restarted(alloc, &mut medium, 16, 1_000_000_000),
+        Some(true)
+    );
+    assert!(rt; holds(alloc, &mut medium, "C 0 1 0 -20\nR 1\nR 1000000000\n"));
+}
+
+fn restart_under(rt: &impl Abort, alloc: Global, mishap: Mishap, stands: bool, wanted: &str) {
+    let Some(mut medium) = torn_of(alloc, "C 0 1 0 -20\nG 1 0") else {
+        return;
+    };
+    medium.arm(mishap);
+    assert_eq!(rt; restarted(alloc, &mut medium, 12, 1), Some(stands));
+    assert!(rt; holds(alloc, &mut medium, wanted));
+}
+
+#[test]
+fn a_restart_under_a_mishap(rt: HostRuntime) {
+    let alloc = rt.alloc();
+    restart_under(&rt, alloc, Mishap::Never, true, "C 0 1 0 -20\nR 1\n");
+    restart_under(&rt, alloc, Mishap::Append(0), false, "C 0 1 0 -20\n");
+    restart_under(&rt, alloc, Mishap::Append(3), false, "C 0 1 0 -20\nR 1");
+    restart_under(&rt, alloc, Mishap::Append(4), false, "C 0 1 0 -20\nR 1\n");
+    restart_under(&rt, alloc, Mishap::Cut, false, "C 0 1 0 -20\nG 1 0");
+}
+
+#[test]
+fn nothing_is_cut_of_whole_records(rt: HostRuntime) {
+    let alloc = rt.alloc();
+    let Some(mut medium) = torn_of(alloc, "R 1\n") else {
+        return;
+    };
+    medium.arm(Mishap::Cut);
+    assert_eq!(rt; restarted(alloc, &mut medium, 4, 2), Some(true));
+    assert!(rt; holds(alloc, &mut medium, "R 1\nR 2\n"));
+    assert_eq!(rt; medium.failures(), 0);
 }

@@ -1,4 +1,5 @@
-use Rattle.kept_records.proofs.Lines.{torn_append, cut_log, same_log}
+use Rattle.kept_records.proofs.Lines.{cut_log, same_log}
+use Rattle.kept_records.proofs.Appending.{torn_append}
 use Rattle.kept_records.proofs.laws.torn_end_keeps_records.Goals as goal
 
 pub returns-clause-append : goal.returns-clause-append

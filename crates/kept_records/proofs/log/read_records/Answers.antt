@@ -1,60 +1,12 @@
-use Rattle.std.proofs.Common.{◌≡◌, ◌+◌, ◌-◌, ℕ, List, [], ◌∷◌, ◌++◌, length, take, drop, None, arith, sym, ap, ◌∙◌, subst}
-use Rattle.std.proofs.lemmas.List.{take_rest, length-take}
-use Rattle.std.specs.List.{flat_map, AllByRecursion}
-use Rattle.kept_records.specs.declared.record.Record.{Record}
-use Rattle.line_words.specs.Words.{words}
-use Rattle.kept_records.specs.Text.{text, IsRecord}
-use Rattle.kept_records.specs.Reading.{record_of}
-use Rattle.kept_records.specs.Logs.{Reads, IsBadLine}
-use Rattle.kept_records.proofs.Bytes.{found, missing}
-use Rattle.kept_records.proofs.Lines.{line_takes, no_record, line_moves, all_push, are_read, line_size, only_log, no_log}
+use Rattle.std.proofs.Common.{◌≡◌, ℕ, Option, subst, Some}
+use Rattle.kept_records.specs.Logs.{IsFront}
+use Rattle.kept_records.proofs.Lines.{no_log}
 use Rattle.kept_records.proofs.log.read_records.Goals as goal
 
-bad : (c : goal.After-drop-records) → IsBadLine c.args.bytes.now (c.len.result + 1)
-bad c =
-    let rest = c.loop-end.rest.now in
-    let end = c.in-Some.end in
-    let cut = found 10 rest end (cc) in
-    let none : record_of (words (take end rest)) ≡ None = rw c.in-Err-NoRecord.field-0-is at c.in-Err-NoRecord.ensures in
-    record {
-      before = c.loop-end.records.items;
-      line = take end rest;
-      behind = drop (end + 1) rest;
-      place = omega (arith, c.len.ensures, c.loop-end.records.ok.0);
-      parts = c.loop-end.invariant.parts ∙ ap (λ (l : List ℕ). flat_map text c.loop-end.records.items ++ l) cut.parts;
-      each = c.loop-end.invariant.each;
-      one_line = cut.front;
-      none = no_record (take end rest) cut.front none;
-    }
-
-pub returns-in-Err-NoRecord-clause-line : goal.returns-in-Err-NoRecord-clause-line
-returns-in-Err-NoRecord-clause-line c = bad c
-
-pub returns-in-Err-NoRecord-clause-no_log : goal.returns-in-Err-NoRecord-clause-no_log
-returns-in-Err-NoRecord-clause-no_log c = no_log c.args.bytes.now (c.len.result + 1) (bad c)
-
-pub loop-end-preserved : goal.loop-end-preserved
-loop-end-preserved c =
-    let rest = c.loop-end.rest.now in
-    let end = c.in-Some.end in
-    let rs = c.loop-end.records.items in
-    let r = c.in-Ok.kept in
-    let cut = found 10 rest end (cc) in
-    let read = line_takes (take end rest) r c.in-Ok.ensures in
-    let more : c.push.new.self.items ≡ rs ++ r ∷ [] = c.in_ok-push.ensures.items in
-    record {
-      parts = line_moves c.args.bytes.now rs rest (take end rest) (drop (end + 1) rest) r c.loop-end.invariant.parts cut.parts read.0
-          ∙ ap (λ (l : List ℕ). flat_map text (rs ++ r ∷ []) ++ l) (sym (take_rest rest (end + 1)))
-          ∙ ap (λ (l : List Record). flat_map text l ++ take (length rest - (end + 1)) (drop (end + 1) rest)) (sym more);
-      size = line_size rs r (take end rest) c.loop-end.length end c.loop-end.invariant.size read.0 (omega (arith, length-take end rest, cut.within)) ∙ ap (λ (l : List Record). length (flat_map text l)) (sym more);
-      each = subst (AllByRecursion IsRecord) (sym more) (all_push rs r c.loop-end.invariant.each read.1);
-    }
-
-reads : (c : goal.In_default) → Reads c.args.bytes.now c.loop-end.records.items c.loop-end.length
-reads c = are_read c.args.bytes.now c.loop-end.records.items c.loop-end.rest.now c.loop-end.length c.loop-end.invariant.parts c.loop-end.invariant.size c.loop-end.invariant.each (missing 10 c.loop-end.rest.now (sym c.in_default.ensures))
-
-pub returns-clause-reads : goal.returns-clause-reads
-returns-clause-reads c = reads c
-
-pub returns-clause-only : goal.returns-clause-only
-returns-clause-only c = only_log c.args.bytes.now c.loop-end.records.items c.loop-end.length (reads c)
+pub returns-in-Some-clause-no_log : goal.returns-in-Some-clause-no_log
+returns-in-Some-clause-no_log c =
+    let front = c.in_ok-front.front in
+    let is : front.bad_line ≡ Some c.in-Some.line = cc in
+    let bad : IsFront c.args.bytes.now front.records.items front.length (Some c.in-Some.line) =
+    subst (λ (found : Option ℕ). IsFront c.args.bytes.now front.records.items front.length found) is c.in_ok-front.ensures.front in
+    no_log c.args.bytes.now c.in-Some.line bad.0

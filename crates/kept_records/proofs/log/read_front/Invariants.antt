@@ -1,7 +1,7 @@
 use Rattle.std.proofs.Common.{◌≡◌, ◌++◌, length}
 use Rattle.std.specs.List.{flat_map, AllByRecursion}
 use Rattle.kept_records.specs.Text.{text, IsRecord}
-use Rattle.kept_records.proofs.log.read_records.Given as goal
+use Rattle.kept_records.proofs.log.read_front.Given as goal
 
 abbrev pub invariant-loop-end : goal.invariant-loop-end
 invariant-loop-end l = record {

@@ -1,0 +1,170 @@
+//! What a site does with its medium.
+
+ghost use Rattle.std.specs.Prelude.{◌≡◌, ◌+◌, ◌<◌, ◌≤◌, List, ℕ, OnErr, IfOk, length};
+ghost use Rattle.std.specs.List.{flat_map};
+ghost use Rattle.field_bounds.specs.Owed.{max_number};
+ghost use Rattle.kept_records.specs.declared.record.Record.{Record};
+ghost use Rattle.kept_records.specs.declared.record.Record.TheVariants.{Restart};
+ghost use Rattle.kept_records.specs.Text.{text, IsRecord};
+ghost use Rattle.kept_records.specs.Logs.{IsLog, Reads, AreAll};
+ghost use Rattle.kept_records.specs.Medium.{CountsRead, AppendFate, ReadFate};
+ghost use Rattle.kept_records.specs.Keeping.{IsKept, Appends, CutsAndAppends, CutAndAppendFate, stands_behind};
+ghost use Rattle.kept_records.specs.Stands.{greatest, later};
+
+use crate::log::{RecordFault, read_records};
+use crate::medium::{Device, Medium, MediumFault};
+use crate::record::Record;
+use crate::writing::write_record;
+use std::alloc::{AllocError, Global};
+
+/// What a medium was read as.
+#[derive(Drop)]
+pub struct ReadLog {
+    /// The records, the oldest first.
+    pub records: Vec<Record>,
+    /// The length of the records' texts, in bytes.
+    pub whole: usize,
+    /// How many bytes there are.
+    pub present: usize,
+}
+
+/// Reads the log that a medium holds: bytes that are the texts of some records, and behind them
+/// perhaps a torn record. These are all its records, and the torn record takes up the bytes from
+/// `whole` up to `present`. The bytes stay as they are. The errors are a fault of the device and want
+/// of memory. Costs a pass over the bytes, and memory for the bytes and the records.
+///
+/// Source: this project.
+pub fn read_log<M: Medium>(alloc: Global, medium: &mut M) -> Result<ReadLog, MediumFault>
+    requires log { IsKept (M.bytes medium.old) }
+    ensures reads { IfOk result (λ read. Reads (M.bytes medium.old) read.records.items read.whole) }
+    ensures only { IfOk result (λ read. AreAll (M.bytes medium.old) read.records.items read.whole) }
+    ensures whole { IfOk result (λ read. read.whole ≡ length (flat_map text read.records.items)) }
+    ensures present { IfOk result (λ read. read.present ≡ length (M.bytes medium.old)) }
+    ensures within { IfOk result (λ read. read.whole ≤ read.present) }
+    ensures torn { IfOk result (λ read. (rs : List Record) (rest : List ℕ) → IsLog (M.bytes medium.old) rs rest → read.present ≡ read.whole + length rest) }
+    ensures bytes { M.bytes medium.new ≡ M.bytes medium.old }
+    ensures failed { CountsRead result (M.failed medium.old) (M.failed medium.new) }
+    ensures foretold { ReadFate (M.foretold medium.old) result (M.foretold medium.new) }
+{
+    let bytes = medium.read_all(alloc)?;
+    match read_records(alloc, &bytes) {
+        Ok((records, whole)) => Ok(ReadLog {
+            records,
+            whole,
+            present: bytes.len(),
+        }),
+        Err(RecordFault::NoMemory) => Err(MediumFault::NoMemory),
+        Err(RecordFault::Line(_)) => unreachable!(),
+    }
+}
+
+/// Adds a record behind the bytes of a medium. The inner result tells how it went: Ok where the
+/// record's whole text stands there; its error is a fault of the device, which leaves some front of
+/// the text: none of it, a part, or all. The outer error is want of memory, which changes nothing.
+/// The record's numbers have to lie in the ranges that `Record` tells. Costs memory for the text.
+///
+/// Source: this project.
+pub fn append_record<M: Medium>(
+    alloc: Global,
+    medium: &mut M,
+    kept: &Record,
+) -> Result<Result<(), Device>, AllocError>
+    requires ranges { IsRecord kept.now }
+    ensures added { IfOk result (λ added. Appends added (M.bytes medium.old) (text kept.now) (M.bytes medium.new) (M.failed medium.old) (M.failed medium.new)) }
+    ensures fate { IfOk result (λ added. AppendFate (M.foretold medium.old) (M.bytes medium.old) (text kept.now) added (M.bytes medium.new) (M.foretold medium.new)) }
+    ensures bytes { OnErr result (M.bytes medium.new ≡ M.bytes medium.old) }
+    ensures failed { OnErr result (M.failed medium.new ≡ M.failed medium.old) }
+    ensures foretold { OnErr result (M.foretold medium.new ≡ M.foretold medium.old) }
+{
+    let line = write_record(alloc, kept)?;
+    medium.reserve(line.len())?;
+    Ok(medium.append(&line))
+}
+
+// Cuts what stands behind the first bytes, where there is something, and adds a line.
+fn cut_and_append<M: Medium>(
+    medium: &mut M,
+    whole: usize,
+    present: usize,
+    line: &[u8],
+) -> Result<(), Device>
+    requires room { length line.now ≤ M.room medium.old }
+    requires present { present ≡ length (M.bytes medium.old) }
+    requires within { whole ≤ present }
+    ensures added { CutsAndAppends result whole (M.bytes medium.old) line.now (M.bytes medium.new) (M.failed medium.old) (M.failed medium.new) }
+    ensures fate { CutAndAppendFate (M.foretold medium.old) whole (M.bytes medium.old) line.now result (M.bytes medium.new) (M.foretold medium.new) }
+{
+    if whole < present {
+        medium.cut(whole)?;
+    }
+    medium.append(line)
+}
+
+/// Cuts the torn end of a medium, where it has one, and adds the record of a restart. `whole` is the
+/// length of the whole records, and `present` that of all bytes, as `read_log` answers them. The
+/// inner result tells how it went: Ok where the record stands behind the whole ones; its error is a
+/// fault of the device, which leaves the bytes as they were, or the whole records and some front of
+/// the record's text. The outer error is want of memory, which changes nothing. The epoch is 1 to
+/// 1,000,000,000. Costs memory for the text.
+///
+/// Source: this project.
+pub fn append_restart<M: Medium>(
+    alloc: Global,
+    medium: &mut M,
+    whole: usize,
+    present: usize,
+    epoch: u32,
+) -> Result<Result<(), Device>, AllocError>
+    requires present { present ≡ length (M.bytes medium.old) }
+    requires within { whole ≤ present }
+    requires some { 0 < epoch }
+    requires most { epoch ≤ max_number }
+    ensures added { IfOk result (λ added. CutsAndAppends added whole (M.bytes medium.old) (text (Restart epoch)) (M.bytes medium.new) (M.failed medium.old) (M.failed medium.new)) }
+    ensures fate { IfOk result (λ added. CutAndAppendFate (M.foretold medium.old) whole (M.bytes medium.old) (text (Restart epoch)) added (M.bytes medium.new) (M.foretold medium.new)) }
+    ensures bytes { OnErr result (M.bytes medium.new ≡ M.bytes medium.old) }
+    ensures failed { OnErr result (M.failed medium.new ≡ M.failed medium.old) }
+    ensures foretold { OnErr result (M.foretold medium.new ≡ M.foretold medium.old) }
+{
+    let line = write_record(alloc, &Record::Restart { epoch })?;
+    medium.reserve(line.len())?;
+    Ok(cut_and_append(medium, whole, present, &line))
+}
+
+// The greatest epoch, with one more record.
+fn later_epoch(epoch: u32, next: &Record) -> u32
+    ensures { result ≡ later epoch next.now }
+{
+    match next {
+        Record::Restart { epoch: later } => epoch.max(*later),
+        _ => epoch,
+    }
+}
+
+/// The greatest epoch of a restart among the records, and 0 where there is none. Costs a pass over
+/// the records.
+///
+/// Source: this project.
+#[tactic(auto, using(std::proofs::lemmas::List::Sums::fold_more), unfolding(crate::specs::Stands::greatest))]
+pub fn greatest_epoch(records: &[Record]) -> u32
+    ensures { result ≡ greatest records.now }
+{
+    let mut epoch = 0;
+    for kept in records {
+        epoch = later_epoch(epoch, kept);
+    }
+    epoch
+}
+
+/// Whether a record stands behind so many, and it is no restart: whether the record is there that
+/// was added behind them, since a restart adds only its own.
+///
+/// Source: this project.
+pub fn stands_behind(records: &[Record], place: usize) -> bool
+    ensures { result ≡ stands_behind place records.now }
+{
+    match records.get(place) {
+        None => false,
+        Some(Record::Restart { epoch: _ }) => false,
+        Some(_) => true,
+    }
+}
