@@ -1,0 +1,176 @@
+-- Records that agree with what took effect: the same totals, and the same sizes committed.
+use Rattle.std.proofs.Common.{◌≡◌, ℕ, ◌+◌, ◌≤◌, max, Bool, true, false, ◌&&◌, cond, List, [], ◌∷◌, ◌++◌, length, reverse, refl, sym, ◌∙◌, ap, arith, eqb}
+use Rattle.std.proofs.lemmas.Bool.{and_parts, eqb-true}
+use Rattle.std.proofs.lemmas.Grind.{reverse_onto}
+use Rattle.std.proofs.lemmas.List.Sums.{sum_by_push, sum_by-cons}
+use Rattle.std.specs.Prelude.{ℤ, sum_by}
+use Rattle.field_bounds.specs.declared.kind.Kind.{Kind}
+use Rattle.field_bounds.specs.declared.id.TxnId.{TxnId}
+use Rattle.field_bounds.specs.declared.id.SiteNo.{SiteNo}
+use Rattle.field_bounds.specs.declared.id.FieldNo.{FieldNo}
+use Rattle.field_bounds.specs.declared.entry.Escrow.{Escrow}
+use Rattle.kept_records.specs.declared.record.Record.{Record}
+use Rattle.kept_records.specs.declared.record.Record.TheVariants.{Commit, Gift, Accept, Restart}
+use Rattle.field_bounds.specs.Schema.{SchemaValue}
+use Rattle.field_bounds.specs.Kind.{same_kind, other}
+use Rattle.field_bounds.specs.Effects.{Base, Effect, Begins, Grants, Commits, Aborts, Gives, Accepts, Stops, escrows_of, takes, gifts, given, accepted, own_rights}
+use Rattle.field_bounds.specs.Owed.{count_escrows}
+use Rattle.kept_records.specs.Stands.{given_in, accepted_in, committed_in, own_in, gained_in, spent_in}
+use Rattle.kept_state.specs.Keeps.{IsBase}
+use Rattle.field_bounds.proofs.Lawful.{IsLawful, same_kind-true}
+use Rattle.field_bounds.proofs.Sums.{sum_below-same, sum_below-add}
+use Rattle.field_bounds.proofs.Shares.{balance, gifts_split, gains_split}
+use Rattle.field_bounds.proofs.Steps.{of_txn, of_txn_is}
+use Rattle.field_bounds.proofs.Stops.{kept_sizes, kept_is_committed}
+use Rattle.kept_state.proofs.Pushes.{given_push, accepted_push, committed_push}
+
+-- ---- the escrows of one transaction
+
+sum_reversed : {A : Type 0} (size : A → ℕ) (xs : List A) → sum_by size (reverse xs) ≡ sum_by size xs
+sum_reversed size [] = refl
+sum_reversed size (x ∷ xs) =
+    omega (arith, ap (sum_by size) (reverse_onto xs x []), sum_by_push size (reverse xs) x, sum_reversed size xs, sum_by-cons size x xs)
+
+-- the sum over one transaction is the sum over its escrows, as its record lists them
+pub of_txn_kept : (txn : TxnId) (f : ℕ) (k : Kind) (es : List Effect) → of_txn txn f k es ≡ sum_by (takes f k) (reverse (escrows_of txn es))
+of_txn_kept txn f k es = omega (arith, of_txn_is txn f k es, sum_reversed (takes f k) (escrows_of txn es))
+
+sum_of_none : (f : ℕ) (k : Kind) (xs : List Escrow) → length xs ≡ 0 → sum_by (takes f k) xs ≡ 0
+sum_of_none f k [] h = refl
+sum_of_none f k (x ∷ xs) h = absurd (omega (arith, h))
+
+-- a transaction without escrows takes nothing
+of_txn-none : (txn : TxnId) (f : ℕ) (k : Kind) (es : List Effect) → count_escrows txn es ≡ 0 → of_txn txn f k es ≡ 0
+of_txn-none txn f k es h = of_txn_is txn f k es ∙ sum_of_none f k (escrows_of txn es) h
+
+-- ---- records that agree with effects
+
+-- the totals and the committed sizes of the effects are those of the records
+pub record Agree (base : Base) (bs : List Record) (es : List Effect) (rs : List Record) : Type 0 where
+  pub gives : (to f : ℕ) (k : Kind) → given base to f k es ≡ given_in rs to f k
+  pub accepts : (from f : ℕ) (k : Kind) → accepted base from f k es ≡ accepted_in rs from f k
+  pub commits : (f : ℕ) (k : Kind) → committed_in f k bs + kept_sizes f k es ≡ committed_in f k rs
+
+pub agree_start : (schema : SchemaValue) (s : ℕ) (base : Base) (bs : List Record) → IsBase schema s base bs → Agree base bs [] bs
+agree_start schema s base bs is =
+    record {
+      gives = λ to f k. omega (arith, is.given to f k);
+      accepts = λ from f k. is.accepted from f k;
+      commits = λ f k. omega arith;
+    }
+
+-- the key that a total stands under
+abbrev key : ℕ → Kind → ℕ → ℕ → Kind → ℕ → Bool
+key field kind site f k to = eqb field f && same_kind kind k && eqb site to
+
+at_key : (of : ℕ → ℕ → Kind → ℕ) (field : ℕ) (kind : Kind) (site f : ℕ) (k : Kind) (to : ℕ) → key field kind site f k to ≡ true → of site field kind ≡ of to f k
+at_key of field kind site f k to h =
+    let outer = and_parts (eqb field f && same_kind kind k) (eqb site to) h in
+    let inner = and_parts (eqb field f) (same_kind kind k) outer.0 in
+    cc (eqb-true field f inner.0, same_kind-true kind k inner.1, eqb-true site to outer.1)
+
+give_step : (on : Bool) (amount before total inside start : ℕ) → (on ≡ true → total ≡ before + amount) → start + inside ≡ before
+    → start + (cond on amount 0 + inside) ≡ cond on (max total before) before
+give_step true amount before total inside start h is = omega (arith, h refl, is)
+give_step false amount before total inside start h is = omega (arith, is)
+
+accept_step : (on : Bool) (total before : ℕ) → (on ≡ true → total ≤ before) → cond on (max total before) before ≡ before
+accept_step true total before h = omega (arith, h refl)
+accept_step false total before h = refl
+
+module _ (base : Base) (bs : List Record) (es : List Effect) (rs : List Record) (agree : Agree base bs es rs) where
+  pub agree_commit : (txn : TxnId) → Agree base bs (Commits txn ∷ es) (rs ++ Commit txn (reverse (escrows_of txn es)) ∷ [])
+  agree_commit txn =
+      let r : Record = Commit txn (reverse (escrows_of txn es)) in
+      record {
+        gives = λ to f k. agree.gives to f k ∙ sym (given_push to f k rs r);
+        accepts = λ from f k. agree.accepts from f k ∙ sym (accepted_push from f k rs r);
+        commits = λ f k. omega (arith, agree.commits f k, committed_push f k rs r, of_txn_kept txn f k es);
+      }
+
+  pub agree_empty : (txn : TxnId) → count_escrows txn es ≡ 0 → Agree base bs (Commits txn ∷ es) rs
+  agree_empty txn none =
+      record {
+        gives = λ to f k. agree.gives to f k;
+        accepts = λ from f k. agree.accepts from f k;
+        commits = λ f k. omega (arith, agree.commits f k, of_txn-none txn f k es none);
+      }
+
+  pub agree_give : (to : SiteNo) (field : FieldNo) (kind : Kind) (amount total : ℕ) → total ≡ given base to.0 field.0 kind es + amount
+      → Agree base bs (Gives to.0 field.0 kind amount ∷ es) (rs ++ Gift to field kind total ∷ [])
+  agree_give to field kind amount total is =
+      let r : Record = Gift to field kind total in
+      record {
+        gives = λ site f k. give_step (key field.0 kind to.0 f k site) amount (given_in rs site f k) total (gifts (λ x. eqb x site) f k es) (base.given site f k)
+            (λ on. omega (arith, is, at_key (λ x y z. given base x y z es) field.0 kind to.0 f k site on, agree.gives site f k)) (agree.gives site f k)
+            ∙ sym (given_push site f k rs r);
+        accepts = λ from f k. agree.accepts from f k ∙ sym (accepted_push from f k rs r);
+        commits = λ f k. omega (arith, agree.commits f k, committed_push f k rs r);
+      }
+
+  pub agree_accept : (from : SiteNo) (field : FieldNo) (kind : Kind) (total : ℕ)
+      → Agree base bs (Accepts from.0 field.0 kind total ∷ es) (rs ++ Accept from field kind total ∷ [])
+  agree_accept from field kind total =
+      let r : Record = Accept from field kind total in
+      record {
+        gives = λ to f k. agree.gives to f k ∙ sym (given_push to f k rs r);
+        accepts = λ site f k. ap (λ (n : ℕ). cond (key field.0 kind from.0 f k site) (max total n) n) (agree.accepts site f k) ∙ sym (accepted_push site f k rs r);
+        commits = λ f k. omega (arith, agree.commits f k, committed_push f k rs r);
+      }
+
+  pub agree_repeat : (from : SiteNo) (field : FieldNo) (kind : Kind) (total : ℕ) → total ≤ accepted base from.0 field.0 kind es
+      → Agree base bs (Accepts from.0 field.0 kind total ∷ es) rs
+  agree_repeat from field kind total old =
+      record {
+        gives = λ to f k. agree.gives to f k;
+        accepts = λ site f k. accept_step (key field.0 kind from.0 f k site) total (accepted base site f k es)
+            (λ on. omega (arith, old, at_key (λ x y z. accepted base x y z es) field.0 kind from.0 f k site on)) ∙ agree.accepts site f k;
+        commits = λ f k. agree.commits f k;
+      }
+
+  pub agree_restart : (epoch : ℕ) → Agree base bs es (rs ++ Restart epoch ∷ [])
+  agree_restart epoch =
+      let r : Record = Restart epoch in
+      record {
+        gives = λ to f k. agree.gives to f k ∙ sym (given_push to f k rs r);
+        accepts = λ from f k. agree.accepts from f k ∙ sym (accepted_push from f k rs r);
+        commits = λ f k. omega (arith, agree.commits f k, committed_push f k rs r);
+      }
+
+  -- nothing but gifts, gains and commits counts
+  pub agree_begin : (txn : TxnId) → Agree base bs (Begins txn ∷ es) rs
+  agree_begin txn = record { gives = agree.gives; accepts = agree.accepts; commits = agree.commits }
+
+  pub agree_grant : (txn : TxnId) (field : ℕ) (change : ℤ) → Agree base bs (Grants txn field change ∷ es) rs
+  agree_grant txn field change = record { gives = agree.gives; accepts = agree.accepts; commits = agree.commits }
+
+  pub agree_abort : (txn : TxnId) → Agree base bs (Aborts txn ∷ es) rs
+  agree_abort txn = record { gives = agree.gives; accepts = agree.accepts; commits = agree.commits }
+
+  pub agree_stop : Agree base bs (Stops ∷ es) rs
+  agree_stop = record { gives = agree.gives; accepts = agree.accepts; commits = agree.commits }
+
+  -- the own rights are what the records stand for
+  pub rights_agree : (schema : SchemaValue) (s : ℕ) → IsBase schema s base bs → IsLawful schema base es → (f : ℕ) (k : Kind)
+      → own_rights base f k es + spent_in schema rs f k ≡ gained_in schema s rs f k
+  rights_agree schema s is lawful f k =
+      omega (
+        arith,
+        balance schema base es lawful f k,
+        kept_is_committed schema base es lawful f k,
+        kept_is_committed schema base es lawful f (other k),
+        gifts_split schema base es lawful f k,
+        gains_split schema base es lawful f k,
+        agree.commits f k,
+        agree.commits f (other k),
+        is.rights f k,
+        sum_below-same schema.sites (λ to. given base to f k es) (λ to. given_in rs to f k) (λ to below. agree.gives to f k),
+        sum_below-same schema.sites (λ to. base.given to f k) (λ to. given_in bs to f k) (λ to below. is.given to f k),
+        sum_below-add schema.sites (λ to. base.given to f k) (λ to. gifts (λ site. eqb site to) f k es),
+        sum_below-same schema.sites (λ from. accepted base from f k es) (λ from. accepted_in rs from f k) (λ from below. agree.accepts from f k),
+        sum_below-same schema.sites (λ from. base.accepted from f k) (λ from. accepted_in bs from f k) (λ from below. is.accepted from f k),
+      )
+
+  pub own_is_kept : (schema : SchemaValue) (s : ℕ) → IsBase schema s base bs → IsLawful schema base es → (f : ℕ) (k : Kind) → own_rights base f k es ≡ own_in schema s rs f k
+  unfolding own_in
+  own_is_kept schema s is lawful f k = omega (arith, rights_agree schema s is lawful f k)

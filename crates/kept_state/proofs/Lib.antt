@@ -1,0 +1,15 @@
+pub mod Pushes
+pub mod Agreeing
+pub mod Adding
+pub mod Keeping
+pub mod Epochs
+pub mod Staying
+pub mod Lasting
+pub mod Covering
+pub mod Sure
+pub mod Doubt
+pub mod Lucky
+pub mod Ranges
+pub mod Growing
+pub mod LogRows
+pub mod LuckRows

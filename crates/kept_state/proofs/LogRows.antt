@@ -1,0 +1,53 @@
+-- Worked rows: what the records of short histories are, and stand for.
+use Rattle.std.proofs.Common.{◌≡◌, true, false, [], ◌∷◌, refl}
+use Rattle.std.proofs.lemmas.Bool.{false≢true}
+use Rattle.field_bounds.specs.declared.kind.Kind.TheVariants.{Lower, Raise}
+use Rattle.field_bounds.specs.Worked.{halved}
+use Rattle.kept_records.specs.declared.record.Record.TheVariants as records
+use Rattle.kept_records.specs.Stands.{own_in, committed_in, given_in, accepted_in, greatest}
+use Rattle.kept_state.specs.Worked.{Leaves, IsLawfulAtZero, commit, commit_of_two, gift, found_kept, found_lost, gifts_kept, committed}
+
+pub commit_kept : Leaves found_kept (commit ∷ records.Restart 1 ∷ records.Restart 2 ∷ [])
+unfolding greatest
+commit_kept = (commit ∷ records.Restart 1 ∷ [], true, (commit ∷ [], true, ([], true, ([], true, ([], true, refl, tt, refl), tt, refl), refl, refl), tt, refl), refl, refl)
+
+pub commit_lost : Leaves found_lost (records.Restart 1 ∷ [])
+unfolding greatest
+commit_lost = ([], true, ([], false, ([], false, ([], true, ([], true, refl, tt, refl), tt, refl), refl, refl), tt, refl), refl, refl)
+
+pub gift_kept : Leaves gifts_kept (gift 3 ∷ gift 5 ∷ records.Restart 1 ∷ [])
+unfolding greatest
+gift_kept = (gift 3 ∷ gift 5 ∷ [], true, (gift 3 ∷ [], true, ([], true, refl, tt, refl), refl, refl), refl, refl)
+
+pub in_order : Leaves committed (commit_of_two ∷ [])
+in_order = ([], true, ([], true, ([], true, ([], true, refl, tt, refl), tt, refl), tt, refl), tt, refl)
+
+pub kept_rights : let rs = commit ∷ records.Restart 1 ∷ records.Restart 2 ∷ [] in (own_in halved 0 rs 0 Lower ≡ 0) × (own_in halved 0 rs 0 Raise ≡ 50)
+unfolding own_in committed_in given_in accepted_in
+kept_rights = (refl, refl)
+
+pub kept_lawful : IsLawfulAtZero (commit ∷ records.Restart 1 ∷ records.Restart 2 ∷ [])
+unfolding own_in committed_in given_in accepted_in greatest
+kept_lawful = (refl, (refl, (refl, tt)))
+
+-- ---- what no site has kept
+
+pub not_twice : IsLawfulAtZero (commit ∷ commit ∷ []) → ⊥
+unfolding own_in committed_in given_in accepted_in greatest
+not_twice h = false≢true h.1.0
+
+pub not_too_much : IsLawfulAtZero (gift 21 ∷ []) → ⊥
+unfolding own_in committed_in given_in accepted_in
+not_too_much h = false≢true h.0
+
+pub not_the_same : IsLawfulAtZero (gift 5 ∷ gift 5 ∷ []) → ⊥
+unfolding own_in committed_in given_in accepted_in
+not_the_same h = false≢true h.1.0
+
+pub not_again : IsLawfulAtZero (records.Restart 1 ∷ records.Restart 1 ∷ []) → ⊥
+unfolding greatest
+not_again h = false≢true h.1.0
+
+pub not_old : IsLawfulAtZero (records.Restart 1 ∷ commit ∷ []) → ⊥
+unfolding own_in committed_in given_in accepted_in greatest
+not_old h = false≢true h.1.0

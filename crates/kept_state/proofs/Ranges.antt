@@ -1,0 +1,207 @@
+-- The numbers of a record that a command writes lie in the ranges of its text.
+use Rattle.std.proofs.Common.{◌≡◌, ℕ, ◌<◌, ◌≤◌, Bool, true, false, cond, List, [], ◌∷◌, ◌++◌, reverse, length, refl, sym, subst, inl, inr, arith, None}
+use Rattle.std.proofs.lemmas.Bool.{or_cases, ltb-false, ltb-true, leb-false, eqb-false}
+use Rattle.std.proofs.lemmas.Grind.{reverse_onto}
+use Rattle.std.proofs.lemmas.List.{length-reverse}
+use Rattle.std.specs.Prelude.{ℤ, unsigned_abs, fold}
+use Rattle.std.specs.List.{AllByRecursion}
+use Rattle.field_bounds.specs.declared.id.TxnId.{TxnId}
+use Rattle.field_bounds.specs.declared.entry.Command.{Command}
+use Rattle.field_bounds.specs.declared.entry.Command.TheVariants.{Begin, Escrow, Commit, Abort, Give, Restate, Accept, Read, Share, Restart}
+use Rattle.field_bounds.specs.declared.entry.Reply.{Reply}
+use Rattle.field_bounds.specs.declared.entry.Reply.TheVariants.{Restarted, Unsure, StillDown, Refused}
+use Rattle.field_bounds.specs.declared.entry.Escrow.{Escrow as EscrowOf}
+use Rattle.field_bounds.specs.declared.entry.Entry.{Entry}
+use Rattle.field_bounds.specs.Schema.{SchemaValue}
+use Rattle.field_bounds.specs.Limits.{IsSchema}
+use Rattle.field_bounds.specs.Effects.{Base, Effect, Begins, Grants, Commits, Gives, Accepts, after, effects, same_txn, is_begun, is_open, escrows_of}
+use Rattle.field_bounds.specs.Owed.{Place, place, first, refusals, answer, writes, epoch_of, epoch_after, count_escrows, max_number, max_escrows, max_change, Fits, IsRun}
+use Rattle.kept_records.specs.Text.{IsChange, IsEscrow, IsRecord}
+use Rattle.kept_records.specs.declared.record.Record.{Record}
+use Rattle.kept_records.specs.declared.record.Record.TheVariants as records
+use Rattle.kept_records.specs.Stands.{later, greatest}
+use Rattle.kept_state.specs.Keeps.{record_at, opened}
+use Rattle.field_bounds.proofs.Lawful.{same_txn-true}
+use Rattle.field_bounds.proofs.Refused.{none_holds, match_cases, begun_and_open}
+use Rattle.field_bounds.proofs.Doubt.{run_holds, epoch_answer}
+use Rattle.field_bounds.proofs.Runs.{open_is_current}
+
+-- ---- what holds of each, in either order
+
+each_pushed : (P : EscrowOf → Type 0) (xs : List EscrowOf) (x : EscrowOf) → AllByRecursion P xs → P x → AllByRecursion P (xs ++ x ∷ [])
+each_pushed P [] x h p = (p, tt)
+each_pushed P (y ∷ ys) x h p = (h.0, each_pushed P ys x h.1 p)
+
+each_reversed : (P : EscrowOf → Type 0) (xs : List EscrowOf) → AllByRecursion P xs → AllByRecursion P (reverse xs)
+each_reversed P [] h = tt
+each_reversed P (x ∷ xs) h = subst (λ (ys : List EscrowOf). AllByRecursion P ys) (sym (reverse_onto xs x [])) (each_pushed P (reverse xs) x (each_reversed P xs h.1) h.0)
+
+each_weaker : (P Q : EscrowOf → Type 0) → ((x : EscrowOf) → P x → Q x) → (xs : List EscrowOf) → AllByRecursion P xs → AllByRecursion Q xs
+each_weaker P Q weaker [] h = tt
+each_weaker P Q weaker (x ∷ xs) h = (weaker x h.0, each_weaker P Q weaker xs h.1)
+
+-- ---- what a run was granted
+
+-- an escrow on one of so many fields, with a change within the limits
+abbrev IsGrantable : ℕ → EscrowOf → Type 0
+IsGrantable n e = (e.field.0 < n) × IsChange e.change
+
+-- every transaction begun has a number in the range, and no more escrows than it may, each within the limits
+pub record IsRanged (n : ℕ) (es : List Effect) : Type 0 where
+  pub numbers : (id : TxnId) → is_begun id es ≡ true → (0 < id.number) × (id.number ≤ max_number)
+  pub few : (id : TxnId) → count_escrows id es ≤ max_escrows
+  pub each : (id : TxnId) → AllByRecursion (IsGrantable n) (escrows_of id es)
+
+one_more : (b : Bool) (e : EscrowOf) (xs : List EscrowOf) → (b ≡ true → length xs < max_escrows) → length xs ≤ max_escrows → length (cond b (e ∷ xs) xs) ≤ max_escrows
+one_more true e xs room few = omega (arith, room refl)
+one_more false e xs room few = few
+
+each_more : (n : ℕ) (b : Bool) (e : EscrowOf) (xs : List EscrowOf) → IsGrantable n e → AllByRecursion (IsGrantable n) xs → AllByRecursion (IsGrantable n) (cond b (e ∷ xs) xs)
+each_more n true e xs p h = (p, h)
+each_more n false e xs p h = h
+
+ranged_grant : (n : ℕ) (es : List Effect) (txn : TxnId) (field : ℕ) (change : ℤ) → field < n → IsChange change → count_escrows txn es < max_escrows → IsRanged n es
+    → IsRanged n (Grants txn field change ∷ es)
+ranged_grant n es txn field change below within room l =
+    let e : EscrowOf = record { field = record { 0 = field }; change = change } in
+    record {
+      numbers = l.numbers;
+      few = λ id. one_more (same_txn id txn) e (escrows_of id es)
+          (λ same. subst (λ (x : TxnId). count_escrows x es < max_escrows) (sym (same_txn-true id txn same)) room) (l.few id);
+      each = λ id. each_more n (same_txn id txn) e (escrows_of id es) (below, within) (l.each id);
+    }
+
+ranged_begin : (n : ℕ) (es : List Effect) (txn : TxnId) → 0 < txn.number → txn.number ≤ max_number → IsRanged n es → IsRanged n (Begins txn ∷ es)
+ranged_begin n es txn some most l =
+    record {
+      numbers = λ id begun.
+          elim (or_cases (same_txn txn id) (is_begun id es) begun) [
+            | inl same ↦ subst (λ (x : TxnId). (0 < x.number) × (x.number ≤ max_number)) (same_txn-true txn id same) (some, most)
+            | inr before ↦ l.numbers id before
+          ];
+      few = l.few;
+      each = l.each;
+    }
+
+either : (n : ℕ) (kept : Bool) (more es : List Effect) → IsRanged n more → IsRanged n es → IsRanged n (cond kept more es)
+either n true more es m l = m
+either n false more es m l = l
+
+carried : (at : Place) (n : ℕ) → n ≡ length at.schema.fields → (c : Command) → first (refusals at c) ≡ None → (kept : Bool) → IsRanged n at.effects
+    → IsRanged n (after at.base kept c (answer at c) at.effects) × IsRanged n (after at.base kept c Unsure at.effects)
+carried at n is Begin h kept l =
+    let none = none_holds (refusals at Begin) h in
+    let room = leb-false _ _ none.1.1.0 in
+    (ranged_begin n at.effects _ (omega arith) (omega (arith, room)) l, l)
+carried at n is (Escrow txn field change) h kept l =
+    let none = none_holds (refusals at (Escrow txn field change)) h in
+    let some = eqb-false (unsigned_abs change) 0 none.1.1.1.0 in
+    let most = ltb-false max_change (unsigned_abs change) none.1.1.1.1.0 in
+    let room = leb-false max_escrows (count_escrows txn at.effects) none.1.1.1.1.1.1.0 in
+    (ranged_grant n at.effects txn field.0 change (omega (arith, is, leb-false _ _ none.1.0)) (omega (arith, some), omega (arith, most)) (omega (arith, room)) l, l)
+carried at n is (Commit txn) h kept l =
+    let made : IsRanged n (Commits txn ∷ at.effects) = record { numbers = l.numbers; few = l.few; each = l.each } in
+    (made, either n kept _ _ made l)
+carried at n is (Abort txn) h kept l = (record { numbers = l.numbers; few = l.few; each = l.each }, l)
+carried at n is (Give to field kind amount) h kept l =
+    let made : IsRanged n (Gives to.0 field.0 kind amount ∷ at.effects) = record { numbers = l.numbers; few = l.few; each = l.each } in
+    (made, either n kept _ _ made l)
+carried at n is (Restate to field kind) h kept l = (l, l)
+carried at n is (Accept told) h kept l =
+    let made : IsRanged n (Accepts told.from.0 told.field.0 told.kind told.total ∷ at.effects) = record { numbers = l.numbers; few = l.few; each = l.each } in
+    (made, either n kept _ _ made l)
+carried at n is (Read field) h kept l = (l, l)
+carried at n is (Share field) h kept l = (l, l)
+carried at n is Restart h kept l = (l, l)
+
+pub run_is_ranged : (schema : SchemaValue) (s : ℕ) (base : Base) (o : List Entry) → IsRun schema s base o → (kept : Bool) → IsRanged (length schema.fields) (effects base kept o)
+run_is_ranged schema s base o run kept =
+    run_holds schema s base (λ epoch count es. IsRanged (length schema.fields) es)
+    (record {
+      start = record { numbers = λ id h. cc; few = λ id. omega arith; each = λ id. tt };
+      stop = λ n count m es later l. record { numbers = l.numbers; few = l.few; each = l.each };
+      carried = λ o c h kept l. carried (place schema s base o) (length schema.fields) refl c h kept l;
+    }) o run kept
+
+-- ---- epochs
+
+epoch_step : (at : Place) (n : ℕ) (c : Command) (r : Reply) → Fits at c r → n ≤ max_number → epoch_after n r ≤ max_number
+epoch_step at n Restart (Restarted epoch found) fits h = fits.2
+epoch_step at n Restart StillDown fits h = h
+epoch_step at n Restart (Refused x) fits h = h
+epoch_step at n Restart r fits h = absurd fits
+epoch_step at n c r fits h =
+    elim (match_cases (first (refusals at c)) _ _ fits) [
+      | inl refused ↦ subst (λ (x : Reply). epoch_after n x ≤ max_number) (sym refused.2) h
+      | inr met ↦ elim met.1 [
+        | inl answered ↦ subst (λ (x : Reply). epoch_after n x ≤ max_number) (sym answered) (omega (arith, epoch_answer at c n, h))
+        | inr unsure ↦ subst (λ (x : Reply). epoch_after n x ≤ max_number) (sym unsure.0) h
+      ]
+    ]
+
+-- a run's epoch is in the range, if its base's is
+pub epoch_in_range : (schema : SchemaValue) (s : ℕ) (base : Base) (o : List Entry) → IsRun schema s base o → base.epoch ≤ max_number → epoch_of base o ≤ max_number
+epoch_in_range schema s base [] run h = h
+epoch_in_range schema s base (e ∷ o) run h = epoch_step (place schema s base o) (epoch_of base o) e.command e.reply run.1 (epoch_in_range schema s base o run.0 h)
+
+-- ---- epochs of records
+
+later_in_range : (n : ℕ) (r : Record) → IsRecord r → n ≤ max_number → later n r ≤ max_number
+later_in_range n (records.Restart epoch) is h = omega (arith, is, h)
+later_in_range n r is h = h
+
+fold_in_range : (n : ℕ) (rs : List Record) → AllByRecursion IsRecord rs → n ≤ max_number → fold later n rs ≤ max_number
+fold_in_range n [] is h = h
+fold_in_range n (r ∷ rs) is h = fold_in_range (later n r) rs is.1 (later_in_range n r is.0 h)
+
+-- the greatest epoch of records in the ranges of their texts
+pub greatest_in_range : (rs : List Record) → AllByRecursion IsRecord rs → greatest rs ≤ max_number
+unfolding greatest
+greatest_in_range rs is = fold_in_range 0 rs is (omega arith)
+
+-- so a site's base is in the range
+pub opened_in_range : (schema : SchemaValue) (s : ℕ) (empty : Bool) (bs : List Record) → AllByRecursion IsRecord bs → (opened schema s empty bs).epoch ≤ max_number
+opened_in_range schema s true bs is = omega arith
+opened_in_range schema s false bs is = greatest_in_range bs is
+
+-- ---- records
+
+-- the record of a command that writes one is in the ranges of its text
+pub record_in_range : (schema : SchemaValue) (s : ℕ) (base : Base) (o : List Entry) → IsSchema schema → IsRun schema s base o → base.epoch ≤ max_number → (c : Command)
+    → first (refusals (place schema s base o) c) ≡ None → writes (place schema s base o) c ≡ true → IsRecord (record_at (place schema s base o) c)
+record_in_range schema s base o limits run small (Commit txn) h w =
+    let at = place schema s base o in
+    let none = none_holds (refusals at (Commit txn)) h in
+    let both = begun_and_open (is_begun txn at.effects) (is_open txn at.effects) none.1.0 in
+    let ranged = run_is_ranged schema s base o run false in
+    let number = ranged.numbers txn both.0 in
+    let same = length-reverse (escrows_of txn at.effects) in (
+      omega (arith, open_is_current schema s base o run false txn both.0 both.1, epoch_in_range schema s base o run small),
+      number.0,
+      number.1,
+      omega (arith, same, ltb-true 0 (count_escrows txn at.effects) w),
+      omega (arith, same, ranged.few txn),
+      each_reversed IsEscrow (escrows_of txn at.effects)
+          (each_weaker (IsGrantable (length schema.fields)) IsEscrow (λ e p. (omega (arith, p.0, limits.few_fields), p.1)) (escrows_of txn at.effects) (ranged.each txn)),
+    )
+record_in_range schema s base o limits run small (Give to field kind amount) h w =
+    let at = place schema s base o in
+    let none = none_holds (refusals at (Give to field kind amount)) h in (
+      omega (arith, limits.few_sites, leb-false _ _ none.1.0),
+      omega (arith, limits.few_fields, leb-false _ _ none.1.1.0),
+      (omega (arith, eqb-false amount 0 none.1.1.1.0), omega (arith, ltb-false _ _ none.1.1.1.1.1.1.1.0)),
+    )
+record_in_range schema s base o limits run small (Accept told) h w =
+    let at = place schema s base o in
+    let none = none_holds (refusals at (Accept told)) h in (
+      omega (arith, limits.few_sites, leb-false _ _ none.1.0),
+      omega (arith, limits.few_fields, leb-false _ _ none.1.1.1.0),
+      (omega (arith, eqb-false told.total 0 none.1.1.1.1.0), omega (arith, ltb-false _ _ none.1.1.1.1.1.0)),
+    )
+record_in_range schema s base o limits run small Begin h w = cc
+record_in_range schema s base o limits run small (Escrow txn field change) h w = cc
+record_in_range schema s base o limits run small (Abort txn) h w = cc
+record_in_range schema s base o limits run small (Restate to field kind) h w = cc
+record_in_range schema s base o limits run small (Read field) h w = cc
+record_in_range schema s base o limits run small (Share field) h w = cc
+record_in_range schema s base o limits run small Restart h w = cc

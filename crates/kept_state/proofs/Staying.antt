@@ -1,0 +1,149 @@
+-- The record of a command that isn't refused may stand behind those before it.
+use Rattle.std.proofs.Common.{◌≡◌, ℕ, ◌+◌, ◌-◌, ◌≤◌, ◌<◌, Bool, true, false, cond, List, [], ◌∷◌, reverse, length, refl, ◌∙◌, ap, subst, inl, inr, arith, None}
+use Rattle.std.proofs.lemmas.Bool.{and_parts, cases_Bool, eq-eqb, ltb-false, ltb-true, leb-false, lt-ltb, le-leb, eqb-false}
+use Rattle.std.proofs.lemmas.Grind.{reverse_onto}
+use Rattle.std.proofs.lemmas.List.Folds.{list_all-append}
+use Rattle.std.specs.Prelude.{◌==◌, nat_le, sum_by}
+use Rattle.std.specs.List.{list_all}
+use Rattle.field_bounds.specs.declared.kind.Kind.{Kind}
+use Rattle.field_bounds.specs.declared.kind.Kind.TheVariants.{Lower, Raise}
+use Rattle.field_bounds.specs.declared.id.TxnId.{TxnId}
+use Rattle.field_bounds.specs.declared.id.SiteNo.{SiteNo}
+use Rattle.field_bounds.specs.declared.id.FieldNo.{FieldNo}
+use Rattle.field_bounds.specs.declared.entry.Command.{Command}
+use Rattle.field_bounds.specs.declared.entry.Command.TheVariants.{Begin, Escrow, Commit, Abort, Give, Restate, Accept, Read, Share, Restart}
+use Rattle.field_bounds.specs.declared.entry.Escrow.{Escrow as EscrowOf}
+use Rattle.field_bounds.specs.declared.entry.Entry.{Entry}
+use Rattle.kept_records.specs.declared.record.Record.{Record}
+use Rattle.kept_records.specs.declared.record.Record.TheVariants as records
+use Rattle.field_bounds.specs.Schema.{SchemaValue}
+use Rattle.field_bounds.specs.Effects.{Base, Effect, Begins, Grants, Commits, Aborts, Gives, Accepts, Stops, same_txn, is_begun, is_open, escrows_of, takes, share, own_rights, given, accepted}
+use Rattle.field_bounds.specs.Owed.{Place, place, first, refusals, writes, epoch_of, gain_of, told_so_far, IsRun}
+use Rattle.kept_records.specs.Stands.{greatest, given_in, accepted_in, own_in, is_other_site, may_commit, room_in, may_stand}
+use Rattle.kept_state.specs.Keeps.{IsBase, record_at, Keeps}
+use Rattle.field_bounds.proofs.Lawful.{IsLawful, granted-mono, same_txn-true}
+use Rattle.field_bounds.proofs.Refused.{none_holds, begun_and_open, is_restart, up_there}
+use Rattle.field_bounds.proofs.Doubt.{nothing_in_doubt}
+use Rattle.field_bounds.proofs.Runs.{run_is_lawful, open_is_current}
+use Rattle.kept_state.proofs.Agreeing.{of_txn_kept}
+use Rattle.kept_state.proofs.Keeping.{run_owns, run_gives, run_accepts}
+use Rattle.kept_state.proofs.Epochs.{up_epoch}
+
+-- ---- the escrows of a transaction
+
+all_reversed : (p : EscrowOf → Bool) (xs : List EscrowOf) → list_all p xs ≡ true → list_all p (reverse xs) ≡ true
+all_reversed p [] h = refl
+all_reversed p (x ∷ xs) h =
+    let parts = and_parts (p x) (list_all p xs) h in
+    ap (list_all p) (reverse_onto xs x []) ∙ list_all-append p (reverse xs) (x ∷ []) ∙ rw (all_reversed p xs parts.1, parts.0) refl
+
+-- what holds of each escrow on a field of the schema holds of all that a transaction was granted
+all_granted : (schema : SchemaValue) (base : Base) (p : EscrowOf → Bool) (id : TxnId) → ((e : EscrowOf) → e.field.0 < length schema.fields → p e ≡ true) → (es : List Effect)
+    → IsLawful schema base es → list_all p (escrows_of id es) ≡ true
+all_granted schema base p id h [] lawful = refl
+all_granted schema base p id h (Grants txn field change ∷ es) lawful =
+    let e : EscrowOf = record { field = record { 0 = field }; change = change } in
+    let rest = all_granted schema base p id h es lawful.0 in
+    elim (cases_Bool (same_txn id txn)) as (λ _. list_all p (cond (same_txn id txn) (e ∷ escrows_of id es) (escrows_of id es)) ≡ true) [
+      | inl is ↦ rw (is, h e lawful.1.in_schema) rest
+      | inr isnt ↦ rw isnt rest
+    ]
+all_granted schema base p id h (Begins txn ∷ es) lawful = all_granted schema base p id h es lawful.0
+all_granted schema base p id h (Commits txn ∷ es) lawful = all_granted schema base p id h es lawful.0
+all_granted schema base p id h (Aborts txn ∷ es) lawful = all_granted schema base p id h es lawful.0
+all_granted schema base p id h (Gives to field kind amount ∷ es) lawful = all_granted schema base p id h es lawful.0
+all_granted schema base p id h (Accepts from field kind total ∷ es) lawful = all_granted schema base p id h es lawful.0
+all_granted schema base p id h (Stops ∷ es) lawful = all_granted schema base p id h es lawful.0
+
+-- ---- each record may stand
+
+module _ (at : Place) (rs : List Record)
+    (greatest_is : epoch_of at.base at.entries ≡ greatest rs)
+    (own_is : (f : ℕ) (k : Kind) → own_rights at.base f k at.effects ≡ own_in at.schema at.site rs f k)
+    (given_is : (to f : ℕ) (k : Kind) → given at.base to f k at.effects ≡ given_in rs to f k)
+    (accepted_is : (from f : ℕ) (k : Kind) → accepted at.base from f k at.effects ≡ accepted_in rs from f k)
+    (lawful : IsLawful at.schema at.base at.effects)
+    (current : (id : TxnId) → is_begun id at.effects ≡ true → is_open id at.effects ≡ true → id.epoch ≡ epoch_of at.base at.entries)
+  where
+    -- what an open transaction holds is within the own rights
+    escrows_within : (txn : TxnId) → is_open txn at.effects ≡ true → (f : ℕ) (k : Kind) → sum_by (takes f k) (reverse (escrows_of txn at.effects)) ≤ own_in at.schema at.site rs f k
+    escrows_within txn opened f k =
+        omega (
+          arith,
+          of_txn_kept txn f k at.effects,
+          own_is f k,
+          granted-mono (λ id. same_txn txn id) (λ id. is_open id at.effects) (λ id same. subst (λ (x : TxnId). is_open x at.effects ≡ true) (same_txn-true txn id same) opened) f k at.effects,
+        )
+
+    other_site : (site : SiteNo) → nat_le at.schema.sites site.0 ≡ false → (site.0 == at.site) ≡ false → is_other_site at.schema at.site site.0 ≡ true
+    other_site site known apart = rw (lt-ltb site.0 at.schema.sites (leb-false _ _ known), apart) refl
+
+    gift_stands : (to : SiteNo) (field : FieldNo) (kind : Kind) (amount : ℕ) → nat_le at.schema.sites to.0 ≡ false → nat_le (length at.schema.fields) field.0 ≡ false → (to.0 == at.site) ≡ false
+        → 0 < amount → amount ≤ share at.base field.0 kind at.effects → may_stand at.schema at.site rs (records.Gift to field kind (told_so_far at to field kind + amount)) ≡ true
+    gift_stands to field kind amount site known apart some enough =
+        let total = told_so_far at to field kind + amount in
+        rw (
+          other_site to site apart,
+          lt-ltb field.0 (length at.schema.fields) (leb-false _ _ known),
+          lt-ltb (given_in rs to.0 field.0 kind) total (omega (arith, given_is to.0 field.0 kind, some)),
+          le-leb (total - given_in rs to.0 field.0 kind) (own_in at.schema at.site rs field.0 kind) (omega (arith, given_is to.0 field.0 kind, own_is field.0 kind, enough)),
+        ) refl
+
+    pub stands_there : (c : Command) → first (refusals at c) ≡ None → writes at c ≡ true → may_stand at.schema at.site rs (record_at at c) ≡ true
+    stands_there (Commit txn) h w =
+        let none = none_holds (refusals at (Commit txn)) h in
+        let both = begun_and_open (is_begun txn at.effects) (is_open txn at.effects) none.1.0 in
+        let escrows = reverse (escrows_of txn at.effects) in
+        rw (
+          eq-eqb txn.epoch (greatest rs) (current txn both.0 both.1 ∙ greatest_is),
+          all_reversed (may_commit at.schema at.site rs escrows) (escrows_of txn at.effects) (all_granted at.schema at.base (may_commit at.schema at.site rs escrows) txn
+              (λ e below. rw (
+                lt-ltb e.field.0 (length at.schema.fields) below,
+                le-leb (sum_by (takes e.field.0 Lower) escrows) (own_in at.schema at.site rs e.field.0 Lower) (escrows_within txn both.1 e.field.0 Lower),
+                le-leb (sum_by (takes e.field.0 Raise) escrows) (own_in at.schema at.site rs e.field.0 Raise) (escrows_within txn both.1 e.field.0 Raise),
+              ) refl)
+              at.effects lawful),
+        ) refl
+    stands_there (Give to field kind amount) h w =
+        let none = none_holds (refusals at (Give to field kind amount)) h in
+        gift_stands to field kind amount none.1.0 none.1.1.0 none.1.1.1.1.1.1.0 (omega (arith, eqb-false amount 0 none.1.1.1.0)) (ltb-false _ _ none.1.1.1.1.1.0)
+    stands_there (Accept told) h w =
+        let none = none_holds (refusals at (Accept told)) h in
+        let f = told.field.0 in
+        let old = accepted_is told.from.0 f told.kind in
+        rw (
+          other_site told.from none.1.0 none.1.1.1.1.1.1.0,
+          lt-ltb f (length at.schema.fields) (leb-false _ _ none.1.1.1.0),
+          lt-ltb (accepted_in rs told.from.0 f told.kind) told.total (omega (arith, old, ltb-true 0 (gain_of at told.from told.field told.kind told.total) w)),
+          le-leb (told.total - accepted_in rs told.from.0 f told.kind) (room_in at.schema at.site rs f)
+              (omega (arith, old, own_is f Lower, own_is f Raise, ltb-false _ _ none.1.1.1.1.1.1.1.1.0)),
+        ) refl
+    stands_there Begin h w = cc
+    stands_there (Escrow txn field change) h w = cc
+    stands_there (Abort txn) h w = cc
+    stands_there (Restate to field kind) h w = cc
+    stands_there (Read field) h w = cc
+    stands_there (Share field) h w = cc
+    stands_there Restart h w = cc
+
+-- ---- over a run
+
+writes_no_restart : (at : Place) (c : Command) → writes at c ≡ true → is_restart c ≡ false
+writes_no_restart at Restart w = cc
+writes_no_restart at c w = refl
+
+-- the record of a command that writes one may stand behind those that the run has left
+pub run_lawful_more : (schema : SchemaValue) (s : ℕ) (base : Base) (bs : List Record) → IsBase schema s base bs → (kept : Bool) (o : List Entry) (rs : List Record)
+    → IsRun schema s base o → Keeps schema s base bs kept o rs → (c : Command) → first (refusals (place schema s base o) c) ≡ None
+    → writes (place schema s base o) c ≡ true → may_stand schema s rs (record_at (place schema s base o) c) ≡ true
+run_lawful_more schema s base bs is kept o rs run keeps c h w =
+    let up = up_there (place schema s base o) c (writes_no_restart (place schema s base o) c w) h in
+    let same = nothing_in_doubt base kept o up in
+    stands_there (place schema s base o) rs
+    (up_epoch schema s base bs is kept o rs keeps up)
+    (λ f k. subst (λ (es : List Effect). own_rights base f k es ≡ own_in schema s rs f k) same (run_owns schema s base bs kept o rs is run keeps f k))
+    (λ to f k. subst (λ (es : List Effect). given base to f k es ≡ given_in rs to f k) same (run_gives schema s base bs kept o rs is run keeps to f k))
+    (λ from f k. subst (λ (es : List Effect). accepted base from f k es ≡ accepted_in rs from f k) same (run_accepts schema s base bs kept o rs is run keeps from f k))
+    (run_is_lawful schema s base o run false)
+    (λ id. open_is_current schema s base o run false id)
+    c h w

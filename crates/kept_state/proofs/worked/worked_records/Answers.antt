@@ -1,0 +1,20 @@
+use Rattle.kept_state.proofs.LogRows.{commit_kept, commit_lost, gift_kept, in_order, kept_rights, kept_lawful}
+use Rattle.kept_state.proofs.worked.worked_records.Goals as goal
+
+pub returns-clause-kept : goal.returns-clause-kept
+returns-clause-kept c = commit_kept
+
+pub returns-clause-lost : goal.returns-clause-lost
+returns-clause-lost c = commit_lost
+
+pub returns-clause-gifts : goal.returns-clause-gifts
+returns-clause-gifts c = gift_kept
+
+pub returns-clause-in_order : goal.returns-clause-in_order
+returns-clause-in_order c = in_order
+
+pub returns-clause-rights : goal.returns-clause-rights
+returns-clause-rights c = kept_rights
+
+pub returns-clause-lawful : goal.returns-clause-lawful
+returns-clause-lawful c = kept_lawful

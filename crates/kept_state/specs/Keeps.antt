@@ -1,0 +1,67 @@
+-- Which records a site's entries leave on its medium (this project). Records stand in order, the oldest first; entries
+-- have the newest first.
+use Rattle.std.specs.Prelude.{◌≡◌, ℕ, ◌+◌, Bool, true, false, if◌then◌else◌, List, [], ◌∷◌, ◌++◌, reverse}
+use Rattle.field_bounds.specs.declared.kind.Kind.{Kind}
+use Rattle.field_bounds.specs.declared.id.SiteNo.{SiteNo}
+use Rattle.field_bounds.specs.declared.entry.Command.{Command}
+use Rattle.field_bounds.specs.declared.entry.Command.TheVariants as commands
+use Rattle.field_bounds.specs.declared.entry.Reply.{Reply}
+use Rattle.field_bounds.specs.declared.entry.Reply.TheVariants.{Restarted, Unsure, StillDown, Refused}
+use Rattle.field_bounds.specs.declared.entry.Entry.{Entry}
+use Rattle.field_bounds.specs.Schema.{SchemaValue}
+use Rattle.field_bounds.specs.Effects.{Base, fresh, escrows_of, kept_before}
+use Rattle.field_bounds.specs.Owed.{Place, place, told_so_far, writes}
+use Rattle.kept_records.specs.declared.record.Record.{Record}
+use Rattle.kept_records.specs.declared.record.Record.TheVariants.{Commit, Gift, Accept, Restart}
+use Rattle.kept_records.specs.Stands.{greatest, stands, gained_in, spent_in, given_in, accepted_in}
+
+-- The record of a command that is carried out where a site stands: a transaction's escrows in order of grant, the new
+-- total of a gift, the total of a statement.
+abbrev pub record_at : Place → Command → Record
+record_at at (commands.Commit txn) = Commit txn (reverse (escrows_of txn at.effects))
+record_at at (commands.Give to field kind amount) = Gift to field kind (told_so_far at to field kind + amount)
+record_at at (commands.Accept told) = Accept told.from told.field told.kind told.total
+record_at at command = Restart 0
+
+-- That record, where the command writes one.
+abbrev pub noted : Place → Command → List Record
+noted at command = if writes at command then record_at at command ∷ [] else []
+
+-- The records that an entry adds behind some records; stood says whether the device left a record that wasn't answered.
+abbrev pub adds : Place → Command → Reply → Bool → List Record → List Record
+adds at command (Refused refusal) stood rs = []
+adds at command (Restarted epoch found) stood rs = Restart epoch ∷ []
+adds at command StillDown stood rs = if stood then Restart (greatest rs + 1) ∷ [] else []
+adds at command Unsure stood rs = if stood then noted at command else []
+adds at command reply stood rs = noted at command
+
+-- What a reply tells of the records in front of it: kept says whether the next restart will say Kept, and an epoch is
+-- the greatest before it and one more.
+abbrev pub Tells : Bool → Bool → List Record → Reply → Type 0
+Tells kept stood rs Unsure = stood ≡ kept
+Tells kept stood rs (Restarted epoch found) = epoch ≡ greatest rs + 1
+Tells kept stood rs reply = Unit {0}
+
+-- An entry of a site.
+abbrev pub entry_at : SiteNo → Command → Reply → Entry
+entry_at site command reply = record { site = site; command = command; reply = reply }
+
+-- The entries, over the base's records, leave these records; kept says whether what is in doubt stands among them.
+abbrev pub Keeps : SchemaValue → ℕ → Base → List Record → Bool → List Entry → List Record → Type 0
+Keeps schema s base bs kept [] rs = rs ≡ bs
+Keeps schema s base bs kept (e ∷ o) rs =
+    (front : List Record) × (stood : Bool) × Keeps schema s base bs (kept_before kept e.reply) o front
+    × Tells kept stood front e.reply × (rs ≡ front ++ adds (place schema s base o) e.command e.reply stood front)
+
+-- The base is what these records stand for.
+pub record IsBase (schema : SchemaValue) (s : ℕ) (base : Base) (bs : List Record) : Type 0 where
+  pub epoch : base.epoch ≡ greatest bs
+  pub rights : (f : ℕ) (k : Kind) → base.rights f k + spent_in schema bs f k ≡ gained_in schema s bs f k
+  pub given : (to f : ℕ) (k : Kind) → base.given to f k ≡ given_in bs to f k
+  pub accepted : (from f : ℕ) (k : Kind) → base.accepted from f k ≡ accepted_in bs from f k
+
+-- What a site stands on that was opened over these records: the fresh base where the medium was empty, and else what
+-- they stand for, not up.
+abbrev pub opened : SchemaValue → ℕ → Bool → List Record → Base
+opened schema s true bs = fresh schema s
+opened schema s false bs = stands schema s false bs

@@ -1,0 +1,4 @@
+pub mod Keeps
+pub mod Doubt
+pub mod Luck
+pub mod Worked
