@@ -1,0 +1,2 @@
+pub mod RecordSums
+pub mod StandingLaws

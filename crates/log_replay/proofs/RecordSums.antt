@@ -1,0 +1,312 @@
+-- What one record more adds to what records stand for, and that lawful records spend no more than there is.
+use Rattle.std.proofs.Common.{◌≡◌, ◌≢◌, ◌⊎◌, ℕ, ◌+◌, ◌-◌, ◌≤◌, ◌<◌, ◌==◌, max, Bool, true, false, not, ◌&&◌, cond, List, [], ◌∷◌, ◌++◌, append_assoc, refl, sym, ◌∙◌, ap, subst, inl, inr, arith, eqb}
+use Rattle.std.specs.Prelude.{nat_lt, sum_by}
+use Rattle.std.specs.List.{list_all}
+use Rattle.std.proofs.lemmas.Bool.{and_parts, cases_eq, eq-eqb, ne_eqb, eqb-true, ltb-true, leb-true}
+use Rattle.std.proofs.lemmas.List.{append-nil}
+use Rattle.std.proofs.lemmas.List.Sums.{fold_push, sum_by_push, sum_by-cons}
+use Rattle.field_bounds.specs.declared.kind.Kind.{Kind}
+use Rattle.field_bounds.specs.declared.kind.Kind.TheVariants.{Lower, Raise}
+use Rattle.field_bounds.specs.declared.id.TxnId.{TxnId}
+use Rattle.field_bounds.specs.declared.id.SiteNo.{SiteNo}
+use Rattle.field_bounds.specs.declared.id.FieldNo.{FieldNo}
+use Rattle.field_bounds.specs.declared.entry.Escrow.{Escrow}
+use Rattle.field_bounds.specs.Kind.{other, same_kind}
+use Rattle.field_bounds.specs.Schema.{SchemaValue}
+use Rattle.field_bounds.specs.Parts.{part_of, sum_below}
+use Rattle.field_bounds.specs.Effects.{takes}
+use Rattle.field_bounds.proofs.Lawful.{same_kind-true}
+use Rattle.field_bounds.proofs.Sums.{sum_below-same, sum_below-zero, sum_below_bump}
+use Rattle.kept_records.specs.declared.record.Record.{Record}
+use Rattle.kept_records.specs.declared.record.Record.TheVariants.{Commit, Gift, Accept, Restart}
+use Rattle.kept_records.specs.Stands.{later, greatest, given_more, given_in, accepted_more, accepted_in, commits, committed_in, gained_in, spent_in, own_in, is_field, may_commit, room_in, may_stand, LawfulBehind, Lawful}
+
+-- ---- no records
+
+pub greatest_none : greatest [] ≡ 0
+unfolding greatest
+greatest_none = refl
+
+pub given_none : (to f : ℕ) (k : Kind) → given_in [] to f k ≡ 0
+unfolding given_in
+given_none to f k = refl
+
+pub accepted_none : (from f : ℕ) (k : Kind) → accepted_in [] from f k ≡ 0
+unfolding accepted_in
+accepted_none from f k = refl
+
+pub committed_none : (f : ℕ) (k : Kind) → committed_in f k [] ≡ 0
+unfolding committed_in
+committed_none f k = refl
+
+-- ---- one record more
+
+pub greatest_push : (rs : List Record) (r : Record) → greatest (rs ++ r ∷ []) ≡ later (greatest rs) r
+unfolding greatest
+greatest_push rs r = fold_push later 0 rs r
+
+pub given_push : (to f : ℕ) (k : Kind) (rs : List Record) (r : Record) → given_in (rs ++ r ∷ []) to f k ≡ given_more to f k (given_in rs to f k) r
+unfolding given_in
+given_push to f k rs r = fold_push (given_more to f k) 0 rs r
+
+pub accepted_push : (from f : ℕ) (k : Kind) (rs : List Record) (r : Record) → accepted_in (rs ++ r ∷ []) from f k ≡ accepted_more from f k (accepted_in rs from f k) r
+unfolding accepted_in
+accepted_push from f k rs r = fold_push (accepted_more from f k) 0 rs r
+
+pub committed_push : (f : ℕ) (k : Kind) (rs : List Record) (r : Record) → committed_in f k (rs ++ r ∷ []) ≡ committed_in f k rs + commits f k r
+unfolding committed_in
+committed_push f k rs r = sum_by_push (commits f k) rs r
+
+-- one lawful record more leaves the records lawful
+behind_push : (schema : SchemaValue) (s : ℕ) (front rs : List Record) (r : Record) → LawfulBehind schema s front rs → may_stand schema s (front ++ rs) r ≡ true → LawfulBehind schema s front (rs ++ r ∷ [])
+behind_push schema s front [] r lawful may = (subst (λ (all : List Record). may_stand schema s all r ≡ true) (append-nil front) may, tt)
+behind_push schema s front (x ∷ rs) r lawful may =
+    (lawful.0, behind_push schema s (front ++ x ∷ []) rs r lawful.1 (subst (λ (all : List Record). may_stand schema s all r ≡ true) (sym (append_assoc front (x ∷ []) rs)) may))
+
+pub lawful_push : (schema : SchemaValue) (s : ℕ) (rs : List Record) (r : Record) → Lawful schema s rs → may_stand schema s rs r ≡ true → Lawful schema s (rs ++ r ∷ [])
+lawful_push schema s rs r lawful may = behind_push schema s [] rs r lawful may
+
+-- ---- what a true test says
+
+three_parts : (a b c : Bool) → (a && b && c) ≡ true → (a ≡ true) × (b ≡ true) × (c ≡ true)
+three_parts true true true h = (refl, refl, refl)
+three_parts false b c h = cc
+three_parts true false c h = cc
+three_parts true true false h = cc
+
+five_parts : (a b c d e : Bool) → ((a && b) && c && d && e) ≡ true → (a ≡ true) × (b ≡ true) × (c ≡ true) × (d ≡ true) × (e ≡ true)
+five_parts true true true true true h = (refl, refl, refl, refl, refl)
+five_parts false b c d e h = cc
+five_parts true false c d e h = cc
+five_parts true true false d e h = cc
+five_parts true true true false e h = cc
+five_parts true true true true false h = cc
+
+-- what holds of each element that passes one test holds of each that passes another, weaker one
+pub all_weaker : (p q : Escrow → Bool) → ((e : Escrow) → p e ≡ true → q e ≡ true) → (es : List Escrow) → list_all p es ≡ true → list_all q es ≡ true
+all_weaker p q weaker [] all = refl
+all_weaker p q weaker (e ∷ es) all =
+    let parts = and_parts (p e) (list_all p es) all in
+    rw (weaker e parts.0, all_weaker p q weaker es parts.1) refl
+
+-- a bound that holds at each field of a list holds wherever the list takes something
+fields_bound : (p : Escrow → Bool) (total own : ℕ → ℕ) (f : ℕ) (k : Kind) → ((e : Escrow) → p e ≡ true → total e.field.0 ≤ own e.field.0) → (es : List Escrow) → list_all p es ≡ true
+    → (sum_by (takes f k) es ≡ 0) ⊎ (total f ≤ own f)
+fields_bound p total own f k h [] all = inl refl
+fields_bound p total own f k h (e ∷ es) all =
+    let parts = and_parts (p e) (list_all p es) all in
+    elim (cases_eq e.field.0 f) [
+      | inl same ↦ inr (subst (λ (n : ℕ). total n ≤ own n) same (h e parts.0))
+      | inr apart ↦ elim (fields_bound p total own f k h es parts.1) [
+        | inl none ↦ inl (sum_by-cons (takes f k) e es ∙ rw (ne_eqb e.field.0 f apart) (omega (arith, none)))
+        | inr bounded ↦ inr bounded
+      ]
+    ]
+
+-- ---- a total that grows at one key
+
+grow_there : (on : Bool) (site total before : ℕ) → (on ≡ true → before < total) → cond (on && eqb site site) (max total before) before ≡ before + cond on (total - before) 0
+grow_there true site total before h = rw (eq-eqb site site refl) (omega (arith, h refl))
+grow_there false site total before h = omega arith
+
+grow_here : (on : Bool) (site at total before : ℕ) → at ≢ site → cond (on && eqb site at) (max total before) before ≡ before
+grow_here true site at total before apart = rw (ne_eqb site at (λ e. apart (sym e))) refl
+grow_here false site at total before apart = refl
+
+pub on_field : (of : ℕ → Kind → ℕ) (field f : ℕ) (kind k : Kind) → (eqb field f && same_kind kind k) ≡ true → of field kind ≡ of f k
+on_field of field f kind k h =
+    let parts = and_parts (eqb field f) (same_kind kind k) h in
+    cc (eqb-true field f parts.0, same_kind-true kind k parts.1)
+
+-- what a total has above the one before, where it is added
+growth_at : (of : ℕ → Kind → ℕ) (total field f : ℕ) (kind k : Kind)
+    → cond (eqb field f && same_kind kind k) (total - of f k) 0 ≡ cond (eqb field f && same_kind kind k) (total - of field kind) 0
+growth_at of total field f kind k = by (eqb field f && same_kind kind k) (λ on. on_field of field f kind k on)
+  where
+    by : (on : Bool) → (on ≡ true → of field kind ≡ of f k) → cond on (total - of f k) 0 ≡ cond on (total - of field kind) 0
+    by true same = ap (λ n. total - n) (sym (same refl))
+    by false same = refl
+
+own_here : (schema : SchemaValue) (s : ℕ) (rs : List Record) (f : ℕ) (k : Kind) → own_in schema s rs f k ≡ gained_in schema s rs f k - spent_in schema rs f k
+unfolding own_in
+own_here schema s rs f k = refl
+
+module _ (schema : SchemaValue) (s : ℕ) (rs : List Record) where
+  -- totals that no record changed add up to what they did
+  given_still : (r : Record) (f : ℕ) (k : Kind) → ((to : ℕ) → given_in (rs ++ r ∷ []) to f k ≡ given_in rs to f k)
+      → sum_below schema.sites (λ to. given_in (rs ++ r ∷ []) to f k) ≡ sum_below schema.sites (λ to. given_in rs to f k)
+  given_still r f k same = sum_below-same schema.sites (λ to. given_in (rs ++ r ∷ []) to f k) (λ to. given_in rs to f k) (λ to below. same to)
+
+  accepted_still : (r : Record) (f : ℕ) (k : Kind) → ((from : ℕ) → accepted_in (rs ++ r ∷ []) from f k ≡ accepted_in rs from f k)
+      → sum_below schema.sites (λ from. accepted_in (rs ++ r ∷ []) from f k) ≡ sum_below schema.sites (λ from. accepted_in rs from f k)
+  accepted_still r f k same = sum_below-same schema.sites (λ from. accepted_in (rs ++ r ∷ []) from f k) (λ from. accepted_in rs from f k) (λ from below. same from)
+
+  -- ---- what was spent and gained
+
+  pub spent_commit : (txn : TxnId) (es : List Escrow) (f : ℕ) (k : Kind) → spent_in schema (rs ++ Commit txn es ∷ []) f k ≡ spent_in schema rs f k + sum_by (takes f k) es
+  spent_commit txn es f k = let r : Record = Commit txn es in omega (arith, committed_push f k rs r, given_still r f k (λ to. given_push to f k rs r))
+
+  pub gained_commit : (txn : TxnId) (es : List Escrow) (f : ℕ) (k : Kind) → gained_in schema s (rs ++ Commit txn es ∷ []) f k ≡ gained_in schema s rs f k + sum_by (takes f (other k)) es
+  gained_commit txn es f k = let r : Record = Commit txn es in omega (arith, committed_push f (other k) rs r, accepted_still r f k (λ from. accepted_push from f k rs r))
+
+  pub spent_gift : (to : SiteNo) (field : FieldNo) (kind : Kind) (total f : ℕ) (k : Kind) → to.0 < schema.sites → given_in rs to.0 field.0 kind < total
+      → spent_in schema (rs ++ Gift to field kind total ∷ []) f k ≡ spent_in schema rs f k + cond ((field.0 == f) && same_kind kind k) (total - given_in rs to.0 field.0 kind) 0
+  spent_gift to field kind total f k site_in more =
+      let r : Record = Gift to field kind total in
+      let on = eqb field.0 f && same_kind kind k in
+      omega (
+        arith,
+        committed_push f k rs r,
+        growth_at (λ x y. given_in rs to.0 x y) total field.0 f kind k,
+        sum_below_bump schema.sites (λ j. given_in rs j f k) (λ j. given_in (rs ++ r ∷ []) j f k) to.0 (cond on (total - given_in rs to.0 f k) 0) site_in
+            (given_push to.0 f k rs r ∙ grow_there on to.0 total (given_in rs to.0 f k) (λ is. omega (arith, more, on_field (λ x y. given_in rs to.0 x y) field.0 f kind k is)))
+            (λ j apart. given_push j f k rs r ∙ grow_here on to.0 j total (given_in rs j f k) apart),
+      )
+
+  pub gained_gift : (to : SiteNo) (field : FieldNo) (kind : Kind) (total f : ℕ) (k : Kind) → gained_in schema s (rs ++ Gift to field kind total ∷ []) f k ≡ gained_in schema s rs f k
+  gained_gift to field kind total f k =
+      let r : Record = Gift to field kind total in
+      omega (arith, committed_push f (other k) rs r, accepted_still r f k (λ from. accepted_push from f k rs r))
+
+  pub spent_accept : (from : SiteNo) (field : FieldNo) (kind : Kind) (total f : ℕ) (k : Kind) → spent_in schema (rs ++ Accept from field kind total ∷ []) f k ≡ spent_in schema rs f k
+  spent_accept from field kind total f k =
+      let r : Record = Accept from field kind total in
+      omega (arith, committed_push f k rs r, given_still r f k (λ to. given_push to f k rs r))
+
+  pub gained_accept : (from : SiteNo) (field : FieldNo) (kind : Kind) (total f : ℕ) (k : Kind) → from.0 < schema.sites → accepted_in rs from.0 field.0 kind < total
+      → gained_in schema s (rs ++ Accept from field kind total ∷ []) f k ≡ gained_in schema s rs f k + cond ((field.0 == f) && same_kind kind k) (total - accepted_in rs from.0 field.0 kind) 0
+  gained_accept from field kind total f k site_in more =
+      let r : Record = Accept from field kind total in
+      let on = eqb field.0 f && same_kind kind k in
+      omega (
+        arith,
+        committed_push f (other k) rs r,
+        growth_at (λ x y. accepted_in rs from.0 x y) total field.0 f kind k,
+        sum_below_bump schema.sites (λ j. accepted_in rs j f k) (λ j. accepted_in (rs ++ r ∷ []) j f k) from.0 (cond on (total - accepted_in rs from.0 f k) 0) site_in
+            (accepted_push from.0 f k rs r ∙ grow_there on from.0 total (accepted_in rs from.0 f k) (λ is. omega (arith, more, on_field (λ x y. accepted_in rs from.0 x y) field.0 f kind k is)))
+            (λ j apart. accepted_push j f k rs r ∙ grow_here on from.0 j total (accepted_in rs j f k) apart),
+      )
+
+  pub spent_restart : (epoch f : ℕ) (k : Kind) → spent_in schema (rs ++ Restart epoch ∷ []) f k ≡ spent_in schema rs f k
+  spent_restart epoch f k = let r : Record = Restart epoch in omega (arith, committed_push f k rs r, given_still r f k (λ to. given_push to f k rs r))
+
+  pub gained_restart : (epoch f : ℕ) (k : Kind) → gained_in schema s (rs ++ Restart epoch ∷ []) f k ≡ gained_in schema s rs f k
+  gained_restart epoch f k = let r : Record = Restart epoch in omega (arith, committed_push f (other k) rs r, accepted_still r f k (λ from. accepted_push from f k rs r))
+
+  -- ---- what a commit spends
+
+  -- where each escrow of a commit may stand, no field and kind is overspent
+  pub commit_within : (es : List Escrow) → list_all (may_commit schema s rs es) es ≡ true → (f : ℕ) (k : Kind) → sum_by (takes f k) es ≤ own_in schema s rs f k
+  commit_within es all f Lower =
+      elim (fields_bound (may_commit schema s rs es) (λ n. sum_by (takes n Lower) es) (λ n. own_in schema s rs n Lower) f Lower
+      (λ e may. leb-true _ _ (three_parts (is_field schema e.field.0) _ _ may).1) es all) [
+        | inl none ↦ omega (arith, none)
+        | inr bounded ↦ bounded
+      ]
+  commit_within es all f Raise =
+      elim (fields_bound (may_commit schema s rs es) (λ n. sum_by (takes n Raise) es) (λ n. own_in schema s rs n Raise) f Raise
+      (λ e may. leb-true _ _ (three_parts (is_field schema e.field.0) _ _ may).2) es all) [
+        | inl none ↦ omega (arith, none)
+        | inr bounded ↦ bounded
+      ]
+
+  -- ---- what gifts and acceptances may be
+
+  pub gift_parts : (to : SiteNo) (field : FieldNo) (kind : Kind) (total : ℕ) → may_stand schema s rs (Gift to field kind total) ≡ true
+      → (to.0 < schema.sites) × (given_in rs to.0 field.0 kind < total) × (total - given_in rs to.0 field.0 kind ≤ own_in schema s rs field.0 kind)
+  gift_parts to field kind total may =
+      let parts = five_parts (nat_lt to.0 schema.sites) (not (eqb to.0 s)) (is_field schema field.0) _ _ may in
+      (ltb-true _ _ parts.0, ltb-true _ _ parts.3, leb-true _ _ parts.4)
+
+  pub accept_parts : (from : SiteNo) (field : FieldNo) (kind : Kind) (total : ℕ) → may_stand schema s rs (Accept from field kind total) ≡ true
+      → (from.0 < schema.sites) × (accepted_in rs from.0 field.0 kind < total) × (total - accepted_in rs from.0 field.0 kind ≤ room_in schema s rs field.0)
+  accept_parts from field kind total may =
+      let parts = five_parts (nat_lt from.0 schema.sites) (not (eqb from.0 s)) (is_field schema field.0) _ _ may in
+      (ltb-true _ _ parts.0, ltb-true _ _ parts.3, leb-true _ _ parts.4)
+
+-- ---- lawful records spend no more than there is
+
+abbrev pub IsCovered : SchemaValue → ℕ → List Record → Type 0
+IsCovered schema s rs = (f : ℕ) (k : Kind) → spent_in schema rs f k ≤ gained_in schema s rs f k
+
+spent_within : (on : Bool) (amount own out in_ : ℕ) → (on ≡ true → amount ≤ own) → (on ≡ true → own ≡ in_ - out) → out ≤ in_ → out + cond on amount 0 ≤ in_
+spent_within true amount own out in_ h is before_ = omega (arith, h refl, is refl, before_)
+spent_within false amount own out in_ h is before_ = omega (arith, before_)
+
+module _ (schema : SchemaValue) (s : ℕ) (rs : List Record) (before : IsCovered schema s rs) where
+  covered_push : (r : Record) → may_stand schema s rs r ≡ true → IsCovered schema s (rs ++ r ∷ [])
+  covered_push (Commit txn es) may f k =
+      omega (
+        arith,
+        before f k,
+        own_here schema s rs f k,
+        commit_within schema s rs es (and_parts (eqb txn.epoch (greatest rs)) (list_all (may_commit schema s rs es) es) may).1 f k,
+        spent_commit schema s rs txn es f k,
+        gained_commit schema s rs txn es f k,
+      )
+  covered_push (Gift to field kind total) may f k =
+      let parts = gift_parts schema s rs to field kind total may in
+      omega (
+        arith,
+        spent_within (eqb field.0 f && same_kind kind k) (total - given_in rs to.0 field.0 kind) (own_in schema s rs f k) (spent_in schema rs f k) (gained_in schema s rs f k)
+            (λ is. omega (arith, parts.2, on_field (λ x y. own_in schema s rs x y) field.0 f kind k is)) (λ is. own_here schema s rs f k) (before f k),
+        spent_gift schema s rs to field kind total f k parts.0 parts.1,
+        gained_gift schema s rs to field kind total f k,
+      )
+  covered_push (Accept from field kind total) may f k =
+      let parts = accept_parts schema s rs from field kind total may in
+      omega (arith, before f k, spent_accept schema s rs from field kind total f k, gained_accept schema s rs from field kind total f k parts.0 parts.1)
+  covered_push (Restart epoch) may f k = omega (arith, before f k, spent_restart schema s rs epoch f k, gained_restart schema s rs epoch f k)
+
+covered_behind : (schema : SchemaValue) (s : ℕ) (front rs : List Record) → IsCovered schema s front → LawfulBehind schema s front rs → IsCovered schema s (front ++ rs)
+covered_behind schema s front [] before lawful = subst (λ (all : List Record). IsCovered schema s all) (sym (append-nil front)) before
+covered_behind schema s front (r ∷ rs) before lawful =
+    subst (λ (all : List Record). IsCovered schema s all) (append_assoc front (r ∷ []) rs)
+    (covered_behind schema s (front ++ r ∷ []) rs (covered_push schema s front before r lawful.0) lawful.1)
+
+spent_none : (schema : SchemaValue) (f : ℕ) (k : Kind) → spent_in schema [] f k ≡ 0
+spent_none schema f k =
+    omega (arith, committed_none f k, sum_below-same schema.sites (λ to. given_in [] to f k) (λ to. 0) (λ to below. given_none to f k), sum_below-zero schema.sites)
+
+gained_none : (schema : SchemaValue) (s f : ℕ) (k : Kind) → gained_in schema s [] f k ≡ part_of schema s f k
+gained_none schema s f k =
+    omega (arith, committed_none f (other k), sum_below-same schema.sites (λ from. accepted_in [] from f k) (λ from. 0) (λ from below. accepted_none from f k), sum_below-zero schema.sites)
+
+pub lawful_covered : (schema : SchemaValue) (s : ℕ) (rs : List Record) → Lawful schema s rs → IsCovered schema s rs
+lawful_covered schema s rs lawful = covered_behind schema s [] rs (λ f k. omega (arith, spent_none schema f k)) lawful
+
+-- ---- the own rights
+
+pub own_none : (schema : SchemaValue) (s f : ℕ) (k : Kind) → own_in schema s [] f k ≡ part_of schema s f k
+own_none schema s f k = omega (arith, own_here schema s [] f k, spent_none schema f k, gained_none schema s f k)
+
+module _ (schema : SchemaValue) (s : ℕ) (rs : List Record) (lawful : Lawful schema s rs) where
+  -- no subtraction is cut off
+  pub own_whole : (f : ℕ) (k : Kind) → own_in schema s rs f k + spent_in schema rs f k ≡ gained_in schema s rs f k
+  own_whole f k = omega (arith, own_here schema s rs f k, lawful_covered schema s rs lawful f k)
+
+  pushed : (r : Record) → may_stand schema s rs r ≡ true → (f : ℕ) (k : Kind) → own_in schema s (rs ++ r ∷ []) f k + spent_in schema (rs ++ r ∷ []) f k ≡ gained_in schema s (rs ++ r ∷ []) f k
+  pushed r may f k = omega (arith, own_here schema s (rs ++ r ∷ []) f k, covered_push schema s rs (lawful_covered schema s rs lawful) r may f k)
+
+  -- a commit takes what it spends and adds what it spends of the other kind
+  pub own_commit : (txn : TxnId) (es : List Escrow) → may_stand schema s rs (Commit txn es) ≡ true → (f : ℕ) (k : Kind)
+      → own_in schema s (rs ++ Commit txn es ∷ []) f k + sum_by (takes f k) es ≡ own_in schema s rs f k + sum_by (takes f (other k)) es
+  own_commit txn es may f k = omega (arith, own_whole f k, pushed (Commit txn es) may f k, spent_commit schema s rs txn es f k, gained_commit schema s rs txn es f k)
+
+  -- a gift takes what its total has above the one before, of its kind on its field
+  pub own_gift : (to : SiteNo) (field : FieldNo) (kind : Kind) (total : ℕ) → may_stand schema s rs (Gift to field kind total) ≡ true → (f : ℕ) (k : Kind)
+      → own_in schema s (rs ++ Gift to field kind total ∷ []) f k + cond ((field.0 == f) && same_kind kind k) (total - given_in rs to.0 field.0 kind) 0 ≡ own_in schema s rs f k
+  own_gift to field kind total may f k =
+      let parts = gift_parts schema s rs to field kind total may in
+      omega (arith, own_whole f k, pushed (Gift to field kind total) may f k, spent_gift schema s rs to field kind total f k parts.0 parts.1, gained_gift schema s rs to field kind total f k)
+
+  -- an acceptance adds it
+  pub own_accept : (from : SiteNo) (field : FieldNo) (kind : Kind) (total : ℕ) → may_stand schema s rs (Accept from field kind total) ≡ true → (f : ℕ) (k : Kind)
+      → own_in schema s (rs ++ Accept from field kind total ∷ []) f k ≡ own_in schema s rs f k + cond ((field.0 == f) && same_kind kind k) (total - accepted_in rs from.0 field.0 kind) 0
+  own_accept from field kind total may f k =
+      let parts = accept_parts schema s rs from field kind total may in
+      omega (arith, own_whole f k, pushed (Accept from field kind total) may f k, spent_accept schema s rs from field kind total f k, gained_accept schema s rs from field kind total f k parts.0 parts.1)
+
+  -- a restart changes none
+  pub own_restart : (epoch : ℕ) → may_stand schema s rs (Restart epoch) ≡ true → (f : ℕ) (k : Kind) → own_in schema s (rs ++ Restart epoch ∷ []) f k ≡ own_in schema s rs f k
+  own_restart epoch may f k = omega (arith, own_whole f k, pushed (Restart epoch) may f k, spent_restart schema s rs epoch f k, gained_restart schema s rs epoch f k)

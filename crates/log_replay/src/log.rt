@@ -1,0 +1,51 @@
+//! A whole log taken in.
+
+ghost use Rattle.std.specs.Prelude.{◌<◌, IfOk};
+ghost use Rattle.std.specs.List.{AllByRecursion};
+ghost use Rattle.kept_records.specs.Text.{IsRecord};
+ghost use Rattle.log_replay.specs.Replayed.{TellsStanding, TellsBroken};
+
+use crate::standing::Standing;
+use field_bounds::{Schema, SiteNo};
+use kept_records::Record;
+use std::alloc::{AllocError, Global};
+
+/// What a log came to.
+#[derive(Drop)]
+pub enum Replayed {
+    /// Each record may stand behind those before it, and this is what they stand for.
+    Standing(Standing),
+    /// This record, counted from 1, is the first that breaks a rule: it may not stand behind those
+    /// before it, and each of those may.
+    BreaksRule { number: u64 },
+}
+
+/// Takes in all records of a site's log, in order, from the site's parts on. `BreaksRule` is
+/// answered exactly where some record may not stand behind those before it, and names the first.
+/// The error is want of memory.
+///
+/// Costs one step for each record and escrow up to the first that breaks a rule. Memory is taken
+/// for the standing alone: a row for each field, and one for each site and field.
+///
+/// Source: this project.
+pub fn replay(
+    alloc: Global,
+    schema: &Schema,
+    site: SiteNo,
+    records: &[Record],
+) -> Result<Replayed, AllocError>
+    requires site_in { site.0 < schema.now.sites }
+    requires in_range { AllByRecursion IsRecord records.now }
+    ensures standing { IfOk result (λ replayed. TellsStanding schema.now site.0 records.now replayed) }
+    ensures broken { IfOk result (λ replayed. TellsBroken schema.now site.0 records.now replayed) }
+{
+    let mut standing = Standing::new(alloc, schema, site)?;
+    let mut number: u64 = 0;
+    for record in records {
+        number += 1;
+        if !standing.take_in(schema, record) {
+            return Ok(Replayed::BreaksRule { number });
+        }
+    }
+    Ok(Replayed::Standing(standing))
+}

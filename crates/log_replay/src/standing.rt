@@ -1,0 +1,180 @@
+//! What records stand for, and the step by which one more is taken in.
+
+ghost use Rattle.std.specs.Prelude.{◌≡◌, ◌<◌, ◌≤◌, ◌&&◌, ◌++◌, ◌∷◌, [], ℕ, List, true, IfOk, IsTrue, ◌↔◌};
+ghost use Rattle.std.specs.List.{list_all};
+ghost use Rattle.field_bounds.specs.Schema.{SchemaValue};
+ghost use Rattle.kept_records.specs.declared.record.Record.{Record};
+ghost use Rattle.kept_records.specs.declared.record.Record.TheVariants.{Commit, Gift, Accept, Restart};
+ghost use Rattle.kept_records.specs.Text.{IsRecord, max_total};
+ghost use Rattle.kept_records.specs.Stands.{is_field, is_other_site, may_stand, Lawful};
+ghost use Rattle.site_rights.specs.Rights.{AreInRange, by_escrows, taken};
+ghost use Rattle.log_replay.specs.Standing.{HasPlaces, IsStandingFor, AreFree, TakesIn, is_on_field};
+
+use field_bounds::{Escrow, FieldNo, Kind, Schema, SiteNo, TxnId};
+use gift_ledger::Ledger;
+use kept_records::Record;
+use site_rights::{Outcome, Rights};
+use std::alloc::{AllocError, Global};
+
+/// What the records taken in so far stand for: the rights of the site, none of them held, the totals
+/// that it gave and accepted, and the epoch of the last restart, 0 to 1,000,000,000.
+///
+/// Source: Balegas and others 2015 for the rights and the totals; this project for the epoch.
+#[derive(Drop)]
+pub struct Standing {
+    pub rights: Rights,
+    pub ledger: Ledger,
+    pub epoch: u32,
+}
+
+impl Standing {
+    /// What no records stand for: the site's parts, nothing given or accepted, and epoch 0. The
+    /// error is want of memory. Costs a row for each field, and one for each site and field; no
+    /// later call takes memory.
+    pub fn new(alloc: Global, schema: &Schema, site: SiteNo) -> Result<Standing, AllocError>
+        requires site_in { site.0 < schema.now.sites }
+        ensures nothing { IfOk result (λ standing. IsStandingFor schema.now site.0 [] standing) }
+    {
+        Ok(Standing {
+            rights: Rights::new(alloc, schema, site)?,
+            ledger: Ledger::new(alloc, schema, site)?,
+            epoch: 0,
+        })
+    }
+
+    /// Takes in the next record, and answers whether it may stand behind those before it. Where it
+    /// may not, nothing is claimed of what is left. The schema is the one that the standing was made
+    /// for. Costs one step for each escrow of the record, and no memory.
+    ///
+    /// Source: O'Neil 1986 for the commit; Balegas and others 2015 for the gift and the acceptance;
+    /// this project for the restart and for what each of them has to meet.
+    pub fn take_in(&mut self, schema: &Schema, next: &Record) -> bool
+        requires places { HasPlaces schema.now self.old.rights self.old.ledger }
+        requires in_range { IsRecord next.now }
+        ensures answer { (s : ℕ) (rs : List Record) → Lawful schema.now s rs → IsStandingFor schema.now s rs self.old →
+            result ≡ may_stand schema.now s rs next.now }
+        ensures stands { result ≡ true → (s : ℕ) (rs : List Record) → Lawful schema.now s rs → IsStandingFor schema.now s rs self.old →
+            IsStandingFor schema.now s (rs ++ next.now ∷ []) self.new }
+    {
+        match next {
+            Record::Commit { txn, escrows } => self.commit(schema, *txn, escrows.as_slice()),
+            Record::Gift {
+                to,
+                field,
+                kind,
+                total,
+            } => self.give(schema, *to, *field, *kind, *total),
+            Record::Accept {
+                from,
+                field,
+                kind,
+                total,
+            } => self.accept(schema, *from, *field, *kind, *total),
+            Record::Restart { epoch } => self.restart(*epoch),
+        }
+    }
+
+    /// Takes in a commit: it is of the standing's epoch, and spends what is owned.
+    fn commit(&mut self, schema: &Schema, txn: TxnId, escrows: &[Escrow]) -> bool
+        requires places { HasPlaces schema.now self.old.rights self.old.ledger }
+        ensures takes_in { TakesIn schema.now self.old (Commit txn escrows.now) result self.new }
+    {
+        if txn.epoch != self.epoch || !are_fields(schema, escrows) {
+            return false;
+        }
+        if !take_all(&mut self.rights, escrows) {
+            return false;
+        }
+        self.rights.end(escrows, Outcome::Committed);
+        true
+    }
+
+    /// Takes in a gift: its total is above the one before by what is owned, which leaves.
+    fn give(&mut self, schema: &Schema, to: SiteNo, field: FieldNo, kind: Kind, total: u64) -> bool
+        requires places { HasPlaces schema.now self.old.rights self.old.ledger }
+        requires small { total ≤ max_total }
+        ensures takes_in { TakesIn schema.now self.old (Gift to field kind total) result self.new }
+    {
+        if !self.has_place(schema, to, field) {
+            return false;
+        }
+        let before = self.ledger.total(to, field, kind);
+        if total <= before {
+            return false;
+        }
+        let amount = total - before;
+        if self.rights.drop_free(field, kind, amount).is_err() {
+            return false;
+        }
+        self.ledger.give(to, field, kind, amount).is_ok()
+    }
+
+    /// Takes in an acceptance: its total is above the one before by what there is room for, which
+    /// comes to the site.
+    fn accept(
+        &mut self,
+        schema: &Schema,
+        from: SiteNo,
+        field: FieldNo,
+        kind: Kind,
+        total: u64,
+    ) -> bool
+        requires places { HasPlaces schema.now self.old.rights self.old.ledger }
+        ensures takes_in { TakesIn schema.now self.old (Accept from field kind total) result self.new }
+    {
+        if !self.has_place(schema, from, field) {
+            return false;
+        }
+        let before = self.ledger.accepted(from, field, kind);
+        if total <= before || total - before > self.rights.room(field) {
+            return false;
+        }
+        let gain = self.ledger.accept(from, field, kind, total);
+        self.rights.add(field, kind, gain);
+        true
+    }
+
+    /// Takes in a restart: its epoch is above every one before.
+    fn restart(&mut self, epoch: u32) -> bool
+        ensures takes_in { (schema : SchemaValue) → TakesIn schema self.old (Restart epoch) result self.new }
+    {
+        if epoch <= self.epoch {
+            return false;
+        }
+        self.epoch = epoch;
+        true
+    }
+
+    /// Whether it is another site of the schema, and a field of it.
+    fn has_place(&self, schema: &Schema, site: SiteNo, field: FieldNo) -> bool
+        ensures { result ≡ (is_other_site schema.now self.now.ledger.site site.0 && is_field schema.now field.0) }
+    {
+        site.0 < schema.sites() && site.0 != self.ledger.site().0 && field.0 < schema.fields()
+    }
+}
+
+/// Whether each escrow is on a field of the schema.
+fn are_fields(schema: &Schema, escrows: &[Escrow]) -> bool
+    ensures { result ≡ list_all (is_on_field schema.now) escrows.now }
+{
+    escrows
+        .iter()
+        .all(|escrow| escrow.field.0 < schema.fields())
+}
+
+/// Sets the rights aside that escrows take, one after another, and answers whether so many were
+/// free. Where they weren't, nothing is claimed of what is left.
+fn take_all(rights: &mut Rights, escrows: &[Escrow]) -> bool
+    requires in_range { AreInRange rights.old escrows.now }
+    ensures enough { IsTrue result ↔ AreFree rights.old escrows.now }
+    ensures taken { result ≡ true → rights.new ≡ by_escrows taken rights.old escrows.now }
+{
+    for escrow in escrows {
+        let kind = Kind::of(escrow.change);
+        let amount = escrow.change.unsigned_abs();
+        if rights.take(escrow.field, kind, amount).is_err() {
+            return false;
+        }
+    }
+    true
+}

@@ -1,0 +1,181 @@
+//! Worked logs of site 0 of two, on one field from 0 to 100 at 40: each site begins with 20 rights
+//! to lower it and 30 to raise it. Every expected value is worked out by hand.
+
+ghost use Rattle.std.specs.Prelude.{◌<◌, length};
+ghost use Rattle.gift_ledger.specs.Ledger.{IsPlace};
+
+use super::*;
+use field_bounds::{FieldNo, FieldSpec, Kind, Schema, SiteNo};
+use kept_records::read_records;
+use std::alloc::Global;
+
+const STOCK: FieldNo = FieldNo(0);
+
+const HERE: SiteNo = SiteNo(0);
+
+const OTHER: SiteNo = SiteNo(1);
+
+/// What is read off a standing: the rights of both kinds, the totals of lowering rights with the
+/// other site, and the epoch.
+#[derive(Clone, Copy, Debug, PartialEq, Eq)]
+struct Stands {
+    lower: u64,
+    raise: u64,
+    given: u64,
+    accepted: u64,
+    epoch: u32,
+}
+
+const PARTS: Stands = Stands {
+    lower: 20,
+    raise: 30,
+    given: 0,
+    accepted: 0,
+    epoch: 0,
+};
+
+/// Logs that break no rule, and what they stand for.
+const LAWFUL: [(&str, Stands); 10] = [
+    ("", PARTS),
+    (
+        "C 0 1 0 -20\n",
+        Stands {
+            lower: 0,
+            raise: 50,
+            ..PARTS
+        },
+    ),
+    (
+        "C 0 1 0 -5 0 3 0 -1\n",
+        Stands {
+            lower: 17,
+            raise: 33,
+            ..PARTS
+        },
+    ),
+    (
+        "G 1 0 l 5\n",
+        Stands {
+            lower: 15,
+            given: 5,
+            ..PARTS
+        },
+    ),
+    (
+        "G 1 0 l 5\nG 1 0 l 20\n",
+        Stands {
+            lower: 0,
+            given: 20,
+            ..PARTS
+        },
+    ),
+    (
+        "A 1 0 l 5\n",
+        Stands {
+            lower: 25,
+            accepted: 5,
+            ..PARTS
+        },
+    ),
+    (
+        "A 1 0 l 5\nA 1 0 l 50\n",
+        Stands {
+            lower: 70,
+            accepted: 50,
+            ..PARTS
+        },
+    ),
+    ("R 1\n", Stands { epoch: 1, ..PARTS }),
+    (
+        "R 1\nC 1 1 0 -1\n",
+        Stands {
+            lower: 19,
+            raise: 31,
+            epoch: 1,
+            ..PARTS
+        },
+    ),
+    (
+        "C 0 1 0 -20\nR 3\nA 1 0 l 4\nG 1 0 l 4\n",
+        Stands {
+            lower: 0,
+            raise: 50,
+            given: 4,
+            accepted: 4,
+            epoch: 3,
+        },
+    ),
+];
+
+/// Logs that break a rule, and the first record that does.
+const BROKEN: [(&str, u64); 18] = [
+    ("C 0 1 0 -20\nC 0 2 0 -20\n", 2),
+    ("C 0 1 0 -20 0 -1\n", 1),
+    ("C 0 1 0 31\n", 1),
+    ("C 1 1 0 -1\n", 1),
+    ("R 1\nC 0 1 0 -1\n", 2),
+    ("R 1\nR 1\n", 2),
+    ("R 2\nR 1\nG 0 0 l 5\n", 2),
+    ("G 0 0 l 5\n", 1),
+    ("G 2 0 l 5\n", 1),
+    ("G 1 0 l 21\n", 1),
+    ("G 1 0 l 5\nG 1 0 l 5\n", 2),
+    ("A 0 0 l 5\n", 1),
+    ("A 2 0 l 5\n", 1),
+    ("A 1 0 l 51\n", 1),
+    ("A 1 0 l 5\nA 1 0 l 5\n", 2),
+    ("C 0 1 1 -1\n", 1),
+    ("G 1 1 l 5\n", 1),
+    ("A 1 1 l 5\n", 1),
+];
+
+fn stock_of_two(alloc: Global) -> Option<Schema> {
+    let field = FieldSpec {
+        name: String::from_str(alloc, "stock").ok()?,
+        floor: 0,
+        ceiling: 100,
+        value: 40,
+    };
+    Schema::new(alloc, 2, vec![in alloc; field].ok()?).ok()
+}
+
+fn read_off(standing: &Standing) -> Stands
+    requires rights { 0 < length standing.now.rights }
+    requires place { IsPlace standing.now.ledger 1 0 }
+{
+    Stands {
+        lower: standing.rights.free(STOCK, Kind::Lower),
+        raise: standing.rights.free(STOCK, Kind::Raise),
+        given: standing.ledger.total(OTHER, STOCK, Kind::Lower),
+        accepted: standing.ledger.accepted(OTHER, STOCK, Kind::Lower),
+        epoch: standing.epoch,
+    }
+}
+
+/// What the log comes to, or None where memory was refused.
+fn replayed(alloc: Global, log: &str) -> Option<Result<Stands, u64>> {
+    let schema = stock_of_two(alloc)?;
+    if schema.sites() != 2 || schema.fields() != 1 {
+        return None;
+    }
+    let (records, _) = read_records(alloc, log.as_bytes()).ok()?;
+    match replay(alloc, &schema, HERE, &records) {
+        Ok(Replayed::Standing(standing)) => Some(Ok(read_off(&standing))),
+        Ok(Replayed::BreaksRule { number }) => Some(Err(number)),
+        Err(_) => None,
+    }
+}
+
+#[test]
+fn lawful_logs(rt: HostRuntime) {
+    for (log, stands) in LAWFUL {
+        assert_eq!(rt; replayed(rt.alloc(), log), Some(Ok(stands)));
+    }
+}
+
+#[test]
+fn broken_logs(rt: HostRuntime) {
+    for (log, number) in BROKEN {
+        assert_eq!(rt; replayed(rt.alloc(), log), Some(Err(number)));
+    }
+}
