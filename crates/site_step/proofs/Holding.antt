@@ -1,25 +1,15 @@
 -- What one more effect does to the ledger that holds the totals of the effects.
-use Rattle.std.proofs.Common.{◌≡◌, ℕ, ◌+◌, ◌==◌, max, Bool, true, false, ◌&&◌, cond, List, [], ◌∷◌, refl, sym, ap, ◌∙◌, arith, inl, inr}
+use Rattle.std.proofs.Common.{◌≡◌, ℕ, ◌+◌, ◌==◌, max, Bool, true, false, ◌&&◌, cond, List, ◌∷◌, refl, sym, ap, ◌∙◌, arith, inl, inr}
 use Rattle.std.proofs.lemmas.Bool.{cases_Bool, and_parts, eqb-true}
 use Rattle.field_bounds.specs.declared.kind.Kind.{Kind}
 use Rattle.field_bounds.specs.Kind.{same_kind}
 use Rattle.field_bounds.specs.Schema.{SchemaValue}
-use Rattle.field_bounds.specs.Effects.{Base, Effect, Gives, Accepts, fresh, given, accepted}
+use Rattle.field_bounds.specs.Effects.{Base, Effect, Gives, Accepts, given, accepted}
 use Rattle.field_bounds.proofs.Lawful.{same_kind-true}
-use Rattle.gift_ledger.specs.declared.account.Account.{Account}
-use Rattle.gift_ledger.specs.Ledger.{LedgerValue, total_at, accepted_at, with_total, with_accepted, IsPlace, fresh_ledger}
-use Rattle.gift_ledger.proofs.LedgerLaws.{place_stays, fresh_place, fresh_account, total_at-with_total, accepted_at-with_total, total_at-with_accepted, accepted_at-with_accepted}
-use Rattle.site_step.specs.State.{IsOther, Holds}
-
--- a site that has given and accepted nothing
-pub holds_fresh : (schema : SchemaValue) (s : ℕ) → Holds schema s [] (fresh_ledger schema s)
-holds_fresh schema s =
-    record {
-      place = λ r f o. fresh_place schema s r f o.other o.site_in o.field_in;
-      given = λ r f k o. ap (λ (x : Account). x.given) (fresh_account schema s r f k);
-      accepted = λ r f k o. ap (λ (x : Account). x.accepted) (fresh_account schema s r f k);
-      site = refl;
-    }
+use Rattle.gift_ledger.specs.Ledger.{LedgerValue, total_at, accepted_at, with_total, with_accepted, IsPlace}
+use Rattle.gift_ledger.proofs.LedgerLaws.{place_stays, total_at-with_total, accepted_at-with_total, total_at-with_accepted, accepted_at-with_accepted}
+use Rattle.log_replay.specs.Standing.{IsOther}
+use Rattle.site_step.specs.State.{Holds}
 
 turned : (a b c : Bool) → (b && c && a) ≡ (a && b && c)
 turned true true true = refl
@@ -35,13 +25,10 @@ same_place s r f g kind k h =
     let places = and_parts (s == r) (f == g) both.0 in
     (eqb-true s r places.0, eqb-true f g places.1, same_kind-true kind k both.1)
 
-module _ (schema : SchemaValue) (s : ℕ) (es : List Effect) (ledger : LedgerValue) (was : Holds schema s es ledger) where
-  abbrev base : Base
-  base = fresh schema s
-
+module _ (schema : SchemaValue) (s : ℕ) (base : Base) (es : List Effect) (ledger : LedgerValue) (was : Holds schema s base es ledger) where
   -- effects that are neither gifts nor acceptances
   pub holds_still : (more : List Effect) → ((r f : ℕ) (k : Kind) → given base r f k more ≡ given base r f k es) → ((r f : ℕ) (k : Kind) → accepted base r f k more ≡ accepted base r f k es)
-      → Holds schema s more ledger
+      → Holds schema s base more ledger
   holds_still more same_given same_accepted =
       record {
         place = was.place;
@@ -67,7 +54,7 @@ module _ (schema : SchemaValue) (s : ℕ) (es : List Effect) (ledger : LedgerVal
           | inr there ↦ let off = moved ∙ there in rw (there, off) (omega (arith, was.given r f k o))
         ]
 
-    pub holds_give : (amount : ℕ) → Holds schema s (Gives to field kind amount ∷ es) (with_total ledger to field kind (total_at ledger to field kind + amount))
+    pub holds_give : (amount : ℕ) → Holds schema s base (Gives to field kind amount ∷ es) (with_total ledger to field kind (total_at ledger to field kind + amount))
     holds_give amount =
         let total = total_at ledger to field kind + amount in
         record {
@@ -90,7 +77,7 @@ module _ (schema : SchemaValue) (s : ℕ) (es : List Effect) (ledger : LedgerVal
           | inr there ↦ let off = moved ∙ there in rw (there, off) (was.accepted r f k o)
         ]
 
-    pub holds_accept : (total : ℕ) → Holds schema s (Accepts to field kind total ∷ es) (with_accepted ledger to field kind (max total (accepted_at ledger to field kind)))
+    pub holds_accept : (total : ℕ) → Holds schema s base (Accepts to field kind total ∷ es) (with_accepted ledger to field kind (max total (accepted_at ledger to field kind)))
     holds_accept total =
         let most = max total (accepted_at ledger to field kind) in
         record {

@@ -1,4 +1,10 @@
 pub mod Holding
 pub mod Matching
 pub mod Standing
+pub mod Settling
+pub mod Ends
+pub mod Writes
+pub mod Resumes
+pub mod Restarts
+pub mod Opens
 pub mod Widths

@@ -11,7 +11,7 @@ use Rattle.field_bounds.specs.declared.id.TxnId.{TxnId}
 use Rattle.field_bounds.specs.declared.entry.Escrow.{Escrow}
 use Rattle.field_bounds.specs.Kind.{same_kind, kind_of}
 use Rattle.field_bounds.specs.Schema.{SchemaValue}
-use Rattle.field_bounds.specs.Effects.{Effect, Begins, Grants, Commits, Aborts, Gives, Accepts, fresh, accepted, same_txn, begun, open_txns, is_begun, is_committed, is_dropped, is_open, escrows_of, takes, share, held}
+use Rattle.field_bounds.specs.Effects.{Base, Effect, Begins, Grants, Commits, Aborts, Gives, Accepts, Stops, accepted, same_txn, begun, open_txns, is_begun, is_committed, is_dropped, is_open, escrows_of, takes, share, held}
 use Rattle.field_bounds.specs.Owed.{count_open}
 use Rattle.field_bounds.proofs.Lawful.{IsLawful, granted-mono, same_txn-true, same_kind-true}
 use Rattle.field_bounds.proofs.Steps.{same_txn-sym, of_txn, of_txn_is, share_grant, held_grant, share_commit, held_commit, share_abort, held_abort, share_give, share_accept, new_is_unused}
@@ -55,6 +55,7 @@ any_open t (Commits txn ∷ es) all = any_open t es all
 any_open t (Aborts txn ∷ es) all = any_open t es all
 any_open t (Gives to field kind amount ∷ es) all = any_open t es all
 any_open t (Accepts from field kind total ∷ es) all = any_open t es all
+any_open t (Stops ∷ es) all = any_open t es all
 
 pub stands-journal_of : (t : TxnId) (es : List Effect) → stands t (journal_of es) ≡ (is_begun t es && is_open t es)
 stands-journal_of t es =
@@ -142,10 +143,10 @@ journal_of-end o t es =
 
 -- ---- what changes rights and journal together
 
-module _ (schema : SchemaValue) (s : ℕ) (es : List Effect) (lawful : IsLawful schema (fresh schema s) es) (rows : List FieldRights) (journal : List Row) (was : Matches schema s es rows journal) where
-  pub matches_begin : (t : TxnId) → is_begun t es ≡ false → Matches schema s (Begins t ∷ es) rows (journal ++ (t, []) ∷ [])
+module _ (schema : SchemaValue) (base : Base) (es : List Effect) (lawful : IsLawful schema base es) (rows : List FieldRights) (journal : List Row) (was : Matches schema base es rows journal) where
+  pub matches_begin : (t : TxnId) → is_begun t es ≡ false → Matches schema base (Begins t ∷ es) rows (journal ++ (t, []) ∷ [])
   matches_begin t new =
-      let unused = new_is_unused schema (fresh schema s) t es lawful new in
+      let unused = new_is_unused schema base t es lawful new in
       let opened : is_open t es ≡ true = rw (unused.uncommitted, unused.undropped) refl in
       record {
         count = was.count;
@@ -155,19 +156,19 @@ module _ (schema : SchemaValue) (s : ℕ) (es : List Effect) (lawful : IsLawful 
         journal = ap (λ (j : List Row). j ++ (t, []) ∷ []) was.journal ∙ sym (journal_of-begin t es opened unused.no_escrow);
       }
 
-  pub matches_grant : (txn : TxnId) (e : Escrow) → e.field.0 < length rows → is_open txn es ≡ true → Matches schema s (Grants txn e.field.0 e.change ∷ es) (by_escrow taken rows e) (added txn e journal)
+  pub matches_grant : (txn : TxnId) (e : Escrow) → e.field.0 < length rows → is_open txn es ≡ true → Matches schema base (Grants txn e.field.0 e.change ∷ es) (by_escrow taken rows e) (added txn e journal)
   matches_grant txn e range opened =
       let same = length-by_escrow taken rows e in
       record {
         count = same ∙ was.count;
         width = λ f l. width-at_field taken taken_keeps rows e.field.0 f (kind_of e.change) (unsigned_abs e.change) range ∙ was.width f (omega (arith, l, same));
-        free = λ f k l. omega (arith, free_at-taken rows e f k range, was.free f k (omega (arith, l, same)), share_grant schema (fresh schema s) es lawful f k txn e opened);
-        held = λ f k l. omega (arith, held_at-taken rows e f k range, was.held f k (omega (arith, l, same)), held_grant schema (fresh schema s) es lawful f k txn e opened);
+        free = λ f k l. omega (arith, free_at-taken rows e f k range, was.free f k (omega (arith, l, same)), share_grant schema base es lawful f k txn e opened);
+        held = λ f k l. omega (arith, held_at-taken rows e f k range, was.held f k (omega (arith, l, same)), held_grant schema base es lawful f k txn e opened);
         journal = ap (added txn e) was.journal ∙ journal_of-grant txn e es;
       }
 
   -- the escrows of a transaction are on fields of the schema, and held while it is open
-  in_range_of : (t : TxnId) (fs : List Effect) → IsLawful schema (fresh schema s) fs → AreInRange rows (escrows_of t fs)
+  in_range_of : (t : TxnId) (fs : List Effect) → IsLawful schema base fs → AreInRange rows (escrows_of t fs)
   in_range_of t [] l = All-nil (λ (e : Escrow). e.field.0 < length rows)
   in_range_of t (Grants txn field change ∷ fs) l =
       let before = in_range_of t fs l.0 in
@@ -182,6 +183,7 @@ module _ (schema : SchemaValue) (s : ℕ) (es : List Effect) (lawful : IsLawful 
   in_range_of t (Aborts txn ∷ fs) l = in_range_of t fs l.0
   in_range_of t (Gives to field kind amount ∷ fs) l = in_range_of t fs l.0
   in_range_of t (Accepts from field kind total ∷ fs) l = in_range_of t fs l.0
+  in_range_of t (Stops ∷ fs) l = in_range_of t fs l.0
 
   pub are_in_range : (t : TxnId) → AreInRange rows (reverse (escrows_of t es))
   are_in_range t = All-reverse (λ (e : Escrow). e.field.0 < length rows) (escrows_of t es) (in_range_of t es lawful)
@@ -194,15 +196,15 @@ module _ (schema : SchemaValue) (s : ℕ) (es : List Effect) (lawful : IsLawful 
       let fewer = granted-mono (λ id. same_txn t id) (λ id. is_open id es) (λ id same. ap (λ (x : TxnId). is_open x es) (sym (same_txn-true t id same)) ∙ opened) f k es in
       omega (arith, sum_is t f k, was.held f k l, fewer)
 
-  share_end : (o : Outcome) (t : TxnId) → is_open t es ≡ true → (f : ℕ) (k : Kind) → share (fresh schema s) f k (ended o t ∷ es) ≡ share (fresh schema s) f k es + of_txn t f (frees o k) es
-  share_end Committed t opened f k = share_commit schema (fresh schema s) es lawful f k t opened
-  share_end Aborted t opened f k = share_abort schema (fresh schema s) es lawful f k t opened
+  share_end : (o : Outcome) (t : TxnId) → is_open t es ≡ true → (f : ℕ) (k : Kind) → share base f k (ended o t ∷ es) ≡ share base f k es + of_txn t f (frees o k) es
+  share_end Committed t opened f k = share_commit schema base es lawful f k t opened
+  share_end Aborted t opened f k = share_abort schema base es lawful f k t opened
 
   held_end : (o : Outcome) (t : TxnId) → is_open t es ≡ true → (f : ℕ) (k : Kind) → held f k (ended o t ∷ es) + of_txn t f k es ≡ held f k es
-  held_end Committed t opened f k = held_commit schema (fresh schema s) es lawful f k t opened
-  held_end Aborted t opened f k = held_abort schema (fresh schema s) es lawful f k t opened
+  held_end Committed t opened f k = held_commit schema base es lawful f k t opened
+  held_end Aborted t opened f k = held_abort schema base es lawful f k t opened
 
-  pub matches_end : (o : Outcome) (t : TxnId) → is_open t es ≡ true → Matches schema s (ended o t ∷ es) (by_escrows (ending o) rows (reverse (escrows_of t es))) (without t journal)
+  pub matches_end : (o : Outcome) (t : TxnId) → is_open t es ≡ true → Matches schema base (ended o t ∷ es) (by_escrows (ending o) rows (reverse (escrows_of t es))) (without t journal)
   matches_end o t opened =
       let gone = reverse (escrows_of t es) in
       let same = length-by_escrows (ending o) rows gone in
@@ -220,13 +222,13 @@ module _ (schema : SchemaValue) (s : ℕ) (es : List Effect) (lawful : IsLawful 
       }
 
   -- what leaves and comes by a gift and an acceptance
-  pub matches_give : (to field : ℕ) (kind : Kind) (amount : ℕ) → field < length rows → Matches schema s (Gives to field kind amount ∷ es) (at_field dropped rows field kind amount) journal
+  pub matches_give : (to field : ℕ) (kind : Kind) (amount : ℕ) → field < length rows → Matches schema base (Gives to field kind amount ∷ es) (at_field dropped rows field kind amount) journal
   matches_give to field kind amount range =
       let same : length (at_field dropped rows field kind amount) ≡ length rows = length-set rows field _ in
       record {
         count = same ∙ was.count;
         width = λ f l. width-at_field dropped dropped_keeps rows field f kind amount range ∙ was.width f (omega (arith, l, same));
-        free = λ f k l. omega (arith, free_at-dropped rows field f kind k amount range, was.free f k (omega (arith, l, same)), share_give schema (fresh schema s) es lawful f k to field kind amount);
+        free = λ f k l. omega (arith, free_at-dropped rows field f kind k amount range, was.free f k (omega (arith, l, same)), share_give schema base es lawful f k to field kind amount);
         held = λ f k l. held_at-dropped rows field f kind k amount range ∙ was.held f k (omega (arith, l, same));
         journal = was.journal;
       }
@@ -243,11 +245,11 @@ module _ (schema : SchemaValue) (s : ℕ) (es : List Effect) (lawful : IsLawful 
         | inr there ↦ rw there refl
       ]
 
-  pub matches_accept : (from field : ℕ) (kind : Kind) (total gain : ℕ) → field < length rows → gain ≡ total - accepted (fresh schema s) from field kind es
-      → Matches schema s (Accepts from field kind total ∷ es) (at_field gained rows field kind gain) journal
+  pub matches_accept : (from field : ℕ) (kind : Kind) (total gain : ℕ) → field < length rows → gain ≡ total - accepted base from field kind es
+      → Matches schema base (Accepts from field kind total ∷ es) (at_field gained rows field kind gain) journal
   matches_accept from field kind total gain range is =
       let same : length (at_field gained rows field kind gain) ≡ length rows = length-set rows field _ in
-      let of : ℕ → Kind → ℕ = λ f k. total - accepted (fresh schema s) from f k es in
+      let of : ℕ → Kind → ℕ = λ f k. total - accepted base from f k es in
       record {
         count = same ∙ was.count;
         width = λ f l. width-at_field gained added_keeps rows field f kind gain range ∙ was.width f (omega (arith, l, same));
@@ -258,7 +260,7 @@ module _ (schema : SchemaValue) (s : ℕ) (es : List Effect) (lawful : IsLawful 
               ap (λ (n : ℕ). cond ((field == f) && same_kind kind k) n 0) is,
               gained_there of field f kind k,
               was.free f k (omega (arith, l, same)),
-              share_accept schema (fresh schema s) es lawful f k from field kind total,
+              share_accept schema base es lawful f k from field kind total,
             );
         held = λ f k l. held_at-added rows field f kind k gain range ∙ was.held f k (omega (arith, l, same));
         journal = was.journal;

@@ -1,2 +1,4 @@
 pub mod Site
 pub mod State
+pub mod Resuming
+pub mod Opening

@@ -1,27 +1,46 @@
--- A site as its callers see it (this project).
-use Rattle.std.specs.Prelude.{◌≡◌, List, ◌∷◌}
+-- A site as its callers see it, and what its calls do (this project).
+use Rattle.std.specs.Prelude.{◌≡◌, ℕ, ◌+◌, ◌-◌, ◌^◌, ◌≤◌, nat_lt, if◌then◌else◌, Bool, true, List, [], ◌∷◌, ◌++◌, length, Option, Some, None}
 use Rattle.field_bounds.specs.declared.id.SiteNo.{SiteNo}
 use Rattle.field_bounds.specs.declared.id.TxnId.{TxnId}
 use Rattle.field_bounds.specs.declared.entry.Command.{Command}
 use Rattle.field_bounds.specs.declared.entry.Command.TheVariants.{Commit, Abort}
 use Rattle.field_bounds.specs.declared.entry.Reply.{Reply}
-use Rattle.field_bounds.specs.declared.entry.Reply.TheVariants.{Committed as SaysCommitted, Aborted as SaysAborted}
+use Rattle.field_bounds.specs.declared.entry.Reply.TheVariants.{Committed as SaysCommitted, Aborted as SaysAborted, Restarted, Unsure, StillDown, Refused}
+use Rattle.field_bounds.specs.declared.entry.Last.{Last}
 use Rattle.field_bounds.specs.declared.entry.Entry.{Entry}
 use Rattle.field_bounds.specs.Schema.{SchemaValue}
-use Rattle.field_bounds.specs.Effects.{Base, fresh}
-use Rattle.field_bounds.specs.Owed.{Place, place, Fits}
+use Rattle.field_bounds.specs.Effects.{Base}
+use Rattle.field_bounds.specs.Owed.{Place, place, Fits, max_number}
 use Rattle.site_rights.specs.declared.field_rights.Outcome.{Outcome}
 use Rattle.site_rights.specs.declared.field_rights.Outcome.TheVariants.{Committed, Aborted}
+use Rattle.kept_records.specs.declared.medium.Mishap.{Mishap}
+use Rattle.kept_records.specs.declared.medium.Mishap.TheVariants.{Never, Append}
+use Rattle.kept_records.specs.declared.record.Record.{Record}
+use Rattle.kept_records.specs.Logs.{IsLog}
+use Rattle.kept_records.specs.Stands.{greatest, Lawful}
+use Rattle.kept_state.specs.declared.luck.Luck.{Luck}
+use Rattle.kept_state.specs.declared.luck.Luck.TheVariants.{Fine, Torn}
+use Rattle.kept_state.specs.Keeps.{Keeps, opened, adds}
+use Rattle.kept_state.specs.Doubt.{found_of}
+use Rattle.kept_state.specs.Luck.{owed_with, kept_after, doubt_after, record_length}
 
--- The schema, the site's number, and its history with the newest entry first.
+-- The schema and the site's number; whether the medium was empty when the site was opened, and the records that it held
+-- then; the history, the newest entry first; what the medium holds now, how often it has failed, and the mishap that
+-- strikes it next, where that is known; and, where an answer is in doubt, how many records stood before its own.
 pub record SiteValue : Type 0 where
   pub schema : SchemaValue
   pub site : SiteNo
+  pub fresh : Bool
+  pub based : List Record
   pub history : List Entry
+  pub bytes : List ℕ
+  pub failed : ℕ
+  pub foretold : Option Mishap
+  pub doubt : Option ℕ
 
 -- The base on which a site's history stands.
 abbrev pub base_of : SiteValue → Base
-base_of v = fresh v.schema v.site.0
+base_of v = opened v.schema v.site.0 v.fresh v.based
 
 -- Where a site stands.
 abbrev pub here : SiteValue → Place
@@ -30,10 +49,6 @@ here v = place v.schema v.site.0 (base_of v) v.history
 -- An entry of a site.
 abbrev pub entry_of : SiteValue → Command → Reply → Entry
 entry_of v command reply = record { site = v.site; command = command; reply = reply }
-
--- A site with one more entry, and nothing else changed.
-abbrev pub with_entry : SiteValue → Command → Reply → SiteValue
-with_entry v command reply = record v { history = entry_of v command reply ∷ v.history }
 
 -- The command that ends a transaction, and its reply.
 abbrev pub end_command : Outcome → TxnId → Command
@@ -44,8 +59,103 @@ abbrev pub end_reply : Outcome → Reply
 end_reply Committed = SaysCommitted
 end_reply Aborted = SaysAborted
 
+-- ---- what a call does to the medium
+
+-- The count of failures rises by one exactly at a reply in doubt and at a restart that failed.
+abbrev pub failed_after : Reply → ℕ → ℕ
+failed_after Unsure n = n + 1
+failed_after StillDown n = n + 1
+failed_after reply n = n
+
+-- Where the record in doubt stands: behind the records that there were, settled by a restart, else as before.
+abbrev pub doubt_from : Reply → List Record → Option ℕ → Option ℕ
+doubt_from Unsure rs doubt = Some (length rs)
+doubt_from (Restarted epoch found) rs doubt = None
+doubt_from reply rs doubt = doubt
+
+-- A restart tells the greatest epoch kept and one more, and exactly what became of the record in doubt, and leaves no
+-- torn end; where the greatest epoch is the last, it is refused.
+abbrev pub RestartsOver : Reply → List Record → Option ℕ → List ℕ → Type 0
+RestartsOver (Restarted epoch found) rs doubt rest =
+    (epoch ≡ greatest rs + 1) × (found ≡ found_of doubt rs) × (rest ≡ []) × (epoch ≤ max_number)
+RestartsOver reply rs doubt rest = Unit {0}
+
+-- A restart is refused exactly where the greatest epoch kept is the last.
+abbrev pub RefusesOver : Command → Reply → List Record → Type 0
+RefusesOver Command.Restart (Refused refusal) rs = max_number ≤ greatest rs
+RefusesOver command reply rs = Unit {0}
+
+-- Over a medium that holds these records: it holds them still, behind them the record that the entry adds, if any, and
+-- then bytes in which no line ends.
+pub record Logs (before : SiteValue) (command : Command) (reply : Reply) (later : SiteValue) (rs : List Record) : Type 0 where
+  pub stood : Bool
+  pub rest : List ℕ
+  pub log : IsLog later.bytes (rs ++ adds (here before) command reply stood rs) rest
+  pub doubt : later.doubt ≡ doubt_from reply rs before.doubt
+  pub restarts : RestartsOver reply rs before.doubt rest
+  pub refuses : RefusesOver command reply rs
+
+-- ---- under a mishap that is known
+
+-- The mishap of an append that goes by luck.
+abbrev pub mishap_of : Luck → Mishap
+mishap_of Fine = Never
+mishap_of (Torn bytes) = Append bytes
+
+-- The mishap that strikes next once this one is armed: none does where the count of failures can't rise.
+abbrev pub foretold_by : ℕ → Mishap → Option Mishap
+foretold_by failed mishap = if nat_lt failed (2 ^ 64 - 1) then Some mishap else Some Never
+
+-- What a restart that doesn't fail would find: this greatest epoch kept, and this of the record in doubt.
+unfoldable pub Finds : SiteValue → ℕ → Last → Type 0
+Finds v epoch found =
+    (rs : List Record) (rest : List ℕ) → IsLog v.bytes rs rest → (greatest rs ≡ epoch) × (found_of v.doubt rs ≡ found)
+
+-- Where it is known how the next append goes, the reply is the one that is owed then, and so is what a restart would find
+-- after it.
+pub record IsExact (before : SiteValue) (command : Command) (reply : Reply) (later : SiteValue) (luck : Luck) (epoch : ℕ) (found : Last) : Type 0 where
+  pub reply_is : reply ≡ owed_with (here before) epoch found command luck
+  pub finds : Finds later (kept_after reply luck epoch) (doubt_after reply luck (record_length (here before) command) found)
+
+-- ---- the calls
+
+-- Nothing but the history, the medium and what is in doubt has changed.
+pub record IsSame (before later : SiteValue) : Type 0 where
+  pub schema : later.schema ≡ before.schema
+  pub site : later.site ≡ before.site
+  pub fresh : later.fresh ≡ before.fresh
+  pub based : later.based ≡ before.based
+
 -- A site answered a command: the reply is owed after the history as it was, and the history has grown by exactly that
--- command with that reply.
+-- command with that reply; the device failed exactly where the reply says so; the medium has grown by the entry's record
+-- alone; and under a known luck the reply is the one that is owed.
 pub record Applies (before : SiteValue) (command : Command) (reply : Reply) (later : SiteValue) : Type 0 where
   pub fits : Fits (here before) command reply
-  pub entry : later ≡ with_entry before command reply
+  pub entry : later.history ≡ entry_of before command reply ∷ before.history
+  pub same : IsSame before later
+  pub failed : later.failed ≡ failed_after reply before.failed
+  pub logs : (rs : List Record) (rest : List ℕ) → IsLog before.bytes rs rest → Logs before command reply later rs
+  pub exact : (luck : Luck) (epoch : ℕ) (found : Last) → before.foretold ≡ Some (mishap_of luck) → Finds before epoch found
+      → IsExact before command reply later luck epoch found
+
+-- The medium holds the texts of lawful records that the history keeps, and then bytes in which no line ends.
+pub record HoldsLog (v : SiteValue) : Type 0 where
+  pub records : List Record
+  pub rest : List ℕ
+  pub kept : Bool
+  pub log : IsLog v.bytes records rest
+  pub keeps : Keeps v.schema v.site.0 (base_of v) v.based kept v.history records
+  pub lawful : Lawful v.schema v.site.0 records
+
+-- A site that stands on what a medium held: nothing is answered and nothing in doubt, the base is the records read.
+pub record Opens (told : SchemaValue) (number : SiteNo) (held : List ℕ) (count : ℕ) (v : SiteValue) : Type 0 where
+  pub schema : v.schema ≡ told
+  pub site : v.site ≡ number
+  pub fresh : (v.fresh ≡ true → held ≡ []) × (held ≡ [] → v.fresh ≡ true)
+  pub rest : List ℕ
+  pub based : IsLog held v.based rest
+  pub lawful : Lawful told number.0 v.based
+  pub history : v.history ≡ []
+  pub bytes : v.bytes ≡ held
+  pub failed : v.failed ≡ count
+  pub doubt : v.doubt ≡ None

@@ -1,9 +1,11 @@
-//! One site: it decides each command alone, by the rights that it holds, and keeps what it answered.
+//! One site: it decides each command alone, by the rights that it holds, and keeps what it answered
+//! on a medium, so that it stands the same after a stop.
 #![tactic(auto)]
 
+mod accounts;
 mod site;
 
-pub use site::Site;
+pub use site::{OpenFault, Site};
 
 #[cfg(test)]
 mod tests;

@@ -1,119 +1,153 @@
 //! A site and its step.
 
-ghost use Rattle.std.specs.Prelude.{◌≡◌, ◌&&◌, ◌<◌, ◌≤◌, nat_lt, ◌∷◌, true, None, Some, [], length, reverse, OnOk, OnErr, IfOk, pos, neg_ℤ, ◌+ℤ◌, ◌-ℤ◌, ◌≤ℤ◌};
-ghost use Rattle.field_bounds.specs.Effects.{is_begun, is_open};
-ghost use Rattle.field_bounds.specs.Owed.{count_open, count_escrows, count_since, is_begun_reply, free, owned, no_field, no_transaction, interval_at, interval_of, shares_of, is_quiet, first, refusals, Fits, IsRun};
-ghost use Rattle.site_rights.specs.Rights.{ending, by_escrows, AreInRange, AreHeld};
-ghost use Rattle.escrow_journal.specs.Journal.{stands, escrows_at, without};
-ghost use Rattle.site_step.specs.Site.{here, base_of, end_command, end_reply, Applies};
+ghost use Rattle.std.specs.Prelude.{◌≡◌, ◌<◌, ◌∷◌, [], ℕ, reverse, OnErr, IfOk, IfErr, vec_len, vec_capacity};
+ghost use Rattle.field_bounds.specs.declared.entry.Last.{Last};
+ghost use Rattle.field_bounds.specs.declared.entry.Last.TheVariants.{Nothing};
+ghost use Rattle.field_bounds.specs.Owed.{interval_of, shares_of, is_up, IsRun};
+ghost use Rattle.site_step.specs.Site.{here, base_of, Applies, HoldsLog, Finds, Opens, foretold_by};
+ghost use Rattle.site_step.specs.Opening.{TellsLine, SparesLogs, StaysForetold, failed_at};
 
 mod gifts;
+mod keeping;
+mod ladder;
+mod opening;
+mod restart;
 
+use crate::accounts::Accounts;
 use escrow_journal::Journal;
-use field_bounds::{
-    Command, Entry, Escrow, FieldNo, Kind, MAX_CHANGE, MAX_ESCROWS, MAX_NUMBER, MAX_OPEN, Refusal,
-    Reply, Schema, SiteNo, TxnId, by_command, refuse_first,
-};
-use gift_ledger::Ledger;
-use site_rights::{Outcome, Rights};
+use field_bounds::{Command, Entry, FieldNo, Kind, Reply, Schema, SiteNo, by_command};
+use kept_records::{Medium, Mishap, Record, TornMedium};
+pub use opening::OpenFault;
+use opening::{Found, read_base};
 use std::alloc::{AllocError, Global};
 use std::marker::Model;
 
-/// One site of a schema. Contracts see the schema, the site's number and its history, the newest
-/// entry first.
+/// One site of a schema, over a medium that keeps what it answered. Contracts see the schema and the
+/// site's number; the records that the medium held when the site was opened, and whether it was
+/// empty then; the history, the newest entry first; the medium's bytes, its count of failures and the
+/// mishap foretold for it; and, where an answer is in doubt, how many records stood before its own.
+///
+/// Source: O'Neil 1986 for escrows and the test of a grant, Balegas and others 2015 for rights that a
+/// site holds and transfers, this project for what it keeps and its restarts.
 #[derive(Drop)]
-pub struct Site {
+pub struct Site<M: Medium> {
     schema: Schema,
     number: SiteNo,
-    rights: Rights,
-    journal: Journal,
-    ledger: Ledger,
-    last: u32,
+    medium: M,
+    fresh: bool,
+    based: Vec<Record>,
     history: Vec<Entry>,
+    up: bool,
+    count: usize,
+    doubt: Option<usize>,
+    accounts: Accounts,
 }
 
-impl Model for Site {
+impl<M: Medium> Model for Site<M> {
     ghost use Rattle.std.specs.Prelude.{reverse};
     ghost use Rattle.site_step.specs.Site.{SiteValue};
-    ghost use Rattle.site_step.specs.State.{StandsOn};
+    ghost use Rattle.site_step.specs.State.{IsSound};
 
     ghost Value = { SiteValue };
 
-    ghost view = { λ s. record { schema = s.schema; site = s.number; history = reverse s.history.items } };
+    ghost view = { λ s. record {
+      schema = s.schema;
+      site = s.number;
+      fresh = s.fresh;
+      based = s.based.items;
+      history = reverse s.history.items;
+      bytes = M.bytes s.medium;
+      failed = M.failed s.medium;
+      foretold = M.foretold s.medium;
+      doubt = s.doubt;
+    } };
 
-    ghost invariant = { λ s. StandsOn s.schema s.number.0 (reverse s.history.items) s.rights s.journal s.ledger s.last };
+    ghost invariant = { λ s. IsSound (record {
+      schema = s.schema;
+      site = s.number;
+      fresh = s.fresh;
+      based = s.based.items;
+      history = reverse s.history.items;
+      bytes = M.bytes s.medium;
+      failed = M.failed s.medium;
+      foretold = M.foretold s.medium;
+      doubt = s.doubt;
+    })
+        s.up s.count s.accounts };
 }
 
-/// A floor raised by rights.
-fn raised(bound: i64, by: u64) -> i64
-    requires high { bound ≤ℤ pos 1_000_000_000_000_000 }
-    requires small { by ≤ 2_000_000_000_000_000 }
-    ensures { result ≡ bound +ℤ pos by }
+/// Adds an entry to a history that has room for it.
+fn note(history: &mut Vec<Entry>, site: SiteNo, command: Command, reply: Reply) -> Reply
+    requires { vec_len history.old < vec_capacity history.old }
+    ensures past { reverse history.new.items ≡ (record { site = site; command = command; reply = reply }) ∷ reverse history.old.items }
+    ensures reply { result ≡ reply }
 {
-    bound + by as i64
-}
-
-/// A ceiling lowered by rights.
-fn lowered(bound: i64, by: u64) -> i64
-    requires low { neg_ℤ (pos 1_000_000_000_000_000) ≤ℤ bound }
-    requires small { by ≤ 2_000_000_000_000_000 }
-    ensures { result ≡ bound -ℤ pos by }
-{
-    bound - by as i64
-}
-
-/// The command that ends a transaction.
-fn end_command(outcome: Outcome, txn: TxnId) -> Command
-    ensures { result ≡ end_command outcome txn }
-{
-    match outcome {
-        Outcome::Committed => Command::Commit { txn },
-        Outcome::Aborted => Command::Abort { txn },
+    match history.push(Entry {
+        site,
+        command,
+        reply,
+    }) {
+        Ok(()) => reply,
+        Err(_) => unreachable!(),
     }
 }
 
-/// The reply to the command that ends a transaction.
-fn end_reply(outcome: Outcome) -> Reply
-    ensures { result ≡ end_reply outcome }
-{
-    match outcome {
-        Outcome::Committed => Reply::Committed,
-        Outcome::Aborted => Reply::Aborted,
-    }
-}
-
-/// Takes an open transaction out of the journal and ends its escrows.
-fn close(journal: &mut Journal, rights: &mut Rights, txn: TxnId, outcome: Outcome)
-    requires open { stands txn journal.old ≡ true }
-    requires in_schema { AreInRange rights.old (escrows_at txn journal.old) }
-    requires there { AreHeld rights.old (escrows_at txn journal.old) }
-    ensures journal { journal.new ≡ without txn journal.old }
-    ensures rights { rights.new ≡ by_escrows (ending outcome) rights.old (escrows_at txn journal.old) }
-{
-    if let Some(escrows) = journal.take_out(txn) {
-        rights.end(&escrows, outcome);
-    }
-}
-
-impl Site {
-    /// A site that has answered nothing: its parts are its free rights, and no transaction is open.
-    /// The error is want of memory. Costs one row for each field, and one more for each site and
-    /// field.
-    pub fn fresh(alloc: Global, schema: Schema, site: SiteNo) -> Result<Site, AllocError>
+impl<M: Medium> Site<M> {
+    /// Opens a site over a medium, which stays as it is. Over an empty one the site is up at epoch 0
+    /// with its parts as free rights. Over any other it is down, and stands on the records that the
+    /// medium holds, once it is restarted: bytes behind the last line feed are a torn record, and are
+    /// left out. Its history is empty.
+    ///
+    /// A fault hands the medium back. `Device`: the device failed. `Line(n)`: line n, from 1, is the
+    /// first that is no record or breaks a rule of a kept log; that never comes over what a site
+    /// left, wherever a stop fell. `NoMemory`: memory is wanting.
+    ///
+    /// Reads the medium once, and keeps its records. Costs one row for each field, and one more for
+    /// each site and field.
+    pub fn open(
+        alloc: Global,
+        schema: Schema,
+        site: SiteNo,
+        medium: M,
+    ) -> Result<Site<M>, (OpenFault, M)>
         requires in_schema { site.0 < schema.sites }
-        ensures fresh { IfOk result (λ made. made ≡ record { schema = schema; site = site; history = [] }) }
+        ensures ok { IfOk result (λ made. Opens schema site (M.bytes medium) (M.failed medium) made) }
+        ensures mishap { IfOk result (λ made. made.foretold ≡ M.foretold medium) }
+        ensures nothing { IfOk result (λ made. M.bytes medium ≡ [] → Finds made 0 Nothing) }
+        ensures line { IfErr result (λ refused. TellsLine schema site.0 (M.bytes medium) refused.0) }
+        ensures never { IfErr result (λ refused. SparesLogs schema site.0 (M.bytes medium) refused.0) }
+        ensures bytes { IfErr result (λ refused. M.bytes refused.1 ≡ M.bytes medium) }
+        ensures failed { IfErr result (λ refused. M.failed refused.1 ≡ failed_at refused.0 (M.failed medium)) }
+        ensures foretold { IfErr result (λ refused. StaysForetold refused.0 (M.foretold medium) (M.foretold refused.1)) }
     {
-        let rights = Rights::new(alloc, &schema, site)?;
-        let ledger = Ledger::new(alloc, &schema, site)?;
-        Ok(Site {
-            schema,
-            number: site,
-            rights,
-            journal: Journal::new(alloc),
-            ledger,
-            last: 0,
-            history: Vec::new(alloc),
-        })
+        let mut medium = medium;
+        match read_base(alloc, &schema, site, &mut medium) {
+            Ok(
+                Found {
+                    fresh,
+                    records,
+                    standing,
+                },
+            ) => Ok(Site {
+                schema,
+                number: site,
+                medium,
+                fresh,
+                based: records,
+                history: Vec::new(alloc),
+                up: fresh,
+                count: 0,
+                doubt: None,
+                accounts: Accounts {
+                    rights: standing.rights,
+                    journal: Journal::new(alloc),
+                    ledger: standing.ledger,
+                    epoch: standing.epoch,
+                    last: 0,
+                },
+            }),
+            Err(fault) => Err((fault, medium)),
+        }
     }
 
     /// The site's number. Costs no memory.
@@ -123,34 +157,43 @@ impl Site {
         self.number
     }
 
-    /// The commands answered so far with their replies, the oldest first: a run of owed replies.
-    /// Costs no memory.
+    /// Whether the site is up: it answers every command. Else it refuses all but a restart. Costs no
+    /// memory.
+    pub fn is_up(&self) -> bool
+        ensures value { result ≡ is_up (base_of self.now) self.now.history }
+    {
+        self.up
+    }
+
+    /// The commands answered so far with their replies, the oldest first: a run of owed replies, and
+    /// the medium holds the records that they leave. Costs no memory.
     pub fn history(&self) -> &[Entry]
         ensures value { reverse result.now ≡ self.now.history }
         ensures run { IsRun self.now.schema self.now.site.0 (base_of self.now) self.now.history }
+        ensures holds { HoldsLog self.now }
     {
         &self.history
     }
 
     /// Between which values the field's committed value lies, as far as this site knows, both
-    /// included: what a Read answers, and None where a Read is refused, which is where the field
-    /// isn't in the schema. Costs no memory.
+    /// included: what a Read answers, and None where a Read is refused, which is where the site is
+    /// down or the field isn't in the schema. Costs no memory.
     pub fn interval(&self, field: FieldNo) -> Option<(i64, i64)>
         ensures value { result ≡ interval_of (here self.now) field }
     {
-        if !self.has(field) {
+        if !self.is_up() || !self.has(field) {
             return None;
         }
         Some(self.bounds_known(field))
     }
 
     /// The site's free rights on the field, to lower and to raise it, in rights: what a Share
-    /// answers, and None where a Share is refused, which is where the field isn't in the schema.
-    /// Costs no memory.
+    /// answers, and None where a Share is refused, which is where the site is down or the field isn't
+    /// in the schema. Costs no memory.
     pub fn share(&self, field: FieldNo) -> Option<(u64, u64)>
         ensures value { result ≡ shares_of (here self.now) field }
     {
-        if !self.has(field) {
+        if !self.is_up() || !self.has(field) {
             return None;
         }
         Some((self.free(field, Kind::Lower), self.free(field, Kind::Raise)))
@@ -160,241 +203,46 @@ impl Site {
     /// after its own entries. A refusal changes nothing but the history; after want of memory
     /// nothing has changed.
     ///
+    /// A Commit of a transaction with escrows, a Give, and an Accept with a gain are answered once
+    /// their record stands whole on the medium. Where the device fails they are answered Unsure, and
+    /// a Restart that isn't answered StillDown: the site is then down. A Restart tells what became of
+    /// the record in doubt.
+    ///
     /// Costs a look through the open transactions, at most 64, for a command that names one, and
     /// one step for each escrow of a transaction that ends. A Give, a Restate and an Accept look at
-    /// one total and at the rights on one field. Nothing that it does grows with the history, the
-    /// number of fields or the number of sites.
+    /// one total and at the rights on one field. What is written has the length of one record.
+    /// Nothing of that grows with the history, the number of fields or the number of sites. A Restart
+    /// reads the whole medium, and takes in each record there.
     pub fn apply(&mut self, alloc: Global, command: Command) -> Result<Reply, AllocError>
         ensures ok { IfOk result (λ reply. Applies self.old command reply self.new) }
         ensures err { OnErr result (self.new ≡ self.old) }
     {
         if let Some(refusal) = self.refusal(command) {
-            return self.note(command, Reply::Refused(refusal));
+            return self.refuse(command, refusal);
         }
         by_command! { command;
             Begin => self.begin(alloc),
-            Escrow { txn, field, change } => self.grant(txn, Escrow { field, change }),
-            Commit { txn } => self.end(txn, Outcome::Committed),
-            Abort { txn } => self.end(txn, Outcome::Aborted),
-            Give { to, field, kind, amount } => self.give(to, field, kind, amount),
+            Escrow { txn, field, change } => self.grant(txn, field, change),
+            Commit { txn } => self.commit(alloc, txn),
+            Abort { txn } => self.answer(Command::Abort { txn }, Reply::Aborted),
+            Give { to, field, kind, amount } => self.give(alloc, to, field, kind, amount),
             Restate { to, field, kind } => self.restate(to, field, kind),
-            Accept(told) => self.accept(told),
+            Accept(told) => self.accept(alloc, told),
             Read { field } => self.read(field),
             Share { field } => self.tell_shares(field),
+            Restart => self.restart(alloc),
         }
     }
+}
 
-    fn has(&self, field: FieldNo) -> bool
-        ensures { result ≡ nat_lt field.0 (length self.now.schema.fields) }
+impl Site<TornMedium> {
+    /// Sets the mishap that strikes the site's medium next, in place of the one before, and changes
+    /// nothing else. Where the count of failures is at the greatest `u64`, none strikes. Costs no
+    /// memory.
+    pub fn arm(&mut self, mishap: Mishap)
+        ensures armed { self.new ≡ record self.old { foretold = foretold_by self.old.failed mishap } }
+        ensures finds { (epoch : ℕ) (found : Last) → Finds self.old epoch found → Finds self.new epoch found }
     {
-        field.0 < self.schema.fields()
-    }
-
-    fn is_open(&self, txn: TxnId) -> bool
-        ensures { result ≡ (is_begun txn (here self.now).effects && is_open txn (here self.now).effects) }
-    {
-        self.journal.is_open(txn)
-    }
-
-    fn open_count(&self) -> usize
-        ensures { result ≡ count_open (here self.now).effects }
-    {
-        self.journal.count()
-    }
-
-    fn escrow_count(&self, txn: TxnId) -> usize
-        requires { (is_begun txn (here self.now).effects && is_open txn (here self.now).effects) ≡ true }
-        ensures { result ≡ count_escrows txn (here self.now).effects }
-    {
-        match self.journal.escrows(txn) {
-            Some(escrows) => escrows.len(),
-            None => 0,
-        }
-    }
-
-    fn begun_count(&self) -> u32
-        ensures { result ≡ count_since is_begun_reply self.now.history }
-    {
-        self.last
-    }
-
-    fn free(&self, field: FieldNo, kind: Kind) -> u64
-        requires { field.0 < length self.now.schema.fields }
-        ensures value { result ≡ free (here self.now) field kind }
-        ensures most { result ≤ 2_000_000_000_000_000 }
-    {
-        self.rights.free(field, kind)
-    }
-
-    fn own(&self, field: FieldNo, kind: Kind) -> u64
-        requires { field.0 < length self.now.schema.fields }
-        ensures value { result ≡ owned (here self.now) field kind }
-        ensures most { result ≤ 2_000_000_000_000_000 }
-    {
-        self.rights.own(field, kind)
-    }
-
-    /// The first refusal of a command's ladder that holds.
-    fn refusal(&self, command: Command) -> Option<Refusal>
-        ensures { result ≡ first (refusals (here self.now) command) }
-    {
-        by_command! { command;
-            Begin => self.begin_refusal(),
-            Escrow { txn, field, change } => self.escrow_refusal(txn, field, change),
-            Commit { txn } => self.end_refusal(txn),
-            Abort { txn } => self.end_refusal(txn),
-            Give { to, field, kind, amount } => self.give_refusal(to, field, kind, amount),
-            Restate { to, field, kind } => self.restate_refusal(to, field, kind),
-            Accept(told) => self.accept_refusal(told),
-            Read { field } => self.field_refusal(field),
-            Share { field } => self.field_refusal(field),
-        }
-    }
-
-    fn begin_refusal(&self) -> Option<Refusal>
-        ensures { result ≡ first (refusals (here self.now) Command.Begin) }
-    {
-        refuse_first! {
-            self.open_count() >= MAX_OPEN => Refusal::TooManyOpen,
-            self.begun_count() >= MAX_NUMBER => Refusal::NumbersFull,
-        }
-    }
-
-    fn escrow_refusal(&self, txn: TxnId, field: FieldNo, change: i64) -> Option<Refusal>
-        ensures { result ≡ first (refusals (here self.now) (Command.Escrow txn field change)) }
-    {
-        let kind = Kind::of(change);
-        let amount = change.unsigned_abs();
-        refuse_first! {
-            !self.has(field) => Refusal::NoField,
-            !self.is_open(txn) => Refusal::NoTransaction,
-            amount == 0 => Refusal::Zero,
-            amount > MAX_CHANGE => Refusal::TooLarge,
-            self.free(field, kind) < amount => Refusal::Short { share: self.free(field, kind) },
-            self.escrow_count(txn) >= MAX_ESCROWS => Refusal::TooManyEscrows,
-        }
-    }
-
-    fn end_refusal(&self, txn: TxnId) -> Option<Refusal>
-        ensures { result ≡ first (no_transaction (here self.now) txn ∷ []) }
-    {
-        refuse_first! {
-            !self.is_open(txn) => Refusal::NoTransaction,
-        }
-    }
-
-    fn field_refusal(&self, field: FieldNo) -> Option<Refusal>
-        ensures { result ≡ first (no_field (here self.now) field ∷ []) }
-    {
-        refuse_first! {
-            !self.has(field) => Refusal::NoField,
-        }
-    }
-
-    /// Adds an entry that touches neither rights nor transactions.
-    fn note(&mut self, command: Command, reply: Reply) -> Result<Reply, AllocError>
-        requires fits { Fits (here self.old) command reply }
-        requires quiet { is_quiet reply ≡ true }
-        ensures ok { IfOk result (λ noted. Applies self.old command noted self.new) }
-        ensures err { OnErr result (self.new ≡ self.old) }
-    {
-        self.history.push(Entry {
-            site: self.number,
-            command,
-            reply,
-        })?;
-        Ok(reply)
-    }
-
-    fn read(&mut self, field: FieldNo) -> Result<Reply, AllocError>
-        requires unrefused { first (refusals (here self.old) (Command.Read field)) ≡ None }
-        ensures ok { IfOk result (λ reply. Applies self.old (Command.Read field) reply self.new) }
-        ensures err { OnErr result (self.new ≡ self.old) }
-    {
-        let (lo, hi) = self.bounds_known(field);
-        self.note(Command::Read { field }, Reply::Between { lo, hi })
-    }
-
-    fn tell_shares(&mut self, field: FieldNo) -> Result<Reply, AllocError>
-        requires unrefused { first (refusals (here self.old) (Command.Share field)) ≡ None }
-        ensures ok { IfOk result (λ reply. Applies self.old (Command.Share field) reply self.new) }
-        ensures err { OnErr result (self.new ≡ self.old) }
-    {
-        let lower = self.free(field, Kind::Lower);
-        let raise = self.free(field, Kind::Raise);
-        self.note(Command::Share { field }, Reply::Shares { lower, raise })
-    }
-
-    /// The floor raised by the lowering rights that are left, and the ceiling lowered by the raising
-    /// rights that are left.
-    fn bounds_known(&self, field: FieldNo) -> (i64, i64)
-        requires { field.0 < length self.now.schema.fields }
-        ensures { result ≡ interval_at (here self.now) field }
-    {
-        let (floor, ceiling, _) = self.schema.bounds(field);
-        (
-            raised(floor, self.own(field, Kind::Lower)),
-            lowered(ceiling, self.own(field, Kind::Raise)),
-        )
-    }
-
-    fn begin(&mut self, alloc: Global) -> Result<Reply, AllocError>
-        requires unrefused { first (refusals (here self.old) Command.Begin) ≡ None }
-        ensures ok { IfOk result (λ reply. Applies self.old Command.Begin reply self.new) }
-        ensures err { OnErr result (self.new ≡ self.old) }
-    {
-        self.history.reserve(1)?;
-        let txn = TxnId {
-            epoch: 0,
-            number: self.last + 1,
-        };
-        self.journal.begin(alloc, txn)?;
-        self.last += 1;
-        let reply = Reply::Begun(txn);
-        self.history.push(Entry {
-            site: self.number,
-            command: Command::Begin,
-            reply,
-        })?;
-        Ok(reply)
-    }
-
-    fn grant(&mut self, txn: TxnId, escrow: Escrow) -> Result<Reply, AllocError>
-        requires unrefused { first (refusals (here self.old)
-            (Command.Escrow txn escrow.field escrow.change)) ≡ None }
-        ensures ok { IfOk result (λ reply. Applies self.old
-            (Command.Escrow txn escrow.field escrow.change) reply self.new) }
-        ensures err { OnErr result (self.new ≡ self.old) }
-    {
-        self.history.reserve(1)?;
-        self.journal.add(txn, escrow)?;
-        let Escrow { field, change } = escrow;
-        let taken = self
-            .rights
-            .take(field, Kind::of(change), change.unsigned_abs());
-        prove!(taken.is_ok());
-        let reply = Reply::Granted;
-        self.history.push(Entry {
-            site: self.number,
-            command: Command::Escrow { txn, field, change },
-            reply,
-        })?;
-        Ok(reply)
-    }
-
-    fn end(&mut self, txn: TxnId, outcome: Outcome) -> Result<Reply, AllocError>
-        requires unrefused { first (refusals (here self.old) (end_command outcome txn)) ≡ None }
-        ensures ok { IfOk result (λ reply. Applies self.old (end_command outcome txn) reply self.new) }
-        ensures err { OnErr result (self.new ≡ self.old) }
-    {
-        self.history.reserve(1)?;
-        close(&mut self.journal, &mut self.rights, txn, outcome);
-        let reply = end_reply(outcome);
-        self.history.push(Entry {
-            site: self.number,
-            command: end_command(outcome, txn),
-            reply,
-        })?;
-        Ok(reply)
+        self.medium.arm(mishap);
     }
 }

@@ -1,7 +1,10 @@
+mod stops;
+
 use super::*;
 use field_bounds::{
     Command, FieldNo, FieldSpec, Kind, Refusal, Reply, Schema, SiteNo, Statement, TxnId,
 };
+use kept_records::{Medium, MemoryMedium};
 use std::alloc::Global;
 use std::process::Abort;
 use std::test::Fail;
@@ -13,17 +16,32 @@ const FIRST: TxnId = TxnId {
     number: 1,
 };
 
-/// One of two sites, on one field from 0 to 100 at 40.
-fn site_of_two(rt: &impl Abort, alloc: Global, number: u16) -> Result<Site, Fail> {
+/// Two sites, and one field from 0 to 100 at 40: each site begins with 20 rights to lower it and 30
+/// to raise it.
+fn stock_of_two(alloc: Global) -> Option<Schema> {
     let stock = FieldSpec {
-        name: String::from_str(alloc, "stock")?,
+        name: String::from_str(alloc, "stock").ok()?,
         floor: 0,
         ceiling: 100,
         value: 40,
     };
-    let schema = Schema::new(alloc, 2, vec![in alloc; stock]?)?;
-    assert!(rt; number < schema.sites());
-    Ok(Site::fresh(alloc, schema, SiteNo(number))?)
+    Schema::new(alloc, 2, vec![in alloc; stock].ok()?).ok()
+}
+
+/// One of the two sites over a medium.
+fn open_over<M: Medium + Drop>(alloc: Global, number: u16, medium: M) -> Option<Site<M>> {
+    let schema = stock_of_two(alloc)?;
+    if number >= schema.sites() {
+        return None;
+    }
+    Site::open(alloc, schema, SiteNo(number), medium).ok()
+}
+
+/// One of the two sites, over an empty medium that never fails.
+fn site_of_two(rt: &impl Abort, alloc: Global, number: u16) -> Result<Site<MemoryMedium>, Fail> {
+    let site = open_over(alloc, number, MemoryMedium::new(Vec::new(alloc)));
+    assert!(rt; site.is_some());
+    Ok(site.unwrap())
 }
 
 fn lower(change: i64) -> Command {
@@ -62,7 +80,7 @@ fn accept_lower(from: u16, to: u16, total: u64) -> Command {
 }
 
 /// What the site answers, or None where memory was refused.
-fn answer(alloc: Global, site: &mut Site, command: Command) -> Option<Reply> {
+fn answer<M: Medium>(alloc: Global, site: &mut Site<M>, command: Command) -> Option<Reply> {
     site.apply(alloc, command).ok()
 }
 

@@ -1,17 +1,17 @@
-//! Gifts of rights: what refuses them, and what they do to the rights and the ledger.
+//! Gifts of rights: what refuses them, and what they write.
 
-ghost use Rattle.std.specs.Prelude.{◌≡◌, ◌≢◌, ◌==◌, ◌<◌, ◌≤◌, nat_lt, None, length, OnOk, OnErr, IfOk};
-ghost use Rattle.field_bounds.specs.Owed.{first, refusals, room, told_so_far, gain_of, max_total};
-ghost use Rattle.site_step.specs.Site.{here, Applies};
+ghost use Rattle.std.specs.Prelude.{◌≡◌, ◌≢◌, ◌==◌, ◌<◌, ◌≤◌, nat_lt, true, None, length, OnErr, IfOk};
+ghost use Rattle.field_bounds.specs.Owed.{first, refusals, room, told_so_far, gain_of, max_total, is_up};
+ghost use Rattle.site_step.specs.Site.{here, base_of, Applies};
 
 use super::Site;
 use field_bounds::{
-    Command, Entry, FieldNo, Kind, MAX_CHANGE, MAX_TOTAL, Refusal, Reply, SiteNo, Statement,
-    refuse_first,
+    Command, FieldNo, Kind, MAX_CHANGE, MAX_TOTAL, Refusal, Reply, SiteNo, Statement, refuse_first,
 };
-use std::alloc::AllocError;
+use kept_records::{Medium, Record};
+use std::alloc::{AllocError, Global};
 
-impl Site {
+impl<M: Medium> Site<M> {
     fn knows(&self, site: SiteNo) -> bool
         ensures { result ≡ nat_lt site.0 self.now.schema.sites }
     {
@@ -26,32 +26,38 @@ impl Site {
 
     /// The total given so far to another site.
     fn told_so_far(&self, to: SiteNo, field: FieldNo, kind: Kind) -> u64
+        requires up { is_up (base_of self.now) self.now.history ≡ true }
         requires other { to.0 ≢ self.now.site.0 }
         requires site_in { to.0 < self.now.schema.sites }
         requires field_in { field.0 < length self.now.schema.fields }
         ensures value { result ≡ told_so_far (here self.now) to field kind }
         ensures most { result ≤ max_total }
     {
-        self.ledger.total(to, field, kind)
+        self.accounts.ledger.total(to, field, kind)
     }
 
     /// What a stated total has above those accepted before from its site.
     fn gain(&self, told: Statement) -> u64
+        requires up { is_up (base_of self.now) self.now.history ≡ true }
         requires other { told.from.0 ≢ self.now.site.0 }
         requires site_in { told.from.0 < self.now.schema.sites }
         requires field_in { told.field.0 < length self.now.schema.fields }
         ensures value { result ≡ gain_of (here self.now) told.from told.field told.kind told.total }
     {
-        told.total
-            .saturating_sub(self.ledger.accepted(told.from, told.field, told.kind))
+        told.total.saturating_sub(
+            self.accounts
+                .ledger
+                .accepted(told.from, told.field, told.kind),
+        )
     }
 
     fn room(&self, field: FieldNo) -> u64
-        requires { field.0 < length self.now.schema.fields }
+        requires up { is_up (base_of self.now) self.now.history ≡ true }
+        requires field_in { field.0 < length self.now.schema.fields }
         ensures value { result ≡ room (here self.now) field }
         ensures most { result ≤ 2_000_000_000_000_000 }
     {
-        self.rights.room(field)
+        self.accounts.rights.room(field)
     }
 
     pub(super) fn give_refusal(
@@ -64,6 +70,7 @@ impl Site {
         ensures { result ≡ first (refusals (here self.now) (Command.Give to field kind amount)) }
     {
         refuse_first! {
+            !self.is_up() => Refusal::Down,
             !self.knows(to) => Refusal::NoSite,
             !self.has(field) => Refusal::NoField,
             amount == 0 => Refusal::Zero,
@@ -80,6 +87,7 @@ impl Site {
         ensures { result ≡ first (refusals (here self.now) (Command.Restate to field kind)) }
     {
         refuse_first! {
+            !self.is_up() => Refusal::Down,
             !self.knows(to) => Refusal::NoSite,
             !self.has(field) => Refusal::NoField,
             self.is_here(to) => Refusal::SelfGift,
@@ -91,6 +99,7 @@ impl Site {
         ensures { result ≡ first (refusals (here self.now) (Command.Accept told)) }
     {
         refuse_first! {
+            !self.is_up() => Refusal::Down,
             !self.knows(told.from) => Refusal::NoSite,
             !self.knows(told.to) => Refusal::NoSite,
             !self.has(told.field) => Refusal::NoField,
@@ -104,33 +113,30 @@ impl Site {
 
     pub(super) fn give(
         &mut self,
+        alloc: Global,
         to: SiteNo,
         field: FieldNo,
         kind: Kind,
         amount: u64,
     ) -> Result<Reply, AllocError>
-        requires unrefused { first (refusals (here self.old)
-            (Command.Give to field kind amount)) ≡ None }
-        ensures ok { IfOk result (λ reply. Applies self.old
-            (Command.Give to field kind amount) reply self.new) }
+        requires unrefused { first (refusals (here self.old) (Command.Give to field kind amount)) ≡ None }
+        ensures ok { IfOk result (λ reply. Applies self.old (Command.Give to field kind amount) reply self.new) }
         ensures err { OnErr result (self.new ≡ self.old) }
     {
-        self.history.reserve(1)?;
-        let total = self.ledger.give(to, field, kind, amount).unwrap();
-        let dropped = self.rights.drop_free(field, kind, amount);
-        prove!(dropped.is_ok());
-        let reply = Reply::Given { total };
-        self.history.push(Entry {
-            site: self.number,
-            command: Command::Give {
-                to,
-                field,
-                kind,
-                amount,
-            },
-            reply,
-        })?;
-        Ok(reply)
+        let total = self.told_so_far(to, field, kind) + amount;
+        let record = Record::Gift {
+            to,
+            field,
+            kind,
+            total,
+        };
+        let command = Command::Give {
+            to,
+            field,
+            kind,
+            amount,
+        };
+        self.write(alloc, command, &record, Reply::Given { total })
     }
 
     pub(super) fn restate(
@@ -139,35 +145,33 @@ impl Site {
         field: FieldNo,
         kind: Kind,
     ) -> Result<Reply, AllocError>
-        requires unrefused { first (refusals (here self.old)
-            (Command.Restate to field kind)) ≡ None }
-        ensures ok { IfOk result (λ reply. Applies self.old
-            (Command.Restate to field kind) reply self.new) }
+        requires unrefused { first (refusals (here self.old) (Command.Restate to field kind)) ≡ None }
+        ensures ok { IfOk result (λ reply. Applies self.old (Command.Restate to field kind) reply self.new) }
         ensures err { OnErr result (self.new ≡ self.old) }
     {
         let total = self.told_so_far(to, field, kind);
-        self.note(
+        self.answer(
             Command::Restate { to, field, kind },
             Reply::Stated { total },
         )
     }
 
-    pub(super) fn accept(&mut self, told: Statement) -> Result<Reply, AllocError>
+    pub(super) fn accept(&mut self, alloc: Global, told: Statement) -> Result<Reply, AllocError>
         requires unrefused { first (refusals (here self.old) (Command.Accept told)) ≡ None }
         ensures ok { IfOk result (λ reply. Applies self.old (Command.Accept told) reply self.new) }
         ensures err { OnErr result (self.new ≡ self.old) }
     {
-        self.history.reserve(1)?;
-        let gain = self
-            .ledger
-            .accept(told.from, told.field, told.kind, told.total);
-        self.rights.add(told.field, told.kind, gain);
-        let reply = Reply::Accepted { gain };
-        self.history.push(Entry {
-            site: self.number,
-            command: Command::Accept(told),
-            reply,
-        })?;
-        Ok(reply)
+        let gain = self.gain(told);
+        let command = Command::Accept(told);
+        if gain == 0 {
+            return self.answer(command, Reply::Accepted { gain });
+        }
+        let record = Record::Accept {
+            from: told.from,
+            field: told.field,
+            kind: told.kind,
+            total: told.total,
+        };
+        self.write(alloc, command, &record, Reply::Accepted { gain })
     }
 }

@@ -1,0 +1,186 @@
+-- A site stays sound where an entry leaves its medium alone.
+use Rattle.std.proofs.Common.{◌≡◌, ℕ, ◌+◌, ◌≤◌, Bool, false, List, ◌∷◌, ◌++◌, length, refl, sym, ap, subst, ◌∙◌, arith, Option, Some, None}
+use Rattle.std.proofs.lemmas.List.{append-nil}
+use Rattle.field_bounds.specs.declared.entry.Command.{Command}
+use Rattle.field_bounds.specs.declared.entry.Last.{Last}
+use Rattle.field_bounds.specs.declared.entry.Reply.{Reply}
+use Rattle.field_bounds.specs.declared.entry.Reply.TheVariants.{Refused}
+use Rattle.field_bounds.specs.declared.entry.Refusal.{Refusal}
+use Rattle.field_bounds.specs.declared.entry.Entry.{Entry}
+use Rattle.field_bounds.specs.Effects.{Base}
+use Rattle.field_bounds.specs.Owed.{Place, first, refusals, answer, writes, is_up, is_unsure, count_since}
+use Rattle.field_bounds.proofs.Refused.{is_restart}
+use Rattle.kept_records.specs.declared.record.Record.{Record}
+use Rattle.kept_records.specs.Logs.{IsLog}
+use Rattle.kept_records.specs.Stands.{greatest}
+use Rattle.kept_records.proofs.Lines.{same_log}
+use Rattle.kept_state.specs.Keeps.{Keeps, adds}
+use Rattle.kept_state.specs.Doubt.{IsDoubt, found_of}
+use Rattle.kept_state.specs.Luck.{doubt_after, record_length}
+use Rattle.kept_state.proofs.Adding.{adds_answer, keeps_length}
+use Rattle.site_step.specs.declared.accounts.Accounts.{Accounts}
+use Rattle.site_step.specs.Site.{SiteValue, base_of, here, entry_of, Finds, Applies}
+use Rattle.site_step.specs.State.{StandsOn, IsSound}
+use Rattle.site_step.proofs.Settling.{answer_settles, refused_no_restart, refuses_over, noted_none, refusal_fits, answer_fits, refusal_owed, answer_owed}
+use Rattle.site_step.proofs.Standing.{stands_refused}
+
+-- a site is sound after an entry, which is what the call says
+pub record Ends (v : SiteValue) (c : Command) (r : Reply) (w : SiteValue) (up : Bool) (count : ℕ) (a : Accounts) : Type 0 where
+  pub sound : IsSound w up count a
+  pub applies : Applies v c r w
+
+-- ---- what a restart would find
+
+pub finds_in : (v : SiteValue) (epoch : ℕ) (found : Last) → ((rs : List Record) (rest : List ℕ) → IsLog v.bytes rs rest → (greatest rs ≡ epoch) × (found_of v.doubt rs ≡ found)) → Finds v epoch found
+unfolding Finds
+finds_in v epoch found h = h
+
+pub finds_of : (v : SiteValue) (epoch : ℕ) (found : Last) → Finds v epoch found → (rs : List Record) (rest : List ℕ) → IsLog v.bytes rs rest → (greatest rs ≡ epoch) × (found_of v.doubt rs ≡ found)
+unfolding Finds
+finds_of v epoch found h = h
+
+pub finds_same : (v w : SiteValue) (epoch : ℕ) (found : Last) → w.bytes ≡ v.bytes → w.doubt ≡ v.doubt → Finds v epoch found → Finds w epoch found
+finds_same v w epoch found bytes doubt h =
+    finds_in w epoch found (λ rs rest log.
+    let old = finds_of v epoch found h rs rest (subst (λ (b : List ℕ). IsLog b rs rest) bytes log) in
+    (old.0, ap (λ (d : Option ℕ). found_of d rs) doubt ∙ old.1))
+
+-- where the medium's log is known
+pub finds_log : (w : SiteValue) (records : List Record) (rest : List ℕ) (epoch : ℕ) (found : Last) → IsLog w.bytes records rest → greatest records ≡ epoch → found_of w.doubt records ≡ found
+    → Finds w epoch found
+finds_log w records rest epoch found log greatest_is found_is =
+    finds_in w epoch found (λ rs other is.
+    let same = (same_log w.bytes rs records other rest is log).0 in
+    (ap greatest same ∙ greatest_is, ap (found_of w.doubt) same ∙ found_is))
+
+-- ---- what is in doubt
+
+pub quiet_doubt : (kept : Bool) (o : List Entry) (e : Entry) (rs : List Record) (doubt : Option ℕ) → count_since is_unsure (e ∷ o) ≡ count_since is_unsure o → IsDoubt kept o rs doubt
+    → IsDoubt kept (e ∷ o) rs doubt
+quiet_doubt kept o e rs None same is = same ∙ is
+quiet_doubt kept o e rs (Some n) same is = (omega (arith, same, is.0), is.1, is.2, is.3, is.4)
+
+pub none_in_doubt : (kept : Bool) (o : List Entry) (rs : List Record) (doubt : Option ℕ) → count_since is_unsure o ≡ 0 → IsDoubt kept o rs doubt → doubt ≡ None
+none_in_doubt kept o rs None none is = refl
+none_in_doubt kept o rs (Some n) none is = absurd (omega (arith, none, is.0))
+
+module _ (v : SiteValue) (up : Bool) (count : ℕ) (a : Accounts) (was : IsSound v up count a) where
+  abbrev base : Base
+  base = base_of v
+
+  abbrev at : Place
+  at = here v
+
+  pub few_records : length was.records ≤ length v.based + length v.history
+  few_records = keeps_length v.schema v.site.0 base v.based was.kept v.history was.records was.keeps
+
+  -- ---- a refusal
+
+  refused : (c : Command) (x : Refusal) → first (refusals at c) ≡ Some x → Ends v c (Refused x) (record v { history = entry_of v c (Refused x) ∷ v.history }) up count a
+  refused c x some =
+      let n = refused_no_restart at c x some in
+      record {
+        sound = record {
+          site_in = was.site_in;
+          limits = was.limits;
+          epoch_in = was.epoch_in;
+          records = was.records;
+          rest = was.rest;
+          kept = was.kept;
+          is_base = was.is_base;
+          based_on = was.based_on;
+          log = was.log;
+          run = (was.run, refusal_fits at c x some);
+          keeps = (was.records, false, was.keeps, tt, sym (append-nil was.records));
+          up_is = was.up_is;
+          clean = was.clean;
+          in_doubt = quiet_doubt was.kept v.history (entry_of v c (Refused x)) was.records v.doubt (omega arith) was.in_doubt;
+          stands = λ u. stands_refused v.schema v.site.0 base v.history a was.run (was.stands u) v.site c x;
+        };
+        applies = record {
+          fits = refusal_fits at c x some;
+          entry = refl;
+          same = record { schema = refl; site = refl; fresh = refl; based = refl };
+          failed = refl;
+          logs = λ rs rest log. record {
+            stood = false;
+            rest = rest;
+            log = subst (λ (all : List Record). IsLog v.bytes all rest) (sym (append-nil rs)) log;
+            doubt = refl;
+            restarts = tt;
+            refuses = refuses_over c (Refused x) rs n;
+          };
+          exact = λ luck epoch found known finds. record {
+            reply_is = refusal_owed at c x epoch found luck some;
+            finds = finds_same v (record v { history = entry_of v c (Refused x) ∷ v.history }) epoch found refl refl finds;
+          };
+        };
+      }
+
+  pub ends_refused : (c : Command) (x : Refusal) (h : List Entry) → h ≡ entry_of v c (Refused x) ∷ v.history → first (refusals at c) ≡ Some x → Ends v c (Refused x) (record v { history = h }) up count a
+  ends_refused c x h past some = subst (λ (o : List Entry). Ends v c (Refused x) (record v { history = o }) up count a) (sym past) (refused c x some)
+
+  -- ---- an answer that writes no record
+
+  abbrev After : Command → List Entry
+  After c = entry_of v c (answer at c) ∷ v.history
+
+  answered : (c : Command) (b : Accounts) → is_restart c ≡ false → first (refusals at c) ≡ None → writes at c ≡ false → StandsOn v.schema v.site.0 base (After c) b
+      → Ends v c (answer at c) (record v { history = After c }) up count b
+  answered c b n none silent stands =
+      let settles = answer_settles at c n in
+      let empty : (rs : List Record) → rs ≡ rs ++ adds at c (answer at c) false rs =
+      λ rs. sym (append-nil rs) ∙ ap (λ (l : List Record). rs ++ l) (sym (adds_answer at c false rs n ∙ noted_none at c silent)) in
+      record {
+        sound = record {
+          site_in = was.site_in;
+          limits = was.limits;
+          epoch_in = was.epoch_in;
+          records = was.records;
+          rest = was.rest;
+          kept = was.kept;
+          is_base = was.is_base;
+          based_on = was.based_on;
+          log = was.log;
+          run = (was.run, answer_fits at c n none);
+          keeps = (
+            was.records,
+            false,
+            subst (λ (k : Bool). Keeps v.schema v.site.0 base v.based k v.history was.records) (sym (settles.kept was.kept)) was.keeps,
+            settles.tells was.kept false was.records,
+            empty was.records,
+          );
+          up_is = was.up_is ∙ sym (settles.up (is_up base v.history));
+          clean = was.clean;
+          in_doubt = quiet_doubt was.kept v.history (entry_of v c (answer at c)) was.records v.doubt (settles.counts (count_since is_unsure v.history)) was.in_doubt;
+          stands = λ u. stands;
+        };
+        applies = record {
+          fits = answer_fits at c n none;
+          entry = refl;
+          same = record { schema = refl; site = refl; fresh = refl; based = refl };
+          failed = sym (settles.failed v.failed);
+          logs = λ rs rest log. record {
+            stood = false;
+            rest = rest;
+            log = subst (λ (all : List Record). IsLog v.bytes all rest) (empty rs) log;
+            doubt = sym (settles.doubt rs v.doubt);
+            restarts = settles.restarts rs v.doubt rest;
+            refuses = refuses_over c (answer at c) rs n;
+          };
+          exact = λ luck epoch found known finds.
+              let w : SiteValue = record v { history = After c } in
+              record {
+                reply_is = answer_owed at c epoch found luck n none silent;
+                finds = subst (λ (m : ℕ). Finds w m (doubt_after (answer at c) luck (record_length at c) found)) (sym (settles.greatest_is luck epoch))
+                    (subst (λ (l : Last). Finds w epoch l) (sym (settles.found luck (record_length at c) found)) (finds_same v w epoch found refl refl finds));
+              };
+        };
+      }
+
+  pub ends_answered : (c : Command) (b : Accounts) (r : Reply) (h : List Entry) → r ≡ answer at c → h ≡ entry_of v c r ∷ v.history → is_restart c ≡ false → first (refusals at c) ≡ None
+      → writes at c ≡ false → StandsOn v.schema v.site.0 base (After c) b → Ends v c r (record v { history = h }) up count b
+  ends_answered c b r h owed past n none silent stands =
+      let after : h ≡ After c = past ∙ ap (λ (x : Reply). entry_of v c x ∷ v.history) owed in
+      subst (λ (x : Reply). Ends v c x (record v { history = h }) up count b) (sym owed)
+      (subst (λ (o : List Entry). Ends v c (answer at c) (record v { history = o }) up count b) (sym after) (answered c b n none silent stands))

@@ -1,0 +1,117 @@
+-- A site that is opened is sound.
+use Rattle.std.proofs.Common.{◌≡◌, ℕ, ◌<◌, Bool, true, false, List, [], ◌∷◌, ◌++◌, length, drop, refl, sym, ap, subst, ◌∙◌, arith, Option, Some, None}
+use Rattle.field_bounds.specs.declared.id.SiteNo.{SiteNo}
+use Rattle.field_bounds.specs.declared.entry.Last.TheVariants.{Nothing}
+use Rattle.field_bounds.specs.Schema.{SchemaValue}
+use Rattle.field_bounds.specs.Limits.{IsSchema}
+use Rattle.field_bounds.specs.Effects.{Base, fresh}
+use Rattle.kept_records.specs.declared.medium.Mishap.{Mishap}
+use Rattle.kept_records.specs.declared.record.Record.{Record}
+use Rattle.kept_records.specs.Logs.{IsLog, IsFront}
+use Rattle.kept_records.specs.Stands.{greatest, Lawful, BreaksRule}
+use Rattle.kept_records.proofs.Lines.{same_log, no_log}
+use Rattle.kept_records.proofs.Appending.{read_as_log}
+use Rattle.kept_state.specs.Keeps.{IsBase, opened}
+use Rattle.kept_state.proofs.Ranges.{opened_in_range}
+use Rattle.kept_state.proofs.Covering.{stands_is_base, fresh_is_base}
+use Rattle.kept_state.proofs.Keeping.{run_owns, run_gives, run_accepts}
+use Rattle.log_replay.specs.declared.standing.Standing.{Standing}
+use Rattle.log_replay.specs.Standing.{IsStandingFor}
+use Rattle.site_step.specs.declared.accounts.Accounts.{Accounts}
+use Rattle.site_step.specs.Site.{SiteValue, base_of, Finds}
+use Rattle.site_step.specs.State.{StandsOn, IsSound}
+use Rattle.site_step.specs.Opening.{BeginsWith}
+use Rattle.site_step.proofs.Resumes.{no_breach}
+use Rattle.site_step.proofs.Ends.{finds_log}
+
+-- bytes that are none hold no record
+pub no_bytes : (bytes : List ℕ) (rs : List Record) (rest : List ℕ) → IsLog bytes rs rest → bytes ≡ [] → rs ≡ []
+no_bytes bytes rs rest log none =
+    (same_log [] rs [] rest [] (subst (λ (b : List ℕ). IsLog b rs rest) none log) (record { parts = refl; each = tt; no_lf = refl })).0
+
+nothing_kept : greatest [] ≡ 0
+unfolding greatest
+nothing_kept = refl
+
+-- ---- what is no site's log
+
+-- the records in front of the first bad line, or all records
+pub front_begins : (bytes : List ℕ) (found : List Record) (n : ℕ) (bad : Option ℕ) → IsFront bytes found n bad → BeginsWith bytes found
+front_begins bytes found n None front = let log = read_as_log bytes found n front.0 in record { behind = drop n bytes; parts = log.parts; each = log.each }
+front_begins bytes found n (Some line) front =
+    subst (λ (rs : List Record). BeginsWith bytes rs) front.1 (record { behind = front.0.line ++ 10 ∷ front.0.behind; parts = front.0.parts; each = front.0.each })
+
+-- lawful records that are all there break no rule
+pub breach_spares : (schema : SchemaValue) (s : ℕ) (bytes : List ℕ) (found : List Record) (n m : ℕ) (bad : Option ℕ) → IsFront bytes found n bad → BreaksRule schema s found m
+    → (rs : List Record) (rest : List ℕ) → IsLog bytes rs rest → Lawful schema s rs → ⊥
+breach_spares schema s bytes found n m None front breach rs rest log lawful =
+    no_breach schema s found m breach (subst (λ (all : List Record). Lawful schema s all) (sym (front.1 rs rest log).0) lawful)
+breach_spares schema s bytes found n m (Some line) front breach rs rest log lawful = no_log bytes line front.0 rs rest log
+
+-- ---- a site over a log
+
+module _ (schema : SchemaValue) (site : SiteNo) (bs : List Record) (standing : Standing) (lawful : Lawful schema site.0 bs) (for_ : IsStandingFor schema site.0 bs standing) where
+  abbrev pub first_accounts : Accounts
+  first_accounts = record { rights = standing.rights; journal = []; ledger = standing.ledger; epoch = standing.epoch; last = 0 }
+
+  base_is : (empty : Bool) → (empty ≡ true → bs ≡ []) → IsBase schema site.0 (opened schema site.0 empty bs) bs
+  base_is true none = subst (λ (rs : List Record). IsBase schema site.0 (fresh schema site.0) rs) (sym (none refl)) (fresh_is_base schema site.0)
+  base_is false none = stands_is_base schema site.0 false bs lawful
+
+  stands_first : (base : Base) → IsBase schema site.0 base bs → StandsOn schema site.0 base [] first_accounts
+  stands_first base is =
+      record {
+        matches = record {
+          count = for_.count;
+          width = for_.width;
+          free = λ f k l. omega (arith, for_.free f k l, run_owns schema site.0 base bs false [] bs is tt refl f k);
+          held = λ f k l. for_.held f k l;
+          journal = refl;
+        };
+        holds = record {
+          place = for_.place;
+          given = λ r f k other. for_.given r f k other ∙ sym (run_gives schema site.0 base bs false [] bs is tt refl r f k);
+          accepted = λ r f k other. for_.accepted r f k other ∙ sym (run_accepts schema site.0 base bs false [] bs is tt refl r f k);
+          site = for_.site;
+        };
+        epoch = for_.epoch ∙ sym is.epoch;
+        last = refl;
+      }
+
+  module _ (site_in : site.0 < schema.sites) (limits : IsSchema schema) (bytes rest : List ℕ) (log : IsLog bytes bs rest) (failed : ℕ) (left : Option Mishap) where
+    abbrev made : Bool → SiteValue
+    made empty = record { schema = schema; site = site; fresh = empty; based = bs; history = []; bytes = bytes; failed = failed; foretold = left; doubt = None }
+
+    rest_none : bytes ≡ [] → rest ≡ []
+    rest_none none = (same_log [] bs [] rest [] (subst (λ (b : List ℕ). IsLog b bs rest) none log) (record { parts = refl; each = tt; no_lf = refl })).1
+
+    clean_by : (empty : Bool) → (empty ≡ true → bytes ≡ []) → empty ≡ true → (rest ≡ []) × (0 ≡ length bs)
+    clean_by empty none e = (rest_none (none e), sym (ap length (no_bytes bytes bs rest log (none e))))
+
+    up_by : (empty : Bool) → empty ≡ (opened schema site.0 empty bs).up
+    up_by true = refl
+    up_by false = refl
+
+    pub opens_sound : (empty : Bool) → (empty ≡ true → bytes ≡ []) → IsSound (made empty) empty 0 first_accounts
+    opens_sound empty none =
+        let is = base_is empty (λ e. no_bytes bytes bs rest log (none e)) in
+        record {
+          site_in = site_in;
+          limits = limits;
+          epoch_in = opened_in_range schema site.0 empty bs log.each;
+          records = bs;
+          rest = rest;
+          kept = false;
+          is_base = is;
+          based_on = lawful;
+          log = log;
+          run = tt;
+          keeps = refl;
+          up_is = up_by empty;
+          clean = clean_by empty none;
+          in_doubt = refl;
+          stands = λ u. stands_first (base_of (made empty)) is;
+        }
+
+    pub opens_finds : (empty : Bool) → bytes ≡ [] → Finds (made empty) 0 Nothing
+    opens_finds empty none = finds_log (made empty) bs rest 0 Nothing log (ap greatest (no_bytes bytes bs rest log none) ∙ nothing_kept) refl

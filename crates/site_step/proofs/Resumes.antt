@@ -1,0 +1,114 @@
+-- What a restart's work on the medium comes to.
+use Rattle.std.proofs.Common.{◌≡◌, ◌⊎◌, ℕ, ◌+◌, ◌<◌, List, [], ◌∷◌, ◌++◌, length, take, sym, ap, subst, ◌∙◌, inl, inr, arith, append_assoc, true, Option, Some}
+use Rattle.std.specs.Prelude.{Ok, Err}
+use Rattle.std.specs.List.{flat_map}
+use Rattle.std.proofs.lemmas.Bool.{false≢true}
+use Rattle.std.proofs.lemmas.List.{append-nil}
+use Rattle.field_bounds.specs.Schema.{SchemaValue}
+use Rattle.field_bounds.specs.Owed.{max_number}
+use Rattle.kept_records.specs.declared.medium.Device.{Device}
+use Rattle.kept_records.specs.declared.medium.Mishap.{Mishap}
+use Rattle.kept_records.specs.declared.medium.Mishap.TheVariants.{Never, Append}
+use Rattle.kept_records.specs.declared.record.Record.{Record}
+use Rattle.kept_records.specs.declared.record.Record.TheVariants.{Restart}
+use Rattle.kept_records.specs.Text.{text, IsRecord}
+use Rattle.kept_records.specs.Medium.{IsCutShort, ReadFate}
+use Rattle.kept_records.specs.Logs.{IsLog, AreAll}
+use Rattle.kept_records.specs.Keeping.{CutsAndAppends, CutAndAppendFate}
+use Rattle.kept_records.specs.Stands.{greatest, may_stand, LawfulBehind, Lawful, BreaksRule}
+use Rattle.kept_records.proofs.Appending.{HoldsFront, cut_added, cut_torn, cut_cut_short}
+use Rattle.log_replay.specs.declared.standing.Standing.{Standing}
+use Rattle.log_replay.specs.Standing.{IsStandingFor}
+use Rattle.site_step.specs.Resuming.{LeavesSome, LeavesFront, next_restart, FailsOver, StandsOver}
+
+-- ---- lawful records break no rule
+
+lawful_at : (schema : SchemaValue) (s : ℕ) (front before behind : List Record) (r : Record) → LawfulBehind schema s front (before ++ (r ∷ behind)) → may_stand schema s (front ++ before) r ≡ true
+lawful_at schema s front [] behind r h = subst (λ (rs : List Record). may_stand schema s rs r ≡ true) (sym (append-nil front)) h.0
+lawful_at schema s front (b ∷ before) behind r h =
+    subst (λ (rs : List Record). may_stand schema s rs r ≡ true) (append_assoc front (b ∷ []) before) (lawful_at schema s (front ++ b ∷ []) before behind r h.1)
+
+pub no_breach : (schema : SchemaValue) (s : ℕ) (rs : List Record) (n : ℕ) → BreaksRule schema s rs n → Lawful schema s rs → ⊥
+no_breach schema s rs n breach lawful =
+    let may = lawful_at schema s [] breach.before breach.behind breach.breaking (subst (λ (all : List Record). Lawful schema s all) breach.parts lawful) in
+    false≢true (sym breach.broken ∙ may)
+
+-- ---- what is left
+
+some_left : (n : ℕ) (bytes : List ℕ) (rs : List Record) (r : Record) → HoldsFront n bytes rs r → LeavesSome rs r bytes
+some_left n bytes rs r (inl front) = inl (take n (text r), front.0)
+some_left n bytes rs r (inr whole) = inr whole.0
+
+front_left : (n : ℕ) (bytes : List ℕ) (rs : List Record) (r : Record) → HoldsFront n bytes rs r → LeavesFront n rs r bytes
+front_left n bytes rs r (inl front) = inl (front.1, take n (text r), front.0)
+front_left n bytes rs r (inr whole) = inr (whole.1, whole.0)
+
+-- the mishap that a read leaves
+left_never : {T : Type 0} (foretold mid : Option Mishap) (read : T) → ReadFate foretold (Ok read) mid → foretold ≡ Some Never → mid ≡ Some Never
+left_never foretold mid read fate known = (subst (λ (m : Option Mishap). ReadFate m (Ok read) mid) known fate).1
+
+left_append : {T : Type 0} (foretold mid : Option Mishap) (read : T) (n : ℕ) → ReadFate foretold (Ok read) mid → foretold ≡ Some (Append n) → mid ≡ Some (Append n)
+left_append foretold mid read n fate known = (subst (λ (m : Option Mishap). ReadFate m (Ok read) mid) known fate).1
+
+module _ {T : Type 0} (schema : SchemaValue) (s : ℕ) (old new : List ℕ) (foretold mid left : Option Mishap) (before after whole : ℕ) (found : List Record) (standing : Standing) (read : T)
+    (only : AreAll old found whole) (size : whole ≡ length (flat_map text found)) (for_ : IsStandingFor schema s found standing) (below : standing.epoch < max_number)
+    (fate_of_read : ReadFate foretold (Ok read) mid) (rs : List Record) (rest : List ℕ) (log : IsLog old rs rest) where
+  abbrev next : Record
+  next = Restart (standing.epoch + 1)
+
+  same : found ≡ rs
+  same = (only rs rest log).0
+
+  size_is : whole ≡ length (flat_map text rs)
+  size_is = size ∙ ap (λ (all : List Record). length (flat_map text all)) same
+
+  epoch_is : standing.epoch ≡ greatest rs
+  epoch_is = for_.epoch ∙ ap greatest same
+
+  next_is : next ≡ next_restart rs
+  next_is = ap (λ (n : ℕ). Restart (n + 1)) epoch_is
+
+  fits : IsRecord next
+  fits = (omega arith, omega (arith, below))
+
+  some : greatest rs < max_number
+  some = omega (arith, below, epoch_is)
+
+  pub stands_over : CutsAndAppends {T = Unit {0}} {E = Device} (Ok tt) whole old (text next) new before after → CutAndAppendFate {E = Device} mid whole old (text next) (Ok tt) new left
+      → StandsOver schema s rs found (standing.epoch + 1) new foretold before after × IsStandingFor schema s rs standing
+  stands_over added fate = (
+    record {
+      counts = added.1;
+      records = same;
+      epoch_is = ap (λ (n : ℕ). n + 1) epoch_is;
+      some = some;
+      log = subst (λ (r : Record). IsLog new (rs ++ r ∷ []) []) next_is
+          (subst (λ (bytes : List ℕ). IsLog bytes (rs ++ next ∷ []) []) (sym added.0) (cut_added old rest rs next whole log size_is fits));
+      torn = λ n known.
+          let goes = subst (λ (m : Option Mishap). CutAndAppendFate {E = Device} m whole old (text next) (Ok tt) new left) (left_append foretold mid read n fate_of_read known) fate in
+          false≢true goes.0;
+    },
+    subst (λ (all : List Record). IsStandingFor schema s all standing) same for_,
+  )
+
+  leaves_of : ((new ≡ old) ⊎ IsCutShort (take whole old) (text next) new) → LeavesSome rs (next_restart rs) new
+  leaves_of (inl unchanged) = inl (rest, subst (λ (bytes : List ℕ). IsLog bytes rs rest) (sym unchanged) log)
+  leaves_of (inr cut) = subst (λ (r : Record). LeavesSome rs r new) next_is (some_left cut.0 new rs next (cut_cut_short old rest new rs next whole log size_is fits cut))
+
+  pub fails_over : (device : Device) → CutsAndAppends {T = Unit {0}} (Err device) whole old (text next) new before after → CutAndAppendFate mid whole old (text next) (Err device) new left
+      → FailsOver rs new foretold before after
+  fails_over device added fate =
+      record {
+        counts = added.1;
+        leaves = leaves_of added.0;
+        never = λ known.
+            let goes = subst (λ (m : Option Mishap). CutAndAppendFate m whole old (text next) (Err device) new left) (left_never foretold mid read fate_of_read known) fate in
+            false≢true goes.0;
+        torn = λ n known.
+            let goes = subst (λ (m : Option Mishap). CutAndAppendFate m whole old (text next) (Err device) new left) (left_append foretold mid read n fate_of_read known) fate in
+            let front = cut_torn old rest rs next whole n log size_is fits in (
+              some,
+              subst (λ (r : Record). LeavesFront n rs r new) next_is
+                  (front_left n new rs next (subst (λ (bytes : List ℕ). HoldsFront n bytes rs next) (sym goes.1) front)),
+            );
+      }

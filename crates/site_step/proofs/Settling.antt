@@ -1,0 +1,127 @@
+-- What an answer leaves as it was, and what the ladder says of a reply that fits.
+use Rattle.std.proofs.Common.{◌≡◌, ℕ, Bool, true, false, ◌&&◌, List, [], ◌∷◌, refl, sym, inl, inr, arith, Option, Some, None}
+use Rattle.std.specs.Prelude.{if◌then◌else◌, Result, Ok, Err, IsOk, OnOk, is_ok}
+use Rattle.field_bounds.specs.declared.entry.Command.{Command}
+use Rattle.field_bounds.specs.declared.entry.Command.TheVariants.{Begin, Escrow, Restart}
+use Rattle.field_bounds.specs.declared.entry.Last.{Last}
+use Rattle.field_bounds.specs.declared.entry.Reply.{Reply}
+use Rattle.field_bounds.specs.declared.entry.Reply.TheVariants.{Unsure, Refused}
+use Rattle.field_bounds.specs.declared.entry.Refusal.{Refusal}
+use Rattle.field_bounds.specs.Effects.{kept_before}
+use Rattle.field_bounds.specs.Owed.{Place, first, refusals, answer, writes, up_after, count_after, is_unsure, Fits}
+use Rattle.field_bounds.proofs.Refused.{is_restart}
+use Rattle.kept_records.specs.declared.record.Record.{Record}
+use Rattle.kept_state.specs.declared.luck.Luck.{Luck}
+use Rattle.kept_state.specs.declared.luck.Luck.TheVariants.{Fine, Torn}
+use Rattle.kept_state.specs.Keeps.{record_at, noted, Tells}
+use Rattle.kept_state.specs.Luck.{is_torn, owed_with, kept_after, doubt_after}
+use Rattle.site_step.specs.State.{is_carried}
+use Rattle.site_step.specs.Site.{failed_after, doubt_from, RestartsOver, RefusesOver}
+
+pub ok_gives : {A E : Type 0} {P : Type 0} (r : Result A E) → IsOk r → OnOk r P → P
+ok_gives (Ok a) is p = p
+ok_gives (Err e) is p = absurd cc
+
+pub taken_is_ok : {A E : Type 0} (r : Result A E) → IsOk r → is_ok r ≡ false → ⊥
+taken_is_ok (Ok a) is h = cc
+taken_is_ok (Err e) is h = cc
+
+-- ---- an answer
+
+-- a reply that settles nothing, and leaves nothing in doubt
+pub record Settles (r : Reply) : Type 0 where
+  pub up : (u : Bool) → up_after u r ≡ u
+  pub kept : (k : Bool) → kept_before k r ≡ k
+  pub counts : (n : ℕ) → count_after is_unsure n r ≡ n
+  pub tells : (k stood : Bool) (rs : List Record) → Tells k stood rs r
+  pub doubt : (rs : List Record) (d : Option ℕ) → doubt_from r rs d ≡ d
+  pub failed : (n : ℕ) → failed_after r n ≡ n
+  pub restarts : (rs : List Record) (d : Option ℕ) (rest : List ℕ) → RestartsOver r rs d rest
+  pub greatest_is : (luck : Luck) (n : ℕ) → kept_after r luck n ≡ n
+  pub found : (luck : Luck) (size : ℕ) (last : Last) → doubt_after r luck size last ≡ last
+
+pub answer_settles : (at : Place) (c : Command) → is_restart c ≡ false → Settles (answer at c)
+answer_settles at Restart n = cc
+answer_settles at c n = record {
+  up = λ u. refl;
+  kept = λ k. refl;
+  counts = λ n. omega arith;
+  tells = λ k stood rs. tt;
+  doubt = λ rs d. refl;
+  failed = λ n. refl;
+  restarts = λ rs d rest. tt;
+  greatest_is = λ luck n. refl;
+  found = λ luck size last. refl;
+}
+
+-- ---- a command that is no restart
+
+pub writes_no_restart : (at : Place) (c : Command) → writes at c ≡ true → is_restart c ≡ false
+writes_no_restart at Restart w = cc
+writes_no_restart at c w = refl
+
+pub writes_is_carried : (at : Place) (c : Command) → writes at c ≡ true → is_carried c ≡ true
+writes_is_carried at Begin w = cc
+writes_is_carried at (Escrow txn field change) w = cc
+writes_is_carried at Restart w = cc
+writes_is_carried at c w = refl
+
+pub carried_no_restart : (c : Command) → is_carried c ≡ true → is_restart c ≡ false
+carried_no_restart Restart is = cc
+carried_no_restart c is = refl
+
+pub refused_no_restart : (at : Place) (c : Command) (x : Refusal) → first (refusals at c) ≡ Some x → is_restart c ≡ false
+refused_no_restart at Restart x h = cc
+refused_no_restart at c x h = refl
+
+pub refuses_over : (c : Command) (r : Reply) (rs : List Record) → is_restart c ≡ false → RefusesOver c r rs
+refuses_over Restart r rs n = cc
+refuses_over c r rs n = tt
+
+pub noted_none : (at : Place) (c : Command) → writes at c ≡ false → noted at c ≡ []
+noted_none at c w = rw w refl
+
+pub noted_one : (at : Place) (c : Command) → writes at c ≡ true → noted at c ≡ record_at at c ∷ []
+noted_one at c w = rw w refl
+
+-- ---- a reply that fits
+
+pub refusal_fits : (at : Place) (c : Command) (x : Refusal) → first (refusals at c) ≡ Some x → Fits at c (Refused x)
+refusal_fits at Restart x some = cc
+refusal_fits at c x some = rw some refl
+
+pub answer_fits : (at : Place) (c : Command) → is_restart c ≡ false → first (refusals at c) ≡ None → Fits at c (answer at c)
+answer_fits at Restart n none = cc
+answer_fits at c n none = rw none (inl refl)
+
+pub unsure_fits : (at : Place) (c : Command) → writes at c ≡ true → first (refusals at c) ≡ None → Fits at c Unsure
+unsure_fits at Restart w none = cc
+unsure_fits at c w none = rw none (inr (refl, rw w refl))
+
+-- ---- the one reply that is owed
+
+neither : (t w : Bool) (x y : Reply) → w ≡ false → (if t && w then x else y) ≡ y
+neither true false x y h = refl
+neither true true x y h = cc
+neither false w x y h = refl
+
+pub refusal_owed : (at : Place) (c : Command) (x : Refusal) (epoch : ℕ) (found : Last) (luck : Luck) → first (refusals at c) ≡ Some x → Refused x ≡ owed_with at epoch found c luck
+refusal_owed at Restart x epoch found luck some = cc
+refusal_owed at c x epoch found luck some = rw some refl
+
+pub answer_owed : (at : Place) (c : Command) (epoch : ℕ) (found : Last) (luck : Luck) → is_restart c ≡ false → first (refusals at c) ≡ None → writes at c ≡ false
+    → answer at c ≡ owed_with at epoch found c luck
+answer_owed at Restart epoch found luck n none w = cc
+answer_owed at c epoch found luck n none w = rw none (sym (neither (is_torn luck) (writes at c) Unsure (answer at c) w))
+
+pub whole_owed : (at : Place) (c : Command) (epoch : ℕ) (found : Last) → is_restart c ≡ false → first (refusals at c) ≡ None → answer at c ≡ owed_with at epoch found c Fine
+whole_owed at Restart epoch found n none = cc
+whole_owed at c epoch found n none = rw none refl
+
+both : (w : Bool) (x y : Reply) → w ≡ true → (if true && w then x else y) ≡ x
+both true x y h = refl
+both false x y h = cc
+
+pub unsure_owed : (at : Place) (c : Command) (epoch : ℕ) (found : Last) (bytes : ℕ) → first (refusals at c) ≡ None → writes at c ≡ true → Unsure ≡ owed_with at epoch found c (Torn bytes)
+unsure_owed at Restart epoch found bytes none w = cc
+unsure_owed at c epoch found bytes none w = rw none (sym (both (writes at c) Unsure (answer at c) w))

@@ -1,0 +1,59 @@
+-- What a medium holds over which no site is opened (this project).
+use Rattle.std.specs.Prelude.{◌≡◌, ◌⊎◌, ℕ, ◌+◌, List, ◌++◌, Option}
+use Rattle.std.specs.List.{flat_map, AllByRecursion}
+use Rattle.field_bounds.specs.Schema.{SchemaValue}
+use Rattle.kept_records.specs.declared.medium.Mishap.{Mishap}
+use Rattle.kept_records.specs.declared.medium.MediumFault.{MediumFault}
+use Rattle.kept_records.specs.declared.medium.MediumFault.TheVariants as faults
+use Rattle.kept_records.specs.declared.record.Record.{Record}
+use Rattle.kept_records.specs.Text.{text, IsRecord}
+use Rattle.kept_records.specs.Logs.{IsLog, IsBadLine}
+use Rattle.kept_records.specs.Stands.{Lawful, BreaksRule}
+use Rattle.log_replay.specs.Standing.{IsStandingFor}
+use Rattle.site_step.specs.declared.site.opening.OpenFault.{OpenFault}
+use Rattle.site_step.specs.declared.site.opening.OpenFault.TheVariants.{Device, Line, NoMemory}
+use Rattle.site_step.specs.declared.site.opening.Found.{Found}
+
+-- The bytes begin with the texts of these records.
+pub record BeginsWith (bytes : List ℕ) (rs : List Record) : Type 0 where
+  pub behind : List ℕ
+  pub parts : bytes ≡ flat_map text rs ++ behind
+  pub each : AllByRecursion IsRecord rs
+
+-- Line n, counted from 1, is the first that isn't a record that may stand there: a record that may not stand behind those
+-- before it, which are lawful, or behind lawful records the text of no record.
+abbrev pub IsFirstBad : SchemaValue → ℕ → List ℕ → ℕ → Type 0
+IsFirstBad schema s bytes n =
+    ((rs : List Record) × BeginsWith bytes rs × BreaksRule schema s rs n) ⊎ ((bad : IsBadLine bytes n) × Lawful schema s bad.before)
+
+-- A line is named only where it is the first bad one.
+abbrev pub TellsLine : SchemaValue → ℕ → List ℕ → OpenFault → Type 0
+TellsLine schema s bytes (Line n) = IsFirstBad schema s bytes n
+TellsLine schema s bytes fault = Unit {0}
+
+-- No line is bad where the bytes are a log of lawful records.
+abbrev pub SparesLogs : SchemaValue → ℕ → List ℕ → OpenFault → Type 0
+SparesLogs schema s bytes (Line n) = (rs : List Record) (rest : List ℕ) → IsLog bytes rs rest → Lawful schema s rs → ⊥
+SparesLogs schema s bytes fault = Unit {0}
+
+-- The fault of a medium that isn't read.
+abbrev pub fault_of : MediumFault → OpenFault
+fault_of faults.Device = Device
+fault_of faults.NoMemory = NoMemory
+
+-- The count of failures rises by one exactly at a fault of the device.
+abbrev pub failed_at : OpenFault → ℕ → ℕ
+failed_at Device n = n + 1
+failed_at fault n = n
+
+-- The mishap that strikes next stays, unless it struck.
+abbrev pub StaysForetold : OpenFault → Option Mishap → Option Mishap → Type 0
+StaysForetold Device before after = Unit {0}
+StaysForetold fault before after = after ≡ before
+
+-- What was found is the bytes' log, which is lawful, and what its records stand for.
+pub record IsFound (schema : SchemaValue) (s : ℕ) (bytes : List ℕ) (found : Found) : Type 0 where
+  pub rest : List ℕ
+  pub log : IsLog bytes found.records.items rest
+  pub lawful : Lawful schema s found.records.items
+  pub stands : IsStandingFor schema s found.records.items found.standing

@@ -1,0 +1,151 @@
+//! What a command that isn't refused does to the site and to its medium.
+
+ghost use Rattle.std.specs.Prelude.{◌≡◌, true, false, None, Some, OnErr, IfOk};
+ghost use Rattle.field_bounds.specs.Owed.{first, refusals, answer, writes};
+ghost use Rattle.kept_state.specs.Keeps.{record_at};
+ghost use Rattle.site_step.specs.Site.{here, Applies};
+ghost use Rattle.site_step.specs.State.{is_carried};
+
+use super::{Site, note};
+use field_bounds::{Command, Escrow, FieldNo, Kind, Refusal, Reply, TxnId};
+use kept_records::{Escrows, Medium, Record, append_record};
+use std::alloc::{AllocError, Global};
+
+impl<M: Medium> Site<M> {
+    /// Adds the entry of a refusal.
+    pub(super) fn refuse(&mut self, command: Command, refusal: Refusal) -> Result<Reply, AllocError>
+        requires refused { first (refusals (here self.old) command) ≡ Some refusal }
+        ensures ok { IfOk result (λ answered. Applies self.old command answered self.new) }
+        ensures err { OnErr result (self.new ≡ self.old) }
+    {
+        self.history.reserve(1)?;
+        Ok(note(
+            &mut self.history,
+            self.number,
+            command,
+            Reply::Refused(refusal),
+        ))
+    }
+
+    /// Carries out a command that writes no record, and adds its entry.
+    pub(super) fn answer(&mut self, command: Command, reply: Reply) -> Result<Reply, AllocError>
+        requires unrefused { first (refusals (here self.old) command) ≡ None }
+        requires carried { is_carried command ≡ true }
+        requires silent { writes (here self.old) command ≡ false }
+        requires owed { reply ≡ answer (here self.old) command }
+        ensures ok { IfOk result (λ answered. Applies self.old command answered self.new) }
+        ensures err { OnErr result (self.new ≡ self.old) }
+    {
+        self.history.reserve(1)?;
+        self.accounts.carry_out(command);
+        Ok(note(&mut self.history, self.number, command, reply))
+    }
+
+    /// Carries out a command that writes this record, once the record stands whole, and adds its
+    /// entry.
+    pub(super) fn write(
+        &mut self,
+        alloc: Global,
+        command: Command,
+        kept: &Record,
+        reply: Reply,
+    ) -> Result<Reply, AllocError>
+        requires unrefused { first (refusals (here self.old) command) ≡ None }
+        requires told { writes (here self.old) command ≡ true }
+        requires kept { kept.now ≡ record_at (here self.old) command }
+        requires owed { reply ≡ answer (here self.old) command }
+        ensures ok { IfOk result (λ answered. Applies self.old command answered self.new) }
+        ensures err { OnErr result (self.new ≡ self.old) }
+    {
+        self.history.reserve(1)?;
+        match append_record(alloc, &mut self.medium, kept)? {
+            Ok(()) => {
+                self.accounts.carry_out(command);
+                self.count += 1;
+                Ok(note(&mut self.history, self.number, command, reply))
+            }
+            Err(_) => {
+                self.up = false;
+                self.doubt = Some(self.count);
+                Ok(note(&mut self.history, self.number, command, Reply::Unsure))
+            }
+        }
+    }
+
+    pub(super) fn begin(&mut self, alloc: Global) -> Result<Reply, AllocError>
+        requires unrefused { first (refusals (here self.old) Command.Begin) ≡ None }
+        ensures ok { IfOk result (λ reply. Applies self.old Command.Begin reply self.new) }
+        ensures err { OnErr result (self.new ≡ self.old) }
+    {
+        self.history.reserve(1)?;
+        let txn = TxnId {
+            epoch: self.accounts.epoch,
+            number: self.accounts.last + 1,
+        };
+        self.accounts.journal.begin(alloc, txn)?;
+        self.accounts.last += 1;
+        Ok(note(
+            &mut self.history,
+            self.number,
+            Command::Begin,
+            Reply::Begun(txn),
+        ))
+    }
+
+    pub(super) fn grant(
+        &mut self,
+        txn: TxnId,
+        field: FieldNo,
+        change: i64,
+    ) -> Result<Reply, AllocError>
+        requires unrefused { first (refusals (here self.old) (Command.Escrow txn field change)) ≡ None }
+        ensures ok { IfOk result (λ reply. Applies self.old (Command.Escrow txn field change) reply self.new) }
+        ensures err { OnErr result (self.new ≡ self.old) }
+    {
+        self.history.reserve(1)?;
+        self.accounts.journal.add(txn, Escrow { field, change })?;
+        let taken = self
+            .accounts
+            .rights
+            .take(field, Kind::of(change), change.unsigned_abs());
+        prove!(taken.is_ok());
+        let command = Command::Escrow { txn, field, change };
+        Ok(note(&mut self.history, self.number, command, Reply::Granted))
+    }
+
+    pub(super) fn commit(&mut self, alloc: Global, txn: TxnId) -> Result<Reply, AllocError>
+        requires unrefused { first (refusals (here self.old) (Command.Commit txn)) ≡ None }
+        ensures ok { IfOk result (λ reply. Applies self.old (Command.Commit txn) reply self.new) }
+        ensures err { OnErr result (self.new ≡ self.old) }
+    {
+        let command = Command::Commit { txn };
+        let Some(escrows) = self.accounts.journal.escrows(txn) else {
+            unreachable!()
+        };
+        if escrows.is_empty() {
+            return self.answer(command, Reply::Committed);
+        }
+        let escrows = Escrows::new(Vec::from_slice(alloc, escrows)?);
+        let kept = Record::Commit { txn, escrows };
+        self.write(alloc, command, &kept, Reply::Committed)
+    }
+
+    pub(super) fn read(&mut self, field: FieldNo) -> Result<Reply, AllocError>
+        requires unrefused { first (refusals (here self.old) (Command.Read field)) ≡ None }
+        ensures ok { IfOk result (λ reply. Applies self.old (Command.Read field) reply self.new) }
+        ensures err { OnErr result (self.new ≡ self.old) }
+    {
+        let (lo, hi) = self.bounds_known(field);
+        self.answer(Command::Read { field }, Reply::Between { lo, hi })
+    }
+
+    pub(super) fn tell_shares(&mut self, field: FieldNo) -> Result<Reply, AllocError>
+        requires unrefused { first (refusals (here self.old) (Command.Share field)) ≡ None }
+        ensures ok { IfOk result (λ reply. Applies self.old (Command.Share field) reply self.new) }
+        ensures err { OnErr result (self.new ≡ self.old) }
+    {
+        let lower = self.free(field, Kind::Lower);
+        let raise = self.free(field, Kind::Raise);
+        self.answer(Command::Share { field }, Reply::Shares { lower, raise })
+    }
+}

@@ -1,0 +1,142 @@
+//! A restart: the site stands anew on what its medium holds.
+
+ghost use Rattle.std.specs.Prelude.{◌≡◌, ◌<◌, [], List, ℕ, OnErr, IfOk};
+ghost use Rattle.field_bounds.specs.declared.entry.Command.TheVariants as commands;
+ghost use Rattle.kept_records.specs.declared.record.Record.{Record};
+ghost use Rattle.kept_records.specs.Logs.{IsLog};
+ghost use Rattle.kept_state.specs.Doubt.{found_of};
+ghost use Rattle.site_step.specs.Site.{Applies};
+ghost use Rattle.site_step.specs.Resuming.{IsLawfulLog, ResumesOver};
+
+use super::{Site, note};
+use crate::accounts::Accounts;
+use field_bounds::{Command, Last, MAX_EPOCH, Refusal, Reply, Schema, SiteNo};
+use kept_records::{Medium, MediumFault, Record, append_restart, read_log, stands_behind};
+use log_replay::{Replayed, Standing, replay};
+use std::alloc::{AllocError, Global};
+
+/// How a restart went.
+#[derive(Drop)]
+enum Resumed {
+    /// The device failed.
+    Failed,
+    /// The last epoch is used up.
+    NumbersFull,
+    /// The records that the medium held, what they stand for, and the epoch of the record that was
+    /// added.
+    Standing {
+        records: Vec<Record>,
+        standing: Standing,
+        epoch: u32,
+    },
+}
+
+/// Reads the medium, cuts a torn end and adds the record of a restart.
+fn resume<M: Medium>(
+    alloc: Global,
+    schema: &Schema,
+    site: SiteNo,
+    medium: &mut M,
+) -> Result<Resumed, AllocError>
+    requires site_in { site.0 < schema.now.sites }
+    requires log { IsLawfulLog schema.now site.0 (M.bytes medium.old) }
+    ensures resumes { IfOk result (λ resumed. (rs : List Record) (rest : List ℕ) → IsLog (M.bytes medium.old) rs rest →
+        ResumesOver schema.now site.0 rs resumed (M.bytes medium.old) (M.bytes medium.new) (M.foretold medium.old) (M.failed medium.old) (M.failed medium.new)) }
+    ensures bytes { OnErr result (M.bytes medium.new ≡ M.bytes medium.old) }
+    ensures failed { OnErr result (M.failed medium.new ≡ M.failed medium.old) }
+    ensures foretold { OnErr result (M.foretold medium.new ≡ M.foretold medium.old) }
+{
+    let log = match read_log(alloc, medium) {
+        Ok(log) => log,
+        Err(MediumFault::Device) => return Ok(Resumed::Failed),
+        Err(MediumFault::NoMemory) => return Err(AllocError),
+    };
+    let standing = match replay(alloc, schema, site, &log.records)? {
+        Replayed::Standing(standing) => standing,
+        Replayed::BreaksRule { number: _ } => unreachable!(),
+    };
+    if standing.epoch >= MAX_EPOCH {
+        return Ok(Resumed::NumbersFull);
+    }
+    let epoch = standing.epoch + 1;
+    match append_restart(alloc, medium, log.whole, log.present, epoch)? {
+        Ok(()) => Ok(Resumed::Standing {
+            records: log.records,
+            standing,
+            epoch,
+        }),
+        Err(_) => Ok(Resumed::Failed),
+    }
+}
+
+/// What became of the record in doubt, before which so many records stood.
+fn last_of(doubt: Option<usize>, records: &[Record]) -> Last
+    ensures { result ≡ found_of doubt records.now }
+{
+    match doubt {
+        None => Last::Nothing,
+        Some(before) => {
+            if stands_behind(records, before) {
+                Last::Kept
+            } else {
+                Last::Lost
+            }
+        }
+    }
+}
+
+impl Accounts {
+    /// Stands on what the records of a log stand for, in a new epoch: no transaction is open.
+    fn stand_on(&mut self, standing: Standing, epoch: u32)
+        ensures { self.new ≡ record { rights = standing.rights; journal = []; ledger = standing.ledger; epoch = epoch; last = 0 } }
+    {
+        self.rights = standing.rights;
+        self.ledger = standing.ledger;
+        self.journal.clear();
+        self.epoch = epoch;
+        self.last = 0;
+    }
+}
+
+impl<M: Medium> Site<M> {
+    pub(super) fn restart(&mut self, alloc: Global) -> Result<Reply, AllocError>
+        ensures ok { IfOk result (λ reply. Applies self.old commands.Restart reply self.new) }
+        ensures err { OnErr result (self.new ≡ self.old) }
+    {
+        self.history.reserve(1)?;
+        match resume(alloc, &self.schema, self.number, &mut self.medium)? {
+            Resumed::Failed => {
+                self.up = false;
+                Ok(note(
+                    &mut self.history,
+                    self.number,
+                    Command::Restart,
+                    Reply::StillDown,
+                ))
+            }
+            Resumed::NumbersFull => Ok(note(
+                &mut self.history,
+                self.number,
+                Command::Restart,
+                Reply::Refused(Refusal::NumbersFull),
+            )),
+            Resumed::Standing {
+                records,
+                standing,
+                epoch,
+            } => {
+                let last = last_of(self.doubt, &records);
+                self.accounts.stand_on(standing, epoch);
+                self.up = true;
+                self.count = records.len() + 1;
+                self.doubt = None;
+                Ok(note(
+                    &mut self.history,
+                    self.number,
+                    Command::Restart,
+                    Reply::Restarted { epoch, last },
+                ))
+            }
+        }
+    }
+}

@@ -1,0 +1,318 @@
+//! Worked rows of stops: each expected answer is worked out by hand.
+
+use super::*;
+use field_bounds::Last;
+use kept_records::{Mishap, TornMedium};
+
+/// A command under a mishap, and what the site answers.
+type Step = (Mishap, Command, Reply);
+
+const TAKE_TWENTY: Command = Command::Escrow {
+    txn: FIRST,
+    field: STOCK,
+    change: -20,
+};
+
+const COMMIT: Command = Command::Commit { txn: FIRST };
+
+const SHARE: Command = Command::Share { field: STOCK };
+
+const READ: Command = Command::Read { field: STOCK };
+
+const DOWN: Reply = Reply::Refused(Refusal::Down);
+
+const FULL: Reply = Reply::Refused(Refusal::NumbersFull);
+
+/// An open transaction is aborted by a restart, and numbers start anew in the new epoch.
+const OPEN_AT_A_RESTART: [Step; 5] = [
+    (Mishap::Never, Command::Begin, Reply::Begun(FIRST)),
+    (Mishap::Never, TAKE_TWENTY, Reply::Granted),
+    (
+        Mishap::Never,
+        Command::Restart,
+        Reply::Restarted {
+            epoch: 1,
+            last: Last::Nothing,
+        },
+    ),
+    (
+        Mishap::Never,
+        COMMIT,
+        Reply::Refused(Refusal::NoTransaction),
+    ),
+    (
+        Mishap::Never,
+        Command::Begin,
+        Reply::Begun(TxnId {
+            epoch: 1,
+            number: 1,
+        }),
+    ),
+];
+
+/// A commit's record that lacks its last byte is lost.
+const LOST: [Step; 7] = [
+    (Mishap::Never, Command::Begin, Reply::Begun(FIRST)),
+    (Mishap::Never, TAKE_TWENTY, Reply::Granted),
+    (Mishap::Append(11), COMMIT, Reply::Unsure),
+    (Mishap::Never, READ, DOWN),
+    (
+        Mishap::Never,
+        Command::Restart,
+        Reply::Restarted {
+            epoch: 1,
+            last: Last::Lost,
+        },
+    ),
+    (
+        Mishap::Never,
+        SHARE,
+        Reply::Shares {
+            lower: 20,
+            raise: 30,
+        },
+    ),
+    (Mishap::Never, READ, Reply::Between { lo: 20, hi: 70 }),
+];
+
+/// A commit's record that stands whole is kept.
+const KEPT: [Step; 7] = [
+    (Mishap::Never, Command::Begin, Reply::Begun(FIRST)),
+    (Mishap::Never, TAKE_TWENTY, Reply::Granted),
+    (Mishap::Append(12), COMMIT, Reply::Unsure),
+    (Mishap::Never, READ, DOWN),
+    (
+        Mishap::Never,
+        Command::Restart,
+        Reply::Restarted {
+            epoch: 1,
+            last: Last::Kept,
+        },
+    ),
+    (
+        Mishap::Never,
+        SHARE,
+        Reply::Shares {
+            lower: 0,
+            raise: 50,
+        },
+    ),
+    (Mishap::Never, READ, Reply::Between { lo: 0, hi: 50 }),
+];
+
+/// A restart that fails leaves the record in doubt to the next one.
+const FAILED_RESTART: [Step; 5] = [
+    (Mishap::Never, Command::Begin, Reply::Begun(FIRST)),
+    (Mishap::Never, TAKE_TWENTY, Reply::Granted),
+    (Mishap::Append(12), COMMIT, Reply::Unsure),
+    (Mishap::Append(2), Command::Restart, Reply::StillDown),
+    (
+        Mishap::Never,
+        Command::Restart,
+        Reply::Restarted {
+            epoch: 1,
+            last: Last::Kept,
+        },
+    ),
+];
+
+/// A restart that fails with its record whole uses its epoch up.
+const EPOCH_USED_UP: [Step; 2] = [
+    (Mishap::Append(4), Command::Restart, Reply::StillDown),
+    (
+        Mishap::Never,
+        Command::Restart,
+        Reply::Restarted {
+            epoch: 2,
+            last: Last::Nothing,
+        },
+    ),
+];
+
+/// Each kind of call fails once.
+const EACH_MISHAP: [Step; 6] = [
+    (Mishap::Never, Command::Begin, Reply::Begun(FIRST)),
+    (Mishap::Never, TAKE_TWENTY, Reply::Granted),
+    (Mishap::Append(11), COMMIT, Reply::Unsure),
+    (Mishap::Cut, Command::Restart, Reply::StillDown),
+    (Mishap::Read, Command::Restart, Reply::StillDown),
+    (
+        Mishap::Never,
+        Command::Restart,
+        Reply::Restarted {
+            epoch: 1,
+            last: Last::Lost,
+        },
+    ),
+];
+
+/// Over the record of the last epoch.
+const LAST_EPOCH: [Step; 2] = [
+    (Mishap::Never, Command::Begin, DOWN),
+    (Mishap::Never, Command::Restart, FULL),
+];
+
+/// Over a torn record.
+const TORN_RECORD: [Step; 2] = [
+    (Mishap::Never, Command::Begin, DOWN),
+    (
+        Mishap::Never,
+        Command::Restart,
+        Reply::Restarted {
+            epoch: 1,
+            last: Last::Nothing,
+        },
+    ),
+];
+
+/// Site 0 over a medium that holds these bytes.
+fn site_over(alloc: Global, bytes: &str) -> Option<Site<TornMedium>> {
+    let held = Vec::from_slice(alloc, bytes.as_bytes()).ok()?;
+    open_over(alloc, 0, TornMedium::new(held))
+}
+
+/// How many of the answers are as told, from the first on.
+fn count_told(alloc: Global, site: &mut Site<TornMedium>, steps: &[Step]) -> usize {
+    for (at, step) in steps.iter().enumerate() {
+        let (mishap, command, reply) = *step;
+        site.arm(mishap);
+        if answer(alloc, site, command) != Some(reply) {
+            return at;
+        }
+    }
+    steps.len()
+}
+
+/// The same of a site over these bytes.
+fn count_told_over(alloc: Global, bytes: &str, steps: &[Step]) -> Option<usize> {
+    let mut site = site_over(alloc, bytes)?;
+    Some(count_told(alloc, &mut site, steps))
+}
+
+#[test]
+fn stops_and_restarts(rt: HostRuntime) {
+    let alloc = rt.alloc();
+    assert_eq!(rt; count_told_over(alloc, "", &OPEN_AT_A_RESTART), Some(5));
+    assert_eq!(rt; count_told_over(alloc, "", &LOST), Some(7));
+    assert_eq!(rt; count_told_over(alloc, "", &KEPT), Some(7));
+    assert_eq!(rt; count_told_over(alloc, "", &FAILED_RESTART), Some(5));
+    assert_eq!(rt; count_told_over(alloc, "", &EPOCH_USED_UP), Some(2));
+    assert_eq!(rt; count_told_over(alloc, "", &EACH_MISHAP), Some(6));
+}
+
+#[test]
+fn opens_over_what_is_kept(rt: HostRuntime) {
+    let alloc = rt.alloc();
+    assert_eq!(rt;
+        count_told_over(alloc, "R 1000000000\n", &LAST_EPOCH),
+        Some(2)
+    );
+    assert_eq!(rt; count_told_over(alloc, "R 1", &TORN_RECORD), Some(2));
+}
+
+/// Logs of site 0, and the first line that is no record or breaks a rule.
+const BAD_LOGS: [(&str, u64); 6] = [
+    ("R 01\n", 1),
+    ("R 1\nR 1\n", 2),
+    ("C 0 1 0 -21\n", 1),
+    ("G 1 0 l 5\nR 1\nhello\n", 3),
+    ("G 0 0 l 5\nhello\n", 1),
+    ("hello\nG 0 0 l 5\n", 1),
+];
+
+/// The fault of an open over these bytes under a mishap, and whether the medium comes back with as
+/// many failures as are told.
+fn open_fault(alloc: Global, bytes: &str, mishap: Mishap, failures: u64) -> Option<OpenFault> {
+    let held = Vec::from_slice(alloc, bytes.as_bytes()).ok()?;
+    let mut medium = TornMedium::new(held);
+    medium.arm(mishap);
+    let schema = stock_of_two(alloc)?;
+    if schema.sites() == 0 {
+        return None;
+    }
+    match Site::open(alloc, schema, SiteNo(0), medium) {
+        Ok(_) => None,
+        Err((fault, back)) => {
+            if back.failures() == failures {
+                Some(fault)
+            } else {
+                None
+            }
+        }
+    }
+}
+
+#[test]
+fn faults_of_open(rt: HostRuntime) {
+    let alloc = rt.alloc();
+    for (bytes, line) in BAD_LOGS {
+        assert_eq!(rt;
+            open_fault(alloc, bytes, Mishap::Never, 0),
+            Some(OpenFault::Line(line))
+        );
+    }
+    assert_eq!(rt;
+        open_fault(alloc, "", Mishap::Read, 1),
+        Some(OpenFault::Device)
+    );
+}
+
+/// The share of lowering rights after a torn commit or gift and a restart, and what the restart says.
+fn after_torn(
+    alloc: Global,
+    before: &[Command],
+    torn: Command,
+    bytes: u64,
+) -> Option<(Reply, Option<(u64, u64)>)> {
+    let mut site = site_over(alloc, "")?;
+    for command in before {
+        answer(alloc, &mut site, *command)?;
+    }
+    site.arm(Mishap::Append(bytes));
+    if answer(alloc, &mut site, torn) != Some(Reply::Unsure) || site.is_up() {
+        return None;
+    }
+    let reply = answer(alloc, &mut site, Command::Restart)?;
+    Some((reply, site.share(STOCK)))
+}
+
+#[test]
+fn each_length_of_a_torn_commit(rt: HostRuntime) {
+    let lost = Reply::Restarted {
+        epoch: 1,
+        last: Last::Lost,
+    };
+    let kept = Reply::Restarted {
+        epoch: 1,
+        last: Last::Kept,
+    };
+    let before = [Command::Begin, TAKE_TWENTY];
+    for bytes in 0..12 {
+        let after = after_torn(rt.alloc(), &before, COMMIT, bytes);
+        assert_eq!(rt; after, Some((lost, Some((20, 30)))));
+    }
+    for bytes in 12..14 {
+        let after = after_torn(rt.alloc(), &before, COMMIT, bytes);
+        assert_eq!(rt; after, Some((kept, Some((0, 50)))));
+    }
+}
+
+#[test]
+fn each_length_of_a_torn_gift(rt: HostRuntime) {
+    let lost = Reply::Restarted {
+        epoch: 1,
+        last: Last::Lost,
+    };
+    let kept = Reply::Restarted {
+        epoch: 1,
+        last: Last::Kept,
+    };
+    for bytes in 0..10 {
+        let after = after_torn(rt.alloc(), &[], give_lower(1, 5), bytes);
+        assert_eq!(rt; after, Some((lost, Some((20, 30)))));
+    }
+    for bytes in 10..12 {
+        let after = after_torn(rt.alloc(), &[], give_lower(1, 5), bytes);
+        assert_eq!(rt; after, Some((kept, Some((15, 30)))));
+    }
+}
