@@ -5,7 +5,7 @@ use Rattle.std.specs.List.{AllByRecursion}
 use Rattle.std.proofs.lemmas.Option.{some_pair_parts}
 use Rattle.field_bounds.specs.declared.id.SiteNo.{SiteNo}
 use Rattle.field_bounds.specs.declared.entry.Command.{Command}
-use Rattle.field_bounds.specs.declared.entry.Command.TheVariants.{Begin, Escrow, Commit, Abort, Give, Restate, Accept, Read, Share}
+use Rattle.field_bounds.specs.declared.entry.Command.TheVariants.{Begin, Escrow, Commit, Abort, Give, Restate, Accept, Read, Share, Restart}
 use Rattle.field_bounds.specs.Schema.{SchemaValue}
 use Rattle.field_bounds.specs.Limits.{IsSchema}
 use Rattle.line_words.specs.Reading.{◌>>=◌, word_at}
@@ -33,10 +33,11 @@ verb_text verbs.Restate = codes "restate"
 verb_text verbs.Accept = codes "accept"
 verb_text verbs.Read = codes "read"
 verb_text verbs.Share = codes "share"
+verb_text verbs.Restart = codes "restart"
 
 verb_takes : (w : List ℕ) (v : Verb) → verb_of w ≡ Some v → w ≡ verb_text v
 unfolding verb_of
-verb_takes w v e = beside_takes verb_text verb_table (refl, (refl, (refl, (refl, (refl, (refl, (refl, (refl, (refl, tt))))))))) w v e
+verb_takes w v e = beside_takes verb_text verb_table (refl, (refl, (refl, (refl, (refl, (refl, (refl, (refl, (refl, (refl, tt)))))))))) w v e
 
 verb_again : (v : Verb) → verb_of (verb_text v) ≡ Some v
 unfolding verb_of
@@ -49,6 +50,7 @@ verb_again verbs.Restate = refl
 verb_again verbs.Accept = refl
 verb_again verbs.Read = refl
 verb_again verbs.Share = refl
+verb_again verbs.Restart = refl
 
 verb_word : (v : Verb) → IsWord (verb_text v)
 verb_word verbs.Begin = word_from_test (verb_text verbs.Begin) refl
@@ -60,6 +62,7 @@ verb_word verbs.Restate = word_from_test (verb_text verbs.Restate) refl
 verb_word verbs.Accept = word_from_test (verb_text verbs.Accept) refl
 verb_word verbs.Read = word_from_test (verb_text verbs.Read) refl
 verb_word verbs.Share = word_from_test (verb_text verbs.Share) refl
+verb_word verbs.Restart = word_from_test (verb_text verbs.Restart) refl
 
 verb_read : IsRead (λ (v : Verb). Unit {0}) verb_text verb_of
 verb_read = record { takes = λ w v e. (tt, verb_takes w v e); again = λ v fits. verb_again v; plain = λ v fits. verb_word v }
@@ -108,6 +111,7 @@ arguments_takes schema is verbs.Read ws c rest e =
 arguments_takes schema is verbs.Share ws c rest e =
     taking (field_read schema is) _ ws _ e (λ field r1 f1 w1 e1.
     made schema (Share field) c r1 rest e1 f1 (cc w1))
+arguments_takes schema is verbs.Restart ws c rest e = made schema Restart c ws rest e tt refl
 
 -- after the first word, the arguments give the command again
 after_verb : (schema : SchemaValue) → IsSchema schema → (c : Command) (rest : List (List ℕ)) → CommandFits c → (word_at verb_of (command_words schema c ++ rest) >>= λ v. arguments_at schema v.0 v.1) ≡ found c rest
@@ -129,6 +133,7 @@ after_verb schema is (Read field) rest fits =
     word_again verb_read _ verbs.Read _ tt ∙ word_again (field_read schema is) _ field rest fits
 after_verb schema is (Share field) rest fits =
     word_again verb_read _ verbs.Share _ tt ∙ word_again (field_read schema is) _ field rest fits
+after_verb schema is Restart rest fits = word_again verb_read _ verbs.Restart rest tt
 
 command_plain : (schema : SchemaValue) → IsSchema schema → (c : Command) → CommandFits c → AllByRecursion IsWord (command_words schema c)
 command_plain schema is Begin fits = (verb_word verbs.Begin, tt)
@@ -140,6 +145,7 @@ command_plain schema is (Restate to field kind) fits = (verb_word verbs.Restate,
 command_plain schema is (Accept s) fits = (verb_word verbs.Accept, (site_read.plain s.from fits.0, (site_read.plain s.to fits.1, ((field_read schema is).plain s.field fits.2, (kind_read.plain s.kind tt, (number_read.plain s.total fits.3, tt))))))
 command_plain schema is (Read field) fits = (verb_word verbs.Read, ((field_read schema is).plain field fits, tt))
 command_plain schema is (Share field) fits = (verb_word verbs.Share, ((field_read schema is).plain field fits, tt))
+command_plain schema is Restart fits = (verb_word verbs.Restart, tt)
 
 -- ---- a whole command
 

@@ -4,7 +4,7 @@ use Rattle.std.specs.Prelude.{codes}
 use Rattle.std.specs.List.{AllByRecursion}
 use Rattle.field_bounds.specs.declared.entry.Entry.{Entry}
 use Rattle.field_bounds.specs.declared.entry.Reply.{Reply}
-use Rattle.field_bounds.specs.declared.entry.Reply.TheVariants.{Begun, Granted, Committed, Aborted, Given, Stated, Accepted, Between, Shares, Refused}
+use Rattle.field_bounds.specs.declared.entry.Reply.TheVariants.{Begun, Granted, Committed, Aborted, Given, Stated, Accepted, Between, Shares, Restarted, Unsure, StillDown, Refused}
 use Rattle.field_bounds.specs.Schema.{SchemaValue}
 use Rattle.field_bounds.specs.Limits.{IsSchema}
 use Rattle.line_words.specs.Words.{line}
@@ -63,6 +63,9 @@ after_arrow (Stated total) = refl
 after_arrow (Accepted gain) = refl
 after_arrow (Between lo hi) = refl
 after_arrow (Shares lower raise) = refl
+after_arrow (Restarted epoch found) = refl
+after_arrow Unsure = refl
+after_arrow StillDown = refl
 after_arrow (Refused refusal) = refl
 
 pub entry_line : (schema : SchemaValue) (e : Entry) → command_text schema e.site e.command ++ (codes " -> " ++ reply_text e.reply) ≡ entry_text schema e

@@ -14,17 +14,19 @@ use Rattle.field_bounds.specs.declared.kind.Kind.TheVariants.{Lower, Raise}
 use Rattle.field_bounds.specs.declared.id.FieldNo.{FieldNo}
 use Rattle.field_bounds.specs.declared.id.TxnId.{TxnId}
 use Rattle.field_bounds.specs.declared.entry.Command.{Command}
-use Rattle.field_bounds.specs.declared.entry.Command.TheVariants.{Begin, Escrow, Commit, Abort, Give, Restate, Accept, Read, Share}
+use Rattle.field_bounds.specs.declared.entry.Command.TheVariants.{Begin, Escrow, Commit, Abort, Give, Restate, Accept, Read, Share, Restart}
+use Rattle.field_bounds.specs.declared.entry.Last.{Last}
+use Rattle.field_bounds.specs.declared.entry.Last.TheVariants.{Nothing, Kept, Lost}
 use Rattle.field_bounds.specs.declared.entry.Refusal.{Refusal}
-use Rattle.field_bounds.specs.declared.entry.Refusal.TheVariants.{NoSite, NoField, NoTransaction, Zero, TooLarge, Short, SelfGift, LedgerFull, NotYours, Forged, TooManyOpen, TooManyEscrows, NumbersFull, NothingGiven}
+use Rattle.field_bounds.specs.declared.entry.Refusal.TheVariants.{Down, NoSite, NoField, NoTransaction, Zero, TooLarge, Short, SelfGift, LedgerFull, NotYours, Forged, TooManyOpen, TooManyEscrows, NumbersFull, NothingGiven}
 use Rattle.field_bounds.specs.declared.entry.Reply.{Reply}
-use Rattle.field_bounds.specs.declared.entry.Reply.TheVariants.{Begun, Granted, Committed, Aborted, Given, Stated, Accepted, Between, Shares, Refused}
+use Rattle.field_bounds.specs.declared.entry.Reply.TheVariants.{Begun, Granted, Committed, Aborted, Given, Stated, Accepted, Between, Shares, Restarted, Unsure, StillDown, Refused}
 use Rattle.field_bounds.specs.Schema.{FieldValue, SchemaValue}
 use Rattle.field_bounds.specs.Limits.{is_name, is_name_length, is_name_byte, IsField, IsSchema}
 use Rattle.field_bounds.specs.Parts.{no_field}
 use Rattle.line_words.specs.Words.{line}
 use Rattle.line_words.proofs.WordLemmas.{IsWord}
-use Rattle.entry_text.specs.Spelling.{id_text, kind_text, field_text, site_text, command_words, refusal_words, reply_words, entry_words}
+use Rattle.entry_text.specs.Spelling.{id_text, kind_text, last_text, field_text, site_text, command_words, refusal_words, reply_words, entry_words}
 use Rattle.entry_text.specs.Ranges.{IdFits, FieldFits, CommandFits, RefusalFits, ReplyFits}
 use Rattle.entry_text.specs.Lines.{CommandsAreLines, EntriesAreLines}
 use Rattle.entry_text.proofs.FieldLemmas.{in_schema, past_schema}
@@ -83,6 +85,11 @@ kind_width : (k : Kind) → length (kind_text k) ≤ 5
 kind_width Lower = omega arith
 kind_width Raise = omega arith
 
+last_width : (l : Last) → length (last_text l) ≤ 7
+last_width Nothing = omega arith
+last_width Kept = omega arith
+last_width Lost = omega arith
+
 name_length : (w : List ℕ) → is_name w ≡ true → length w ≤ 32
 unfolding is_name is_name_length
 name_length w e =
@@ -113,8 +120,10 @@ command_room schema is (Restate to field kind) fits = omega (arith, narrow to.0 
 command_room schema is (Accept s) fits = omega (arith, narrow s.from.0 fits.0, narrow s.to.0 fits.1, field_width schema is s.field fits.2, kind_width s.kind, wide s.total fits.3)
 command_room schema is (Read field) fits = omega (arith, field_width schema is field fits)
 command_room schema is (Share field) fits = omega (arith, field_width schema is field fits)
+command_room schema is Restart fits = omega arith
 
 refusal_room : (r : Refusal) → RefusalFits r → room (refusal_words r) ≤ 40
+refusal_room Down fits = omega arith
 refusal_room NoSite fits = omega arith
 refusal_room NoField fits = omega arith
 refusal_room NoTransaction fits = omega arith
@@ -140,6 +149,9 @@ reply_room (Stated total) fits = omega (arith, wide total fits)
 reply_room (Accepted gain) fits = omega (arith, wide gain fits)
 reply_room (Between lo hi) fits = omega (arith, signed_width lo fits.0, signed_width hi fits.1)
 reply_room (Shares lower raise) fits = omega (arith, wide lower fits.0, wide raise fits.1)
+reply_room (Restarted epoch found) fits = omega (arith, middle epoch fits, last_width found)
+reply_room Unsure fits = omega arith
+reply_room StillDown fits = omega arith
 reply_room (Refused refusal) fits = omega (arith, refusal_room refusal fits)
 
 pub commands_are_lines : (schema : SchemaValue) → IsSchema schema → CommandsAreLines schema

@@ -1,26 +1,31 @@
 -- Replies are read as they are spelled.
-use Rattle.std.proofs.Common.{◌≡◌, ℕ, List, ◌∷◌, ◌++◌, Some, refl, ◌∙◌}
+use Rattle.std.proofs.Common.{◌≡◌, ℕ, ◌^◌, ◌<◌, arith, List, ◌∷◌, ◌++◌, Some, refl, ◌∙◌}
 use Rattle.std.specs.Prelude.{codes}
 use Rattle.std.specs.List.{AllByRecursion}
+use Rattle.std.specs.Fmt.{decimal}
+use Rattle.line_words.specs.Reading.{below}
+use Rattle.field_bounds.specs.declared.entry.Last.{Last}
+use Rattle.field_bounds.specs.declared.entry.Last.TheVariants.{Nothing, Kept, Lost}
 use Rattle.field_bounds.specs.declared.entry.Refusal.{Refusal}
-use Rattle.field_bounds.specs.declared.entry.Refusal.TheVariants.{NoSite, NoField, NoTransaction, Zero, TooLarge, Short, SelfGift, LedgerFull, NotYours, Forged, TooManyOpen, TooManyEscrows, NumbersFull, NothingGiven}
+use Rattle.field_bounds.specs.declared.entry.Refusal.TheVariants.{Down, NoSite, NoField, NoTransaction, Zero, TooLarge, Short, SelfGift, LedgerFull, NotYours, Forged, TooManyOpen, TooManyEscrows, NumbersFull, NothingGiven}
 use Rattle.field_bounds.specs.declared.entry.Reply.{Reply}
-use Rattle.field_bounds.specs.declared.entry.Reply.TheVariants.{Begun, Granted, Committed, Aborted, Given, Stated, Accepted, Between, Shares, Refused}
+use Rattle.field_bounds.specs.declared.entry.Reply.TheVariants.{Begun, Granted, Committed, Aborted, Given, Stated, Accepted, Between, Shares, Restarted, Unsure, StillDown, Refused}
 use Rattle.line_words.proofs.WordLemmas.{IsWord, word_from_test}
 use Rattle.line_words.proofs.Forms.{IsRead, IsForm, found, taking, word_again, taking_form, form_again, made_of}
-use Rattle.line_words.proofs.WordKinds.{number_read, signed_read, only_read, beside_takes}
+use Rattle.line_words.proofs.WordKinds.{number_read, signed_read, below_read, only_read, beside_takes}
 use Rattle.entry_text.specs.declared.refusal.Reason.{Reason}
 use Rattle.entry_text.specs.declared.refusal.Reason.TheVariants as reasons
 use Rattle.entry_text.specs.declared.reply.Label.{Label}
 use Rattle.entry_text.specs.declared.reply.Label.TheVariants as labels
-use Rattle.entry_text.specs.Spelling.{refusal_words, reply_words}
+use Rattle.entry_text.specs.Spelling.{last_text, refusal_words, reply_words}
 use Rattle.entry_text.specs.Ranges.{RefusalFits, ReplyFits}
-use Rattle.entry_text.specs.Replies.{reason_of, reason_table, two_at, three_at, short_at, ledger_full_at, forged_at, refusal_after, refusal_at, label_of, label_table, between_at, shares_at, reply_after, reply_at}
+use Rattle.entry_text.specs.Replies.{reason_of, reason_table, two_at, three_at, short_at, ledger_full_at, forged_at, refusal_after, refusal_at, last_of, last_table, label_of, label_table, between_at, shares_at, restarted_at, reply_after, reply_at}
 use Rattle.entry_text.proofs.WordKinds.{id_read}
 
 -- ---- refusals
 
 abbrev reason_text : Reason → List ℕ
+reason_text reasons.Down = codes "1"
 reason_text reasons.NoSite = codes "2"
 reason_text reasons.NoField = codes "3"
 reason_text reasons.NoTransaction = codes "4"
@@ -38,10 +43,11 @@ reason_text reasons.NothingGiven = codes "15"
 
 reason_takes : (w : List ℕ) (r : Reason) → reason_of w ≡ Some r → w ≡ reason_text r
 unfolding reason_of
-reason_takes w r e = beside_takes reason_text reason_table (refl, (refl, (refl, (refl, (refl, (refl, (refl, (refl, (refl, (refl, (refl, (refl, (refl, (refl, tt)))))))))))))) w r e
+reason_takes w r e = beside_takes reason_text reason_table (refl, (refl, (refl, (refl, (refl, (refl, (refl, (refl, (refl, (refl, (refl, (refl, (refl, (refl, (refl, tt))))))))))))))) w r e
 
 reason_again : (r : Reason) → reason_of (reason_text r) ≡ Some r
 unfolding reason_of
+reason_again reasons.Down = refl
 reason_again reasons.NoSite = refl
 reason_again reasons.NoField = refl
 reason_again reasons.NoTransaction = refl
@@ -58,6 +64,7 @@ reason_again reasons.NumbersFull = refl
 reason_again reasons.NothingGiven = refl
 
 reason_word : (r : Reason) → IsWord (reason_text r)
+reason_word reasons.Down = word_from_test (reason_text reasons.Down) refl
 reason_word reasons.NoSite = word_from_test (reason_text reasons.NoSite) refl
 reason_word reasons.NoField = word_from_test (reason_text reasons.NoField) refl
 reason_word reasons.NoTransaction = word_from_test (reason_text reasons.NoTransaction) refl
@@ -82,6 +89,9 @@ made_refusal {ws} b v after rest e fits is = made_of RefusalFits refusal_words w
 
 after_reason : (r : Reason) (ws : List (List ℕ)) (v : Refusal) (rest : List (List ℕ)) → refusal_after r ws ≡ found v rest → RefusalFits v × (reason_text r ∷ ws ≡ refusal_words v ++ rest)
 unfolding refusal_after two_at three_at short_at ledger_full_at forged_at
+after_reason reasons.Down ws v rest e =
+    taking (only_read (codes "down") refl) _ ws _ e (λ a r1 f1 w1 e1.
+    made_refusal Down v r1 rest e1 tt (cc w1))
 after_reason reasons.NoSite ws v rest e =
     taking (only_read (codes "no") refl) _ ws _ e (λ a r1 f1 w1 e1.
     taking (only_read (codes "site") refl) _ r1 _ e1 (λ b r2 f2 w2 e2.
@@ -149,6 +159,7 @@ refusal_takes ws v rest e =
 
 refusal_again : (v : Refusal) (rest : List (List ℕ)) → RefusalFits v → refusal_at (refusal_words v ++ rest) ≡ found v rest
 unfolding refusal_at refusal_after two_at three_at short_at ledger_full_at forged_at
+refusal_again Down rest fits = word_again reason_read _ reasons.Down _ tt ∙ word_again (only_read (codes "down") refl) _ tt rest tt
 refusal_again NoSite rest fits = word_again reason_read _ reasons.NoSite _ tt ∙ word_again (only_read (codes "no") refl) _ tt _ tt ∙ word_again (only_read (codes "site") refl) _ tt rest tt
 refusal_again NoField rest fits = word_again reason_read _ reasons.NoField _ tt ∙ word_again (only_read (codes "no") refl) _ tt _ tt ∙ word_again (only_read (codes "field") refl) _ tt rest tt
 refusal_again NoTransaction rest fits = word_again reason_read _ reasons.NoTransaction _ tt ∙ word_again (only_read (codes "no") refl) _ tt _ tt ∙ word_again (only_read (codes "transaction") refl) _ tt rest tt
@@ -165,6 +176,7 @@ refusal_again NumbersFull rest fits = word_again reason_read _ reasons.NumbersFu
 refusal_again NothingGiven rest fits = word_again reason_read _ reasons.NothingGiven _ tt ∙ word_again (only_read (codes "nothing") refl) _ tt _ tt ∙ word_again (only_read (codes "given") refl) _ tt rest tt
 
 refusal_plain : (v : Refusal) → RefusalFits v → AllByRecursion IsWord (refusal_words v)
+refusal_plain Down fits = (reason_word reasons.Down, (word_from_test (codes "down") refl, tt))
 refusal_plain NoSite fits = (reason_word reasons.NoSite, (word_from_test (codes "no") refl, (word_from_test (codes "site") refl, tt)))
 refusal_plain NoField fits = (reason_word reasons.NoField, (word_from_test (codes "no") refl, (word_from_test (codes "field") refl, tt)))
 refusal_plain NoTransaction fits = (reason_word reasons.NoTransaction, (word_from_test (codes "no") refl, (word_from_test (codes "transaction") refl, tt)))
@@ -195,11 +207,14 @@ label_text labels.Stated = codes "stated"
 label_text labels.Accepted = codes "accepted"
 label_text labels.Between = codes "between"
 label_text labels.Shares = codes "share"
+label_text labels.Restarted = codes "restarted"
+label_text labels.Unsure = codes "unsure"
+label_text labels.Still = codes "still"
 label_text labels.Refused = codes "refused"
 
 label_takes : (w : List ℕ) (l : Label) → label_of w ≡ Some l → w ≡ label_text l
 unfolding label_of
-label_takes w l e = beside_takes label_text label_table (refl, (refl, (refl, (refl, (refl, (refl, (refl, (refl, (refl, (refl, tt)))))))))) w l e
+label_takes w l e = beside_takes label_text label_table (refl, (refl, (refl, (refl, (refl, (refl, (refl, (refl, (refl, (refl, (refl, (refl, (refl, tt))))))))))))) w l e
 
 label_again : (l : Label) → label_of (label_text l) ≡ Some l
 unfolding label_of
@@ -212,6 +227,9 @@ label_again labels.Stated = refl
 label_again labels.Accepted = refl
 label_again labels.Between = refl
 label_again labels.Shares = refl
+label_again labels.Restarted = refl
+label_again labels.Unsure = refl
+label_again labels.Still = refl
 label_again labels.Refused = refl
 
 label_word : (l : Label) → IsWord (label_text l)
@@ -224,17 +242,43 @@ label_word labels.Stated = word_from_test (label_text labels.Stated) refl
 label_word labels.Accepted = word_from_test (label_text labels.Accepted) refl
 label_word labels.Between = word_from_test (label_text labels.Between) refl
 label_word labels.Shares = word_from_test (label_text labels.Shares) refl
+label_word labels.Restarted = word_from_test (label_text labels.Restarted) refl
+label_word labels.Unsure = word_from_test (label_text labels.Unsure) refl
+label_word labels.Still = word_from_test (label_text labels.Still) refl
 label_word labels.Refused = word_from_test (label_text labels.Refused) refl
 
 label_read : IsRead (λ (l : Label). Unit {0}) label_text label_of
 label_read = record { takes = λ w l e. (tt, label_takes w l e); again = λ l fits. label_again l; plain = λ l fits. label_word l }
+
+-- what a restart found
+
+last_takes : (w : List ℕ) (l : Last) → last_of w ≡ Some l → w ≡ last_text l
+unfolding last_of
+last_takes w l e = beside_takes last_text last_table (refl, (refl, (refl, tt))) w l e
+
+last_again : (l : Last) → last_of (last_text l) ≡ Some l
+unfolding last_of
+last_again Nothing = refl
+last_again Kept = refl
+last_again Lost = refl
+
+last_word : (l : Last) → IsWord (last_text l)
+last_word Nothing = word_from_test (last_text Nothing) refl
+last_word Kept = word_from_test (last_text Kept) refl
+last_word Lost = word_from_test (last_text Lost) refl
+
+last_read : IsRead (λ (l : Last). Unit {0}) last_text last_of
+last_read = record { takes = λ w l e. (tt, last_takes w l e); again = λ l fits. last_again l; plain = λ l fits. last_word l }
+
+epoch_read : IsRead (λ (n : ℕ). n < 2 ^ 32) decimal (below (2 ^ 32))
+epoch_read = below_read (2 ^ 32) (omega arith)
 
 -- a reply that was put together is the one that was found
 made_reply : {ws : List (List ℕ)} (b v : Reply) (after rest : List (List ℕ)) → found b after ≡ found v rest → ReplyFits b → ws ≡ reply_words b ++ after → ReplyFits v × (ws ≡ reply_words v ++ rest)
 made_reply {ws} b v after rest e fits is = made_of ReplyFits reply_words ws b v after rest e fits is
 
 after_label : (l : Label) (ws : List (List ℕ)) (v : Reply) (rest : List (List ℕ)) → reply_after l ws ≡ found v rest → ReplyFits v × (label_text l ∷ ws ≡ reply_words v ++ rest)
-unfolding reply_after between_at shares_at
+unfolding reply_after between_at shares_at restarted_at
 after_label labels.Begun ws v rest e =
     taking id_read _ ws _ e (λ txn r1 f1 w1 e1.
     made_reply (Begun txn) v r1 rest e1 f1 (cc w1))
@@ -258,6 +302,14 @@ after_label labels.Shares ws v rest e =
     taking number_read _ ws _ e (λ lower r1 f1 w1 e1.
     taking number_read _ r1 _ e1 (λ raise r2 f2 w2 e2.
     made_reply (Shares lower raise) v r2 rest e2 (f1, f2) (cc (w1, w2))))
+after_label labels.Restarted ws v rest e =
+    taking epoch_read _ ws _ e (λ epoch r1 f1 w1 e1.
+    taking last_read _ r1 _ e1 (λ found r2 f2 w2 e2.
+    made_reply (Restarted epoch found) v r2 rest e2 f1 (cc (w1, w2))))
+after_label labels.Unsure ws v rest e = made_reply Unsure v ws rest e tt refl
+after_label labels.Still ws v rest e =
+    taking (only_read (codes "down") refl) _ ws _ e (λ a r1 f1 w1 e1.
+    made_reply StillDown v r1 rest e1 tt (cc w1))
 after_label labels.Refused ws v rest e =
     taking_form refusal_form _ ws _ e (λ refusal r1 f1 w1 e1.
     made_reply (Refused refusal) v r1 rest e1 f1 (cc w1))
@@ -269,7 +321,7 @@ reply_takes ws v rest e =
     let t = after_label l r1 v rest e1 in (t.0, w1 ∙ t.1))
 
 reply_again : (v : Reply) (rest : List (List ℕ)) → ReplyFits v → reply_at (reply_words v ++ rest) ≡ found v rest
-unfolding reply_at reply_after between_at shares_at
+unfolding reply_at reply_after between_at shares_at restarted_at
 reply_again (Begun txn) rest fits = word_again label_read _ labels.Begun _ tt ∙ word_again id_read _ txn rest fits
 reply_again Granted rest fits = word_again label_read _ labels.Granted rest tt
 reply_again Committed rest fits = word_again label_read _ labels.Committed rest tt
@@ -279,6 +331,9 @@ reply_again (Stated total) rest fits = word_again label_read _ labels.Stated _ t
 reply_again (Accepted gain) rest fits = word_again label_read _ labels.Accepted _ tt ∙ word_again number_read _ gain rest fits
 reply_again (Between lo hi) rest fits = word_again label_read _ labels.Between _ tt ∙ word_again signed_read _ lo _ fits.0 ∙ word_again signed_read _ hi rest fits.1
 reply_again (Shares lower raise) rest fits = word_again label_read _ labels.Shares _ tt ∙ word_again number_read _ lower _ fits.0 ∙ word_again number_read _ raise rest fits.1
+reply_again (Restarted epoch found) rest fits = word_again label_read _ labels.Restarted _ tt ∙ word_again epoch_read _ epoch _ fits ∙ word_again last_read _ found rest tt
+reply_again Unsure rest fits = word_again label_read _ labels.Unsure rest tt
+reply_again StillDown rest fits = word_again label_read _ labels.Still _ tt ∙ word_again (only_read (codes "down") refl) _ tt rest tt
 reply_again (Refused refusal) rest fits = word_again label_read _ labels.Refused _ tt ∙ form_again refusal_form _ refusal rest fits
 
 reply_plain : (v : Reply) → ReplyFits v → AllByRecursion IsWord (reply_words v)
@@ -291,6 +346,9 @@ reply_plain (Stated total) fits = (label_word labels.Stated, (number_read.plain 
 reply_plain (Accepted gain) fits = (label_word labels.Accepted, (number_read.plain gain fits, tt))
 reply_plain (Between lo hi) fits = (label_word labels.Between, (signed_read.plain lo fits.0, (signed_read.plain hi fits.1, tt)))
 reply_plain (Shares lower raise) fits = (label_word labels.Shares, (number_read.plain lower fits.0, (number_read.plain raise fits.1, tt)))
+reply_plain (Restarted epoch found) fits = (label_word labels.Restarted, (epoch_read.plain epoch fits, (last_word found, tt)))
+reply_plain Unsure fits = (label_word labels.Unsure, tt)
+reply_plain StillDown fits = (label_word labels.Still, (word_from_test (codes "down") refl, tt))
 reply_plain (Refused refusal) fits = (label_word labels.Refused, refusal_plain refusal fits)
 
 pub reply_form : IsForm ReplyFits reply_words reply_at

@@ -14,7 +14,7 @@ use Rattle.entry_text.specs.Reading.{site_of, id_of, kind_of, field_of}
 abbrev pub verb_table : List (List ℕ × Verb)
 verb_table = (codes "begin", verbs.Begin) ∷ (codes "escrow", verbs.Escrow) ∷ (codes "commit", verbs.Commit)
     ∷ (codes "abort", verbs.Abort) ∷ (codes "give", verbs.Give) ∷ (codes "restate", verbs.Restate) ∷ (codes "accept", verbs.Accept)
-    ∷ (codes "read", verbs.Read) ∷ (codes "share", verbs.Share) ∷ []
+    ∷ (codes "read", verbs.Read) ∷ (codes "share", verbs.Share) ∷ (codes "restart", verbs.Restart) ∷ []
 
 -- The command that the word names.
 unfoldable pub verb_of : List ℕ → Option Verb
@@ -74,6 +74,7 @@ arguments_at schema verbs.Read ws = do
 arguments_at schema verbs.Share ws = do
   field ← word_at (field_of schema) ws
   Some (commands.Share field.0, field.1)
+arguments_at schema verbs.Restart ws = Some (commands.Restart, ws)
 
 -- The site and the command of a list of words, and the words after them.
 unfoldable pub command_at : SchemaValue → List (List ℕ) → Option ((SiteNo × Command) × List (List ℕ))

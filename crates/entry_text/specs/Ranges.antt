@@ -5,11 +5,11 @@ use Rattle.field_bounds.specs.declared.id.SiteNo.{SiteNo}
 use Rattle.field_bounds.specs.declared.id.FieldNo.{FieldNo}
 use Rattle.field_bounds.specs.declared.id.TxnId.{TxnId}
 use Rattle.field_bounds.specs.declared.entry.Command.{Command}
-use Rattle.field_bounds.specs.declared.entry.Command.TheVariants.{Begin, Escrow, Commit, Abort, Give, Restate, Accept, Read, Share}
+use Rattle.field_bounds.specs.declared.entry.Command.TheVariants.{Begin, Escrow, Commit, Abort, Give, Restate, Accept, Read, Share, Restart}
 use Rattle.field_bounds.specs.declared.entry.Refusal.{Refusal}
-use Rattle.field_bounds.specs.declared.entry.Refusal.TheVariants.{NoSite, NoField, NoTransaction, Zero, TooLarge, Short, SelfGift, LedgerFull, NotYours, Forged, TooManyOpen, TooManyEscrows, NumbersFull, NothingGiven}
+use Rattle.field_bounds.specs.declared.entry.Refusal.TheVariants.{Down, NoSite, NoField, NoTransaction, Zero, TooLarge, Short, SelfGift, LedgerFull, NotYours, Forged, TooManyOpen, TooManyEscrows, NumbersFull, NothingGiven}
 use Rattle.field_bounds.specs.declared.entry.Reply.{Reply}
-use Rattle.field_bounds.specs.declared.entry.Reply.TheVariants.{Begun, Granted, Committed, Aborted, Given, Stated, Accepted, Between, Shares, Refused}
+use Rattle.field_bounds.specs.declared.entry.Reply.TheVariants.{Begun, Granted, Committed, Aborted, Given, Stated, Accepted, Between, Shares, Restarted, Unsure, StillDown, Refused}
 use Rattle.field_bounds.specs.declared.entry.Entry.{Entry}
 
 -- A site's number is a u16.
@@ -35,9 +35,11 @@ CommandFits (Restate to field kind) = SiteFits to × FieldFits field
 CommandFits (Accept statement) = SiteFits statement.from × SiteFits statement.to × FieldFits statement.field × (statement.total < 2 ^ 64)
 CommandFits (Read field) = FieldFits field
 CommandFits (Share field) = FieldFits field
+CommandFits Restart = Unit {0}
 
 -- What a refusal tells is a u64.
 abbrev pub RefusalFits : Refusal → Type 0
+RefusalFits Down = Unit {0}
 RefusalFits NoSite = Unit {0}
 RefusalFits NoField = Unit {0}
 RefusalFits NoTransaction = Unit {0}
@@ -53,7 +55,7 @@ RefusalFits TooManyEscrows = Unit {0}
 RefusalFits NumbersFull = Unit {0}
 RefusalFits NothingGiven = Unit {0}
 
--- Values are i64, rights u64.
+-- Values are i64, rights u64, an epoch is a u32.
 abbrev pub ReplyFits : Reply → Type 0
 ReplyFits (Begun txn) = IdFits txn
 ReplyFits Granted = Unit {0}
@@ -64,6 +66,9 @@ ReplyFits (Stated total) = total < 2 ^ 64
 ReplyFits (Accepted gain) = gain < 2 ^ 64
 ReplyFits (Between lo hi) = FitsSigned w64 lo × FitsSigned w64 hi
 ReplyFits (Shares lower raise) = (lower < 2 ^ 64) × (raise < 2 ^ 64)
+ReplyFits (Restarted epoch found) = epoch < 2 ^ 32
+ReplyFits Unsure = Unit {0}
+ReplyFits StillDown = Unit {0}
 ReplyFits (Refused refusal) = RefusalFits refusal
 
 -- Each part of an entry fits.

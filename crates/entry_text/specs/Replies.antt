@@ -1,10 +1,12 @@
 -- What words spell a reply, as functions on lists of words (this project).
 use Rattle.std.specs.Prelude.{ℕ, ◌^◌, List, [], ◌∷◌, Option, Some, codes}
+use Rattle.field_bounds.specs.declared.entry.Last.{Last}
+use Rattle.field_bounds.specs.declared.entry.Last.TheVariants.{Nothing, Kept, Lost}
 use Rattle.field_bounds.specs.declared.entry.Refusal.{Refusal}
 use Rattle.field_bounds.specs.declared.entry.Refusal.TheVariants as refusals
 use Rattle.field_bounds.specs.declared.entry.Reply.{Reply}
 use Rattle.field_bounds.specs.declared.entry.Reply.TheVariants as replies
-use Rattle.line_words.specs.Reading.{◌>>=◌, number_of, signed_of, beside, only_of, word_at}
+use Rattle.line_words.specs.Reading.{◌>>=◌, number_of, signed_of, below, beside, only_of, word_at}
 use Rattle.entry_text.specs.declared.refusal.Reason.{Reason}
 use Rattle.entry_text.specs.declared.refusal.Reason.TheVariants as reasons
 use Rattle.entry_text.specs.declared.reply.Label.{Label}
@@ -15,7 +17,7 @@ use Rattle.entry_text.specs.Reading.{id_of}
 
 -- The refusals by their numbers.
 abbrev pub reason_table : List (List ℕ × Reason)
-reason_table = (codes "2", reasons.NoSite) ∷ (codes "3", reasons.NoField) ∷ (codes "4", reasons.NoTransaction) ∷ (codes "5", reasons.Zero) ∷ (codes "6", reasons.TooLarge)
+reason_table = (codes "1", reasons.Down) ∷ (codes "2", reasons.NoSite) ∷ (codes "3", reasons.NoField) ∷ (codes "4", reasons.NoTransaction) ∷ (codes "5", reasons.Zero) ∷ (codes "6", reasons.TooLarge)
     ∷ (codes "7", reasons.Short) ∷ (codes "8", reasons.SelfGift) ∷ (codes "9", reasons.LedgerFull) ∷ (codes "10", reasons.NotYours) ∷ (codes "11", reasons.Forged)
     ∷ (codes "12", reasons.TooManyOpen) ∷ (codes "13", reasons.TooManyEscrows) ∷ (codes "14", reasons.NumbersFull) ∷ (codes "15", reasons.NothingGiven) ∷ []
 
@@ -60,6 +62,9 @@ forged_at ws = do
 
 -- The refusal of a number with its words, and the words after them.
 unfoldable pub refusal_after : Reason → List (List ℕ) → Option (Refusal × List (List ℕ))
+refusal_after reasons.Down ws = do
+  a ← word_at (only_of (codes "down")) ws
+  Some (refusals.Down, a.1)
 refusal_after reasons.NoSite ws = two_at (codes "no") (codes "site") refusals.NoSite ws
 refusal_after reasons.NoField ws = two_at (codes "no") (codes "field") refusals.NoField ws
 refusal_after reasons.NoTransaction ws = two_at (codes "no") (codes "transaction") refusals.NoTransaction ws
@@ -89,7 +94,8 @@ refusal_at ws = do
 abbrev pub label_table : List (List ℕ × Label)
 label_table = (codes "begun", labels.Begun) ∷ (codes "granted", labels.Granted) ∷ (codes "committed", labels.Committed) ∷ (codes "aborted", labels.Aborted)
     ∷ (codes "given", labels.Given) ∷ (codes "stated", labels.Stated) ∷ (codes "accepted", labels.Accepted)
-    ∷ (codes "between", labels.Between) ∷ (codes "share", labels.Shares) ∷ (codes "refused", labels.Refused) ∷ []
+    ∷ (codes "between", labels.Between) ∷ (codes "share", labels.Shares) ∷ (codes "restarted", labels.Restarted)
+    ∷ (codes "unsure", labels.Unsure) ∷ (codes "still", labels.Still) ∷ (codes "refused", labels.Refused) ∷ []
 
 -- The reply that the word names.
 unfoldable pub label_of : List ℕ → Option Label
@@ -108,6 +114,21 @@ shares_at ws = do
   lower ← word_at (number_of (2 ^ 64)) ws
   raise ← word_at (number_of (2 ^ 64)) lower.1
   Some (replies.Shares lower.0 raise.0, raise.1)
+
+-- What restarts find, by their words.
+abbrev pub last_table : List (List ℕ × Last)
+last_table = (codes "nothing", Nothing) ∷ (codes "kept", Kept) ∷ (codes "lost", Lost) ∷ []
+
+-- What a restart found, as the word tells it.
+unfoldable pub last_of : List ℕ → Option Last
+last_of w = beside last_table w
+
+-- The epoch of a restart, and what it found.
+unfoldable pub restarted_at : List (List ℕ) → Option (Reply × List (List ℕ))
+restarted_at ws = do
+  epoch ← word_at (below (2 ^ 32)) ws
+  found ← word_at last_of epoch.1
+  Some (replies.Restarted epoch.0 found.0, found.1)
 
 -- The reply of a name with what it tells, and the words after it.
 unfoldable pub reply_after : Label → List (List ℕ) → Option (Reply × List (List ℕ))
@@ -128,6 +149,11 @@ reply_after labels.Accepted ws = do
   Some (replies.Accepted gain.0, gain.1)
 reply_after labels.Between ws = between_at ws
 reply_after labels.Shares ws = shares_at ws
+reply_after labels.Restarted ws = restarted_at ws
+reply_after labels.Unsure ws = Some (replies.Unsure, ws)
+reply_after labels.Still ws = do
+  a ← word_at (only_of (codes "down")) ws
+  Some (replies.StillDown, a.1)
 reply_after labels.Refused ws = do
   refusal ← refusal_at ws
   Some (replies.Refused refusal.0, refusal.1)

@@ -7,11 +7,13 @@ use Rattle.field_bounds.specs.declared.id.SiteNo.{SiteNo}
 use Rattle.field_bounds.specs.declared.id.FieldNo.{FieldNo}
 use Rattle.field_bounds.specs.declared.id.TxnId.{TxnId}
 use Rattle.field_bounds.specs.declared.entry.Command.{Command}
-use Rattle.field_bounds.specs.declared.entry.Command.TheVariants.{Begin, Escrow, Commit, Abort, Give, Restate, Accept, Read, Share}
+use Rattle.field_bounds.specs.declared.entry.Command.TheVariants.{Begin, Escrow, Commit, Abort, Give, Restate, Accept, Read, Share, Restart}
+use Rattle.field_bounds.specs.declared.entry.Last.{Last}
+use Rattle.field_bounds.specs.declared.entry.Last.TheVariants.{Nothing, Kept, Lost}
 use Rattle.field_bounds.specs.declared.entry.Refusal.{Refusal}
-use Rattle.field_bounds.specs.declared.entry.Refusal.TheVariants.{NoSite, NoField, NoTransaction, Zero, TooLarge, Short, SelfGift, LedgerFull, NotYours, Forged, TooManyOpen, TooManyEscrows, NumbersFull, NothingGiven}
+use Rattle.field_bounds.specs.declared.entry.Refusal.TheVariants.{Down, NoSite, NoField, NoTransaction, Zero, TooLarge, Short, SelfGift, LedgerFull, NotYours, Forged, TooManyOpen, TooManyEscrows, NumbersFull, NothingGiven}
 use Rattle.field_bounds.specs.declared.entry.Reply.{Reply}
-use Rattle.field_bounds.specs.declared.entry.Reply.TheVariants.{Begun, Granted, Committed, Aborted, Given, Stated, Accepted, Between, Shares, Refused}
+use Rattle.field_bounds.specs.declared.entry.Reply.TheVariants.{Begun, Granted, Committed, Aborted, Given, Stated, Accepted, Between, Shares, Restarted, Unsure, StillDown, Refused}
 use Rattle.field_bounds.specs.declared.entry.Entry.{Entry}
 use Rattle.field_bounds.specs.Schema.{SchemaValue}
 use Rattle.field_bounds.specs.Parts.{field_at}
@@ -32,6 +34,12 @@ abbrev pub kind_text : Kind → List ℕ
 kind_text Lower = codes "lower"
 kind_text Raise = codes "raise"
 
+-- What a restart found.
+abbrev pub last_text : Last → List ℕ
+last_text Nothing = codes "nothing"
+last_text Kept = codes "kept"
+last_text Lost = codes "lost"
+
 -- A field: its name, or a sharp (35) and its number where the schema has no field of the number.
 abbrev pub field_text : SchemaValue → FieldNo → List ℕ
 field_text schema f = if nat_lt f.0 (length schema.fields) then (field_at schema f.0).name else (35 ∷ decimal f.0)
@@ -49,6 +57,7 @@ command_words schema (Restate to field kind) = codes "restate" ∷ site_text to 
 command_words schema (Accept statement) = codes "accept" ∷ site_text statement.from ∷ site_text statement.to ∷ field_text schema statement.field ∷ kind_text statement.kind ∷ decimal statement.total ∷ []
 command_words schema (Read field) = codes "read" ∷ field_text schema field ∷ []
 command_words schema (Share field) = codes "share" ∷ field_text schema field ∷ []
+command_words schema Restart = codes "restart" ∷ []
 
 -- A command at a site.
 abbrev pub command_text : SchemaValue → SiteNo → Command → List ℕ
@@ -58,6 +67,7 @@ command_text schema site command = line (site_text site ∷ command_words schema
 
 -- The words of a refusal: its number first.
 abbrev pub refusal_words : Refusal → List (List ℕ)
+refusal_words Down = codes "1" ∷ codes "down" ∷ []
 refusal_words NoSite = codes "2" ∷ codes "no" ∷ codes "site" ∷ []
 refusal_words NoField = codes "3" ∷ codes "no" ∷ codes "field" ∷ []
 refusal_words NoTransaction = codes "4" ∷ codes "no" ∷ codes "transaction" ∷ []
@@ -84,6 +94,9 @@ reply_words (Stated total) = codes "stated" ∷ decimal total ∷ []
 reply_words (Accepted gain) = codes "accepted" ∷ decimal gain ∷ []
 reply_words (Between lo hi) = codes "between" ∷ signed_decimal lo ∷ signed_decimal hi ∷ []
 reply_words (Shares lower raise) = codes "share" ∷ decimal lower ∷ decimal raise ∷ []
+reply_words (Restarted epoch found) = codes "restarted" ∷ decimal epoch ∷ last_text found ∷ []
+reply_words Unsure = codes "unsure" ∷ []
+reply_words StillDown = codes "still" ∷ codes "down" ∷ []
 reply_words (Refused refusal) = codes "refused" ∷ refusal_words refusal
 
 -- A reply.

@@ -93,6 +93,7 @@ fn arguments(line: &mut Words<'_>, schema: &Schema, verb: Verb) -> Option<Comman
             let field = field_at(line, schema)?;
             Some(Command::Share { field })
         }
+        Verb::Restart => Some(Command::Restart),
     }
 }
 

@@ -2,9 +2,9 @@
 
 ghost use Rattle.std.specs.Prelude.{Some};
 ghost use Rattle.line_words.specs.Words.{line};
-ghost use Rattle.entry_text.specs.Spelling.{id_text, kind_text, field_text, command_text, refusal_words, reply_text};
+ghost use Rattle.entry_text.specs.Spelling.{id_text, kind_text, last_text, field_text, command_text, refusal_words, reply_text};
 
-use field_bounds::{Command, FieldNo, Kind, Refusal, Reply, Schema, SiteNo, TxnId};
+use field_bounds::{Command, FieldNo, Kind, Last, Refusal, Reply, Schema, SiteNo, TxnId};
 use std::fmt;
 
 /// A transaction, as `EPOCH.NUMBER`.
@@ -122,6 +122,23 @@ impl fmt::Display for CommandText<'_> {
                 let field = FieldText { schema, field };
                 write!(f, "{site} share {field}")
             }
+            Command::Restart => write!(f, "{site} restart"),
+        }
+    }
+}
+
+/// What a restart found, as `nothing`, `kept` or `lost`.
+#[derive(Clone, Copy)]
+struct LastText(Last);
+
+impl fmt::Display for LastText {
+    ghost output = { λ l. Some (last_text l.0) };
+
+    fn fmt<W: fmt::Write>(&self, f: &mut fmt::Formatter<W>) -> fmt::Result {
+        match self.0 {
+            Last::Nothing => write!(f, "nothing"),
+            Last::Kept => write!(f, "kept"),
+            Last::Lost => write!(f, "lost"),
         }
     }
 }
@@ -135,6 +152,7 @@ impl fmt::Display for RefusalText {
 
     fn fmt<W: fmt::Write>(&self, f: &mut fmt::Formatter<W>) -> fmt::Result {
         match self.0 {
+            Refusal::Down => write!(f, "1 down"),
             Refusal::NoSite => write!(f, "2 no site"),
             Refusal::NoField => write!(f, "3 no field"),
             Refusal::NoTransaction => write!(f, "4 no transaction"),
@@ -174,6 +192,12 @@ impl fmt::Display for ReplyText {
             Reply::Accepted { gain } => write!(f, "accepted {gain}"),
             Reply::Between { lo, hi } => write!(f, "between {lo} {hi}"),
             Reply::Shares { lower, raise } => write!(f, "share {lower} {raise}"),
+            Reply::Restarted { epoch, last } => {
+                let last = LastText(last);
+                write!(f, "restarted {epoch} {last}")
+            }
+            Reply::Unsure => write!(f, "unsure"),
+            Reply::StillDown => write!(f, "still down"),
             Reply::Refused(refusal) => {
                 let refusal = RefusalText(refusal);
                 write!(f, "refused {refusal}")

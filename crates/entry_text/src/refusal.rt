@@ -12,6 +12,7 @@ use line_words::Words;
 /// The number that says which refusal it is.
 #[derive(Clone, Copy)]
 pub(crate) enum Reason {
+    Down,
     NoSite,
     NoField,
     NoTransaction,
@@ -32,7 +33,9 @@ pub(crate) enum Reason {
 fn reason_named(word: &[u8]) -> Option<Reason>
     ensures { result ≡ reason_of word.now }
 {
-    if is_text(word, "2") {
+    if is_text(word, "1") {
+        Some(Reason::Down)
+    } else if is_text(word, "2") {
         Some(Reason::NoSite)
     } else if is_text(word, "3") {
         Some(Reason::NoField)
@@ -130,6 +133,10 @@ fn refusal_for(line: &mut Words<'_>, reason: Reason) -> Option<Refusal>
     ensures { Gives result line.new (refusal_after reason line.old) }
 {
     match reason {
+        Reason::Down => {
+            expect(line, "down")?;
+            Some(Refusal::Down)
+        }
         Reason::NoSite => two(line, "no", "site", Refusal::NoSite),
         Reason::NoField => two(line, "no", "field", Refusal::NoField),
         Reason::NoTransaction => two(line, "no", "transaction", Refusal::NoTransaction),

@@ -2,12 +2,12 @@
 
 ghost use Rattle.std.specs.Prelude.{◌≡◌};
 ghost use Rattle.line_words.specs.Reading.{Gives, word_at};
-ghost use Rattle.entry_text.specs.Replies.{label_of, between_at, shares_at, reply_after, reply_at};
+ghost use Rattle.entry_text.specs.Replies.{last_of, label_of, between_at, shares_at, restarted_at, reply_after, reply_at};
 
 use crate::refusal::refusal;
 use crate::verb::is_text;
-use crate::word::{number_at, signed_at, txn_at};
-use field_bounds::Reply;
+use crate::word::{epoch_at, expect, number_at, signed_at, txn_at};
+use field_bounds::{Last, Reply};
 use line_words::Words;
 
 /// The word that says which reply it is.
@@ -22,6 +22,9 @@ pub(crate) enum Label {
     Accepted,
     Between,
     Shares,
+    Restarted,
+    Unsure,
+    Still,
     Refused,
 }
 
@@ -47,6 +50,12 @@ fn label_named(word: &[u8]) -> Option<Label>
         Some(Label::Between)
     } else if is_text(word, "share") {
         Some(Label::Shares)
+    } else if is_text(word, "restarted") {
+        Some(Label::Restarted)
+    } else if is_text(word, "unsure") {
+        Some(Label::Unsure)
+    } else if is_text(word, "still") {
+        Some(Label::Still)
     } else if is_text(word, "refused") {
         Some(Label::Refused)
     } else {
@@ -79,6 +88,37 @@ fn shares(line: &mut Words<'_>) -> Option<Reply>
     Some(Reply::Shares { lower, raise })
 }
 
+#[tactic(auto, unfolding(crate::specs::Replies::last_of))]
+fn last_named(word: &[u8]) -> Option<Last>
+    ensures { result ≡ last_of word.now }
+{
+    if is_text(word, "nothing") {
+        Some(Last::Nothing)
+    } else if is_text(word, "kept") {
+        Some(Last::Kept)
+    } else if is_text(word, "lost") {
+        Some(Last::Lost)
+    } else {
+        None
+    }
+}
+
+#[tactic(auto, unfolding(line_words::specs::Reading::word_at))]
+fn last_at(line: &mut Words<'_>) -> Option<Last>
+    ensures { Gives result line.new (word_at last_of line.old) }
+{
+    last_named(line.next()?)
+}
+
+#[tactic(auto, unfolding(crate::specs::Replies::restarted_at))]
+fn restarted(line: &mut Words<'_>) -> Option<Reply>
+    ensures { Gives result line.new (restarted_at line.old) }
+{
+    let epoch = epoch_at(line)?;
+    let last = last_at(line)?;
+    Some(Reply::Restarted { epoch, last })
+}
+
 #[tactic(auto, unfolding(crate::specs::Replies::reply_after))]
 fn reply_for(line: &mut Words<'_>, label: Label) -> Option<Reply>
     ensures { Gives result line.new (reply_after label line.old) }
@@ -105,6 +145,12 @@ fn reply_for(line: &mut Words<'_>, label: Label) -> Option<Reply>
         }
         Label::Between => between(line),
         Label::Shares => shares(line),
+        Label::Restarted => restarted(line),
+        Label::Unsure => Some(Reply::Unsure),
+        Label::Still => {
+            expect(line, "down")?;
+            Some(Reply::StillDown)
+        }
         Label::Refused => {
             let refusal = refusal(line)?;
             Some(Reply::Refused(refusal))

@@ -1,6 +1,7 @@
 use super::*;
 use field_bounds::{
-    Command, Entry, FieldNo, FieldSpec, Kind, Refusal, Reply, Schema, SiteNo, Statement, TxnId,
+    Command, Entry, FieldNo, FieldSpec, Kind, Last, Refusal, Reply, Schema, SiteNo, Statement,
+    TxnId,
 };
 use std::alloc::Global;
 use std::process::Abort;
@@ -377,6 +378,46 @@ fn spells_refusals_at_limits(rt: HostRuntime) -> Result<(), Fail> {
             Refusal::NumbersFull
         )
     );
+    Ok(())
+}
+
+/// The line is no entry's.
+fn is_no_entry(schema: &Schema, line: &str) -> bool {
+    read_entry(schema, line.as_bytes()).is_none()
+}
+
+/// The reply of a restart at epoch 1.
+fn restarted(last: Last) -> Reply {
+    Reply::Restarted { epoch: 1, last }
+}
+
+#[test]
+fn spells_restarts(rt: HostRuntime) -> Result<(), Fail> {
+    let alloc = rt.alloc();
+    let schema = stock(&rt, alloc)?;
+    let nothing = restarted(Last::Nothing);
+    let kept = restarted(Last::Kept);
+    let lost = restarted(Last::Lost);
+    let refusal = Refusal::Down;
+    assert!(rt; is_command(alloc, &schema, "0 restart", 0, Command::Restart));
+    assert!(rt; is_reply(alloc, &schema, "0 begin -> restarted 1 nothing", nothing));
+    assert!(rt; is_reply(alloc, &schema, "0 begin -> restarted 1 kept", kept));
+    assert!(rt; is_reply(alloc, &schema, "0 begin -> restarted 1 lost", lost));
+    assert!(rt; is_reply(alloc, &schema, "0 begin -> unsure", Reply::Unsure));
+    assert!(rt; is_reply(alloc, &schema, "0 begin -> still down", Reply::StillDown));
+    assert!(rt; is_refusal(alloc, &schema, "0 begin -> refused 1 down", refusal));
+    Ok(())
+}
+
+#[test]
+fn refuses_other_restarts(rt: HostRuntime) -> Result<(), Fail> {
+    let schema = stock(&rt, rt.alloc())?;
+    assert!(rt; is_no_command(&schema, "0 restart 1"));
+    assert!(rt; is_no_entry(&schema, "0 begin -> restarted 1"));
+    assert!(rt; is_no_entry(&schema, "0 begin -> restarted 1 Kept"));
+    assert!(rt; is_no_entry(&schema, "0 begin -> restarted 4294967296 kept"));
+    assert!(rt; is_no_entry(&schema, "0 begin -> still  down"));
+    assert!(rt; is_no_entry(&schema, "0 begin -> refused 01 down"));
     Ok(())
 }
 

@@ -17,6 +17,7 @@ pub(crate) enum Verb {
     Accept,
     Read,
     Share,
+    Restart,
 }
 
 /// The word is this text.
@@ -49,6 +50,8 @@ fn verb_named(word: &[u8]) -> Option<Verb>
         Some(Verb::Read)
     } else if is_text(word, "share") {
         Some(Verb::Share)
+    } else if is_text(word, "restart") {
+        Some(Verb::Restart)
     } else {
         None
     }

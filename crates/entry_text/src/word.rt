@@ -125,6 +125,14 @@ pub(crate) fn number_at(line: &mut Words<'_>) -> Option<u64>
     read_number(line.next()?)
 }
 
+/// Takes an epoch: a number of u32.
+#[tactic(auto, unfolding(line_words::specs::Reading::word_at))]
+pub(crate) fn epoch_at(line: &mut Words<'_>) -> Option<u32>
+    ensures { Gives result line.new (word_at (below (2 ^ 32)) line.old) }
+{
+    medium(line.next()?)
+}
+
 /// Takes a number with a sign.
 #[tactic(auto, unfolding(line_words::specs::Reading::word_at))]
 pub(crate) fn signed_at(line: &mut Words<'_>) -> Option<i64>
