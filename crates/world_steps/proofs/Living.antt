@@ -1,0 +1,131 @@
+-- One more step of a world.
+use Rattle.std.proofs.Common.{◌≡◌, ℕ, ◌+◌, ◌<◌, ◌≤◌, List, [], ◌∷◌, ◌++◌, length, reverse, sym, ap, subst, ◌∙◌, arith, Option, Some, None, All}
+use Rattle.std.proofs.lemmas.List.{reverse-append, length-append}
+use Rattle.std.proofs.lemmas.List.Elements.{All-push, All-tail, All-head}
+use Rattle.field_bounds.specs.declared.id.SiteNo.{SiteNo}
+use Rattle.field_bounds.specs.declared.entry.Statement.{Statement}
+use Rattle.field_bounds.specs.declared.entry.Command.{Command}
+use Rattle.field_bounds.specs.declared.entry.Reply.{Reply}
+use Rattle.field_bounds.specs.declared.entry.Reply.TheVariants.{Granted}
+use Rattle.field_bounds.specs.declared.entry.Entry.{Entry}
+use Rattle.field_bounds.specs.Schema.{SchemaValue}
+use Rattle.field_bounds.specs.Limits.{IsSchema}
+use Rattle.field_bounds.specs.Effects.{fresh}
+use Rattle.field_bounds.specs.Statements.{statement_of}
+use Rattle.field_bounds.specs.Central.{IsSound, IsCentral, IsConservedThroughout}
+use Rattle.field_bounds.proofs.Conserved.{conserved_throughout}
+use Rattle.field_bounds.proofs.Headline.{sound_is_central}
+use Rattle.kept_state.specs.Luck.{Lucky, entries, own_lucky, lucky_reply}
+use Rattle.site_step.specs.Site.{SiteValue}
+use Rattle.world_steps.specs.declared.step.WorldStep.{WorldStep}
+use Rattle.world_steps.specs.World.{with_statement, issued, asked, luck_of, StepFits, with_entry, world_of, trace_by}
+use Rattle.world_steps.specs.Promises.{IsBoundedThroughout, NoneStrange}
+use Rattle.world_steps.specs.Standing.{AllStand}
+use Rattle.world_steps.specs.View.{IsWorld}
+use Rattle.world_steps.proofs.Sound.{StepsFit, step_allows, world_is_sound, bounded_throughout, none_strange}
+use Rattle.world_steps.proofs.Stand.{all_longer}
+
+-- ---- what is lived, after one more step
+
+past_more : (schema : SchemaValue) (steps : List WorldStep) (step : WorldStep)
+    → world_of schema (reverse (steps ++ step ∷ [])) ≡ with_entry schema (asked (trace_by schema steps) step) (luck_of step) (world_of schema (reverse steps))
+past_more schema steps step = ap (λ (l : List WorldStep). world_of schema l) (reverse-append steps (step ∷ []))
+
+pub past_idle : (schema : SchemaValue) (steps : List WorldStep) (step : WorldStep) → asked (trace_by schema steps) step ≡ None
+    → world_of schema (reverse (steps ++ step ∷ [])) ≡ world_of schema (reverse steps)
+past_idle schema steps step none =
+    past_more schema steps step ∙ ap (λ (o : Option (SiteNo × Command)). with_entry schema o (luck_of step) (world_of schema (reverse steps))) none
+
+pub past_goes : (schema : SchemaValue) (steps : List WorldStep) (step : WorldStep) (site : SiteNo) (command : Command) (reply : Reply)
+    → asked (trace_by schema steps) step ≡ Some (site, command)
+    → reply ≡ lucky_reply schema site.0 (fresh schema site.0) (own_lucky site.0 (world_of schema (reverse steps))) command (luck_of step)
+    → world_of schema (reverse (steps ++ step ∷ [])) ≡ (record { site = site; command = command; reply = reply }, luck_of step) ∷ world_of schema (reverse steps)
+past_goes schema steps step site command reply some is =
+    let past : List Lucky = world_of schema (reverse steps) in
+    past_more schema steps step
+    ∙ ap (λ (o : Option (SiteNo × Command)). with_entry schema o (luck_of step) past) some
+    ∙ ap (λ (r : Reply). (let e : Entry = record { site = site; command = command; reply = r } in (e, luck_of step)) ∷ past) (sym is)
+
+-- ---- the world after one more step
+
+pub world_idle : (schema : SchemaValue) (steps : List WorldStep) (sites : List SiteValue) (trace : List Entry) (told : List Statement) (step : WorldStep)
+    → IsWorld schema steps sites trace told → StepFits schema step → asked (trace_by schema steps) step ≡ None
+    → IsWorld schema (steps ++ step ∷ []) sites trace told
+world_idle schema steps sites trace told step w fits none =
+    let same = sym (past_idle schema steps step none) in
+    let longer : length steps ≤ length (steps ++ step ∷ []) = omega (arith, length-append steps (step ∷ [])) in
+    record {
+      good = w.good;
+      fit = All-push (StepFits schema) steps step w.fit fits;
+      count = w.count;
+      stand = subst (λ (past : List Lucky). AllStand schema past (length (steps ++ step ∷ [])) sites) same (all_longer schema _ (length steps) (length (steps ++ step ∷ [])) sites longer w.stand);
+      trace_is = w.trace_is ∙ ap entries same;
+      told_is = w.told_is ∙ ap (λ (past : List Lucky). issued (entries past)) same;
+    }
+
+pub world_goes : (schema : SchemaValue) (steps : List WorldStep) (sites moved : List SiteValue) (trace : List Entry) (told telling : List Statement) (step : WorldStep)
+    (site : SiteNo) (command : Command) (reply : Reply)
+    → IsWorld schema steps sites trace told → StepFits schema step → asked (trace_by schema steps) step ≡ Some (site, command)
+    → reply ≡ lucky_reply schema site.0 (fresh schema site.0) (own_lucky site.0 (world_of schema (reverse steps))) command (luck_of step)
+    → AllStand schema ((record { site = site; command = command; reply = reply }, luck_of step) ∷ world_of schema (reverse steps)) (length steps + 1) moved
+    → length moved ≡ length sites
+    → reverse telling ≡ with_statement (statement_of (record { site = site; command = command; reply = reply })) (reverse told)
+    → IsWorld schema (steps ++ step ∷ []) moved (trace ++ record { site = site; command = command; reply = reply } ∷ []) telling
+world_goes schema steps sites moved trace told telling step site command reply w fits some is stand count told_is =
+    let past : List Lucky = world_of schema (reverse steps) in
+    let e : Entry = record { site = site; command = command; reply = reply } in
+    let same = sym (past_goes schema steps step site command reply some is) in
+    let longer : length steps + 1 ≡ length (steps ++ step ∷ []) = omega (arith, length-append steps (step ∷ [])) in
+    record {
+      good = w.good;
+      fit = All-push (StepFits schema) steps step w.fit fits;
+      count = count ∙ w.count;
+      stand = subst (λ (l : List Lucky). AllStand schema l (length (steps ++ step ∷ [])) moved) same
+          (subst (λ (n : ℕ). AllStand schema ((e, luck_of step) ∷ past) n moved) longer stand);
+      trace_is = reverse-append trace (e ∷ []) ∙ ap (λ (t : List Entry). e ∷ t) w.trace_is ∙ ap entries same;
+      told_is = told_is ∙ ap (λ (l : List Statement). with_statement (statement_of e) l) w.told_is ∙ ap (λ (l : List Lucky). issued (entries l)) same;
+    }
+
+-- the same world in equal lists
+pub world_same : (schema : SchemaValue) (steps more : List WorldStep) (sites : List SiteValue) (trace tracing : List Entry) (told telling : List Statement)
+    → more ≡ steps → tracing ≡ trace → telling ≡ told → IsWorld schema steps sites trace told → IsWorld schema more sites tracing telling
+world_same schema steps more sites trace tracing told telling a b c w =
+    subst (λ (l : List WorldStep). IsWorld schema l sites tracing telling) (sym a)
+    (subst (λ (l : List Entry). IsWorld schema steps sites l telling) (sym b)
+    (subst (λ (l : List Statement). IsWorld schema steps sites trace l) (sym c) w))
+
+-- ---- what follows
+
+steps_more : (schema : SchemaValue) (older : List WorldStep) (step : WorldStep) → StepsFit schema older → StepFits schema step → StepsFit schema (older ++ step ∷ [])
+steps_more schema [] step h s = (tt, s)
+steps_more schema (x ∷ older) step h s = (steps_more schema older step h.0 s, h.1)
+
+all_fit : (schema : SchemaValue) (steps : List WorldStep) → All (StepFits schema) steps → StepsFit schema (reverse steps)
+all_fit schema [] h = tt
+all_fit schema (x ∷ steps) h =
+    subst (λ (l : List WorldStep). StepsFit schema l) (sym (reverse-append (x ∷ []) steps))
+    (steps_more schema (reverse steps) x (all_fit schema steps (All-tail (StepFits schema) x steps h)) (All-head (StepFits schema) x steps h))
+
+-- every list of steps that fit, each of a world of this schema
+module _ (schema : SchemaValue) (good : IsSchema schema) (steps : List WorldStep) (fit : All (StepFits schema) steps) where
+  pub sound_of : IsSound schema (trace_by schema steps)
+  sound_of = world_is_sound schema (reverse steps) (all_fit schema steps fit)
+
+  pub central_of : IsCentral schema (trace_by schema steps)
+  central_of = sound_is_central schema good _ sound_of
+
+  pub conserved_of : IsConservedThroughout schema (trace_by schema steps)
+  conserved_of = conserved_throughout schema good _ sound_of
+
+  pub bounded_of : IsBoundedThroughout schema (trace_by schema steps)
+  bounded_of = bounded_throughout schema good _ sound_of
+
+  pub none_strange_of : NoneStrange (trace_by schema steps)
+  none_strange_of = none_strange schema good (reverse steps) (all_fit schema steps fit)
+
+-- the site of a step is one of the world's
+pub step_known : (schema : SchemaValue) (steps : List WorldStep) (sites : List SiteValue) (trace : List Entry) (told : List Statement) (step : WorldStep) (site : SiteNo) (command : Command)
+    → IsWorld schema steps sites trace told → StepFits schema step → asked (trace_by schema steps) step ≡ Some (site, command) → site.0 < length sites
+step_known schema steps sites trace told step site command w fits is =
+    let known = (step_allows schema _ (sound_of schema w.good steps w.fit) step fits (site, command) Granted is).0 in
+    omega (arith, known, w.count)

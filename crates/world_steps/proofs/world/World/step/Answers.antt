@@ -1,0 +1,64 @@
+use Rattle.std.proofs.Common.{◌≡◌, ◌+◌, ◌<◌, ◌++◌, List, [], ◌∷◌, length, reverse, None, sym, ap, subst, refl, ◌∙◌, arith}
+use Rattle.field_bounds.specs.declared.entry.Entry.{Entry}
+use Rattle.field_bounds.specs.declared.entry.Statement.{Statement}
+use Rattle.field_bounds.specs.Effects.{fresh}
+use Rattle.field_bounds.specs.Statements.{statement_of}
+use Rattle.kept_state.specs.declared.luck.Luck.{Luck}
+use Rattle.kept_state.specs.Luck.{Lucky, own_lucky, lucky_reply}
+use Rattle.world_steps.specs.declared.step.WorldStep.{WorldStep}
+use Rattle.world_steps.specs.World.{asked, StepFits, with_statement, world_of, trace_by}
+use Rattle.world_steps.specs.Standing.{AllStand}
+use Rattle.world_steps.specs.View.{WorldValue}
+use Rattle.world_steps.proofs.Stand.{all_calm}
+use Rattle.world_steps.proofs.Living.{world_idle, world_goes, world_same, step_known}
+use Rattle.world_steps.proofs.world.World.step.Goals as goal
+
+pub invariant_of-self-in_default : goal.invariant_of-self-in_default
+invariant_of-self-in_default c =
+    let f = c.self.inside in
+    let w = c.self.invariant in
+    let fits : StepFits f.schema c.args.step.now = subst (λ (v : WorldValue). StepFits v.schema c.args.step.now) (sym c.self.view_is) c.requires.fits in
+    let told : c.deref.result.now ≡ f.issued.items = c.deref.ensures.value ∙ c.reserve-3.ensures.items in
+    let is = c.asked.ensures.value (trace_by f.schema f.steps.items) (ap (λ (l : List Statement). reverse l) told ∙ w.told_is) in
+    let none : asked (trace_by f.schema f.steps.items) c.args.step.now ≡ None = sym is ∙ c.in_default.is in
+    world_same f.schema (f.steps.items ++ c.args.step.now ∷ []) _ f.sites.items f.trace.items _ f.issued.items _
+    (c.add.ensures.items ∙ ap (λ (l : List WorldStep). l ++ c.args.step.now ∷ []) c.reserve.ensures.items)
+    c.reserve-2.ensures.items c.reserve-3.ensures.items
+    (world_idle f.schema f.steps.items f.sites.items f.trace.items f.issued.items c.args.step.now w fits none)
+
+pub apply_at-requires-clause-known : goal.apply_at-requires-clause-known
+apply_at-requires-clause-known c =
+    let f = c.self.inside in
+    let w = c.self.invariant in
+    let fits : StepFits f.schema c.args.step.now = subst (λ (v : WorldValue). StepFits v.schema c.args.step.now) (sym c.self.view_is) c.requires.fits in
+    let told : c.deref.result.now ≡ f.issued.items = c.deref.ensures.value ∙ c.reserve-3.ensures.items in
+    let is = c.asked.ensures.value (trace_by f.schema f.steps.items) (ap (λ (l : List Statement). reverse l) told ∙ w.told_is) in
+    step_known f.schema f.steps.items f.sites.items f.trace.items f.issued.items c.args.step.now c.in-Some.site c.in-Some.command w fits (sym is ∙ c.in-Some.is)
+
+pub apply_at-requires-clause-calm : goal.apply_at-requires-clause-calm
+apply_at-requires-clause-calm c =
+    let f = c.self.inside in
+    let w = c.self.invariant in
+    let long : length f.steps.items < 18446744073709551615 = omega (arith, f.steps.ok.0, f.steps.ok.1, f.steps.small) in
+    all_calm f.schema (world_of f.schema (reverse f.steps.items)) (length f.steps.items) 18446744073709551615 f.sites.items long w.stand
+
+pub invariant_of-self-2 : goal.invariant_of-self-2
+invariant_of-self-2 c =
+    let f = c.self.inside in
+    let w = c.self.invariant in
+    let step : WorldStep = c.args.step.now in
+    let past : List Lucky = world_of f.schema (reverse f.steps.items) in
+    let e : Entry = record { site = c.in-Some.site; command = c.in-Some.command; reply = c.in_ok-reply.reply } in
+    let fits : StepFits f.schema step = subst (λ (v : WorldValue). StepFits v.schema step) (sym c.self.view_is) c.requires.fits in
+    let told : c.deref.result.now ≡ f.issued.items = c.deref.ensures.value ∙ c.reserve-3.ensures.items in
+    let is = c.asked.ensures.value (trace_by f.schema f.steps.items) (ap (λ (l : List Statement). reverse l) told ∙ w.told_is) in
+    let did = c.in_ok-reply.ensures.stand f.schema past (length f.steps.items) w.stand in
+    let lucky = subst (λ (l : Luck). (e.reply ≡ lucky_reply f.schema e.site.0 (fresh f.schema e.site.0) (own_lucky e.site.0 past) e.command l)
+    × AllStand f.schema ((e, l) ∷ past) (length f.steps.items + 1) c.apply_at.new.sites.items) c.luck_of.ensures.value did in
+    world_same f.schema (f.steps.items ++ step ∷ []) _ c.apply_at.new.sites.items (f.trace.items ++ e ∷ []) _ c.note.new.told.items c.note.new.told.items
+    (c.add-3.ensures.items ∙ ap (λ (l : List WorldStep). l ++ step ∷ []) c.reserve.ensures.items)
+    (c.add-2.ensures.items ∙ ap (λ (l : List Entry). l ++ e ∷ []) c.reserve-2.ensures.items)
+    (let same : c.note.new.told.items ≡ c.note.new.told.items = refl in same)
+    (world_goes f.schema f.steps.items f.sites.items c.apply_at.new.sites.items f.trace.items f.issued.items c.note.new.told.items step e.site e.command e.reply w fits
+    (sym is ∙ c.in-Some.is) lucky.0 lucky.1 c.apply_at.ensures.count
+    (c.note.ensures.told ∙ ap (λ (l : List Statement). with_statement (statement_of e) (reverse l)) c.reserve-3.ensures.items))

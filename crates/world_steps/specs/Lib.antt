@@ -1,0 +1,5 @@
+pub mod World
+pub mod Promises
+pub mod Standing
+pub mod View
+pub mod Worked

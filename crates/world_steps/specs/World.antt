@@ -1,0 +1,86 @@
+-- The steps of a world of sites, and the one trace that they make (this project). Lists of steps, entries and statements
+-- have the newest first, so that the rest of a list is what came before its head.
+use Rattle.std.specs.Prelude.{◌≡◌, ℕ, suc, ◌<◌, ◌==◌, Bool, true, false, if◌then◌else◌, List, [], ◌∷◌, length, reverse, Option, Some, None}
+use Rattle.field_bounds.specs.declared.id.SiteNo.{SiteNo}
+use Rattle.field_bounds.specs.declared.entry.Statement.{Statement}
+use Rattle.field_bounds.specs.declared.entry.Command.{Command}
+use Rattle.field_bounds.specs.declared.entry.Command.TheVariants.{Accept}
+use Rattle.field_bounds.specs.declared.entry.Entry.{Entry}
+use Rattle.field_bounds.specs.Schema.{SchemaValue}
+use Rattle.field_bounds.specs.Effects.{fresh}
+use Rattle.field_bounds.specs.Statements.{statement_of}
+use Rattle.kept_state.specs.declared.luck.Luck.{Luck}
+use Rattle.kept_state.specs.Luck.{Lucky, entries, own_lucky, lucky_reply}
+use Rattle.world_steps.specs.declared.step.WorldStep.{WorldStep}
+use Rattle.world_steps.specs.declared.step.WorldStep.TheVariants.{Do, Deliver}
+
+-- ---- statements and their numbers
+
+-- Statements, with one more where there is one.
+abbrev pub with_statement : Option Statement → List Statement → List Statement
+with_statement None statements = statements
+with_statement (Some statement) statements = statement ∷ statements
+
+-- The statements that a trace issues.
+abbrev pub issued : List Entry → List Statement
+issued [] = []
+issued (e ∷ t) = with_statement (statement_of e) (issued t)
+
+-- The statement of a number, counted from 1 for the oldest.
+abbrev pub numbered : ℕ → List Statement → Option Statement
+numbered which [] = None
+numbered which (statement ∷ older) = if which == suc (length older) then Some statement else numbered which older
+
+-- ---- what a step asks
+
+-- A statement is delivered: the site that it is for is asked to take it in.
+abbrev pub delivered : Option Statement → Option (SiteNo × Command)
+delivered None = None
+delivered (Some statement) = Some (statement.to, Accept statement)
+
+-- The site and the command of a step that comes after a trace; none where no statement has the number.
+abbrev pub asked : List Entry → WorldStep → Option (SiteNo × Command)
+asked t (Do site command luck) = Some (site, command)
+asked t (Deliver which luck) = delivered (numbered which (issued t))
+
+-- How the append of a step goes.
+abbrev pub luck_of : WorldStep → Luck
+luck_of (Do site command luck) = luck
+luck_of (Deliver which luck) = luck
+
+-- ---- which steps a world takes
+
+-- The command takes in a statement.
+abbrev pub is_accept : Command → Bool
+is_accept (Accept told) = true
+is_accept command = false
+
+-- A command is asked at a site of the schema, and takes in no statement: statements come by delivery alone.
+abbrev pub StepFits : SchemaValue → WorldStep → Type 0
+StepFits schema (Do site command luck) = (site.0 < schema.sites) × (is_accept command ≡ false)
+StepFits schema (Deliver which luck) = Unit {0}
+
+-- ---- what is lived
+
+-- What is lived, with the entry of one more step where it asks something: the command at its site, with the one reply that
+-- the site owes after its own entries and their luck, on its fresh base.
+abbrev pub with_entry : SchemaValue → Option (SiteNo × Command) → Luck → List Lucky → List Lucky
+with_entry schema None luck past = past
+with_entry schema (Some who) luck past = (
+  record {
+    site = who.0;
+    command = who.1;
+    reply = lucky_reply schema who.0.0 (fresh schema who.0.0) (own_lucky who.0.0 past) who.1 luck;
+  },
+  luck,
+) ∷ past
+
+-- What is lived by these steps: each entry, with the luck of its step.
+abbrev pub world_of : SchemaValue → List WorldStep → List Lucky
+world_of schema [] = []
+world_of schema (step ∷ earlier) =
+    with_entry schema (asked (entries (world_of schema earlier)) step) (luck_of step) (world_of schema earlier)
+
+-- The one trace of some steps, which stand in order, the oldest first.
+abbrev pub trace_by : SchemaValue → List WorldStep → List Entry
+trace_by schema steps = entries (world_of schema (reverse steps))

@@ -1,0 +1,52 @@
+//! Worked rows of a world, computed against the definitions, each as a clause of a function that does
+//! nothing. Of a field from 0 to 100 at 40, each of two sites has 20 rights to lower and 30 to raise it.
+
+ghost use Rattle.std.specs.Prelude.{pos, take, None, Some};
+ghost use Rattle.field_bounds.specs.declared.entry.Command.TheVariants.{Restart, Share};
+ghost use Rattle.field_bounds.specs.declared.entry.Last.TheVariants.{Nothing, Kept, Lost};
+ghost use Rattle.field_bounds.specs.declared.entry.Refusal.TheVariants.{NotYours};
+ghost use Rattle.field_bounds.specs.declared.entry.Reply.TheVariants.{Accepted, Restarted, Shares, Refused, StillDown};
+ghost use Rattle.field_bounds.specs.Worked.{stock};
+ghost use Rattle.kept_state.specs.declared.luck.Luck.TheVariants.{Fine};
+ghost use Rattle.world_steps.specs.declared.step.WorldStep.TheVariants.{Deliver};
+ghost use Rattle.world_steps.specs.Worked.{fine, delivered, Comes, NeverComes, passed_on, out_of_order, aborted, lost, kept, kept_late, epoch_used, gift_kept, taken_in, taken_in_late, read_elsewhere, refused};
+
+/// The steps of these rows make a trace of these replies.
+///
+/// Source: this project.
+pub fn worked_worlds()
+    ensures passed_on { Comes passed_on }
+    ensures out_of_order { Comes out_of_order }
+    ensures aborted { Comes aborted }
+    ensures lost { Comes lost }
+    ensures kept { Comes kept }
+    ensures kept_late { Comes kept_late }
+    ensures epoch_used { Comes epoch_used }
+    ensures gift_kept { Comes gift_kept }
+    ensures taken_in { Comes taken_in }
+    ensures taken_in_late { Comes taken_in_late }
+    ensures read_elsewhere { Comes read_elsewhere }
+    ensures refused { Comes refused }
+{}
+
+/// In those rows these other replies don't come: a gift in doubt delivered before its site restarted,
+/// a statement used up by its first delivery, one refused as another site's, the total of the later
+/// statement counted again, a commit of which a byte was lost told as kept, one that is whole told as
+/// lost, an epoch that no restart kept, the epoch that a failed restart kept, a restart that fails
+/// though its append is whole, an acceptance that was kept counted again, and rights that two
+/// deliveries told counted twice.
+///
+/// Source: this project.
+pub fn wrong_worlds()
+    ensures issued_at_once { NeverComes (take 1 gift_kept) (delivered (Accepted 5)) }
+    ensures used_up { NeverComes (take 5 passed_on) (Deliver 1 Fine, None) }
+    ensures repeat_refused { NeverComes (take 5 passed_on) (delivered (Refused NotYours)) }
+    ensures counted_again { NeverComes (take 3 out_of_order) (delivered (Accepted 3)) }
+    ensures torn_kept { NeverComes (take 4 lost) (fine 0 Restart (Restarted 1 Kept)) }
+    ensures whole_lost { NeverComes (take 4 kept) (fine 0 Restart (Restarted 1 Lost)) }
+    ensures epoch_skipped { NeverComes (take 4 kept_late) (fine 0 Restart (Restarted 2 Kept)) }
+    ensures epoch_again { NeverComes (take 1 epoch_used) (fine 0 Restart (Restarted 1 Nothing)) }
+    ensures fails { NeverComes (take 4 kept) (fine 0 Restart StillDown) }
+    ensures accepted_again { NeverComes (take 4 taken_in) (delivered (Accepted 5)) }
+    ensures counted_twice { NeverComes (take 5 taken_in_late) (fine 1 (Share stock) (Shares 30 30)) }
+{}

@@ -1,0 +1,131 @@
+//! What a step asks, and how it is carried out at its site.
+
+ghost use Rattle.std.specs.Prelude.{◌≡◌, ◌<◌, ◌+◌, ◌++◌, [], ◌∷◌, ℕ, List, IfOk, OnErr, Some, length, reverse, vec_len, vec_capacity};
+ghost use Rattle.field_bounds.specs.declared.entry.Entry.{Entry};
+ghost use Rattle.field_bounds.specs.declared.entry.Last.{Last};
+ghost use Rattle.field_bounds.specs.Schema.{SchemaValue};
+ghost use Rattle.field_bounds.specs.Effects.{fresh};
+ghost use Rattle.field_bounds.specs.Statements.{statement_of};
+ghost use Rattle.kept_records.specs.declared.medium.Mishap.TheVariants as mishaps;
+ghost use Rattle.kept_state.specs.Luck.{Lucky, own_lucky, lucky_reply};
+ghost use Rattle.site_step.specs.Site.{Finds, mishap_of};
+ghost use Rattle.world_steps.specs.World.{issued, with_statement, numbered, asked, luck_of};
+ghost use Rattle.world_steps.specs.Standing.{Once, AllStand, AreCalm};
+
+use crate::step::WorldStep;
+use field_bounds::{Command, Entry, Reply, SiteNo, Statement, statement_of};
+use kept_records::{Mishap, TornMedium};
+use kept_state::Luck;
+use site_step::Site;
+use std::alloc::{AllocError, Global};
+
+/// Adds to a list that has room.
+pub(crate) fn add<T: Copy>(list: &mut Vec<T>, item: T)
+    requires room { vec_len list.old < vec_capacity list.old }
+    ensures items { list.new.items ≡ list.old.items ++ item ∷ [] }
+{
+    match list.push(item) {
+        Ok(()) => (),
+        Err(_) => unreachable!(),
+    }
+}
+
+/// Adds the statement that an entry issues, if any, to a list that has room.
+pub(crate) fn note(told: &mut Vec<Statement>, entry: &Entry)
+    requires room { vec_len told.old < vec_capacity told.old }
+    ensures told { reverse told.new.items ≡ with_statement (statement_of entry.now) (reverse told.old.items) }
+{
+    if let Some(statement) = statement_of(entry) {
+        add(told, statement);
+    }
+}
+
+/// The statement of a number, counted from 1.
+fn statement_numbered(told: &[Statement], which: u64) -> Option<Statement>
+    ensures value { result ≡ numbered which (reverse told.now) }
+{
+    if which == 0 || which > told.len() as u64 {
+        return None;
+    }
+    Some(told[(which - 1) as usize])
+}
+
+/// The site and the command of a step, where it makes an entry.
+pub(crate) fn asked(told: &[Statement], step: &WorldStep) -> Option<(SiteNo, Command)>
+    ensures value { (trace : List Entry) → reverse told.now ≡ issued trace → result ≡ asked trace step.now }
+{
+    match *step {
+        WorldStep::Do {
+            site,
+            command,
+            luck: _,
+        } => Some((site, command)),
+        WorldStep::Deliver { which, luck: _ } => {
+            let statement = statement_numbered(told, which)?;
+            Some((statement.to, Command::Accept(statement)))
+        }
+    }
+}
+
+/// How the append of a step goes.
+pub(crate) fn luck_of(step: &WorldStep) -> Luck
+    ensures value { result ≡ luck_of step.now }
+{
+    match *step {
+        WorldStep::Do {
+            site: _,
+            command: _,
+            luck,
+        }
+        | WorldStep::Deliver { which: _, luck } => luck,
+    }
+}
+
+/// The mishap of an append that goes by luck.
+fn mishap_of(luck: Luck) -> Mishap
+    ensures value { result ≡ mishap_of luck }
+{
+    match luck {
+        Luck::Fine => Mishap::Never,
+        Luck::Torn(bytes) => Mishap::Append(bytes),
+    }
+}
+
+/// One command at a site, with its luck; nothing is armed after it.
+fn apply_once(
+    site: &mut Site<TornMedium>,
+    alloc: Global,
+    command: Command,
+    luck: Luck,
+) -> Result<Reply, AllocError>
+    requires calm { site.old.foretold ≡ Some mishaps.Never }
+    requires room { site.old.failed < 18_446_744_073_709_551_615 }
+    ensures once { IfOk result (λ reply. (epoch : ℕ) (found : Last) → Finds site.old epoch found →
+        Once site.old epoch found command luck reply site.new) }
+    ensures err { OnErr result (site.new ≡ site.old) }
+{
+    site.arm(mishap_of(luck));
+    let answered = site.apply(alloc, command);
+    site.arm(Mishap::Never);
+    answered
+}
+
+/// One command at one of the sites, with its luck.
+pub(crate) fn apply_at(
+    sites: &mut Vec<Site<TornMedium>>,
+    alloc: Global,
+    number: SiteNo,
+    command: Command,
+    luck: Luck,
+) -> Result<Reply, AllocError>
+    requires known { number.0 < length sites.old.items }
+    requires calm { AreCalm 18_446_744_073_709_551_615 sites.old.items }
+    ensures stand { IfOk result (λ reply. (schema : SchemaValue) (past : List Lucky) (bound : ℕ) →
+        AllStand schema past bound sites.old.items →
+        (reply ≡ lucky_reply schema number.0 (fresh schema number.0) (own_lucky number.0 past) command luck)
+        × AllStand schema ((record { site = number; command = command; reply = reply }, luck) ∷ past) (bound + 1) sites.new.items) }
+    ensures count { length sites.new.items ≡ length sites.old.items }
+    ensures err { OnErr result (sites.new.items ≡ sites.old.items) }
+{
+    apply_once(&mut sites[usize::from(number.0)], alloc, command, luck)
+}

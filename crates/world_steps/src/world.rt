@@ -1,0 +1,182 @@
+//! The world.
+
+ghost use Rattle.std.specs.Prelude.{◌≡◌, ◌<◌, ◌++◌, [], ◌∷◌, IfOk, OnOk, OnErr, length, reverse};
+ghost use Rattle.field_bounds.specs.Effects.{fresh};
+ghost use Rattle.field_bounds.specs.Owed.{place, shares_of};
+ghost use Rattle.field_bounds.specs.Central.{own, IsSound, IsCentral, IsConservedThroughout};
+ghost use Rattle.world_steps.specs.World.{issued, StepFits};
+ghost use Rattle.world_steps.specs.Standing.{Stands, AllStand};
+ghost use Rattle.world_steps.specs.Promises.{IsBoundedThroughout, NoneStrange};
+ghost use Rattle.world_steps.specs.View.{trace_of, Answers};
+
+use crate::step::{StepReply, WorldStep};
+use crate::stepping::{add, apply_at, asked, luck_of, note};
+use field_bounds::{Entry, FieldNo, Schema, SiteNo, Statement};
+use kept_records::TornMedium;
+use site_step::Site;
+use std::alloc::{AllocError, Global};
+use std::marker::Model;
+
+/// All sites of a schema, each over a medium in memory that is torn where a step says so. Contracts
+/// see the schema and the steps taken, in order: all else is told by these.
+///
+/// Source: this project.
+#[derive(Drop)]
+pub struct World {
+    schema: Schema,
+    sites: Vec<Site<TornMedium>>,
+    steps: Vec<WorldStep>,
+    trace: Vec<Entry>,
+    issued: Vec<Statement>,
+}
+
+impl Model for World {
+    ghost use Rattle.world_steps.specs.View.{WorldValue, IsWorld};
+
+    ghost Value = { WorldValue };
+
+    ghost view = { λ w. record { schema = w.schema; steps = w.steps.items } };
+
+    ghost invariant = { λ w. IsWorld w.schema w.steps.items w.sites.items w.trace.items w.issued.items };
+}
+
+/// A site over an empty medium, which won't fail: the only fault is want of memory.
+fn fresh_site(alloc: Global, schema: Schema, site: SiteNo) -> Result<Site<TornMedium>, AllocError>
+    requires in_schema { site.0 < schema.sites }
+    ensures stands { IfOk result (λ made. Stands schema site.0 [] 0 made) }
+{
+    match Site::open(alloc, schema, site, TornMedium::new(Vec::new(alloc))) {
+        Ok(made) => Ok(made),
+        Err(_) => Err(AllocError),
+    }
+}
+
+/// The sites of a schema, each over an empty medium.
+fn fresh_sites(alloc: Global, schema: &Schema) -> Result<Vec<Site<TornMedium>>, AllocError>
+    ensures count { IfOk result (λ sites. length sites.items ≡ schema.now.sites) }
+    ensures stand { IfOk result (λ sites. AllStand schema.now [] 0 sites.items) }
+{
+    let mut sites = Vec::new(alloc);
+    for number in 0..schema.sites() {
+        sites.push(fresh_site(alloc, schema.copy()?, SiteNo(number))?)?;
+    }
+    Ok(sites)
+}
+
+impl World {
+    /// A world in which no step was taken: each site of the schema stands over an empty medium, up
+    /// and with its parts. The error is want of memory. Costs opening each site.
+    pub fn new(alloc: Global, schema: Schema) -> Result<World, AllocError>
+        ensures fresh { IfOk result (λ world. world ≡ record { schema = schema; steps = [] }) }
+    {
+        let sites = fresh_sites(alloc, &schema)?;
+        Ok(World {
+            schema,
+            sites,
+            steps: Vec::new(alloc),
+            trace: Vec::new(alloc),
+            issued: Vec::new(alloc),
+        })
+    }
+
+    /// Takes one step. The steps grow by it, and what is lived by the one entry that they tell, with
+    /// the step's luck: the command or the statement's taking in, at its site, with the one reply
+    /// that the site owes after its own entries and their luck. A step whose number no statement has
+    /// makes no entry. The luck is armed for this step alone. The error is want of memory, and then
+    /// nothing has changed.
+    ///
+    /// Costs what the site's `apply` costs, and amortized pushes of the step, the entry and the
+    /// statement, which are kept. Nothing else grows with the trace.
+    ///
+    /// Source: this project.
+    pub fn step(&mut self, alloc: Global, step: &WorldStep) -> Result<StepReply, AllocError>
+        requires fits { StepFits self.old.schema step.now }
+        ensures steps { OnOk result (self.new ≡ record self.old { steps = self.old.steps ++ step.now ∷ [] }) }
+        ensures answers { IfOk result (λ reply. Answers reply self.old step.now self.new) }
+        ensures err { OnErr result (self.new ≡ self.old) }
+    {
+        self.steps.reserve(1)?;
+        self.trace.reserve(1)?;
+        self.issued.reserve(1)?;
+        let Some((site, command)) = asked(&self.issued, step) else {
+            add(&mut self.steps, *step);
+            return Ok(StepReply::NoStatement);
+        };
+        let reply = apply_at(&mut self.sites, alloc, site, command, luck_of(step))?;
+        let entry = Entry {
+            site,
+            command,
+            reply,
+        };
+        add(&mut self.trace, entry);
+        note(&mut self.issued, &entry);
+        add(&mut self.steps, *step);
+        Ok(StepReply::Made(entry))
+    }
+
+    /// The schema of the sites. Costs no memory.
+    pub fn schema(&self) -> &Schema
+        ensures value { result.now ≡ self.now.schema }
+    {
+        &self.schema
+    }
+
+    /// The entries of all sites, the oldest first: the one trace that the steps make (`world`). Each
+    /// site gave the replies that it owes after its own entries alone, and took in only statements
+    /// that were issued before (`sound`). So the trace is a run of one central escrow store: each
+    /// escrow granted is allowed by infimum and supremum, each shortage names the site's true share,
+    /// which is less than was asked, and each interval read holds the committed value (`central`).
+    /// In every front of the trace the infimum lies above the floor, and the supremum below the
+    /// ceiling, by exactly the free rights of all sites and those in flight, and no site has accepted
+    /// more than it was given (`conserved`); so no field can be taken past a bound, however the open
+    /// transactions end (`bounded`). And no statement is refused as another site's, or as forged
+    /// (`none_strange`). Costs no memory.
+    ///
+    /// Source: O'Neil 1986 for infimum, supremum and the test of a grant, Balegas and others 2015 for
+    /// rights that are divided among sites and transferred, this project for the theorem.
+    pub fn trace(&self) -> &[Entry]
+        ensures world { reverse result.now ≡ trace_of self.now }
+        ensures sound { IsSound self.now.schema (trace_of self.now) }
+        ensures central { IsCentral self.now.schema (trace_of self.now) }
+        ensures conserved { IsConservedThroughout self.now.schema (trace_of self.now) }
+        ensures bounded { IsBoundedThroughout self.now.schema (trace_of self.now) }
+        ensures none_strange { NoneStrange (trace_of self.now) }
+    {
+        &self.trace
+    }
+
+    /// The trace alone.
+    pub(crate) fn into_trace(self) -> Vec<Entry>
+        ensures world { reverse result.items ≡ trace_of self }
+        ensures sound { IsSound self.schema (trace_of self) }
+        ensures central { IsCentral self.schema (trace_of self) }
+        ensures conserved { IsConservedThroughout self.schema (trace_of self) }
+        ensures bounded { IsBoundedThroughout self.schema (trace_of self) }
+        ensures none_strange { NoneStrange (trace_of self) }
+    {
+        self.trace
+    }
+
+    /// The statements that the trace issues, the oldest first: `Deliver` counts them from 1. Costs
+    /// no memory.
+    ///
+    /// Source: this project.
+    pub fn issued(&self) -> &[Statement]
+        ensures issued { reverse result.now ≡ issued (trace_of self.now) }
+    {
+        &self.issued
+    }
+
+    /// The free rights of a site on a field, to lower and to raise it, each 0 to
+    /// 2,000,000,000,000,000: what its own entries of the trace leave it. None where the site is
+    /// down, or the field isn't in the schema. Costs no memory.
+    ///
+    /// Source: Balegas and others 2015 for shares as sums, this project for the two kinds.
+    pub fn share(&self, site: SiteNo, field: FieldNo) -> Option<(u64, u64)>
+        requires in_schema { site.0 < self.now.schema.sites }
+        ensures value { result ≡ shares_of
+            (place self.now.schema site.0 (fresh self.now.schema site.0) (own site.0 (trace_of self.now))) field }
+    {
+        self.sites[usize::from(site.0)].share(field)
+    }
+}
