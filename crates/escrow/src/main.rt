@@ -37,9 +37,13 @@ divided evenly among the sites. Each other line is a command at a site:
   SITE restate TO FIELD KIND    tells the total of such gifts again
   SITE read FIELD               tells between which values the field lies
   SITE share FIELD              tells the site's free rights to lower and to raise
+  SITE restart                  the site stops, and stands anew on what it kept
+  deliver K                     the K-th statement that was issued reaches its
+                                receiver, which accepts it
 
-Each is answered by the line, an arrow and the reply. Any other line is
-answered by `bad line`, and changes nothing.
+` torn N` behind a line tears what it appends after N bytes. Each line is
+answered by its command, an arrow and the reply. Any other line is answered by
+`bad line`, and changes nothing.
 
 Example input:
   {\"sites\":1,\"fields\":[{\"name\":\"stock\",\"floor\":0,\"ceiling\":100,\"value\":40}]}

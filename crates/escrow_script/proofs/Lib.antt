@@ -1,5 +1,6 @@
 pub mod LineLemmas
-pub mod RowLemmas
+pub mod StepLemmas
+pub mod LuckLemmas
 pub mod TextLemmas
 pub mod RunLemmas
 pub mod PieceLemmas

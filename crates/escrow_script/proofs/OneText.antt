@@ -1,19 +1,19 @@
 -- The text of lines is the only one.
-use Rattle.std.proofs.Common.{◌≡◌, ℕ, List, [], ◌∷◌, ◌++◌, Result, Ok, Option, Some, reverse, map, refl, sym, ap, ◌∙◌, subst, inl, inr}
+use Rattle.std.proofs.Common.{◌≡◌, ℕ, List, [], ◌∷◌, ◌++◌, Result, Ok, Option, None, reverse, length, sym, ap, ◌∙◌, subst, arith, inl, inr}
 use Rattle.field_bounds.specs.Schema.{SchemaValue}
 use Rattle.field_bounds.specs.Header.{schema_of}
 use Rattle.field_bounds.specs.Limits.{IsSchema}
-use Rattle.field_bounds.specs.Central.{asked_of, IsSound}
 use Rattle.field_bounds.specs.declared.id.SiteNo.{SiteNo}
 use Rattle.field_bounds.specs.declared.entry.Command.{Command}
 use Rattle.field_bounds.specs.declared.entry.Entry.{Entry}
 use Rattle.field_bounds.specs.declared.fault.SchemaFault.{SchemaFault}
 use Rattle.field_bounds.proofs.Alone.{schema_of-limits}
-use Rattle.field_bounds.proofs.Only.{only_trace}
-use Rattle.entry_text.specs.Spelling.{command_text, entry_text}
-use Rattle.entry_text.specs.Commands.{command_of}
-use Rattle.entry_text.proofs.Commands.{command_only}
-use Rattle.escrow_script.specs.Text.{line_text, Asks, IsAnswer, AreAnswers, HasText}
+use Rattle.entry_text.specs.Spelling.{entry_text}
+use Rattle.kept_state.specs.Luck.{entries}
+use Rattle.world_steps.specs.declared.step.WorldStep.{WorldStep}
+use Rattle.world_steps.specs.World.{asked, luck_of, with_entry, world_of}
+use Rattle.escrow_script.specs.Text.{line_text, trace, Asks, IsReply, IsAnswer, AreAnswers, HasText}
+use Rattle.escrow_script.proofs.StepLemmas.{one_step}
 
 head_is : (x y : List ℕ) (xs ys : List (List ℕ)) → x ∷ xs ≡ y ∷ ys → x ≡ y
 head_is x y xs ys h = cc
@@ -24,73 +24,81 @@ tail_is x y xs ys h = cc
 ok_is : (r : Result SchemaValue SchemaFault) (s t : SchemaValue) → r ≡ Ok s → r ≡ Ok t → s ≡ t
 ok_is r s t h g = cc
 
-some_is : (a b : SiteNo × Command) → Some a ≡ Some b → a ≡ b
-some_is a b h = cc
-
 entry_is : (e f : Entry) (t u : List Entry) → e ∷ t ≡ f ∷ u → e ≡ f
 entry_is e f t u h = cc
 
-rest_is : (e f : Entry) (t u : List Entry) → e ∷ t ≡ f ∷ u → t ≡ u
-rest_is e f t u h = cc
+-- a line asks one step
+only_asked : (schema : SchemaValue) → IsSchema schema → (line : List ℕ) (step other : WorldStep) → Asks schema line step → Asks schema line other → step ≡ other
+only_asked schema is line step other a b = one_step schema is step other a.numbers b.numbers (sym a.text ∙ b.text)
 
--- a line asks one thing
-only_asked : (schema : SchemaValue) → IsSchema schema → (line : List ℕ) (asked other : SiteNo × Command) → Asks schema line asked → Asks schema line other → asked ≡ other
-only_asked schema is line asked other a b =
-    some_is asked other
-    (sym (command_only schema is asked a.fits.0 a.fits.1) ∙ ap (command_of schema) (sym a.text ∙ b.text) ∙ command_only schema is other b.fits.0 b.fits.1)
+-- lines ask one list of steps
+next_steps : (schema : SchemaValue) → IsSchema schema → (line : List ℕ) (old new was now : List WorldStep) (text again : List ℕ)
+    → old ≡ was → IsAnswer schema line old new text → IsAnswer schema line was now again → new ≡ now
+next_steps schema is line old new was now text again same (inl a) (inl b) = a.1 ∙ same ∙ sym b.1
+next_steps schema is line old new was now text again same (inl a) (inr b) = absurd (a.0 b.0 b.1)
+next_steps schema is line old new was now text again same (inr a) (inl b) = absurd (b.0 a.0 a.1)
+next_steps schema is line old new was now text again same (inr a) (inr b) =
+    a.2 ∙ ap (λ (x : WorldStep). x ∷ old) (only_asked schema is line a.0 b.0 a.1 b.1) ∙ ap (λ (l : List WorldStep). b.0 ∷ l) same ∙ sym b.2
 
--- lines ask one list of things
-asked_next : (schema : SchemaValue) → IsSchema schema → (line : List ℕ) (old new was now : List Entry) (text again : List ℕ)
-    → map asked_of old ≡ map asked_of was → IsAnswer schema line old new text → IsAnswer schema line was now again → map asked_of new ≡ map asked_of now
-asked_next schema is line old new was now text again same (inl a) (inl b) = ap (map asked_of) a.1 ∙ same ∙ ap (map asked_of) (sym b.1)
-asked_next schema is line old new was now text again same (inl a) (inr b) = absurd (a.0 (asked_of b.0) b.1)
-asked_next schema is line old new was now text again same (inr a) (inl b) = absurd (b.0 (asked_of a.0) a.1)
-asked_next schema is line old new was now text again same (inr a) (inr b) =
-    ap (map asked_of) a.2 ∙ ap (λ x. x ∷ map asked_of old) (only_asked schema is line (asked_of a.0) (asked_of b.0) a.1 b.1)
-    ∙ ap (λ l. asked_of b.0 ∷ l) same ∙ ap (map asked_of) (sym b.2)
+all_steps : (schema : SchemaValue) → IsSchema schema → (lines : List (List ℕ)) (steps others : List WorldStep) (text again : List ℕ)
+    → AreAnswers schema lines steps text → AreAnswers schema lines others again → steps ≡ others
+all_steps schema is [] steps others text again a b = a.0 ∙ sym b.0
+all_steps schema is (line ∷ before) steps others text again a b =
+    next_steps schema is line a.0 steps b.0 others a.1.1 b.1.1 (all_steps schema is before a.0 b.0 a.1.0 b.1.0 a.1.2 b.1.2) a.1.3 b.1.3
 
-asked_all : (schema : SchemaValue) → IsSchema schema → (lines : List (List ℕ)) (entries others : List Entry) (text again : List ℕ)
-    → AreAnswers schema lines entries text → AreAnswers schema lines others again → map asked_of entries ≡ map asked_of others
-asked_all schema is [] entries others text again a b = ap (map asked_of) (a.0 ∙ sym b.0)
-asked_all schema is (line ∷ before) entries others text again a b =
-    asked_next schema is line a.0 entries b.0 others a.1.1 b.1.1
-    (asked_all schema is before a.0 b.0 a.1.0 b.1.0 a.1.2 b.1.2) a.1.3 b.1.3
+-- and each step has one reply
 
--- and with one list of entries they have one text
-text_next : (schema : SchemaValue) (line : List ℕ) (old was entries : List Entry) (text again : List ℕ)
-    → IsAnswer schema line old entries text → IsAnswer schema line was entries again → (old ≡ was) × (text ≡ again)
-text_next schema line old was entries text again (inl a) (inl b) = (sym a.1 ∙ b.1, a.2 ∙ sym b.2)
-text_next schema line old was entries text again (inl a) (inr b) = absurd (a.0 (asked_of b.0) b.1)
-text_next schema line old was entries text again (inr a) (inl b) = absurd (b.0 (asked_of a.0) a.1)
-text_next schema line old was entries text again (inr a) (inr b) =
-    let both : a.0 ∷ old ≡ b.0 ∷ was = sym a.2 ∙ b.2 in
-    (rest_is a.0 b.0 old was both, a.3 ∙ ap (λ e. line_text (entry_text schema e)) (entry_is a.0 b.0 old was both) ∙ sym b.3)
+-- a step that asks no site anything makes no entry
+idle : (schema : SchemaValue) (earlier : List WorldStep) (step : WorldStep) → asked (trace schema earlier) step ≡ None → trace schema (step ∷ earlier) ≡ trace schema earlier
+idle schema earlier step none = ap (λ (o : Option (SiteNo × Command)). entries (with_entry schema o (luck_of step) (world_of schema earlier))) none
 
-text_all : (schema : SchemaValue) (lines : List (List ℕ)) (entries : List Entry) (text again : List ℕ)
-    → AreAnswers schema lines entries text → AreAnswers schema lines entries again → text ≡ again
-text_all schema [] entries text again a b = a.1 ∙ sym b.1
-text_all schema (line ∷ before) entries text again a b =
-    let next = text_next schema line a.0 b.0 entries a.1.1 b.1.1 a.1.3 b.1.3 in
-    let front : a.1.0 ≡ b.1.0 = text_all schema before b.0 a.1.0 b.1.0 (subst (λ es. AreAnswers schema before es a.1.0) next.0 a.1.2) b.1.2 in
-    a.1.4 ∙ ap (λ t. t ++ a.1.1) front ∙ ap (λ t. b.1.0 ++ t) next.1 ∙ sym b.1.4
+no_growth : (schema : SchemaValue) (earlier : List WorldStep) (step : WorldStep) (entry : Entry) → asked (trace schema earlier) step ≡ None
+    → trace schema (step ∷ earlier) ≡ entry ∷ trace schema earlier → ⊥
+no_growth schema earlier step entry none grows =
+    let same : trace schema earlier ≡ entry ∷ trace schema earlier = sym (idle schema earlier step none) ∙ grows in
+    omega (arith, ap length same)
 
-pub only_text : (schema other : SchemaValue) (entries others : List Entry) (lines : List (List ℕ)) (text again : List ℕ)
-    → HasText schema entries lines text → HasText other others lines again → (schema ≡ other) × (entries ≡ others) × (text ≡ again)
-only_text schema other entries others lines text again has had =
+one_reply : (schema : SchemaValue) (earlier : List WorldStep) (step : WorldStep) (text again : List ℕ) → IsReply schema earlier step text → IsReply schema earlier step again → text ≡ again
+one_reply schema earlier step text again (inl a) (inl b) =
+    a.2 ∙ ap (λ (e : Entry). line_text (entry_text schema e)) (entry_is a.0 b.0 _ _ (sym a.1 ∙ b.1)) ∙ sym b.2
+one_reply schema earlier step text again (inl a) (inr b) = absurd (no_growth schema earlier step a.0 b.0 a.1)
+one_reply schema earlier step text again (inr a) (inl b) = absurd (no_growth schema earlier step b.0 a.0 b.1)
+one_reply schema earlier step text again (inr a) (inr b) = a.1 ∙ sym b.1
+
+-- so that with one list of steps they have one text
+next_text : (schema : SchemaValue) → IsSchema schema → (line : List ℕ) (old new now : List WorldStep) (text again : List ℕ)
+    → IsAnswer schema line old new text → IsAnswer schema line old now again → text ≡ again
+next_text schema is line old new now text again (inl a) (inl b) = a.2 ∙ sym b.2
+next_text schema is line old new now text again (inl a) (inr b) = absurd (a.0 b.0 b.1)
+next_text schema is line old new now text again (inr a) (inl b) = absurd (b.0 a.0 a.1)
+next_text schema is line old new now text again (inr a) (inr b) =
+    one_reply schema old b.0 text again (subst (λ (x : WorldStep). IsReply schema old x text) (only_asked schema is line a.0 b.0 a.1 b.1) a.3) b.3
+
+all_text : (schema : SchemaValue) → IsSchema schema → (lines : List (List ℕ)) (steps others : List WorldStep) (text again : List ℕ)
+    → AreAnswers schema lines steps text → AreAnswers schema lines others again → text ≡ again
+all_text schema is [] steps others text again a b = a.1 ∙ sym b.1
+all_text schema is (line ∷ before) steps others text again a b =
+    let same : a.0 ≡ b.0 = all_steps schema is before a.0 b.0 a.1.0 b.1.0 a.1.2 b.1.2 in
+    let front : a.1.0 ≡ b.1.0 = all_text schema is before a.0 b.0 a.1.0 b.1.0 a.1.2 b.1.2 in
+    let reply : a.1.1 ≡ b.1.1 =
+    next_text schema is line b.0 steps others a.1.1 b.1.1 (subst (λ (l : List WorldStep). IsAnswer schema line l steps a.1.1) same a.1.3) b.1.3 in
+    a.1.4 ∙ ap (λ t. t ++ a.1.1) front ∙ ap (λ t. b.1.0 ++ t) reply ∙ sym b.1.4
+
+pub only_text : (schema other : SchemaValue) (steps others : List WorldStep) (lines : List (List ℕ)) (text again : List ℕ)
+    → HasText schema steps lines text → HasText other others lines again → (schema ≡ other) × (steps ≡ others) × (trace schema steps ≡ trace other others) × (text ≡ again)
+only_text schema other steps others lines text again has had =
     let both : has.header ∷ has.behind ≡ had.header ∷ had.behind = sym has.parts ∙ had.parts in
     let header = head_is has.header had.header has.behind had.behind both in
     let behind = tail_is has.header had.header has.behind had.behind both in
     let is : IsSchema schema = schema_of-limits has.header schema has.start in
     let same : schema ≡ other = ok_is (schema_of has.header) schema other has.start (ap schema_of header ∙ had.start) in
-    let sound : IsSound schema others = subst (λ s. IsSound s others) (sym same) had.sound in
     let answers : AreAnswers schema (reverse has.behind) others had.body =
     subst (λ s. AreAnswers s (reverse has.behind) others had.body) (sym same)
     (subst (λ b. AreAnswers other (reverse b) others had.body) (sym behind) had.answers) in
-    let all : entries ≡ others = only_trace schema entries others has.sound sound
-    (asked_all schema is (reverse has.behind) entries others has.body had.body has.answers answers) in
-    let body : has.body ≡ had.body = text_all schema (reverse has.behind) others has.body had.body
-    (subst (λ es. AreAnswers schema (reverse has.behind) es has.body) all has.answers) answers in (
+    let all : steps ≡ others = all_steps schema is (reverse has.behind) steps others has.body had.body has.answers answers in
+    let body : has.body ≡ had.body = all_text schema is (reverse has.behind) steps others has.body had.body has.answers answers in (
       same,
       all,
+      ap (λ s. trace s steps) same ∙ ap (trace other) all,
       has.written ∙ ap (λ h. line_text h ++ has.body) header ∙ ap (λ b. line_text had.header ++ b) body ∙ sym had.written,
     )

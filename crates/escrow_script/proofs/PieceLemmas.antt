@@ -176,12 +176,12 @@ Stops-memory from before s ended fresh = (
 pub Answers-written : (from to before middle after : Option (List ℕ)) (s : Script)
     → RunsThrough from to before middle s → Appends middle after s.out.items → Answers from to before after
 Answers-written from to before middle after s runs appended =
-    let (read, consumed, end, (schema, (entries, (written, wrote, has)))) = runs in record {
+    let (read, consumed, end, (schema, (steps, (written, wrote, has)))) = runs in record {
       read = read;
       consumed = consumed;
       end = end;
       schema = schema;
-      entries = entries;
+      steps = steps;
       text = written ++ s.out.items;
       answered = has;
       written = Appends-trans before middle after written s.out.items wrote appended;
@@ -213,7 +213,7 @@ AppendsFront-after before middle after written out wrote front = (
 pub Fails-last : (from to before middle after : Option (List ℕ)) (s : Script) (ended : End)
     → RunsThrough from to before middle s → AppendsFront middle after s.out.items → Fails from to before after ended Write
 Fails-last from to before middle after s ended runs front =
-    let (read, consumed, end, (schema, (entries, (written, wrote, has)))) = runs in record {
+    let (read, consumed, end, (schema, (steps, (written, wrote, has)))) = runs in record {
       front = read;
       back = [];
       consumed = subst (Consumes from to) (sym (append-nil read)) consumed;
@@ -222,7 +222,7 @@ Fails-last from to before middle after s ended runs front =
         refl,
         (
           written ++ s.out.items,
-          inr (schema, (entries, has)),
+          inr (schema, (steps, has)),
           AppendsFront-after before middle after written s.out.items wrote front,
         ),
       );

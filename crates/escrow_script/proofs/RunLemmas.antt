@@ -1,5 +1,5 @@
 -- The state of a run, step by step.
-use Rattle.std.proofs.Common.{◌≡◌, ◌≢◌, Bool, false, eqb, ℕ, ◌+◌, ◌<◌, ◌≤◌, List, [], ◌∷◌, ◌++◌, Option, None, Some, Err, length, take, refl, sym, ap, ◌∙◌, subst, append_assoc, append-nil, inl, inr, ◌⊎◌}
+use Rattle.std.proofs.Common.{◌≡◌, ◌≢◌, Bool, false, eqb, ℕ, ◌+◌, ◌<◌, ◌≤◌, List, [], ◌∷◌, ◌++◌, Option, None, Some, Err, length, take, reverse, refl, sym, ap, ◌∙◌, subst, append_assoc, append-nil, inl, inr, ◌⊎◌}
 use Rattle.std.proofs.lemmas.List.{length_push, length-append}
 use Rattle.std.proofs.Math.Seq.{take-append-add}
 use Rattle.std.specs.List.{All}
@@ -25,7 +25,7 @@ StandsFor-along m n ks ls s t em el et stands =
 
 pub IsTextOf-stands : (m : Option Machine) (lines : List (List ℕ)) (text : List ℕ) → StandsFor m lines text → IsTextOf lines text
 IsTextOf-stands None lines text stands = inl stands
-IsTextOf-stands (Some m) lines text stands = inr (m.row.schema, (stands.0, stands.2))
+IsTextOf-stands (Some m) lines text stands = inr (m.world.schema, (reverse m.world.steps, stands))
 
 -- with a piece that has no LF
 pub At-kept : (read piece : List ℕ) (old new : Script) (before after : Option (List ℕ)) → All (λ b. b ≢ 10) piece
@@ -214,17 +214,17 @@ last_lines : (m : Option Machine) (wl : List (List ℕ)) (lp text : List ℕ) �
 last_lines None wl lp text stands not_both =
     ap (λ l. with_header (l ++ last_line lp)) stands.0 ∙ with_header-last lp ∙ ap (λ l. l ++ lp ∷ []) (sym stands.0)
 last_lines (Some m) wl lp text stands not_both =
-    with_header-some wl (last_line lp) stands.2.header stands.2.behind stands.2.parts
+    with_header-some wl (last_line lp) stands.header stands.behind stands.parts
     ∙ ap (λ l. wl ++ l) (last_line-some lp (not_both refl))
 
 Completes-stands : (m : Option Machine) (lines : List (List ℕ)) (before after : Option (List ℕ)) (written out : List ℕ) → IsSome m
     → Appends before after written → StandsFor m lines (written ++ out) → Completes before after out lines
 Completes-stands None lines before after written out some appended stands = cc
-Completes-stands (Some m) lines before after written out some appended stands = (m.row.schema, (stands.0, (written, appended, stands.2)))
+Completes-stands (Some m) lines before after written out some appended stands = (m.world.schema, (reverse m.world.steps, (written, appended, stands)))
 
 some_lines : (m : Option Machine) (wl : List (List ℕ)) (text : List ℕ) → IsSome m → StandsFor m wl text → with_header (wl ++ []) ≡ wl
 some_lines None wl text some stands = cc
-some_lines (Some m) wl text some stands = with_header-some wl [] stands.2.header stands.2.behind stands.2.parts ∙ append-nil wl
+some_lines (Some m) wl text some stands = with_header-some wl [] stands.header stands.behind stands.parts ∙ append-nil wl
 
 pub Finishes-between : (read : List ℕ) (s : Script) (before after : Option (List ℕ))
     → IsSome s.machine → s.line.items ≡ [] → At read s before after → Completes before after s.out.items (script_lines read)

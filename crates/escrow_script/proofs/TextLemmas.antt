@@ -1,25 +1,21 @@
 -- What is written for lines, one after another.
-use Rattle.std.proofs.Common.{◌≡◌, ℕ, ◌<◌, ◌-◌, false, List, [], ◌∷◌, ◌++◌, Option, None, Some, Ok, length, take, reverse, ◌+◌, ◌⊎◌, inl, inr, refl, sym, ap, ◌∙◌, subst, append_assoc, append-nil, arith, codes}
+use Rattle.std.proofs.Common.{◌≡◌, ℕ, ◌<◌, ◌-◌, List, [], ◌∷◌, ◌++◌, Option, None, Some, Ok, length, take, reverse, ◌+◌, ◌⊎◌, inl, inr, refl, sym, ap, ◌∙◌, subst, append_assoc, append-nil, arith, codes}
 use Rattle.std.proofs.lemmas.List.{length-take, take-append-le, take_all, reverse-append}
 use Rattle.std.proofs.Math.Seq.{take-append-add}
 use Rattle.std.proofs.lemmas.Bool.{cases_lt}
 use Rattle.field_bounds.specs.Schema.{SchemaValue}
 use Rattle.field_bounds.specs.Header.{schema_of}
-use Rattle.field_bounds.specs.Central.{asked_of, IsSound}
-use Rattle.field_bounds.specs.declared.entry.Command.{Command}
-use Rattle.field_bounds.specs.declared.entry.Command.TheVariants.{Begin, Escrow, Commit, Abort, Give, Restate, Accept, Read, Share}
-use Rattle.field_bounds.specs.declared.entry.Entry.{Entry}
+use Rattle.field_bounds.specs.Central.{IsSound}
 use Rattle.field_bounds.proofs.Alone.{schema_of-limits}
-use Rattle.field_bounds.proofs.Sound.{sound_empty, is_accept, sound_more_plain}
+use Rattle.field_bounds.proofs.Sound.{sound_empty}
 use Rattle.field_bounds.proofs.Headline.{sound_is_central}
-use Rattle.entry_text.specs.Spelling.{command_text, reply_text, entry_text}
-use Rattle.entry_text.proofs.Entries.{entry_line}
+use Rattle.field_bounds.proofs.Conserved.{conserved_throughout}
 use Rattle.escrow_script.specs.declared.machine.Machine.{Machine}
-use Rattle.escrow_script.specs.declared.row.SiteRow.{SiteRow}
-use Rattle.escrow_script.specs.Row.{AreSitesOf}
-use Rattle.escrow_script.specs.Text.{line_text, IsStep, IsAnswer, AreAnswers, HasText}
-use Rattle.escrow_script.specs.Run.{with_piece, kept, Answered, Moves, StandsFor}
-use Rattle.escrow_script.proofs.RowLemmas.{fits_at, sites_after}
+use Rattle.world_steps.specs.declared.step.WorldStep.{WorldStep}
+use Rattle.world_steps.specs.View.{WorldValue}
+use Rattle.world_steps.proofs.Sound.{StepsFit, world_is_sound}
+use Rattle.escrow_script.specs.Text.{line_text, trace, IsAnswer, AreAnswers, HasText}
+use Rattle.escrow_script.specs.Run.{with_piece, kept, one_more, Answered, Moves, StandsFor}
 
 -- ---- as much of a line as is kept
 
@@ -29,12 +25,12 @@ kept_cases line = elim (cases_lt 256 (length line)) [
   | inr h ↦ inl (take_all 257 line (omega arith))
 ]
 
--- sites that are given as much of a line as is kept answer as to the whole line
-Answered-kept : (line : List ℕ) (old new : SiteRow) (out grown : List ℕ) → Answered (take 257 line) old new out grown → Answered line old new out grown
+-- a world that is given as much of a line as is kept answers as to the whole line
+Answered-kept : (line : List ℕ) (old new : WorldValue) (out grown : List ℕ) → Answered (take 257 line) old new out grown → Answered line old new out grown
 Answered-kept line old new out grown answered = elim (kept_cases line) [
   | inl e ↦ subst (λ l. Answered l old new out grown) e answered
   | inr long ↦ elim answered [
-    | inl bad ↦ inl (λ asked asks. omega (arith, asks.short, long.0), bad.1, bad.2)
+    | inl bad ↦ inl (λ step asks. omega (arith, asks.short, long.0), bad.1, bad.2)
     | inr asked ↦ absurd (omega (arith, asked.1.short, long.1))
   ]
 ]
@@ -57,68 +53,35 @@ with_piece-kept (Some m) line piece = take_of_append 257 line piece
 
 -- ---- one more line
 
--- what a script asks is no acceptance
-step_plain : (c : Command) → IsStep c → is_accept c ≡ false
-step_plain (Accept told) step = absurd step
-step_plain Begin step = refl
-step_plain (Escrow txn field change) step = refl
-step_plain (Commit txn) step = refl
-step_plain (Abort txn) step = refl
-step_plain (Give to field kind amount) step = refl
-step_plain (Restate to field kind) step = refl
-step_plain (Read field) step = refl
-step_plain (Share field) step = refl
-
--- the sites, the entries and the answer once a line was answered
-pub record Grows (schema : SchemaValue) (line : List ℕ) (new : SiteRow) (t : List Entry) (out grown : List ℕ) : Type 0 where
-  pub entries : List Entry
-  pub last : List ℕ
-  pub same : new.schema ≡ schema
-  pub are : AreSitesOf schema entries new.sites.items
-  pub answer : IsAnswer schema line t entries last
-  pub sound : IsSound schema entries
-  pub text : grown ≡ out ++ last
-
-answered-grows : (line : List ℕ) (old new : SiteRow) (out grown : List ℕ) (t : List Entry)
-    → AreSitesOf old.schema t old.sites.items → IsSound old.schema t → Answered line old new out grown → Grows old.schema line new t out grown
-answered-grows line old new out grown t are sound (inl bad) =
-    record {
-      entries = t;
-      last = line_text (codes "bad line");
-      same = ap (λ r. r.schema) bad.1;
-      are = subst (λ r. AreSitesOf old.schema t r.sites.items) (sym bad.1) are;
-      answer = inl (bad.0, refl, refl);
-      sound = sound;
-      text = bad.2;
-    }
-answered-grows line old new out grown t are sound (inr asked) =
-    let (entry, asks, same, applies, text) = asked in record {
-      entries = entry ∷ t;
-      last = _;
-      same = same;
-      are = sites_after old.schema t old.sites.items new.sites.items entry.site entry.command entry.reply asks.site are applies;
-      answer = inr (entry, asks, refl, refl);
-      sound = sound_more_plain old.schema entry t sound asks.site (step_plain entry.command asks.step)
-          (fits_at old.schema t old.sites.items new.sites.items entry.site entry.command entry.reply asks.site are applies);
-      text = text;
-    }
+-- the steps that lines ask are steps that a world takes
+answers_fit : (schema : SchemaValue) (lines : List (List ℕ)) (steps : List WorldStep) (text : List ℕ) → AreAnswers schema lines steps text → StepsFit schema steps
+answers_fit schema [] steps text answers = subst (λ (l : List WorldStep). StepsFit schema l) (sym answers.0) tt
+answers_fit schema (line ∷ before) steps text answers =
+    let earlier = answers_fit schema before answers.0 answers.1.0 answers.1.2 in
+    elim answers.1.3 [
+      | inl bad ↦ subst (λ (l : List WorldStep). StepsFit schema l) (sym bad.1) earlier
+      | inr asked ↦ subst (λ (l : List WorldStep). StepsFit schema l) (sym asked.2) (earlier, asked.1.fits)
+    ]
 
 -- the text with an answer to one more line
-pub HasText-more : (schema : SchemaValue) (old new : List Entry) (lines : List (List ℕ)) (line text last : List ℕ)
-    → HasText schema old lines text → IsAnswer schema line old new last → IsSound schema new
-    → HasText schema new (lines ++ line ∷ []) (text ++ last)
-HasText-more schema old new lines line text last has answer sound =
+HasText-more : (schema : SchemaValue) (old new : List WorldStep) (lines : List (List ℕ)) (line text reply : List ℕ)
+    → HasText schema old lines text → IsAnswer schema line old new reply → HasText schema new (lines ++ line ∷ []) (text ++ reply)
+HasText-more schema old new lines line text reply has answer =
     let back : reverse (has.behind ++ line ∷ []) ≡ line ∷ reverse has.behind = reverse-append has.behind (line ∷ []) in
+    let answers : AreAnswers schema (line ∷ reverse has.behind) new (has.body ++ reply) = (old, (has.body, reply, has.answers, answer, refl)) in
+    let sound : IsSound schema (trace schema new) = world_is_sound schema new (answers_fit schema (line ∷ reverse has.behind) new (has.body ++ reply) answers) in
+    let good = schema_of-limits has.header schema has.start in
     record {
       header = has.header;
       behind = has.behind ++ line ∷ [];
-      body = has.body ++ last;
+      body = has.body ++ reply;
       parts = ap (λ l. l ++ line ∷ []) has.parts;
       start = has.start;
-      answers = subst (λ ls. AreAnswers schema ls new (has.body ++ last)) (sym back) (old, (has.body, last, has.answers, answer, refl));
+      answers = subst (λ ls. AreAnswers schema ls new (has.body ++ reply)) (sym back) answers;
       sound = sound;
-      central = sound_is_central schema (schema_of-limits has.header schema has.start) new sound;
-      written = ap (λ t. t ++ last) has.written ∙ append_assoc (line_text has.header) has.body last;
+      central = sound_is_central schema good (trace schema new) sound;
+      conserved = conserved_throughout schema good (trace schema new) sound;
+      written = ap (λ t. t ++ reply) has.written ∙ append_assoc (line_text has.header) has.body reply;
     }
 
 -- the text of the header line
@@ -132,41 +95,50 @@ HasText-start schema line start = record {
   answers = (refl, refl);
   sound = sound_empty schema;
   central = tt;
+  conserved = conserved_throughout schema (schema_of-limits line schema start) [] (sound_empty schema);
   written = sym (append-nil (line_text line));
 }
 
--- a machine whose sites have these entries
-stands-along : (n : Machine) (schema : SchemaValue) (entries : List Entry) (lines : List (List ℕ)) (text text' : List ℕ)
-    → n.row.schema ≡ schema → AreSitesOf schema entries n.row.sites.items → text ≡ text' → HasText schema entries lines text → StandsFor (Some n) lines text'
-stands-along n schema entries lines text text' same are e has = (
-  entries,
-  subst (λ s. AreSitesOf s entries n.row.sites.items) (sym same) are,
-  subst (λ s. HasText s entries lines text') (sym same) (subst (HasText schema entries lines) e has),
-)
+-- the steps of a world that has taken one more
+newest : (old : WorldValue) (step : WorldStep) → reverse (one_more old step).steps ≡ step ∷ reverse old.steps
+newest old step = reverse-append old.steps (step ∷ [])
+
+-- the answer once a world has taken what a line asks
+pub record Grows (line : List ℕ) (old new : WorldValue) (out grown : List ℕ) : Type 0 where
+  pub reply : List ℕ
+  pub same : new.schema ≡ old.schema
+  pub answer : IsAnswer old.schema line (reverse old.steps) (reverse new.steps) reply
+  pub text : grown ≡ out ++ reply
+
+answered-grows : (line : List ℕ) (old new : WorldValue) (out grown : List ℕ) → Answered line old new out grown → Grows line old new out grown
+answered-grows line old new out grown (inl bad) = record {
+  reply = line_text (codes "bad line");
+  same = ap (λ (w : WorldValue). w.schema) bad.1;
+  answer = inl (bad.0, ap (λ (w : WorldValue). reverse w.steps) bad.1, refl);
+  text = bad.2;
+}
+answered-grows line old new out grown (inr asked) = record {
+  reply = asked.3.0;
+  same = ap (λ (w : WorldValue). w.schema) asked.2;
+  answer = inr (asked.0, asked.1, ap (λ (w : WorldValue). reverse w.steps) asked.2 ∙ newest old asked.0, asked.3.1);
+  text = asked.3.2;
+}
 
 -- the machine after one more line
 pub StandsFor-more : (m n : Option Machine) (lines : List (List ℕ)) (line written out grown : List ℕ)
     → StandsFor m lines (written ++ out) → Moves m (kept m line) n out grown → StandsFor n (lines ++ line ∷ []) (written ++ grown)
 StandsFor-more None None lines line written out grown stands moves = absurd moves
 StandsFor-more None (Some n) lines line written out grown stands moves =
-    let (start, are, text) = moves in
+    let (start, empty, text) = moves in
     let first : lines ++ line ∷ [] ≡ line ∷ [] = ap (λ l. l ++ line ∷ []) stands.0 in
     let only : written ++ grown ≡ line_text line =
     ap (λ t. written ++ t) text ∙ sym (append_assoc written out (line_text line)) ∙ ap (λ t. t ++ line_text line) stands.1 in
-    ([], are, rw (first, only) (HasText-start n.row.schema line start))
+    rw (first, only, empty) (HasText-start n.world.schema line start)
 StandsFor-more (Some m) None lines line written out grown stands moves = absurd moves
 StandsFor-more (Some m) (Some n) lines line written out grown stands moves =
-    let (old, are, has) = stands in
-    let grows = answered-grows line m.row n.row out grown old are has.sound (Answered-kept line m.row n.row out grown moves) in
-    stands-along n m.row.schema grows.entries (lines ++ line ∷ []) _ (written ++ grown) grows.same grows.are
-    (append_assoc written out grows.last ∙ ap (λ t. written ++ t) (sym grows.text))
-    (HasText-more m.row.schema old grows.entries lines line (written ++ out) grows.last has grows.answer grows.sound)
-
--- a command line, an arrow and a reply are the text of their entry
-pub entry_added : (schema : SchemaValue) (e : Entry) (line reply out grown : List ℕ) → line ≡ command_text schema e.site e.command → reply ≡ reply_text e.reply
-    → grown ≡ out ++ (line ++ codes " -> " ++ reply ++ 10 ∷ []) → grown ≡ out ++ line_text (entry_text schema e)
-entry_added schema e line reply out grown spelled replied added =
-    added ∙ ap (λ t. out ++ t)
-    (ap (λ l. l ++ codes " -> " ++ reply ++ 10 ∷ []) spelled
-    ∙ ap (λ r. command_text schema e.site e.command ++ codes " -> " ++ r ++ 10 ∷ []) replied
-    ∙ ap (λ l. l ++ 10 ∷ []) (append_assoc (command_text schema e.site e.command) (codes " -> ") (reply_text e.reply) ∙ entry_line schema e))
+    let grows = answered-grows line m.world n.world out grown (Answered-kept line m.world n.world out grown moves) in
+    let text : (written ++ out) ++ grows.reply ≡ written ++ grown =
+    append_assoc written out grows.reply ∙ ap (λ t. written ++ t) (sym grows.text) in
+    subst (λ (s : SchemaValue). HasText s (reverse n.world.steps) (lines ++ line ∷ []) (written ++ grown)) (sym grows.same)
+    (subst (HasText m.world.schema (reverse n.world.steps) (lines ++ line ∷ [])) text
+    (HasText-more m.world.schema (reverse m.world.steps) (reverse n.world.steps) lines line (written ++ out) grows.reply stands grows.answer))

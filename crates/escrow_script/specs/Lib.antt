@@ -1,6 +1,5 @@
 pub mod Faults
 pub mod Watched
-pub mod Row
 pub mod Lines
 pub mod Text
 pub mod Run

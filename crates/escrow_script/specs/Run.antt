@@ -1,21 +1,20 @@
 -- What the parts of a run do to its state, and what a run reads and writes (this project).
-use Rattle.std.specs.Prelude.{◌≡◌, ◌≢◌, ℕ, ◌+◌, ◌-◌, ◌<◌, ◌≤◌, List, [], ◌∷◌, ◌++◌, length, take, ◌⊎◌, Option, None, Some, IsNone, Ok, Err, codes}
+use Rattle.std.specs.Prelude.{◌≡◌, ◌≢◌, ℕ, ◌+◌, ◌-◌, ◌<◌, ◌≤◌, List, [], ◌∷◌, ◌++◌, length, take, ◌⊎◌, Option, None, Some, IsNone, Ok, Err, reverse, codes}
 use Rattle.std.specs.Io.KnownBytes.{Appends, Consumes, IsAtEnd}
 use Rattle.field_bounds.specs.Schema.{SchemaValue}
 use Rattle.field_bounds.specs.Header.{schema_of}
-use Rattle.field_bounds.specs.Central.{asked_of}
-use Rattle.field_bounds.specs.declared.entry.Entry.{Entry}
 use Rattle.field_bounds.specs.declared.fault.SchemaFault.TheVariants as schema_faults
-use Rattle.escrow_script.specs.declared.row.SiteRow.{SiteRow}
 use Rattle.escrow_script.specs.declared.machine.Machine.{Machine}
 use Rattle.escrow_script.specs.declared.script.Script.{Script}
 use Rattle.escrow_script.specs.declared.fault.ScriptFault.{ScriptFault}
 use Rattle.escrow_script.specs.declared.fault.ScriptFault.TheVariants.{Read, TooLong, Write, Header, NoMemory}
 use Rattle.escrow_script.specs.declared.watched.End.{End}
 use Rattle.escrow_script.specs.declared.watched.End.TheVariants.{Nothing}
-use Rattle.escrow_script.specs.Row.{AreSitesOf, AppliesAt}
-use Rattle.entry_text.specs.Spelling.{entry_text}
-use Rattle.escrow_script.specs.Text.{line_text, Asks, IsBad, HasText, IsTextOf}
+use Rattle.escrow_script.specs.Text.{line_text, Asks, IsBad, IsReply, HasText, IsTextOf}
+use Rattle.world_steps.specs.declared.step.WorldStep.{WorldStep}
+use Rattle.world_steps.specs.declared.step.WorldStep.TheVariants.{Do, Deliver}
+use Rattle.field_bounds.specs.declared.entry.Entry.{Entry}
+use Rattle.world_steps.specs.View.{WorldValue}
 use Rattle.escrow_script.specs.Lines.{whole_lines, last_part, script_lines}
 use Rattle.escrow_script.specs.Watched.{AppendsFront}
 
@@ -43,23 +42,31 @@ pub record CannotKeep (old new : Script) (piece : List ℕ) (fault : ScriptFault
   pub why : KeepFault fault old piece
   pub out : new.out.items ≡ old.out.items
 
--- What the sites do with a line, and what is to be written before and after it: a bad line changes no site, and one of
--- them answers what any other line asks.
-abbrev pub Answered : List ℕ → SiteRow → SiteRow → List ℕ → List ℕ → Type 0
+-- The entry is of what the step asks a site, where it names one.
+abbrev pub IsMadeBy : WorldStep → Entry → Type 0
+IsMadeBy (Do site command luck) entry = (entry.site ≡ site) × (entry.command ≡ command)
+IsMadeBy (Deliver which luck) entry = Unit {0}
+
+-- The world has taken one more step.
+abbrev pub one_more : WorldValue → WorldStep → WorldValue
+one_more world step = record world { steps = world.steps ++ step ∷ [] }
+
+-- What a world does with a line, and what is to be written before and after it: a bad line changes nothing, and the step
+-- that any other line asks is taken and answered.
+abbrev pub Answered : List ℕ → WorldValue → WorldValue → List ℕ → List ℕ → Type 0
 Answered line old new out grown =
     (IsBad old.schema line × (new ≡ old) × (grown ≡ out ++ line_text (codes "bad line")))
-    ⊎ ((entry : Entry) × Asks old.schema line (asked_of entry) × (new.schema ≡ old.schema)
-    × AppliesAt old.sites.items entry.site entry.command entry.reply new.sites.items
-    × (grown ≡ out ++ line_text (entry_text old.schema entry)))
+    ⊎ ((step : WorldStep) × Asks old.schema line step × (new ≡ one_more old step)
+    × ((reply : List ℕ) × IsReply old.schema (reverse old.steps) step reply × (grown ≡ out ++ reply)))
 
--- What a line does to the machine, and to what is to be written: a header line starts the sites of its schema and is
+-- What a line does to the machine, and to what is to be written: a header line starts a world of its schema and is
 -- written as it is, and any other line is answered.
 abbrev pub Moves : Option Machine → List ℕ → Option Machine → List ℕ → List ℕ → Type 0
 Moves None line None out grown = ⊥
 Moves None line (Some m) out grown =
-    (schema_of line ≡ Ok m.row.schema) × AreSitesOf m.row.schema [] m.row.sites.items × (grown ≡ out ++ line_text line)
+    (schema_of line ≡ Ok m.world.schema) × (m.world.steps ≡ []) × (grown ≡ out ++ line_text line)
 Moves (Some m) line None out grown = ⊥
-Moves (Some m) line (Some n) out grown = Answered line m.row n.row out grown
+Moves (Some m) line (Some n) out grown = Answered line m.world n.world out grown
 
 -- The machine has the line, and what it answers is to be written.
 pub record HasEnded (old new : Script) : Type 0 where
@@ -86,8 +93,7 @@ kept (Some m) line = take 257 line
 -- The machine after the lines, whose text this is.
 abbrev pub StandsFor : Option Machine → List (List ℕ) → List ℕ → Type 0
 StandsFor None lines text = (lines ≡ []) × (text ≡ [])
-StandsFor (Some m) lines text =
-    (entries : List Entry) × AreSitesOf m.row.schema entries m.row.sites.items × HasText m.row.schema entries lines text
+StandsFor (Some m) lines text = HasText m.world.schema (reverse m.world.steps) lines text
 
 -- The state after these bytes, with the writer's known bytes before and after.
 pub record At (read : List ℕ) (s : Script) (before after : Option (List ℕ)) : Type 0 where
@@ -157,8 +163,8 @@ StopsIn old new middle after bytes fault =
 
 -- The known bytes grow by bytes that, with those in the buffer, are the text of the lines under some schema.
 abbrev pub Completes : Option (List ℕ) → Option (List ℕ) → List ℕ → List (List ℕ) → Type 0
-Completes before after out lines = (schema : SchemaValue) × ((entries : List Entry)
-    × ((written : List ℕ) × Appends before after written × HasText schema entries lines (written ++ out)))
+Completes before after out lines = (schema : SchemaValue) × ((steps : List WorldStep)
+    × ((written : List ℕ) × Appends before after written × HasText schema steps lines (written ++ out)))
 
 -- At the end of the input, what is written, with the buffer, is the whole text.
 abbrev pub Finishes : Script → Script → Type 0
@@ -220,9 +226,9 @@ pub record Answers (from to before after : Option (List ℕ)) : Type 0 where
   pub consumed : Consumes from to read
   pub end : IsAtEnd to
   pub schema : SchemaValue
-  pub entries : List Entry
+  pub steps : List WorldStep
   pub text : List ℕ
-  pub answered : HasText schema entries (script_lines read) text
+  pub answered : HasText schema steps (script_lines read) text
   pub written : Appends before after text
 
 -- At a write fault a front of the text is written, of the whole lines in front of the fault or of the whole

@@ -1,66 +1,108 @@
--- What a script writes for the lines that it reads (this project). Lists of lines and of entries here
--- have the newest first.
-use Rattle.std.specs.Prelude.{◌≡◌, ℕ, ◌<◌, ◌≤◌, ◌⊎◌, List, [], ◌∷◌, ◌++◌, length, reverse, Ok, codes}
+-- What a script writes for the lines that it reads (this project). Lists of lines, of steps and of entries here have the
+-- newest first.
+use Rattle.std.specs.Prelude.{◌≡◌, ℕ, ◌^◌, ◌<◌, ◌≤◌, ◌⊎◌, List, [], ◌∷◌, ◌++◌, length, reverse, Ok, None, codes}
+use Rattle.std.specs.Fmt.{decimal}
 use Rattle.field_bounds.specs.Schema.{SchemaValue}
 use Rattle.field_bounds.specs.Header.{schema_of}
-use Rattle.field_bounds.specs.Central.{asked_of, IsSound, IsCentral}
-use Rattle.field_bounds.specs.declared.id.SiteNo.{SiteNo}
-use Rattle.field_bounds.specs.declared.entry.Command.{Command}
-use Rattle.field_bounds.specs.declared.entry.Command.TheVariants.{Accept}
+use Rattle.field_bounds.specs.Central.{IsSound, IsCentral, IsConservedThroughout}
 use Rattle.field_bounds.specs.declared.entry.Entry.{Entry}
 use Rattle.entry_text.specs.Spelling.{command_text, entry_text}
 use Rattle.entry_text.specs.Ranges.{SiteFits, CommandFits}
+use Rattle.kept_state.specs.declared.luck.Luck.{Luck}
+use Rattle.kept_state.specs.declared.luck.Luck.TheVariants.{Fine, Torn}
+use Rattle.kept_state.specs.Luck.{entries}
+use Rattle.world_steps.specs.declared.step.WorldStep.{WorldStep}
+use Rattle.world_steps.specs.declared.step.WorldStep.TheVariants.{Do, Deliver}
+use Rattle.world_steps.specs.World.{asked, luck_of, StepFits, world_of}
 
 -- A line and its LF (10).
 abbrev pub line_text : List ℕ → List ℕ
 line_text line = line ++ 10 ∷ []
 
--- A script asks any command of a site but an acceptance: a statement reaches a site only as it was issued.
-abbrev pub IsStep : Command → Type 0
-IsStep (Accept told) = ⊥
-IsStep command = Unit {0}
+-- ---- the line of a step
 
--- A line behind the header asks this of a site: it is the command's text, of at most 256 bytes, the site is in the
--- schema, and a script may ask the command.
-pub record Asks (schema : SchemaValue) (line : List ℕ) (asked : SiteNo × Command) : Type 0 where
-  pub text : line ≡ command_text schema asked.0 asked.1
-  pub fits : SiteFits asked.0 × CommandFits asked.1
-  pub site : asked.0.0 < schema.sites
+-- What a step asks: a command, or the taking in of a statement by its number.
+abbrev pub plain_text : SchemaValue → WorldStep → List ℕ
+plain_text schema (Do site command luck) = command_text schema site command
+plain_text schema (Deliver which luck) = codes "deliver " ++ decimal which
+
+-- How its append goes: nothing where it is whole, and else how many bytes are kept.
+abbrev pub luck_text : Luck → List ℕ
+luck_text Fine = []
+luck_text (Torn bytes) = codes " torn " ++ decimal bytes
+
+-- The line of a step.
+abbrev pub step_text : SchemaValue → WorldStep → List ℕ
+step_text schema step = plain_text schema step ++ luck_text (luck_of step)
+
+-- The bytes that are kept are a u64.
+abbrev pub LuckFits : Luck → Type 0
+LuckFits Fine = Unit {0}
+LuckFits (Torn bytes) = bytes < 2 ^ 64
+
+-- What a step names fits, and the number of a statement is a u64.
+abbrev pub NumbersFit : WorldStep → Type 0
+NumbersFit (Do site command luck) = SiteFits site × CommandFits command × LuckFits luck
+NumbersFit (Deliver which luck) = (which < 2 ^ 64) × LuckFits luck
+
+-- A line behind the header asks this step: it is the step's line, of at most 256 bytes, and a world of the schema takes the
+-- step: its site is in the schema, and it is no acceptance, for a statement reaches a site only as it was issued.
+pub record Asks (schema : SchemaValue) (line : List ℕ) (step : WorldStep) : Type 0 where
+  pub text : line ≡ step_text schema step
+  pub numbers : NumbersFit step
   pub short : length line ≤ 256
-  pub step : IsStep asked.1
+  pub fits : StepFits schema step
 
 -- A bad line asks nothing.
 abbrev pub IsBad : SchemaValue → List ℕ → Type 0
-IsBad schema line = (asked : SiteNo × Command) → Asks schema line asked → ⊥
+IsBad schema line = (step : WorldStep) → Asks schema line step → ⊥
 
--- What answers a line, and the entries before and after it: a bad line is answered by `bad line`, and any other by one
--- more entry, of what it asks.
-abbrev pub IsAnswer : SchemaValue → List ℕ → List Entry → List Entry → List ℕ → Type 0
+-- ---- what answers it
+
+-- The trace of steps: the entries that they make in a world of the schema.
+abbrev pub trace : SchemaValue → List WorldStep → List Entry
+trace schema steps = entries (world_of schema steps)
+
+-- What remarks a step that makes no entry, since no statement has its number.
+abbrev pub remark_text : SchemaValue → WorldStep → List ℕ
+remark_text schema step = plain_text schema step ++ codes " -> refused 16 no statement"
+
+-- What answers a step that comes after earlier ones: the text of the one entry by which the trace grows, or the remark
+-- where the step asks no site anything.
+abbrev pub IsReply : SchemaValue → List WorldStep → WorldStep → List ℕ → Type 0
+IsReply schema earlier step text =
+    ((entry : Entry) × (trace schema (step ∷ earlier) ≡ entry ∷ trace schema earlier) × (text ≡ line_text (entry_text schema entry)))
+    ⊎ ((asked (trace schema earlier) step ≡ None) × (text ≡ line_text (remark_text schema step)))
+
+-- What answers a line, and the steps before and after it: a bad line is answered by `bad line`, and any other by what
+-- answers the one more step that it asks.
+abbrev pub IsAnswer : SchemaValue → List ℕ → List WorldStep → List WorldStep → List ℕ → Type 0
 IsAnswer schema line old new text =
     (IsBad schema line × (new ≡ old) × (text ≡ line_text (codes "bad line")))
-    ⊎ ((entry : Entry) × Asks schema line (asked_of entry) × (new ≡ entry ∷ old) × (text ≡ line_text (entry_text schema entry)))
+    ⊎ ((step : WorldStep) × Asks schema line step × (new ≡ step ∷ old) × IsReply schema old step text)
 
 -- What answers lines, one after another.
-abbrev pub AreAnswers : SchemaValue → List (List ℕ) → List Entry → List ℕ → Type 0
-AreAnswers schema [] entries text = (entries ≡ []) × (text ≡ [])
-AreAnswers schema (line ∷ before) entries text =
-    (old : List Entry) × ((front last : List ℕ) × AreAnswers schema before old front × IsAnswer schema line old entries last × (text ≡ front ++ last))
+abbrev pub AreAnswers : SchemaValue → List (List ℕ) → List WorldStep → List ℕ → Type 0
+AreAnswers schema [] steps text = (steps ≡ []) × (text ≡ [])
+AreAnswers schema (line ∷ before) steps text =
+    (old : List WorldStep) × ((front last : List ℕ) × AreAnswers schema before old front × IsAnswer schema line old steps last × (text ≡ front ++ last))
 
--- The text of lines, the oldest first: the header line as it was read, and an answer for each line behind it, by
--- entries of what the lines ask, one for one and in their order, whose replies are those that each site owes after its
--- own entries, and which are a run of one central store.
-pub record HasText (schema : SchemaValue) (entries : List Entry) (lines : List (List ℕ)) (text : List ℕ) : Type 0 where
+-- The text of lines, the oldest first: the header line as it was read, and an answer for each line behind it, by the one
+-- trace of the steps that the lines ask, in their order. Each site gave the replies that it owes after its own entries, and
+-- the trace is a run of one central store, in which rights are conserved.
+pub record HasText (schema : SchemaValue) (steps : List WorldStep) (lines : List (List ℕ)) (text : List ℕ) : Type 0 where
   pub header : List ℕ
   pub behind : List (List ℕ)
   pub body : List ℕ
   pub parts : lines ≡ header ∷ behind
   pub start : schema_of header ≡ Ok schema
-  pub answers : AreAnswers schema (reverse behind) entries body
-  pub sound : IsSound schema entries
-  pub central : IsCentral schema entries
+  pub answers : AreAnswers schema (reverse behind) steps body
+  pub sound : IsSound schema (trace schema steps)
+  pub central : IsCentral schema (trace schema steps)
+  pub conserved : IsConservedThroughout schema (trace schema steps)
   pub written : text ≡ line_text header ++ body
 
--- The text of lines by some schema and entries, or nothing for no line.
+-- The text of lines by some schema and steps, or nothing for no line.
 abbrev pub IsTextOf : List (List ℕ) → List ℕ → Type 0
 IsTextOf lines text =
-    ((lines ≡ []) × (text ≡ [])) ⊎ ((schema : SchemaValue) × ((entries : List Entry) × HasText schema entries lines text))
+    ((lines ≡ []) × (text ≡ [])) ⊎ ((schema : SchemaValue) × ((steps : List WorldStep) × HasText schema steps lines text))

@@ -2,15 +2,15 @@
 
 ghost use Rattle.std.specs.Prelude.{◌≡◌, ℕ, List};
 ghost use Rattle.field_bounds.specs.Schema.{SchemaValue};
-ghost use Rattle.field_bounds.specs.declared.entry.Entry.{Entry};
-ghost use Rattle.escrow_script.specs.Text.{HasText};
+ghost use Rattle.world_steps.specs.declared.step.WorldStep.{WorldStep};
+ghost use Rattle.escrow_script.specs.Text.{trace, HasText};
 
-/// The lines of a script have one text: whatever schema and entries it is explained by, they are
-/// the same, and so is the text.
+/// The lines of a script have one text: whatever schema and steps it is explained by, they are the
+/// same, and so are the trace and the text.
 ///
 /// Source: this project.
 pub fn one_text()
-    ensures only { (schema other : SchemaValue) (entries others : List Entry) (lines : List (List ℕ))
-        (text again : List ℕ) → HasText schema entries lines text → HasText other others lines again →
-        (schema ≡ other) × (entries ≡ others) × (text ≡ again) }
+    ensures only { (schema other : SchemaValue) (steps others : List WorldStep) (lines : List (List ℕ))
+        (text again : List ℕ) → HasText schema steps lines text → HasText other others lines again →
+        (schema ≡ other) × (steps ≡ others) × (trace schema steps ≡ trace other others) × (text ≡ again) }
 {}

@@ -1,11 +1,11 @@
-//! Scripts of commands, read line by line and answered line by line, over any reader and writer.
+//! Scripts of a world's steps, read line by line and answered line by line, over any reader and
+//! writer.
 #![tactic(auto)]
 
 mod fault;
 mod laws;
 mod line;
 mod machine;
-mod row;
 mod script;
 mod watched;
 

@@ -1,36 +1,122 @@
 //! What a line behind the header asks.
 
-ghost use Rattle.std.specs.Prelude.{IfSome, IfNone, IsTrue, ◌↔◌};
-ghost use Rattle.escrow_script.specs.Text.{Asks, IsBad, IsStep};
+ghost use Rattle.std.specs.Prelude.{◌≡◌, ◌≢◌, ◌^◌, ◌<◌, ◌++◌, ◌∷◌, All, IfNone, IfSome, MatchOption, Some, ℕ, List, codes};
+ghost use Rattle.std.specs.Fmt.{decimal};
+ghost use Rattle.field_bounds.specs.Limits.{IsSchema};
+ghost use Rattle.kept_state.specs.declared.luck.Luck.TheVariants.{Torn};
+ghost use Rattle.world_steps.specs.declared.step.WorldStep.{WorldStep as StepType};
+ghost use Rattle.world_steps.specs.World.{luck_of};
+ghost use Rattle.escrow_script.specs.Text.{plain_text, luck_text, step_text, LuckFits, NumbersFit, Asks, IsBad};
 
-use entry_text::read_command;
-use field_bounds::{Command, Schema, SiteNo};
+use entry_text::{read_command, read_number};
+use field_bounds::Schema;
+use world_steps::{Luck, WorldStep, steps_fit};
 
 // The most bytes of a command line.
 const MOST_LINE: usize = 256;
 
-/// Whether a script may ask a command of a site.
-fn is_step(command: Command) -> bool
-    ensures { IsTrue result ↔ IsStep command }
+/// The step that a line asks, and the line without its luck.
+#[derive(Drop)]
+pub(crate) struct Asked<'a> {
+    pub(crate) step: WorldStep,
+    pub(crate) plain: &'a [u8],
+}
+
+// The bytes before the last space, and those after it.
+fn split_last_word(line: &[u8]) -> Option<(&[u8], &[u8])>
+    ensures { MatchOption result (All (λ b. b ≢ 32) line.now)
+        (λ parts. All (λ b. b ≢ 32) parts.1.now × (line.now ≡ parts.0.now ++ 32 ∷ parts.1.now)) }
 {
-    match command {
-        Command::Accept(_) => false,
-        _ => true,
+    match line.iter().rposition(|byte| *byte == b' ') {
+        Some(at) => Some((&line[..at], &line[at + 1..])),
+        None => None,
     }
 }
 
-/// The site and the command that a line behind the header, without its LF, asks, or None where it
-/// is a bad line. Costs no memory.
-pub(crate) fn line_command(schema: &Schema, line: &[u8]) -> Option<(SiteNo, Command)>
-    ensures asks { IfSome result (λ asked. Asks schema.now line.now asked) }
+// The bytes before the word of luck, where they end in it.
+fn before_torn(bytes: &[u8]) -> Option<&[u8]>
+    ensures { MatchOption result ((plain : List ℕ) → bytes.now ≢ plain ++ codes " torn")
+        (λ plain. bytes.now ≡ plain.now ++ codes " torn") }
+{
+    bytes.strip_suffix(b" torn")
+}
+
+// The line without its luck, where it has one, and how many bytes of the append are kept.
+fn split_luck(line: &[u8]) -> Option<(&[u8], u64)>
+    ensures found { IfSome result (λ parts. (line.now ≡ parts.0.now ++ luck_text (Torn parts.1)) × LuckFits (Torn parts.1)) }
+    ensures none { IfNone result ((front : List ℕ) (bytes : ℕ) → LuckFits (Torn bytes) →
+        line.now ≢ front ++ luck_text (Torn bytes)) }
+{
+    let (front, word) = split_last_word(line)?;
+    let bytes = read_number(word)?;
+    let plain = before_torn(front)?;
+    Some((plain, bytes))
+}
+
+// The number of the statement that a line without luck delivers.
+fn delivery(line: &[u8]) -> Option<u64>
+    ensures found { IfSome result (λ which. (line.now ≡ codes "deliver " ++ decimal which) × (which < 2 ^ 64)) }
+    ensures only { (which : ℕ) → which < 2 ^ 64 → line.now ≡ codes "deliver " ++ decimal which
+        → result ≡ Some which }
+{
+    read_number(line.strip_prefix(b"deliver ")?)
+}
+
+// The step of this luck that a line without luck asks.
+fn plain_step(schema: &Schema, line: &[u8], luck: Luck) -> Option<WorldStep>
+    requires luck { LuckFits luck }
+    ensures found { IfSome result (λ step. (line.now ≡ plain_text schema.now step) × NumbersFit step × (luck_of step ≡ luck)) }
+    ensures only { (step : StepType) → NumbersFit step → line.now ≡ plain_text schema.now step
+        → luck_of step ≡ luck → result ≡ Some step }
+{
+    match read_command(schema, line) {
+        Some((site, command)) => Some(WorldStep::Do {
+            site,
+            command,
+            luck,
+        }),
+        None => {
+            let which = delivery(line)?;
+            Some(WorldStep::Deliver { which, luck })
+        }
+    }
+}
+
+// The step whose line this is, whether or not a world takes it.
+fn any_step<'a>(schema: &Schema, line: &'a [u8]) -> Option<Asked<'a>>
+    ensures found { IfSome result (λ asked. (line.now ≡ step_text schema.now asked.step) × NumbersFit asked.step
+        × (asked.plain.now ≡ plain_text schema.now asked.step)) }
+    ensures none { IfNone result ((step : StepType) → NumbersFit step → line.now ≢ step_text schema.now step) }
+{
+    if let Some(step) = plain_step(schema, line, Luck::Fine) {
+        return Some(Asked { step, plain: line });
+    }
+    let (plain, bytes) = split_luck(line)?;
+    let step = plain_step(schema, plain, Luck::Torn(bytes))?;
+    Some(Asked { step, plain })
+}
+
+// That the schema is within its limits, on which it rests that a line asks one step at most.
+fn within_limits(schema: &Schema)
+    ensures limits { IsSchema schema.now }
+{
+    let _fields = schema.fields();
+}
+
+/// The step that a line behind the header, without its LF, asks, or None where it is a bad line.
+/// Costs no memory.
+pub(crate) fn line_step<'a>(schema: &Schema, line: &'a [u8]) -> Option<Asked<'a>>
+    ensures asks { IfSome result (λ asked. Asks schema.now line.now asked.step) }
+    ensures plain { IfSome result (λ asked. asked.plain.now ≡ plain_text schema.now asked.step) }
     ensures bad { IfNone result (IsBad schema.now line.now) }
 {
     if line.len() > MOST_LINE {
         return None;
     }
-    let (site, command) = read_command(schema, line)?;
-    if site.0 < schema.sites() && is_step(command) {
-        Some((site, command))
+    within_limits(schema);
+    let asked = any_step(schema, line)?;
+    if steps_fit(schema, &[asked.step]) {
+        Some(asked)
     } else {
         None
     }

@@ -278,12 +278,18 @@ impl Script {
     }
 }
 
-/// Runs a script: a header line, and then command lines, each answered by a line.
+/// Runs a script: a header line, and then the lines of steps, each answered by a line.
 ///
-/// Line 1 is a header, and is written as it was read. Every other line is a command line, answered
-/// by `LINE -> REPLY` at the site that it names, or is answered by `bad line` and changes nothing.
-/// Nothing passes between the sites. A line ends with LF; a last line without LF counts where it
-/// has at least one byte.
+/// Line 1 is a header, and is written as it was read. Every other line asks a step of a world of
+/// the header's sites: a command, answered by `COMMAND -> REPLY` at the site that it names, or
+/// `deliver K`, by which the statement of that number, counted from 1 as they were issued, is taken
+/// in by the site that it is for, answered by that site's entry, or by
+/// `deliver K -> refused 16 no statement`. A line may end in ` torn N`: then the append of its step
+/// keeps the first N bytes. Any other line is answered by `bad line` and changes nothing. A line
+/// ends with LF; a last line without LF counts where it has at least one byte.
+///
+/// So what is written at Ok is the text of the one trace that the steps make, and that trace is a
+/// run of one central escrow store, in which rights are conserved.
 ///
 /// The faults are those of the input, line by line: `Header` and `NoMemory`; `TooLong` where a byte
 /// follows the 1,000,000th line or the 268,435,456th byte; `Read` where a read answers an error of
@@ -295,8 +301,11 @@ impl Script {
 /// ended; make each anew for a run, by `Watched::new`.
 ///
 /// Output is written before each read, once 64 KiB of it have gathered behind a line, and at the
-/// end. Costs 64 KiB for input and somewhat more for output, and memory for the sites, which
-/// keep each entry.
+/// end. Costs 64 KiB for input and somewhat more for output, and memory for the world, which keeps
+/// each step and each entry.
+///
+/// Source: O'Neil 1986 for the central store, Balegas and others 2015 for rights that are divided
+/// among sites and given, this project for the script.
 pub fn run_script<R: Read, W: Write>(
     alloc: Global,
     reader: &mut Watched<R>,

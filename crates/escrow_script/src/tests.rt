@@ -45,6 +45,12 @@ impl Talk {
         Ok(())
     }
 
+    /// A line whose answer doesn't begin with it.
+    fn said(&mut self, line: &str, answer: &str) -> Result<(), AllocError> {
+        write!(self.input, "{line}\n")?;
+        write!(self.wanted, "{answer}\n")
+    }
+
     fn bad(&mut self, line: &str) -> Result<(), AllocError> {
         write!(self.input, "{line}\n")?;
         write!(self.wanted, "bad line\n")
@@ -274,6 +280,212 @@ const WORKED: [(&str, &[(&str, &str)]); 12] = [
     ),
 ];
 
+/// Lines over two sites, with deliveries and torn appends, each beside what answers it.
+const SAID: [&[(&str, &str)]; 12] = [
+    // A gift is delivered, and again.
+    &[
+        (
+            "0 give 1 stock lower 5",
+            "0 give 1 stock lower 5 -> given 5",
+        ),
+        ("1 begin", "1 begin -> begun 0.1"),
+        (
+            "1 escrow 0.1 stock -25",
+            "1 escrow 0.1 stock -25 -> refused 7 short 20",
+        ),
+        ("deliver 1", "1 accept 0 1 stock lower 5 -> accepted 5"),
+        (
+            "1 escrow 0.1 stock -25",
+            "1 escrow 0.1 stock -25 -> granted",
+        ),
+        ("deliver 1", "1 accept 0 1 stock lower 5 -> accepted 0"),
+    ],
+    // The later statement comes first.
+    &[
+        (
+            "0 give 1 stock lower 3",
+            "0 give 1 stock lower 3 -> given 3",
+        ),
+        (
+            "0 give 1 stock lower 2",
+            "0 give 1 stock lower 2 -> given 5",
+        ),
+        ("deliver 2", "1 accept 0 1 stock lower 5 -> accepted 5"),
+        ("deliver 1", "1 accept 0 1 stock lower 3 -> accepted 0"),
+    ],
+    // A restart aborts what is open.
+    &[
+        ("0 begin", "0 begin -> begun 0.1"),
+        (
+            "0 escrow 0.1 stock -20",
+            "0 escrow 0.1 stock -20 -> granted",
+        ),
+        ("0 restart", "0 restart -> restarted 1 nothing"),
+        ("0 commit 0.1", "0 commit 0.1 -> refused 4 no transaction"),
+        ("0 begin", "0 begin -> begun 1.1"),
+    ],
+    // A gift in doubt issues no statement before it is stated.
+    &[
+        (
+            "0 give 1 stock lower 5 torn 10",
+            "0 give 1 stock lower 5 -> unsure",
+        ),
+        ("deliver 1", "deliver 1 -> refused 16 no statement"),
+        ("0 restart", "0 restart -> restarted 1 kept"),
+        (
+            "0 restate 1 stock lower",
+            "0 restate 1 stock lower -> stated 5",
+        ),
+        ("deliver 1", "1 accept 0 1 stock lower 5 -> accepted 5"),
+    ],
+    // A restart whose record is torn fails.
+    &[
+        ("0 begin", "0 begin -> begun 0.1"),
+        (
+            "0 escrow 0.1 stock -20",
+            "0 escrow 0.1 stock -20 -> granted",
+        ),
+        ("0 commit 0.1 torn 12", "0 commit 0.1 -> unsure"),
+        ("0 restart torn 2", "0 restart -> still down"),
+        ("0 restart", "0 restart -> restarted 1 kept"),
+    ],
+    // Where its record stands whole, its epoch is used up.
+    &[
+        ("0 restart torn 4", "0 restart -> still down"),
+        ("0 restart", "0 restart -> restarted 2 nothing"),
+    ],
+    // No statement has these numbers.
+    &[
+        ("deliver 0", "deliver 0 -> refused 16 no statement"),
+        ("deliver 1", "deliver 1 -> refused 16 no statement"),
+        ("deliver 1 torn 3", "deliver 1 -> refused 16 no statement"),
+        (
+            "deliver 18446744073709551615",
+            "deliver 18446744073709551615 -> refused 16 no statement",
+        ),
+    ],
+    // A step that appends nothing can't be torn.
+    &[
+        ("0 begin torn 3", "0 begin -> begun 0.1"),
+        ("0 read stock torn 0", "0 read stock -> between 20 70"),
+        (
+            "0 escrow 0.1 stock -20 torn 18446744073709551615",
+            "0 escrow 0.1 stock -20 -> granted",
+        ),
+        ("0 commit 0.1", "0 commit 0.1 -> committed"),
+    ],
+    // An acceptance in doubt that was kept.
+    &[
+        (
+            "0 give 1 stock lower 5",
+            "0 give 1 stock lower 5 -> given 5",
+        ),
+        ("deliver 1 torn 10", "1 accept 0 1 stock lower 5 -> unsure"),
+        ("deliver 1", "1 accept 0 1 stock lower 5 -> refused 1 down"),
+        ("1 restart", "1 restart -> restarted 1 kept"),
+        ("deliver 1", "1 accept 0 1 stock lower 5 -> accepted 0"),
+        ("1 share stock", "1 share stock -> share 25 30"),
+    ],
+    // One that was lost.
+    &[
+        (
+            "0 give 1 stock lower 5",
+            "0 give 1 stock lower 5 -> given 5",
+        ),
+        ("deliver 1 torn 9", "1 accept 0 1 stock lower 5 -> unsure"),
+        ("deliver 1", "1 accept 0 1 stock lower 5 -> refused 1 down"),
+        ("1 restart", "1 restart -> restarted 1 lost"),
+        ("deliver 1", "1 accept 0 1 stock lower 5 -> accepted 5"),
+        ("1 share stock", "1 share stock -> share 25 30"),
+    ],
+    // What is in doubt at one site isn't in doubt at the other.
+    &[
+        ("0 begin", "0 begin -> begun 0.1"),
+        (
+            "0 escrow 0.1 stock -20",
+            "0 escrow 0.1 stock -20 -> granted",
+        ),
+        ("0 commit 0.1 torn 12", "0 commit 0.1 -> unsure"),
+        ("1 read stock", "1 read stock -> between 20 70"),
+        ("0 restart", "0 restart -> restarted 1 kept"),
+        ("1 read stock", "1 read stock -> between 20 70"),
+    ],
+    // Luck is for its own line.
+    &[
+        ("0 begin torn 0", "0 begin -> begun 0.1"),
+        (
+            "0 escrow 0.1 stock -20",
+            "0 escrow 0.1 stock -20 -> granted",
+        ),
+        ("0 commit 0.1", "0 commit 0.1 -> committed"),
+        ("0 share stock", "0 share stock -> share 0 50"),
+    ],
+];
+
+/// A field whose name is the word of luck.
+const TORN: &str =
+    "{\"sites\":1,\"fields\":[{\"name\":\"torn\",\"floor\":0,\"ceiling\":10,\"value\":5}]}";
+
+fn check_said(
+    rt: &impl Abort,
+    alloc: Global,
+    header: &str,
+    rows: &[(&str, &str)],
+) -> Result<(), AllocError> {
+    let mut talk = Talk::new(alloc, header)?;
+    for (line, answer) in rows {
+        talk.said(*line, *answer)?;
+    }
+    talk.check(rt, alloc);
+    Ok(())
+}
+
+#[test]
+fn answers_deliveries_and_luck(rt: HostRuntime) -> Result<(), Fail> {
+    for rows in &SAID {
+        check_said(&rt, rt.alloc(), HALVED, *rows)?;
+    }
+    Ok(())
+}
+
+#[test]
+fn reads_no_field_as_luck(rt: HostRuntime) -> Result<(), Fail> {
+    let rows: [(&str, &str); 4] = [
+        ("0 begin", "0 begin -> begun 0.1"),
+        ("0 escrow 0.1 torn 5", "0 escrow 0.1 torn 5 -> granted"),
+        (
+            "0 escrow 0.1 torn -1 torn 5",
+            "0 escrow 0.1 torn -1 -> granted",
+        ),
+        ("0 commit 0.1 torn 5", "0 commit 0.1 -> unsure"),
+    ];
+    check_said(&rt, rt.alloc(), TORN, &rows)?;
+    Ok(())
+}
+
+// The record of the commit has 12 bytes.
+#[test]
+fn keeps_a_commit_that_is_whole(rt: HostRuntime) -> Result<(), Fail> {
+    let alloc = rt.alloc();
+    for bytes in 0..=13u64 {
+        let mut talk = Talk::new(alloc, HALVED)?;
+        talk.row("0 begin", "begun 0.1")?;
+        talk.row("0 escrow 0.1 stock -20", "granted")?;
+        let line = format!(in alloc; "0 commit 0.1 torn {bytes}")?;
+        talk.said(line.as_str(), "0 commit 0.1 -> unsure")?;
+        talk.row("0 read stock", "refused 1 down")?;
+        if bytes < 12 {
+            talk.row("0 restart", "restarted 1 lost")?;
+            talk.row("0 share stock", "share 20 30")?;
+        } else {
+            talk.row("0 restart", "restarted 1 kept")?;
+            talk.row("0 share stock", "share 0 50")?;
+        }
+        talk.check(&rt, alloc);
+    }
+    Ok(())
+}
+
 fn check_row(
     rt: &impl Abort,
     alloc: Global,
@@ -344,9 +556,25 @@ fn answers_bad_lines(rt: HostRuntime) -> Result<(), Fail> {
         "0 give 1 stock up 1",
         "0 share sock",
         "0 share",
-        "0 restart",
-        "deliver 1",
-        "0 begin torn 3",
+        "0 restart 1",
+        "0 begin torn",
+        "0 begin torn 03",
+        "0 begin torn -3",
+        "0 begin  torn 3",
+        "0 begin torn 3 ",
+        "0 begin torn 3 torn 3",
+        "0 begin torn 18446744073709551616",
+        "0 accept 1 0 stock lower 5 torn 3",
+        "2 begin torn 3",
+        "torn 3",
+        "deliver",
+        "deliver 01",
+        "deliver -1",
+        "deliver 1 1",
+        "deliver 18446744073709551616",
+        "deliver 1 torn",
+        "deliver 1 torn 18446744073709551616",
+        "1 deliver 1",
     ] {
         talk.bad(line)?;
     }
