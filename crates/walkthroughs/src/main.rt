@@ -1,0 +1,33 @@
+//! Runs each script of `examples/` that has its output beside it, and tells whether it writes that.
+#![tactic(auto)]
+
+use escrow_script::{Watched, run_script};
+use std::alloc::{AllocError, Global};
+use std::{fs, io};
+
+const WALKTHROUGHS: [&str; 3] = ["two_warehouses", "three_desks", "two_branches"];
+
+/// What a script writes; a fault ends it early.
+fn written(alloc: Global, script: &str) -> Vec<u8> {
+    let mut writer = Watched::new(Vec::new(alloc));
+    let _ = run_script(alloc, &mut Watched::new(script.as_bytes()), &mut writer);
+    writer.into_inner()
+}
+
+fn path(alloc: Global, name: &str, ending: &str) -> Result<String, AllocError> {
+    format!(in alloc; "{name}.{ending}")
+}
+
+fn main(rt: HostRuntime) -> io::Result<()> {
+    let alloc = rt.alloc();
+    for name in WALKTHROUGHS {
+        let script = fs::read_to_string(&rt, path(alloc, name, "txt")?.as_str())?;
+        let told = fs::read_to_string(&rt, path(alloc, name, "out")?.as_str())?;
+        if written(alloc, script.as_str()).as_slice() == told.as_bytes() {
+            println!(rt; "{name}: as told")?;
+        } else {
+            println!(rt; "{name}: differs")?;
+        }
+    }
+    Ok(())
+}
