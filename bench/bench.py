@@ -1,17 +1,25 @@
 #!/usr/bin/env python3
 """Measures `escrow run` on long scripts, beside a plain Rust program of the same shape.
 
-    bench/bench.py [LINES [TURNS]]
+    bench/bench.py [LINES [TURNS]] [--restarts]
 
 LINES is the length of the input, its header line included (1,000,000 if left out, which is the
-most that `run` takes), and TURNS how often each program runs (5). The lines are a begin, an escrow,
-a commit and a read, over and over, and the changes go down and up in turn, so every escrow is
-granted. It prints, for the best turn of each program, the time, lines a second and peak memory, and
-fails where the two programs differ in what they write. Needs `rt`, and `rustc` for the plain one.
+most that `run` takes), and TURNS how often each program runs (5). It prints, for the best turn of
+each program, the time, lines a second and peak memory, and fails where the two programs differ in
+what they write. Needs `rt`, and `rustc` for the plain one.
 
-Beside that it runs a script a tenth as long, and one of the same length over a schema of 64 fields,
-at the last of which all commands are: lines a second must stay as they were, since no command's
-cost grows with the history or with the number of fields.
+The scripts:
+
+- one site: a begin, an escrow, a commit and a read, over and over; the changes go down and up in
+  turn, so every escrow is granted. It runs at a tenth of the length, at the whole length, and over
+  a schema of 64 fields, at the last of which all commands are: lines a second stay as they were,
+  since no command's cost grows with the history or with the number of fields.
+- mixed: 4 sites and 8 fields; begins, escrows, commits, aborts, gifts, deliveries, reads, shares,
+  and 20 restarts, some of them after a torn commit. It runs at a tenth of the length and at the
+  whole length. A restart reads the whole log of its site, so their number doesn't grow with the
+  length.
+- with --restarts: 1,000 commits and then 100,000 restarts (a tenth as many for LINES below
+  100,000), each of which reads every record before it. That takes minutes.
 """
 
 import filecmp
@@ -23,25 +31,97 @@ import tempfile
 import time
 
 TOP = os.path.dirname(os.path.dirname(os.path.abspath(__file__)))
+RESTARTS = 20
 
 
-def write_input(path, lines, fields):
+def header(sites, names, floor, ceiling, value):
     rows = ",".join(
-        f'{{"name":"stock{place}","floor":0,"ceiling":100,"value":40}}' for place in range(1, fields + 1)
+        f'{{"name":"{name}","floor":{floor},"ceiling":{ceiling},"value":{value}}}' for name in names
     )
-    with open(path, "w", encoding="ascii") as script:
-        script.write(f'{{"sites":1,"fields":[{rows}]}}\n')
-        for place in range(lines - 1):
-            number = place // 4 + 1
-            change = "-20" if number % 2 == 1 else "20"
-            script.write(
-                (
-                    "0 begin\n",
-                    f"0 escrow 0.{number} stock{fields} {change}\n",
-                    f"0 commit 0.{number}\n",
-                    f"0 read stock{fields}\n",
-                )[place % 4]
-            )
+    return f'{{"sites":{sites},"fields":[{rows}]}}\n'
+
+
+def one_site(lines, fields):
+    yield header(1, [f"stock{place}" for place in range(1, fields + 1)], 0, 100, 40)
+    for place in range(lines - 1):
+        number = place // 4 + 1
+        change = "-20" if number % 2 == 1 else "20"
+        yield (
+            "0 begin\n",
+            f"0 escrow 0.{number} stock{fields} {change}\n",
+            f"0 commit 0.{number}\n",
+            f"0 read stock{fields}\n",
+        )[place % 4]
+
+
+class Mixed:
+    """The lines of four sites over eight fields, with the ids that the sites will give out."""
+
+    def __init__(self, lines):
+        self.lines = lines
+        self.epochs = [0] * 4
+        self.numbers = [0] * 4
+        self.issued = 0
+        self.turn = 0
+
+    def begin(self, site):
+        self.numbers[site] += 1
+        return f"{self.epochs[site]}.{self.numbers[site]}"
+
+    def restart(self, site):
+        self.epochs[site] += 1
+        self.numbers[site] = 0
+        return f"{site} restart\n"
+
+    def round(self):
+        site, field = self.turn % 4, f"stock{self.turn % 8 + 1}"
+        other, second = (site + 1) % 4, f"stock{(self.turn + 3) % 8 + 1}"
+        self.turn += 1
+        txn = self.begin(site)
+        yield f"{site} begin\n"
+        yield f"{site} escrow {txn} {field} -2\n"
+        yield f"{site} escrow {txn} {second} 3\n"
+        yield f"{site} commit {txn}\n"
+        self.issued += 1
+        yield f"{site} give {other} {field} lower 1\n"
+        yield f"deliver {self.issued}\n"
+        txn = self.begin(site)
+        yield f"{site} begin\n"
+        yield f"{site} escrow {txn} {field} 5\n"
+        yield f"{site} abort {txn}\n"
+        yield f"{site} read {second}\n"
+        yield f"{site} share {field}\n"
+
+    def stop(self):
+        site = self.turn % 4
+        if self.turn % 2 == 0:
+            txn = self.begin(site)
+            yield f"{site} begin\n"
+            yield f"{site} escrow {txn} stock1 -7\n"
+            yield f"{site} commit {txn} torn {self.turn % 30}\n"
+        yield self.restart(site)
+
+    def all(self):
+        yield header(4, [f"stock{place}" for place in range(1, 9)], 0, 10**12, 5 * 10**11)
+        count, stops = 1, 0
+        while True:
+            due = stops < RESTARTS and count * (RESTARTS + 1) > (stops + 1) * self.lines
+            stops += due
+            for line in self.stop() if due else self.round():
+                yield line
+                count += 1
+                if count == self.lines:
+                    return
+
+
+def restarts(count):
+    yield header(1, ["stock1"], 0, 100, 40)
+    for number in range(1, 1_001):
+        yield "0 begin\n"
+        yield f"0 escrow 0.{number} stock1 {-20 if number % 2 == 1 else 20}\n"
+        yield f"0 commit 0.{number}\n"
+    for _ in range(count):
+        yield "0 restart\n"
 
 
 def run(words, source, target):
@@ -61,38 +141,58 @@ def measure(name, words, source, target, lines, turns):
     times = [run(words, source, target) for _ in range(turns)]
     passed, used, memory = min(times)
     print(
-        f"{name:8} {passed:7.3f} s  {used:7.3f} s of processor  "
-        f"{lines / passed:12,.0f} lines/s  {memory / 1024:8.1f} MiB"
+        f"{name:8} {passed:8.3f} s  {used:8.3f} s of processor  "
+        f"{lines / passed:12,.0f} lines/s  {memory / 1024:8.1f} MiB  {memory * 1024 / lines:6.0f} bytes/line"
     )
     return passed
 
 
-def main():
-    lines = int(sys.argv[1]) if len(sys.argv) > 1 else 1_000_000
-    turns = int(sys.argv[2]) if len(sys.argv) > 2 else 5
-    if lines < 10 or turns < 1:
-        sys.exit(__doc__)
-    # Builds the program, where that has to be done.
+def build(folder):
+    """The program, and the plain one where there is a compiler for it."""
     subprocess.run([os.path.join(TOP, "escrow"), "--help"], stdout=subprocess.DEVNULL, check=True)
     program = os.path.join(TOP, "crates", "escrow", "out", "escrow")
+    if shutil.which("rustc") is None:
+        print("no rustc here: nothing to compare with")
+        return program, None
+    plain = os.path.join(folder, "plain")
+    source = os.path.join(TOP, "bench", "plain", "plain.rs")
+    subprocess.run(["rustc", "--edition", "2024", "-O", "-o", plain, source], check=True)
+    return program, plain
+
+
+def compare(name, script, folder, programs, turns):
+    source, proved, written = (os.path.join(folder, part) for part in ("script", "proved", "written"))
+    with open(source, "w", encoding="ascii") as file:
+        file.writelines(script)
+    with open(source, "rb") as file:
+        lines = sum(1 for _ in file)
+    program, plain = programs
+    print(f"{name}: {lines:,} lines, {os.path.getsize(source):,} bytes, best of {turns}")
+    ours = measure("escrow", [program, "run"], source, proved, lines, turns)
+    if plain is None:
+        return
+    theirs = measure("plain", [plain], source, written, lines, turns)
+    if not filecmp.cmp(proved, written, shallow=False):
+        sys.exit("the two programs wrote different bytes")
+    print(f"         same output; escrow takes {ours / theirs:.2f} times the plain program's time")
+
+
+def main():
+    words = [word for word in sys.argv[1:] if word != "--restarts"]
+    lines = int(words[0]) if words else 1_000_000
+    turns = int(words[1]) if len(words) > 1 else 5
+    if lines < 1_000 or turns < 1:
+        sys.exit(__doc__)
     with tempfile.TemporaryDirectory() as folder:
-        source = os.path.join(folder, "script")
-        proved = os.path.join(folder, "proved")
-        for length, fields in ((lines // 10, 1), (lines, 64), (lines, 1)):
-            write_input(source, length, fields)
-            print(f"{length:,} lines, {os.path.getsize(source):,} bytes, {fields} fields, best of {turns}")
-            ours = measure("escrow", [program, "run"], source, proved, length, turns)
-        if shutil.which("rustc") is None:
-            print("no rustc here: nothing to compare with")
-            return
-        plain = os.path.join(folder, "plain")
-        rust = os.path.join(TOP, "bench", "plain", "plain.rs")
-        subprocess.run(["rustc", "--edition", "2024", "-O", "-o", plain, rust], check=True)
-        written = os.path.join(folder, "written")
-        theirs = measure("plain", [plain], source, written, lines, turns)
-        if not filecmp.cmp(proved, written, shallow=False):
-            sys.exit("the two programs wrote different bytes")
-        print(f"same output; escrow takes {ours / theirs:.2f} times the plain program's time")
+        programs = build(folder)
+        compare("one site", one_site(lines // 10, 1), folder, programs, turns)
+        compare("one site", one_site(lines, 1), folder, programs, turns)
+        compare("one site, 64 fields", one_site(lines, 64), folder, programs, turns)
+        compare("mixed", Mixed(lines // 10).all(), folder, programs, turns)
+        compare("mixed", Mixed(lines).all(), folder, programs, turns)
+        if "--restarts" in sys.argv:
+            count = 100_000 if lines >= 100_000 else 10_000
+            compare("restarts after 1,000 commits", restarts(count), folder, programs, 1)
 
 
 if __name__ == "__main__":
