@@ -19,7 +19,7 @@ use Rattle.kept_state.specs.Luck.{Lucky, entries, own_lucky, lucky_reply}
 use Rattle.site_step.specs.Site.{SiteValue}
 use Rattle.world_steps.specs.declared.step.WorldStep.{WorldStep}
 use Rattle.world_steps.specs.World.{with_statement, issued, asked, luck_of, StepFits, with_entry, world_of, trace_by}
-use Rattle.world_steps.specs.Promises.{IsBoundedThroughout, NoneStrange}
+use Rattle.world_steps.specs.Promises.{IsBoundedThroughout, NoneStrange, IsOneStore}
 use Rattle.world_steps.specs.Standing.{AllStand}
 use Rattle.world_steps.specs.View.{IsWorld}
 use Rattle.world_steps.proofs.Sound.{StepsFit, step_allows, world_is_sound, bounded_throughout, none_strange}
@@ -122,6 +122,16 @@ module _ (schema : SchemaValue) (good : IsSchema schema) (steps : List WorldStep
 
   pub none_strange_of : NoneStrange (trace_by schema steps)
   none_strange_of = none_strange schema good (reverse steps) (all_fit schema steps fit)
+
+  pub one_store_of : IsOneStore schema (trace_by schema steps)
+  one_store_of = record { sound = sound_of; central = central_of; conserved = conserved_of; bounded = bounded_of; none_strange = none_strange_of }
+
+-- and so with one more step that fits
+pub one_store_after : (schema : SchemaValue) (steps more : List WorldStep) (step : WorldStep)
+    → IsSchema schema → All (StepFits schema) steps → StepFits schema step → more ≡ steps ++ step ∷ [] → IsOneStore schema (trace_by schema more)
+one_store_after schema steps more step good fit fits is =
+    subst (λ (l : List WorldStep). IsOneStore schema (trace_by schema l)) (sym is)
+    (one_store_of schema good (steps ++ step ∷ []) (All-push (StepFits schema) steps step fit fits))
 
 -- the site of a step is one of the world's
 pub step_known : (schema : SchemaValue) (steps : List WorldStep) (sites : List SiteValue) (trace : List Entry) (told : List Statement) (step : WorldStep) (site : SiteNo) (command : Command)

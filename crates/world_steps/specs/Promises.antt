@@ -7,7 +7,7 @@ use Rattle.field_bounds.specs.declared.entry.Refusal.TheVariants.{NotYours, Forg
 use Rattle.field_bounds.specs.declared.entry.Entry.{Entry}
 use Rattle.field_bounds.specs.Schema.{SchemaValue}
 use Rattle.field_bounds.specs.Parts.{field_at}
-use Rattle.field_bounds.specs.Central.{inf, sup}
+use Rattle.field_bounds.specs.Central.{inf, sup, IsSound, IsCentral, IsConservedThroughout}
 
 -- Of each field, the infimum is at the floor or above, and the supremum at the ceiling or below: however the open
 -- transactions end, the value stays within its bounds (O'Neil 1986).
@@ -35,3 +35,13 @@ IsFamiliar reply = Unit {0}
 abbrev pub NoneStrange : List Entry → Type 0
 NoneStrange [] = Unit {0}
 NoneStrange (e ∷ t) = NoneStrange t × IsFamiliar e.reply
+
+-- A trace is one of a world: each site gave the replies that it owes after its own entries and took in only statements
+-- that were issued before, the trace is a run of one central store, rights are conserved in every front and each field is
+-- bounded in it, and no statement is refused as another site's or as forged.
+pub record IsOneStore (schema : SchemaValue) (t : List Entry) : Type 0 where
+  pub sound : IsSound schema t
+  pub central : IsCentral schema t
+  pub conserved : IsConservedThroughout schema t
+  pub bounded : IsBoundedThroughout schema t
+  pub none_strange : NoneStrange t

@@ -6,7 +6,7 @@ ghost use Rattle.field_bounds.specs.Owed.{place, shares_of};
 ghost use Rattle.field_bounds.specs.Central.{own, IsSound, IsCentral, IsConservedThroughout};
 ghost use Rattle.world_steps.specs.World.{issued, StepFits};
 ghost use Rattle.world_steps.specs.Standing.{Stands, AllStand};
-ghost use Rattle.world_steps.specs.Promises.{IsBoundedThroughout, NoneStrange};
+ghost use Rattle.world_steps.specs.Promises.{IsBoundedThroughout, NoneStrange, IsOneStore};
 ghost use Rattle.world_steps.specs.View.{trace_of, Answers};
 
 use crate::step::{StepReply, WorldStep};
@@ -85,6 +85,9 @@ impl World {
     /// makes no entry. The luck is armed for this step alone. The error is want of memory, and then
     /// nothing has changed.
     ///
+    /// The trace after it, as after every list of steps, is a run of one central escrow store, with
+    /// all that `trace` says of it (`one_store`).
+    ///
     /// Costs what the site's `apply` costs, and amortized pushes of the step, the entry and the
     /// statement, which are kept. Nothing else grows with the trace.
     ///
@@ -93,6 +96,7 @@ impl World {
         requires fits { StepFits self.old.schema step.now }
         ensures steps { OnOk result (self.new ≡ record self.old { steps = self.old.steps ++ step.now ∷ [] }) }
         ensures answers { IfOk result (λ reply. Answers reply self.old step.now self.new) }
+        ensures one_store { OnOk result (IsOneStore self.new.schema (trace_of self.new)) }
         ensures err { OnErr result (self.new ≡ self.old) }
     {
         self.steps.reserve(1)?;

@@ -10,7 +10,7 @@ use Rattle.world_steps.specs.World.{asked, StepFits, with_statement, world_of, t
 use Rattle.world_steps.specs.Standing.{AllStand}
 use Rattle.world_steps.specs.View.{WorldValue}
 use Rattle.world_steps.proofs.Stand.{all_calm}
-use Rattle.world_steps.proofs.Living.{world_idle, world_goes, world_same, step_known}
+use Rattle.world_steps.proofs.Living.{world_idle, world_goes, world_same, step_known, one_store_after}
 use Rattle.world_steps.proofs.world.World.step.Goals as goal
 
 pub invariant_of-self-in_default : goal.invariant_of-self-in_default
@@ -62,3 +62,19 @@ invariant_of-self-2 c =
     (world_goes f.schema f.steps.items f.sites.items c.apply_at.new.sites.items f.trace.items f.issued.items c.note.new.told.items step e.site e.command e.reply w fits
     (sym is ∙ c.in-Some.is) lucky.0 lucky.1 c.apply_at.ensures.count
     (c.note.ensures.told ∙ ap (λ (l : List Statement). with_statement (statement_of e) (reverse l)) c.reserve-3.ensures.items))
+
+pub returns-in_default-clause-one_store : goal.returns-in_default-clause-one_store
+returns-in_default-clause-one_store c =
+    let f = c.self.inside in
+    let w = c.self.invariant in
+    let fits : StepFits f.schema c.args.step.now = subst (λ (v : WorldValue). StepFits v.schema c.args.step.now) (sym c.self.view_is) c.requires.fits in
+    one_store_after f.schema f.steps.items _ c.args.step.now w.good w.fit fits
+    (c.add.ensures.items ∙ ap (λ (l : List WorldStep). l ++ c.args.step.now ∷ []) c.reserve.ensures.items)
+
+pub returns-clause-one_store : goal.returns-clause-one_store
+returns-clause-one_store c =
+    let f = c.self.inside in
+    let w = c.self.invariant in
+    let fits : StepFits f.schema c.args.step.now = subst (λ (v : WorldValue). StepFits v.schema c.args.step.now) (sym c.self.view_is) c.requires.fits in
+    one_store_after f.schema f.steps.items _ c.args.step.now w.good w.fit fits
+    (c.add-3.ensures.items ∙ ap (λ (l : List WorldStep). l ++ c.args.step.now ∷ []) c.reserve.ensures.items)
