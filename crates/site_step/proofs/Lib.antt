@@ -8,3 +8,4 @@ pub mod Resumes
 pub mod Restarts
 pub mod Opens
 pub mod Widths
+mod Calls

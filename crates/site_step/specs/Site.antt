@@ -1,5 +1,5 @@
 -- A site as its callers see it, and what its calls do (this project).
-use Rattle.std.specs.Prelude.{◌≡◌, ℕ, ◌+◌, ◌-◌, ◌^◌, ◌≤◌, nat_lt, if◌then◌else◌, Bool, true, List, [], ◌∷◌, ◌++◌, length, Option, Some, None}
+use Rattle.std.specs.Prelude.{◌≡◌, ℕ, ◌+◌, ◌-◌, ◌^◌, ◌≤◌, nat_lt, if◌then◌else◌, Bool, true, List, [], ◌∷◌, ◌++◌, length, reverse, Option, Some, None}
 use Rattle.field_bounds.specs.declared.id.SiteNo.{SiteNo}
 use Rattle.field_bounds.specs.declared.id.TxnId.{TxnId}
 use Rattle.field_bounds.specs.declared.entry.Command.{Command}
@@ -37,6 +37,11 @@ pub record SiteValue : Type 0 where
   pub failed : ℕ
   pub foretold : Option Mishap
   pub doubt : Option ℕ
+
+-- A site's value, from its parts: the history is kept with the oldest entry first.
+abbrev pub value_of : SchemaValue → SiteNo → Bool → List Record → List Entry → List ℕ → ℕ → Option Mishap → Option ℕ → SiteValue
+value_of schema site fresh based entries bytes failed foretold doubt =
+    record { schema = schema; site = site; fresh = fresh; based = based; history = reverse entries; bytes = bytes; failed = failed; foretold = foretold; doubt = doubt }
 
 -- The base on which a site's history stands.
 abbrev pub base_of : SiteValue → Base

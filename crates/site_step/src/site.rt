@@ -44,36 +44,14 @@ pub struct Site<M: Medium> {
 }
 
 impl<M: Medium> Model for Site<M> {
-    ghost use Rattle.std.specs.Prelude.{reverse};
-    ghost use Rattle.site_step.specs.Site.{SiteValue};
+    ghost use Rattle.site_step.specs.Site.{SiteValue, value_of};
     ghost use Rattle.site_step.specs.State.{IsSound};
 
     ghost Value = { SiteValue };
 
-    ghost view = { λ s. record {
-      schema = s.schema;
-      site = s.number;
-      fresh = s.fresh;
-      based = s.based.items;
-      history = reverse s.history.items;
-      bytes = M.bytes s.medium;
-      failed = M.failed s.medium;
-      foretold = M.foretold s.medium;
-      doubt = s.doubt;
-    } };
+    ghost view = { λ s. value_of s.schema s.number s.fresh s.based.items s.history.items (M.bytes s.medium) (M.failed s.medium) (M.foretold s.medium) s.doubt };
 
-    ghost invariant = { λ s. IsSound (record {
-      schema = s.schema;
-      site = s.number;
-      fresh = s.fresh;
-      based = s.based.items;
-      history = reverse s.history.items;
-      bytes = M.bytes s.medium;
-      failed = M.failed s.medium;
-      foretold = M.foretold s.medium;
-      doubt = s.doubt;
-    })
-        s.up s.count s.accounts };
+    ghost invariant = { λ s. IsSound (value_of s.schema s.number s.fresh s.based.items s.history.items (M.bytes s.medium) (M.failed s.medium) (M.foretold s.medium) s.doubt) s.up s.count s.accounts };
 }
 
 /// Adds an entry to a history that has room for it.

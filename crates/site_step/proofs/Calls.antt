@@ -1,0 +1,272 @@
+-- What each call of a site needs and leaves: once for each, over the site as it is kept and as its callers see it.
+use Rattle.std.proofs.Common.{◌≡◌, ◌≢◌, ◌≤◌, ◌<◌, ℕ, ◌+◌, Bool, true, false, ◌&&◌, List, [], ◌∷◌, ◌++◌, length, reverse, refl, sym, ap, subst, ◌∙◌, arith, Option, Some, None}
+use Rattle.std.specs.Prelude.{Ok, Err, unsigned_abs}
+use Rattle.std.proofs.lemmas.List.{length-reverse}
+use Rattle.field_bounds.specs.declared.id.TxnId.{TxnId}
+use Rattle.field_bounds.specs.declared.entry.Command.{Command}
+use Rattle.field_bounds.specs.declared.entry.Command.TheVariants.{Begin, Escrow as Ask, Commit, Restart}
+use Rattle.field_bounds.specs.declared.entry.Entry.{Entry}
+use Rattle.field_bounds.specs.declared.entry.Escrow.{Escrow}
+use Rattle.field_bounds.specs.declared.entry.Last.{Last}
+use Rattle.field_bounds.specs.declared.entry.Reply.{Reply}
+use Rattle.field_bounds.specs.declared.entry.Reply.TheVariants.{Begun, Granted, Restarted, StillDown, Unsure, Refused}
+use Rattle.field_bounds.specs.declared.entry.Refusal.{Refusal}
+use Rattle.field_bounds.specs.declared.entry.Refusal.TheVariants.{NumbersFull}
+use Rattle.field_bounds.specs.Kind.{kind_of}
+use Rattle.field_bounds.specs.Effects.{is_begun, is_open, escrows_of}
+use Rattle.field_bounds.specs.Owed.{first, refusals, answer, writes, is_up, count_escrows, max_open, max_escrows}
+use Rattle.field_bounds.proofs.Refused.{up_there}
+use Rattle.site_rights.specs.declared.field_rights.FieldRights.{FieldRights}
+use Rattle.site_rights.specs.declared.field_rights.Outcome.TheVariants.{Committed}
+use Rattle.site_rights.specs.Rights.{free_at, by_escrow, taken}
+use Rattle.escrow_journal.specs.Journal.{Row, stands, escrows_at, added}
+use Rattle.gift_ledger.specs.Ledger.{IsPlace}
+use Rattle.kept_records.specs.declared.medium.Device.{Device}
+use Rattle.kept_records.specs.declared.medium.Mishap.{Mishap}
+use Rattle.kept_records.specs.declared.record.Record.{Record}
+use Rattle.kept_records.specs.Text.{text, IsRecord}
+use Rattle.kept_records.specs.Medium.{AppendFate}
+use Rattle.kept_records.specs.Keeping.{Appends}
+use Rattle.kept_state.specs.Keeps.{record_at}
+use Rattle.kept_state.specs.Doubt.{found_of}
+use Rattle.kept_state.proofs.Ranges.{record_in_range}
+use Rattle.kept_state.proofs.Lasting.{run_stays_lawful}
+use Rattle.log_replay.specs.declared.standing.Standing.{Standing}
+use Rattle.log_replay.specs.Standing.{IsStandingFor}
+use Rattle.site_step.specs.declared.accounts.Accounts.{Accounts}
+use Rattle.site_step.specs.Site.{SiteValue, base_of, here, entry_of, HoldsLog}
+use Rattle.site_step.specs.State.{StandsOn, IsSound, CanCarry, is_carried, carried}
+use Rattle.site_step.specs.Resuming.{IsLawfulLog, FailsOver, FullOver, StandsOver}
+use Rattle.site_step.proofs.Matching.{stands-journal_of, escrows_at-journal_of}
+use Rattle.site_step.proofs.Settling.{carried_no_restart, writes_is_carried}
+use Rattle.site_step.proofs.Standing.{next_is, next_is_closed, room_by, opened_by, few_by, enough_by, end_opened, escrows_are, stands_open, stands_begin, stands_grant, can_carry, stands_carried}
+use Rattle.site_step.proofs.Ends.{Ends, ends_refused, ends_answered, few_records}
+use Rattle.site_step.proofs.Writes.{count_is, is_there, ends_wrote, ends_unsure}
+use Rattle.site_step.proofs.Restarts.{ends_failed, ends_full, ends_restarted}
+
+-- one entry more, in a history that was made larger before
+pub grew : {h mid old : List Entry} {e : Entry} → h ≡ e ∷ reverse mid → mid ≡ old → h ≡ e ∷ reverse old
+grew {e = e} past same = past ∙ ap (λ (h : List Entry). e ∷ reverse h) same
+
+module _ {v w : SiteValue} {up : Bool} {count : ℕ} {a : Accounts} (was : IsSound v up count a) (is : v ≡ w) where
+  -- what is known of the site as its callers see it, told of the site as it is kept
+  none_of : (c : Command) → first (refusals (here w) c) ≡ None → first (refusals (here v) c) ≡ None
+  none_of c none = subst (λ (x : SiteValue). first (refusals (here x) c) ≡ None) (sym is) none
+
+  told_of : (c : Command) → writes (here w) c ≡ true → writes (here v) c ≡ true
+  told_of c told = subst (λ (x : SiteValue). writes (here x) c ≡ true) (sym is) told
+
+  -- what a call leaves, by the reply that it returns
+  returned : (c : Command) (r q : Reply) (x : SiteValue) (u : Bool) (n : ℕ) (b : Accounts) → q ≡ r → Ends v c r x u n b → Ends w c q x u n b
+  returned c r q x u n b said ends =
+      subst (λ (y : SiteValue). Ends y c q x u n b) is (subst (λ (z : Reply). Ends v c z x u n b) (sym said) ends)
+
+  abbrev After : List Entry → SiteValue
+  After h = record v { history = h }
+
+  abbrev Then : List Entry → List ℕ → ℕ → Option Mishap → Option ℕ → SiteValue
+  Then h bytes failed left doubt = record v { history = h; bytes = bytes; failed = failed; foretold = left; doubt = doubt }
+
+  -- ---- what is read
+
+  pub stands_now : is_up (base_of w) w.history ≡ true → StandsOn w.schema w.site.0 (base_of w) w.history a
+  stands_now there = (subst (λ (x : SiteValue). IsSound x up count a) is was).stands there
+
+  pub tells_open : is_up (base_of w) w.history ≡ true → (t : TxnId) → stands t a.journal ≡ (is_begun t (here w).effects && is_open t (here w).effects)
+  tells_open there t = ap (stands t) (stands_now there).matches.journal ∙ stands-journal_of t (here w).effects
+
+  pub tells_count : is_up (base_of w) w.history ≡ true → (t : TxnId) → (is_begun t (here w).effects && is_open t (here w).effects) ≡ true → length (escrows_at t a.journal) ≡ count_escrows t (here w).effects
+  tells_count there t opened =
+      ap (λ j. length (escrows_at t j)) (stands_now there).matches.journal ∙ ap length (escrows_at-journal_of t (here w).effects opened) ∙ length-reverse (escrows_of t (here w).effects)
+
+  pub has_place : is_up (base_of w) w.history ≡ true → {s f : ℕ} → s ≢ w.site.0 → s < w.schema.sites → f < length w.schema.fields → IsPlace a.ledger s f
+  has_place there {s = s} {f = f} other site_in field_in = (stands_now there).holds.place s f (record { other = other; site_in = site_in; field_in = field_in })
+
+  pub holds_log : HoldsLog w
+  holds_log =
+      let s = was in
+      subst HoldsLog is
+      (record {
+        records = s.records;
+        rest = s.rest;
+        kept = s.kept;
+        log = s.log;
+        keeps = s.keeps;
+        lawful = run_stays_lawful v.schema v.site.0 (base_of v) v.based s.is_base s.based_on s.kept v.history s.records s.run s.keeps;
+      })
+
+  -- ---- a refusal
+
+  pub refuses : (c : Command) (x : Refusal) {h : List Entry} {q : Reply} → first (refusals (here w) c) ≡ Some x → h ≡ entry_of v c (Refused x) ∷ v.history → q ≡ Refused x
+      → Ends w c q (After h) up count a
+  refuses c x {h = h} {q = q} some past said =
+      returned c (Refused x) q (After h) up count a said
+      (ends_refused v up count a was c x h past (subst (λ (y : SiteValue). first (refusals (here y) c) ≡ Some x) (sym is) some))
+
+  -- ---- an answer that writes no record
+
+  pub can : (c : Command) → first (refusals (here w) c) ≡ None → is_carried c ≡ true → CanCarry a c
+  can c none plain =
+      can_carry v.schema v.site.0 (base_of v) v.history a was.run (was.stands (up_there (here v) c (carried_no_restart c plain) (none_of c none))) c (none_of c none)
+
+  pub answers : (c : Command) (r : Reply) {h : List Entry} {q : Reply} {b : Accounts} → first (refusals (here w) c) ≡ None → is_carried c ≡ true → writes (here w) c ≡ false → r ≡ answer (here w) c
+      → b ≡ carried a c → h ≡ entry_of v c r ∷ v.history → q ≡ r → Ends w c q (After h) up count b
+  answers c r {h = h} {q = q} {b = b} none plain silent owed did past said =
+      let n = carried_no_restart c plain in
+      let there = up_there (here v) c n (none_of c none) in
+      returned c r q (After h) up count b said
+      (subst (λ (x : Accounts). Ends v c r (After h) up count x) (sym did)
+      (ends_answered v up count a was c (carried a c) r h (subst (λ (x : SiteValue). r ≡ answer (here x) c) (sym is) owed) past n (none_of c none)
+      (subst (λ (x : SiteValue). writes (here x) c ≡ false) (sym is) silent)
+      (stands_carried v.schema v.site.0 (base_of v) v.history a was.run (was.stands there) v.site c plain (none_of c none))))
+
+  -- ---- an answer whose record is written
+
+  module _ (c : Command) (none : first (refusals (here w) c) ≡ None) (told : writes (here w) c ≡ true) where
+    abbrev unrefused : first (refusals (here v) c) ≡ None
+    unrefused = none_of c none
+
+    abbrev writing : writes (here v) c ≡ true
+    writing = told_of c told
+
+    fits : IsRecord (record_at (here v) c)
+    fits = record_in_range v.schema v.site.0 (base_of v) v.history was.limits was.run was.epoch_in c unrefused writing
+
+    pub record_fits : {kept : Record} → kept ≡ record_at (here w) c → IsRecord kept
+    record_fits kept_is = subst (λ (r : Record). IsRecord r) (sym kept_is) (subst (λ (x : SiteValue). IsRecord (record_at (here x) c)) is fits)
+
+    pub can_write : CanCarry a c
+    can_write = can c none (writes_is_carried (here v) c writing)
+
+    pub few_written : count ≤ length v.based + length v.history
+    few_written = omega (arith, count_is v up count a was c unrefused writing fits, few_records v up count a was)
+
+    pub wrote : (r : Reply) (kept : Record) {h : List Entry} {q : Reply} {b : Accounts} {bytes : List ℕ} {failed : ℕ} {left : Option Mishap} → kept ≡ record_at (here w) c → r ≡ answer (here w) c
+        → b ≡ carried a c → Appends {T = Unit {0}} {E = Device} (Ok tt) v.bytes (text kept) bytes v.failed failed → AppendFate {E = Device} v.foretold v.bytes (text kept) (Ok tt) bytes left
+        → h ≡ entry_of v c r ∷ v.history → q ≡ r → Ends w c q (Then h bytes failed left v.doubt) up (count + 1) b
+    wrote r kept {h = h} {q = q} {b = b} {bytes = bytes} {failed = failed} {left = left} kept_is owed did added fate past said =
+        let there = is_there v up count a was c unrefused writing fits in
+        let same : kept ≡ record_at (here v) c = subst (λ (x : SiteValue). kept ≡ record_at (here x) c) (sym is) kept_is in
+        let line = subst (λ (x : Record). Appends {T = Unit {0}} {E = Device} (Ok tt) v.bytes (text x) bytes v.failed failed) same added in
+        returned c r q (Then h bytes failed left v.doubt) up (count + 1) b said
+        (subst (λ (x : Accounts). Ends v c r (Then h bytes failed left v.doubt) up (count + 1) x) (sym did)
+        (ends_wrote v up count a was c unrefused writing fits (carried a c) bytes failed left r h (subst (λ (x : SiteValue). r ≡ answer (here x) c) (sym is) owed) past
+        (stands_carried v.schema v.site.0 (base_of v) v.history a was.run (was.stands there) v.site c (writes_is_carried (here v) c writing) unrefused) line.0 line.1
+        (subst (λ (x : Record). AppendFate {E = Device} v.foretold v.bytes (text x) (Ok tt) bytes left) same fate)))
+
+    pub unsure : (kept : Record) (device : Device) {h : List Entry} {q : Reply} {bytes : List ℕ} {failed : ℕ} {left : Option Mishap} → kept ≡ record_at (here w) c
+        → Appends {T = Unit {0}} (Err device) v.bytes (text kept) bytes v.failed failed → AppendFate v.foretold v.bytes (text kept) (Err device) bytes left
+        → h ≡ entry_of v c Unsure ∷ v.history → q ≡ Unsure → Ends w c q (Then h bytes failed left (Some count)) false count a
+    unsure kept device {h = h} {q = q} {bytes = bytes} {failed = failed} {left = left} kept_is added fate past said =
+        let same : kept ≡ record_at (here v) c = subst (λ (x : SiteValue). kept ≡ record_at (here x) c) (sym is) kept_is in
+        let line = subst (λ (x : Record). Appends {T = Unit {0}} (Err device) v.bytes (text x) bytes v.failed failed) same added in
+        returned c Unsure q (Then h bytes failed left (Some count)) false count a said
+        (ends_unsure v up count a was c unrefused writing fits a bytes failed left device Unsure h refl past line.0 line.1
+        (subst (λ (x : Record). AppendFate v.foretold v.bytes (text x) (Err device) bytes left) same fate))
+
+  -- ---- a begin
+
+  module _ (none : first (refusals (here w) Begin) ≡ None) where
+    stood : StandsOn v.schema v.site.0 (base_of v) v.history a
+    stood = was.stands (up_there (here v) Begin refl (none_of Begin none))
+
+    abbrev t : TxnId
+    t = record { epoch = a.epoch; number = a.last + 1 }
+
+    pub begin_is_new : stands t a.journal ≡ false
+    begin_is_new = next_is_closed v.schema v.site.0 (base_of v) v.history a was.run stood
+
+    pub begin_has_room : length a.journal < max_open
+    begin_has_room = room_by v.schema v.site.0 (base_of v) v.history a was.run stood (none_of Begin none)
+
+    pub begins : {h : List Entry} {q : Reply} {j : List Row} → j ≡ a.journal ++ (t, []) ∷ [] → h ≡ entry_of v Begin (Begun t) ∷ v.history → q ≡ Begun t
+        → Ends w Begin q (After h) up count (record a { journal = j; last = a.last + 1 })
+    begins {h = h} {q = q} {j = j} row past said =
+        let begun : ◌≡◌ {A = Reply} (Begun t) (answer (here v) Begin) = ap (λ (x : TxnId). Begun x) (next_is v.schema v.site.0 (base_of v) v.history a was.run stood) in
+        let more : List Row → Accounts = λ j. record a { journal = j; last = a.last + 1 } in
+        let b = more (a.journal ++ (t, []) ∷ []) in
+        returned Begin (Begun t) q (After h) up count (more j) said
+        (subst (λ (x : List Row). Ends v Begin (Begun t) (After h) up count (more x)) (sym row)
+        (ends_answered v up count a was Begin b (Begun t) h begun past refl (none_of Begin none) refl
+        (subst (λ (r : Reply). StandsOn v.schema v.site.0 (base_of v) (entry_of v Begin r ∷ v.history) b) begun (stands_begin v.schema v.site.0 (base_of v) v.history a was.run stood v.site))))
+
+  -- ---- a grant
+
+  module _ (txn : TxnId) (e : Escrow) (none : first (refusals (here w) (Ask txn e.field e.change)) ≡ None) where
+    abbrev ask : Command
+    ask = Ask txn e.field e.change
+
+    held : StandsOn v.schema v.site.0 (base_of v) v.history a
+    held = was.stands (up_there (here v) ask refl (none_of ask none))
+
+    pub grant_opened : stands txn a.journal ≡ true
+    grant_opened = stands_open v.schema v.site.0 (base_of v) v.history a was.run held txn (opened_by v.schema v.site.0 (base_of v) v.history a was.run held txn e (none_of ask none))
+
+    pub grant_has_room : length (escrows_at txn a.journal) < max_escrows
+    grant_has_room = few_by v.schema v.site.0 (base_of v) v.history a was.run held txn e (none_of ask none)
+
+    pub grant_has_rights : unsigned_abs e.change ≤ free_at a.rights e.field.0 (kind_of e.change)
+    grant_has_rights = enough_by v.schema v.site.0 (base_of v) v.history a was.run held txn e (none_of ask none)
+
+    pub grants : {h : List Entry} {q : Reply} {rows : List FieldRights} {j : List Row} → rows ≡ by_escrow taken a.rights e → j ≡ added txn e a.journal → h ≡ entry_of v ask Granted ∷ v.history
+        → q ≡ Granted → Ends w ask q (After h) up count (record a { rights = rows; journal = j })
+    grants {h = h} {q = q} {rows = rows} {j = j} took row past said =
+        let more : List FieldRights → List Row → Accounts = λ x y. record a { rights = x; journal = y } in
+        returned ask Granted q (After h) up count (more rows j) said
+        (subst (λ (x : List FieldRights). Ends v ask Granted (After h) up count (more x j)) (sym took)
+        (subst (λ (y : List Row). Ends v ask Granted (After h) up count (more (by_escrow taken a.rights e) y)) (sym row)
+        (ends_answered v up count a was ask (more (by_escrow taken a.rights e) (added txn e a.journal)) Granted h refl past refl (none_of ask none) refl
+        (stands_grant v.schema v.site.0 (base_of v) v.history a was.run held v.site txn e (none_of ask none)))))
+
+  -- ---- a commit
+
+  module _ (txn : TxnId) (none : first (refusals (here w) (Commit txn)) ≡ None) where
+    there_ : StandsOn w.schema w.site.0 (base_of w) w.history a
+    there_ = stands_now (up_there (here w) (Commit txn) refl none)
+
+    run_now : IsSound w up count a
+    run_now = subst (λ (x : SiteValue). IsSound x up count a) is was
+
+    opened : (is_begun txn (here w).effects ≡ true) × (is_open txn (here w).effects ≡ true)
+    opened = end_opened w.schema w.site.0 (base_of w) w.history a run_now.run there_ Committed txn none
+
+    pub commit_opened : stands txn a.journal ≡ true
+    commit_opened = stands_open w.schema w.site.0 (base_of w) w.history a run_now.run there_ txn opened
+
+    pub commit_escrows : escrows_at txn a.journal ≡ reverse (escrows_of txn (here w).effects)
+    commit_escrows = escrows_are w.schema w.site.0 (base_of w) w.history a run_now.run there_ txn opened
+
+    pub commit_count : {es : List Escrow} → es ≡ escrows_at txn a.journal → count_escrows txn (here w).effects ≡ length es
+    commit_count {es = es} are = sym (ap length (are ∙ commit_escrows) ∙ length-reverse (escrows_of txn (here w).effects))
+
+  -- ---- a restart
+
+  pub lawful_log : IsLawfulLog v.schema v.site.0 v.bytes
+  lawful_log =
+      let s = was in
+      record {
+        records = s.records;
+        rest = s.rest;
+        log = s.log;
+        lawful = run_stays_lawful v.schema v.site.0 (base_of v) v.based s.is_base s.based_on s.kept v.history s.records s.run s.keeps;
+      }
+
+  pub fails : {h : List Entry} {q : Reply} {bytes : List ℕ} {failed : ℕ} {left : Option Mishap} → FailsOver was.records bytes v.foretold v.failed failed
+      → h ≡ entry_of v Restart StillDown ∷ v.history → q ≡ StillDown → Ends w Restart q (Then h bytes failed left v.doubt) false count a
+  fails {h = h} {q = q} {bytes = bytes} {failed = failed} {left = left} did past said =
+      returned Restart StillDown q (Then h bytes failed left v.doubt) false count a said (ends_failed v up count a was a bytes failed left h past did)
+
+  pub fills : {h : List Entry} {q : Reply} {bytes : List ℕ} {failed : ℕ} {left : Option Mishap} → FullOver was.records v.bytes bytes v.failed failed
+      → h ≡ entry_of v Restart (Refused NumbersFull) ∷ v.history → q ≡ Refused NumbersFull → Ends w Restart q (Then h bytes failed left v.doubt) up count a
+  fills {h = h} {q = q} {bytes = bytes} {failed = failed} {left = left} did past said =
+      returned Restart (Refused NumbersFull) q (Then h bytes failed left v.doubt) up count a said (ends_full v up count a was bytes failed left h past did)
+
+  pub restarts : (standing : Standing) (found : List Record) (epoch : ℕ) (last : Last) {h : List Entry} {q : Reply} {b : Accounts} {size : ℕ} {bytes : List ℕ} {failed : ℕ} {left : Option Mishap}
+      → StandsOver v.schema v.site.0 was.records found epoch bytes v.foretold v.failed failed × IsStandingFor v.schema v.site.0 was.records standing
+      → b ≡ record { rights = standing.rights; journal = []; ledger = standing.ledger; epoch = epoch; last = 0 } → last ≡ found_of v.doubt found → size ≡ length found
+      → h ≡ entry_of v Restart (Restarted epoch last) ∷ v.history → q ≡ Restarted epoch last → Ends w Restart q (Then h bytes failed left None) true (size + 1) b
+  restarts standing found epoch last {h = h} {q = q} {b = b} {size = size} {bytes = bytes} {failed = failed} {left = left} did stood found_is counted past said =
+      let r : Reply = Restarted epoch last in
+      returned Restart r q (Then h bytes failed left None) true (size + 1) b said
+      (subst (λ (x : Accounts). Ends v Restart r (Then h bytes failed left None) true (size + 1) x) (sym stood)
+      (ends_restarted v up count a was standing found epoch bytes failed left r size h did.1 did.0 (ap (λ (l : Last). Restarted epoch l) found_is) counted past))
