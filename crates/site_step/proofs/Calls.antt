@@ -251,18 +251,18 @@ module _ {v w : SiteValue} {up : Bool} {count : ℕ} {a : Accounts} (was : IsSou
         lawful = run_stays_lawful v.schema v.site.0 (base_of v) v.based s.is_base s.based_on s.kept v.history s.records s.run s.keeps;
       }
 
-  pub fails : {h : List Entry} {q : Reply} {bytes : List ℕ} {failed : ℕ} {left : Option Mishap} → FailsOver was.records bytes v.foretold v.failed failed
+  pub fails : {h : List Entry} {q : Reply} {bytes : List ℕ} {failed : ℕ} {left : Option Mishap} → FailsOver was.records was.rest v.bytes bytes v.foretold left v.failed failed
       → h ≡ entry_of v Restart StillDown ∷ v.history → q ≡ StillDown → Ends w Restart q (Then h bytes failed left v.doubt) false count a
   fails {h = h} {q = q} {bytes = bytes} {failed = failed} {left = left} did past said =
       returned Restart StillDown q (Then h bytes failed left v.doubt) false count a said (ends_failed v up count a was a bytes failed left h past did)
 
-  pub fills : {h : List Entry} {q : Reply} {bytes : List ℕ} {failed : ℕ} {left : Option Mishap} → FullOver was.records v.bytes bytes v.failed failed
+  pub fills : {h : List Entry} {q : Reply} {bytes : List ℕ} {failed : ℕ} {left : Option Mishap} → FullOver was.records v.bytes bytes v.foretold left v.failed failed
       → h ≡ entry_of v Restart (Refused NumbersFull) ∷ v.history → q ≡ Refused NumbersFull → Ends w Restart q (Then h bytes failed left v.doubt) up count a
   fills {h = h} {q = q} {bytes = bytes} {failed = failed} {left = left} did past said =
       returned Restart (Refused NumbersFull) q (Then h bytes failed left v.doubt) up count a said (ends_full v up count a was bytes failed left h past did)
 
   pub restarts : (standing : Standing) (found : List Record) (epoch : ℕ) (last : Last) {h : List Entry} {q : Reply} {b : Accounts} {size : ℕ} {bytes : List ℕ} {failed : ℕ} {left : Option Mishap}
-      → StandsOver v.schema v.site.0 was.records found epoch bytes v.foretold v.failed failed × IsStandingFor v.schema v.site.0 was.records standing
+      → StandsOver v.schema v.site.0 was.records found epoch was.rest bytes v.foretold left v.failed failed × IsStandingFor v.schema v.site.0 was.records standing
       → b ≡ record { rights = standing.rights; journal = []; ledger = standing.ledger; epoch = epoch; last = 0 } → last ≡ found_of v.doubt found → size ≡ length found
       → h ≡ entry_of v Restart (Restarted epoch last) ∷ v.history → q ≡ Restarted epoch last → Ends w Restart q (Then h bytes failed left None) true (size + 1) b
   restarts standing found epoch last {h = h} {q = q} {b = b} {size = size} {bytes = bytes} {failed = failed} {left = left} did stood found_is counted past said =

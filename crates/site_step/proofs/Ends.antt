@@ -21,7 +21,7 @@ use Rattle.kept_state.proofs.Adding.{adds_answer, keeps_length}
 use Rattle.site_step.specs.declared.accounts.Accounts.{Accounts}
 use Rattle.site_step.specs.Site.{SiteValue, base_of, here, entry_of, Finds, Applies}
 use Rattle.site_step.specs.State.{StandsOn, IsSound}
-use Rattle.site_step.proofs.Settling.{answer_settles, refused_no_restart, refuses_over, noted_none, refusal_fits, answer_fits, refusal_owed, answer_owed}
+use Rattle.site_step.proofs.Settling.{answer_settles, refused_no_restart, refuses_over, noted_none, refusal_fits, answer_fits, refusal_owed, answer_owed, refusal_under, answer_under, answer_writes, line_none}
 use Rattle.site_step.proofs.Standing.{stands_refused}
 
 -- a site is sound after an entry, which is what the call says
@@ -110,6 +110,9 @@ module _ (v : SiteValue) (up : Bool) (count : ℕ) (a : Accounts) (was : IsSound
             restarts = tt;
             refuses = refuses_over c (Refused x) rs n;
           };
+          writes_ = refl;
+          foretold = refl;
+          under = λ rs rest m log known. refusal_under v rs rest c m x some;
           exact = λ luck epoch found known finds. record {
             reply_is = refusal_owed at c x epoch found luck some;
             finds = finds_same v (record v { history = entry_of v c (Refused x) ∷ v.history }) epoch found refl refl finds;
@@ -168,6 +171,9 @@ module _ (v : SiteValue) (up : Bool) (count : ℕ) (a : Accounts) (was : IsSound
             restarts = settles.restarts rs v.doubt rest;
             refuses = refuses_over c (answer at c) rs n;
           };
+          writes_ = answer_writes at c v.bytes v.bytes n (sym (ap (λ (l : List ℕ). v.bytes ++ l) (line_none at c silent) ∙ append-nil v.bytes));
+          foretold = sym (settles.foretold v.foretold);
+          under = λ rs rest m log known. answer_under v rs rest c m n none silent;
           exact = λ luck epoch found known finds.
               let w : SiteValue = record v { history = After c } in
               record {

@@ -9,3 +9,4 @@ pub mod Restarts
 pub mod Opens
 pub mod Widths
 mod Calls
+pub mod Excluded

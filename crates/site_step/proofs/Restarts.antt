@@ -1,6 +1,7 @@
 -- A site stays sound over a restart, however it goes.
-use Rattle.std.proofs.Common.{◌≡◌, ℕ, ◌+◌, ◌<◌, ◌≤◌, Bool, true, false, cond, List, [], ◌∷◌, ◌++◌, length, refl, sym, ap, subst, ◌∙◌, inl, inr, arith, Option, Some, None}
-use Rattle.std.specs.Prelude.{nat_le, if◌then◌else◌, map, reverse}
+use Rattle.std.proofs.Common.{◌≡◌, ◌≢◌, ℕ, ◌+◌, ◌<◌, ◌≤◌, Bool, true, false, cond, List, [], ◌∷◌, ◌++◌, length, refl, sym, ap, subst, ◌∙◌, inl, inr, arith, Option, Some, None}
+use Rattle.std.specs.List.{flat_map}
+use Rattle.std.specs.Prelude.{◌⊎◌, nat_le, if◌then◌else◌, map, reverse}
 use Rattle.std.proofs.lemmas.Bool.{false≢true, lt-leb, le-leb}
 use Rattle.std.proofs.lemmas.List.{append-nil, length-append}
 use Rattle.field_bounds.specs.declared.id.TxnId.{TxnId}
@@ -17,9 +18,11 @@ use Rattle.field_bounds.specs.Owed.{Place, is_unsure, count_since, max_number, R
 use Rattle.field_bounds.proofs.Runs.{run_is_lawful}
 use Rattle.field_bounds.proofs.Stops.{stop_closes_all, share_stop, held_stop}
 use Rattle.kept_records.specs.declared.medium.Mishap.{Mishap}
-use Rattle.kept_records.specs.declared.medium.Mishap.TheVariants.{Append}
+use Rattle.kept_records.specs.declared.medium.Mishap.TheVariants.{Never, Append, Cut, Read}
 use Rattle.kept_records.specs.declared.record.Record.{Record}
 use Rattle.kept_records.specs.declared.record.Record.TheVariants as records
+use Rattle.kept_records.specs.Text.{text}
+use Rattle.kept_records.specs.Medium.{IsCutShort}
 use Rattle.kept_records.specs.Logs.{IsLog}
 use Rattle.kept_records.specs.Stands.{greatest}
 use Rattle.kept_records.proofs.Lines.{same_log}
@@ -28,7 +31,7 @@ use Rattle.kept_state.specs.declared.luck.Luck.TheVariants.{Fine, Torn}
 use Rattle.kept_state.specs.Keeps.{Keeps, adds}
 use Rattle.kept_records.specs.Keeping.{stands_behind}
 use Rattle.kept_state.specs.Doubt.{IsDoubt, found_of}
-use Rattle.kept_state.specs.Luck.{restart_length}
+use Rattle.kept_state.specs.Luck.{restart_length, owed_with}
 use Rattle.kept_state.proofs.Pushes.{greatest_push}
 use Rattle.kept_state.proofs.Keeping.{run_owns, run_gives, run_accepts}
 use Rattle.kept_state.proofs.Epochs.{restart_fits, refused_fits}
@@ -37,7 +40,7 @@ use Rattle.kept_state.proofs.Doubt.{doubt_restart, found_is_kept}
 use Rattle.log_replay.specs.declared.standing.Standing.{Standing}
 use Rattle.log_replay.specs.Standing.{IsStandingFor}
 use Rattle.site_step.specs.declared.accounts.Accounts.{Accounts}
-use Rattle.site_step.specs.Site.{SiteValue, base_of, here, entry_of, mishap_of, Finds, IsExact, Applies}
+use Rattle.site_step.specs.Site.{SiteValue, base_of, here, entry_of, mishap_of, luck_under, owed_under, Finds, IsExact, Applies}
 use Rattle.site_step.specs.State.{row_of, StandsOn, IsSound}
 use Rattle.site_step.specs.Resuming.{next_restart, FailsOver, FullOver, StandsOver}
 use Rattle.site_step.proofs.Standing.{stands_refused}
@@ -87,6 +90,11 @@ still_doubt : (kept : Bool) (o : List Entry) (e : Entry) (rs : List Record) (epo
 still_doubt kept o e rs epoch None same is = same ∙ is
 still_doubt kept o e rs epoch (Some n) same is = (omega (arith, same, is.0), is.1, is.2, is.3, doubt_restart kept is.1 is.2 rs epoch is.4)
 
+-- a mishap for cuts, where there is something to cut
+luck_torn : (rest : List ℕ) → rest ≢ [] → luck_under Restart rest Cut ≡ Torn 0
+luck_torn [] some = absurd (some refl)
+luck_torn (b ∷ rest) some = refl
+
 length_push : (rs : List Record) (r : Record) → length (rs ++ r ∷ []) ≡ length rs + 1
 length_push rs r = omega (arith, length-append rs (r ∷ []))
 
@@ -117,7 +125,7 @@ module _ (v : SiteValue) (up : Bool) (count : ℕ) (a : Accounts) (was : IsSound
   abbrev Failing : List Entry
   Failing = entry_of v Restart StillDown ∷ v.history
 
-  module _ (b : Accounts) (bytes : List ℕ) (left : Option Mishap) (failing : FailsOver rs bytes v.foretold v.failed (v.failed + 1)) where
+  module _ (b : Accounts) (bytes : List ℕ) (left : Option Mishap) (failing : FailsOver rs was.rest v.bytes bytes v.foretold left v.failed (v.failed + 1)) where
     abbrev down : SiteValue
     down = record v { history = Failing; bytes = bytes; failed = v.failed + 1; foretold = left }
 
@@ -152,6 +160,14 @@ module _ (v : SiteValue) (up : Bool) (count : ℕ) (a : Accounts) (was : IsSound
         after_long true x y h = refl
         after_long false x y h = cc
 
+    under_down : (m : Mishap) → v.foretold ≡ Some m → StillDown ≡ owed_under v rs was.rest Restart m
+    under_down Never known = absurd (failing.never known)
+    under_down Read known = refl
+    under_down (Append n) known = rw (lt-leb max_number (greatest rs) (failing.torn n known).0) refl
+    under_down Cut known =
+        let is = failing.cut known in
+        rw (lt-leb max_number (greatest rs) is.0, luck_torn was.rest is.1) refl
+
     applies_down : (stood : Bool) (rest : List ℕ) → IsLog bytes (rs ++ adds at Restart StillDown stood rs) rest → Applies v Restart StillDown down
     applies_down stood rest log =
         record {
@@ -169,6 +185,10 @@ module _ (v : SiteValue) (up : Bool) (count : ℕ) (a : Accounts) (was : IsSound
                 restarts = tt;
                 refuses = tt;
               };
+          writes_ = λ other more is. subst (λ (x : List Record). (bytes ≡ v.bytes) ⊎ IsCutShort (flat_map text x) (text (next_restart x)) bytes) (same_log v.bytes rs other was.rest more was.log is).0 failing.left_;
+          foretold = failing.struck_;
+          under = λ other more m is known. subst (λ (x : List Record). StillDown ≡ owed_under v x more Restart m) (same_log v.bytes rs other was.rest more was.log is).0
+              (subst (λ (x : List ℕ). StillDown ≡ owed_under v rs x Restart m) (same_log v.bytes rs other was.rest more was.log is).1 (under_down m known));
           exact = exact_down;
         }
 
@@ -225,20 +245,24 @@ module _ (v : SiteValue) (up : Bool) (count : ℕ) (a : Accounts) (was : IsSound
       | inr whole ↦ failed_whole whole
     ]
 
-  pub ends_failed : (b : Accounts) (bytes : List ℕ) (failed : ℕ) (left : Option Mishap) (h : List Entry) → h ≡ Failing → FailsOver rs bytes v.foretold v.failed failed
+  pub ends_failed : (b : Accounts) (bytes : List ℕ) (failed : ℕ) (left : Option Mishap) (h : List Entry) → h ≡ Failing → FailsOver rs was.rest v.bytes bytes v.foretold left v.failed failed
       → Ends v Restart StillDown (record v { history = h; bytes = bytes; failed = failed; foretold = left }) false count b
   ends_failed b bytes failed left h past failing =
       subst (λ (o : List Entry). Ends v Restart StillDown (record v { history = o; bytes = bytes; failed = failed; foretold = left }) false count b) (sym past)
       (subst (λ (n : ℕ). Ends v Restart StillDown (record v { history = Failing; bytes = bytes; failed = n; foretold = left }) false count b) (sym failing.counts)
-      (ends_down b bytes left (subst (λ (n : ℕ). FailsOver rs bytes v.foretold v.failed n) failing.counts failing)))
+      (ends_down b bytes left (subst (λ (n : ℕ). FailsOver rs was.rest v.bytes bytes v.foretold left v.failed n) failing.counts failing)))
 
   -- ---- no epoch is left
 
   abbrev Full : Reply
   Full = Refused NumbersFull
 
-  full : (left : Option Mishap) → max_number ≤ greatest rs → Ends v Restart Full (record v { history = entry_of v Restart Full ∷ v.history; foretold = left }) up count a
-  full left most =
+  under_full : max_number ≤ greatest rs → (v.foretold ≡ Some Read → ⊥) → (m : Mishap) → v.foretold ≡ Some m → Full ≡ owed_under v rs was.rest Restart m
+  under_full most read Read known = absurd (read known)
+  under_full most read m known = rw (le-leb max_number (greatest rs) most) refl
+
+  full : (left : Option Mishap) → max_number ≤ greatest rs → (v.foretold ≡ Some Read → ⊥) → left ≡ v.foretold → Ends v Restart Full (record v { history = entry_of v Restart Full ∷ v.history; foretold = left }) up count a
+  full left most read stays =
       let w : SiteValue = record v { history = entry_of v Restart Full ∷ v.history; foretold = left } in
       let fits = refused_fits schema s base v.based was.is_base was.kept v.history rs was.keeps most in
       record {
@@ -272,6 +296,10 @@ module _ (v : SiteValue) (up : Bool) (count : ℕ) (a : Accounts) (was : IsSound
             restarts = tt;
             refuses = subst (λ (all : List Record). max_number ≤ greatest all) (same_log v.bytes rs other was.rest rest was.log is).0 most;
           };
+          writes_ = refl;
+          foretold = stays;
+          under = λ other more m is known. subst (λ (x : List Record). Full ≡ owed_under v x more Restart m) (same_log v.bytes rs other was.rest more was.log is).0
+              (subst (λ (x : List ℕ). Full ≡ owed_under v rs x Restart m) (same_log v.bytes rs other was.rest more was.log is).1 (under_full most read m known));
           exact = λ luck epoch last known finds.
               let old = finds_of v epoch last finds rs was.rest was.log in
               let over : nat_le max_number epoch ≡ true = le-leb max_number epoch (omega (arith, old.0, most)) in
@@ -279,13 +307,13 @@ module _ (v : SiteValue) (up : Bool) (count : ℕ) (a : Accounts) (was : IsSound
         };
       }
 
-  pub ends_full : (bytes : List ℕ) (failed : ℕ) (left : Option Mishap) (h : List Entry) → h ≡ entry_of v Restart Full ∷ v.history → FullOver rs v.bytes bytes v.failed failed
+  pub ends_full : (bytes : List ℕ) (failed : ℕ) (left : Option Mishap) (h : List Entry) → h ≡ entry_of v Restart Full ∷ v.history → FullOver rs v.bytes bytes v.foretold left v.failed failed
       → Ends v Restart Full (record v { history = h; bytes = bytes; failed = failed; foretold = left }) up count a
   ends_full bytes failed left h past over =
       let After : List Entry = entry_of v Restart Full ∷ v.history in
       subst (λ (o : List Entry). Ends v Restart Full (record v { history = o; bytes = bytes; failed = failed; foretold = left }) up count a) (sym past)
       (subst (λ (x : List ℕ). Ends v Restart Full (record v { history = After; bytes = x; failed = failed; foretold = left }) up count a) (sym over.same)
-      (subst (λ (n : ℕ). Ends v Restart Full (record v { history = After; foretold = left; failed = n }) up count a) (sym over.counts) (full left over.full)))
+      (subst (λ (n : ℕ). Ends v Restart Full (record v { history = After; foretold = left; failed = n }) up count a) (sym over.counts) (full left over.full over.read over.stays)))
 
   -- ---- the site stands anew
 
@@ -325,7 +353,7 @@ module _ (v : SiteValue) (up : Bool) (count : ℕ) (a : Accounts) (was : IsSound
         }
 
     module _ (bytes : List ℕ) (left : Option Mishap) (some : greatest rs < max_number) (log : IsLog bytes (rs ++ next_restart rs ∷ []) [])
-        (torn : (n : ℕ) → v.foretold ≡ Some (Append n) → ⊥) where
+        (torn : (n : ℕ) → v.foretold ≡ Some (Append n) → ⊥) (read : v.foretold ≡ Some Read → ⊥) (cut : v.foretold ≡ Some Cut → was.rest ≡ []) (stays : left ≡ v.foretold) where
       abbrev epoch : ℕ
       epoch = greatest rs + 1
 
@@ -345,6 +373,13 @@ module _ (v : SiteValue) (up : Bool) (count : ℕ) (a : Accounts) (was : IsSound
             finds = finds_log anew (rs ++ next_restart rs ∷ []) [] epoch Nothing log (greatest_next rs) refl;
           }
       exact_anew (Torn n) kept found_ known finds = absurd (torn n known)
+
+      under_anew : (m : Mishap) → v.foretold ≡ Some m → Restarted epoch last ≡ owed_under v rs was.rest Restart m
+      under_anew Never known = rw (lt-leb max_number (greatest rs) some) refl
+      under_anew (Append n) known = absurd (torn n known)
+      under_anew Read known = absurd (read known)
+      under_anew Cut known =
+          subst (λ (x : List ℕ). Restarted epoch last ≡ owed_with at (greatest rs) last Restart (luck_under Restart x Cut)) (sym (cut known)) (rw (lt-leb max_number (greatest rs) some) refl)
 
       restarted : Ends v Restart (Restarted epoch last) anew true (length rs + 1) (standing_on standing epoch)
       restarted =
@@ -381,12 +416,16 @@ module _ (v : SiteValue) (up : Bool) (count : ℕ) (a : Accounts) (was : IsSound
                     restarts = (ap (λ (all : List Record). greatest all + 1) same, ap (found_of v.doubt) same, refl, omega (arith, some));
                     refuses = tt;
                   };
+              writes_ = tt;
+              foretold = stays;
+              under = λ other more m is known. subst (λ (x : List Record). Restarted epoch last ≡ owed_under v x more Restart m) (same_log v.bytes rs other was.rest more was.log is).0
+                  (subst (λ (x : List ℕ). Restarted epoch last ≡ owed_under v rs x Restart m) (same_log v.bytes rs other was.rest more was.log is).1 (under_anew m known));
               exact = exact_anew;
             };
           }
 
   pub ends_restarted : (standing : Standing) (found_ : List Record) (epoch : ℕ) (bytes : List ℕ) (failed : ℕ) (left : Option Mishap) (r : Reply) (size : ℕ) (h : List Entry)
-      → IsStandingFor schema s rs standing → StandsOver schema s rs found_ epoch bytes v.foretold v.failed failed
+      → IsStandingFor schema s rs standing → StandsOver schema s rs found_ epoch was.rest bytes v.foretold left v.failed failed
       → r ≡ Restarted epoch (found_of v.doubt found_) → size ≡ length found_ → h ≡ entry_of v Restart r ∷ v.history
       → Ends v Restart r (record v { history = h; bytes = bytes; failed = failed; foretold = left; doubt = None }) true (size + 1) (standing_on standing epoch)
   ends_restarted standing found_ epoch bytes failed left r size h for_ over said counted past =
@@ -402,4 +441,4 @@ module _ (v : SiteValue) (up : Bool) (count : ℕ) (a : Accounts) (was : IsSound
       (subst (λ (n : ℕ). At (Restarted next last) After n size epoch) (sym over.counts)
       (subst (λ (m : ℕ). At (Restarted next last) After v.failed m epoch) (sym many)
       (subst (λ (e : ℕ). At (Restarted next last) After v.failed (length rs) e) (sym over.epoch_is)
-      (restarted standing for_ bytes left over.some over.log over.torn)))))
+      (restarted standing for_ bytes left over.some over.log over.torn over.read over.cut over.stays)))))

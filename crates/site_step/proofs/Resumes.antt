@@ -1,24 +1,27 @@
 -- What a restart's work on the medium comes to.
-use Rattle.std.proofs.Common.{◌≡◌, ◌⊎◌, ℕ, ◌+◌, ◌<◌, List, [], ◌∷◌, ◌++◌, length, take, sym, ap, subst, ◌∙◌, inl, inr, arith, append_assoc, true, Option, Some}
-use Rattle.std.specs.Prelude.{Ok, Err}
+use Rattle.std.proofs.Common.{◌≡◌, ◌≢◌, ◌⊎◌, ℕ, ◌+◌, ◌<◌, List, [], ◌∷◌, ◌++◌, length, take, sym, ap, subst, ◌∙◌, inl, inr, arith, append_assoc, refl, true, Option, Some}
+use Rattle.std.specs.Prelude.{Result, Ok, Err, IsErr, None}
 use Rattle.std.specs.List.{flat_map}
 use Rattle.std.proofs.lemmas.Bool.{false≢true}
-use Rattle.std.proofs.lemmas.List.{append-nil}
+use Rattle.std.proofs.lemmas.List.{append-nil, length-append}
 use Rattle.field_bounds.specs.Schema.{SchemaValue}
 use Rattle.field_bounds.specs.Owed.{max_number}
 use Rattle.kept_records.specs.declared.medium.Device.{Device}
+use Rattle.kept_records.specs.declared.medium.MediumFault.{MediumFault}
+use Rattle.kept_records.specs.declared.medium.MediumFault.TheVariants as faults
 use Rattle.kept_records.specs.declared.medium.Mishap.{Mishap}
-use Rattle.kept_records.specs.declared.medium.Mishap.TheVariants.{Never, Append}
+use Rattle.kept_records.specs.declared.medium.Mishap.TheVariants.{Never, Append, Cut, Read}
 use Rattle.kept_records.specs.declared.record.Record.{Record}
 use Rattle.kept_records.specs.declared.record.Record.TheVariants.{Restart}
 use Rattle.kept_records.specs.Text.{text, IsRecord}
 use Rattle.kept_records.specs.Medium.{IsCutShort, ReadFate}
 use Rattle.kept_records.specs.Logs.{IsLog, AreAll}
-use Rattle.kept_records.specs.Keeping.{CutsAndAppends, CutAndAppendFate}
+use Rattle.kept_records.specs.Keeping.{CutsAndAppends, StrikesCut, CutAndAppendGo, CutAndAppendFate}
 use Rattle.kept_records.specs.Stands.{greatest, may_stand, LawfulBehind, Lawful, BreaksRule}
-use Rattle.kept_records.proofs.Appending.{HoldsFront, cut_added, cut_torn, cut_cut_short}
+use Rattle.kept_records.proofs.Appending.{HoldsFront, cut_to_records, cut_added, cut_torn, cut_cut_short}
 use Rattle.log_replay.specs.declared.standing.Standing.{Standing}
 use Rattle.log_replay.specs.Standing.{IsStandingFor}
+use Rattle.site_step.specs.Site.{struck}
 use Rattle.site_step.specs.Resuming.{LeavesSome, LeavesFront, next_restart, FailsOver, StandsOver}
 
 -- ---- lawful records break no rule
@@ -47,6 +50,16 @@ front_left n bytes rs r (inr whole) = inr (whole.1, whole.0)
 left_never : {T : Type 0} (foretold mid : Option Mishap) (read : T) → ReadFate foretold (Ok read) mid → foretold ≡ Some Never → mid ≡ Some Never
 left_never foretold mid read fate known = (subst (λ (m : Option Mishap). ReadFate m (Ok read) mid) known fate).1
 
+left_cut : {T : Type 0} (foretold mid : Option Mishap) (read : T) → ReadFate foretold (Ok read) mid → foretold ≡ Some Cut → mid ≡ Some Cut
+left_cut foretold mid read fate known = (subst (λ (m : Option Mishap). ReadFate m (Ok read) mid) known fate).1
+
+not_read : {T : Type 0} (read : T) → ◌≡◌ {A = Result T MediumFault} (Ok read) (Err faults.Device) → ⊥
+not_read read h = cc
+
+no_bytes_left : (rest : List ℕ) → length rest ≡ 0 → rest ≡ []
+no_bytes_left [] h = refl
+no_bytes_left (b ∷ rest) h = absurd (omega (arith, h))
+
 left_append : {T : Type 0} (foretold mid : Option Mishap) (read : T) (n : ℕ) → ReadFate foretold (Ok read) mid → foretold ≡ Some (Append n) → mid ≡ Some (Append n)
 left_append foretold mid read n fate known = (subst (λ (m : Option Mishap). ReadFate m (Ok read) mid) known fate).1
 
@@ -74,8 +87,47 @@ module _ {T : Type 0} (schema : SchemaValue) (s : ℕ) (old new : List ℕ) (for
   some : greatest rs < max_number
   some = omega (arith, below, epoch_is)
 
+  length_is : length old ≡ whole + length rest
+  length_is = ap length log.parts ∙ length-append (flat_map text rs) rest ∙ ap (λ (n : ℕ). n + length rest) (sym size_is)
+
+  struck_under : (m : Mishap) (mid_ : Option Mishap) (result : Result Unit Device) → mid_ ≡ Some m → CutAndAppendFate mid_ whole old (text next) result new left → CutAndAppendGo m whole old (text next) result new left
+  struck_under m mid_ result known fate = subst (λ (x : Option Mishap). CutAndAppendFate x whole old (text next) result new left) known fate
+
+  is_clean : (result : Result Unit Device) → (IsErr result → ⊥) → StrikesCut whole old result new left → rest ≡ []
+  is_clean result ok strikes = clean_by rest length_is
+    where
+      clean_by : (rest_ : List ℕ) → length old ≡ whole + length rest_ → rest_ ≡ []
+      clean_by [] is = refl
+      clean_by (b ∷ more) is = absurd (ok (strikes.0 (omega (arith, is))).0)
+
+  not_clean : (device : Device) → StrikesCut whole old (Err device) new left → rest ≢ []
+  not_clean device strikes none = false≢true (strikes.1 (omega (arith, length_is, ap length none))).0
+
+  mishap_stays : (m : Option Mishap) → ReadFate m (Ok read) mid → CutAndAppendFate {E = Device} mid whole old (text next) (Ok tt) new left → left ≡ m
+  mishap_stays None read_as fate = subst (λ (x : Option Mishap). CutAndAppendFate {E = Device} x whole old (text next) (Ok tt) new left) read_as fate
+  mishap_stays (Some Never) read_as fate = (struck_under Never mid (Ok tt) read_as.1 fate).1
+  mishap_stays (Some (Append n)) read_as fate = absurd (false≢true (struck_under (Append n) mid (Ok tt) read_as.1 fate).0)
+  mishap_stays (Some Cut) read_as fate =
+      let strikes = struck_under Cut mid (Ok tt) read_as.1 fate in
+      (strikes.1 (omega (arith, length_is, ap length (is_clean (Ok tt) (λ e. false≢true e) strikes)))).1
+  mishap_stays (Some Read) read_as fate = absurd (not_read read read_as.0)
+
+  mishap_struck : (m : Option Mishap) (device : Device) → ReadFate m (Ok read) mid → CutAndAppendFate mid whole old (text next) (Err device) new left → left ≡ struck m
+  mishap_struck None device read_as fate = subst (λ (x : Option Mishap). CutAndAppendFate x whole old (text next) (Err device) new left) read_as fate
+  mishap_struck (Some Never) device read_as fate = absurd (false≢true (struck_under Never mid (Err device) read_as.1 fate).0)
+  mishap_struck (Some (Append n)) device read_as fate = (struck_under (Append n) mid (Err device) read_as.1 fate).2
+  mishap_struck (Some Cut) device read_as fate = cut_by rest length_is
+    where
+      strikes : StrikesCut whole old (Err device) new left
+      strikes = struck_under Cut mid (Err device) read_as.1 fate
+
+      cut_by : (rest_ : List ℕ) → length old ≡ whole + length rest_ → left ≡ Some Never
+      cut_by [] is = absurd (false≢true (strikes.1 (omega (arith, is))).0)
+      cut_by (b ∷ more) is = (strikes.0 (omega (arith, is))).2
+  mishap_struck (Some Read) device read_as fate = absurd (not_read read read_as.0)
+
   pub stands_over : CutsAndAppends {T = Unit {0}} {E = Device} (Ok tt) whole old (text next) new before after → CutAndAppendFate {E = Device} mid whole old (text next) (Ok tt) new left
-      → StandsOver schema s rs found (standing.epoch + 1) new foretold before after × IsStandingFor schema s rs standing
+      → StandsOver schema s rs found (standing.epoch + 1) rest new foretold left before after × IsStandingFor schema s rs standing
   stands_over added fate = (
     record {
       counts = added.1;
@@ -87,20 +139,32 @@ module _ {T : Type 0} (schema : SchemaValue) (s : ℕ) (old new : List ℕ) (for
       torn = λ n known.
           let goes = subst (λ (m : Option Mishap). CutAndAppendFate {E = Device} m whole old (text next) (Ok tt) new left) (left_append foretold mid read n fate_of_read known) fate in
           false≢true goes.0;
+      read = λ known. let goes = subst (λ (m : Option Mishap). ReadFate m (Ok read) mid) known fate_of_read in not_read read goes.0;
+      cut = λ known. is_clean (Ok tt) (λ e. false≢true e) (struck_under Cut mid (Ok tt) (left_cut foretold mid read fate_of_read known) fate);
+      stays = mishap_stays foretold fate_of_read fate;
     },
     subst (λ (all : List Record). IsStandingFor schema s all standing) same for_,
   )
+
+  whole_is : take whole old ≡ flat_map text rs
+  whole_is = let cut = cut_to_records old rest rs whole log size_is in cut.parts ∙ append-nil (flat_map text rs)
+
+  left_of : ((new ≡ old) ⊎ IsCutShort (take whole old) (text next) new) → (new ≡ old) ⊎ IsCutShort (flat_map text rs) (text (next_restart rs)) new
+  left_of (inl unchanged) = inl unchanged
+  left_of (inr cut) =
+      inr (subst (λ (b : List ℕ). IsCutShort b (text (next_restart rs)) new) whole_is (subst (λ (r : Record). IsCutShort (take whole old) (text r) new) next_is cut))
 
   leaves_of : ((new ≡ old) ⊎ IsCutShort (take whole old) (text next) new) → LeavesSome rs (next_restart rs) new
   leaves_of (inl unchanged) = inl (rest, subst (λ (bytes : List ℕ). IsLog bytes rs rest) (sym unchanged) log)
   leaves_of (inr cut) = subst (λ (r : Record). LeavesSome rs r new) next_is (some_left cut.0 new rs next (cut_cut_short old rest new rs next whole log size_is fits cut))
 
   pub fails_over : (device : Device) → CutsAndAppends {T = Unit {0}} (Err device) whole old (text next) new before after → CutAndAppendFate mid whole old (text next) (Err device) new left
-      → FailsOver rs new foretold before after
+      → FailsOver rs rest old new foretold left before after
   fails_over device added fate =
       record {
         counts = added.1;
         leaves = leaves_of added.0;
+        left_ = left_of added.0;
         never = λ known.
             let goes = subst (λ (m : Option Mishap). CutAndAppendFate m whole old (text next) (Err device) new left) (left_never foretold mid read fate_of_read known) fate in
             false≢true goes.0;
@@ -111,4 +175,6 @@ module _ {T : Type 0} (schema : SchemaValue) (s : ℕ) (old new : List ℕ) (for
               subst (λ (r : Record). LeavesFront n rs r new) next_is
                   (front_left n new rs next (subst (λ (bytes : List ℕ). HoldsFront n bytes rs next) (sym goes.1) front)),
             );
+        cut = λ known. (some, not_clean device (struck_under Cut mid (Err device) (left_cut foretold mid read fate_of_read known) fate));
+        struck_ = mishap_struck foretold device fate_of_read fate;
       }

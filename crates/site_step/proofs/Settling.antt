@@ -1,5 +1,5 @@
 -- What an answer leaves as it was, and what the ladder says of a reply that fits.
-use Rattle.std.proofs.Common.{◌≡◌, ℕ, Bool, true, false, ◌&&◌, List, [], ◌∷◌, refl, sym, inl, inr, arith, Option, Some, None}
+use Rattle.std.proofs.Common.{◌≡◌, ℕ, Bool, true, false, ◌&&◌, List, [], ◌∷◌, ◌++◌, refl, sym, ap, ◌∙◌, inl, inr, arith, Option, Some, None}
 use Rattle.std.specs.Prelude.{if◌then◌else◌, Result, Ok, Err, IsOk, OnOk, is_ok}
 use Rattle.field_bounds.specs.declared.entry.Command.{Command}
 use Rattle.field_bounds.specs.declared.entry.Command.TheVariants.{Begin, Escrow, Restart}
@@ -11,12 +11,18 @@ use Rattle.field_bounds.specs.Effects.{kept_before}
 use Rattle.field_bounds.specs.Owed.{Place, first, refusals, answer, writes, up_after, count_after, is_unsure, Fits}
 use Rattle.field_bounds.proofs.Refused.{is_restart}
 use Rattle.kept_records.specs.declared.record.Record.{Record}
+use Rattle.kept_records.specs.Text.{text}
+use Rattle.kept_records.specs.Medium.{IsCutShort}
 use Rattle.kept_state.specs.declared.luck.Luck.{Luck}
 use Rattle.kept_state.specs.declared.luck.Luck.TheVariants.{Fine, Torn}
 use Rattle.kept_state.specs.Keeps.{record_at, noted, Tells}
 use Rattle.kept_state.specs.Luck.{is_torn, owed_with, kept_after, doubt_after}
 use Rattle.site_step.specs.State.{is_carried}
-use Rattle.site_step.specs.Site.{failed_after, doubt_from, RestartsOver, RefusesOver}
+use Rattle.kept_records.specs.declared.medium.Mishap.{Mishap}
+use Rattle.kept_records.specs.declared.medium.Mishap.TheVariants.{Never, Append, Cut, Read}
+use Rattle.kept_state.specs.Doubt.{found_of}
+use Rattle.kept_records.specs.Stands.{greatest}
+use Rattle.site_step.specs.Site.{SiteValue, here, failed_after, foretold_after, line_of, Writes, luck_under, owed_under, doubt_from, RestartsOver, RefusesOver}
 
 pub ok_gives : {A E : Type 0} {P : Type 0} (r : Result A E) → IsOk r → OnOk r P → P
 ok_gives (Ok a) is p = p
@@ -36,6 +42,7 @@ pub record Settles (r : Reply) : Type 0 where
   pub tells : (k stood : Bool) (rs : List Record) → Tells k stood rs r
   pub doubt : (rs : List Record) (d : Option ℕ) → doubt_from r rs d ≡ d
   pub failed : (n : ℕ) → failed_after r n ≡ n
+  pub foretold : (m : Option Mishap) → foretold_after r m ≡ m
   pub restarts : (rs : List Record) (d : Option ℕ) (rest : List ℕ) → RestartsOver r rs d rest
   pub greatest_is : (luck : Luck) (n : ℕ) → kept_after r luck n ≡ n
   pub found : (luck : Luck) (size : ℕ) (last : Last) → doubt_after r luck size last ≡ last
@@ -49,6 +56,7 @@ answer_settles at c n = record {
   tells = λ k stood rs. tt;
   doubt = λ rs d. refl;
   failed = λ n. refl;
+  foretold = λ m. refl;
   restarts = λ rs d rest. tt;
   greatest_is = λ luck n. refl;
   found = λ luck size last. refl;
@@ -125,3 +133,52 @@ both false x y h = cc
 pub unsure_owed : (at : Place) (c : Command) (epoch : ℕ) (found : Last) (bytes : ℕ) → first (refusals at c) ≡ None → writes at c ≡ true → Unsure ≡ owed_with at epoch found c (Torn bytes)
 unsure_owed at Restart epoch found bytes none w = cc
 unsure_owed at c epoch found bytes none w = rw none (sym (both (writes at c) Unsure (answer at c) w))
+
+-- ---- under any mishap
+
+pub plain_under : (v : SiteValue) (rs : List Record) (rest : List ℕ) (c : Command) (m : Mishap) → is_restart c ≡ false
+    → owed_under v rs rest c m ≡ owed_with (here v) (greatest rs) (found_of v.doubt rs) c (luck_under c rest m)
+plain_under v rs rest Restart m n = cc
+plain_under v rs rest c m n = refl
+
+pub refusal_under : (v : SiteValue) (rs : List Record) (rest : List ℕ) (c : Command) (m : Mishap) (x : Refusal) → first (refusals (here v) c) ≡ Some x → Refused x ≡ owed_under v rs rest c m
+refusal_under v rs rest c m x some =
+    refusal_owed (here v) c x (greatest rs) (found_of v.doubt rs) (luck_under c rest m) some ∙ sym (plain_under v rs rest c m (refused_no_restart (here v) c x some))
+
+pub answer_under : (v : SiteValue) (rs : List Record) (rest : List ℕ) (c : Command) (m : Mishap) → is_restart c ≡ false → first (refusals (here v) c) ≡ None → writes (here v) c ≡ false
+    → answer (here v) c ≡ owed_under v rs rest c m
+answer_under v rs rest c m n none w =
+    answer_owed (here v) c (greatest rs) (found_of v.doubt rs) (luck_under c rest m) n none w ∙ sym (plain_under v rs rest c m n)
+
+-- a mishap under which a command's append goes well
+pub luck_fine : (c : Command) (rest : List ℕ) (m : Mishap) → is_restart c ≡ false → ((n : ℕ) → m ≡ Append n → ⊥) → luck_under c rest m ≡ Fine
+luck_fine c rest (Append n) plain not = absurd (not n refl)
+luck_fine Restart rest m plain not = cc
+luck_fine c rest Never plain not = refl
+luck_fine c rest Cut plain not = refl
+luck_fine c rest Read plain not = refl
+
+pub whole_under : (v : SiteValue) (rs : List Record) (rest : List ℕ) (c : Command) (m : Mishap) → is_restart c ≡ false → first (refusals (here v) c) ≡ None → ((n : ℕ) → m ≡ Append n → ⊥)
+    → answer (here v) c ≡ owed_under v rs rest c m
+whole_under v rs rest c m n none not =
+    whole_owed (here v) c (greatest rs) (found_of v.doubt rs) n none
+    ∙ ap (owed_with (here v) (greatest rs) (found_of v.doubt rs) c) (sym (luck_fine c rest m n not)) ∙ sym (plain_under v rs rest c m n)
+
+pub unsure_under : (v : SiteValue) (rs : List Record) (rest : List ℕ) (c : Command) (bytes : ℕ) → is_restart c ≡ false → first (refusals (here v) c) ≡ None → writes (here v) c ≡ true
+    → Unsure ≡ owed_under v rs rest c (Append bytes)
+unsure_under v rs rest c bytes n none w = unsure_owed (here v) c (greatest rs) (found_of v.doubt rs) bytes none w ∙ sym (plain_under v rs rest c (Append bytes) n)
+
+-- ---- the bytes
+
+pub answer_writes : (at : Place) (c : Command) (old new : List ℕ) → is_restart c ≡ false → new ≡ old ++ line_of at c → Writes at c (answer at c) old new
+answer_writes at Restart old new n grown = cc
+answer_writes at c old new n grown = grown
+
+pub unsure_writes : (at : Place) (c : Command) (old new : List ℕ) → IsCutShort old (text (record_at at c)) new → Writes at c Unsure old new
+unsure_writes at c old new cut = cut
+
+pub line_none : (at : Place) (c : Command) → writes at c ≡ false → line_of at c ≡ []
+line_none at c w = rw w refl
+
+pub line_one : (at : Place) (c : Command) → writes at c ≡ true → line_of at c ≡ text (record_at at c)
+line_one at c w = rw w refl

@@ -15,6 +15,7 @@ use Rattle.field_bounds.proofs.Refused.{is_restart, up_there}
 use Rattle.field_bounds.proofs.Doubt.{up_none_unsure}
 use Rattle.kept_records.specs.declared.medium.Device.{Device}
 use Rattle.kept_records.specs.declared.medium.Mishap.{Mishap}
+use Rattle.kept_records.specs.declared.medium.Mishap.TheVariants.{Never, Append, Cut, Read}
 use Rattle.kept_records.specs.declared.record.Record.{Record}
 use Rattle.kept_records.specs.Text.{text, IsRecord}
 use Rattle.kept_records.specs.Medium.{IsCutShort, AppendFate}
@@ -32,9 +33,9 @@ use Rattle.kept_state.proofs.Epochs.{greatest_noted}
 use Rattle.kept_state.proofs.Sure.{keeps_up}
 use Rattle.kept_state.proofs.Doubt.{record_is_note, doubt_new, found_is_kept}
 use Rattle.site_step.specs.declared.accounts.Accounts.{Accounts}
-use Rattle.site_step.specs.Site.{SiteValue, base_of, here, entry_of, mishap_of, Finds, IsExact}
+use Rattle.site_step.specs.Site.{SiteValue, base_of, here, entry_of, mishap_of, struck, owed_under, Finds, IsExact}
 use Rattle.site_step.specs.State.{StandsOn, IsSound}
-use Rattle.site_step.proofs.Settling.{answer_settles, writes_no_restart, refuses_over, noted_one, answer_fits, unsure_fits, whole_owed, unsure_owed}
+use Rattle.site_step.proofs.Settling.{answer_settles, writes_no_restart, refuses_over, noted_one, answer_fits, unsure_fits, whole_owed, unsure_owed, whole_under, unsure_under, answer_writes, unsure_writes, line_one}
 use Rattle.site_step.proofs.Ends.{Ends, finds_of, finds_log, none_in_doubt}
 
 length_push : (rs : List Record) (r : Record) → length (rs ++ r ∷ []) ≡ length rs + 1
@@ -44,6 +45,21 @@ up_doubt : (kept other : Bool) (o : List Entry) (e : Entry) (rs more : List Reco
     → IsDoubt kept o rs doubt → IsDoubt other (e ∷ o) more doubt
 up_doubt kept other o e rs more None same none is = same ∙ is
 up_doubt kept other o e rs more (Some n) same none is = absurd (omega (arith, none, is.0))
+
+-- what becomes of a mishap that is known
+fate_stays : (before : Option Mishap) (old piece new : List ℕ) (left : Option Mishap) → AppendFate {E = Device} before old piece (Ok tt) new left → left ≡ before
+fate_stays None old piece new left fate = fate
+fate_stays (Some (Append n)) old piece new left fate = absurd (false≢true fate.0)
+fate_stays (Some Never) old piece new left fate = fate.1
+fate_stays (Some Cut) old piece new left fate = fate.1
+fate_stays (Some Read) old piece new left fate = fate.1
+
+fate_struck : (before : Option Mishap) (old piece : List ℕ) (device : Device) (new : List ℕ) (left : Option Mishap) → AppendFate before old piece (Err device) new left → left ≡ struck before
+fate_struck None old piece device new left fate = fate
+fate_struck (Some (Append n)) old piece device new left fate = fate.2
+fate_struck (Some Never) old piece device new left fate = absurd (false≢true fate.0)
+fate_struck (Some Cut) old piece device new left fate = absurd (false≢true fate.0)
+fate_struck (Some Read) old piece device new left fate = absurd (false≢true fate.0)
 
 -- what stands of a record, told as one truth value
 pub record Stood (stood : Bool) (rs : List Record) (r : Record) (bytes : List ℕ) : Type 0 where
@@ -122,6 +138,11 @@ module _ (v : SiteValue) (up : Bool) (count : ℕ) (a : Accounts) (was : IsSound
         let goes = subst (λ (m : Option Mishap). AppendFate {E = Device} m v.bytes (text note) (Ok tt) bytes left) known fate in
         absurd (false≢true goes.0)
 
+    not_append : (m : Mishap) → v.foretold ≡ Some m → (n : ℕ) → m ≡ Append n → ⊥
+    not_append m known n is =
+        let goes = subst (λ (x : Option Mishap). AppendFate {E = Device} x v.bytes (text note) (Ok tt) bytes left) (known ∙ ap (λ (x : Mishap). Some x) is) fate in
+        false≢true goes.0
+
     wrote : Ends v c (answer at c) then_ up (count + 1) b
     wrote =
         let settles = answer_settles at c plain in
@@ -165,6 +186,9 @@ module _ (v : SiteValue) (up : Bool) (count : ℕ) (a : Accounts) (was : IsSound
                   restarts = settles.restarts rs v.doubt [];
                   refuses = refuses_over c (answer at c) rs plain;
                 };
+            writes_ = answer_writes at c v.bytes bytes plain (grown ∙ ap (λ (l : List ℕ). v.bytes ++ l) (sym (line_one at c told)));
+            foretold = fate_stays v.foretold v.bytes (text note) bytes left fate ∙ sym (settles.foretold v.foretold);
+            under = λ rs rest m log known. whole_under v rs rest c m plain none (not_append m known);
             exact = exact;
           };
         }
@@ -214,6 +238,12 @@ module _ (v : SiteValue) (up : Bool) (count : ℕ) (a : Accounts) (was : IsSound
           finds = finds_log torn_ (was.records ++ cond stood (note ∷ []) []) is.rest epoch (if stood then Kept else Lost) is.log (same_greatest stood ∙ old.0) (finds_it stood);
         }
 
+    under_torn : (rs : List Record) (rest : List ℕ) (m : Mishap) → IsLog v.bytes rs rest → v.foretold ≡ Some m → Unsure ≡ owed_under v rs rest c m
+    under_torn rs rest (Append n) is known = unsure_under v rs rest c n plain none told
+    under_torn rs rest Never is known = let goes = subst (λ (x : Option Mishap). AppendFate x v.bytes (text note) (Err device) bytes left) known fate in absurd (false≢true goes.0)
+    under_torn rs rest Cut is known = let goes = subst (λ (x : Option Mishap). AppendFate x v.bytes (text note) (Err device) bytes left) known fate in absurd (false≢true goes.0)
+    under_torn rs rest Read is known = let goes = subst (λ (x : Option Mishap). AppendFate x v.bytes (text note) (Err device) bytes left) known fate in absurd (false≢true goes.0)
+
     doubted : (stood : Bool) → Stood stood was.records note bytes → Ends v c Unsure torn_ false count b
     doubted stood is =
         record {
@@ -249,6 +279,9 @@ module _ (v : SiteValue) (up : Bool) (count : ℕ) (a : Accounts) (was : IsSound
                   restarts = tt;
                   refuses = refuses_over c Unsure rs plain;
                 };
+            writes_ = unsure_writes at c v.bytes bytes cut;
+            foretold = fate_struck v.foretold v.bytes (text note) device bytes left fate;
+            under = under_torn;
             exact = exact_torn;
           };
         }

@@ -1,5 +1,5 @@
 -- A site as its callers see it, and what its calls do (this project).
-use Rattle.std.specs.Prelude.{◌≡◌, ℕ, ◌+◌, ◌-◌, ◌^◌, ◌≤◌, nat_lt, if◌then◌else◌, Bool, true, List, [], ◌∷◌, ◌++◌, length, reverse, Option, Some, None}
+use Rattle.std.specs.Prelude.{◌≡◌, ◌⊎◌, ℕ, ◌+◌, ◌-◌, ◌^◌, ◌≤◌, nat_lt, if◌then◌else◌, Bool, true, List, [], ◌∷◌, ◌++◌, length, reverse, Option, Some, None}
 use Rattle.field_bounds.specs.declared.id.SiteNo.{SiteNo}
 use Rattle.field_bounds.specs.declared.id.TxnId.{TxnId}
 use Rattle.field_bounds.specs.declared.entry.Command.{Command}
@@ -10,17 +10,21 @@ use Rattle.field_bounds.specs.declared.entry.Last.{Last}
 use Rattle.field_bounds.specs.declared.entry.Entry.{Entry}
 use Rattle.field_bounds.specs.Schema.{SchemaValue}
 use Rattle.field_bounds.specs.Effects.{Base}
-use Rattle.field_bounds.specs.Owed.{Place, place, Fits, max_number}
+use Rattle.field_bounds.specs.Owed.{Place, place, Fits, writes, max_number}
 use Rattle.site_rights.specs.declared.field_rights.Outcome.{Outcome}
 use Rattle.site_rights.specs.declared.field_rights.Outcome.TheVariants.{Committed, Aborted}
 use Rattle.kept_records.specs.declared.medium.Mishap.{Mishap}
-use Rattle.kept_records.specs.declared.medium.Mishap.TheVariants.{Never, Append}
+use Rattle.kept_records.specs.declared.medium.Mishap.TheVariants.{Never, Append, Cut, Read}
 use Rattle.kept_records.specs.declared.record.Record.{Record}
+use Rattle.kept_records.specs.declared.record.Record.TheVariants as records
+use Rattle.std.specs.List.{flat_map}
 use Rattle.kept_records.specs.Logs.{IsLog}
 use Rattle.kept_records.specs.Stands.{greatest, Lawful}
 use Rattle.kept_state.specs.declared.luck.Luck.{Luck}
 use Rattle.kept_state.specs.declared.luck.Luck.TheVariants.{Fine, Torn}
-use Rattle.kept_state.specs.Keeps.{Keeps, opened, adds}
+use Rattle.kept_records.specs.Text.{text}
+use Rattle.kept_records.specs.Medium.{IsCutShort}
+use Rattle.kept_state.specs.Keeps.{Keeps, opened, record_at, adds}
 use Rattle.kept_state.specs.Doubt.{found_of}
 use Rattle.kept_state.specs.Luck.{owed_with, kept_after, doubt_after, record_length}
 
@@ -100,7 +104,35 @@ pub record Logs (before : SiteValue) (command : Command) (reply : Reply) (later 
   pub restarts : RestartsOver reply rs before.doubt rest
   pub refuses : RefusesOver command reply rs
 
+-- The line of a command's record, where it writes one.
+abbrev pub line_of : Place → Command → List ℕ
+line_of at command = if writes at command then text (record_at at command) else []
+
+-- What a restart that failed leaves: the bytes as they were, or the whole lines and some front of its record's line.
+abbrev pub LeavesFailed : List ℕ → List ℕ → Type 0
+LeavesFailed old new =
+    (rs : List Record) (rest : List ℕ) → IsLog old rs rest → (new ≡ old) ⊎ IsCutShort (flat_map text rs) (text (records.Restart (greatest rs + 1))) new
+
+-- What an entry does to the bytes of the medium: a refusal leaves them, an answer adds its record's line, if any, and of an
+-- answer in doubt some front of that line stands. What a good restart leaves is told by the records.
+abbrev pub Writes : Place → Command → Reply → List ℕ → List ℕ → Type 0
+Writes at command (Refused refusal) old new = new ≡ old
+Writes at command Unsure old new = IsCutShort old (text (record_at at command)) new
+Writes at Command.Restart StillDown old new = LeavesFailed old new
+Writes at Command.Restart reply old new = Unit {0}
+Writes at command reply old new = new ≡ old ++ line_of at command
+
 -- ---- under a mishap that is known
+
+-- What becomes of a mishap that is known: it stays, but where it struck it is used up.
+abbrev pub struck : Option Mishap → Option Mishap
+struck None = None
+struck (Some mishap) = Some Never
+
+abbrev pub foretold_after : Reply → Option Mishap → Option Mishap
+foretold_after Unsure foretold = struck foretold
+foretold_after StillDown foretold = struck foretold
+foretold_after reply foretold = foretold
 
 -- The mishap of an append that goes by luck.
 abbrev pub mishap_of : Luck → Mishap
@@ -115,6 +147,18 @@ foretold_by failed mishap = if nat_lt failed (2 ^ 64 - 1) then Some mishap else 
 unfoldable pub Finds : SiteValue → ℕ → Last → Type 0
 Finds v epoch found =
     (rs : List Record) (rest : List ℕ) → IsLog v.bytes rs rest → (greatest rs ≡ epoch) × (found_of v.doubt rs ≡ found)
+
+-- How the append of a command goes under a mishap: one for cuts strikes a restart alone, and there just where bytes stand
+-- behind the last line feed.
+abbrev pub luck_under : Command → List ℕ → Mishap → Luck
+luck_under command rest (Append bytes) = Torn bytes
+luck_under Command.Restart (b ∷ rest) Cut = Torn 0
+luck_under command rest mishap = Fine
+
+-- The reply under a mishap that is known, over a medium that holds these records and this rest. A restart reads first.
+abbrev pub owed_under : SiteValue → List Record → List ℕ → Command → Mishap → Reply
+owed_under v rs rest Command.Restart Read = StillDown
+owed_under v rs rest command mishap = owed_with (here v) (greatest rs) (found_of v.doubt rs) command (luck_under command rest mishap)
 
 -- Where it is known how the next append goes, the reply is the one that is owed then, and so is what a restart would find
 -- after it.
@@ -140,6 +184,9 @@ pub record Applies (before : SiteValue) (command : Command) (reply : Reply) (lat
   pub same : IsSame before later
   pub failed : later.failed ≡ failed_after reply before.failed
   pub logs : (rs : List Record) (rest : List ℕ) → IsLog before.bytes rs rest → Logs before command reply later rs
+  pub writes_ : Writes (here before) command reply before.bytes later.bytes
+  pub foretold : later.foretold ≡ foretold_after reply before.foretold
+  pub under : (rs : List Record) (rest : List ℕ) (mishap : Mishap) → IsLog before.bytes rs rest → before.foretold ≡ Some mishap → reply ≡ owed_under before rs rest command mishap
   pub exact : (luck : Luck) (epoch : ℕ) (found : Last) → before.foretold ≡ Some (mishap_of luck) → Finds before epoch found
       → IsExact before command reply later luck epoch found
 

@@ -41,7 +41,7 @@ fn resume<M: Medium>(
     requires site_in { site.0 < schema.now.sites }
     requires log { IsLawfulLog schema.now site.0 (M.bytes medium.old) }
     ensures resumes { IfOk result (λ resumed. (rs : List Record) (rest : List ℕ) → IsLog (M.bytes medium.old) rs rest →
-        ResumesOver schema.now site.0 rs resumed (M.bytes medium.old) (M.bytes medium.new) (M.foretold medium.old) (M.failed medium.old) (M.failed medium.new)) }
+        ResumesOver schema.now site.0 rs rest resumed (M.bytes medium.old) (M.bytes medium.new) (M.foretold medium.old) (M.foretold medium.new) (M.failed medium.old) (M.failed medium.new)) }
     ensures bytes { OnErr result (M.bytes medium.new ≡ M.bytes medium.old) }
     ensures failed { OnErr result (M.failed medium.new ≡ M.failed medium.old) }
     ensures foretold { OnErr result (M.foretold medium.new ≡ M.foretold medium.old) }
