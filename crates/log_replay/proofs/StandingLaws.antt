@@ -27,29 +27,34 @@ use Rattle.gift_ledger.specs.declared.account.Account.{Account}
 use Rattle.gift_ledger.specs.Ledger.{LedgerValue, total_at, accepted_at, with_total, with_accepted, fresh_ledger}
 use Rattle.gift_ledger.proofs.LedgerLaws.{place_stays, fresh_place, fresh_account, total_at-with_total, accepted_at-with_total, total_at-with_accepted, accepted_at-with_accepted}
 use Rattle.log_replay.specs.declared.standing.Standing.{Standing}
-use Rattle.log_replay.specs.Standing.{IsOther, HasPlaces, StandsFor, IsStandingFor, TakesIn, is_on_field, AreFree}
+use Rattle.log_replay.specs.Standing.{IsOther, HasPlaces, StandsFor, Stands, NoneHeld, IsStandingFor, CanTakeIn, TakesIn, is_on_field, AreFree}
 use Rattle.log_replay.proofs.RecordSums.{on_field, greatest_none, given_none, accepted_none, own_none, greatest_push, given_push, accepted_push, all_weaker, commit_within, own_commit, own_gift, own_accept, own_restart, accept_parts}
 
 -- ---- answers
 
 -- a record that may not stand is refused
 pub takes_none : (schema : SchemaValue) (old : Standing) (r : Record) (new : Standing)
-    → ((s : ℕ) (rs : List Record) → Lawful schema s rs → IsStandingFor schema s rs old → may_stand schema s rs r ≡ false) → TakesIn schema old r false new
-takes_none schema old r new none =
+    → ((s : ℕ) (rs : List Record) → Lawful schema s rs → IsStandingFor schema s rs old → may_stand schema s rs r ≡ false) → (CanTakeIn schema old r → ⊥) → TakesIn schema old r false new
+takes_none schema old r new none cannot =
     record {
       answered = λ s rs lawful was. sym (none s rs lawful was);
       stands = λ answer. cc;
+      held = λ answer. cc;
+      takes_ = λ can. absurd (cannot can);
     }
 
 -- a record that may stand is taken in
 pub takes_one : (schema : SchemaValue) (old : Standing) (r : Record) (new : Standing)
-    → ((s : ℕ) (rs : List Record) → Lawful schema s rs → IsStandingFor schema s rs old → may_stand schema s rs r ≡ true)
-    → ((s : ℕ) (rs : List Record) → Lawful schema s rs → IsStandingFor schema s rs old → may_stand schema s rs r ≡ true → IsStandingFor schema s (rs ++ r ∷ []) new)
+    → ((s : ℕ) (rs : List Record) → Lawful schema s rs → Stands schema s rs old → may_stand schema s rs r ≡ true)
+    → ((s : ℕ) (rs : List Record) → Lawful schema s rs → Stands schema s rs old → may_stand schema s rs r ≡ true → Stands schema s (rs ++ r ∷ []) new)
+    → ((f : ℕ) (k : Kind) → f < length old.rights → held_at new.rights f k ≡ held_at old.rights f k)
     → TakesIn schema old r true new
-takes_one schema old r new may stands =
+takes_one schema old r new may stands held =
     record {
-      answered = λ s rs lawful was. sym (may s rs lawful was);
+      answered = λ s rs lawful was. sym (may s rs lawful was.for_);
       stands = λ answer s rs lawful was. stands s rs lawful was (may s rs lawful was);
+      held = λ answer. held;
+      takes_ = λ can. refl;
     }
 
 -- what a standing for some records has, it has for the site that its ledger names
@@ -67,8 +72,7 @@ stands_none schema s rows fresh =
     record {
       count = fresh.count;
       width = λ f l. (fresh.each f l).width;
-      free = λ f k l. (fresh.each f l).free k ∙ sym (own_none schema s f k);
-      held = λ f k l. (fresh.each f l).held k;
+      own = λ f k l. omega (arith, (fresh.each f l).free k, (fresh.each f l).held k, own_none schema s f k);
       place = λ r f o. fresh_place schema s r f o.other o.site_in o.field_in;
       given = λ r f k o. ap (λ (x : Account). x.given) (fresh_account schema s r f k) ∙ sym (given_none r f k);
       accepted = λ r f k o. ap (λ (x : Account). x.accepted) (fresh_account schema s r f k) ∙ sym (accepted_none r f k);
@@ -100,6 +104,25 @@ taken_range rows es range = range_same rows (by_escrows taken rows es) es (lengt
 
 pub taken_held : (rows : List FieldRights) (es : List Escrow) → AreInRange rows es → AreHeld (by_escrows taken rows es) es
 taken_held rows es range f k l = omega (arith, held_taken rows es range f k)
+
+-- what a commit takes is held for a moment only
+pub held_committed : (rows : List FieldRights) (es : List Escrow) → AreInRange rows es → (f : ℕ) (k : Kind) → f < length rows
+    → held_at (by_escrows (ending Committed) (by_escrows taken rows es) es) f k ≡ held_at rows f k
+held_committed rows es range f k l =
+    let mid = by_escrows taken rows es in
+    omega (
+      arith,
+      held_at-by_escrows Committed mid es (taken_range rows es range) (taken_held rows es range) f k (omega (arith, l, length-by_escrows taken rows es)),
+      held_taken rows es range f k,
+    )
+
+-- what holds of an amount on its own field holds where it counts
+pub here_only : (of : ℕ → Kind → ℕ) (field f : ℕ) (kind k : Kind) (amount : ℕ) → amount ≤ of field kind → cond ((field == f) && same_kind kind k) amount 0 ≤ of f k
+here_only of field f kind k amount enough =
+    elim (cases_Bool ((field == f) && same_kind kind k)) [
+      | inl on ↦ rw on (omega (arith, enough, on_field of field f kind k on))
+      | inr off ↦ rw off (omega arith)
+    ]
 
 -- what an escrow takes of its own field and kind is its size
 takes_own : (e : Escrow) → takes e.field.0 (kind_of e.change) e ≡ unsigned_abs e.change
@@ -164,45 +187,38 @@ module _ (schema : SchemaValue) (s : ℕ) (rs : List Record) (rows : List FieldR
       first_part true b c h = refl
       first_part false b c h = cc
 
-  pub commit_is_free : (es : List Escrow) → list_all (may_commit schema s rs es) es ≡ true → AreFree rows es
-  commit_is_free es all f k l = omega (arith, commit_within schema s rs es all f k, was.free f k l)
+  pub commit_is_free : NoneHeld rows → (es : List Escrow) → list_all (may_commit schema s rs es) es ≡ true → AreFree rows es
+  commit_is_free none es all f k l = omega (arith, commit_within schema s rs es all f k, was.own f k l, none f k l)
 
   pub may_commit_all : (es : List Escrow) → list_all (is_on_field schema) es ≡ true → AreFree rows es → list_all (may_commit schema s rs es) es ≡ true
   may_commit_all es fields free =
       all_weaker (is_on_field schema) (may_commit schema s rs es)
       (λ e on.
       let l : e.field.0 < length rows = omega (arith, was.count, ltb-true e.field.0 (length schema.fields) on) in
-      let lower : sum_by (takes e.field.0 Lower) es ≤ own_in schema s rs e.field.0 Lower = omega (arith, free e.field.0 Lower l, was.free e.field.0 Lower l) in
-      let raise : sum_by (takes e.field.0 Raise) es ≤ own_in schema s rs e.field.0 Raise = omega (arith, free e.field.0 Raise l, was.free e.field.0 Raise l) in
+      let lower : sum_by (takes e.field.0 Lower) es ≤ own_in schema s rs e.field.0 Lower = omega (arith, free e.field.0 Lower l, was.own e.field.0 Lower l) in
+      let raise : sum_by (takes e.field.0 Raise) es ≤ own_in schema s rs e.field.0 Raise = omega (arith, free e.field.0 Raise l, was.own e.field.0 Raise l) in
       rw (on, le-leb _ _ lower, le-leb _ _ raise) refl)
       es fields
 
-  pub stands_commit : (txn : TxnId) (es : List Escrow) → AreInRange rows es → may_stand schema s rs (Commit txn es) ≡ true
+  pub stands_commit : (txn : TxnId) (es : List Escrow) → AreInRange rows es → AreFree rows es → may_stand schema s rs (Commit txn es) ≡ true
       → StandsFor schema s (rs ++ Commit txn es ∷ []) (by_escrows (ending Committed) (by_escrows taken rows es) es) ledger epoch
-  stands_commit txn es range may =
+  stands_commit txn es range free may =
       let r : Record = Commit txn es in
       let mid = by_escrows taken rows es in
       let within = taken_range rows es range in
-      let all = (and_parts (txn.epoch == greatest rs) (list_all (may_commit schema s rs es) es) may).1 in
       let same : length (by_escrows (ending Committed) mid es) ≡ length rows = omega (arith, length-by_escrows (ending Committed) mid es, length-by_escrows taken rows es) in
       record {
         count = same ∙ was.count;
         width = λ f l. width_at-by_escrows (ending Committed) (ending_keeps Committed) mid es within f ∙ width_at-by_escrows taken taken_keeps rows es range f ∙ was.width f (omega (arith, l, same));
-        free = λ f k l.
+        own = λ f k l.
             omega (
               arith,
               free_at-by_escrows Committed mid es within f k,
               free_taken rows es range f k,
-              was.free f k (omega (arith, l, same)),
-              commit_within schema s rs es all f k,
+              was.own f k (omega (arith, l, same)),
+              free f k (omega (arith, l, same)),
+              held_committed rows es range f k (omega (arith, l, same)),
               own_commit schema s rs lawful txn es may f k,
-            );
-        held = λ f k l.
-            omega (
-              arith,
-              held_at-by_escrows Committed mid es within (taken_held rows es range) f k (omega (arith, l, length-by_escrows (ending Committed) mid es)),
-              held_taken rows es range f k,
-              was.held f k (omega (arith, l, same)),
             );
         place = was.place;
         given = λ r' f k o. was.given r' f k o ∙ sym (given_push r' f k rs r);
@@ -245,9 +261,9 @@ module _ (schema : SchemaValue) (s : ℕ) (rs : List Record) (rows : List FieldR
           | inr apart ↦ let off = moved ∙ apart in rw (apart, off) same
         ]
 
-    pub stands_gift : (total : ℕ) → may_stand schema s rs (Gift at field kind total) ≡ true → total_at ledger at.0 field.0 kind < total → (amount : ℕ) → amount ≡ total - total_at ledger at.0 field.0 kind
+    pub stands_gift : (total : ℕ) → may_stand schema s rs (Gift at field kind total) ≡ true → total_at ledger at.0 field.0 kind < total → (amount : ℕ) → amount ≡ total - total_at ledger at.0 field.0 kind → amount ≤ free_at rows field.0 kind
         → StandsFor schema s (rs ++ Gift at field kind total ∷ []) (at_field dropped rows field.0 kind amount) (with_total ledger at.0 field.0 kind (total_at ledger at.0 field.0 kind + amount)) epoch
-    stands_gift total may more amount is =
+    stands_gift total may more amount is enough =
         let r : Record = Gift at field kind total in
         let here = was.place at.0 field.0 other_site in
         let before = was.given at.0 field.0 kind other_site in
@@ -257,15 +273,16 @@ module _ (schema : SchemaValue) (s : ℕ) (rs : List Record) (rows : List FieldR
         record {
           count = same ∙ was.count;
           width = λ f l. width_at-field dropped dropped_keeps rows field.0 f kind amount in_rows ∙ was.width f (omega (arith, l, same));
-          free = λ f k l.
+          own = λ f k l.
               omega (
                 arith,
                 free_at-dropped rows field.0 f kind k amount in_rows,
+                held_at-dropped rows field.0 f kind k amount in_rows,
+                here_only (λ x y. free_at rows x y) field.0 f kind k amount enough,
                 ap (λ (n : ℕ). cond ((field.0 == f) && same_kind kind k) n 0) amount_is,
-                was.free f k (omega (arith, l, same)),
+                was.own f k (omega (arith, l, same)),
                 own_gift schema s rs lawful at field kind total may f k,
               );
-          held = λ f k l. held_at-dropped rows field.0 f kind k amount in_rows ∙ was.held f k (omega (arith, l, same));
           place = λ r' f o. place_stays ledger at.0 field.0 r' f kind (record { given = new; accepted = accepted_at ledger at.0 field.0 kind }) here (was.place r' f o);
           given = λ r' f k o.
               total_at-with_total ledger at.0 field.0 r' f kind k new here
@@ -288,15 +305,15 @@ module _ (schema : SchemaValue) (s : ℕ) (rs : List Record) (rows : List FieldR
         record {
           count = same ∙ was.count;
           width = λ f l. width_at-field added added_keeps rows field.0 f kind gain in_rows ∙ was.width f (omega (arith, l, same));
-          free = λ f k l.
+          own = λ f k l.
               omega (
                 arith,
                 free_at-added rows field.0 f kind k gain in_rows,
+                held_at-added rows field.0 f kind k gain in_rows,
                 ap (λ (n : ℕ). cond ((field.0 == f) && same_kind kind k) n 0) gain_is,
-                was.free f k (omega (arith, l, same)),
+                was.own f k (omega (arith, l, same)),
                 own_accept schema s rs lawful at field kind total may f k,
               );
-          held = λ f k l. held_at-added rows field.0 f kind k gain in_rows ∙ was.held f k (omega (arith, l, same));
           place = λ r' f o. place_stays ledger at.0 field.0 r' f kind (record { given = total_at ledger at.0 field.0 kind; accepted = new }) here (was.place r' f o);
           given = λ r' f k o. total_at-with_accepted ledger at.0 field.0 r' f kind k new here ∙ was.given r' f k o ∙ sym (given_push r' f k rs r);
           accepted = λ r' f k o.
@@ -309,7 +326,7 @@ module _ (schema : SchemaValue) (s : ℕ) (rs : List Record) (rows : List FieldR
 
   -- what the rights leave of the width is the room that the records leave
   pub room_is : (f : ℕ) → f < length rows → room_at rows f ≡ room_in schema s rs f
-  room_is f l = omega (arith, was.width f l, was.free f Lower l, was.free f Raise l, was.held f Lower l, was.held f Raise l)
+  room_is f l = omega (arith, was.width f l, was.own f Lower l, was.own f Raise l)
 
   -- ---- a restart
 
@@ -319,8 +336,7 @@ module _ (schema : SchemaValue) (s : ℕ) (rs : List Record) (rows : List FieldR
       record {
         count = was.count;
         width = was.width;
-        free = λ f k l. was.free f k l ∙ sym (own_restart schema s rs lawful new may f k);
-        held = was.held;
+        own = λ f k l. was.own f k l ∙ sym (own_restart schema s rs lawful new may f k);
         place = was.place;
         given = λ r' f k o. was.given r' f k o ∙ sym (given_push r' f k rs r);
         accepted = λ r' f k o. was.accepted r' f k o ∙ sym (accepted_push r' f k rs r);
@@ -341,7 +357,7 @@ four_true true false c d first third fourth = cc
 four_true true true false d first third fourth = cc
 four_true true true true false first third fourth = cc
 
-four_first : (a b c d : Bool) → (a && b && c && d) ≡ true → (a && b) ≡ true
+pub four_first : (a b c d : Bool) → (a && b && c && d) ≡ true → (a && b) ≡ true
 four_first true true c d all = refl
 four_first false b c d all = cc
 four_first true false c d all = cc
@@ -370,9 +386,10 @@ commit_none schema old txn es new cannot =
     is_false (may_stand schema s rs (Commit txn es))
     (λ may.
     let parts = and_parts (txn.epoch == greatest rs) (list_all (may_commit schema s rs es) es) may in
-    cannot (eqb-true txn.epoch (greatest rs) parts.0 ∙ sym was.epoch)
-    (commit_on_fields schema s rs old.rights old.ledger old.epoch lawful was es parts.1)
-    (commit_is_free schema s rs old.rights old.ledger old.epoch lawful was es parts.1)))
+    cannot (eqb-true txn.epoch (greatest rs) parts.0 ∙ sym was.for_.epoch)
+    (commit_on_fields schema s rs old.rights old.ledger old.epoch lawful was.for_ es parts.1)
+    (commit_is_free schema s rs old.rights old.ledger old.epoch lawful was.for_ was.none es parts.1)))
+    (λ can. cannot can.0 can.1 can.2)
 
 -- a commit that may stand
 pub commit_taken : (schema : SchemaValue) (old : Standing) (txn : TxnId) (es : List Escrow) → HasPlaces schema old.rights old.ledger
@@ -382,7 +399,8 @@ commit_taken schema old txn es places same fields free =
     takes_one schema old (Commit txn es) _
     (λ s rs lawful was.
     rw (eq-eqb txn.epoch (greatest rs) (same ∙ was.epoch), may_commit_all schema s rs old.rights old.ledger old.epoch lawful was es fields free) refl)
-    (λ s rs lawful was may. stands_commit schema s rs old.rights old.ledger old.epoch lawful was txn es (fields_in_range schema old.rights es places.count fields) may)
+    (λ s rs lawful was may. stands_commit schema s rs old.rights old.ledger old.epoch lawful was txn es (fields_in_range schema old.rights es places.count fields) free may)
+    (held_committed old.rights es (fields_in_range schema old.rights es places.count fields))
 
 -- a gift that may stand
 pub gift_taken : (schema : SchemaValue) (old : Standing) (at : SiteNo) (field : FieldNo) (kind : Kind) (total amount : ℕ) → HasPlaces schema old.rights old.ledger
@@ -398,10 +416,11 @@ gift_taken schema old at field kind total amount places here more is enough =
     let before = was.given at.0 field.0 kind other_site in
     four_true (is_other_site schema s at.0) (is_field schema field.0) _ _ there
     (lt-ltb (given_in rs at.0 field.0 kind) total (omega (arith, before, more)))
-    (le-leb (total - given_in rs at.0 field.0 kind) (own_in schema s rs field.0 kind) (omega (arith, before, is, enough, was.free field.0 kind l))))
+    (le-leb (total - given_in rs at.0 field.0 kind) (own_in schema s rs field.0 kind) (omega (arith, before, is, enough, was.own field.0 kind l))))
     (λ s rs lawful was may.
     let there : (is_other_site schema s at.0 && is_field schema field.0) ≡ true = subst (λ (n : ℕ). (is_other_site schema n at.0 && is_field schema field.0) ≡ true) was.site here in
-    stands_gift schema s rs old.rights old.ledger old.epoch lawful was at field kind (is_other schema s at.0 field.0 there) total may more amount is)
+    stands_gift schema s rs old.rights old.ledger old.epoch lawful was at field kind (is_other schema s at.0 field.0 there) total may more amount is enough)
+    (λ f k l. held_at-dropped old.rights field.0 f kind k amount (omega (arith, places.count, (is_other schema old.ledger.site at.0 field.0 here).field_in)))
 
 -- an acceptance that may not stand
 pub accept_none : (schema : SchemaValue) (old : Standing) (at : SiteNo) (field : FieldNo) (kind : Kind) (total : ℕ) (new : Standing)
@@ -414,11 +433,12 @@ accept_none schema old at field kind total new cannot =
     (λ may.
     let there = four_first (is_other_site schema s at.0) (is_field schema field.0) _ _ may in
     let other_site = is_other schema s at.0 field.0 there in
-    let l : field.0 < length old.rights = omega (arith, was.count, other_site.field_in) in
+    let l : field.0 < length old.rights = omega (arith, was.for_.count, other_site.field_in) in
     let parts = accept_parts schema s rs at field kind total may in
-    let before = was.accepted at.0 field.0 kind other_site in
-    let room = room_is schema s rs old.rights old.ledger old.epoch lawful was field.0 l in
+    let before = was.for_.accepted at.0 field.0 kind other_site in
+    let room = room_is schema s rs old.rights old.ledger old.epoch lawful was.for_ field.0 l in
     cannot (omega (arith, before, parts.1)) (omega (arith, before, room, parts.2))))
+    (λ can. cannot can.1 can.2)
 
 -- an acceptance that may stand
 pub accept_taken : (schema : SchemaValue) (old : Standing) (at : SiteNo) (field : FieldNo) (kind : Kind) (total gain : ℕ) → HasPlaces schema old.rights old.ledger
@@ -439,6 +459,7 @@ accept_taken schema old at field kind total gain places here more is enough =
     (λ s rs lawful was may.
     let there : (is_other_site schema s at.0 && is_field schema field.0) ≡ true = subst (λ (n : ℕ). (is_other_site schema n at.0 && is_field schema field.0) ≡ true) was.site here in
     stands_accept schema s rs old.rights old.ledger old.epoch lawful was at field kind (is_other schema s at.0 field.0 there) total may gain is)
+    (λ f k l. held_at-added old.rights field.0 f kind k gain (omega (arith, places.count, (is_other schema old.ledger.site at.0 field.0 here).field_in)))
 
 -- a restart that may stand
 pub restart_taken : (schema : SchemaValue) (old : Standing) (new : ℕ) → old.epoch < new → TakesIn schema old (Restart new) true (record { rights = old.rights; ledger = old.ledger; epoch = new })
@@ -446,6 +467,7 @@ restart_taken schema old new later =
     takes_one schema old (Restart new) _
     (λ s rs lawful was. lt-ltb (greatest rs) new (omega (arith, was.epoch, later)))
     (λ s rs lawful was may. stands_restart schema s rs old.rights old.ledger old.epoch lawful was new may)
+    (λ f k l. refl)
 
 -- the same, where what was answered and what is left are told by equations
 pub takes_as : (schema : SchemaValue) (old : Standing) (r : Record) (answer : Bool) (rows rows' : List FieldRights) (ledger ledger' : LedgerValue) (epoch : ℕ) → answer ≡ true → rows ≡ rows' → ledger ≡ ledger'
@@ -454,6 +476,15 @@ takes_as schema old r answer rows rows' ledger ledger' epoch answered rights tot
     subst (λ (b : Bool). TakesIn schema old r b (record { rights = rows; ledger = ledger; epoch = epoch })) (sym answered)
     (subst (λ (x : List FieldRights). TakesIn schema old r true (record { rights = x; ledger = ledger; epoch = epoch })) (sym rights)
     (subst (λ (x : LedgerValue). TakesIn schema old r true (record { rights = rows'; ledger = x; epoch = epoch })) (sym totals) taken_in))
+
+-- one record more of a log that is read
+pub after_one : (schema : SchemaValue) (s : ℕ) (rs : List Record) (r : Record) (old new : Standing) → Lawful schema s rs → IsStandingFor schema s rs old → TakesIn schema old r true new → IsStandingFor schema s (rs ++ r ∷ []) new
+after_one schema s rs r old new lawful was takes =
+    let more = takes.stands refl s rs lawful was.for_ in
+    record {
+      for_ = more;
+      none = λ f k l. let k_ : f < length old.rights = omega (arith, l, more.count, was.for_.count) in takes.held refl f k k_ ∙ was.none f k k_;
+    }
 
 -- ---- results
 

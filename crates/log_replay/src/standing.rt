@@ -51,10 +51,7 @@ impl Standing {
     pub fn take_in(&mut self, schema: &Schema, next: &Record) -> bool
         requires places { HasPlaces schema.now self.old.rights self.old.ledger }
         requires in_range { IsRecord next.now }
-        ensures answer { (s : ℕ) (rs : List Record) → Lawful schema.now s rs → IsStandingFor schema.now s rs self.old →
-            result ≡ may_stand schema.now s rs next.now }
-        ensures stands { result ≡ true → (s : ℕ) (rs : List Record) → Lawful schema.now s rs → IsStandingFor schema.now s rs self.old →
-            IsStandingFor schema.now s (rs ++ next.now ∷ []) self.new }
+        ensures takes_in { TakesIn schema.now self.old next.now result self.new }
     {
         match next {
             Record::Commit { txn, escrows } => self.commit(schema, *txn, escrows.as_slice()),

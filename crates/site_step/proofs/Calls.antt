@@ -1,8 +1,12 @@
 -- What each call of a site needs and leaves: once for each, over the site as it is kept and as its callers see it.
-use Rattle.std.proofs.Common.{◌≡◌, ◌≢◌, ◌≤◌, ◌<◌, ℕ, ◌+◌, Bool, true, false, ◌&&◌, List, [], ◌∷◌, ◌++◌, length, reverse, refl, sym, ap, subst, ◌∙◌, arith, Option, Some, None}
+use Rattle.std.proofs.Common.{◌≡◌, ◌≢◌, ◌≤◌, ◌<◌, ℕ, ◌+◌, ◌-◌, Bool, true, false, ◌&&◌, List, [], ◌∷◌, ◌++◌, length, reverse, refl, sym, ap, subst, ◌∙◌, arith, Option, Some, None}
 use Rattle.std.specs.Prelude.{Ok, Err, unsigned_abs}
 use Rattle.std.proofs.lemmas.List.{length-reverse}
 use Rattle.field_bounds.specs.declared.id.TxnId.{TxnId}
+use Rattle.field_bounds.specs.declared.id.SiteNo.{SiteNo}
+use Rattle.field_bounds.specs.declared.id.FieldNo.{FieldNo}
+use Rattle.field_bounds.specs.declared.kind.Kind.{Kind}
+use Rattle.field_bounds.specs.declared.kind.Kind.TheVariants.{Lower, Raise}
 use Rattle.field_bounds.specs.declared.entry.Command.{Command}
 use Rattle.field_bounds.specs.declared.entry.Command.TheVariants.{Begin, Escrow as Ask, Commit, Restart}
 use Rattle.field_bounds.specs.declared.entry.Entry.{Entry}
@@ -14,19 +18,20 @@ use Rattle.field_bounds.specs.declared.entry.Refusal.{Refusal}
 use Rattle.field_bounds.specs.declared.entry.Refusal.TheVariants.{NumbersFull}
 use Rattle.field_bounds.specs.Kind.{kind_of}
 use Rattle.field_bounds.specs.Effects.{is_begun, is_open, escrows_of}
-use Rattle.field_bounds.specs.Owed.{first, refusals, answer, writes, is_up, count_escrows, max_open, max_escrows}
+use Rattle.field_bounds.specs.Owed.{first, refusals, answer, writes, is_up, count_escrows, max_open, max_escrows, free, owned, room, told_so_far, gain_of}
 use Rattle.field_bounds.proofs.Refused.{up_there}
 use Rattle.site_rights.specs.declared.field_rights.FieldRights.{FieldRights}
 use Rattle.site_rights.specs.declared.field_rights.Outcome.TheVariants.{Committed}
-use Rattle.site_rights.specs.Rights.{free_at, by_escrow, taken}
+use Rattle.site_rights.specs.Rights.{free_at, own_at, room_at, by_escrow, taken}
 use Rattle.escrow_journal.specs.Journal.{Row, stands, escrows_at, added}
-use Rattle.gift_ledger.specs.Ledger.{IsPlace}
+use Rattle.gift_ledger.specs.Ledger.{total_at, accepted_at, IsPlace}
 use Rattle.kept_records.specs.declared.medium.Device.{Device}
 use Rattle.kept_records.specs.declared.medium.Mishap.{Mishap}
 use Rattle.kept_records.specs.declared.record.Record.{Record}
 use Rattle.kept_records.specs.Text.{text, IsRecord}
 use Rattle.kept_records.specs.Medium.{AppendFate}
 use Rattle.kept_records.specs.Keeping.{Appends}
+use Rattle.kept_records.specs.Stands.{Lawful}
 use Rattle.kept_state.specs.Keeps.{record_at}
 use Rattle.kept_state.specs.Doubt.{found_of}
 use Rattle.kept_state.proofs.Ranges.{record_in_range}
@@ -35,11 +40,16 @@ use Rattle.log_replay.specs.declared.standing.Standing.{Standing}
 use Rattle.log_replay.specs.Standing.{IsStandingFor}
 use Rattle.site_step.specs.declared.accounts.Accounts.{Accounts}
 use Rattle.site_step.specs.Site.{SiteValue, base_of, here, entry_of, HoldsLog}
-use Rattle.site_step.specs.State.{StandsOn, IsSound, CanCarry, is_carried, carried}
+use Rattle.site_step.specs.State.{StandsOn, IsSound, CanSettle, CanCarry, is_carried, settled, with_rights, readied}
+use Rattle.site_step.proofs.Reading.{Reads, reads}
+use Rattle.kept_records.specs.declared.record.Record.TheVariants as records
+use Rattle.kept_state.proofs.Staying.{run_lawful_more}
+use Rattle.log_replay.specs.Standing.{HasPlaces, CanTakeIn, TakesIn}
+use Rattle.log_replay.proofs.StandingLaws.{has_places}
 use Rattle.site_step.specs.Resuming.{IsLawfulLog, FailsOver, FullOver, StandsOver}
 use Rattle.site_step.proofs.Matching.{stands-journal_of, escrows_at-journal_of}
-use Rattle.site_step.proofs.Settling.{carried_no_restart, writes_is_carried}
-use Rattle.site_step.proofs.Standing.{next_is, next_is_closed, room_by, opened_by, few_by, enough_by, end_opened, escrows_are, stands_open, stands_begin, stands_grant, can_carry, stands_carried}
+use Rattle.site_step.proofs.Settling.{carried_no_restart}
+use Rattle.site_step.proofs.Standing.{next_is, next_is_closed, room_by, opened_by, few_by, enough_by, end_opened, escrows_are, stands_open, stands_begin, stands_grant, can_settle, stands_settled, can_carry, stands_carried}
 use Rattle.site_step.proofs.Ends.{Ends, ends_refused, ends_answered, few_records}
 use Rattle.site_step.proofs.Writes.{count_is, is_there, ends_wrote, ends_unsure}
 use Rattle.site_step.proofs.Restarts.{ends_failed, ends_full, ends_restarted}
@@ -69,8 +79,14 @@ module _ {v w : SiteValue} {up : Bool} {count : ℕ} {a : Accounts} (was : IsSou
 
   -- ---- what is read
 
-  pub stands_now : is_up (base_of w) w.history ≡ true → StandsOn w.schema w.site.0 (base_of w) w.history a
-  stands_now there = (subst (λ (x : SiteValue). IsSound x up count a) is was).stands there
+  pub stands_now : is_up (base_of w) w.history ≡ true → Reads w.schema w.site.0 (base_of w) w.history a
+  stands_now there = reads w up count a (subst (λ (x : SiteValue). IsSound x up count a) is was) there
+
+  read : is_up (base_of v) v.history ≡ true → Reads v.schema v.site.0 (base_of v) v.history a
+  read there = reads v up count a was there
+
+  lawful : Lawful v.schema v.site.0 was.records
+  lawful = run_stays_lawful v.schema v.site.0 (base_of v) v.based was.is_base was.based_on was.kept v.history was.records was.run was.keeps
 
   pub tells_open : is_up (base_of w) w.history ≡ true → (t : TxnId) → stands t a.journal ≡ (is_begun t (here w).effects && is_open t (here w).effects)
   tells_open there t = ap (stands t) (stands_now there).matches.journal ∙ stands-journal_of t (here w).effects
@@ -79,8 +95,32 @@ module _ {v w : SiteValue} {up : Bool} {count : ℕ} {a : Accounts} (was : IsSou
   tells_count there t opened =
       ap (λ j. length (escrows_at t j)) (stands_now there).matches.journal ∙ ap length (escrows_at-journal_of t (here w).effects opened) ∙ length-reverse (escrows_of t (here w).effects)
 
-  pub has_place : is_up (base_of w) w.history ≡ true → {s f : ℕ} → s ≢ w.site.0 → s < w.schema.sites → f < length w.schema.fields → IsPlace a.ledger s f
+  pub has_place : is_up (base_of w) w.history ≡ true → {s f : ℕ} → s ≢ w.site.0 → s < w.schema.sites → f < length w.schema.fields → IsPlace a.standing.ledger s f
   has_place there {s = s} {f = f} other site_in field_in = (stands_now there).holds.place s f (record { other = other; site_in = site_in; field_in = field_in })
+
+  pub tells_free : is_up (base_of w) w.history ≡ true → (f : FieldNo) (k : Kind) → f.0 < length w.schema.fields → free_at a.standing.rights f.0 k ≡ free (here w) f k
+  tells_free there f k l = let m = (stands_now there).matches in m.free f.0 k (omega (arith, l, m.count))
+
+  pub tells_own : is_up (base_of w) w.history ≡ true → (f : FieldNo) (k : Kind) → f.0 < length w.schema.fields → own_at a.standing.rights f.0 k ≡ owned (here w) f k
+  tells_own there f k l =
+      let m = (stands_now there).matches in
+      let l' : f.0 < length a.standing.rights = omega (arith, l, m.count) in
+      omega (arith, m.free f.0 k l', m.held f.0 k l')
+
+  pub tells_room : is_up (base_of w) w.history ≡ true → (f : FieldNo) → f.0 < length w.schema.fields → room_at a.standing.rights f.0 ≡ room (here w) f
+  tells_room there f l =
+      let m = (stands_now there).matches in
+      let l' : f.0 < length a.standing.rights = omega (arith, l, m.count) in
+      omega (arith, m.width f.0 l', m.free f.0 Lower l', m.held f.0 Lower l', m.free f.0 Raise l', m.held f.0 Raise l')
+
+  pub tells_given : is_up (base_of w) w.history ≡ true → (to : SiteNo) (f : FieldNo) (k : Kind) → to.0 ≢ w.site.0 → to.0 < w.schema.sites → f.0 < length w.schema.fields
+      → total_at a.standing.ledger to.0 f.0 k ≡ told_so_far (here w) to f k
+  tells_given there to f k other site_in field_in = (stands_now there).holds.given to.0 f.0 k (record { other = other; site_in = site_in; field_in = field_in })
+
+  pub tells_gain : is_up (base_of w) w.history ≡ true → (from : SiteNo) (f : FieldNo) (k : Kind) (total : ℕ) → from.0 ≢ w.site.0 → from.0 < w.schema.sites → f.0 < length w.schema.fields
+      → total - accepted_at a.standing.ledger from.0 f.0 k ≡ gain_of (here w) from f k total
+  tells_gain there from f k total other site_in field_in =
+      ap (λ (n : ℕ). total - n) ((stands_now there).holds.accepted from.0 f.0 k (record { other = other; site_in = site_in; field_in = field_in }))
 
   pub holds_log : HoldsLog w
   holds_log =
@@ -105,20 +145,20 @@ module _ {v w : SiteValue} {up : Bool} {count : ℕ} {a : Accounts} (was : IsSou
 
   -- ---- an answer that writes no record
 
-  pub can : (c : Command) → first (refusals (here w) c) ≡ None → is_carried c ≡ true → CanCarry a c
+  pub can : (c : Command) → first (refusals (here w) c) ≡ None → is_carried c ≡ true → CanSettle a c
   can c none plain =
-      can_carry v.schema v.site.0 (base_of v) v.history a was.run (was.stands (up_there (here v) c (carried_no_restart c plain) (none_of c none))) c (none_of c none)
+      can_settle v.schema v.site.0 (base_of v) v.history a was.run (read (up_there (here v) c (carried_no_restart c plain) (none_of c none))) c (none_of c none)
 
   pub answers : (c : Command) (r : Reply) {h : List Entry} {q : Reply} {b : Accounts} → first (refusals (here w) c) ≡ None → is_carried c ≡ true → writes (here w) c ≡ false → r ≡ answer (here w) c
-      → b ≡ carried a c → h ≡ entry_of v c r ∷ v.history → q ≡ r → Ends w c q (After h) up count b
+      → b ≡ settled a c → h ≡ entry_of v c r ∷ v.history → q ≡ r → Ends w c q (After h) up count b
   answers c r {h = h} {q = q} {b = b} none plain silent owed did past said =
       let n = carried_no_restart c plain in
       let there = up_there (here v) c n (none_of c none) in
+      let quiet = subst (λ (x : SiteValue). writes (here x) c ≡ false) (sym is) silent in
       returned c r q (After h) up count b said
       (subst (λ (x : Accounts). Ends v c r (After h) up count x) (sym did)
-      (ends_answered v up count a was c (carried a c) r h (subst (λ (x : SiteValue). r ≡ answer (here x) c) (sym is) owed) past n (none_of c none)
-      (subst (λ (x : SiteValue). writes (here x) c ≡ false) (sym is) silent)
-      (stands_carried v.schema v.site.0 (base_of v) v.history a was.run (was.stands there) v.site c plain (none_of c none))))
+      (ends_answered v up count a was c (settled a c) r h (subst (λ (x : SiteValue). r ≡ answer (here x) c) (sym is) owed) past n (none_of c none) quiet
+      (stands_settled v.schema v.site.0 (base_of v) v.history a was.run (read there) was.records (was.stands there) v.site c plain quiet (none_of c none))))
 
   -- ---- an answer whose record is written
 
@@ -135,24 +175,30 @@ module _ {v w : SiteValue} {up : Bool} {count : ℕ} {a : Accounts} (was : IsSou
     pub record_fits : {kept : Record} → kept ≡ record_at (here w) c → IsRecord kept
     record_fits kept_is = subst (λ (r : Record). IsRecord r) (sym kept_is) (subst (λ (x : SiteValue). IsRecord (record_at (here x) c)) is fits)
 
-    pub can_write : CanCarry a c
-    can_write = can c none (writes_is_carried (here v) c writing)
+    there_now : is_up (base_of v) v.history ≡ true
+    there_now = is_there v up count a was c unrefused writing fits
+
+    pub can_write : {kept : Record} → kept ≡ record_at (here w) c → CanCarry v.schema a kept
+    can_write kept_is =
+        let may = run_lawful_more v.schema v.site.0 (base_of v) v.based was.is_base was.kept v.history was.records was.run was.keeps c unrefused writing in
+        subst (λ (r : Record). CanCarry v.schema a r) (sym (kept_is ∙ sym (ap (λ (x : SiteValue). record_at (here x) c) is)))
+        (can_carry v.schema v.site.0 (base_of v) v.history a was.run (read there_now) was.records (was.stands there_now) lawful c unrefused writing may)
 
     pub few_written : count ≤ length v.based + length v.history
     few_written = omega (arith, count_is v up count a was c unrefused writing fits, few_records v up count a was)
 
     pub wrote : (r : Reply) (kept : Record) {h : List Entry} {q : Reply} {b : Accounts} {bytes : List ℕ} {failed : ℕ} {left : Option Mishap} → kept ≡ record_at (here w) c → r ≡ answer (here w) c
-        → b ≡ carried a c → Appends {T = Unit {0}} {E = Device} (Ok tt) v.bytes (text kept) bytes v.failed failed → AppendFate {E = Device} v.foretold v.bytes (text kept) (Ok tt) bytes left
+        → TakesIn v.schema (readied a kept).standing kept true b.standing → b.journal ≡ (readied a kept).journal → b.last ≡ a.last
+        → Appends {T = Unit {0}} {E = Device} (Ok tt) v.bytes (text kept) bytes v.failed failed → AppendFate {E = Device} v.foretold v.bytes (text kept) (Ok tt) bytes left
         → h ≡ entry_of v c r ∷ v.history → q ≡ r → Ends w c q (Then h bytes failed left v.doubt) up (count + 1) b
-    wrote r kept {h = h} {q = q} {b = b} {bytes = bytes} {failed = failed} {left = left} kept_is owed did added fate past said =
-        let there = is_there v up count a was c unrefused writing fits in
+    wrote r kept {h = h} {q = q} {b = b} {bytes = bytes} {failed = failed} {left = left} kept_is owed took open_ last_is added fate past said =
         let same : kept ≡ record_at (here v) c = subst (λ (x : SiteValue). kept ≡ record_at (here x) c) (sym is) kept_is in
         let line = subst (λ (x : Record). Appends {T = Unit {0}} {E = Device} (Ok tt) v.bytes (text x) bytes v.failed failed) same added in
         returned c r q (Then h bytes failed left v.doubt) up (count + 1) b said
-        (subst (λ (x : Accounts). Ends v c r (Then h bytes failed left v.doubt) up (count + 1) x) (sym did)
-        (ends_wrote v up count a was c unrefused writing fits (carried a c) bytes failed left r h (subst (λ (x : SiteValue). r ≡ answer (here x) c) (sym is) owed) past
-        (stands_carried v.schema v.site.0 (base_of v) v.history a was.run (was.stands there) v.site c (writes_is_carried (here v) c writing) unrefused) line.0 line.1
-        (subst (λ (x : Record). AppendFate {E = Device} v.foretold v.bytes (text x) (Ok tt) bytes left) same fate)))
+        (ends_wrote v up count a was c unrefused writing fits b bytes failed left r h (subst (λ (x : SiteValue). r ≡ answer (here x) c) (sym is) owed) past
+        (stands_carried v.schema v.site.0 (base_of v) v.history a was.run (read there_now) was.records (was.stands there_now) lawful v.site c unrefused writing b
+        (subst (λ (x : Record). TakesIn v.schema (readied a x).standing x true b.standing) same took) (subst (λ (x : Record). b.journal ≡ (readied a x).journal) same open_) last_is) line.0 line.1
+        (subst (λ (x : Record). AppendFate {E = Device} v.foretold v.bytes (text x) (Ok tt) bytes left) same fate))
 
     pub unsure : (kept : Record) (device : Device) {h : List Entry} {q : Reply} {bytes : List ℕ} {failed : ℕ} {left : Option Mishap} → kept ≡ record_at (here w) c
         → Appends {T = Unit {0}} (Err device) v.bytes (text kept) bytes v.failed failed → AppendFate v.foretold v.bytes (text kept) (Err device) bytes left
@@ -167,28 +213,29 @@ module _ {v w : SiteValue} {up : Bool} {count : ℕ} {a : Accounts} (was : IsSou
   -- ---- a begin
 
   module _ (none : first (refusals (here w) Begin) ≡ None) where
-    stood : StandsOn v.schema v.site.0 (base_of v) v.history a
-    stood = was.stands (up_there (here v) Begin refl (none_of Begin none))
+    stood : is_up (base_of v) v.history ≡ true
+    stood = up_there (here v) Begin refl (none_of Begin none)
 
     abbrev t : TxnId
-    t = record { epoch = a.epoch; number = a.last + 1 }
+    t = record { epoch = a.standing.epoch; number = a.last + 1 }
 
     pub begin_is_new : stands t a.journal ≡ false
-    begin_is_new = next_is_closed v.schema v.site.0 (base_of v) v.history a was.run stood
+    begin_is_new = next_is_closed v.schema v.site.0 (base_of v) v.history a was.run (read stood)
 
     pub begin_has_room : length a.journal < max_open
-    begin_has_room = room_by v.schema v.site.0 (base_of v) v.history a was.run stood (none_of Begin none)
+    begin_has_room = room_by v.schema v.site.0 (base_of v) v.history a was.run (read stood) (none_of Begin none)
 
     pub begins : {h : List Entry} {q : Reply} {j : List Row} → j ≡ a.journal ++ (t, []) ∷ [] → h ≡ entry_of v Begin (Begun t) ∷ v.history → q ≡ Begun t
         → Ends w Begin q (After h) up count (record a { journal = j; last = a.last + 1 })
     begins {h = h} {q = q} {j = j} row past said =
-        let begun : ◌≡◌ {A = Reply} (Begun t) (answer (here v) Begin) = ap (λ (x : TxnId). Begun x) (next_is v.schema v.site.0 (base_of v) v.history a was.run stood) in
+        let begun : ◌≡◌ {A = Reply} (Begun t) (answer (here v) Begin) = ap (λ (x : TxnId). Begun x) (next_is v.schema v.site.0 (base_of v) v.history a was.run (read stood)) in
         let more : List Row → Accounts = λ j. record a { journal = j; last = a.last + 1 } in
         let b = more (a.journal ++ (t, []) ∷ []) in
         returned Begin (Begun t) q (After h) up count (more j) said
         (subst (λ (x : List Row). Ends v Begin (Begun t) (After h) up count (more x)) (sym row)
         (ends_answered v up count a was Begin b (Begun t) h begun past refl (none_of Begin none) refl
-        (subst (λ (r : Reply). StandsOn v.schema v.site.0 (base_of v) (entry_of v Begin r ∷ v.history) b) begun (stands_begin v.schema v.site.0 (base_of v) v.history a was.run stood v.site))))
+        (subst (λ (r : Reply). StandsOn v.schema v.site.0 (base_of v) (entry_of v Begin r ∷ v.history) was.records b) begun
+        (stands_begin v.schema v.site.0 (base_of v) v.history a was.run (read stood) was.records (was.stands stood) v.site))))
 
   -- ---- a grant
 
@@ -196,32 +243,33 @@ module _ {v w : SiteValue} {up : Bool} {count : ℕ} {a : Accounts} (was : IsSou
     abbrev ask : Command
     ask = Ask txn e.field e.change
 
-    held : StandsOn v.schema v.site.0 (base_of v) v.history a
-    held = was.stands (up_there (here v) ask refl (none_of ask none))
+    held : is_up (base_of v) v.history ≡ true
+    held = up_there (here v) ask refl (none_of ask none)
 
     pub grant_opened : stands txn a.journal ≡ true
-    grant_opened = stands_open v.schema v.site.0 (base_of v) v.history a was.run held txn (opened_by v.schema v.site.0 (base_of v) v.history a was.run held txn e (none_of ask none))
+    grant_opened =
+        stands_open v.schema v.site.0 (base_of v) v.history a was.run (read held) txn (opened_by v.schema v.site.0 (base_of v) v.history a was.run (read held) txn e (none_of ask none))
 
     pub grant_has_room : length (escrows_at txn a.journal) < max_escrows
-    grant_has_room = few_by v.schema v.site.0 (base_of v) v.history a was.run held txn e (none_of ask none)
+    grant_has_room = few_by v.schema v.site.0 (base_of v) v.history a was.run (read held) txn e (none_of ask none)
 
-    pub grant_has_rights : unsigned_abs e.change ≤ free_at a.rights e.field.0 (kind_of e.change)
-    grant_has_rights = enough_by v.schema v.site.0 (base_of v) v.history a was.run held txn e (none_of ask none)
+    pub grant_has_rights : unsigned_abs e.change ≤ free_at a.standing.rights e.field.0 (kind_of e.change)
+    grant_has_rights = enough_by v.schema v.site.0 (base_of v) v.history a was.run (read held) txn e (none_of ask none)
 
-    pub grants : {h : List Entry} {q : Reply} {rows : List FieldRights} {j : List Row} → rows ≡ by_escrow taken a.rights e → j ≡ added txn e a.journal → h ≡ entry_of v ask Granted ∷ v.history
-        → q ≡ Granted → Ends w ask q (After h) up count (record a { rights = rows; journal = j })
+    pub grants : {h : List Entry} {q : Reply} {rows : List FieldRights} {j : List Row} → rows ≡ by_escrow taken a.standing.rights e → j ≡ added txn e a.journal → h ≡ entry_of v ask Granted ∷ v.history
+        → q ≡ Granted → Ends w ask q (After h) up count (record (with_rights rows a) { journal = j })
     grants {h = h} {q = q} {rows = rows} {j = j} took row past said =
-        let more : List FieldRights → List Row → Accounts = λ x y. record a { rights = x; journal = y } in
+        let more : List FieldRights → List Row → Accounts = λ x y. record (with_rights x a) { journal = y } in
         returned ask Granted q (After h) up count (more rows j) said
         (subst (λ (x : List FieldRights). Ends v ask Granted (After h) up count (more x j)) (sym took)
-        (subst (λ (y : List Row). Ends v ask Granted (After h) up count (more (by_escrow taken a.rights e) y)) (sym row)
-        (ends_answered v up count a was ask (more (by_escrow taken a.rights e) (added txn e a.journal)) Granted h refl past refl (none_of ask none) refl
-        (stands_grant v.schema v.site.0 (base_of v) v.history a was.run held v.site txn e (none_of ask none)))))
+        (subst (λ (y : List Row). Ends v ask Granted (After h) up count (more (by_escrow taken a.standing.rights e) y)) (sym row)
+        (ends_answered v up count a was ask (more (by_escrow taken a.standing.rights e) (added txn e a.journal)) Granted h refl past refl (none_of ask none) refl
+        (stands_grant v.schema v.site.0 (base_of v) v.history a was.run (read held) was.records (was.stands held) v.site txn e (none_of ask none)))))
 
   -- ---- a commit
 
   module _ (txn : TxnId) (none : first (refusals (here w) (Commit txn)) ≡ None) where
-    there_ : StandsOn w.schema w.site.0 (base_of w) w.history a
+    there_ : Reads w.schema w.site.0 (base_of w) w.history a
     there_ = stands_now (up_there (here w) (Commit txn) refl none)
 
     run_now : IsSound w up count a
@@ -261,12 +309,20 @@ module _ {v w : SiteValue} {up : Bool} {count : ℕ} {a : Accounts} (was : IsSou
   fills {h = h} {q = q} {bytes = bytes} {failed = failed} {left = left} did past said =
       returned Restart (Refused NumbersFull) q (Then h bytes failed left v.doubt) up count a said (ends_full v up count a was bytes failed left h past did)
 
+  pub can_restart : (standing : Standing) (epoch : ℕ) {found : List Record} {rest bytes : List ℕ} {failed : ℕ} {left : Option Mishap}
+      → StandsOver v.schema v.site.0 was.records found epoch rest bytes v.foretold left v.failed failed × IsStandingFor v.schema v.site.0 was.records standing
+      → HasPlaces v.schema standing.rights standing.ledger × CanTakeIn v.schema standing (records.Restart epoch) × IsRecord (records.Restart epoch)
+  can_restart standing epoch did = (
+    has_places v.schema v.site.0 was.records standing.rights standing.ledger standing.epoch did.1.for_,
+    omega (arith, did.0.epoch_is, did.1.for_.epoch),
+    (omega (arith, did.0.epoch_is), omega (arith, did.0.epoch_is, did.0.some)),
+  )
+
   pub restarts : (standing : Standing) (found : List Record) (epoch : ℕ) (last : Last) {h : List Entry} {q : Reply} {b : Accounts} {size : ℕ} {bytes : List ℕ} {failed : ℕ} {left : Option Mishap}
       → StandsOver v.schema v.site.0 was.records found epoch was.rest bytes v.foretold left v.failed failed × IsStandingFor v.schema v.site.0 was.records standing
-      → b ≡ record { rights = standing.rights; journal = []; ledger = standing.ledger; epoch = epoch; last = 0 } → last ≡ found_of v.doubt found → size ≡ length found
+      → TakesIn v.schema standing (records.Restart epoch) true b.standing → b.journal ≡ [] → b.last ≡ 0 → last ≡ found_of v.doubt found → size ≡ length found
       → h ≡ entry_of v Restart (Restarted epoch last) ∷ v.history → q ≡ Restarted epoch last → Ends w Restart q (Then h bytes failed left None) true (size + 1) b
-  restarts standing found epoch last {h = h} {q = q} {b = b} {size = size} {bytes = bytes} {failed = failed} {left = left} did stood found_is counted past said =
+  restarts standing found epoch last {h = h} {q = q} {b = b} {size = size} {bytes = bytes} {failed = failed} {left = left} did took open_ last_is found_is counted past said =
       let r : Reply = Restarted epoch last in
       returned Restart r q (Then h bytes failed left None) true (size + 1) b said
-      (subst (λ (x : Accounts). Ends v Restart r (Then h bytes failed left None) true (size + 1) x) (sym stood)
-      (ends_restarted v up count a was standing found epoch bytes failed left r size h did.1 did.0 (ap (λ (l : Last). Restarted epoch l) found_is) counted past))
+      (ends_restarted v up count a was standing found epoch b bytes failed left r size h did.1 did.0 took open_ last_is (ap (λ (l : Last). Restarted epoch l) found_is) counted past)

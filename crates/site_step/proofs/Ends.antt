@@ -95,7 +95,7 @@ module _ (v : SiteValue) (up : Bool) (count : ℕ) (a : Accounts) (was : IsSound
           up_is = was.up_is;
           clean = was.clean;
           in_doubt = quiet_doubt was.kept v.history (entry_of v c (Refused x)) was.records v.doubt (omega arith) was.in_doubt;
-          stands = λ u. stands_refused v.schema v.site.0 base v.history a was.run (was.stands u) v.site c x;
+          stands = λ u. stands_refused v.schema v.site.0 base v.history was.records a (was.stands u) v.site c x;
         };
         applies = record {
           fits = refusal_fits at c x some;
@@ -128,7 +128,7 @@ module _ (v : SiteValue) (up : Bool) (count : ℕ) (a : Accounts) (was : IsSound
   abbrev After : Command → List Entry
   After c = entry_of v c (answer at c) ∷ v.history
 
-  answered : (c : Command) (b : Accounts) → is_restart c ≡ false → first (refusals at c) ≡ None → writes at c ≡ false → StandsOn v.schema v.site.0 base (After c) b
+  answered : (c : Command) (b : Accounts) → is_restart c ≡ false → first (refusals at c) ≡ None → writes at c ≡ false → StandsOn v.schema v.site.0 base (After c) was.records b
       → Ends v c (answer at c) (record v { history = After c }) up count b
   answered c b n none silent stands =
       let settles = answer_settles at c n in
@@ -185,7 +185,7 @@ module _ (v : SiteValue) (up : Bool) (count : ℕ) (a : Accounts) (was : IsSound
       }
 
   pub ends_answered : (c : Command) (b : Accounts) (r : Reply) (h : List Entry) → r ≡ answer at c → h ≡ entry_of v c r ∷ v.history → is_restart c ≡ false → first (refusals at c) ≡ None
-      → writes at c ≡ false → StandsOn v.schema v.site.0 base (After c) b → Ends v c r (record v { history = h }) up count b
+      → writes at c ≡ false → StandsOn v.schema v.site.0 base (After c) was.records b → Ends v c r (record v { history = h }) up count b
   ends_answered c b r h owed past n none silent stands =
       let after : h ≡ After c = past ∙ ap (λ (x : Reply). entry_of v c x ∷ v.history) owed in
       subst (λ (x : Reply). Ends v c x (record v { history = h }) up count b) (sym owed)

@@ -1,4 +1,4 @@
-pub mod Holding
+pub mod Reading
 pub mod Matching
 pub mod Standing
 pub mod Settling
@@ -7,6 +7,5 @@ pub mod Writes
 pub mod Resumes
 pub mod Restarts
 pub mod Opens
-pub mod Widths
 mod Calls
 pub mod Excluded

@@ -1,28 +1,26 @@
 -- What one more effect does to the rights and the open transactions that match the effects.
-use Rattle.std.proofs.Common.{◌≡◌, ℕ, ◌+◌, ◌-◌, ◌==◌, ◌<◌, Bool, true, false, not, cond, ◌&&◌, ◌||◌, List, [], ◌∷◌, ◌++◌, length, map, reverse, filter, refl, sym, ap, ◌∙◌, arith, inl, inr}
-use Rattle.std.specs.Prelude.{sum_by, unsigned_abs}
+use Rattle.std.proofs.Common.{◌≡◌, ℕ, ◌+◌, ◌<◌, Bool, true, false, not, cond, ◌&&◌, ◌||◌, List, [], ◌∷◌, ◌++◌, length, map, reverse, filter, refl, sym, ap, ◌∙◌, arith, inl, inr}
+use Rattle.std.specs.Prelude.{sum_by}
 use Rattle.std.specs.List.{list_any}
-use Rattle.std.proofs.lemmas.Bool.{cases_Bool, and_parts, eqb-true}
+use Rattle.std.proofs.lemmas.Bool.{cases_Bool}
 use Rattle.std.proofs.lemmas.List.{length-map, length-reverse, map-append}
-use Rattle.std.proofs.Math.ListN.{length-set}
 use Rattle.std.proofs.lemmas.List.Elements.{All-cons, All-nil}
 use Rattle.field_bounds.specs.declared.kind.Kind.{Kind}
 use Rattle.field_bounds.specs.declared.id.TxnId.{TxnId}
 use Rattle.field_bounds.specs.declared.entry.Escrow.{Escrow}
-use Rattle.field_bounds.specs.Kind.{same_kind, kind_of}
 use Rattle.field_bounds.specs.Schema.{SchemaValue}
-use Rattle.field_bounds.specs.Effects.{Base, Effect, Begins, Grants, Commits, Aborts, Gives, Accepts, Stops, accepted, same_txn, begun, open_txns, is_begun, is_committed, is_dropped, is_open, escrows_of, takes, share, held}
+use Rattle.field_bounds.specs.Effects.{Base, Effect, Begins, Grants, Commits, Aborts, Gives, Accepts, Stops, same_txn, begun, open_txns, is_begun, is_committed, is_dropped, is_open, escrows_of, takes, held}
 use Rattle.field_bounds.specs.Owed.{count_open}
-use Rattle.field_bounds.proofs.Lawful.{IsLawful, granted-mono, same_txn-true, same_kind-true}
-use Rattle.field_bounds.proofs.Steps.{same_txn-sym, of_txn, of_txn_is, share_grant, held_grant, share_commit, held_commit, share_abort, held_abort, share_give, share_accept, new_is_unused}
+use Rattle.field_bounds.proofs.Lawful.{IsLawful, granted-mono, same_txn-true}
+use Rattle.field_bounds.proofs.Steps.{same_txn-sym, of_txn, of_txn_is, held_grant, held_commit, held_abort, new_is_unused}
 use Rattle.site_rights.specs.declared.field_rights.FieldRights.{FieldRights}
 use Rattle.site_rights.specs.declared.field_rights.Outcome.{Outcome}
 use Rattle.site_rights.specs.declared.field_rights.Outcome.TheVariants.{Committed, Aborted}
-use Rattle.site_rights.specs.Rights.{at_field, taken, ending, dropped, added as gained, by_escrow, by_escrows, AreInRange, AreHeld}
-use Rattle.site_rights.proofs.RightsLaws.{frees, length-by_escrow, length-by_escrows, free_at-taken, held_at-taken, free_at-by_escrows, held_at-by_escrows, free_at-dropped, held_at-dropped, free_at-added, held_at-added}
+use Rattle.site_rights.specs.Rights.{taken, ending, by_escrow, by_escrows, AreInRange, AreHeld}
+use Rattle.site_rights.proofs.RightsLaws.{length-by_escrow, length-by_escrows, held_at-taken, held_at-by_escrows}
 use Rattle.escrow_journal.specs.Journal.{Row, stands, escrows_at, with_escrow, added, without}
-use Rattle.site_step.specs.State.{row_of, journal_of, Matches}
-use Rattle.site_step.proofs.Widths.{taken_keeps, dropped_keeps, added_keeps, width-at_field, width-by_escrows}
+use Rattle.site_step.specs.State.{row_of, journal_of, SetsAside}
+use Rattle.site_step.proofs.Reading.{Matches}
 use Rattle.escrow_journal.proofs.Lists.{reverse-cons, list_any-reverse, sum_by-reverse, filter-reverse, All-reverse, list_any-map, map-agree, map-map, filter-agree, filter-and, filter-map}
 
 -- ---- what is read of the journal
@@ -144,25 +142,19 @@ journal_of-end o t es =
 -- ---- what changes rights and journal together
 
 module _ (schema : SchemaValue) (base : Base) (es : List Effect) (lawful : IsLawful schema base es) (rows : List FieldRights) (journal : List Row) (was : Matches schema base es rows journal) where
-  pub matches_begin : (t : TxnId) → is_begun t es ≡ false → Matches schema base (Begins t ∷ es) rows (journal ++ (t, []) ∷ [])
-  matches_begin t new =
+  pub aside_begin : (t : TxnId) → is_begun t es ≡ false → SetsAside (Begins t ∷ es) rows (journal ++ (t, []) ∷ [])
+  aside_begin t new =
       let unused = new_is_unused schema base t es lawful new in
       let opened : is_open t es ≡ true = rw (unused.uncommitted, unused.undropped) refl in
       record {
-        count = was.count;
-        width = λ f l. was.width f l;
-        free = λ f k l. was.free f k l;
         held = λ f k l. was.held f k l;
         journal = ap (λ (j : List Row). j ++ (t, []) ∷ []) was.journal ∙ sym (journal_of-begin t es opened unused.no_escrow);
       }
 
-  pub matches_grant : (txn : TxnId) (e : Escrow) → e.field.0 < length rows → is_open txn es ≡ true → Matches schema base (Grants txn e.field.0 e.change ∷ es) (by_escrow taken rows e) (added txn e journal)
-  matches_grant txn e range opened =
+  pub aside_grant : (txn : TxnId) (e : Escrow) → e.field.0 < length rows → is_open txn es ≡ true → SetsAside (Grants txn e.field.0 e.change ∷ es) (by_escrow taken rows e) (added txn e journal)
+  aside_grant txn e range opened =
       let same = length-by_escrow taken rows e in
       record {
-        count = same ∙ was.count;
-        width = λ f l. width-at_field taken taken_keeps rows e.field.0 f (kind_of e.change) (unsigned_abs e.change) range ∙ was.width f (omega (arith, l, same));
-        free = λ f k l. omega (arith, free_at-taken rows e f k range, was.free f k (omega (arith, l, same)), share_grant schema base es lawful f k txn e opened);
         held = λ f k l. omega (arith, held_at-taken rows e f k range, was.held f k (omega (arith, l, same)), held_grant schema base es lawful f k txn e opened);
         journal = ap (added txn e) was.journal ∙ journal_of-grant txn e es;
       }
@@ -196,72 +188,18 @@ module _ (schema : SchemaValue) (base : Base) (es : List Effect) (lawful : IsLaw
       let fewer = granted-mono (λ id. same_txn t id) (λ id. is_open id es) (λ id same. ap (λ (x : TxnId). is_open x es) (sym (same_txn-true t id same)) ∙ opened) f k es in
       omega (arith, sum_is t f k, was.held f k l, fewer)
 
-  share_end : (o : Outcome) (t : TxnId) → is_open t es ≡ true → (f : ℕ) (k : Kind) → share base f k (ended o t ∷ es) ≡ share base f k es + of_txn t f (frees o k) es
-  share_end Committed t opened f k = share_commit schema base es lawful f k t opened
-  share_end Aborted t opened f k = share_abort schema base es lawful f k t opened
-
   held_end : (o : Outcome) (t : TxnId) → is_open t es ≡ true → (f : ℕ) (k : Kind) → held f k (ended o t ∷ es) + of_txn t f k es ≡ held f k es
   held_end Committed t opened f k = held_commit schema base es lawful f k t opened
   held_end Aborted t opened f k = held_abort schema base es lawful f k t opened
 
-  pub matches_end : (o : Outcome) (t : TxnId) → is_open t es ≡ true → Matches schema base (ended o t ∷ es) (by_escrows (ending o) rows (reverse (escrows_of t es))) (without t journal)
-  matches_end o t opened =
+  -- what a transaction that ends holds is given back, however it ends
+  pub aside_end : (o : Outcome) (t : TxnId) → is_open t es ≡ true → SetsAside (ended o t ∷ es) (by_escrows (ending Aborted) rows (reverse (escrows_of t es))) (without t journal)
+  aside_end o t opened =
       let gone = reverse (escrows_of t es) in
-      let same = length-by_escrows (ending o) rows gone in
-      let range = are_in_range t in
+      let same = length-by_escrows (ending Aborted) rows gone in
       record {
-        count = same ∙ was.count;
-        width = λ f l. width-by_escrows o rows gone range f ∙ was.width f (omega (arith, l, same));
-        free = λ f k l.
-            let l' : f < length rows = omega (arith, l, same) in
-            omega (arith, free_at-by_escrows o rows gone range f k, was.free f k l', sum_is t f (frees o k), share_end o t opened f k);
         held = λ f k l.
             let l' : f < length rows = omega (arith, l, same) in
-            omega (arith, held_at-by_escrows o rows gone range (are_held t opened) f k l', was.held f k l', sum_is t f k, held_end o t opened f k);
+            omega (arith, held_at-by_escrows Aborted rows gone (are_in_range t) (are_held t opened) f k l', was.held f k l', sum_is t f k, held_end o t opened f k);
         journal = ap (without t) was.journal ∙ journal_of-end o t es;
-      }
-
-  -- what leaves and comes by a gift and an acceptance
-  pub matches_give : (to field : ℕ) (kind : Kind) (amount : ℕ) → field < length rows → Matches schema base (Gives to field kind amount ∷ es) (at_field dropped rows field kind amount) journal
-  matches_give to field kind amount range =
-      let same : length (at_field dropped rows field kind amount) ≡ length rows = length-set rows field _ in
-      record {
-        count = same ∙ was.count;
-        width = λ f l. width-at_field dropped dropped_keeps rows field f kind amount range ∙ was.width f (omega (arith, l, same));
-        free = λ f k l. omega (arith, free_at-dropped rows field f kind k amount range, was.free f k (omega (arith, l, same)), share_give schema base es lawful f k to field kind amount);
-        held = λ f k l. held_at-dropped rows field f kind k amount range ∙ was.held f k (omega (arith, l, same));
-        journal = was.journal;
-      }
-
-  gained_there : (gain : ℕ → Kind → ℕ) (field f : ℕ) (kind k : Kind) → cond ((field == f) && same_kind kind k) (gain field kind) 0 ≡ cond ((field == f) && same_kind kind k) (gain f k) 0
-  gained_there gain field f kind k =
-      elim (cases_Bool ((field == f) && same_kind kind k)) [
-        | inl here ↦
-            let both = and_parts (field == f) (same_kind kind k) here in
-            let at_field_of : field ≡ f = eqb-true field f both.0 in
-            let of_kind : kind ≡ k = same_kind-true kind k both.1 in
-            let same : gain field kind ≡ gain f k = cc (at_field_of, of_kind) in
-            rw here same
-        | inr there ↦ rw there refl
-      ]
-
-  pub matches_accept : (from field : ℕ) (kind : Kind) (total gain : ℕ) → field < length rows → gain ≡ total - accepted base from field kind es
-      → Matches schema base (Accepts from field kind total ∷ es) (at_field gained rows field kind gain) journal
-  matches_accept from field kind total gain range is =
-      let same : length (at_field gained rows field kind gain) ≡ length rows = length-set rows field _ in
-      let of : ℕ → Kind → ℕ = λ f k. total - accepted base from f k es in
-      record {
-        count = same ∙ was.count;
-        width = λ f l. width-at_field gained added_keeps rows field f kind gain range ∙ was.width f (omega (arith, l, same));
-        free = λ f k l.
-            omega (
-              arith,
-              free_at-added rows field f kind k gain range,
-              ap (λ (n : ℕ). cond ((field == f) && same_kind kind k) n 0) is,
-              gained_there of field f kind k,
-              was.free f k (omega (arith, l, same)),
-              share_accept schema base es lawful f k from field kind total,
-            );
-        held = λ f k l. held_at-added rows field f kind k gain range ∙ was.held f k (omega (arith, l, same));
-        journal = was.journal;
       }

@@ -1,5 +1,5 @@
 -- A site that is opened is sound.
-use Rattle.std.proofs.Common.{◌≡◌, ℕ, ◌<◌, Bool, true, false, List, [], ◌∷◌, ◌++◌, length, drop, refl, sym, ap, subst, ◌∙◌, arith, Option, Some, None}
+use Rattle.std.proofs.Common.{◌≡◌, ℕ, ◌<◌, Bool, true, false, List, [], ◌∷◌, ◌++◌, length, drop, refl, sym, ap, subst, ◌∙◌, Option, Some, None}
 use Rattle.field_bounds.specs.declared.id.SiteNo.{SiteNo}
 use Rattle.field_bounds.specs.declared.entry.Last.TheVariants.{Nothing}
 use Rattle.field_bounds.specs.Schema.{SchemaValue}
@@ -14,7 +14,6 @@ use Rattle.kept_records.proofs.Appending.{read_as_log}
 use Rattle.kept_state.specs.Keeps.{IsBase, opened}
 use Rattle.kept_state.proofs.Ranges.{opened_in_range}
 use Rattle.kept_state.proofs.Covering.{stands_is_base, fresh_is_base}
-use Rattle.kept_state.proofs.Keeping.{run_owns, run_gives, run_accepts}
 use Rattle.log_replay.specs.declared.standing.Standing.{Standing}
 use Rattle.log_replay.specs.Standing.{IsStandingFor}
 use Rattle.site_step.specs.declared.accounts.Accounts.{Accounts}
@@ -52,31 +51,14 @@ breach_spares schema s bytes found n m (Some line) front breach rs rest log lawf
 
 module _ (schema : SchemaValue) (site : SiteNo) (bs : List Record) (standing : Standing) (lawful : Lawful schema site.0 bs) (for_ : IsStandingFor schema site.0 bs standing) where
   abbrev pub first_accounts : Accounts
-  first_accounts = record { rights = standing.rights; journal = []; ledger = standing.ledger; epoch = standing.epoch; last = 0 }
+  first_accounts = record { standing = standing; journal = []; last = 0 }
 
   base_is : (empty : Bool) → (empty ≡ true → bs ≡ []) → IsBase schema site.0 (opened schema site.0 empty bs) bs
   base_is true none = subst (λ (rs : List Record). IsBase schema site.0 (fresh schema site.0) rs) (sym (none refl)) (fresh_is_base schema site.0)
   base_is false none = stands_is_base schema site.0 false bs lawful
 
-  stands_first : (base : Base) → IsBase schema site.0 base bs → StandsOn schema site.0 base [] first_accounts
-  stands_first base is =
-      record {
-        matches = record {
-          count = for_.count;
-          width = for_.width;
-          free = λ f k l. omega (arith, for_.free f k l, run_owns schema site.0 base bs false [] bs is tt refl f k);
-          held = λ f k l. for_.held f k l;
-          journal = refl;
-        };
-        holds = record {
-          place = for_.place;
-          given = λ r f k other. for_.given r f k other ∙ sym (run_gives schema site.0 base bs false [] bs is tt refl r f k);
-          accepted = λ r f k other. for_.accepted r f k other ∙ sym (run_accepts schema site.0 base bs false [] bs is tt refl r f k);
-          site = for_.site;
-        };
-        epoch = for_.epoch ∙ sym is.epoch;
-        last = refl;
-      }
+  stands_first : (base : Base) → StandsOn schema site.0 base [] bs first_accounts
+  stands_first base = record { standing = for_.for_; aside = record { held = for_.none; journal = refl }; last = refl }
 
   module _ (site_in : site.0 < schema.sites) (limits : IsSchema schema) (bytes rest : List ℕ) (log : IsLog bytes bs rest) (failed : ℕ) (left : Option Mishap) where
     abbrev made : Bool → SiteValue
@@ -110,7 +92,7 @@ module _ (schema : SchemaValue) (site : SiteNo) (bs : List Record) (standing : S
           up_is = up_by empty;
           clean = clean_by empty none;
           in_doubt = refl;
-          stands = λ u. stands_first (base_of (made empty)) is;
+          stands = λ u. stands_first (base_of (made empty));
         }
 
     pub opens_finds : (empty : Bool) → bytes ≡ [] → Finds (made empty) 0 Nothing

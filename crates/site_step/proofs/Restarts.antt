@@ -16,7 +16,7 @@ use Rattle.field_bounds.specs.Schema.{SchemaValue}
 use Rattle.field_bounds.specs.Effects.{Base, Effect, Stops, effects, says_kept}
 use Rattle.field_bounds.specs.Owed.{Place, is_unsure, count_since, max_number, RestartFits}
 use Rattle.field_bounds.proofs.Runs.{run_is_lawful}
-use Rattle.field_bounds.proofs.Stops.{stop_closes_all, share_stop, held_stop}
+use Rattle.field_bounds.proofs.Stops.{stop_closes_all, held_stop}
 use Rattle.kept_records.specs.declared.medium.Mishap.{Mishap}
 use Rattle.kept_records.specs.declared.medium.Mishap.TheVariants.{Never, Append, Cut, Read}
 use Rattle.kept_records.specs.declared.record.Record.{Record}
@@ -33,12 +33,12 @@ use Rattle.kept_records.specs.Keeping.{stands_behind}
 use Rattle.kept_state.specs.Doubt.{IsDoubt, found_of}
 use Rattle.kept_state.specs.Luck.{restart_length, owed_with}
 use Rattle.kept_state.proofs.Pushes.{greatest_push}
-use Rattle.kept_state.proofs.Keeping.{run_owns, run_gives, run_accepts}
+use Rattle.kept_state.proofs.Lasting.{run_stays_lawful}
 use Rattle.kept_state.proofs.Epochs.{restart_fits, refused_fits}
 use Rattle.kept_state.proofs.Sure.{keeps_sure}
 use Rattle.kept_state.proofs.Doubt.{doubt_restart, found_is_kept}
 use Rattle.log_replay.specs.declared.standing.Standing.{Standing}
-use Rattle.log_replay.specs.Standing.{IsStandingFor}
+use Rattle.log_replay.specs.Standing.{IsStandingFor, TakesIn}
 use Rattle.site_step.specs.declared.accounts.Accounts.{Accounts}
 use Rattle.site_step.specs.Site.{SiteValue, base_of, here, entry_of, mishap_of, luck_under, owed_under, Finds, IsExact, Applies}
 use Rattle.site_step.specs.State.{row_of, StandsOn, IsSound}
@@ -281,7 +281,7 @@ module _ (v : SiteValue) (up : Bool) (count : ℕ) (a : Accounts) (was : IsSound
           up_is = was.up_is;
           clean = was.clean;
           in_doubt = quiet_doubt was.kept v.history (entry_of v Restart Full) rs v.doubt (omega arith) was.in_doubt;
-          stands = λ u. stands_refused schema s base v.history a was.run (was.stands u) v.site Restart NumbersFull;
+          stands = λ u. stands_refused schema s base v.history rs a (was.stands u) v.site Restart NumbersFull;
         };
         applies = record {
           fits = fits;
@@ -320,36 +320,27 @@ module _ (v : SiteValue) (up : Bool) (count : ℕ) (a : Accounts) (was : IsSound
   abbrev last : Last
   last = found_of v.doubt rs
 
-  abbrev standing_on : Standing → ℕ → Accounts
-  standing_on standing epoch = record { rights = standing.rights; journal = []; ledger = standing.ledger; epoch = epoch; last = 0 }
-
-  module _ (standing : Standing) (for_ : IsStandingFor schema s rs standing) where
+  module _ (standing : Standing) (for_ : IsStandingFor schema s rs standing) (b : Accounts) (took : TakesIn schema standing (next_restart rs) true b.standing) (open_ : b.journal ≡ []) (last_is : b.last ≡ 0) where
     abbrev Anew : ℕ → List Entry
     Anew epoch = entry_of v Restart (Restarted epoch last) ∷ v.history
 
     abbrev kept_effects : List Effect
     kept_effects = effects base (says_kept last) v.history
 
-    stands_anew : (epoch : ℕ) → StandsOn schema s base (Anew epoch) (standing_on standing epoch)
+    stands_anew : (epoch : ℕ) → StandsOn schema s base (Anew epoch) (rs ++ next_restart rs ∷ []) b
     stands_anew epoch =
-        let lawful = run_is_lawful schema s base v.history was.run (says_kept last) in
-        let owns = run_owns schema s base v.based (says_kept last) v.history rs was.is_base was.run found.keeps in
+        let effects_lawful = run_is_lawful schema s base v.history was.run (says_kept last) in
+        let lawful = run_stays_lawful schema s base v.based was.is_base was.based_on was.kept v.history rs was.run was.keeps in
+        let more = took.stands refl s rs lawful for_.for_ in
         record {
-          matches = record {
-            count = for_.count;
-            width = for_.width;
-            free = λ f k l. for_.free f k l ∙ sym (owns f k) ∙ sym (share_stop schema base kept_effects lawful f k);
-            held = λ f k l. for_.held f k l ∙ sym (held_stop schema base kept_effects lawful f k);
-            journal = sym (ap (λ (ts : List TxnId). map (row_of (Stops ∷ kept_effects)) (reverse ts)) (stop_closes_all kept_effects));
+          standing = more;
+          aside = record {
+            held = λ f k l.
+                let l' : f < length standing.rights = omega (arith, l, more.count, for_.for_.count) in
+                took.held refl f k l' ∙ for_.none f k l' ∙ sym (held_stop schema base kept_effects effects_lawful f k);
+            journal = open_ ∙ sym (ap (λ (ts : List TxnId). map (row_of (Stops ∷ kept_effects)) (reverse ts)) (stop_closes_all kept_effects));
           };
-          holds = record {
-            place = for_.place;
-            given = λ r f k other. for_.given r f k other ∙ sym (run_gives schema s base v.based (says_kept last) v.history rs was.is_base was.run found.keeps r f k);
-            accepted = λ r f k other. for_.accepted r f k other ∙ sym (run_accepts schema s base v.based (says_kept last) v.history rs was.is_base was.run found.keeps r f k);
-            site = for_.site;
-          };
-          epoch = refl;
-          last = refl;
+          last = last_is;
         }
 
     module _ (bytes : List ℕ) (left : Option Mishap) (some : greatest rs < max_number) (log : IsLog bytes (rs ++ next_restart rs ∷ []) [])
@@ -381,7 +372,7 @@ module _ (v : SiteValue) (up : Bool) (count : ℕ) (a : Accounts) (was : IsSound
       under_anew Cut known =
           subst (λ (x : List ℕ). Restarted epoch last ≡ owed_with at (greatest rs) last Restart (luck_under Restart x Cut)) (sym (cut known)) (rw (lt-leb max_number (greatest rs) some) refl)
 
-      restarted : Ends v Restart (Restarted epoch last) anew true (length rs + 1) (standing_on standing epoch)
+      restarted : Ends v Restart (Restarted epoch last) anew true (length rs + 1) b
       restarted =
           record {
             sound = record {
@@ -424,21 +415,22 @@ module _ (v : SiteValue) (up : Bool) (count : ℕ) (a : Accounts) (was : IsSound
             };
           }
 
-  pub ends_restarted : (standing : Standing) (found_ : List Record) (epoch : ℕ) (bytes : List ℕ) (failed : ℕ) (left : Option Mishap) (r : Reply) (size : ℕ) (h : List Entry)
+  pub ends_restarted : (standing : Standing) (found_ : List Record) (epoch : ℕ) (b : Accounts) (bytes : List ℕ) (failed : ℕ) (left : Option Mishap) (r : Reply) (size : ℕ) (h : List Entry)
       → IsStandingFor schema s rs standing → StandsOver schema s rs found_ epoch was.rest bytes v.foretold left v.failed failed
+      → TakesIn schema standing (records.Restart epoch) true b.standing → b.journal ≡ [] → b.last ≡ 0
       → r ≡ Restarted epoch (found_of v.doubt found_) → size ≡ length found_ → h ≡ entry_of v Restart r ∷ v.history
-      → Ends v Restart r (record v { history = h; bytes = bytes; failed = failed; foretold = left; doubt = None }) true (size + 1) (standing_on standing epoch)
-  ends_restarted standing found_ epoch bytes failed left r size h for_ over said counted past =
+      → Ends v Restart r (record v { history = h; bytes = bytes; failed = failed; foretold = left; doubt = None }) true (size + 1) b
+  ends_restarted standing found_ new b bytes failed left r size h for_ over took open_ last_is said counted past =
       let next = greatest rs + 1 in
       let reply : r ≡ Restarted next last = said ∙ ap (λ (n : ℕ). Restarted n (found_of v.doubt found_)) over.epoch_is ∙ ap (λ (all : List Record). Restarted next (found_of v.doubt all)) over.records in
       let after : h ≡ entry_of v Restart (Restarted next last) ∷ v.history = past ∙ ap (λ (x : Reply). entry_of v Restart x ∷ v.history) reply in
       let many : size ≡ length rs = counted ∙ ap length over.records in
-      let At : Reply → List Entry → ℕ → ℕ → ℕ → Type 0 =
-      λ x o n m e. Ends v Restart x (record v { history = o; bytes = bytes; failed = n; foretold = left; doubt = None }) true (m + 1) (standing_on standing e) in
+      let At : Reply → List Entry → ℕ → ℕ → Type 0 =
+      λ x o n m. Ends v Restart x (record v { history = o; bytes = bytes; failed = n; foretold = left; doubt = None }) true (m + 1) b in
       let After : List Entry = entry_of v Restart (Restarted next last) ∷ v.history in
-      subst (λ (x : Reply). At x h failed size epoch) (sym reply)
-      (subst (λ (o : List Entry). At (Restarted next last) o failed size epoch) (sym after)
-      (subst (λ (n : ℕ). At (Restarted next last) After n size epoch) (sym over.counts)
-      (subst (λ (m : ℕ). At (Restarted next last) After v.failed m epoch) (sym many)
-      (subst (λ (e : ℕ). At (Restarted next last) After v.failed (length rs) e) (sym over.epoch_is)
-      (restarted standing for_ bytes left over.some over.log over.torn over.read over.cut over.stays)))))
+      subst (λ (x : Reply). At x h failed size) (sym reply)
+      (subst (λ (o : List Entry). At (Restarted next last) o failed size) (sym after)
+      (subst (λ (n : ℕ). At (Restarted next last) After n size) (sym over.counts)
+      (subst (λ (m : ℕ). At (Restarted next last) After v.failed m) (sym many)
+      (restarted standing for_ b (subst (λ (e : ℕ). TakesIn schema standing (records.Restart e) true b.standing) over.epoch_is took) open_ last_is
+      bytes left over.some over.log over.torn over.read over.cut over.stays))))

@@ -76,7 +76,7 @@ module _ {T : Type 0} (schema : SchemaValue) (s : ℕ) (old new : List ℕ) (for
   size_is = size ∙ ap (λ (all : List Record). length (flat_map text all)) same
 
   epoch_is : standing.epoch ≡ greatest rs
-  epoch_is = for_.epoch ∙ ap greatest same
+  epoch_is = for_.for_.epoch ∙ ap greatest same
 
   next_is : next ≡ next_restart rs
   next_is = ap (λ (n : ℕ). Restart (n + 1)) epoch_is

@@ -1,44 +1,49 @@
 -- What one more entry does to what a site that is up stands on in memory.
-use Rattle.std.proofs.Common.{◌≡◌, ℕ, ◌+◌, ◌-◌, ◌<◌, ◌≤◌, Bool, true, false, ◌&&◌, List, [], ◌∷◌, ◌++◌, length, reverse, refl, sym, ap, subst, ◌∙◌, arith, None}
-use Rattle.std.specs.Prelude.{unsigned_abs}
-use Rattle.std.proofs.lemmas.Bool.{ltb-false, eqb-false}
+use Rattle.std.proofs.Common.{◌≡◌, ℕ, ◌+◌, ◌<◌, ◌≤◌, Bool, true, false, ◌&&◌, List, [], ◌∷◌, ◌++◌, length, reverse, refl, sym, ap, subst, ◌∙◌, arith, None}
+use Rattle.std.specs.Prelude.{◌==◌, unsigned_abs, sum_by}
+use Rattle.std.specs.List.{list_all}
+use Rattle.std.proofs.lemmas.Bool.{ltb-false, eqb-true, and_parts, false≢true}
 use Rattle.std.proofs.lemmas.List.{length-reverse}
 use Rattle.field_bounds.specs.declared.id.SiteNo.{SiteNo}
 use Rattle.field_bounds.specs.declared.id.FieldNo.{FieldNo}
 use Rattle.field_bounds.specs.declared.id.TxnId.{TxnId}
 use Rattle.field_bounds.specs.declared.kind.Kind.{Kind}
-use Rattle.field_bounds.specs.declared.kind.Kind.TheVariants.{Lower, Raise}
 use Rattle.field_bounds.specs.declared.entry.Escrow.{Escrow}
 use Rattle.field_bounds.specs.declared.entry.Entry.{Entry}
 use Rattle.field_bounds.specs.declared.entry.Command.{Command}
 use Rattle.field_bounds.specs.declared.entry.Command.TheVariants.{Begin, Escrow as Ask, Commit, Abort, Give, Restate, Accept, Read, Share, Restart}
 use Rattle.field_bounds.specs.declared.entry.Reply.TheVariants.{Begun, Granted, Refused}
 use Rattle.field_bounds.specs.declared.entry.Refusal.{Refusal}
-use Rattle.field_bounds.specs.declared.entry.Statement.{Statement}
 use Rattle.field_bounds.specs.Kind.{kind_of}
 use Rattle.field_bounds.specs.Schema.{SchemaValue}
-use Rattle.field_bounds.specs.Effects.{Base, Effect, Begins, Grants, effects, is_begun, is_open, escrows_of, given, accepted}
-use Rattle.field_bounds.specs.Owed.{Place, place, refusals, first, answer, epoch_of, count_since, is_begun_reply, max_open, max_escrows, room, IsRun}
+use Rattle.field_bounds.specs.Effects.{Base, Effect, effects, is_begun, is_open, escrows_of, takes}
+use Rattle.field_bounds.specs.Owed.{Place, place, refusals, first, answer, epoch_of, count_since, is_begun_reply, max_open, max_escrows, writes, told_so_far, IsRun}
 use Rattle.field_bounds.proofs.Refused.{none_holds, begun_and_open, is_below}
 use Rattle.field_bounds.proofs.Doubt.{after_refused}
 use Rattle.field_bounds.proofs.Runs.{Ran, run_leaves, next_is_new}
 use Rattle.site_rights.specs.declared.field_rights.FieldRights.{FieldRights}
 use Rattle.site_rights.specs.declared.field_rights.Outcome.{Outcome}
 use Rattle.site_rights.specs.declared.field_rights.Outcome.TheVariants.{Committed, Aborted}
-use Rattle.site_rights.specs.Rights.{free_at, room_at, taken, ending, by_escrow, by_escrows, AreInRange, AreHeld}
+use Rattle.site_rights.specs.Rights.{free_at, taken, ending, by_escrow, by_escrows, AreInRange, AreHeld}
+use Rattle.site_rights.proofs.RightsLaws.{length-by_escrow, length-by_escrows, free_at-taken, held_at-taken, free_at-by_escrows, held_at-by_escrows, taken_keeps, ending_keeps, width_at-field, width_at-by_escrows}
 use Rattle.escrow_journal.specs.Journal.{Row, stands, escrows_at, added as add_escrow, without}
 use Rattle.gift_ledger.specs.Ledger.{LedgerValue}
-use Rattle.log_replay.specs.Standing.{IsOther}
+use Rattle.kept_records.specs.declared.record.Record.{Record}
+use Rattle.kept_records.specs.Stands.{greatest, is_field, is_other_site, may_commit, may_stand, Lawful}
+use Rattle.kept_state.specs.Keeps.{record_at}
+use Rattle.log_replay.specs.Standing.{Stands, TakesIn}
+use Rattle.log_replay.proofs.RecordSums.{gift_parts, accept_parts}
+use Rattle.log_replay.proofs.StandingLaws.{has_places, here_only, four_first, is_other, commit_on_fields, room_is}
 use Rattle.site_step.specs.declared.accounts.Accounts.{Accounts}
 use Rattle.site_step.specs.Site.{end_command}
-use Rattle.site_step.specs.State.{Matches, Holds, StandsOn, CanClose, CanGive, CanAccept, CanCarry, closed, gain_at, is_carried, carried}
-use Rattle.site_step.proofs.Holding.{holds_still, holds_give, holds_accept}
-use Rattle.site_step.proofs.Matching.{ended, matches_begin, matches_grant, matches_end, matches_give, matches_accept, are_in_range, are_held, length-journal_of, stands-journal_of, escrows_at-journal_of}
+use Rattle.site_step.specs.State.{SetsAside, StandsOn, with_rights, released, settled, readied, CanClose, CanSettle, CanCarry, is_carried}
+use Rattle.site_step.proofs.Reading.{Reads}
+use Rattle.site_step.proofs.Matching.{ended, aside_begin, aside_grant, aside_end, are_in_range, are_held, length-journal_of, stands-journal_of, escrows_at-journal_of}
 
 pub both_true : (a b : Bool) → a ≡ true → b ≡ true → (a && b) ≡ true
 both_true a b x y = rw (x, y) refl
 
-module _ (schema : SchemaValue) (s : ℕ) (base : Base) (o : List Entry) (a : Accounts) (run : IsRun schema s base o) (was : StandsOn schema s base o a) where
+module _ (schema : SchemaValue) (s : ℕ) (base : Base) (o : List Entry) (a : Accounts) (run : IsRun schema s base o) (was : Reads schema s base o a) where
   abbrev es : List Effect
   es = effects base false o
 
@@ -46,35 +51,19 @@ module _ (schema : SchemaValue) (s : ℕ) (base : Base) (o : List Entry) (a : Ac
   at = place schema s base o
 
   abbrev rows : List FieldRights
-  rows = a.rights
+  rows = a.standing.rights
 
   abbrev journal : List Row
   journal = a.journal
 
   abbrev ledger : LedgerValue
-  ledger = a.ledger
+  ledger = a.standing.ledger
 
   ran : Ran schema base o
   ran = run_leaves schema s base o run
 
-  -- effects that are neither gifts nor acceptances
-  still : (more : List Effect) → ((r f : ℕ) (k : Kind) → given base r f k more ≡ given base r f k es) → ((r f : ℕ) (k : Kind) → accepted base r f k more ≡ accepted base r f k es)
-      → Holds schema s base more ledger
-  still more same_given same_accepted = holds_still schema s base es ledger was.holds more same_given same_accepted
-
-  -- an entry that has no effect
-  pub stands_refused : (n : SiteNo) (c : Command) (x : Refusal) → StandsOn schema s base (record { site = n; command = c; reply = Refused x } ∷ o) a
-  stands_refused n c x =
-      let same = after_refused base false c x es in
-      record {
-        matches = subst (λ (fs : List Effect). Matches schema base fs rows journal) (sym same) was.matches;
-        holds = subst (λ (fs : List Effect). Holds schema s base fs ledger) (sym same) was.holds;
-        epoch = was.epoch;
-        last = omega (arith, was.last);
-      }
-
   abbrev pub next : TxnId
-  next = record { epoch = a.epoch; number = a.last + 1 }
+  next = record { epoch = a.standing.epoch; number = a.last + 1 }
 
   pub next_is : ◌≡◌ {A = TxnId} next (record { epoch = epoch_of base o; number = count_since is_begun_reply o + 1 })
   next_is = rw (was.epoch, was.last) refl
@@ -84,15 +73,6 @@ module _ (schema : SchemaValue) (s : ℕ) (base : Base) (o : List Entry) (a : Ac
 
   pub next_is_closed : stands next journal ≡ false
   next_is_closed = ap (stands next) was.matches.journal ∙ stands-journal_of next es ∙ ap (λ b. b && is_open next es) next_new
-
-  pub stands_begin : (n : SiteNo) → StandsOn schema s base (record { site = n; command = Begin; reply = Begun next } ∷ o) (record a { journal = journal ++ (next, []) ∷ []; last = a.last + 1 })
-  stands_begin n =
-      record {
-        matches = matches_begin schema base es ran.lawful rows journal was.matches next next_new;
-        holds = still (Begins next ∷ es) (λ r f k. refl) (λ r f k. refl);
-        epoch = was.epoch;
-        last = omega (arith, was.last);
-      }
 
   -- what the ladder tells of a begin that isn't refused
   pub room_by : first (refusals at Begin) ≡ None → length journal < max_open
@@ -125,16 +105,6 @@ module _ (schema : SchemaValue) (s : ℕ) (base : Base) (o : List Entry) (a : Ac
         is_below _ _ (none_holds (refusals at (Ask txn e.field e.change)) none).1.1.1.1.1.1.0,
       )
 
-  pub stands_grant : (n : SiteNo) (txn : TxnId) (e : Escrow) → first (refusals at (Ask txn e.field e.change)) ≡ None
-      → StandsOn schema s base (record { site = n; command = Ask txn e.field e.change; reply = Granted } ∷ o) (record a { rights = by_escrow taken rows e; journal = add_escrow txn e journal })
-  stands_grant n txn e none =
-      record {
-        matches = matches_grant schema base es ran.lawful rows journal was.matches txn e (in_range_by txn e none) (opened_by txn e none).1;
-        holds = still (Grants txn e.field.0 e.change ∷ es) (λ r f k. refl) (λ r f k. refl);
-        epoch = was.epoch;
-        last = omega (arith, was.last);
-      }
-
   -- ---- ends
 
   pub can_close : (txn : TxnId) → (is_begun txn es ≡ true) × (is_open txn es ≡ true) → CanClose a txn
@@ -151,84 +121,183 @@ module _ (schema : SchemaValue) (s : ℕ) (base : Base) (o : List Entry) (a : Ac
   end_opened Committed txn none = begun_and_open (is_begun txn es) (is_open txn es) (none_holds (refusals at (Commit txn)) none).1.0
   end_opened Aborted txn none = begun_and_open (is_begun txn es) (is_open txn es) (none_holds (refusals at (Abort txn)) none).1.0
 
-  matches_closed : (outcome : Outcome) (txn : TxnId) → (is_begun txn es ≡ true) × (is_open txn es ≡ true) → Matches schema base (ended outcome txn ∷ es) (closed outcome txn a).rights (closed outcome txn a).journal
-  matches_closed outcome txn both =
-      subst (λ (xs : List Escrow). Matches schema base (ended outcome txn ∷ es) (by_escrows (ending outcome) rows xs) (without txn journal)) (sym (escrows_are txn both))
-      (matches_end schema base es ran.lawful rows journal was.matches outcome txn both.1)
+  pub can_settle : (c : Command) → first (refusals at c) ≡ None → CanSettle a c
+  can_settle (Commit txn) none = can_close txn (end_opened Committed txn none)
+  can_settle (Abort txn) none = can_close txn (end_opened Aborted txn none)
+  can_settle c none = tt
 
-  -- ---- gifts
-
-  can_give : (to : SiteNo) (field : FieldNo) (kind : Kind) (amount : ℕ) → first (refusals at (Give to field kind amount)) ≡ None → IsOther schema s to.0 field.0 × CanGive a to field kind amount
-  can_give to field kind amount refused =
+  -- what the ladder tells of a gift that isn't refused
+  give_enough : (to : SiteNo) (field : FieldNo) (kind : Kind) (amount : ℕ) → first (refusals at (Give to field kind amount)) ≡ None → amount ≤ free_at rows field.0 kind
+  give_enough to field kind amount refused =
       let none = (none_holds (refusals at (Give to field kind amount)) refused).1 in
-      let inside = is_below _ _ none.1.0 in
-      let range : field.0 < length rows = omega (arith, inside, was.matches.count) in
-      let other : IsOther schema s to.0 field.0 = record { other = eqb-false to.0 s none.1.1.1.1.1.0; site_in = is_below _ _ none.0; field_in = inside } in (
-        other,
+      omega (arith, was.matches.free field.0 kind (omega (arith, is_below _ _ none.1.0, was.matches.count)), ltb-false _ _ none.1.1.1.1.0)
+
+  -- ---- what is kept and what is set aside
+
+  module _ (rs : List Record) (st : StandsOn schema s base o rs a) where
+    abbrev last : ℕ
+    last = a.last
+
+    pub stands_begin : (n : SiteNo) → StandsOn schema s base (record { site = n; command = Begin; reply = Begun next } ∷ o) rs (record a { journal = journal ++ (next, []) ∷ []; last = a.last + 1 })
+    stands_begin n =
+        record { standing = st.standing; aside = aside_begin schema base es ran.lawful rows journal was.matches next next_new; last = omega (arith, st.last) }
+
+    pub stands_grant : (n : SiteNo) (txn : TxnId) (e : Escrow) → first (refusals at (Ask txn e.field e.change)) ≡ None
+        → StandsOn schema s base (record { site = n; command = Ask txn e.field e.change; reply = Granted } ∷ o) rs (record (with_rights (by_escrow taken rows e) a) { journal = add_escrow txn e journal })
+    stands_grant n txn e none =
+        let range = in_range_by txn e none in
+        let same = length-by_escrow taken rows e in
         record {
-          place = was.holds.place to.0 field.0 other;
-          range = range;
-          enough = omega (arith, was.matches.free field.0 kind range, ltb-false _ _ none.1.1.1.1.0);
-          within = omega (arith, was.holds.given to.0 field.0 kind other, ltb-false _ _ none.1.1.1.1.1.1.0);
-        },
-      )
+          standing = record {
+            count = same ∙ st.standing.count;
+            width = λ f l. width_at-field taken taken_keeps rows e.field.0 f (kind_of e.change) (unsigned_abs e.change) range ∙ st.standing.width f (omega (arith, l, same));
+            own = λ f k l.
+                omega (
+                  arith,
+                  free_at-taken rows e f k range,
+                  held_at-taken rows e f k range,
+                  here_only (λ x y. free_at rows x y) e.field.0 f (kind_of e.change) k (unsigned_abs e.change) (enough_by txn e none),
+                  st.standing.own f k (omega (arith, l, same)),
+                );
+            place = st.standing.place;
+            given = st.standing.given;
+            accepted = st.standing.accepted;
+            site = st.standing.site;
+            epoch = st.standing.epoch;
+          };
+          aside = aside_grant schema base es ran.lawful rows journal was.matches txn e range (opened_by txn e none).1;
+          last = omega (arith, st.last);
+        }
 
-  -- the room that the rights leave is the room
-  pub room_is : (f : ℕ) → f < length rows → room_at rows f ≡ room at (record { 0 = f })
-  room_is f l =
-      omega (arith, was.matches.width f l, was.matches.free f Lower l, was.matches.held f Lower l, was.matches.free f Raise l, was.matches.held f Raise l)
-
-  can_accept : (told : Statement) → first (refusals at (Accept told)) ≡ None → IsOther schema s told.from.0 told.field.0 × CanAccept a told
-  can_accept told refused =
-      let none = (none_holds (refusals at (Accept told)) refused).1 in
-      let inside = is_below _ _ none.1.1.0 in
-      let range : told.field.0 < length rows = omega (arith, inside, was.matches.count) in
-      let other : IsOther schema s told.from.0 told.field.0 = record { other = eqb-false told.from.0 s none.1.1.1.1.1.0; site_in = is_below _ _ none.0; field_in = inside } in (
-        other,
+    -- a transaction released: what it held is free, so what is owned stays
+    pub stands_released : (txn : TxnId) → (is_begun txn es ≡ true) × (is_open txn es ≡ true) → Stands schema s rs (released txn a).standing
+    stands_released txn both =
+        let can = can_close txn both in
+        let gone = escrows_at txn journal in
+        let same = length-by_escrows (ending Aborted) rows gone in
         record {
-          place = was.holds.place told.from.0 told.field.0 other;
-          range = range;
-          room = omega (arith, was.holds.accepted told.from.0 told.field.0 told.kind other, room_is told.field.0 range, ltb-false _ _ none.1.1.1.1.1.1.1.0);
-        },
-      )
+          count = same ∙ st.standing.count;
+          width = λ f l. width_at-by_escrows (ending Aborted) (ending_keeps Aborted) rows gone can.in_range f ∙ st.standing.width f (omega (arith, l, same));
+          own = λ f k l.
+              let l' : f < length rows = omega (arith, l, same) in
+              omega (arith, free_at-by_escrows Aborted rows gone can.in_range f k, held_at-by_escrows Aborted rows gone can.in_range can.are_held f k l', can.are_held f k l', st.standing.own f k l');
+          place = st.standing.place;
+          given = st.standing.given;
+          accepted = st.standing.accepted;
+          site = st.standing.site;
+          epoch = st.standing.epoch;
+        }
 
-  -- ---- a command that isn't refused
+    aside_released : (outcome : Outcome) (txn : TxnId) → (is_begun txn es ≡ true) × (is_open txn es ≡ true) → SetsAside (ended outcome txn ∷ es) (released txn a).standing.rights (released txn a).journal
+    aside_released outcome txn both =
+        subst (λ (xs : List Escrow). SetsAside (ended outcome txn ∷ es) (by_escrows (ending Aborted) rows xs) (without txn journal)) (sym (escrows_are txn both))
+        (aside_end schema base es ran.lawful rows journal was.matches outcome txn both.1)
 
-  pub can_carry : (c : Command) → first (refusals at c) ≡ None → CanCarry a c
-  can_carry (Commit txn) none = can_close txn (end_opened Committed txn none)
-  can_carry (Abort txn) none = can_close txn (end_opened Aborted txn none)
-  can_carry (Give to field kind amount) none = (can_give to field kind amount none).1
-  can_carry (Accept told) none = (can_accept told none).1
-  can_carry c none = tt
+    abbrev Settled : SiteNo → Command → Type 0
+    Settled n c = StandsOn schema s base (record { site = n; command = c; reply = answer at c } ∷ o) rs (settled a c)
 
-  abbrev Carried : SiteNo → Command → Type 0
-  Carried n c = StandsOn schema s base (record { site = n; command = c; reply = answer at c } ∷ o) (carried a c)
+    -- a command that writes no record
+    pub stands_settled : (n : SiteNo) (c : Command) → is_carried c ≡ true → writes at c ≡ false → first (refusals at c) ≡ None → Settled n c
+    stands_settled n (Commit txn) is w none =
+        let both = end_opened Committed txn none in record { standing = stands_released txn both; aside = aside_released Committed txn both; last = omega (arith, st.last) }
+    stands_settled n (Abort txn) is w none =
+        let both = end_opened Aborted txn none in record { standing = stands_released txn both; aside = aside_released Aborted txn both; last = omega (arith, st.last) }
+    stands_settled n (Give to field kind amount) is w none = cc
+    stands_settled n (Accept told) is w none = record { standing = st.standing; aside = record { held = st.aside.held; journal = st.aside.journal }; last = omega (arith, st.last) }
+    stands_settled n (Restate to field kind) is w none = record { standing = st.standing; aside = st.aside; last = omega (arith, st.last) }
+    stands_settled n (Read field) is w none = record { standing = st.standing; aside = st.aside; last = omega (arith, st.last) }
+    stands_settled n (Share field) is w none = record { standing = st.standing; aside = st.aside; last = omega (arith, st.last) }
+    stands_settled n Begin is w none = cc
+    stands_settled n (Ask txn field change) is w none = cc
+    stands_settled n Restart is w none = cc
 
-  pub stands_carried : (n : SiteNo) (c : Command) → is_carried c ≡ true → first (refusals at c) ≡ None → Carried n c
-  stands_carried n (Commit txn) is none =
-      record { matches = matches_closed Committed txn (end_opened Committed txn none); holds = still (ended Committed txn ∷ es) (λ r f k. refl) (λ r f k. refl); epoch = was.epoch; last = omega (arith, was.last) }
-  stands_carried n (Abort txn) is none =
-      record { matches = matches_closed Aborted txn (end_opened Aborted txn none); holds = still (ended Aborted txn ∷ es) (λ r f k. refl) (λ r f k. refl); epoch = was.epoch; last = omega (arith, was.last) }
-  stands_carried n (Give to field kind amount) is none =
-      let can = can_give to field kind amount none in
-      record {
-        matches = matches_give schema base es ran.lawful rows journal was.matches to.0 field.0 kind amount can.1.range;
-        holds = holds_give schema s base es ledger was.holds to.0 field.0 kind can.0 amount;
-        epoch = was.epoch;
-        last = omega (arith, was.last);
-      }
-  stands_carried n (Accept told) is none =
-      let can = can_accept told none in
-      let gain = ap (λ m. told.total - m) (was.holds.accepted told.from.0 told.field.0 told.kind can.0) in
-      record {
-        matches = matches_accept schema base es ran.lawful rows journal was.matches told.from.0 told.field.0 told.kind told.total (gain_at a told) can.1.range gain;
-        holds = holds_accept schema s base es ledger was.holds told.from.0 told.field.0 told.kind can.0 told.total;
-        epoch = was.epoch;
-        last = omega (arith, was.last);
-      }
-  stands_carried n (Restate to field kind) is none = record { matches = was.matches; holds = was.holds; epoch = was.epoch; last = omega (arith, was.last) }
-  stands_carried n (Read field) is none = record { matches = was.matches; holds = was.holds; epoch = was.epoch; last = omega (arith, was.last) }
-  stands_carried n (Share field) is none = record { matches = was.matches; holds = was.holds; epoch = was.epoch; last = omega (arith, was.last) }
-  stands_carried n Begin is none = cc
-  stands_carried n (Ask txn field change) is none = cc
-  stands_carried n Restart is none = cc
+    -- ---- a command whose record is taken in
+
+    module _ (lawful : Lawful schema s rs) where
+      pub can_carry : (c : Command) → first (refusals at c) ≡ None → writes at c ≡ true → may_stand schema s rs (record_at at c) ≡ true → CanCarry schema a (record_at at c)
+      can_carry (Commit txn) none w may =
+          let both = end_opened Committed txn none in
+          let can = can_close txn both in
+          let stands = stands_released txn both in
+          let gone = reverse (escrows_of txn es) in
+          let ready = (released txn a).standing in
+          let parts = and_parts (txn.epoch == greatest rs) (list_all (may_commit schema s rs gone) gone) may in
+          record {
+            ready = can;
+            places = has_places schema s rs ready.rights ready.ledger ready.epoch stands;
+            takes_ = (
+              eqb-true txn.epoch (greatest rs) parts.0 ∙ sym st.standing.epoch,
+              commit_on_fields schema s rs ready.rights ready.ledger ready.epoch lawful stands gone parts.1,
+              λ f k l.
+                  omega (
+                    arith,
+                    free_at-by_escrows Aborted rows (escrows_at txn journal) can.in_range f k,
+                    ap (sum_by (takes f k)) (escrows_are txn both),
+                  ),
+            );
+          }
+      can_carry (Give to field kind amount) none w may =
+          let parts = gift_parts schema s rs to field kind (told_so_far at to field kind + amount) may in
+          let here = four_first (is_other_site schema s to.0) (is_field schema field.0) _ _ may in
+          let other = is_other schema s to.0 field.0 here in
+          record {
+            ready = tt;
+            places = has_places schema s rs rows ledger a.standing.epoch st.standing;
+            takes_ = (
+              subst (λ (x : ℕ). (is_other_site schema x to.0 && is_field schema field.0) ≡ true) (sym st.standing.site) here,
+              omega (arith, st.standing.given to.0 field.0 kind other, parts.1),
+              omega (arith, was.holds.given to.0 field.0 kind other, give_enough to field kind amount none),
+            );
+          }
+      can_carry (Accept told) none w may =
+          let parts = accept_parts schema s rs told.from told.field told.kind told.total may in
+          let here = four_first (is_other_site schema s told.from.0) (is_field schema told.field.0) _ _ may in
+          let other = is_other schema s told.from.0 told.field.0 here in
+          let l : told.field.0 < length rows = omega (arith, st.standing.count, other.field_in) in
+          record {
+            ready = tt;
+            places = has_places schema s rs rows ledger a.standing.epoch st.standing;
+            takes_ = (
+              subst (λ (x : ℕ). (is_other_site schema x told.from.0 && is_field schema told.field.0) ≡ true) (sym st.standing.site) here,
+              omega (arith, st.standing.accepted told.from.0 told.field.0 told.kind other, parts.1),
+              omega (arith, st.standing.accepted told.from.0 told.field.0 told.kind other, room_is schema s rs rows ledger a.standing.epoch lawful st.standing told.field.0 l, parts.2),
+            );
+          }
+      can_carry c none w may = absurd (false≢true w)
+
+      -- what took the record in stands on it
+      taken_stands : (fs : List Effect) (ready b : Accounts) (r : Record) → Stands schema s rs ready.standing → SetsAside fs ready.standing.rights ready.journal
+          → TakesIn schema ready.standing r true b.standing → b.journal ≡ ready.journal → Stands schema s (rs ++ r ∷ []) b.standing × SetsAside fs b.standing.rights b.journal
+      taken_stands fs ready b r stands aside took same =
+          let more = took.stands refl s rs lawful stands in (
+            more,
+            record {
+              held = λ f k l. let l' : f < length ready.standing.rights = omega (arith, l, more.count, stands.count) in took.held refl f k l' ∙ aside.held f k l';
+              journal = same ∙ aside.journal;
+            },
+          )
+
+      pub stands_carried : (n : SiteNo) (c : Command) → first (refusals at c) ≡ None → writes at c ≡ true → (b : Accounts)
+          → TakesIn schema (readied a (record_at at c)).standing (record_at at c) true b.standing → b.journal ≡ (readied a (record_at at c)).journal → b.last ≡ a.last
+          → StandsOn schema s base (record { site = n; command = c; reply = answer at c } ∷ o) (rs ++ record_at at c ∷ []) b
+      stands_carried n (Commit txn) none w b took same last_is =
+          let both = end_opened Committed txn none in
+          let did = taken_stands (ended Committed txn ∷ es) (released txn a) b (record_at at (Commit txn)) (stands_released txn both) (aside_released Committed txn both) took same in
+          record { standing = did.0; aside = did.1; last = omega (arith, st.last, last_is) }
+      stands_carried n (Give to field kind amount) none w b took same last_is =
+          let did = taken_stands es a b (record_at at (Give to field kind amount)) st.standing st.aside took same in
+          record { standing = did.0; aside = record { held = did.1.held; journal = did.1.journal }; last = omega (arith, st.last, last_is) }
+      stands_carried n (Accept told) none w b took same last_is =
+          let did = taken_stands es a b (record_at at (Accept told)) st.standing st.aside took same in
+          record { standing = did.0; aside = record { held = did.1.held; journal = did.1.journal }; last = omega (arith, st.last, last_is) }
+      stands_carried n c none w b took same last_is = absurd (false≢true w)
+
+-- an entry that has no effect
+pub stands_refused : (schema : SchemaValue) (s : ℕ) (base : Base) (o : List Entry) (rs : List Record) (a : Accounts) → StandsOn schema s base o rs a → (n : SiteNo) (c : Command) (x : Refusal)
+    → StandsOn schema s base (record { site = n; command = c; reply = Refused x } ∷ o) rs a
+stands_refused schema s base o rs a st n c x =
+    record {
+      standing = st.standing;
+      aside = subst (λ (fs : List Effect). SetsAside fs a.standing.rights a.journal) (sym (after_refused base false c x (effects base false o))) st.aside;
+      last = omega (arith, st.last);
+    }

@@ -111,7 +111,7 @@ module _ (v : SiteValue) (up : Bool) (count : ℕ) (a : Accounts) (was : IsSound
   abbrev After : List Entry
   After = entry_of v c (answer at c) ∷ v.history
 
-  module _ (b : Accounts) (bytes : List ℕ) (left : Option Mishap) (stands : StandsOn v.schema v.site.0 base After b) (grown : bytes ≡ v.bytes ++ text note)
+  module _ (b : Accounts) (bytes : List ℕ) (left : Option Mishap) (stands : StandsOn v.schema v.site.0 base After (was.records ++ note ∷ []) b) (grown : bytes ≡ v.bytes ++ text note)
       (fate : AppendFate {E = Device} v.foretold v.bytes (text note) (Ok tt) bytes left) where
     abbrev then_ : SiteValue
     then_ = record v { history = After; bytes = bytes; foretold = left }
@@ -194,7 +194,7 @@ module _ (v : SiteValue) (up : Bool) (count : ℕ) (a : Accounts) (was : IsSound
         }
 
   pub ends_wrote : (b : Accounts) (bytes : List ℕ) (failed : ℕ) (left : Option Mishap) (r : Reply) (h : List Entry) → r ≡ answer at c → h ≡ entry_of v c r ∷ v.history
-      → StandsOn v.schema v.site.0 base After b → (bytes ≡ v.bytes ++ text note) → failed ≡ v.failed → AppendFate {E = Device} v.foretold v.bytes (text note) (Ok tt) bytes left
+      → StandsOn v.schema v.site.0 base After (was.records ++ note ∷ []) b → (bytes ≡ v.bytes ++ text note) → failed ≡ v.failed → AppendFate {E = Device} v.foretold v.bytes (text note) (Ok tt) bytes left
       → Ends v c r (record v { history = h; bytes = bytes; failed = failed; foretold = left }) up (count + 1) b
   ends_wrote b bytes failed left r h owed past stands grown counts fate =
       let after : h ≡ After = past ∙ ap (λ (x : Reply). entry_of v c x ∷ v.history) owed in

@@ -1,86 +1,93 @@
 //! What a site that is up holds in memory.
 
-ghost use Rattle.std.specs.Prelude.{◌≡◌, true};
-ghost use Rattle.field_bounds.specs.declared.entry.Command.TheVariants.{Give, Accept};
+ghost use Rattle.std.specs.Prelude.{◌≡◌, true, []};
+ghost use Rattle.kept_records.specs.declared.record.Record.TheVariants.{Restart};
+ghost use Rattle.kept_records.specs.Text.{IsRecord};
+ghost use Rattle.site_rights.specs.declared.field_rights.Outcome.TheVariants.{Aborted};
 ghost use Rattle.site_rights.specs.Rights.{ending, by_escrows, AreInRange, AreHeld};
 ghost use Rattle.escrow_journal.specs.Journal.{stands, escrows_at, without};
-ghost use Rattle.site_step.specs.Site.{end_command};
-ghost use Rattle.site_step.specs.State.{CanCarry, carried};
+ghost use Rattle.log_replay.specs.Standing.{HasPlaces, CanTakeIn, TakesIn};
+ghost use Rattle.site_step.specs.State.{CanClose, CanSettle, CanCarry, released, settled, readied};
 
 use escrow_journal::Journal;
-use field_bounds::{Command, FieldNo, Kind, SiteNo, Statement, TxnId};
-use gift_ledger::Ledger;
+use field_bounds::{Command, Schema, TxnId};
+use kept_records::Record;
+use log_replay::Standing;
 use site_rights::{Outcome, Rights};
 
-/// The rights, the open transactions, what was given and accepted, the epoch, and the number of the
-/// last transaction begun in it.
+/// What the kept records stand for, the open transactions, whose escrows are held there, and the
+/// number of the last transaction begun in the epoch.
 #[derive(Drop)]
 pub(crate) struct Accounts {
-    pub rights: Rights,
+    pub standing: Standing,
     pub journal: Journal,
-    pub ledger: Ledger,
-    pub epoch: u32,
     pub last: u32,
 }
 
-/// Takes an open transaction out of the journal and ends its escrows.
-fn close(journal: &mut Journal, rights: &mut Rights, txn: TxnId, outcome: Outcome)
+/// Takes an open transaction out of the journal and gives back what it holds.
+fn close(journal: &mut Journal, rights: &mut Rights, txn: TxnId)
     requires open { stands txn journal.old ≡ true }
     requires in_schema { AreInRange rights.old (escrows_at txn journal.old) }
     requires there { AreHeld rights.old (escrows_at txn journal.old) }
     ensures journal { journal.new ≡ without txn journal.old }
-    ensures rights { rights.new ≡ by_escrows (ending outcome) rights.old (escrows_at txn journal.old) }
+    ensures rights { rights.new ≡ by_escrows (ending Aborted) rights.old (escrows_at txn journal.old) }
 {
     if let Some(escrows) = journal.take_out(txn) {
-        rights.end(&escrows, outcome);
+        rights.end(&escrows, Outcome::Aborted);
     }
 }
 
 impl Accounts {
-    /// Carries out a command that isn't refused. A command that begins a transaction or grants an
-    /// escrow is carried out apart, since it takes memory; a command that asks changes nothing.
-    pub(crate) fn carry_out(&mut self, command: Command)
-        requires can { CanCarry self.old command }
-        ensures carried { self.new ≡ carried self.old command }
+    /// Ends an open transaction: what it holds is given back.
+    fn release(&mut self, txn: TxnId)
+        requires can { CanClose self.old txn }
+        ensures released { self.new ≡ released txn self.old }
+    {
+        close(&mut self.journal, &mut self.standing.rights, txn);
+    }
+
+    /// Does what a command does that writes no record: an end releases its transaction.
+    pub(crate) fn settle(&mut self, command: Command)
+        requires can { CanSettle self.old command }
+        ensures settled { self.new ≡ settled self.old command }
     {
         match command {
-            Command::Commit { txn } => self.end(txn, Outcome::Committed),
-            Command::Abort { txn } => self.end(txn, Outcome::Aborted),
-            Command::Give {
-                to,
-                field,
-                kind,
-                amount,
-            } => self.give(to, field, kind, amount),
-            Command::Accept(told) => self.accept(told),
+            Command::Commit { txn } => self.release(txn),
+            Command::Abort { txn } => self.release(txn),
             _ => {}
         }
     }
 
-    fn end(&mut self, txn: TxnId, outcome: Outcome)
-        requires can { CanCarry self.old (end_command outcome txn) }
-        ensures carried { self.new ≡ carried self.old (end_command outcome txn) }
+    /// Takes in the record that was appended, as a restart does. A commit's transaction is released
+    /// first.
+    pub(crate) fn carry_out(&mut self, schema: &Schema, kept: &Record)
+        requires can { CanCarry schema.now self.old kept.now }
+        requires ranges { IsRecord kept.now }
+        ensures took { TakesIn schema.now (readied self.old kept.now).standing kept.now true self.new.standing }
+        ensures journal { self.new.journal ≡ (readied self.old kept.now).journal }
+        ensures last { self.new.last ≡ self.old.last }
     {
-        close(&mut self.journal, &mut self.rights, txn, outcome);
+        if let Record::Commit { txn, escrows: _ } = kept {
+            self.release(*txn);
+        }
+        let took = self.standing.take_in(schema, kept);
+        prove!(took);
     }
 
-    fn give(&mut self, to: SiteNo, field: FieldNo, kind: Kind, amount: u64)
-        requires can { CanCarry self.old (Give to field kind amount) }
-        ensures carried { self.new ≡ carried self.old (Give to field kind amount) }
+    /// Stands on what the records of a log stand for, and on the restart behind them: no transaction
+    /// is open.
+    pub(crate) fn stand_on(&mut self, schema: &Schema, standing: Standing, epoch: u32)
+        requires places { HasPlaces schema.now standing.rights standing.ledger }
+        requires can { CanTakeIn schema.now standing (Restart epoch) }
+        requires ranges { IsRecord (Restart epoch) }
+        ensures took { TakesIn schema.now standing (Restart epoch) true self.new.standing }
+        ensures journal { self.new.journal ≡ [] }
+        ensures last { self.new.last ≡ 0 }
     {
-        let given = self.ledger.give(to, field, kind, amount);
-        prove!(given.is_ok());
-        let dropped = self.rights.drop_free(field, kind, amount);
-        prove!(dropped.is_ok());
-    }
-
-    fn accept(&mut self, told: Statement)
-        requires can { CanCarry self.old (Accept told) }
-        ensures carried { self.new ≡ carried self.old (Accept told) }
-    {
-        let gain = self
-            .ledger
-            .accept(told.from, told.field, told.kind, told.total);
-        self.rights.add(told.field, told.kind, gain);
+        self.standing = standing;
+        self.journal.clear();
+        self.last = 0;
+        let took = self.standing.take_in(schema, &Record::Restart { epoch });
+        prove!(took);
     }
 }

@@ -117,10 +117,8 @@ impl<M: Medium> Site<M> {
                 count: 0,
                 doubt: None,
                 accounts: Accounts {
-                    rights: standing.rights,
+                    standing,
                     journal: Journal::new(alloc),
-                    ledger: standing.ledger,
-                    epoch: standing.epoch,
                     last: 0,
                 },
             }),

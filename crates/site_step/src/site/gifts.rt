@@ -33,7 +33,7 @@ impl<M: Medium> Site<M> {
         ensures value { result ≡ told_so_far (here self.now) to field kind }
         ensures most { result ≤ max_total }
     {
-        self.accounts.ledger.total(to, field, kind)
+        self.accounts.standing.ledger.total(to, field, kind)
     }
 
     /// What a stated total has above those accepted before from its site.
@@ -46,6 +46,7 @@ impl<M: Medium> Site<M> {
     {
         told.total.saturating_sub(
             self.accounts
+                .standing
                 .ledger
                 .accepted(told.from, told.field, told.kind),
         )
@@ -57,7 +58,7 @@ impl<M: Medium> Site<M> {
         ensures value { result ≡ room (here self.now) field }
         ensures most { result ≤ 2_000_000_000_000_000 }
     {
-        self.accounts.rights.room(field)
+        self.accounts.standing.rights.room(field)
     }
 
     pub(super) fn give_refusal(

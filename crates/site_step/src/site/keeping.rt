@@ -27,7 +27,7 @@ impl<M: Medium> Site<M> {
         ))
     }
 
-    /// Carries out a command that writes no record, and adds its entry.
+    /// Settles a command that writes no record, and adds its entry.
     pub(super) fn answer(&mut self, command: Command, reply: Reply) -> Result<Reply, AllocError>
         requires unrefused { first (refusals (here self.old) command) ≡ None }
         requires carried { is_carried command ≡ true }
@@ -37,12 +37,11 @@ impl<M: Medium> Site<M> {
         ensures err { OnErr result (self.new ≡ self.old) }
     {
         self.history.reserve(1)?;
-        self.accounts.carry_out(command);
+        self.accounts.settle(command);
         Ok(note(&mut self.history, self.number, command, reply))
     }
 
-    /// Carries out a command that writes this record, once the record stands whole, and adds its
-    /// entry.
+    /// Carries out this record of a command, once it stands whole, and adds the command's entry.
     pub(super) fn write(
         &mut self,
         alloc: Global,
@@ -60,7 +59,7 @@ impl<M: Medium> Site<M> {
         self.history.reserve(1)?;
         match append_record(alloc, &mut self.medium, kept)? {
             Ok(()) => {
-                self.accounts.carry_out(command);
+                self.accounts.carry_out(&self.schema, kept);
                 self.count += 1;
                 Ok(note(&mut self.history, self.number, command, reply))
             }
@@ -79,7 +78,7 @@ impl<M: Medium> Site<M> {
     {
         self.history.reserve(1)?;
         let txn = TxnId {
-            epoch: self.accounts.epoch,
+            epoch: self.accounts.standing.epoch,
             number: self.accounts.last + 1,
         };
         self.accounts.journal.begin(alloc, txn)?;
@@ -106,6 +105,7 @@ impl<M: Medium> Site<M> {
         self.accounts.journal.add(txn, Escrow { field, change })?;
         let taken = self
             .accounts
+            .standing
             .rights
             .take(field, Kind::of(change), change.unsigned_abs());
         prove!(taken.is_ok());

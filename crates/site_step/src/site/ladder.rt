@@ -75,7 +75,7 @@ impl<M: Medium> Site<M> {
         ensures value { result ≡ free (here self.now) field kind }
         ensures most { result ≤ 2_000_000_000_000_000 }
     {
-        self.accounts.rights.free(field, kind)
+        self.accounts.standing.rights.free(field, kind)
     }
 
     pub(super) fn own(&self, field: FieldNo, kind: Kind) -> u64
@@ -84,7 +84,7 @@ impl<M: Medium> Site<M> {
         ensures value { result ≡ owned (here self.now) field kind }
         ensures most { result ≤ 2_000_000_000_000_000 }
     {
-        self.accounts.rights.own(field, kind)
+        self.accounts.standing.rights.own(field, kind)
     }
 
     /// The first refusal of a command's ladder that holds.

@@ -9,7 +9,6 @@ ghost use Rattle.site_step.specs.Site.{Applies};
 ghost use Rattle.site_step.specs.Resuming.{IsLawfulLog, ResumesOver};
 
 use super::{Site, note};
-use crate::accounts::Accounts;
 use field_bounds::{Command, Last, MAX_EPOCH, Refusal, Reply, Schema, SiteNo};
 use kept_records::{Medium, MediumFault, Record, append_restart, read_log, stands_behind};
 use log_replay::{Replayed, Standing, replay};
@@ -85,19 +84,6 @@ fn last_of(doubt: Option<usize>, records: &[Record]) -> Last
     }
 }
 
-impl Accounts {
-    /// Stands on what the records of a log stand for, in a new epoch: no transaction is open.
-    fn stand_on(&mut self, standing: Standing, epoch: u32)
-        ensures { self.new ≡ record { rights = standing.rights; journal = []; ledger = standing.ledger; epoch = epoch; last = 0 } }
-    {
-        self.rights = standing.rights;
-        self.ledger = standing.ledger;
-        self.journal.clear();
-        self.epoch = epoch;
-        self.last = 0;
-    }
-}
-
 impl<M: Medium> Site<M> {
     pub(super) fn restart(&mut self, alloc: Global) -> Result<Reply, AllocError>
         ensures ok { IfOk result (λ reply. Applies self.old commands.Restart reply self.new) }
@@ -126,7 +112,7 @@ impl<M: Medium> Site<M> {
                 epoch,
             } => {
                 let last = last_of(self.doubt, &records);
-                self.accounts.stand_on(standing, epoch);
+                self.accounts.stand_on(&self.schema, standing, epoch);
                 self.up = true;
                 self.count = records.len() + 1;
                 self.doubt = None;

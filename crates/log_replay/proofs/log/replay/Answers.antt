@@ -1,16 +1,16 @@
-use Rattle.std.proofs.Common.{◌≡◌, ◌∙◌, ◌+◌, append_assoc, ◌++◌, ◌∷◌, [], List, take, drop, sym, ap, subst, arith}
+use Rattle.std.proofs.Common.{Bool, ◌≡◌, ◌∙◌, ◌+◌, append_assoc, ◌++◌, ◌∷◌, [], List, take, drop, sym, ap, subst, arith}
 use Rattle.std.proofs.lemmas.List.{take_more, take-append-drop, length-take}
 use Rattle.kept_records.specs.declared.record.Record.{Record}
 use Rattle.kept_records.specs.Stands.{Lawful}
-use Rattle.log_replay.specs.Standing.{IsStandingFor}
+use Rattle.log_replay.specs.Standing.{IsStandingFor, TakesIn}
 use Rattle.log_replay.proofs.RecordSums.{lawful_push}
-use Rattle.log_replay.proofs.StandingLaws.{has_places}
+use Rattle.log_replay.proofs.StandingLaws.{has_places, after_one}
 use Rattle.log_replay.proofs.log.replay.Goals as goal
 
 pub take_in-requires-clause-places : goal.take_in-requires-clause-places
 take_in-requires-clause-places c =
     let now = c.loop-record.standing in
-    has_places c.args.schema.now c.args.site.0 (take c.loop-record.record-index c.args.records.now) now.rights now.ledger now.epoch c.loop-record.invariant.standing
+    has_places c.args.schema.now c.args.site.0 (take c.loop-record.record-index c.args.records.now) now.rights now.ledger now.epoch c.loop-record.invariant.standing.for_
 
 pub returns-then-not-take_in-clause-broken : goal.returns-then-not-take_in-clause-broken
 returns-then-not-take_in-clause-broken c =
@@ -28,7 +28,7 @@ returns-then-not-take_in-clause-broken c =
       place = omega (arith, was.count, length-take i rs, c.loop-record-test.true);
       parts = sym (take-append-drop (i + 1) rs) ∙ ap (λ (xs : List Record). xs ++ drop (i + 1) rs) more ∙ append_assoc (take i rs) (r ∷ []) (drop (i + 1) rs);
       lawful = was.lawful;
-      broken = sym (c.take_in.ensures.answer s (take i rs) was.lawful was.standing) ∙ c.if-not-take_in.true;
+      broken = sym (c.take_in.ensures.takes_in.answered s (take i rs) was.lawful was.standing) ∙ c.if-not-take_in.true;
     }
 
 pub loop-record-preserved : goal.loop-record-preserved
@@ -40,10 +40,10 @@ loop-record-preserved c =
     let r = c.record-item.result in
     let was = c.loop-record.invariant in
     let new = c.take_in.new.self in
-    let may = sym (c.take_in.ensures.answer s (take i rs) was.lawful was.standing) ∙ c.if-not-take_in.false in
+    let may = sym (c.take_in.ensures.takes_in.answered s (take i rs) was.lawful was.standing) ∙ c.if-not-take_in.false in
     let more : take (i + 1) rs ≡ take i rs ++ r ∷ [] = take_more rs i r c.loop-record-test.true ∙ ap (λ (x : Record). take i rs ++ x ∷ []) (sym c.record-item.is) in
     record {
       count = ap (λ n. n + 1) was.count;
       lawful = subst (λ (xs : List Record). Lawful schema s xs) (sym more) (lawful_push schema s (take i rs) r was.lawful may);
-      standing = subst (λ (xs : List Record). IsStandingFor schema s xs new) (sym more) (c.take_in.ensures.stands c.if-not-take_in.false s (take i rs) was.lawful was.standing);
+      standing = subst (λ (xs : List Record). IsStandingFor schema s xs new) (sym more) (after_one schema s (take i rs) r c.loop-record.standing new was.lawful was.standing (subst (λ (b : Bool). TakesIn schema c.loop-record.standing r b new) c.if-not-take_in.false c.take_in.ensures.takes_in));
     }

@@ -20,7 +20,7 @@ prove-unreachable-requires g c =
     let z = to_z-of_z w64 c.args.change fits in
     let a : c.unsigned_abs.result ≡ unsigned_abs c.args.change = c.unsigned_abs.ensures.value ∙ ap unsigned_abs z in
     let k : c.of.result ≡ kind_of c.args.change = c.of.ensures.value ∙ ap kind_of z in
-    let can : c.unsigned_abs.result ≤ free_at c.self.inside.accounts.rights c.args.field.0 c.of.result =
+    let can : c.unsigned_abs.result ≤ free_at c.self.inside.accounts.standing.rights c.args.field.0 c.of.result =
     rw (a, k) (grant_has_rights c.self.invariant c.self.view_is c.args.txn (record { field = c.args.field; change = c.args.change }) c.requires.unrefused) in
     taken_is_ok c.take-taken.result (c.take-taken.ensures.enough.1 can) (sym c.is_ok.ensures.value ∙ c.if-prove.true)
 
@@ -31,10 +31,10 @@ invariant_of-self-2 g c =
     let z = to_z-of_z w64 c.args.change fits in
     let a : c.unsigned_abs.result ≡ unsigned_abs c.args.change = c.unsigned_abs.ensures.value ∙ ap unsigned_abs z in
     let k : c.of.result ≡ kind_of c.args.change = c.of.ensures.value ∙ ap kind_of z in
-    let can : c.unsigned_abs.result ≤ free_at c.self.inside.accounts.rights c.args.field.0 c.of.result =
+    let can : c.unsigned_abs.result ≤ free_at c.self.inside.accounts.standing.rights c.args.field.0 c.of.result =
     rw (a, k) (grant_has_rights c.self.invariant c.self.view_is c.args.txn x c.requires.unrefused) in
     let got = ok_gives c.take-taken.result (c.take-taken.ensures.enough.1 can) c.take-taken.ensures.ok in
-    let rows : c.take-taken.new.self ≡ by_escrow taken c.self.inside.accounts.rights x = rw (a, k) at got in
+    let rows : c.take-taken.new.self ≡ by_escrow taken c.self.inside.accounts.standing.rights x = rw (a, k) at got in
     (grants c.self.invariant c.self.view_is c.args.txn x c.requires.unrefused rows (rw z at c.in_ok-add.ensures.ok) (grew (rw z at c.note.ensures.past) c.in_ok-reserve.ensures.items) c.note.ensures.reply).sound
 
 pub returns-clause-ok : goal.returns-clause-ok
@@ -44,8 +44,8 @@ returns-clause-ok g c =
     let z = to_z-of_z w64 c.args.change fits in
     let a : c.unsigned_abs.result ≡ unsigned_abs c.args.change = c.unsigned_abs.ensures.value ∙ ap unsigned_abs z in
     let k : c.of.result ≡ kind_of c.args.change = c.of.ensures.value ∙ ap kind_of z in
-    let can : c.unsigned_abs.result ≤ free_at c.self.inside.accounts.rights c.args.field.0 c.of.result =
+    let can : c.unsigned_abs.result ≤ free_at c.self.inside.accounts.standing.rights c.args.field.0 c.of.result =
     rw (a, k) (grant_has_rights c.self.invariant c.self.view_is c.args.txn x c.requires.unrefused) in
     let got = ok_gives c.take-taken.result (c.take-taken.ensures.enough.1 can) c.take-taken.ensures.ok in
-    let rows : c.take-taken.new.self ≡ by_escrow taken c.self.inside.accounts.rights x = rw (a, k) at got in
+    let rows : c.take-taken.new.self ≡ by_escrow taken c.self.inside.accounts.standing.rights x = rw (a, k) at got in
     (grants c.self.invariant c.self.view_is c.args.txn x c.requires.unrefused rows (rw z at c.in_ok-add.ensures.ok) (grew (rw z at c.note.ensures.past) c.in_ok-reserve.ensures.items) c.note.ensures.reply).applies

@@ -21,7 +21,7 @@ invariant_of-result g c =
     let limits = subst (λ (x : SchemaValue). IsSchema x) c.schema.view_is c.schema.invariant in
     let same : bytes ≡ g.M.Medium.bytes c.args.medium = c.in-Ok.ensures.bytes in
     let log = subst (λ (b : List ℕ). IsLog b found.records.items is.rest) (sym same) is.log in
-    let a : List Row → Accounts = λ j. record { rights = found.standing.rights; journal = j; ledger = found.standing.ledger; epoch = found.standing.epoch; last = 0 } in
+    let a : List Row → Accounts = λ j. record { standing = found.standing; journal = j; last = 0 } in
     let v : List Entry → SiteValue = λ h. record { schema = c.args.schema; site = c.args.site; fresh = found.fresh; based = found.records.items; history = h; bytes = bytes; failed = failed; foretold = left; doubt = None } in
     subst (λ (j : List Row). IsSound (v (reverse c.new.result.items)) found.fresh 0 (a j)) (sym c.new-in-Ok.ensures.empty)
     (subst (λ (h : List Entry). IsSound (v (reverse h)) found.fresh 0 (a [])) (sym c.new.ensures.items)

@@ -1,6 +1,6 @@
 use Rattle.std.proofs.Common.{◌≡◌, length, ap, ◌∙◌, arith}
 use Rattle.kept_state.specs.Doubt.{found_of}
-use Rattle.site_step.proofs.Calls.{grew, lawful_log, fails, fills, restarts}
+use Rattle.site_step.proofs.Calls.{grew, lawful_log, fails, fills, can_restart, restarts}
 use Rattle.site_step.proofs.site.Site.restart.Goals as goal
 
 pub resume-requires-clause-log : goal.resume-requires-clause-log
@@ -31,7 +31,7 @@ invariant_of-self-in-Standing g c =
     let s = c.self.invariant in
     let size : c.len.result ≡ length c.in-Standing.records.items = omega (arith, c.len.ensures, c.in-Standing.records.ok) in
     (restarts s c.self.view_is c.in-Standing.standing c.in-Standing.records.items c.in-Standing.epoch c.last_of-last.result (rw c.in-Standing.is at c.in_ok-resume.ensures.resumes s.records s.rest s.log)
-    c.stand_on.ensures (c.last_of-last.ensures ∙ ap (found_of c.self.inside.doubt) c.deref.ensures.value) size (grew c.note-in-Standing.ensures.past c.in_ok-reserve.ensures.items)
+    c.stand_on.ensures.took c.stand_on.ensures.journal c.stand_on.ensures.last (c.last_of-last.ensures ∙ ap (found_of c.self.inside.doubt) c.deref.ensures.value) size (grew c.note-in-Standing.ensures.past c.in_ok-reserve.ensures.items)
     c.note-in-Standing.ensures.reply).sound
 
 pub returns-in-Standing-clause-ok : goal.returns-in-Standing-clause-ok
@@ -39,5 +39,11 @@ returns-in-Standing-clause-ok g c =
     let s = c.self.invariant in
     let size : c.len.result ≡ length c.in-Standing.records.items = omega (arith, c.len.ensures, c.in-Standing.records.ok) in
     (restarts s c.self.view_is c.in-Standing.standing c.in-Standing.records.items c.in-Standing.epoch c.last_of-last.result (rw c.in-Standing.is at c.in_ok-resume.ensures.resumes s.records s.rest s.log)
-    c.stand_on.ensures (c.last_of-last.ensures ∙ ap (found_of c.self.inside.doubt) c.deref.ensures.value) size (grew c.note-in-Standing.ensures.past c.in_ok-reserve.ensures.items)
+    c.stand_on.ensures.took c.stand_on.ensures.journal c.stand_on.ensures.last (c.last_of-last.ensures ∙ ap (found_of c.self.inside.doubt) c.deref.ensures.value) size (grew c.note-in-Standing.ensures.past c.in_ok-reserve.ensures.items)
     c.note-in-Standing.ensures.reply).applies
+
+pub stand_on-requires : goal.stand_on-requires
+stand_on-requires g c =
+    let s = c.self.invariant in
+    let can = can_restart s c.self.view_is c.in-Standing.standing c.in-Standing.epoch (rw c.in-Standing.is at c.in_ok-resume.ensures.resumes s.records s.rest s.log) in
+    record { places = can.0; can = can.1; ranges = can.2 }

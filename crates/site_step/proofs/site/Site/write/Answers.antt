@@ -7,7 +7,11 @@ pub append_record-requires : goal.append_record-requires
 append_record-requires g c = record { ranges = record_fits c.self.invariant c.self.view_is c.args.command c.requires.unrefused c.requires.told c.requires.kept }
 
 pub carry_out-requires : goal.carry_out-requires
-carry_out-requires g c = record { can = can_write c.self.invariant c.self.view_is c.args.command c.requires.unrefused c.requires.told }
+carry_out-requires g c =
+    record {
+      can = can_write c.self.invariant c.self.view_is c.args.command c.requires.unrefused c.requires.told c.requires.kept;
+      ranges = record_fits c.self.invariant c.self.view_is c.args.command c.requires.unrefused c.requires.told c.requires.kept;
+    }
 
 pub overflow_add-self : goal.overflow_add-self
 overflow_add-self g c =
@@ -24,12 +28,12 @@ overflow_add-self g c =
 
 pub invariant_of-self-in-Ok : goal.invariant_of-self-in-Ok
 invariant_of-self-in-Ok g c =
-    (wrote c.self.invariant c.self.view_is c.args.command c.requires.unrefused c.requires.told c.args.reply c.args.kept.now c.requires.kept c.requires.owed c.carry_out.ensures.carried
+    (wrote c.self.invariant c.self.view_is c.args.command c.requires.unrefused c.requires.told c.args.reply c.args.kept.now c.requires.kept c.requires.owed c.carry_out.ensures.took c.carry_out.ensures.journal c.carry_out.ensures.last
     (rw c.in-Ok.is at c.in_ok-append_record.ensures.added) (rw c.in-Ok.is at c.in_ok-append_record.ensures.fate) (grew c.note.ensures.past c.in_ok-reserve.ensures.items) c.note.ensures.reply).sound
 
 pub returns-in-Ok-clause-ok : goal.returns-in-Ok-clause-ok
 returns-in-Ok-clause-ok g c =
-    (wrote c.self.invariant c.self.view_is c.args.command c.requires.unrefused c.requires.told c.args.reply c.args.kept.now c.requires.kept c.requires.owed c.carry_out.ensures.carried
+    (wrote c.self.invariant c.self.view_is c.args.command c.requires.unrefused c.requires.told c.args.reply c.args.kept.now c.requires.kept c.requires.owed c.carry_out.ensures.took c.carry_out.ensures.journal c.carry_out.ensures.last
     (rw c.in-Ok.is at c.in_ok-append_record.ensures.added) (rw c.in-Ok.is at c.in_ok-append_record.ensures.fate) (grew c.note.ensures.past c.in_ok-reserve.ensures.items) c.note.ensures.reply).applies
 
 pub invariant_of-self-in-Err : goal.invariant_of-self-in-Err

@@ -1,0 +1,65 @@
+-- What a site that is up holds in memory, told by its history.
+use Rattle.std.proofs.Common.{◌≡◌, ℕ, ◌<◌, List, length, Bool, true, false, sym, ◌∙◌, arith}
+use Rattle.field_bounds.specs.declared.kind.Kind.{Kind}
+use Rattle.field_bounds.specs.declared.entry.Entry.{Entry}
+use Rattle.field_bounds.specs.Schema.{SchemaValue}
+use Rattle.field_bounds.specs.Parts.{field_at, width_of}
+use Rattle.field_bounds.specs.Effects.{Base, Effect, given, accepted, share, held, effects}
+use Rattle.field_bounds.specs.Owed.{epoch_of, count_since, is_begun_reply, is_up}
+use Rattle.site_rights.specs.declared.field_rights.FieldRights.{FieldRights}
+use Rattle.site_rights.specs.Rights.{row_at, free_at, held_at}
+use Rattle.escrow_journal.specs.Journal.{Row}
+use Rattle.gift_ledger.specs.Ledger.{LedgerValue, total_at, accepted_at, IsPlace}
+use Rattle.kept_state.proofs.Keeping.{run_owns, run_gives, run_accepts}
+use Rattle.kept_state.proofs.Epochs.{up_epoch}
+use Rattle.kept_state.proofs.Sure.{keeps_up}
+use Rattle.log_replay.specs.Standing.{IsOther}
+use Rattle.site_step.specs.declared.accounts.Accounts.{Accounts}
+use Rattle.site_step.specs.Site.{SiteValue, base_of}
+use Rattle.site_step.specs.State.{journal_of, IsSound}
+
+-- the rights and the open transactions are those of what took effect
+pub record Matches (schema : SchemaValue) (base : Base) (es : List Effect) (rows : List FieldRights) (open_rows : List Row) : Type 0 where
+  pub count : length rows ≡ length schema.fields
+  pub width : (f : ℕ) → f < length rows → (row_at rows f).width ≡ width_of (field_at schema f)
+  pub free : (f : ℕ) (k : Kind) → f < length rows → free_at rows f k ≡ share base f k es
+  pub held : (f : ℕ) (k : Kind) → f < length rows → held_at rows f k ≡ held f k es
+  pub journal : open_rows ≡ journal_of es
+
+-- the ledger is the site's, and holds the totals of what took effect
+pub record Holds (schema : SchemaValue) (s : ℕ) (base : Base) (es : List Effect) (ledger : LedgerValue) : Type 0 where
+  pub place : (r f : ℕ) → IsOther schema s r f → IsPlace ledger r f
+  pub given : (r f : ℕ) (k : Kind) → IsOther schema s r f → total_at ledger r f k ≡ given base r f k es
+  pub accepted : (r f : ℕ) (k : Kind) → IsOther schema s r f → accepted_at ledger r f k ≡ accepted base r f k es
+  pub site : ledger.site ≡ s
+
+pub record Reads (schema : SchemaValue) (s : ℕ) (base : Base) (o : List Entry) (a : Accounts) : Type 0 where
+  pub matches : Matches schema base (effects base false o) a.standing.rights a.journal
+  pub holds : Holds schema s base (effects base false o) a.standing.ledger
+  pub epoch : a.standing.epoch ≡ epoch_of base o
+  pub last : a.last ≡ count_since is_begun_reply o
+
+-- what is kept is what was done
+pub reads : (v : SiteValue) (up : Bool) (count : ℕ) (a : Accounts) → IsSound v up count a → is_up (base_of v) v.history ≡ true → Reads v.schema v.site.0 (base_of v) v.history a
+reads v up count a was there =
+    let st = was.stands there in
+    let base : Base = base_of v in
+    let keeps = keeps_up v.schema v.site.0 base v.based was.kept false v.history was.records there was.keeps in
+    let owns = run_owns v.schema v.site.0 base v.based false v.history was.records was.is_base was.run keeps in
+    record {
+      matches = record {
+        count = st.standing.count;
+        width = st.standing.width;
+        free = λ f k l. omega (arith, st.standing.own f k l, st.aside.held f k l, owns f k);
+        held = st.aside.held;
+        journal = st.aside.journal;
+      };
+      holds = record {
+        place = st.standing.place;
+        given = λ r f k other. st.standing.given r f k other ∙ sym (run_gives v.schema v.site.0 base v.based false v.history was.records was.is_base was.run keeps r f k);
+        accepted = λ r f k other. st.standing.accepted r f k other ∙ sym (run_accepts v.schema v.site.0 base v.based false v.history was.records was.is_base was.run keeps r f k);
+        site = st.standing.site;
+      };
+      epoch = st.standing.epoch ∙ sym (up_epoch v.schema v.site.0 base v.based was.is_base false v.history was.records keeps there);
+      last = st.last;
+    }
