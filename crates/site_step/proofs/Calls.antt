@@ -1,7 +1,7 @@
 -- What each call of a site needs and leaves: once for each, over the site as it is kept and as its callers see it.
 use Rattle.std.proofs.Common.{◌≡◌, ◌≢◌, ◌≤◌, ◌<◌, ℕ, ◌+◌, ◌-◌, Bool, true, false, ◌&&◌, List, [], ◌∷◌, ◌++◌, length, reverse, refl, sym, ap, subst, ◌∙◌, arith, Option, Some, None}
 use Rattle.std.specs.Prelude.{Ok, Err, unsigned_abs}
-use Rattle.std.proofs.lemmas.List.{length-reverse}
+use Rattle.std.proofs.lemmas.List.{length-reverse, reverse-append}
 use Rattle.field_bounds.specs.declared.id.TxnId.{TxnId}
 use Rattle.field_bounds.specs.declared.id.SiteNo.{SiteNo}
 use Rattle.field_bounds.specs.declared.id.FieldNo.{FieldNo}
@@ -55,8 +55,8 @@ use Rattle.site_step.proofs.Writes.{count_is, is_there, ends_wrote, ends_unsure}
 use Rattle.site_step.proofs.Restarts.{ends_failed, ends_full, ends_restarted}
 
 -- one entry more, in a history that was made larger before
-pub grew : {h mid old : List Entry} {e : Entry} → h ≡ e ∷ reverse mid → mid ≡ old → h ≡ e ∷ reverse old
-grew {e = e} past same = past ∙ ap (λ (h : List Entry). e ∷ reverse h) same
+pub grew : {new mid old : List Entry} {e : Entry} → new ≡ mid ++ e ∷ [] → mid ≡ old → reverse new ≡ e ∷ reverse old
+grew {mid = mid} {e = e} pushed same = ap reverse pushed ∙ reverse-append mid (e ∷ []) ∙ ap (λ (h : List Entry). e ∷ reverse h) same
 
 module _ {v w : SiteValue} {up : Bool} {count : ℕ} {a : Accounts} (was : IsSound v up count a) (is : v ≡ w) where
   -- what is known of the site as its callers see it, told of the site as it is kept
@@ -66,10 +66,9 @@ module _ {v w : SiteValue} {up : Bool} {count : ℕ} {a : Accounts} (was : IsSou
   told_of : (c : Command) → writes (here w) c ≡ true → writes (here v) c ≡ true
   told_of c told = subst (λ (x : SiteValue). writes (here x) c ≡ true) (sym is) told
 
-  -- what a call leaves, by the reply that it returns
-  returned : (c : Command) (r q : Reply) (x : SiteValue) (u : Bool) (n : ℕ) (b : Accounts) → q ≡ r → Ends v c r x u n b → Ends w c q x u n b
-  returned c r q x u n b said ends =
-      subst (λ (y : SiteValue). Ends y c q x u n b) is (subst (λ (z : Reply). Ends v c z x u n b) (sym said) ends)
+  -- what a call leaves, told of the site as its callers see it
+  returned : (c : Command) (r : Reply) (x : SiteValue) (u : Bool) (n : ℕ) (b : Accounts) → Ends v c r x u n b → Ends w c r x u n b
+  returned c r x u n b ends = subst (λ (y : SiteValue). Ends y c r x u n b) is ends
 
   abbrev After : List Entry → SiteValue
   After h = record v { history = h }
@@ -137,10 +136,10 @@ module _ {v w : SiteValue} {up : Bool} {count : ℕ} {a : Accounts} (was : IsSou
 
   -- ---- a refusal
 
-  pub refuses : (c : Command) (x : Refusal) {h : List Entry} {q : Reply} → first (refusals (here w) c) ≡ Some x → h ≡ entry_of v c (Refused x) ∷ v.history → q ≡ Refused x
-      → Ends w c q (After h) up count a
-  refuses c x {h = h} {q = q} some past said =
-      returned c (Refused x) q (After h) up count a said
+  pub refuses : (c : Command) (x : Refusal) {h : List Entry} → first (refusals (here w) c) ≡ Some x → h ≡ entry_of v c (Refused x) ∷ v.history
+      → Ends w c (Refused x) (After h) up count a
+  refuses c x {h = h} some past =
+      returned c (Refused x) (After h) up count a
       (ends_refused v up count a was c x h past (subst (λ (y : SiteValue). first (refusals (here y) c) ≡ Some x) (sym is) some))
 
   -- ---- an answer that writes no record
@@ -149,13 +148,13 @@ module _ {v w : SiteValue} {up : Bool} {count : ℕ} {a : Accounts} (was : IsSou
   can c none plain =
       can_settle v.schema v.site.0 (base_of v) v.history a was.run (read (up_there (here v) c (carried_no_restart c plain) (none_of c none))) c (none_of c none)
 
-  pub answers : (c : Command) (r : Reply) {h : List Entry} {q : Reply} {b : Accounts} → first (refusals (here w) c) ≡ None → is_carried c ≡ true → writes (here w) c ≡ false → r ≡ answer (here w) c
-      → b ≡ settled a c → h ≡ entry_of v c r ∷ v.history → q ≡ r → Ends w c q (After h) up count b
-  answers c r {h = h} {q = q} {b = b} none plain silent owed did past said =
+  pub answers : (c : Command) (r : Reply) {h : List Entry} {b : Accounts} → first (refusals (here w) c) ≡ None → is_carried c ≡ true → writes (here w) c ≡ false → r ≡ answer (here w) c
+      → b ≡ settled a c → h ≡ entry_of v c r ∷ v.history → Ends w c r (After h) up count b
+  answers c r {h = h} {b = b} none plain silent owed did past =
       let n = carried_no_restart c plain in
       let there = up_there (here v) c n (none_of c none) in
       let quiet = subst (λ (x : SiteValue). writes (here x) c ≡ false) (sym is) silent in
-      returned c r q (After h) up count b said
+      returned c r (After h) up count b
       (subst (λ (x : Accounts). Ends v c r (After h) up count x) (sym did)
       (ends_answered v up count a was c (settled a c) r h (subst (λ (x : SiteValue). r ≡ answer (here x) c) (sym is) owed) past n (none_of c none) quiet
       (stands_settled v.schema v.site.0 (base_of v) v.history a was.run (read there) was.records (was.stands there) v.site c plain quiet (none_of c none))))
@@ -187,26 +186,26 @@ module _ {v w : SiteValue} {up : Bool} {count : ℕ} {a : Accounts} (was : IsSou
     pub few_written : count ≤ length v.based + length v.history
     few_written = omega (arith, count_is v up count a was c unrefused writing fits, few_records v up count a was)
 
-    pub wrote : (r : Reply) (kept : Record) {h : List Entry} {q : Reply} {b : Accounts} {bytes : List ℕ} {failed : ℕ} {left : Option Mishap} → kept ≡ record_at (here w) c → r ≡ answer (here w) c
+    pub wrote : (r : Reply) (kept : Record) {h : List Entry} {b : Accounts} {bytes : List ℕ} {failed : ℕ} {left : Option Mishap} → kept ≡ record_at (here w) c → r ≡ answer (here w) c
         → TakesIn v.schema (readied a kept).standing kept true b.standing → b.journal ≡ (readied a kept).journal → b.last ≡ a.last
         → Appends {T = Unit {0}} {E = Device} (Ok tt) v.bytes (text kept) bytes v.failed failed → AppendFate {E = Device} v.foretold v.bytes (text kept) (Ok tt) bytes left
-        → h ≡ entry_of v c r ∷ v.history → q ≡ r → Ends w c q (Then h bytes failed left v.doubt) up (count + 1) b
-    wrote r kept {h = h} {q = q} {b = b} {bytes = bytes} {failed = failed} {left = left} kept_is owed took open_ last_is added fate past said =
+        → h ≡ entry_of v c r ∷ v.history → Ends w c r (Then h bytes failed left v.doubt) up (count + 1) b
+    wrote r kept {h = h} {b = b} {bytes = bytes} {failed = failed} {left = left} kept_is owed took open_ last_is added fate past =
         let same : kept ≡ record_at (here v) c = subst (λ (x : SiteValue). kept ≡ record_at (here x) c) (sym is) kept_is in
         let line = subst (λ (x : Record). Appends {T = Unit {0}} {E = Device} (Ok tt) v.bytes (text x) bytes v.failed failed) same added in
-        returned c r q (Then h bytes failed left v.doubt) up (count + 1) b said
+        returned c r (Then h bytes failed left v.doubt) up (count + 1) b
         (ends_wrote v up count a was c unrefused writing fits b bytes failed left r h (subst (λ (x : SiteValue). r ≡ answer (here x) c) (sym is) owed) past
         (stands_carried v.schema v.site.0 (base_of v) v.history a was.run (read there_now) was.records (was.stands there_now) lawful v.site c unrefused writing b
         (subst (λ (x : Record). TakesIn v.schema (readied a x).standing x true b.standing) same took) (subst (λ (x : Record). b.journal ≡ (readied a x).journal) same open_) last_is) line.0 line.1
         (subst (λ (x : Record). AppendFate {E = Device} v.foretold v.bytes (text x) (Ok tt) bytes left) same fate))
 
-    pub unsure : (kept : Record) (device : Device) {h : List Entry} {q : Reply} {bytes : List ℕ} {failed : ℕ} {left : Option Mishap} → kept ≡ record_at (here w) c
+    pub unsure : (kept : Record) (device : Device) {h : List Entry} {bytes : List ℕ} {failed : ℕ} {left : Option Mishap} → kept ≡ record_at (here w) c
         → Appends {T = Unit {0}} (Err device) v.bytes (text kept) bytes v.failed failed → AppendFate v.foretold v.bytes (text kept) (Err device) bytes left
-        → h ≡ entry_of v c Unsure ∷ v.history → q ≡ Unsure → Ends w c q (Then h bytes failed left (Some count)) false count a
-    unsure kept device {h = h} {q = q} {bytes = bytes} {failed = failed} {left = left} kept_is added fate past said =
+        → h ≡ entry_of v c Unsure ∷ v.history → Ends w c Unsure (Then h bytes failed left (Some count)) false count a
+    unsure kept device {h = h} {bytes = bytes} {failed = failed} {left = left} kept_is added fate past =
         let same : kept ≡ record_at (here v) c = subst (λ (x : SiteValue). kept ≡ record_at (here x) c) (sym is) kept_is in
         let line = subst (λ (x : Record). Appends {T = Unit {0}} (Err device) v.bytes (text x) bytes v.failed failed) same added in
-        returned c Unsure q (Then h bytes failed left (Some count)) false count a said
+        returned c Unsure (Then h bytes failed left (Some count)) false count a
         (ends_unsure v up count a was c unrefused writing fits a bytes failed left device Unsure h refl past line.0 line.1
         (subst (λ (x : Record). AppendFate v.foretold v.bytes (text x) (Err device) bytes left) same fate))
 
@@ -225,13 +224,13 @@ module _ {v w : SiteValue} {up : Bool} {count : ℕ} {a : Accounts} (was : IsSou
     pub begin_has_room : length a.journal < max_open
     begin_has_room = room_by v.schema v.site.0 (base_of v) v.history a was.run (read stood) (none_of Begin none)
 
-    pub begins : {h : List Entry} {q : Reply} {j : List Row} → j ≡ a.journal ++ (t, []) ∷ [] → h ≡ entry_of v Begin (Begun t) ∷ v.history → q ≡ Begun t
-        → Ends w Begin q (After h) up count (record a { journal = j; last = a.last + 1 })
-    begins {h = h} {q = q} {j = j} row past said =
+    pub begins : {h : List Entry} {j : List Row} → j ≡ a.journal ++ (t, []) ∷ [] → h ≡ entry_of v Begin (Begun t) ∷ v.history
+        → Ends w Begin (Begun t) (After h) up count (record a { journal = j; last = a.last + 1 })
+    begins {h = h} {j = j} row past =
         let begun : ◌≡◌ {A = Reply} (Begun t) (answer (here v) Begin) = ap (λ (x : TxnId). Begun x) (next_is v.schema v.site.0 (base_of v) v.history a was.run (read stood)) in
         let more : List Row → Accounts = λ j. record a { journal = j; last = a.last + 1 } in
         let b = more (a.journal ++ (t, []) ∷ []) in
-        returned Begin (Begun t) q (After h) up count (more j) said
+        returned Begin (Begun t) (After h) up count (more j)
         (subst (λ (x : List Row). Ends v Begin (Begun t) (After h) up count (more x)) (sym row)
         (ends_answered v up count a was Begin b (Begun t) h begun past refl (none_of Begin none) refl
         (subst (λ (r : Reply). StandsOn v.schema v.site.0 (base_of v) (entry_of v Begin r ∷ v.history) was.records b) begun
@@ -256,11 +255,11 @@ module _ {v w : SiteValue} {up : Bool} {count : ℕ} {a : Accounts} (was : IsSou
     pub grant_has_rights : unsigned_abs e.change ≤ free_at a.standing.rights e.field.0 (kind_of e.change)
     grant_has_rights = enough_by v.schema v.site.0 (base_of v) v.history a was.run (read held) txn e (none_of ask none)
 
-    pub grants : {h : List Entry} {q : Reply} {rows : List FieldRights} {j : List Row} → rows ≡ by_escrow taken a.standing.rights e → j ≡ added txn e a.journal → h ≡ entry_of v ask Granted ∷ v.history
-        → q ≡ Granted → Ends w ask q (After h) up count (record (with_rights rows a) { journal = j })
-    grants {h = h} {q = q} {rows = rows} {j = j} took row past said =
+    pub grants : {h : List Entry} {rows : List FieldRights} {j : List Row} → rows ≡ by_escrow taken a.standing.rights e → j ≡ added txn e a.journal → h ≡ entry_of v ask Granted ∷ v.history
+        → Ends w ask Granted (After h) up count (record (with_rights rows a) { journal = j })
+    grants {h = h} {rows = rows} {j = j} took row past =
         let more : List FieldRights → List Row → Accounts = λ x y. record (with_rights x a) { journal = y } in
-        returned ask Granted q (After h) up count (more rows j) said
+        returned ask Granted (After h) up count (more rows j)
         (subst (λ (x : List FieldRights). Ends v ask Granted (After h) up count (more x j)) (sym took)
         (subst (λ (y : List Row). Ends v ask Granted (After h) up count (more (by_escrow taken a.standing.rights e) y)) (sym row)
         (ends_answered v up count a was ask (more (by_escrow taken a.standing.rights e) (added txn e a.journal)) Granted h refl past refl (none_of ask none) refl
@@ -299,15 +298,15 @@ module _ {v w : SiteValue} {up : Bool} {count : ℕ} {a : Accounts} (was : IsSou
         lawful = run_stays_lawful v.schema v.site.0 (base_of v) v.based s.is_base s.based_on s.kept v.history s.records s.run s.keeps;
       }
 
-  pub fails : {h : List Entry} {q : Reply} {bytes : List ℕ} {failed : ℕ} {left : Option Mishap} → FailsOver was.records was.rest v.bytes bytes v.foretold left v.failed failed
-      → h ≡ entry_of v Restart StillDown ∷ v.history → q ≡ StillDown → Ends w Restart q (Then h bytes failed left v.doubt) false count a
-  fails {h = h} {q = q} {bytes = bytes} {failed = failed} {left = left} did past said =
-      returned Restart StillDown q (Then h bytes failed left v.doubt) false count a said (ends_failed v up count a was a bytes failed left h past did)
+  pub fails : {h : List Entry} {bytes : List ℕ} {failed : ℕ} {left : Option Mishap} → FailsOver was.records was.rest v.bytes bytes v.foretold left v.failed failed
+      → h ≡ entry_of v Restart StillDown ∷ v.history → Ends w Restart StillDown (Then h bytes failed left v.doubt) false count a
+  fails {h = h} {bytes = bytes} {failed = failed} {left = left} did past =
+      returned Restart StillDown (Then h bytes failed left v.doubt) false count a (ends_failed v up count a was a bytes failed left h past did)
 
-  pub fills : {h : List Entry} {q : Reply} {bytes : List ℕ} {failed : ℕ} {left : Option Mishap} → FullOver was.records v.bytes bytes v.foretold left v.failed failed
-      → h ≡ entry_of v Restart (Refused NumbersFull) ∷ v.history → q ≡ Refused NumbersFull → Ends w Restart q (Then h bytes failed left v.doubt) up count a
-  fills {h = h} {q = q} {bytes = bytes} {failed = failed} {left = left} did past said =
-      returned Restart (Refused NumbersFull) q (Then h bytes failed left v.doubt) up count a said (ends_full v up count a was bytes failed left h past did)
+  pub fills : {h : List Entry} {bytes : List ℕ} {failed : ℕ} {left : Option Mishap} → FullOver was.records v.bytes bytes v.foretold left v.failed failed
+      → h ≡ entry_of v Restart (Refused NumbersFull) ∷ v.history → Ends w Restart (Refused NumbersFull) (Then h bytes failed left v.doubt) up count a
+  fills {h = h} {bytes = bytes} {failed = failed} {left = left} did past =
+      returned Restart (Refused NumbersFull) (Then h bytes failed left v.doubt) up count a (ends_full v up count a was bytes failed left h past did)
 
   pub can_restart : (standing : Standing) (epoch : ℕ) {found : List Record} {rest bytes : List ℕ} {failed : ℕ} {left : Option Mishap}
       → StandsOver v.schema v.site.0 was.records found epoch rest bytes v.foretold left v.failed failed × IsStandingFor v.schema v.site.0 was.records standing
@@ -318,11 +317,11 @@ module _ {v w : SiteValue} {up : Bool} {count : ℕ} {a : Accounts} (was : IsSou
     (omega (arith, did.0.epoch_is), omega (arith, did.0.epoch_is, did.0.some)),
   )
 
-  pub restarts : (standing : Standing) (found : List Record) (epoch : ℕ) (last : Last) {h : List Entry} {q : Reply} {b : Accounts} {size : ℕ} {bytes : List ℕ} {failed : ℕ} {left : Option Mishap}
+  pub restarts : (standing : Standing) (found : List Record) (epoch : ℕ) (last : Last) {h : List Entry} {b : Accounts} {size : ℕ} {bytes : List ℕ} {failed : ℕ} {left : Option Mishap}
       → StandsOver v.schema v.site.0 was.records found epoch was.rest bytes v.foretold left v.failed failed × IsStandingFor v.schema v.site.0 was.records standing
       → TakesIn v.schema standing (records.Restart epoch) true b.standing → b.journal ≡ [] → b.last ≡ 0 → last ≡ found_of v.doubt found → size ≡ length found
-      → h ≡ entry_of v Restart (Restarted epoch last) ∷ v.history → q ≡ Restarted epoch last → Ends w Restart q (Then h bytes failed left None) true (size + 1) b
-  restarts standing found epoch last {h = h} {q = q} {b = b} {size = size} {bytes = bytes} {failed = failed} {left = left} did took open_ last_is found_is counted past said =
+      → h ≡ entry_of v Restart (Restarted epoch last) ∷ v.history → Ends w Restart (Restarted epoch last) (Then h bytes failed left None) true (size + 1) b
+  restarts standing found epoch last {h = h} {b = b} {size = size} {bytes = bytes} {failed = failed} {left = left} did took open_ last_is found_is counted past =
       let r : Reply = Restarted epoch last in
-      returned Restart r q (Then h bytes failed left None) true (size + 1) b said
+      returned Restart r (Then h bytes failed left None) true (size + 1) b
       (ends_restarted v up count a was standing found epoch b bytes failed left r size h did.1 did.0 took open_ last_is (ap (λ (l : Last). Restarted epoch l) found_is) counted past)

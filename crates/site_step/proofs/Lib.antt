@@ -8,4 +8,4 @@ pub mod Resumes
 pub mod Restarts
 pub mod Opens
 mod Calls
-pub mod Excluded
+mod Lasting

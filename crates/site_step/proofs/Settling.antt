@@ -1,6 +1,6 @@
 -- What an answer leaves as it was, and what the ladder says of a reply that fits.
 use Rattle.std.proofs.Common.{◌≡◌, ℕ, Bool, true, false, ◌&&◌, List, [], ◌∷◌, ◌++◌, refl, sym, ap, ◌∙◌, inl, inr, arith, Option, Some, None}
-use Rattle.std.specs.Prelude.{if◌then◌else◌, Result, Ok, Err, IsOk, OnOk, is_ok}
+use Rattle.std.specs.Prelude.{if◌then◌else◌, Result, Ok, Err, IsOk, OnOk, IsSome, is_some}
 use Rattle.field_bounds.specs.declared.entry.Command.{Command}
 use Rattle.field_bounds.specs.declared.entry.Command.TheVariants.{Begin, Escrow, Restart}
 use Rattle.field_bounds.specs.declared.entry.Last.{Last}
@@ -28,9 +28,9 @@ pub ok_gives : {A E : Type 0} {P : Type 0} (r : Result A E) → IsOk r → OnOk 
 ok_gives (Ok a) is p = p
 ok_gives (Err e) is p = absurd cc
 
-pub taken_is_ok : {A E : Type 0} (r : Result A E) → IsOk r → is_ok r ≡ false → ⊥
-taken_is_ok (Ok a) is h = cc
-taken_is_ok (Err e) is h = cc
+pub some_there : {A : Type 0} (o : Option A) → is_some o ≡ true → IsSome o
+some_there (Some a) is = is
+some_there None is = cc
 
 -- ---- an answer
 

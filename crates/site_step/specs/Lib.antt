@@ -2,3 +2,4 @@ pub mod Site
 pub mod State
 pub mod Resuming
 pub mod Opening
+pub mod Calls

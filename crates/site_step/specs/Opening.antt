@@ -1,8 +1,9 @@
 -- What a medium holds over which no site is opened (this project).
-use Rattle.std.specs.Prelude.{◌≡◌, ◌⊎◌, ℕ, ◌+◌, List, ◌++◌, Option}
+use Rattle.std.specs.Prelude.{◌≡◌, ◌⊎◌, ℕ, ◌+◌, List, ◌++◌, Option, Some, None}
 use Rattle.std.specs.List.{flat_map, AllByRecursion}
 use Rattle.field_bounds.specs.Schema.{SchemaValue}
 use Rattle.kept_records.specs.declared.medium.Mishap.{Mishap}
+use Rattle.kept_records.specs.declared.medium.Mishap.TheVariants.{Never, Append, Cut, Read}
 use Rattle.kept_records.specs.declared.medium.MediumFault.{MediumFault}
 use Rattle.kept_records.specs.declared.medium.MediumFault.TheVariants as faults
 use Rattle.kept_records.specs.declared.record.Record.{Record}
@@ -10,6 +11,7 @@ use Rattle.kept_records.specs.Text.{text, IsRecord}
 use Rattle.kept_records.specs.Logs.{IsLog, IsBadLine}
 use Rattle.kept_records.specs.Stands.{Lawful, BreaksRule}
 use Rattle.log_replay.specs.Standing.{IsStandingFor}
+use Rattle.site_step.specs.Site.{struck}
 use Rattle.site_step.specs.declared.site.opening.OpenFault.{OpenFault}
 use Rattle.site_step.specs.declared.site.opening.OpenFault.TheVariants.{Device, Line, NoMemory}
 use Rattle.site_step.specs.declared.site.opening.Found.{Found}
@@ -44,12 +46,28 @@ fault_of faults.NoMemory = NoMemory
 -- The count of failures rises by one exactly at a fault of the device.
 abbrev pub failed_at : OpenFault → ℕ → ℕ
 failed_at Device n = n + 1
-failed_at fault n = n
+failed_at (Line line) n = n
+failed_at NoMemory n = n
 
--- The mishap that strikes next stays, unless it struck.
-abbrev pub StaysForetold : OpenFault → Option Mishap → Option Mishap → Type 0
-StaysForetold Device before after = Unit {0}
-StaysForetold fault before after = after ≡ before
+-- What becomes of a mishap that is known: it stays, but where the device failed it is used up.
+abbrev pub foretold_at : OpenFault → Option Mishap → Option Mishap
+foretold_at Device foretold = struck foretold
+foretold_at (Line n) foretold = foretold
+foretold_at NoMemory foretold = foretold
+
+-- The mishap may be one for reads: it is, or it isn't known.
+abbrev pub MayStrikeRead : Option Mishap → Type 0
+MayStrikeRead None = Unit {0}
+MayStrikeRead (Some Read) = Unit {0}
+MayStrikeRead (Some Never) = ⊥
+MayStrikeRead (Some (Append kept)) = ⊥
+MayStrikeRead (Some Cut) = ⊥
+
+-- The device fails only where the mishap may be one for reads.
+abbrev pub FailsUnder : OpenFault → Option Mishap → Type 0
+FailsUnder Device foretold = MayStrikeRead foretold
+FailsUnder (Line n) foretold = Unit {0}
+FailsUnder NoMemory foretold = Unit {0}
 
 -- What was found is the bytes' log, which is lawful, and what its records stand for.
 pub record IsFound (schema : SchemaValue) (s : ℕ) (bytes : List ℕ) (found : Found) : Type 0 where

@@ -1,9 +1,9 @@
 -- A site as its callers see it, and what its calls do (this project).
-use Rattle.std.specs.Prelude.{◌≡◌, ◌⊎◌, ℕ, ◌+◌, ◌-◌, ◌^◌, ◌≤◌, nat_lt, if◌then◌else◌, Bool, true, List, [], ◌∷◌, ◌++◌, length, reverse, Option, Some, None}
+use Rattle.std.specs.Prelude.{◌≡◌, ◌⊎◌, ℕ, ◌+◌, ◌-◌, ◌^◌, ◌≤◌, nat_lt, if◌then◌else◌, Bool, true, false, ◌&&◌, List, [], ◌∷◌, ◌++◌, length, reverse, Option, Some, None}
 use Rattle.field_bounds.specs.declared.id.SiteNo.{SiteNo}
 use Rattle.field_bounds.specs.declared.id.TxnId.{TxnId}
 use Rattle.field_bounds.specs.declared.entry.Command.{Command}
-use Rattle.field_bounds.specs.declared.entry.Command.TheVariants.{Commit, Abort}
+use Rattle.field_bounds.specs.declared.entry.Command.TheVariants.{Begin, Escrow as Ask, Commit, Abort, Give, Restate, Accept, Read, Share, Restart}
 use Rattle.field_bounds.specs.declared.entry.Reply.{Reply}
 use Rattle.field_bounds.specs.declared.entry.Reply.TheVariants.{Committed as SaysCommitted, Aborted as SaysAborted, Restarted, Unsure, StillDown, Refused}
 use Rattle.field_bounds.specs.declared.entry.Last.{Last}
@@ -14,7 +14,7 @@ use Rattle.field_bounds.specs.Owed.{Place, place, Fits, writes, max_number}
 use Rattle.site_rights.specs.declared.field_rights.Outcome.{Outcome}
 use Rattle.site_rights.specs.declared.field_rights.Outcome.TheVariants.{Committed, Aborted}
 use Rattle.kept_records.specs.declared.medium.Mishap.{Mishap}
-use Rattle.kept_records.specs.declared.medium.Mishap.TheVariants.{Never, Append, Cut, Read}
+use Rattle.kept_records.specs.declared.medium.Mishap.TheVariants as mishaps
 use Rattle.kept_records.specs.declared.record.Record.{Record}
 use Rattle.kept_records.specs.declared.record.Record.TheVariants as records
 use Rattle.std.specs.List.{flat_map}
@@ -91,8 +91,17 @@ RestartsOver reply rs doubt rest = Unit {0}
 
 -- A restart is refused exactly where the greatest epoch kept is the last.
 abbrev pub RefusesOver : Command → Reply → List Record → Type 0
-RefusesOver Command.Restart (Refused refusal) rs = max_number ≤ greatest rs
-RefusesOver command reply rs = Unit {0}
+RefusesOver Restart (Refused refusal) rs = max_number ≤ greatest rs
+RefusesOver Restart reply rs = Unit {0}
+RefusesOver Begin reply rs = Unit {0}
+RefusesOver (Ask txn field change) reply rs = Unit {0}
+RefusesOver (Commit txn) reply rs = Unit {0}
+RefusesOver (Abort txn) reply rs = Unit {0}
+RefusesOver (Give to field kind amount) reply rs = Unit {0}
+RefusesOver (Restate to field kind) reply rs = Unit {0}
+RefusesOver (Accept told) reply rs = Unit {0}
+RefusesOver (Read field) reply rs = Unit {0}
+RefusesOver (Share field) reply rs = Unit {0}
 
 -- Over a medium that holds these records: it holds them still, behind them the record that the entry adds, if any, and
 -- then bytes in which no line ends.
@@ -118,16 +127,24 @@ LeavesFailed old new =
 abbrev pub Writes : Place → Command → Reply → List ℕ → List ℕ → Type 0
 Writes at command (Refused refusal) old new = new ≡ old
 Writes at command Unsure old new = IsCutShort old (text (record_at at command)) new
-Writes at Command.Restart StillDown old new = LeavesFailed old new
-Writes at Command.Restart reply old new = Unit {0}
-Writes at command reply old new = new ≡ old ++ line_of at command
+Writes at Restart StillDown old new = LeavesFailed old new
+Writes at Restart reply old new = Unit {0}
+Writes at Begin reply old new = new ≡ old ++ line_of at Begin
+Writes at (Ask txn field change) reply old new = new ≡ old ++ line_of at (Ask txn field change)
+Writes at (Commit txn) reply old new = new ≡ old ++ line_of at (Commit txn)
+Writes at (Abort txn) reply old new = new ≡ old ++ line_of at (Abort txn)
+Writes at (Give to field kind amount) reply old new = new ≡ old ++ line_of at (Give to field kind amount)
+Writes at (Restate to field kind) reply old new = new ≡ old ++ line_of at (Restate to field kind)
+Writes at (Accept told) reply old new = new ≡ old ++ line_of at (Accept told)
+Writes at (Read field) reply old new = new ≡ old ++ line_of at (Read field)
+Writes at (Share field) reply old new = new ≡ old ++ line_of at (Share field)
 
 -- ---- under a mishap that is known
 
 -- What becomes of a mishap that is known: it stays, but where it struck it is used up.
 abbrev pub struck : Option Mishap → Option Mishap
 struck None = None
-struck (Some mishap) = Some Never
+struck (Some mishap) = Some mishaps.Never
 
 abbrev pub foretold_after : Reply → Option Mishap → Option Mishap
 foretold_after Unsure foretold = struck foretold
@@ -136,29 +153,55 @@ foretold_after reply foretold = foretold
 
 -- The mishap of an append that goes by luck.
 abbrev pub mishap_of : Luck → Mishap
-mishap_of Fine = Never
-mishap_of (Torn bytes) = Append bytes
+mishap_of Fine = mishaps.Never
+mishap_of (Torn bytes) = mishaps.Append bytes
 
 -- The mishap that strikes next once this one is armed: none does where the count of failures can't rise.
 abbrev pub foretold_by : ℕ → Mishap → Option Mishap
-foretold_by failed mishap = if nat_lt failed (2 ^ 64 - 1) then Some mishap else Some Never
+foretold_by failed mishap = if nat_lt failed (2 ^ 64 - 1) then Some mishap else Some mishaps.Never
 
 -- What a restart that doesn't fail would find: this greatest epoch kept, and this of the record in doubt.
 unfoldable pub Finds : SiteValue → ℕ → Last → Type 0
 Finds v epoch found =
     (rs : List Record) (rest : List ℕ) → IsLog v.bytes rs rest → (greatest rs ≡ epoch) × (found_of v.doubt rs ≡ found)
 
--- How the append of a command goes under a mishap: one for cuts strikes a restart alone, and there just where bytes stand
--- behind the last line feed.
-abbrev pub luck_under : Command → List ℕ → Mishap → Luck
-luck_under command rest (Append bytes) = Torn bytes
-luck_under Command.Restart (b ∷ rest) Cut = Torn 0
-luck_under command rest mishap = Fine
+-- Whether a command reads the medium first, and cuts what stands behind the last line feed: a restart alone.
+abbrev pub reads_medium : Command → Bool
+reads_medium Restart = true
+reads_medium Begin = false
+reads_medium (Ask txn field change) = false
+reads_medium (Commit txn) = false
+reads_medium (Abort txn) = false
+reads_medium (Give to field kind amount) = false
+reads_medium (Restate to field kind) = false
+reads_medium (Accept told) = false
+reads_medium (Read field) = false
+reads_medium (Share field) = false
 
--- The reply under a mishap that is known, over a medium that holds these records and this rest. A restart reads first.
+-- How an append goes behind a cut of this rest that fails: there is none where there is nothing to cut.
+abbrev pub luck_of_cut : List ℕ → Luck
+luck_of_cut [] = Fine
+luck_of_cut (b ∷ rest) = Torn 0
+
+-- How the append of a command goes under a mishap, over a medium with this rest behind the last line feed.
+abbrev pub luck_under : Command → List ℕ → Mishap → Luck
+luck_under command rest (mishaps.Append bytes) = Torn bytes
+luck_under command rest mishaps.Cut = if reads_medium command then luck_of_cut rest else Fine
+luck_under command rest mishaps.Read = Fine
+luck_under command rest mishaps.Never = Fine
+
+abbrev pub is_for_reads : Mishap → Bool
+is_for_reads mishaps.Read = true
+is_for_reads mishaps.Never = false
+is_for_reads (mishaps.Append bytes) = false
+is_for_reads mishaps.Cut = false
+
+-- The reply under a mishap that is known, over a medium that holds these records and this rest: a restart reads first.
 abbrev pub owed_under : SiteValue → List Record → List ℕ → Command → Mishap → Reply
-owed_under v rs rest Command.Restart Read = StillDown
-owed_under v rs rest command mishap = owed_with (here v) (greatest rs) (found_of v.doubt rs) command (luck_under command rest mishap)
+owed_under v rs rest command mishap =
+    if reads_medium command && is_for_reads mishap
+    then StillDown
+    else owed_with (here v) (greatest rs) (found_of v.doubt rs) command (luck_under command rest mishap)
 
 -- Where it is known how the next append goes, the reply is the one that is owed then, and so is what a restart would find
 -- after it.

@@ -3,7 +3,7 @@ use Rattle.std.specs.Prelude.{◌≡◌, ℕ, ◌<◌, ◌≤◌, List, [], leng
 use Rattle.field_bounds.specs.declared.kind.Kind.{Kind}
 use Rattle.field_bounds.specs.declared.id.TxnId.{TxnId}
 use Rattle.field_bounds.specs.declared.entry.Command.{Command}
-use Rattle.field_bounds.specs.declared.entry.Command.TheVariants.{Begin, Escrow, Commit, Abort, Restart}
+use Rattle.field_bounds.specs.declared.entry.Command.TheVariants.{Begin, Escrow, Commit, Abort, Give, Restate, Accept, Read, Share, Restart}
 use Rattle.field_bounds.specs.declared.entry.Entry.{Entry}
 use Rattle.field_bounds.specs.Schema.{SchemaValue}
 use Rattle.field_bounds.specs.Limits.{IsSchema}
@@ -60,12 +60,21 @@ released txn a =
 abbrev pub settled : Accounts → Command → Accounts
 settled a (Commit txn) = released txn a
 settled a (Abort txn) = released txn a
-settled a command = a
+settled a Begin = a
+settled a (Escrow txn field change) = a
+settled a (Give to field kind amount) = a
+settled a (Restate to field kind) = a
+settled a (Accept told) = a
+settled a (Read field) = a
+settled a (Share field) = a
+settled a Restart = a
 
 -- What is in memory when a record is taken in: a commit's transaction is released.
 abbrev pub readied : Accounts → Record → Accounts
 readied a (records.Commit txn escrows) = released txn a
-readied a kept = a
+readied a (records.Gift to field kind total) = a
+readied a (records.Accept from field kind total) = a
+readied a (records.Restart epoch) = a
 
 -- The transaction is open, and its escrows are held.
 pub record CanClose (a : Accounts) (txn : TxnId) : Type 0 where
@@ -76,11 +85,20 @@ pub record CanClose (a : Accounts) (txn : TxnId) : Type 0 where
 abbrev pub CanSettle : Accounts → Command → Type 0
 CanSettle a (Commit txn) = CanClose a txn
 CanSettle a (Abort txn) = CanClose a txn
-CanSettle a command = Unit {0}
+CanSettle a Begin = Unit {0}
+CanSettle a (Escrow txn field change) = Unit {0}
+CanSettle a (Give to field kind amount) = Unit {0}
+CanSettle a (Restate to field kind) = Unit {0}
+CanSettle a (Accept told) = Unit {0}
+CanSettle a (Read field) = Unit {0}
+CanSettle a (Share field) = Unit {0}
+CanSettle a Restart = Unit {0}
 
 abbrev pub CanReady : Accounts → Record → Type 0
 CanReady a (records.Commit txn escrows) = CanClose a txn
-CanReady a kept = Unit {0}
+CanReady a (records.Gift to field kind total) = Unit {0}
+CanReady a (records.Accept from field kind total) = Unit {0}
+CanReady a (records.Restart epoch) = Unit {0}
 
 -- The record can be taken in, once its transaction is released.
 pub record CanCarry (schema : SchemaValue) (a : Accounts) (kept : Record) : Type 0 where
@@ -93,7 +111,13 @@ abbrev pub is_carried : Command → Bool
 is_carried Begin = false
 is_carried (Escrow txn field change) = false
 is_carried Restart = false
-is_carried command = true
+is_carried (Commit txn) = true
+is_carried (Abort txn) = true
+is_carried (Give to field kind amount) = true
+is_carried (Restate to field kind) = true
+is_carried (Accept told) = true
+is_carried (Read field) = true
+is_carried (Share field) = true
 
 -- ---- on the medium
 

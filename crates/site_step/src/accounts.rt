@@ -32,9 +32,8 @@ fn close(journal: &mut Journal, rights: &mut Rights, txn: TxnId)
     ensures journal { journal.new ≡ without txn journal.old }
     ensures rights { rights.new ≡ by_escrows (ending Aborted) rights.old (escrows_at txn journal.old) }
 {
-    if let Some(escrows) = journal.take_out(txn) {
-        rights.end(&escrows, Outcome::Aborted);
-    }
+    let escrows = journal.take_out(txn).unwrap();
+    rights.end(&escrows, Outcome::Aborted);
 }
 
 impl Accounts {
@@ -52,9 +51,28 @@ impl Accounts {
         ensures settled { self.new ≡ settled self.old command }
     {
         match command {
-            Command::Commit { txn } => self.release(txn),
-            Command::Abort { txn } => self.release(txn),
-            _ => {}
+            Command::Commit { txn } | Command::Abort { txn } => self.release(txn),
+            Command::Begin
+            | Command::Escrow {
+                txn: _,
+                field: _,
+                change: _,
+            }
+            | Command::Give {
+                to: _,
+                field: _,
+                kind: _,
+                amount: _,
+            }
+            | Command::Restate {
+                to: _,
+                field: _,
+                kind: _,
+            }
+            | Command::Accept(_)
+            | Command::Read { field: _ }
+            | Command::Share { field: _ }
+            | Command::Restart => {}
         }
     }
 

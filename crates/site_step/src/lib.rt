@@ -3,8 +3,10 @@
 #![tactic(auto)]
 
 mod accounts;
+mod laws;
 mod site;
 
+pub use laws::nothing_in_doubt;
 pub use site::{OpenFault, Site};
 
 #[cfg(test)]

@@ -1,11 +1,12 @@
 //! A site and its step.
 
-ghost use Rattle.std.specs.Prelude.{◌≡◌, ◌<◌, ◌∷◌, [], ℕ, reverse, OnErr, IfOk, IfErr, vec_len, vec_capacity};
+ghost use Rattle.std.specs.Prelude.{◌≡◌, ◌<◌, [], ℕ, reverse, Some, OnErr, IfOk, IfErr};
 ghost use Rattle.field_bounds.specs.declared.entry.Last.{Last};
 ghost use Rattle.field_bounds.specs.declared.entry.Last.TheVariants.{Nothing};
 ghost use Rattle.field_bounds.specs.Owed.{interval_of, shares_of, is_up, IsRun};
 ghost use Rattle.site_step.specs.Site.{here, base_of, Applies, HoldsLog, Finds, Opens, foretold_by};
-ghost use Rattle.site_step.specs.Opening.{TellsLine, SparesLogs, StaysForetold, failed_at};
+ghost use Rattle.kept_records.specs.declared.medium.Mishap.TheVariants.{Read};
+ghost use Rattle.site_step.specs.Opening.{TellsLine, SparesLogs, FailsUnder, failed_at, foretold_at};
 
 mod gifts;
 mod keeping;
@@ -54,31 +55,17 @@ impl<M: Medium> Model for Site<M> {
     ghost invariant = { λ s. IsSound (value_of s.schema s.number s.fresh s.based.items s.history.items (M.bytes s.medium) (M.failed s.medium) (M.foretold s.medium) s.doubt) s.up s.count s.accounts };
 }
 
-/// Adds an entry to a history that has room for it.
-fn note(history: &mut Vec<Entry>, site: SiteNo, command: Command, reply: Reply) -> Reply
-    requires { vec_len history.old < vec_capacity history.old }
-    ensures past { reverse history.new.items ≡ (record { site = site; command = command; reply = reply }) ∷ reverse history.old.items }
-    ensures reply { result ≡ reply }
-{
-    match history.push(Entry {
-        site,
-        command,
-        reply,
-    }) {
-        Ok(()) => reply,
-        Err(_) => unreachable!(),
-    }
-}
-
 impl<M: Medium> Site<M> {
     /// Opens a site over a medium, which stays as it is. Over an empty one the site is up at epoch 0
     /// with its parts as free rights. Over any other it is down, and stands on the records that the
     /// medium holds, once it is restarted: bytes behind the last line feed are a torn record, and are
     /// left out. Its history is empty.
     ///
-    /// A fault hands the medium back. `Device`: the device failed. `Line(n)`: line n, from 1, is the
-    /// first that is no record or breaks a rule of a kept log; that never comes over what a site
-    /// left, wherever a stop fell. `NoMemory`: memory is wanting.
+    /// A fault hands the medium back. `Device`: the device failed in its one read, which a mishap for
+    /// reads makes it do; where it is known that none strikes, this never comes, and where one struck
+    /// it is used up. `Line(n)`: line n, from 1, is the first that is no record or breaks a rule of a
+    /// kept log; that never comes over what a site left, wherever a stop fell. `NoMemory`: memory is
+    /// wanting.
     ///
     /// Reads the medium once, and keeps its records. Costs one row for each field, and one more for
     /// each site and field.
@@ -96,7 +83,9 @@ impl<M: Medium> Site<M> {
         ensures never { IfErr result (λ refused. SparesLogs schema site.0 (M.bytes medium) refused.0) }
         ensures bytes { IfErr result (λ refused. M.bytes refused.1 ≡ M.bytes medium) }
         ensures failed { IfErr result (λ refused. M.failed refused.1 ≡ failed_at refused.0 (M.failed medium)) }
-        ensures foretold { IfErr result (λ refused. StaysForetold refused.0 (M.foretold medium) (M.foretold refused.1)) }
+        ensures foretold { IfErr result (λ refused. M.foretold refused.1 ≡ foretold_at refused.0 (M.foretold medium)) }
+        ensures device { IfErr result (λ refused. FailsUnder refused.0 (M.foretold medium)) }
+        ensures read { IfOk result (λ made. M.foretold medium ≡ Some Read → ⊥) }
     {
         let mut medium = medium;
         match read_base(alloc, &schema, site, &mut medium) {

@@ -160,12 +160,18 @@ fn accepts_up_to_the_room(rt: HostRuntime) -> Result<(), Fail> {
     let alloc = rt.alloc();
     let mut site = site_of_two(&rt, alloc, 1)?;
     let all = Reply::Accepted { gain: 50 };
+    let too_much = Reply::Refused(Refusal::Forged { room: 50 });
     let forged = Reply::Refused(Refusal::Forged { room: 0 });
     let not_yours = Reply::Refused(Refusal::NotYours);
     assert_eq!(rt;
         answer(alloc, &mut site, accept_lower(0, 0, 50)),
         Some(not_yours)
     );
+    assert_eq!(rt;
+        answer(alloc, &mut site, accept_lower(0, 1, 51)),
+        Some(too_much)
+    );
+    assert_eq!(rt; site.share(STOCK), Some((20, 30)));
     assert_eq!(rt; answer(alloc, &mut site, accept_lower(0, 1, 50)), Some(all));
     assert_eq!(rt;
         answer(alloc, &mut site, accept_lower(0, 1, 51)),

@@ -1,7 +1,7 @@
 //! Gifts of rights: what refuses them, and what they write.
 
 ghost use Rattle.std.specs.Prelude.{◌≡◌, ◌≢◌, ◌==◌, ◌<◌, ◌≤◌, nat_lt, true, None, length, OnErr, IfOk};
-ghost use Rattle.field_bounds.specs.Owed.{first, refusals, room, told_so_far, gain_of, max_total, is_up};
+ghost use Rattle.field_bounds.specs.Owed.{first, refusals, room, told_so_far, gain_of, max_change, max_total, is_up};
 ghost use Rattle.site_step.specs.Site.{here, base_of, Applies};
 
 use super::Site;
@@ -56,7 +56,7 @@ impl<M: Medium> Site<M> {
         requires up { is_up (base_of self.now) self.now.history ≡ true }
         requires field_in { field.0 < length self.now.schema.fields }
         ensures value { result ≡ room (here self.now) field }
-        ensures most { result ≤ 2_000_000_000_000_000 }
+        ensures most { result ≤ max_change }
     {
         self.accounts.standing.rights.room(field)
     }

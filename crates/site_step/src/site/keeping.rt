@@ -6,8 +6,8 @@ ghost use Rattle.kept_state.specs.Keeps.{record_at};
 ghost use Rattle.site_step.specs.Site.{here, Applies};
 ghost use Rattle.site_step.specs.State.{is_carried};
 
-use super::{Site, note};
-use field_bounds::{Command, Escrow, FieldNo, Kind, Refusal, Reply, TxnId};
+use super::Site;
+use field_bounds::{Command, Entry, Escrow, FieldNo, Kind, Refusal, Reply, TxnId};
 use kept_records::{Escrows, Medium, Record, append_record};
 use std::alloc::{AllocError, Global};
 
@@ -19,12 +19,13 @@ impl<M: Medium> Site<M> {
         ensures err { OnErr result (self.new ≡ self.old) }
     {
         self.history.reserve(1)?;
-        Ok(note(
-            &mut self.history,
-            self.number,
+        let reply = Reply::Refused(refusal);
+        self.history.push_reserved(Entry {
+            site: self.number,
             command,
-            Reply::Refused(refusal),
-        ))
+            reply,
+        });
+        Ok(reply)
     }
 
     /// Settles a command that writes no record, and adds its entry.
@@ -38,7 +39,12 @@ impl<M: Medium> Site<M> {
     {
         self.history.reserve(1)?;
         self.accounts.settle(command);
-        Ok(note(&mut self.history, self.number, command, reply))
+        self.history.push_reserved(Entry {
+            site: self.number,
+            command,
+            reply,
+        });
+        Ok(reply)
     }
 
     /// Carries out this record of a command, once it stands whole, and adds the command's entry.
@@ -61,12 +67,22 @@ impl<M: Medium> Site<M> {
             Ok(()) => {
                 self.accounts.carry_out(&self.schema, kept);
                 self.count += 1;
-                Ok(note(&mut self.history, self.number, command, reply))
+                self.history.push_reserved(Entry {
+                    site: self.number,
+                    command,
+                    reply,
+                });
+                Ok(reply)
             }
             Err(_) => {
                 self.up = false;
                 self.doubt = Some(self.count);
-                Ok(note(&mut self.history, self.number, command, Reply::Unsure))
+                self.history.push_reserved(Entry {
+                    site: self.number,
+                    command,
+                    reply: Reply::Unsure,
+                });
+                Ok(Reply::Unsure)
             }
         }
     }
@@ -83,12 +99,13 @@ impl<M: Medium> Site<M> {
         };
         self.accounts.journal.begin(alloc, txn)?;
         self.accounts.last += 1;
-        Ok(note(
-            &mut self.history,
-            self.number,
-            Command::Begin,
-            Reply::Begun(txn),
-        ))
+        let reply = Reply::Begun(txn);
+        self.history.push_reserved(Entry {
+            site: self.number,
+            command: Command::Begin,
+            reply,
+        });
+        Ok(reply)
     }
 
     pub(super) fn grant(
@@ -103,14 +120,17 @@ impl<M: Medium> Site<M> {
     {
         self.history.reserve(1)?;
         self.accounts.journal.add(txn, Escrow { field, change })?;
-        let taken = self
-            .accounts
+        self.accounts
             .standing
             .rights
-            .take(field, Kind::of(change), change.unsigned_abs());
-        prove!(taken.is_ok());
-        let command = Command::Escrow { txn, field, change };
-        Ok(note(&mut self.history, self.number, command, Reply::Granted))
+            .take(field, Kind::of(change), change.unsigned_abs())
+            .unwrap();
+        self.history.push_reserved(Entry {
+            site: self.number,
+            command: Command::Escrow { txn, field, change },
+            reply: Reply::Granted,
+        });
+        Ok(Reply::Granted)
     }
 
     pub(super) fn commit(&mut self, alloc: Global, txn: TxnId) -> Result<Reply, AllocError>
@@ -119,9 +139,7 @@ impl<M: Medium> Site<M> {
         ensures err { OnErr result (self.new ≡ self.old) }
     {
         let command = Command::Commit { txn };
-        let Some(escrows) = self.accounts.journal.escrows(txn) else {
-            unreachable!()
-        };
+        let escrows = self.accounts.journal.escrows(txn).unwrap();
         if escrows.is_empty() {
             return self.answer(command, Reply::Committed);
         }

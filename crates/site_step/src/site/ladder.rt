@@ -2,7 +2,8 @@
 
 ghost use Rattle.std.specs.Prelude.{◌≡◌, ◌&&◌, ◌∷◌, [], ◌<◌, ◌≤◌, nat_lt, true, None, length, pos, neg_ℤ, ◌+ℤ◌, ◌-ℤ◌, ◌≤ℤ◌};
 ghost use Rattle.field_bounds.specs.Effects.{is_begun, is_open};
-ghost use Rattle.field_bounds.specs.Owed.{count_open, count_escrows, count_since, is_begun_reply, free, owned, down, no_field, no_transaction, interval_at, first, refusals, is_up};
+ghost use Rattle.field_bounds.specs.Limits.{max_quantity};
+ghost use Rattle.field_bounds.specs.Owed.{max_change, count_open, count_escrows, count_since, is_begun_reply, free, owned, down, no_field, no_transaction, interval_at, first, refusals, is_up};
 ghost use Rattle.site_step.specs.Site.{here, base_of};
 
 use super::Site;
@@ -14,8 +15,8 @@ use kept_records::Medium;
 
 /// A floor raised by rights.
 fn raised(bound: i64, by: u64) -> i64
-    requires high { bound ≤ℤ pos 1_000_000_000_000_000 }
-    requires small { by ≤ 2_000_000_000_000_000 }
+    requires high { bound ≤ℤ pos max_quantity }
+    requires small { by ≤ max_change }
     ensures { result ≡ bound +ℤ pos by }
 {
     bound + by as i64
@@ -23,8 +24,8 @@ fn raised(bound: i64, by: u64) -> i64
 
 /// A ceiling lowered by rights.
 fn lowered(bound: i64, by: u64) -> i64
-    requires low { neg_ℤ (pos 1_000_000_000_000_000) ≤ℤ bound }
-    requires small { by ≤ 2_000_000_000_000_000 }
+    requires low { neg_ℤ (pos max_quantity) ≤ℤ bound }
+    requires small { by ≤ max_change }
     ensures { result ≡ bound -ℤ pos by }
 {
     bound - by as i64
@@ -56,10 +57,7 @@ impl<M: Medium> Site<M> {
         requires open { (is_begun txn (here self.now).effects && is_open txn (here self.now).effects) ≡ true }
         ensures { result ≡ count_escrows txn (here self.now).effects }
     {
-        match self.accounts.journal.escrows(txn) {
-            Some(escrows) => escrows.len(),
-            None => 0,
-        }
+        self.accounts.journal.escrows(txn).unwrap().len()
     }
 
     fn begun_count(&self) -> u32
@@ -73,7 +71,7 @@ impl<M: Medium> Site<M> {
         requires up { is_up (base_of self.now) self.now.history ≡ true }
         requires field_in { field.0 < length self.now.schema.fields }
         ensures value { result ≡ free (here self.now) field kind }
-        ensures most { result ≤ 2_000_000_000_000_000 }
+        ensures most { result ≤ max_change }
     {
         self.accounts.standing.rights.free(field, kind)
     }
@@ -82,7 +80,7 @@ impl<M: Medium> Site<M> {
         requires up { is_up (base_of self.now) self.now.history ≡ true }
         requires field_in { field.0 < length self.now.schema.fields }
         ensures value { result ≡ owned (here self.now) field kind }
-        ensures most { result ≤ 2_000_000_000_000_000 }
+        ensures most { result ≤ max_change }
     {
         self.accounts.standing.rights.own(field, kind)
     }

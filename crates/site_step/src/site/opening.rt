@@ -1,9 +1,10 @@
 //! What a site finds on the medium over which it is opened.
 
-ghost use Rattle.std.specs.Prelude.{◌≡◌, ◌<◌, [], true, IfOk, IfErr};
+ghost use Rattle.std.specs.Prelude.{◌≡◌, ◌<◌, [], true, Some, IfOk, IfErr};
 ghost use Rattle.kept_records.specs.declared.medium.MediumFault.TheVariants as faults;
+ghost use Rattle.kept_records.specs.declared.medium.Mishap.TheVariants.{Read};
 ghost use Rattle.site_step.specs.declared.site.opening.OpenFault.TheVariants.{Device, NoMemory};
-ghost use Rattle.site_step.specs.Opening.{TellsLine, SparesLogs, StaysForetold, IsFound, failed_at, fault_of};
+ghost use Rattle.site_step.specs.Opening.{TellsLine, SparesLogs, FailsUnder, IsFound, failed_at, foretold_at, fault_of};
 
 use field_bounds::{Schema, SiteNo};
 use kept_records::{Medium, MediumFault, Record, read_front};
@@ -70,7 +71,9 @@ pub(super) fn read_base<M: Medium>(
     ensures bytes { M.bytes medium.new ≡ M.bytes medium.old }
     ensures failed { IfErr result (λ fault. M.failed medium.new ≡ failed_at fault (M.failed medium.old)) }
     ensures count { IfOk result (λ found. M.failed medium.new ≡ M.failed medium.old) }
-    ensures foretold { IfErr result (λ fault. StaysForetold fault (M.foretold medium.old) (M.foretold medium.new)) }
+    ensures foretold { IfErr result (λ fault. M.foretold medium.new ≡ foretold_at fault (M.foretold medium.old)) }
+    ensures device { IfErr result (λ fault. FailsUnder fault (M.foretold medium.old)) }
+    ensures read { IfOk result (λ found. M.foretold medium.old ≡ Some Read → ⊥) }
     ensures mishap { IfOk result (λ found. M.foretold medium.new ≡ M.foretold medium.old) }
 {
     let bytes = medium.read_all(alloc)?;

@@ -8,8 +8,8 @@ ghost use Rattle.kept_state.specs.Doubt.{found_of};
 ghost use Rattle.site_step.specs.Site.{Applies};
 ghost use Rattle.site_step.specs.Resuming.{IsLawfulLog, ResumesOver};
 
-use super::{Site, note};
-use field_bounds::{Command, Last, MAX_EPOCH, Refusal, Reply, Schema, SiteNo};
+use super::Site;
+use field_bounds::{Command, Entry, Last, MAX_EPOCH, Refusal, Reply, Schema, SiteNo};
 use kept_records::{Medium, MediumFault, Record, append_restart, read_log, stands_behind};
 use log_replay::{Replayed, Standing, replay};
 use std::alloc::{AllocError, Global};
@@ -93,19 +93,22 @@ impl<M: Medium> Site<M> {
         match resume(alloc, &self.schema, self.number, &mut self.medium)? {
             Resumed::Failed => {
                 self.up = false;
-                Ok(note(
-                    &mut self.history,
-                    self.number,
-                    Command::Restart,
-                    Reply::StillDown,
-                ))
+                self.history.push_reserved(Entry {
+                    site: self.number,
+                    command: Command::Restart,
+                    reply: Reply::StillDown,
+                });
+                Ok(Reply::StillDown)
             }
-            Resumed::NumbersFull => Ok(note(
-                &mut self.history,
-                self.number,
-                Command::Restart,
-                Reply::Refused(Refusal::NumbersFull),
-            )),
+            Resumed::NumbersFull => {
+                let reply = Reply::Refused(Refusal::NumbersFull);
+                self.history.push_reserved(Entry {
+                    site: self.number,
+                    command: Command::Restart,
+                    reply,
+                });
+                Ok(reply)
+            }
             Resumed::Standing {
                 records,
                 standing,
@@ -116,12 +119,13 @@ impl<M: Medium> Site<M> {
                 self.up = true;
                 self.count = records.len() + 1;
                 self.doubt = None;
-                Ok(note(
-                    &mut self.history,
-                    self.number,
-                    Command::Restart,
-                    Reply::Restarted { epoch, last },
-                ))
+                let reply = Reply::Restarted { epoch, last };
+                self.history.push_reserved(Entry {
+                    site: self.number,
+                    command: Command::Restart,
+                    reply,
+                });
+                Ok(reply)
             }
         }
     }

@@ -23,6 +23,13 @@ const DOWN: Reply = Reply::Refused(Refusal::Down);
 
 const FULL: Reply = Reply::Refused(Refusal::NumbersFull);
 
+const GIVE_TWO: Command = Command::Give {
+    to: SiteNo(1),
+    field: STOCK,
+    kind: Kind::Lower,
+    amount: 2,
+};
+
 /// An open transaction is aborted by a restart, and numbers start anew in the new epoch.
 const OPEN_AT_A_RESTART: [Step; 5] = [
     (Mishap::Never, Command::Begin, Reply::Begun(FIRST)),
@@ -165,6 +172,101 @@ const TORN_RECORD: [Step; 2] = [
     ),
 ];
 
+/// Seven raising rights, stated by site 1 to site 0.
+const STATED_SEVEN: Command = Command::Accept(Statement {
+    from: SiteNo(1),
+    to: SiteNo(0),
+    field: STOCK,
+    kind: Kind::Raise,
+    total: 7,
+});
+
+/// Nine of them.
+const STATED_NINE: Command = Command::Accept(Statement {
+    from: SiteNo(1),
+    to: SiteNo(0),
+    field: STOCK,
+    kind: Kind::Raise,
+    total: 9,
+});
+
+/// Of 20 rights to lower and 30 to raise the commit turned 5, 3 to lower were given, and 7 to raise
+/// were gained. So 12 and 42 are free, and the totals go on from what was kept.
+const KEPT_RECORDS: &str = "C 0 1 0 -5\nG 1 0 l 3\nA 1 0 r 7\n";
+
+const OVER_KEPT_RECORDS: [Step; 11] = [
+    (Mishap::Never, SHARE, DOWN),
+    (
+        Mishap::Never,
+        Command::Restart,
+        Reply::Restarted {
+            epoch: 1,
+            last: Last::Nothing,
+        },
+    ),
+    (
+        Mishap::Never,
+        SHARE,
+        Reply::Shares {
+            lower: 12,
+            raise: 42,
+        },
+    ),
+    (Mishap::Never, READ, Reply::Between { lo: 12, hi: 58 }),
+    (Mishap::Never, GIVE_TWO, Reply::Given { total: 5 }),
+    (Mishap::Never, STATED_SEVEN, Reply::Accepted { gain: 0 }),
+    (Mishap::Never, STATED_NINE, Reply::Accepted { gain: 2 }),
+    (
+        Mishap::Never,
+        Command::Begin,
+        Reply::Begun(TxnId {
+            epoch: 1,
+            number: 1,
+        }),
+    ),
+    (
+        Mishap::Never,
+        SHARE,
+        Reply::Shares {
+            lower: 10,
+            raise: 44,
+        },
+    ),
+    (
+        Mishap::Never,
+        Command::Restart,
+        Reply::Restarted {
+            epoch: 2,
+            last: Last::Nothing,
+        },
+    ),
+    (
+        Mishap::Never,
+        SHARE,
+        Reply::Shares {
+            lower: 10,
+            raise: 44,
+        },
+    ),
+];
+
+/// Under a mishap for reads a restart fails also where no epoch is left, and else it is refused,
+/// which leaves a torn end and a mishap for cuts.
+const LAST_EPOCH_UNDER_MISHAPS: [Step; 2] = [
+    (Mishap::Read, Command::Restart, Reply::StillDown),
+    (Mishap::Cut, Command::Restart, FULL),
+];
+
+/// A mishap for cuts doesn't strike where nothing stands behind the last line feed.
+const NOTHING_TO_CUT: [Step; 1] = [(
+    Mishap::Cut,
+    Command::Restart,
+    Reply::Restarted {
+        epoch: 2,
+        last: Last::Nothing,
+    },
+)];
+
 /// Site 0 over a medium that holds these bytes.
 fn site_over(alloc: Global, bytes: &str) -> Option<Site<TornMedium>> {
     let held = Vec::from_slice(alloc, bytes.as_bytes()).ok()?;
@@ -208,6 +310,15 @@ fn opens_over_what_is_kept(rt: HostRuntime) {
         Some(2)
     );
     assert_eq!(rt; count_told_over(alloc, "R 1", &TORN_RECORD), Some(2));
+    assert_eq!(rt;
+        count_told_over(alloc, KEPT_RECORDS, &OVER_KEPT_RECORDS),
+        Some(11)
+    );
+    assert_eq!(rt;
+        count_told_over(alloc, "R 1000000000\nR 1", &LAST_EPOCH_UNDER_MISHAPS),
+        Some(2)
+    );
+    assert_eq!(rt; count_told_over(alloc, "R 1\n", &NOTHING_TO_CUT), Some(1));
 }
 
 /// Logs of site 0, and the first line that is no record or breaks a rule.

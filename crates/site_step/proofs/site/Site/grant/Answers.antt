@@ -5,7 +5,7 @@ use Rattle.field_bounds.specs.declared.entry.Escrow.{Escrow}
 use Rattle.field_bounds.specs.Kind.{kind_of}
 use Rattle.site_rights.specs.Rights.{free_at, by_escrow, taken}
 use Rattle.site_step.proofs.Calls.{grew, grant_opened, grant_has_room, grant_has_rights, grants}
-use Rattle.site_step.proofs.Settling.{ok_gives, taken_is_ok}
+use Rattle.site_step.proofs.Settling.{ok_gives}
 use Rattle.site_step.proofs.site.Site.grant.Goals as goal
 
 pub add-requires-clause-open : goal.add-requires-clause-open
@@ -14,15 +14,15 @@ add-requires-clause-open g c = grant_opened c.self.invariant c.self.view_is c.ar
 pub add-requires-clause-room : goal.add-requires-clause-room
 add-requires-clause-room g c = grant_has_room c.self.invariant c.self.view_is c.args.txn (record { field = c.args.field; change = c.args.change }) c.requires.unrefused
 
-pub prove-unreachable-requires : goal.prove-unreachable-requires
-prove-unreachable-requires g c =
+pub unwrap-requires : goal.unwrap-requires
+unwrap-requires g c =
     let fits : SFits w64 c.args.change = search rules in
     let z = to_z-of_z w64 c.args.change fits in
     let a : c.unsigned_abs.result ≡ unsigned_abs c.args.change = c.unsigned_abs.ensures.value ∙ ap unsigned_abs z in
     let k : c.of.result ≡ kind_of c.args.change = c.of.ensures.value ∙ ap kind_of z in
     let can : c.unsigned_abs.result ≤ free_at c.self.inside.accounts.standing.rights c.args.field.0 c.of.result =
     rw (a, k) (grant_has_rights c.self.invariant c.self.view_is c.args.txn (record { field = c.args.field; change = c.args.change }) c.requires.unrefused) in
-    taken_is_ok c.take-taken.result (c.take-taken.ensures.enough.1 can) (sym c.is_ok.ensures.value ∙ c.if-prove.true)
+    c.take.ensures.enough.1 can
 
 pub invariant_of-self-2 : goal.invariant_of-self-2
 invariant_of-self-2 g c =
@@ -33,9 +33,9 @@ invariant_of-self-2 g c =
     let k : c.of.result ≡ kind_of c.args.change = c.of.ensures.value ∙ ap kind_of z in
     let can : c.unsigned_abs.result ≤ free_at c.self.inside.accounts.standing.rights c.args.field.0 c.of.result =
     rw (a, k) (grant_has_rights c.self.invariant c.self.view_is c.args.txn x c.requires.unrefused) in
-    let got = ok_gives c.take-taken.result (c.take-taken.ensures.enough.1 can) c.take-taken.ensures.ok in
-    let rows : c.take-taken.new.self ≡ by_escrow taken c.self.inside.accounts.standing.rights x = rw (a, k) at got in
-    (grants c.self.invariant c.self.view_is c.args.txn x c.requires.unrefused rows (rw z at c.in_ok-add.ensures.ok) (grew (rw z at c.note.ensures.past) c.in_ok-reserve.ensures.items) c.note.ensures.reply).sound
+    let got = ok_gives c.take.result (c.take.ensures.enough.1 can) c.take.ensures.ok in
+    let rows : c.take.new.self ≡ by_escrow taken c.self.inside.accounts.standing.rights x = rw (a, k) at got in
+    (grants c.self.invariant c.self.view_is c.args.txn x c.requires.unrefused rows (rw z at c.in_ok-add.ensures.ok) (grew (rw z at c.push_reserved.ensures.items) c.in_ok-reserve.ensures.items)).sound
 
 pub returns-clause-ok : goal.returns-clause-ok
 returns-clause-ok g c =
@@ -46,6 +46,6 @@ returns-clause-ok g c =
     let k : c.of.result ≡ kind_of c.args.change = c.of.ensures.value ∙ ap kind_of z in
     let can : c.unsigned_abs.result ≤ free_at c.self.inside.accounts.standing.rights c.args.field.0 c.of.result =
     rw (a, k) (grant_has_rights c.self.invariant c.self.view_is c.args.txn x c.requires.unrefused) in
-    let got = ok_gives c.take-taken.result (c.take-taken.ensures.enough.1 can) c.take-taken.ensures.ok in
-    let rows : c.take-taken.new.self ≡ by_escrow taken c.self.inside.accounts.standing.rights x = rw (a, k) at got in
-    (grants c.self.invariant c.self.view_is c.args.txn x c.requires.unrefused rows (rw z at c.in_ok-add.ensures.ok) (grew (rw z at c.note.ensures.past) c.in_ok-reserve.ensures.items) c.note.ensures.reply).applies
+    let got = ok_gives c.take.result (c.take.ensures.enough.1 can) c.take.ensures.ok in
+    let rows : c.take.new.self ≡ by_escrow taken c.self.inside.accounts.standing.rights x = rw (a, k) at got in
+    (grants c.self.invariant c.self.view_is c.args.txn x c.requires.unrefused rows (rw z at c.in_ok-add.ensures.ok) (grew (rw z at c.push_reserved.ensures.items) c.in_ok-reserve.ensures.items)).applies

@@ -9,38 +9,38 @@ resume-requires-clause-log g c = lawful_log c.self.invariant c.self.view_is
 pub invariant_of-self-in-Failed : goal.invariant_of-self-in-Failed
 invariant_of-self-in-Failed g c =
     let s = c.self.invariant in
-    (fails s c.self.view_is (rw c.in-Failed.is at c.in_ok-resume.ensures.resumes s.records s.rest s.log) (grew c.note.ensures.past c.in_ok-reserve.ensures.items) c.note.ensures.reply).sound
+    (fails s c.self.view_is (rw c.in-Failed.is at c.in_ok-resume.ensures.resumes s.records s.rest s.log) (grew c.push_reserved.ensures.items c.in_ok-reserve.ensures.items)).sound
 
 pub returns-in-Failed-clause-ok : goal.returns-in-Failed-clause-ok
 returns-in-Failed-clause-ok g c =
     let s = c.self.invariant in
-    (fails s c.self.view_is (rw c.in-Failed.is at c.in_ok-resume.ensures.resumes s.records s.rest s.log) (grew c.note.ensures.past c.in_ok-reserve.ensures.items) c.note.ensures.reply).applies
+    (fails s c.self.view_is (rw c.in-Failed.is at c.in_ok-resume.ensures.resumes s.records s.rest s.log) (grew c.push_reserved.ensures.items c.in_ok-reserve.ensures.items)).applies
 
 pub invariant_of-self-in-NumbersFull : goal.invariant_of-self-in-NumbersFull
 invariant_of-self-in-NumbersFull g c =
     let s = c.self.invariant in
-    (fills s c.self.view_is (rw c.in-NumbersFull.is at c.in_ok-resume.ensures.resumes s.records s.rest s.log) (grew c.note-in-NumbersFull.ensures.past c.in_ok-reserve.ensures.items) c.note-in-NumbersFull.ensures.reply).sound
+    (fills s c.self.view_is (rw c.in-NumbersFull.is at c.in_ok-resume.ensures.resumes s.records s.rest s.log) (grew c.push_reserved-in-NumbersFull.ensures.items c.in_ok-reserve.ensures.items)).sound
 
 pub returns-in-NumbersFull-clause-ok : goal.returns-in-NumbersFull-clause-ok
 returns-in-NumbersFull-clause-ok g c =
     let s = c.self.invariant in
-    (fills s c.self.view_is (rw c.in-NumbersFull.is at c.in_ok-resume.ensures.resumes s.records s.rest s.log) (grew c.note-in-NumbersFull.ensures.past c.in_ok-reserve.ensures.items) c.note-in-NumbersFull.ensures.reply).applies
+    (fills s c.self.view_is (rw c.in-NumbersFull.is at c.in_ok-resume.ensures.resumes s.records s.rest s.log) (grew c.push_reserved-in-NumbersFull.ensures.items c.in_ok-reserve.ensures.items)).applies
 
 pub invariant_of-self-in-Standing : goal.invariant_of-self-in-Standing
 invariant_of-self-in-Standing g c =
     let s = c.self.invariant in
     let size : c.len.result ≡ length c.in-Standing.records.items = omega (arith, c.len.ensures, c.in-Standing.records.ok) in
     (restarts s c.self.view_is c.in-Standing.standing c.in-Standing.records.items c.in-Standing.epoch c.last_of-last.result (rw c.in-Standing.is at c.in_ok-resume.ensures.resumes s.records s.rest s.log)
-    c.stand_on.ensures.took c.stand_on.ensures.journal c.stand_on.ensures.last (c.last_of-last.ensures ∙ ap (found_of c.self.inside.doubt) c.deref.ensures.value) size (grew c.note-in-Standing.ensures.past c.in_ok-reserve.ensures.items)
-    c.note-in-Standing.ensures.reply).sound
+    c.stand_on.ensures.took c.stand_on.ensures.journal c.stand_on.ensures.last (c.last_of-last.ensures ∙ ap (found_of c.self.inside.doubt) c.deref.ensures.value) size (grew c.push_reserved-in-Standing.ensures.items c.in_ok-reserve.ensures.items)
+    ).sound
 
 pub returns-in-Standing-clause-ok : goal.returns-in-Standing-clause-ok
 returns-in-Standing-clause-ok g c =
     let s = c.self.invariant in
     let size : c.len.result ≡ length c.in-Standing.records.items = omega (arith, c.len.ensures, c.in-Standing.records.ok) in
     (restarts s c.self.view_is c.in-Standing.standing c.in-Standing.records.items c.in-Standing.epoch c.last_of-last.result (rw c.in-Standing.is at c.in_ok-resume.ensures.resumes s.records s.rest s.log)
-    c.stand_on.ensures.took c.stand_on.ensures.journal c.stand_on.ensures.last (c.last_of-last.ensures ∙ ap (found_of c.self.inside.doubt) c.deref.ensures.value) size (grew c.note-in-Standing.ensures.past c.in_ok-reserve.ensures.items)
-    c.note-in-Standing.ensures.reply).applies
+    c.stand_on.ensures.took c.stand_on.ensures.journal c.stand_on.ensures.last (c.last_of-last.ensures ∙ ap (found_of c.self.inside.doubt) c.deref.ensures.value) size (grew c.push_reserved-in-Standing.ensures.items c.in_ok-reserve.ensures.items)
+    ).applies
 
 pub stand_on-requires : goal.stand_on-requires
 stand_on-requires g c =

@@ -29,19 +29,19 @@ overflow_add-self g c =
 pub invariant_of-self-in-Ok : goal.invariant_of-self-in-Ok
 invariant_of-self-in-Ok g c =
     (wrote c.self.invariant c.self.view_is c.args.command c.requires.unrefused c.requires.told c.args.reply c.args.kept.now c.requires.kept c.requires.owed c.carry_out.ensures.took c.carry_out.ensures.journal c.carry_out.ensures.last
-    (rw c.in-Ok.is at c.in_ok-append_record.ensures.added) (rw c.in-Ok.is at c.in_ok-append_record.ensures.fate) (grew c.note.ensures.past c.in_ok-reserve.ensures.items) c.note.ensures.reply).sound
+    (rw c.in-Ok.is at c.in_ok-append_record.ensures.added) (rw c.in-Ok.is at c.in_ok-append_record.ensures.fate) (grew c.push_reserved.ensures.items c.in_ok-reserve.ensures.items)).sound
 
 pub returns-in-Ok-clause-ok : goal.returns-in-Ok-clause-ok
 returns-in-Ok-clause-ok g c =
     (wrote c.self.invariant c.self.view_is c.args.command c.requires.unrefused c.requires.told c.args.reply c.args.kept.now c.requires.kept c.requires.owed c.carry_out.ensures.took c.carry_out.ensures.journal c.carry_out.ensures.last
-    (rw c.in-Ok.is at c.in_ok-append_record.ensures.added) (rw c.in-Ok.is at c.in_ok-append_record.ensures.fate) (grew c.note.ensures.past c.in_ok-reserve.ensures.items) c.note.ensures.reply).applies
+    (rw c.in-Ok.is at c.in_ok-append_record.ensures.added) (rw c.in-Ok.is at c.in_ok-append_record.ensures.fate) (grew c.push_reserved.ensures.items c.in_ok-reserve.ensures.items)).applies
 
 pub invariant_of-self-in-Err : goal.invariant_of-self-in-Err
 invariant_of-self-in-Err g c =
     (unsure c.self.invariant c.self.view_is c.args.command c.requires.unrefused c.requires.told c.args.kept.now c.in-Err.field-0 c.requires.kept
-    (rw c.in-Err.is at c.in_ok-append_record.ensures.added) (rw c.in-Err.is at c.in_ok-append_record.ensures.fate) (grew c.note-in-Err.ensures.past c.in_ok-reserve.ensures.items) c.note-in-Err.ensures.reply).sound
+    (rw c.in-Err.is at c.in_ok-append_record.ensures.added) (rw c.in-Err.is at c.in_ok-append_record.ensures.fate) (grew c.push_reserved-in-Err.ensures.items c.in_ok-reserve.ensures.items)).sound
 
 pub returns-in-Err-clause-ok : goal.returns-in-Err-clause-ok
 returns-in-Err-clause-ok g c =
     (unsure c.self.invariant c.self.view_is c.args.command c.requires.unrefused c.requires.told c.args.kept.now c.in-Err.field-0 c.requires.kept
-    (rw c.in-Err.is at c.in_ok-append_record.ensures.added) (rw c.in-Err.is at c.in_ok-append_record.ensures.fate) (grew c.note-in-Err.ensures.past c.in_ok-reserve.ensures.items) c.note-in-Err.ensures.reply).applies
+    (rw c.in-Err.is at c.in_ok-append_record.ensures.added) (rw c.in-Err.is at c.in_ok-append_record.ensures.fate) (grew c.push_reserved-in-Err.ensures.items c.in_ok-reserve.ensures.items)).applies
