@@ -85,7 +85,7 @@ module _ {v w : SiteValue} {up : Bool} {count : ℕ} {a : Accounts} (was : IsSou
   read there = reads v up count a was there
 
   lawful : Lawful v.schema v.site.0 was.records
-  lawful = run_stays_lawful v.schema v.site.0 (base_of v) v.based was.is_base was.based_on was.kept v.history was.records was.run was.keeps
+  lawful = run_stays_lawful v.schema v.site.0 (base_of v) v.based was.ground.is_base was.ground.based_on was.kept v.history was.records was.run was.keeps
 
   pub tells_open : is_up (base_of w) w.history ≡ true → (t : TxnId) → stands t a.journal ≡ (is_begun t (here w).effects && is_open t (here w).effects)
   tells_open there t = ap (stands t) (stands_now there).matches.journal ∙ stands-journal_of t (here w).effects
@@ -131,7 +131,7 @@ module _ {v w : SiteValue} {up : Bool} {count : ℕ} {a : Accounts} (was : IsSou
         kept = s.kept;
         log = s.log;
         keeps = s.keeps;
-        lawful = run_stays_lawful v.schema v.site.0 (base_of v) v.based s.is_base s.based_on s.kept v.history s.records s.run s.keeps;
+        lawful = run_stays_lawful v.schema v.site.0 (base_of v) v.based s.ground.is_base s.ground.based_on s.kept v.history s.records s.run s.keeps;
       })
 
   -- ---- a refusal
@@ -169,7 +169,7 @@ module _ {v w : SiteValue} {up : Bool} {count : ℕ} {a : Accounts} (was : IsSou
     writing = told_of c told
 
     fits : IsRecord (record_at (here v) c)
-    fits = record_in_range v.schema v.site.0 (base_of v) v.history was.limits was.run was.epoch_in c unrefused writing
+    fits = record_in_range v.schema v.site.0 (base_of v) v.history was.ground.limits was.run was.ground.epoch_in c unrefused writing
 
     pub record_fits : {kept : Record} → kept ≡ record_at (here w) c → IsRecord kept
     record_fits kept_is = subst (λ (r : Record). IsRecord r) (sym kept_is) (subst (λ (x : SiteValue). IsRecord (record_at (here x) c)) is fits)
@@ -179,7 +179,7 @@ module _ {v w : SiteValue} {up : Bool} {count : ℕ} {a : Accounts} (was : IsSou
 
     pub can_write : {kept : Record} → kept ≡ record_at (here w) c → CanCarry v.schema a kept
     can_write kept_is =
-        let may = run_lawful_more v.schema v.site.0 (base_of v) v.based was.is_base was.kept v.history was.records was.run was.keeps c unrefused writing in
+        let may = run_lawful_more v.schema v.site.0 (base_of v) v.based was.ground.is_base was.kept v.history was.records was.run was.keeps c unrefused writing in
         subst (λ (r : Record). CanCarry v.schema a r) (sym (kept_is ∙ sym (ap (λ (x : SiteValue). record_at (here x) c) is)))
         (can_carry v.schema v.site.0 (base_of v) v.history a was.run (read there_now) was.records (was.stands there_now) lawful c unrefused writing may)
 
@@ -295,7 +295,7 @@ module _ {v w : SiteValue} {up : Bool} {count : ℕ} {a : Accounts} (was : IsSou
         records = s.records;
         rest = s.rest;
         log = s.log;
-        lawful = run_stays_lawful v.schema v.site.0 (base_of v) v.based s.is_base s.based_on s.kept v.history s.records s.run s.keeps;
+        lawful = run_stays_lawful v.schema v.site.0 (base_of v) v.based s.ground.is_base s.ground.based_on s.kept v.history s.records s.run s.keeps;
       }
 
   pub fails : {h : List Entry} {bytes : List ℕ} {failed : ℕ} {left : Option Mishap} → FailsOver was.records was.rest v.bytes bytes v.foretold left v.failed failed

@@ -81,14 +81,10 @@ module _ (v : SiteValue) (up : Bool) (count : ℕ) (a : Accounts) (was : IsSound
       let n = refused_no_restart at c x some in
       record {
         sound = record {
-          site_in = was.site_in;
-          limits = was.limits;
-          epoch_in = was.epoch_in;
+          ground = was.ground;
           records = was.records;
           rest = was.rest;
           kept = was.kept;
-          is_base = was.is_base;
-          based_on = was.based_on;
           log = was.log;
           run = (was.run, refusal_fits at c x some);
           keeps = (was.records, false, was.keeps, tt, sym (append-nil was.records));
@@ -136,14 +132,10 @@ module _ (v : SiteValue) (up : Bool) (count : ℕ) (a : Accounts) (was : IsSound
       λ rs. sym (append-nil rs) ∙ ap (λ (l : List Record). rs ++ l) (sym (adds_answer at c false rs n ∙ noted_none at c silent)) in
       record {
         sound = record {
-          site_in = was.site_in;
-          limits = was.limits;
-          epoch_in = was.epoch_in;
+          ground = was.ground;
           records = was.records;
           rest = was.rest;
           kept = was.kept;
-          is_base = was.is_base;
-          based_on = was.based_on;
           log = was.log;
           run = (was.run, answer_fits at c n none);
           keeps = (

@@ -1,6 +1,7 @@
 -- A site that is opened is sound.
 use Rattle.std.proofs.Common.{◌≡◌, ℕ, ◌<◌, Bool, true, false, List, [], ◌∷◌, ◌++◌, length, drop, refl, sym, ap, subst, ◌∙◌, Option, Some, None}
 use Rattle.field_bounds.specs.declared.id.SiteNo.{SiteNo}
+use Rattle.field_bounds.specs.declared.entry.Entry.{Entry}
 use Rattle.field_bounds.specs.declared.entry.Last.TheVariants.{Nothing}
 use Rattle.field_bounds.specs.Schema.{SchemaValue}
 use Rattle.field_bounds.specs.Limits.{IsSchema}
@@ -14,12 +15,11 @@ use Rattle.kept_records.proofs.Appending.{read_as_log}
 use Rattle.kept_state.specs.Keeps.{IsBase, opened}
 use Rattle.kept_state.proofs.Ranges.{opened_in_range}
 use Rattle.kept_state.proofs.Covering.{stands_is_base, fresh_is_base}
-use Rattle.log_replay.specs.declared.standing.Standing.{Standing}
-use Rattle.log_replay.specs.Standing.{IsStandingFor}
-use Rattle.site_step.specs.declared.accounts.Accounts.{Accounts}
-use Rattle.site_step.specs.Site.{SiteValue, base_of, Finds}
+use Rattle.escrow_journal.specs.Journal.{Row}
+use Rattle.site_step.specs.declared.site.opening.Found.{Found}
+use Rattle.site_step.specs.Site.{SiteValue, value_of, base_of, Finds}
 use Rattle.site_step.specs.State.{StandsOn, IsSound}
-use Rattle.site_step.specs.Opening.{BeginsWith}
+use Rattle.site_step.specs.Opening.{BeginsWith, IsFound}
 use Rattle.site_step.proofs.Resumes.{no_breach}
 use Rattle.site_step.proofs.Ends.{finds_log}
 
@@ -47,53 +47,65 @@ breach_spares schema s bytes found n m None front breach rs rest log lawful =
     no_breach schema s found m breach (subst (λ (all : List Record). Lawful schema s all) (sym (front.1 rs rest log).0) lawful)
 breach_spares schema s bytes found n m (Some line) front breach rs rest log lawful = no_log bytes line front.0 rs rest log
 
--- ---- a site over a log
+-- ---- a site over what was found
 
-module _ (schema : SchemaValue) (site : SiteNo) (bs : List Record) (standing : Standing) (lawful : Lawful schema site.0 bs) (for_ : IsStandingFor schema site.0 bs standing) where
-  abbrev pub first_accounts : Accounts
-  first_accounts = record { standing = standing; journal = []; last = 0 }
+module _ (schema : SchemaValue) (site : SiteNo) (found : Found) {held bytes : List ℕ} (is : IsFound schema site.0 held found) (same : bytes ≡ held) where
+  abbrev bs : List Record
+  bs = found.records.items
 
   base_is : (empty : Bool) → (empty ≡ true → bs ≡ []) → IsBase schema site.0 (opened schema site.0 empty bs) bs
   base_is true none = subst (λ (rs : List Record). IsBase schema site.0 (fresh schema site.0) rs) (sym (none refl)) (fresh_is_base schema site.0)
-  base_is false none = stands_is_base schema site.0 false bs lawful
+  base_is false none = stands_is_base schema site.0 false bs is.lawful
 
-  stands_first : (base : Base) → StandsOn schema site.0 base [] bs first_accounts
-  stands_first base = record { standing = for_.for_; aside = record { held = for_.none; journal = refl }; last = refl }
+  stands_first : (base : Base) → StandsOn schema site.0 base [] bs (record { standing = found.standing; journal = []; last = 0 })
+  stands_first base = record { standing = is.stands.for_; aside = record { held = is.stands.none; journal = refl }; last = refl }
 
-  module _ (site_in : site.0 < schema.sites) (limits : IsSchema schema) (bytes rest : List ℕ) (log : IsLog bytes bs rest) (failed : ℕ) (left : Option Mishap) where
-    abbrev made : Bool → SiteValue
-    made empty = record { schema = schema; site = site; fresh = empty; based = bs; history = []; bytes = bytes; failed = failed; foretold = left; doubt = None }
+  log : IsLog bytes bs is.rest
+  log = subst (λ (b : List ℕ). IsLog b bs is.rest) (sym same) is.log
 
-    rest_none : bytes ≡ [] → rest ≡ []
-    rest_none none = (same_log [] bs [] rest [] (subst (λ (b : List ℕ). IsLog b bs rest) none log) (record { parts = refl; each = tt; no_lf = refl })).1
+  rest_none : bytes ≡ [] → is.rest ≡ []
+  rest_none none = (same_log [] bs [] is.rest [] (subst (λ (b : List ℕ). IsLog b bs is.rest) none log) (record { parts = refl; each = tt; no_lf = refl })).1
 
-    clean_by : (empty : Bool) → (empty ≡ true → bytes ≡ []) → empty ≡ true → (rest ≡ []) × (0 ≡ length bs)
-    clean_by empty none e = (rest_none (none e), sym (ap length (no_bytes bytes bs rest log (none e))))
+  clean_by : (empty : Bool) → (empty ≡ true → bytes ≡ []) → empty ≡ true → (is.rest ≡ []) × (0 ≡ length bs)
+  clean_by empty none e = (rest_none (none e), sym (ap length (no_bytes bytes bs is.rest log (none e))))
 
-    up_by : (empty : Bool) → empty ≡ (opened schema site.0 empty bs).up
-    up_by true = refl
-    up_by false = refl
+  up_by : (empty : Bool) → empty ≡ (opened schema site.0 empty bs).up
+  up_by true = refl
+  up_by false = refl
 
-    pub opens_sound : (empty : Bool) → (empty ≡ true → bytes ≡ []) → IsSound (made empty) empty 0 first_accounts
-    opens_sound empty none =
-        let is = base_is empty (λ e. no_bytes bytes bs rest log (none e)) in
+  module _ (site_in : site.0 < schema.sites) (limits : IsSchema schema) (failed : ℕ) (left : Option Mishap) where
+    abbrev made : Bool → List Entry → SiteValue
+    made empty h = value_of schema site empty bs h bytes failed left None
+
+    sound : (empty : Bool) → (empty ≡ true → bytes ≡ []) → IsSound (made empty []) empty 0 (record { standing = found.standing; journal = []; last = 0 })
+    sound empty none =
+        let base = base_is empty (λ e. no_bytes bytes bs is.rest log (none e)) in
         record {
-          site_in = site_in;
-          limits = limits;
-          epoch_in = opened_in_range schema site.0 empty bs log.each;
+          ground = record {
+            site_in = site_in;
+            limits = limits;
+            epoch_in = opened_in_range schema site.0 empty bs log.each;
+            is_base = base;
+            based_on = is.lawful;
+          };
           records = bs;
-          rest = rest;
+          rest = is.rest;
           kept = false;
-          is_base = is;
-          based_on = lawful;
           log = log;
           run = tt;
           keeps = refl;
           up_is = up_by empty;
           clean = clean_by empty none;
           in_doubt = refl;
-          stands = λ u. stands_first (base_of (made empty));
+          stands = λ u. stands_first (base_of (made empty []));
         }
 
-    pub opens_finds : (empty : Bool) → bytes ≡ [] → Finds (made empty) 0 Nothing
-    opens_finds empty none = finds_log (made empty) bs rest 0 Nothing log (ap greatest (no_bytes bytes bs rest log none) ∙ nothing_kept) refl
+    pub opens_sound : (empty : Bool) {h : List Entry} {j : List Row} → h ≡ [] → j ≡ [] → (empty ≡ true → held ≡ []) → IsSound (made empty h) empty 0 (record { standing = found.standing; journal = j; last = 0 })
+    opens_sound empty {h = h} {j = j} new closed none =
+        subst (λ (x : List Row). IsSound (made empty h) empty 0 (record { standing = found.standing; journal = x; last = 0 })) (sym closed)
+        (subst (λ (x : List Entry). IsSound (made empty x) empty 0 (record { standing = found.standing; journal = []; last = 0 })) (sym new) (sound empty (λ e. same ∙ none e)))
+
+    pub opens_finds : (empty : Bool) {h : List Entry} → h ≡ [] → held ≡ [] → Finds (made empty h) 0 Nothing
+    opens_finds empty new none =
+        subst (λ (x : List Entry). Finds (made empty x) 0 Nothing) (sym new)
+        (finds_log (made empty []) bs is.rest 0 Nothing log (ap greatest (no_bytes bytes bs is.rest log (same ∙ none)) ∙ nothing_kept) refl)

@@ -45,7 +45,7 @@ reads v up count a was there =
     let st = was.stands there in
     let base : Base = base_of v in
     let keeps = keeps_up v.schema v.site.0 base v.based was.kept false v.history was.records there was.keeps in
-    let owns = run_owns v.schema v.site.0 base v.based false v.history was.records was.is_base was.run keeps in
+    let owns = run_owns v.schema v.site.0 base v.based false v.history was.records was.ground.is_base was.run keeps in
     record {
       matches = record {
         count = st.standing.count;
@@ -56,10 +56,10 @@ reads v up count a was there =
       };
       holds = record {
         place = st.standing.place;
-        given = λ r f k other. st.standing.given r f k other ∙ sym (run_gives v.schema v.site.0 base v.based false v.history was.records was.is_base was.run keeps r f k);
-        accepted = λ r f k other. st.standing.accepted r f k other ∙ sym (run_accepts v.schema v.site.0 base v.based false v.history was.records was.is_base was.run keeps r f k);
+        given = λ r f k other. st.standing.given r f k other ∙ sym (run_gives v.schema v.site.0 base v.based false v.history was.records was.ground.is_base was.run keeps r f k);
+        accepted = λ r f k other. st.standing.accepted r f k other ∙ sym (run_accepts v.schema v.site.0 base v.based false v.history was.records was.ground.is_base was.run keeps r f k);
         site = st.standing.site;
       };
-      epoch = st.standing.epoch ∙ sym (up_epoch v.schema v.site.0 base v.based was.is_base false v.history was.records keeps there);
+      epoch = st.standing.epoch ∙ sym (up_epoch v.schema v.site.0 base v.based was.ground.is_base false v.history was.records keeps there);
       last = st.last;
     }

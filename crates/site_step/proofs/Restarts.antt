@@ -197,14 +197,10 @@ module _ (v : SiteValue) (up : Bool) (count : ℕ) (a : Accounts) (was : IsSound
         let same = sym (append-nil rs) in
         record {
           sound = record {
-            site_in = was.site_in;
-            limits = was.limits;
-            epoch_in = was.epoch_in;
+            ground = was.ground;
             records = rs;
             rest = rest;
             kept = was.kept;
-            is_base = was.is_base;
-            based_on = was.based_on;
             log = log;
             run = (was.run, tt);
             keeps = (rs, false, was.keeps, tt, same);
@@ -220,14 +216,10 @@ module _ (v : SiteValue) (up : Bool) (count : ℕ) (a : Accounts) (was : IsSound
     failed_whole log =
         record {
           sound = record {
-            site_in = was.site_in;
-            limits = was.limits;
-            epoch_in = was.epoch_in;
+            ground = was.ground;
             records = rs ++ next_restart rs ∷ [];
             rest = [];
             kept = was.kept;
-            is_base = was.is_base;
-            based_on = was.based_on;
             log = log;
             run = (was.run, tt);
             keeps = (rs, true, was.keeps, tt, refl);
@@ -264,17 +256,13 @@ module _ (v : SiteValue) (up : Bool) (count : ℕ) (a : Accounts) (was : IsSound
   full : (left : Option Mishap) → max_number ≤ greatest rs → (v.foretold ≡ Some Read → ⊥) → left ≡ v.foretold → Ends v Restart Full (record v { history = entry_of v Restart Full ∷ v.history; foretold = left }) up count a
   full left most read stays =
       let w : SiteValue = record v { history = entry_of v Restart Full ∷ v.history; foretold = left } in
-      let fits = refused_fits schema s base v.based was.is_base was.kept v.history rs was.keeps most in
+      let fits = refused_fits schema s base v.based was.ground.is_base was.kept v.history rs was.keeps most in
       record {
         sound = record {
-          site_in = was.site_in;
-          limits = was.limits;
-          epoch_in = was.epoch_in;
+          ground = was.ground;
           records = rs;
           rest = was.rest;
           kept = was.kept;
-          is_base = was.is_base;
-          based_on = was.based_on;
           log = was.log;
           run = (was.run, fits);
           keeps = (rs, false, was.keeps, tt, sym (append-nil rs));
@@ -330,7 +318,7 @@ module _ (v : SiteValue) (up : Bool) (count : ℕ) (a : Accounts) (was : IsSound
     stands_anew : (epoch : ℕ) → StandsOn schema s base (Anew epoch) (rs ++ next_restart rs ∷ []) b
     stands_anew epoch =
         let effects_lawful = run_is_lawful schema s base v.history was.run (says_kept last) in
-        let lawful = run_stays_lawful schema s base v.based was.is_base was.based_on was.kept v.history rs was.run was.keeps in
+        let lawful = run_stays_lawful schema s base v.based was.ground.is_base was.ground.based_on was.kept v.history rs was.run was.keeps in
         let more = took.stands refl s rs lawful for_.for_ in
         record {
           standing = more;
@@ -352,7 +340,7 @@ module _ (v : SiteValue) (up : Bool) (count : ℕ) (a : Accounts) (was : IsSound
       anew = record v { history = Anew epoch; bytes = bytes; foretold = left; doubt = None }
 
       fits_anew : RestartFits at (Restarted epoch last)
-      fits_anew = restart_fits schema s base v.based was.is_base was.kept v.history rs was.keeps last some found.there found.back
+      fits_anew = restart_fits schema s base v.based was.ground.is_base was.kept v.history rs was.keeps last some found.there found.back
 
       exact_anew : (luck : Luck) (kept : ℕ) (found_ : Last) → v.foretold ≡ Some (mishap_of luck) → Finds v kept found_ → IsExact v Restart (Restarted epoch last) anew luck kept found_
       exact_anew Fine kept found_ known finds =
@@ -376,14 +364,10 @@ module _ (v : SiteValue) (up : Bool) (count : ℕ) (a : Accounts) (was : IsSound
       restarted =
           record {
             sound = record {
-              site_in = was.site_in;
-              limits = was.limits;
-              epoch_in = was.epoch_in;
+              ground = was.ground;
               records = rs ++ next_restart rs ∷ [];
               rest = [];
               kept = false;
-              is_base = was.is_base;
-              based_on = was.based_on;
               log = log;
               run = (was.run, fits_anew);
               keeps = (rs, true, found.keeps, refl, refl);

@@ -148,14 +148,10 @@ module _ (v : SiteValue) (up : Bool) (count : ℕ) (a : Accounts) (was : IsSound
         let settles = answer_settles at c plain in
         record {
           sound = record {
-            site_in = was.site_in;
-            limits = was.limits;
-            epoch_in = was.epoch_in;
+            ground = was.ground;
             records = was.records ++ note ∷ [];
             rest = [];
             kept = was.kept;
-            is_base = was.is_base;
-            based_on = was.based_on;
             log = log;
             run = (was.run, answer_fits at c plain none);
             keeps = (
@@ -248,14 +244,10 @@ module _ (v : SiteValue) (up : Bool) (count : ℕ) (a : Accounts) (was : IsSound
     doubted stood is =
         record {
           sound = record {
-            site_in = was.site_in;
-            limits = was.limits;
-            epoch_in = was.epoch_in;
+            ground = was.ground;
             records = was.records ++ cond stood (note ∷ []) [];
             rest = is.rest;
             kept = stood;
-            is_base = was.is_base;
-            based_on = was.based_on;
             log = is.log;
             run = (was.run, unsure_fits at c told none);
             keeps = (was.records, stood, keeps_up v.schema v.site.0 base v.based was.kept stood v.history was.records is_there was.keeps, refl, left_over was.records stood);

@@ -2,6 +2,7 @@
 use Rattle.std.specs.Prelude.{◌≡◌, ℕ, ◌<◌, ◌≤◌, List, [], length, map, reverse, Bool, true, false}
 use Rattle.field_bounds.specs.declared.kind.Kind.{Kind}
 use Rattle.field_bounds.specs.declared.id.TxnId.{TxnId}
+use Rattle.field_bounds.specs.declared.id.SiteNo.{SiteNo}
 use Rattle.field_bounds.specs.declared.entry.Command.{Command}
 use Rattle.field_bounds.specs.declared.entry.Command.TheVariants.{Begin, Escrow, Commit, Abort, Give, Restate, Accept, Read, Share, Restart}
 use Rattle.field_bounds.specs.declared.entry.Entry.{Entry}
@@ -121,18 +122,23 @@ is_carried (Share field) = true
 
 -- ---- on the medium
 
+-- What no call of a site changes: its number is in the schema, which is within the limits; and its base is what the lawful
+-- records stand for over which it was opened, at an epoch that there is.
+pub record RestsOn (schema : SchemaValue) (site : SiteNo) (base : Base) (based : List Record) : Type 0 where
+  pub site_in : site.0 < schema.sites
+  pub limits : IsSchema schema
+  pub epoch_in : base.epoch ≤ max_number
+  pub is_base : IsBase schema site.0 base based
+  pub based_on : Lawful schema site.0 based
+
 -- The history is a run of owed replies on its base, and the medium holds the records that it leaves, all of which are
 -- lawful; behind them stands nothing while the site is up, and so many they are then. Where an answer is in doubt, its
 -- record stands where it is looked for, if it stands. While the site is up, it stands on its history in memory too.
 pub record IsSound (v : SiteValue) (up : Bool) (count : ℕ) (a : Accounts) : Type 0 where
-  pub site_in : v.site.0 < v.schema.sites
-  pub limits : IsSchema v.schema
-  pub epoch_in : (base_of v).epoch ≤ max_number
+  pub ground : RestsOn v.schema v.site (base_of v) v.based
   pub records : List Record
   pub rest : List ℕ
   pub kept : Bool
-  pub is_base : IsBase v.schema v.site.0 (base_of v) v.based
-  pub based_on : Lawful v.schema v.site.0 v.based
   pub log : IsLog v.bytes records rest
   pub run : IsRun v.schema v.site.0 (base_of v) v.history
   pub keeps : Keeps v.schema v.site.0 (base_of v) v.based kept v.history records
