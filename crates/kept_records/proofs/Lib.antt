@@ -5,3 +5,5 @@ pub mod RecordKinds
 pub mod Pairs
 pub mod Lines
 pub mod Appending
+pub mod Pushes
+pub mod Covering

@@ -1,6 +1,5 @@
 -- Records that agree with what took effect: the same totals, and the same sizes committed.
-use Rattle.std.proofs.Common.{◌≡◌, ℕ, ◌+◌, ◌≤◌, max, Bool, true, false, ◌&&◌, cond, List, [], ◌∷◌, ◌++◌, length, reverse, refl, sym, ◌∙◌, ap, arith, eqb}
-use Rattle.std.proofs.lemmas.Bool.{and_parts, eqb-true}
+use Rattle.std.proofs.Common.{◌≡◌, ℕ, ◌+◌, ◌≤◌, max, Bool, true, false, cond, List, [], ◌∷◌, ◌++◌, length, reverse, refl, sym, ◌∙◌, ap, arith, eqb}
 use Rattle.std.proofs.lemmas.Grind.{reverse_onto}
 use Rattle.std.proofs.lemmas.List.Sums.{sum_by_push, sum_by-cons}
 use Rattle.std.specs.Prelude.{ℤ, sum_by}
@@ -12,17 +11,18 @@ use Rattle.field_bounds.specs.declared.entry.Escrow.{Escrow}
 use Rattle.kept_records.specs.declared.record.Record.{Record}
 use Rattle.kept_records.specs.declared.record.Record.TheVariants.{Commit, Gift, Accept, Restart}
 use Rattle.field_bounds.specs.Schema.{SchemaValue}
-use Rattle.field_bounds.specs.Kind.{same_kind, other}
+use Rattle.field_bounds.specs.Kind.{other}
 use Rattle.field_bounds.specs.Effects.{Base, Effect, Begins, Grants, Commits, Aborts, Gives, Accepts, Stops, escrows_of, takes, gifts, given, accepted, own_rights}
 use Rattle.field_bounds.specs.Owed.{count_escrows}
 use Rattle.kept_records.specs.Stands.{given_in, accepted_in, committed_in, own_in, gained_in, spent_in}
 use Rattle.kept_state.specs.Keeps.{IsBase}
-use Rattle.field_bounds.proofs.Lawful.{IsLawful, same_kind-true}
+use Rattle.field_bounds.proofs.Lawful.{IsLawful}
 use Rattle.field_bounds.proofs.Sums.{sum_below-same, sum_below-add}
 use Rattle.field_bounds.proofs.Shares.{balance, gifts_split, gains_split}
 use Rattle.field_bounds.proofs.Steps.{of_txn, of_txn_is}
 use Rattle.field_bounds.proofs.Stops.{kept_sizes, kept_is_committed}
-use Rattle.kept_state.proofs.Pushes.{given_push, accepted_push, committed_push}
+use Rattle.kept_records.proofs.Pushes.{given_push, accepted_push, committed_push}
+use Rattle.kept_records.proofs.Covering.{key, at_key}
 
 -- ---- the escrows of one transaction
 
@@ -58,16 +58,6 @@ agree_start schema s base bs is =
       accepts = λ from f k. is.accepted from f k;
       commits = λ f k. omega arith;
     }
-
--- the key that a total stands under
-abbrev key : ℕ → Kind → ℕ → ℕ → Kind → ℕ → Bool
-key field kind site f k to = eqb field f && same_kind kind k && eqb site to
-
-at_key : (of : ℕ → ℕ → Kind → ℕ) (field : ℕ) (kind : Kind) (site f : ℕ) (k : Kind) (to : ℕ) → key field kind site f k to ≡ true → of site field kind ≡ of to f k
-at_key of field kind site f k to h =
-    let outer = and_parts (eqb field f && same_kind kind k) (eqb site to) h in
-    let inner = and_parts (eqb field f) (same_kind kind k) outer.0 in
-    cc (eqb-true field f inner.0, same_kind-true kind k inner.1, eqb-true site to outer.1)
 
 give_step : (on : Bool) (amount before total inside start : ℕ) → (on ≡ true → total ≡ before + amount) → start + inside ≡ before
     → start + (cond on amount 0 + inside) ≡ cond on (max total before) before

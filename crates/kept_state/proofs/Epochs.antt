@@ -17,7 +17,7 @@ use Rattle.field_bounds.specs.Effects.{Base, kept_before}
 use Rattle.field_bounds.specs.Owed.{Place, place, is_up, up_after, epoch_of, epoch_after, count_since, count_after, is_still_down, is_unsure, count_escrows, gain_of, max_number, RestartFits}
 use Rattle.kept_records.specs.Stands.{later, greatest}
 use Rattle.kept_state.specs.Keeps.{IsBase, noted, adds, Tells, Keeps}
-use Rattle.kept_state.proofs.Pushes.{greatest_push}
+use Rattle.kept_records.proofs.Pushes.{greatest_push}
 
 greatest_cond : (b : Bool) (rs : List Record) (r : Record) → later (greatest rs) r ≡ greatest rs → greatest (rs ++ cond b (r ∷ []) []) ≡ greatest rs
 greatest_cond true rs r h = greatest_push rs r ∙ h

@@ -13,7 +13,7 @@ use Rattle.field_bounds.specs.declared.entry.Entry.{Entry}
 use Rattle.kept_records.specs.declared.record.Record.{Record}
 use Rattle.kept_records.specs.declared.record.Record.TheVariants as records
 use Rattle.field_bounds.specs.Schema.{SchemaValue}
-use Rattle.field_bounds.specs.Effects.{Base, kept_before, says_kept}
+use Rattle.field_bounds.specs.Effects.{Base, says_kept}
 use Rattle.field_bounds.specs.Owed.{Place, place, answer, writes, is_up, is_unsure, count_since, count_after, TellsDoubt}
 use Rattle.kept_records.specs.Stands.{greatest}
 use Rattle.kept_state.specs.Keeps.{record_at, noted, adds, Tells, entry_at, Keeps}
@@ -105,12 +105,6 @@ keeps_found schema s base bs kept o rs (Some n) h keeps =
     subst (λ (k : Bool). Keeps schema s base bs k o rs) (sym (ap says_kept (found_is kept o rs n h) ∙ says_last kept)) keeps
 
 -- ---- the records
-
--- one more entry, whatever its reply
-pub keeps_more : (schema : SchemaValue) (s : ℕ) (base : Base) (bs : List Record) (kept : Bool) (e : Entry) (o : List Entry) (rs : List Record) (stood : Bool)
-    → Keeps schema s base bs (kept_before kept e.reply) o rs → Tells kept stood rs e.reply
-    → Keeps schema s base bs kept (e ∷ o) (rs ++ adds (place schema s base o) e.command e.reply stood rs)
-keeps_more schema s base bs kept e o rs stood keeps tells = (rs, stood, keeps, tells, refl)
 
 tells_answer : (at : Place) (c : Command) (kept stood : Bool) (rs : List Record) → Tells kept stood rs (answer at c)
 tells_answer at Begin kept stood rs = tt

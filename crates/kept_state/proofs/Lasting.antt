@@ -1,7 +1,7 @@
 -- What a run keeps behind lawful records is lawful.
-use Rattle.std.proofs.Common.{◌≡◌, ℕ, ◌+◌, Bool, true, false, cond, List, [], ◌∷◌, ◌++◌, append_assoc, take, get_or, length, ◌<◌, refl, sym, subst, inl, inr, arith, None}
+use Rattle.std.proofs.Common.{◌≡◌, ℕ, ◌+◌, Bool, true, false, cond, List, [], ◌∷◌, ◌++◌, refl, sym, subst, inl, inr, arith, None}
 use Rattle.std.proofs.lemmas.Bool.{lt-ltb}
-use Rattle.std.proofs.lemmas.List.{append-nil, take_more}
+use Rattle.std.proofs.lemmas.List.{append-nil}
 use Rattle.field_bounds.specs.declared.entry.Command.{Command}
 use Rattle.field_bounds.specs.declared.entry.Command.TheVariants.{Restart}
 use Rattle.field_bounds.specs.declared.entry.Reply.{Reply}
@@ -12,17 +12,12 @@ use Rattle.kept_records.specs.declared.record.Record.TheVariants as records
 use Rattle.field_bounds.specs.Schema.{SchemaValue}
 use Rattle.field_bounds.specs.Effects.{Base, kept_before}
 use Rattle.field_bounds.specs.Owed.{Place, place, first, refusals, writes, Fits, RestartFits, AnswerFits, IsRun}
-use Rattle.kept_records.specs.Stands.{greatest, may_stand, LawfulBehind, Lawful}
+use Rattle.kept_records.specs.Stands.{greatest, Lawful}
+use Rattle.kept_records.proofs.Pushes.{lawful_push}
 use Rattle.kept_state.specs.Keeps.{IsBase, record_at, noted, adds, Tells, Keeps}
 use Rattle.field_bounds.proofs.Refused.{match_cases, is_restart}
 use Rattle.kept_state.proofs.Adding.{adds_answer}
 use Rattle.kept_state.proofs.Staying.{run_lawful_more}
-
--- one more record that may stand
-pub lawful_push : (schema : SchemaValue) (s : ℕ) (front rs : List Record) (r : Record) → LawfulBehind schema s front rs → may_stand schema s (front ++ rs) r ≡ true → LawfulBehind schema s front (rs ++ r ∷ [])
-lawful_push schema s front [] r lawful may = (subst (λ (all : List Record). may_stand schema s all r ≡ true) (append-nil front) may, tt)
-lawful_push schema s front (x ∷ rs) r lawful may =
-    (lawful.0, lawful_push schema s (front ++ x ∷ []) rs r lawful.1 (subst (λ (all : List Record). may_stand schema s all r ≡ true) (sym (append_assoc front (x ∷ []) rs)) may))
 
 module _ (schema : SchemaValue) (s : ℕ) (base : Base) (bs : List Record) (is : IsBase schema s base bs) (o : List Entry) (front : List Record) (kept : Bool)
     (run : IsRun schema s base o) (keeps : Keeps schema s base bs kept o front) (lawful : Lawful schema s front) where
@@ -34,7 +29,7 @@ module _ (schema : SchemaValue) (s : ℕ) (base : Base) (bs : List Record) (is :
 
   noted_lawful : (c : Command) → is_restart c ≡ false → first (refusals there c) ≡ None → (b : Bool) → writes there c ≡ b → Lawful schema s (front ++ cond b (record_at there c ∷ []) [])
   noted_lawful c n h true w =
-      lawful_push schema s [] front (record_at there c) lawful (run_lawful_more schema s base bs is kept o front run keeps c h w)
+      lawful_push schema s front (record_at there c) lawful (run_lawful_more schema s base bs is kept o front run keeps c h w)
   noted_lawful c n h false w = same_lawful
 
   stood_lawful : (c : Command) (stood : Bool) → is_restart c ≡ false → first (refusals there c) ≡ None → Lawful schema s (front ++ cond stood (noted there c) [])
@@ -54,7 +49,7 @@ module _ (schema : SchemaValue) (s : ℕ) (base : Base) (bs : List Record) (is :
       ]
 
   restart_may : (epoch : ℕ) → epoch ≡ greatest front + 1 → Lawful schema s (front ++ records.Restart epoch ∷ [])
-  restart_may epoch h = lawful_push schema s [] front (records.Restart epoch) lawful (lt-ltb (greatest front) epoch (omega (arith, h)))
+  restart_may epoch h = lawful_push schema s front (records.Restart epoch) lawful (lt-ltb (greatest front) epoch (omega (arith, h)))
 
   restart_lawful : (r : Reply) (kept stood : Bool) → RestartFits there r → Tells kept stood front r → Lawful schema s (front ++ adds there Restart r stood front)
   restart_lawful StillDown kept true fits tells = restart_may (greatest front + 1) refl
@@ -75,9 +70,3 @@ run_stays_lawful schema s base bs is lawful kept (e ∷ o) rs run keeps =
     let before = run_stays_lawful schema s base bs is lawful (kept_before kept e.reply) o keeps.0 run.0 keeps.2 in
     subst (λ (all : List Record). Lawful schema s all) (sym keeps.4)
     (step_lawful schema s base bs is o keeps.0 (kept_before kept e.reply) run.0 keeps.2 before e.command e.reply kept keeps.1 run.1 keeps.3)
-
--- the first records may stand, and one more
-pub lawful_more : (schema : SchemaValue) (s : ℕ) (rs : List Record) (i : ℕ) (d : Record) → i < length rs → Lawful schema s (take i rs) → may_stand schema s (take i rs) (get_or rs i d) ≡ true
-    → Lawful schema s (take (i + 1) rs)
-lawful_more schema s rs i d below lawful may =
-    subst (λ (all : List Record). Lawful schema s all) (sym (take_more rs i d below)) (lawful_push schema s [] (take i rs) (get_or rs i d) lawful may)

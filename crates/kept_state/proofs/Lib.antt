@@ -1,4 +1,3 @@
-pub mod Pushes
 pub mod Agreeing
 pub mod Adding
 pub mod Keeping

@@ -1,2 +1,1 @@
-pub mod RecordSums
 pub mod StandingLaws

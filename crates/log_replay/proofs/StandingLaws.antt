@@ -15,10 +15,11 @@ use Rattle.field_bounds.specs.declared.entry.Escrow.{Escrow}
 use Rattle.field_bounds.specs.Kind.{same_kind, kind_of}
 use Rattle.field_bounds.specs.Schema.{SchemaValue}
 use Rattle.field_bounds.specs.Effects.{takes}
-use Rattle.field_bounds.proofs.Lawful.{same_kind-true}
 use Rattle.kept_records.specs.declared.record.Record.{Record}
 use Rattle.kept_records.specs.declared.record.Record.TheVariants.{Commit, Gift, Accept, Restart}
 use Rattle.kept_records.specs.Stands.{greatest, given_in, accepted_in, own_in, room_in, is_field, is_other_site, may_commit, may_stand, Lawful}
+use Rattle.kept_records.proofs.Pushes.{greatest_none, given_none, accepted_none, greatest_push, given_push, accepted_push}
+use Rattle.kept_records.proofs.Covering.{key, at_key, on_field, own_none, commit_within, own_commit, own_gift, own_accept, own_restart, accept_parts}
 use Rattle.site_rights.specs.declared.field_rights.FieldRights.{FieldRights}
 use Rattle.site_rights.specs.declared.field_rights.Outcome.TheVariants.{Committed}
 use Rattle.site_rights.specs.Rights.{free_at, held_at, room_at, at_field, taken, dropped, added, ending, by_escrow, by_escrows, AreInRange, AreHeld, AreFresh}
@@ -28,7 +29,6 @@ use Rattle.gift_ledger.specs.Ledger.{LedgerValue, total_at, accepted_at, with_to
 use Rattle.gift_ledger.proofs.LedgerLaws.{place_stays, fresh_place, fresh_account, total_at-with_total, accepted_at-with_total, total_at-with_accepted, accepted_at-with_accepted}
 use Rattle.log_replay.specs.declared.standing.Standing.{Standing}
 use Rattle.log_replay.specs.Standing.{IsOther, HasPlaces, StandsFor, Stands, NoneHeld, IsStandingFor, CanTakeIn, TakesIn, is_on_field, AreFree}
-use Rattle.log_replay.proofs.RecordSums.{on_field, greatest_none, given_none, accepted_none, own_none, greatest_push, given_push, accepted_push, all_weaker, commit_within, own_commit, own_gift, own_accept, own_restart, accept_parts}
 
 -- ---- answers
 
@@ -176,6 +176,13 @@ fields_in_range schema rows (e ∷ es) count all =
     let parts = and_parts (is_on_field schema e) (list_all (is_on_field schema) es) all in
     All-cons (λ (e : Escrow). e.field.0 < length rows) e es (omega (arith, count, ltb-true e.field.0 (length schema.fields) parts.0)) (fields_in_range schema rows es count parts.1)
 
+-- what holds of each element that passes one test holds of each that passes another, weaker one
+all_weaker : (p q : Escrow → Bool) → ((e : Escrow) → p e ≡ true → q e ≡ true) → (es : List Escrow) → list_all p es ≡ true → list_all q es ≡ true
+all_weaker p q weaker [] all = refl
+all_weaker p q weaker (e ∷ es) all =
+    let parts = and_parts (p e) (list_all p es) all in
+    rw (weaker e parts.0, all_weaker p q weaker es parts.1) refl
+
 module _ (schema : SchemaValue) (s : ℕ) (rs : List Record) (rows : List FieldRights) (ledger : LedgerValue) (epoch : ℕ) (lawful : Lawful schema s rs) (was : StandsFor schema s rs rows ledger epoch) where
   -- ---- a commit
 
@@ -237,28 +244,18 @@ module _ (schema : SchemaValue) (s : ℕ) (rs : List Record) (rows : List FieldR
   turned false true false = refl
   turned false false c = refl
 
-  same_place : (i r f g : ℕ) (kind k : Kind) → ((i == r) && (f == g) && same_kind kind k) ≡ true → (i ≡ r) × (f ≡ g) × (kind ≡ k)
-  same_place i r f g kind k h =
-      let both = and_parts ((i == r) && (f == g)) (same_kind kind k) h in
-      let places = and_parts (i == r) (f == g) both.0 in
-      (eqb-true i r places.0, eqb-true f g places.1, same_kind-true kind k both.1)
-
   module _ (at : SiteNo) (field : FieldNo) (kind : Kind) (other_site : IsOther schema s at.0 field.0) where
     in_rows : field.0 < length rows
     in_rows = omega (arith, was.count, other_site.field_in)
 
     -- a total written at one place is the greater one there, and no other changes
     total_then : (total new r f : ℕ) (k : Kind) (at_of in_of : ℕ → ℕ → Kind → ℕ) → at_of r f k ≡ in_of r f k → new ≡ max total (in_of at.0 field.0 kind)
-        → cond ((at.0 == r) && (field.0 == f) && same_kind kind k) new (at_of r f k) ≡ cond ((field.0 == f) && same_kind kind k && (at.0 == r)) (max total (in_of r f k)) (in_of r f k)
+        → cond ((at.0 == r) && (field.0 == f) && same_kind kind k) new (at_of r f k) ≡ cond (key field.0 kind at.0 f k r) (max total (in_of r f k)) (in_of r f k)
     total_then total new r f k at_of in_of same is =
         let moved = turned (at.0 == r) (field.0 == f) (same_kind kind k) in
-        elim (cases_Bool ((at.0 == r) && (field.0 == f) && same_kind kind k)) [
-          | inl here ↦
-              let eqs = same_place at.0 r field.0 f kind k here in
-              let there : in_of at.0 field.0 kind ≡ in_of r f k = cc (eqs.0, eqs.1, eqs.2) in
-              let on = moved ∙ here in
-              rw (here, on) (is ∙ ap (max total) there)
-          | inr apart ↦ let off = moved ∙ apart in rw (apart, off) same
+        elim (cases_Bool (key field.0 kind at.0 f k r)) [
+          | inl on ↦ let here = sym moved ∙ on in rw (here, on) (is ∙ ap (max total) (at_key in_of field.0 kind at.0 f k r on))
+          | inr off ↦ let apart = sym moved ∙ off in rw (apart, off) same
         ]
 
     pub stands_gift : (total : ℕ) → may_stand schema s rs (Gift at field kind total) ≡ true → total_at ledger at.0 field.0 kind < total → (amount : ℕ) → amount ≡ total - total_at ledger at.0 field.0 kind → amount ≤ free_at rows field.0 kind

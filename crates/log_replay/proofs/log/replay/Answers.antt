@@ -2,8 +2,8 @@ use Rattle.std.proofs.Common.{Bool, ◌≡◌, ◌∙◌, ◌+◌, append_assoc,
 use Rattle.std.proofs.lemmas.List.{take_more, take-append-drop, length-take}
 use Rattle.kept_records.specs.declared.record.Record.{Record}
 use Rattle.kept_records.specs.Stands.{Lawful}
+use Rattle.kept_records.proofs.Pushes.{lawful_push}
 use Rattle.log_replay.specs.Standing.{IsStandingFor, TakesIn}
-use Rattle.log_replay.proofs.RecordSums.{lawful_push}
 use Rattle.log_replay.proofs.StandingLaws.{has_places, after_one}
 use Rattle.log_replay.proofs.log.replay.Goals as goal
 

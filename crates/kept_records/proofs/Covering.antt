@@ -1,10 +1,11 @@
--- What one record more adds to what records stand for, and that lawful records spend no more than there is.
+-- Lawful records spend no more than there is, and own no more than a field is wide.
 use Rattle.std.proofs.Common.{◌≡◌, ◌≢◌, ◌⊎◌, ℕ, ◌+◌, ◌-◌, ◌≤◌, ◌<◌, ◌==◌, max, Bool, true, false, not, ◌&&◌, cond, List, [], ◌∷◌, ◌++◌, append_assoc, refl, sym, ◌∙◌, ap, subst, inl, inr, arith, eqb}
 use Rattle.std.specs.Prelude.{nat_lt, sum_by}
 use Rattle.std.specs.List.{list_all}
 use Rattle.std.proofs.lemmas.Bool.{and_parts, cases_eq, eq-eqb, ne_eqb, eqb-true, ltb-true, leb-true}
+use Rattle.std.proofs.lemmas.Int.{ints}
 use Rattle.std.proofs.lemmas.List.{append-nil}
-use Rattle.std.proofs.lemmas.List.Sums.{fold_push, sum_by_push, sum_by-cons}
+use Rattle.std.proofs.lemmas.List.Sums.{sum_by-cons}
 use Rattle.field_bounds.specs.declared.kind.Kind.{Kind}
 use Rattle.field_bounds.specs.declared.kind.Kind.TheVariants.{Lower, Raise}
 use Rattle.field_bounds.specs.declared.id.TxnId.{TxnId}
@@ -13,58 +14,17 @@ use Rattle.field_bounds.specs.declared.id.FieldNo.{FieldNo}
 use Rattle.field_bounds.specs.declared.entry.Escrow.{Escrow}
 use Rattle.field_bounds.specs.Kind.{other, same_kind}
 use Rattle.field_bounds.specs.Schema.{SchemaValue}
-use Rattle.field_bounds.specs.Parts.{part_of, sum_below}
+use Rattle.field_bounds.specs.Limits.{IsSchema}
+use Rattle.field_bounds.specs.Parts.{field_at, width_of, total_of, share_of, part_of, sum_below}
 use Rattle.field_bounds.specs.Effects.{takes}
+use Rattle.field_bounds.proofs.Conserved.{is_ordered}
 use Rattle.field_bounds.proofs.Lawful.{same_kind-true}
-use Rattle.field_bounds.proofs.Sums.{sum_below-same, sum_below-zero, sum_below_bump}
+use Rattle.field_bounds.proofs.Parts.{shares_add_up}
+use Rattle.field_bounds.proofs.Sums.{sum_below-same, sum_below-zero, sum_below_bump, term_below}
 use Rattle.kept_records.specs.declared.record.Record.{Record}
 use Rattle.kept_records.specs.declared.record.Record.TheVariants.{Commit, Gift, Accept, Restart}
-use Rattle.kept_records.specs.Stands.{later, greatest, given_more, given_in, accepted_more, accepted_in, commits, committed_in, gained_in, spent_in, own_in, is_field, may_commit, room_in, may_stand, LawfulBehind, Lawful}
-
--- ---- no records
-
-pub greatest_none : greatest [] ≡ 0
-unfolding greatest
-greatest_none = refl
-
-pub given_none : (to f : ℕ) (k : Kind) → given_in [] to f k ≡ 0
-unfolding given_in
-given_none to f k = refl
-
-pub accepted_none : (from f : ℕ) (k : Kind) → accepted_in [] from f k ≡ 0
-unfolding accepted_in
-accepted_none from f k = refl
-
-pub committed_none : (f : ℕ) (k : Kind) → committed_in f k [] ≡ 0
-unfolding committed_in
-committed_none f k = refl
-
--- ---- one record more
-
-pub greatest_push : (rs : List Record) (r : Record) → greatest (rs ++ r ∷ []) ≡ later (greatest rs) r
-unfolding greatest
-greatest_push rs r = fold_push later 0 rs r
-
-pub given_push : (to f : ℕ) (k : Kind) (rs : List Record) (r : Record) → given_in (rs ++ r ∷ []) to f k ≡ given_more to f k (given_in rs to f k) r
-unfolding given_in
-given_push to f k rs r = fold_push (given_more to f k) 0 rs r
-
-pub accepted_push : (from f : ℕ) (k : Kind) (rs : List Record) (r : Record) → accepted_in (rs ++ r ∷ []) from f k ≡ accepted_more from f k (accepted_in rs from f k) r
-unfolding accepted_in
-accepted_push from f k rs r = fold_push (accepted_more from f k) 0 rs r
-
-pub committed_push : (f : ℕ) (k : Kind) (rs : List Record) (r : Record) → committed_in f k (rs ++ r ∷ []) ≡ committed_in f k rs + commits f k r
-unfolding committed_in
-committed_push f k rs r = sum_by_push (commits f k) rs r
-
--- one lawful record more leaves the records lawful
-behind_push : (schema : SchemaValue) (s : ℕ) (front rs : List Record) (r : Record) → LawfulBehind schema s front rs → may_stand schema s (front ++ rs) r ≡ true → LawfulBehind schema s front (rs ++ r ∷ [])
-behind_push schema s front [] r lawful may = (subst (λ (all : List Record). may_stand schema s all r ≡ true) (append-nil front) may, tt)
-behind_push schema s front (x ∷ rs) r lawful may =
-    (lawful.0, behind_push schema s (front ++ x ∷ []) rs r lawful.1 (subst (λ (all : List Record). may_stand schema s all r ≡ true) (sym (append_assoc front (x ∷ []) rs)) may))
-
-pub lawful_push : (schema : SchemaValue) (s : ℕ) (rs : List Record) (r : Record) → Lawful schema s rs → may_stand schema s rs r ≡ true → Lawful schema s (rs ++ r ∷ [])
-lawful_push schema s rs r lawful may = behind_push schema s [] rs r lawful may
+use Rattle.kept_records.specs.Stands.{greatest, given_in, accepted_in, gained_in, spent_in, own_in, is_field, may_commit, room_in, may_stand, LawfulBehind, Lawful}
+use Rattle.kept_records.proofs.Pushes.{given_none, accepted_none, committed_none, given_push, accepted_push, committed_push, lawful_push}
 
 -- ---- what a true test says
 
@@ -81,13 +41,6 @@ five_parts true false c d e h = cc
 five_parts true true false d e h = cc
 five_parts true true true false e h = cc
 five_parts true true true true false h = cc
-
--- what holds of each element that passes one test holds of each that passes another, weaker one
-pub all_weaker : (p q : Escrow → Bool) → ((e : Escrow) → p e ≡ true → q e ≡ true) → (es : List Escrow) → list_all p es ≡ true → list_all q es ≡ true
-all_weaker p q weaker [] all = refl
-all_weaker p q weaker (e ∷ es) all =
-    let parts = and_parts (p e) (list_all p es) all in
-    rw (weaker e parts.0, all_weaker p q weaker es parts.1) refl
 
 -- a bound that holds at each field of a list holds wherever the list takes something
 fields_bound : (p : Escrow → Bool) (total own : ℕ → ℕ) (f : ℕ) (k : Kind) → ((e : Escrow) → p e ≡ true → total e.field.0 ≤ own e.field.0) → (es : List Escrow) → list_all p es ≡ true
@@ -118,6 +71,15 @@ on_field of field f kind k h =
     let parts = and_parts (eqb field f) (same_kind kind k) h in
     cc (eqb-true field f parts.0, same_kind-true kind k parts.1)
 
+-- the key that a total stands under
+abbrev pub key : ℕ → Kind → ℕ → ℕ → Kind → ℕ → Bool
+key field kind site f k to = eqb field f && same_kind kind k && eqb site to
+
+pub at_key : (of : ℕ → ℕ → Kind → ℕ) (field : ℕ) (kind : Kind) (site f : ℕ) (k : Kind) (to : ℕ) → key field kind site f k to ≡ true → of site field kind ≡ of to f k
+at_key of field kind site f k to h =
+    let parts = and_parts (eqb field f && same_kind kind k) (eqb site to) h in
+    on_field (of site) field f kind k parts.0 ∙ ap (λ (n : ℕ). of n f k) (eqb-true site to parts.1)
+
 -- what a total has above the one before, where it is added
 growth_at : (of : ℕ → Kind → ℕ) (total field f : ℕ) (kind k : Kind)
     → cond (eqb field f && same_kind kind k) (total - of f k) 0 ≡ cond (eqb field f && same_kind kind k) (total - of field kind) 0
@@ -127,7 +89,7 @@ growth_at of total field f kind k = by (eqb field f && same_kind kind k) (λ on.
     by true same = ap (λ n. total - n) (sym (same refl))
     by false same = refl
 
-own_here : (schema : SchemaValue) (s : ℕ) (rs : List Record) (f : ℕ) (k : Kind) → own_in schema s rs f k ≡ gained_in schema s rs f k - spent_in schema rs f k
+pub own_here : (schema : SchemaValue) (s : ℕ) (rs : List Record) (f : ℕ) (k : Kind) → own_in schema s rs f k ≡ gained_in schema s rs f k - spent_in schema rs f k
 unfolding own_in
 own_here schema s rs f k = refl
 
@@ -264,11 +226,11 @@ covered_behind schema s front (r ∷ rs) before lawful =
     subst (λ (all : List Record). IsCovered schema s all) (append_assoc front (r ∷ []) rs)
     (covered_behind schema s (front ++ r ∷ []) rs (covered_push schema s front before r lawful.0) lawful.1)
 
-spent_none : (schema : SchemaValue) (f : ℕ) (k : Kind) → spent_in schema [] f k ≡ 0
+pub spent_none : (schema : SchemaValue) (f : ℕ) (k : Kind) → spent_in schema [] f k ≡ 0
 spent_none schema f k =
     omega (arith, committed_none f k, sum_below-same schema.sites (λ to. given_in [] to f k) (λ to. 0) (λ to below. given_none to f k), sum_below-zero schema.sites)
 
-gained_none : (schema : SchemaValue) (s f : ℕ) (k : Kind) → gained_in schema s [] f k ≡ part_of schema s f k
+pub gained_none : (schema : SchemaValue) (s f : ℕ) (k : Kind) → gained_in schema s [] f k ≡ part_of schema s f k
 gained_none schema s f k =
     omega (arith, committed_none f (other k), sum_below-same schema.sites (λ from. accepted_in [] from f k) (λ from. 0) (λ from below. accepted_none from f k), sum_below-zero schema.sites)
 
@@ -310,3 +272,57 @@ module _ (schema : SchemaValue) (s : ℕ) (rs : List Record) (lawful : Lawful sc
   -- a restart changes none
   pub own_restart : (epoch : ℕ) → may_stand schema s rs (Restart epoch) ≡ true → (f : ℕ) (k : Kind) → own_in schema s (rs ++ Restart epoch ∷ []) f k ≡ own_in schema s rs f k
   own_restart epoch may f k = omega (arith, own_whole f k, pushed (Restart epoch) may f k, spent_restart schema s rs epoch f k, gained_restart schema s rs epoch f k)
+
+-- ---- the own rights of both kinds are within the width
+
+parts_within : (schema : SchemaValue) → IsSchema schema → (s f : ℕ) → s < schema.sites → part_of schema s f Lower + part_of schema s f Raise ≤ width_of (field_at schema f)
+parts_within schema good s f below =
+    let order = is_ordered schema good f in
+    let low = total_of (field_at schema f) Lower in
+    let high = total_of (field_at schema f) Raise in
+    omega (
+      arith,
+      ints,
+      order.floor,
+      order.ceiling,
+      term_below schema.sites (share_of low schema.sites) s below,
+      term_below schema.sites (share_of high schema.sites) s below,
+      shares_add_up low schema.sites good.some_site,
+      shares_add_up high schema.sites good.some_site,
+    )
+
+-- of each field, the own rights of both kinds are no more than its width
+abbrev pub IsWithin : SchemaValue → ℕ → List Record → Type 0
+IsWithin schema s rs = (f : ℕ) → own_in schema s rs f Lower + own_in schema s rs f Raise ≤ width_of (field_at schema f)
+
+gain_within : (on : Bool) (kind : Kind) (gain l r l' r' width : ℕ) → l' ≡ l + cond (on && same_kind kind Lower) gain 0 → r' ≡ r + cond (on && same_kind kind Raise) gain 0
+    → l + r ≤ width → (on ≡ true → gain ≤ width - (l + r)) → l' + r' ≤ width
+gain_within true Lower gain l r l' r' width a b le room = omega (arith, a, b, le, room refl)
+gain_within true Raise gain l r l' r' width a b le room = omega (arith, a, b, le, room refl)
+gain_within false kind gain l r l' r' width a b le room = omega (arith, a, b, le)
+
+within_push : (schema : SchemaValue) (s : ℕ) (rs : List Record) → Lawful schema s rs → IsWithin schema s rs → (r : Record) → may_stand schema s rs r ≡ true → IsWithin schema s (rs ++ r ∷ [])
+within_push schema s rs lawful before (Commit txn es) may f =
+    omega (arith, before f, own_commit schema s rs lawful txn es may f Lower, own_commit schema s rs lawful txn es may f Raise)
+within_push schema s rs lawful before (Gift to field kind total) may f =
+    omega (arith, before f, own_gift schema s rs lawful to field kind total may f Lower, own_gift schema s rs lawful to field kind total may f Raise)
+within_push schema s rs lawful before (Accept from field kind total) may f =
+    let parts = accept_parts schema s rs from field kind total may in
+    let gain = total - accepted_in rs from.0 field.0 kind in
+    gain_within (field.0 == f) kind gain (own_in schema s rs f Lower) (own_in schema s rs f Raise) _ _ (width_of (field_at schema f))
+    (own_accept schema s rs lawful from field kind total may f Lower)
+    (own_accept schema s rs lawful from field kind total may f Raise)
+    (before f)
+    (λ on. let same = eqb-true field.0 f on in subst (λ (x : ℕ). gain ≤ room_in schema s rs x) same parts.2)
+within_push schema s rs lawful before (Restart epoch) may f =
+    omega (arith, before f, own_restart schema s rs lawful epoch may f Lower, own_restart schema s rs lawful epoch may f Raise)
+
+within_behind : (schema : SchemaValue) (s : ℕ) (front rs : List Record) → Lawful schema s front → IsWithin schema s front → LawfulBehind schema s front rs → IsWithin schema s (front ++ rs)
+within_behind schema s front [] lawful before more = subst (λ (all : List Record). IsWithin schema s all) (sym (append-nil front)) before
+within_behind schema s front (r ∷ rs) lawful before more =
+    subst (λ (all : List Record). IsWithin schema s all) (append_assoc front (r ∷ []) rs)
+    (within_behind schema s (front ++ r ∷ []) rs (lawful_push schema s front r lawful more.0) (within_push schema s front lawful before r more.0) more.1)
+
+pub own_within : (schema : SchemaValue) → IsSchema schema → (s : ℕ) → s < schema.sites → (rs : List Record) → Lawful schema s rs → IsWithin schema s rs
+own_within schema good s below rs lawful =
+    within_behind schema s [] rs tt (λ f. omega (arith, parts_within schema good s f below, own_none schema s f Lower, own_none schema s f Raise)) lawful
