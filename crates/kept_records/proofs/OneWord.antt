@@ -8,6 +8,7 @@ use Rattle.std.proofs.lemmas.Int.{fits_signed_from_abs}
 use Rattle.std.proofs.lemmas.Option.{cond_some, same_Some}
 use Rattle.field_bounds.specs.declared.kind.Kind.{Kind}
 use Rattle.field_bounds.specs.declared.kind.Kind.TheVariants.{Lower, Raise}
+use Rattle.field_bounds.specs.Owed.{max_change}
 use Rattle.line_words.specs.Reading.{number_of, signed_of}
 use Rattle.line_words.proofs.Numbers.{bind_some, number_takes, number_again}
 use Rattle.line_words.proofs.SignedNumbers.{signed_takes, signed_again}
@@ -44,7 +45,7 @@ number_law least most small = record {
 
 -- ---- changes
 
-signed_word : (z : ℤ) → unsigned_abs z ≤ 2_000_000_000_000_000 → IsWord (signed_decimal z)
+signed_word : (z : ℤ) → unsigned_abs z ≤ max_change → IsWord (signed_decimal z)
 signed_word (pos n) small = decimal_word n (omega arith)
 signed_word (negsuc n) small = ((omega arith, omega arith), decimal_word (suc n) (omega arith))
 
@@ -52,9 +53,9 @@ pub change_law : IsRead IsChange signed_decimal change_of
 unfolding change_of
 change_law = record {
   takes = λ w z e.
-      let b = bind_some (signed_of w) (λ k. cond (leb 1 (unsigned_abs k) && leb (unsigned_abs k) 2_000_000_000_000_000) (Some k) None) z e in
-      let h = cond_some (leb 1 (unsigned_abs b.0) && leb (unsigned_abs b.0) 2_000_000_000_000_000) b.0 z b.2 in
-      let p = and_parts (leb 1 (unsigned_abs b.0)) (leb (unsigned_abs b.0) 2_000_000_000_000_000) h.0 in
+      let b = bind_some (signed_of w) (λ k. cond (leb 1 (unsigned_abs k) && leb (unsigned_abs k) max_change) (Some k) None) z e in
+      let h = cond_some (leb 1 (unsigned_abs b.0) && leb (unsigned_abs b.0) max_change) b.0 z b.2 in
+      let p = and_parts (leb 1 (unsigned_abs b.0)) (leb (unsigned_abs b.0) max_change) h.0 in
       let t = signed_takes w b.0 b.1 in
       subst (λ (k : ℤ). IsChange k × (w ≡ signed_decimal k)) h.1 ((omega (arith, leb-true _ _ p.0), leb-true _ _ p.1), t.1);
   again = λ z fits.

@@ -1,6 +1,6 @@
 -- What record the words of a line spell, word by word (this project).
 use Rattle.std.specs.Prelude.{◌≡◌, ℕ, ◌^◌, ℤ, unsigned_abs, List, [], ◌∷◌, length, Option, Some, None, Result, Ok, Err, nat_le, ◌&&◌, ◌==◌, if◌then◌else◌}
-use Rattle.field_bounds.specs.Owed.{max_change, max_escrows, max_number}
+use Rattle.field_bounds.specs.Owed.{max_change, max_total, max_escrows, max_number}
 use Rattle.field_bounds.specs.declared.kind.Kind.{Kind}
 use Rattle.field_bounds.specs.declared.kind.Kind.TheVariants.{Lower, Raise}
 use Rattle.field_bounds.specs.declared.entry.Escrow.{Escrow}
@@ -10,7 +10,7 @@ use Rattle.kept_records.specs.declared.record.Record.TheVariants.{Commit, Gift, 
 use Rattle.kept_records.specs.declared.reading.Total.{Total}
 use Rattle.kept_records.specs.declared.reading.LineFault.{LineFault}
 use Rattle.kept_records.specs.declared.reading.LineFault.TheVariants as faults
-use Rattle.kept_records.specs.Text.{max_place, max_total}
+use Rattle.kept_records.specs.Text.{max_place}
 
 -- ---- one word
 

@@ -2,7 +2,7 @@
 use Rattle.std.specs.Prelude.{ℕ, ◌≤◌, ◌<◌, ℤ, unsigned_abs, List, [], ◌∷◌, ◌++◌, length}
 use Rattle.std.specs.Fmt.{decimal, signed_decimal}
 use Rattle.std.specs.List.{flat_map, AllByRecursion}
-use Rattle.field_bounds.specs.Owed.{max_change, max_escrows, max_number}
+use Rattle.field_bounds.specs.Owed.{max_change, max_total, max_escrows, max_number}
 use Rattle.field_bounds.specs.declared.kind.Kind.{Kind}
 use Rattle.field_bounds.specs.declared.kind.Kind.TheVariants.{Lower, Raise}
 use Rattle.field_bounds.specs.declared.id.SiteNo.{SiteNo}
@@ -52,13 +52,9 @@ spaced ws = flat_map (λ w. 32 ∷ w) ws
 
 -- ---- ranges
 
--- The greatest number of a site or of a field.
+-- The greatest number of a site or of a field that a record can name.
 abbrev pub max_place : ℕ
 max_place = 65535
-
--- The greatest total of a gift or of an acceptance, ten to the eighteenth.
-abbrev pub max_total : ℕ
-max_total = 1_000_000_000_000_000_000
 
 -- A change is other than 0, and not too large without its sign.
 abbrev pub IsChange : ℤ → Type 0

@@ -7,18 +7,14 @@ ghost use Rattle.kept_records.specs.declared.reading.LineFault.TheVariants.{NoMe
 ghost use Rattle.kept_records.specs.Reading.{number_within, change_of, kind_of, total_from, escrows_from, commit_from, gift_from, accept_from, restart_from, record_of, Tells};
 
 use crate::record::{Escrows, Record};
-use field_bounds::{Escrow, FieldNo, Kind, MAX_CHANGE, MAX_ESCROWS, MAX_NUMBER, SiteNo, TxnId};
+use field_bounds::{
+    Escrow, FieldNo, Kind, MAX_CHANGE, MAX_EPOCH, MAX_ESCROWS, MAX_NUMBER, MAX_TOTAL, SiteNo, TxnId,
+};
 use line_words::{Words, read_number, read_signed};
 use std::alloc::{AllocFailed, Global};
 
-// The greatest total of a gift or of an acceptance, ten to the eighteenth.
-const MAX_TOTAL: u64 = 1_000_000_000_000_000_000;
-
-// The greatest number of a site or of a field.
-const MAX_PLACE: u64 = 65_535;
-
-// The greatest epoch, and the greatest number of a transaction.
-const LAST: u64 = MAX_NUMBER as u64;
+// The greatest number of a site or of a field that a record can name.
+const MAX_PLACE: u64 = u16::MAX as u64;
 
 /// Why a line isn't read.
 #[derive(Clone, Copy, Debug, PartialEq, Eq)]
@@ -153,7 +149,7 @@ fn take_accept(words: Words) -> Option<Record>
 fn take_restart(mut words: Words) -> Option<Record>
     ensures { result ≡ restart_from words.entry }
 {
-    let epoch = take_number(&mut words, 1, LAST)?;
+    let epoch = take_number(&mut words, 1, u64::from(MAX_EPOCH))?;
     match words.next() {
         Some(_) => None,
         None => Some(Record::Restart {
@@ -189,8 +185,8 @@ fn take_escrows(alloc: Global, mut words: Words) -> Result<Escrows, LineFault>
 fn take_commit(alloc: Global, mut words: Words) -> Result<Record, LineFault>
     ensures { Tells result (commit_from words.entry) }
 {
-    let epoch = take_number(&mut words, 0, LAST).ok_or(LineFault::NoRecord)?;
-    let number = take_number(&mut words, 1, LAST).ok_or(LineFault::NoRecord)?;
+    let epoch = take_number(&mut words, 0, u64::from(MAX_EPOCH)).ok_or(LineFault::NoRecord)?;
+    let number = take_number(&mut words, 1, u64::from(MAX_NUMBER)).ok_or(LineFault::NoRecord)?;
     let escrows = take_escrows(alloc, words)?;
     let count = escrows.as_slice().len();
     if 1 <= count && count <= MAX_ESCROWS {
