@@ -3,7 +3,7 @@ use Rattle.std.specs.Prelude.{◌≡◌, ◌⊎◌, ℕ, ◌+◌, ◌<◌, Bool,
 use Rattle.kept_records.specs.declared.medium.Mishap.{Mishap}
 use Rattle.kept_records.specs.declared.medium.Mishap.TheVariants.{Never, Append, Cut, Read}
 use Rattle.kept_records.specs.declared.record.Record.{Record}
-use Rattle.kept_records.specs.declared.record.Record.TheVariants.{Restart}
+use Rattle.kept_records.specs.declared.record.Record.TheVariants.{Commit, Gift, Accept, Restart}
 use Rattle.kept_records.specs.Medium.{IsCutShort}
 use Rattle.kept_records.specs.Logs.{IsLog}
 
@@ -45,8 +45,10 @@ CutAndAppendFate (Some mishap) whole old line result new left = CutAndAppendGo m
 -- ---- what stands behind so many records (this project)
 
 abbrev pub is_restart : Record → Bool
+is_restart (Commit txn escrows) = false
+is_restart (Gift to field kind total) = false
+is_restart (Accept from field kind total) = false
 is_restart (Restart epoch) = true
-is_restart record_ = false
 
 abbrev pub starts_with_no_restart : List Record → Bool
 starts_with_no_restart [] = false

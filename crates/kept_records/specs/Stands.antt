@@ -15,26 +15,32 @@ use Rattle.kept_records.specs.declared.record.Record.TheVariants.{Commit, Gift, 
 
 -- The greatest epoch of a restart, and 0 where there is none (this project).
 abbrev pub later : ℕ → Record → ℕ
+later epoch (Commit txn escrows) = epoch
+later epoch (Gift to field kind total) = epoch
+later epoch (Accept from field kind total) = epoch
 later epoch (Restart new) = max epoch new
-later epoch record_ = epoch
 
 unfoldable pub greatest : List Record → ℕ
 greatest rs = fold later 0 rs
 
 -- The greatest total given to a site, of a kind on a field (Balegas and others 2015).
 abbrev pub given_more : ℕ → ℕ → Kind → ℕ → Record → ℕ
+given_more to f k n (Commit txn escrows) = n
 given_more to f k n (Gift site field kind total) =
     if (field.0 == f) && same_kind kind k && (site.0 == to) then max total n else n
-given_more to f k n record_ = n
+given_more to f k n (Accept site field kind total) = n
+given_more to f k n (Restart epoch) = n
 
 unfoldable pub given_in : List Record → ℕ → ℕ → Kind → ℕ
 given_in rs to f k = fold (given_more to f k) 0 rs
 
 -- The greatest total accepted from a site, of a kind on a field (Balegas and others 2015).
 abbrev pub accepted_more : ℕ → ℕ → Kind → ℕ → Record → ℕ
+accepted_more from f k n (Commit txn escrows) = n
+accepted_more from f k n (Gift site field kind total) = n
 accepted_more from f k n (Accept site field kind total) =
     if (field.0 == f) && same_kind kind k && (site.0 == from) then max total n else n
-accepted_more from f k n record_ = n
+accepted_more from f k n (Restart epoch) = n
 
 unfoldable pub accepted_in : List Record → ℕ → ℕ → Kind → ℕ
 accepted_in rs from f k = fold (accepted_more from f k) 0 rs
@@ -42,7 +48,9 @@ accepted_in rs from f k = fold (accepted_more from f k) 0 rs
 -- The sizes of the committed escrows of a kind on a field, added up (O'Neil 1986).
 abbrev pub commits : ℕ → Kind → Record → ℕ
 commits f k (Commit txn escrows) = sum_by (takes f k) escrows
-commits f k record_ = 0
+commits f k (Gift to field kind total) = 0
+commits f k (Accept from field kind total) = 0
+commits f k (Restart epoch) = 0
 
 unfoldable pub committed_in : ℕ → Kind → List Record → ℕ
 committed_in f k rs = sum_by (commits f k) rs

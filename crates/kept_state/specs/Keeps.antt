@@ -6,7 +6,7 @@ use Rattle.field_bounds.specs.declared.id.SiteNo.{SiteNo}
 use Rattle.field_bounds.specs.declared.entry.Command.{Command}
 use Rattle.field_bounds.specs.declared.entry.Command.TheVariants as commands
 use Rattle.field_bounds.specs.declared.entry.Reply.{Reply}
-use Rattle.field_bounds.specs.declared.entry.Reply.TheVariants.{Restarted, Unsure, StillDown, Refused}
+use Rattle.field_bounds.specs.declared.entry.Reply.TheVariants.{Begun, Granted, Committed, Aborted, Given, Stated, Accepted, Between, Shares, Restarted, Unsure, StillDown, Refused}
 use Rattle.field_bounds.specs.declared.entry.Entry.{Entry}
 use Rattle.field_bounds.specs.Schema.{SchemaValue}
 use Rattle.field_bounds.specs.Effects.{Base, fresh, escrows_of, kept_before}
@@ -16,12 +16,18 @@ use Rattle.kept_records.specs.declared.record.Record.TheVariants.{Commit, Gift, 
 use Rattle.kept_records.specs.Stands.{greatest, stands, gained_in, spent_in, given_in, accepted_in}
 
 -- The record of a command that is carried out where a site stands: a transaction's escrows in order of grant, the new
--- total of a gift, the total of a statement.
+-- total of a gift, the total of a statement. For a command that writes none there stands a restart's that no site keeps.
 abbrev pub record_at : Place → Command → Record
 record_at at (commands.Commit txn) = Commit txn (reverse (escrows_of txn at.effects))
 record_at at (commands.Give to field kind amount) = Gift to field kind (told_so_far at to field kind + amount)
 record_at at (commands.Accept told) = Accept told.from told.field told.kind told.total
-record_at at command = Restart 0
+record_at at commands.Begin = Restart 0
+record_at at (commands.Escrow txn field change) = Restart 0
+record_at at (commands.Abort txn) = Restart 0
+record_at at (commands.Restate to field kind) = Restart 0
+record_at at (commands.Read field) = Restart 0
+record_at at (commands.Share field) = Restart 0
+record_at at commands.Restart = Restart 0
 
 -- That record, where the command writes one.
 abbrev pub noted : Place → Command → List Record
@@ -33,7 +39,15 @@ adds at command (Refused refusal) stood rs = []
 adds at command (Restarted epoch found) stood rs = Restart epoch ∷ []
 adds at command StillDown stood rs = if stood then Restart (greatest rs + 1) ∷ [] else []
 adds at command Unsure stood rs = if stood then noted at command else []
-adds at command reply stood rs = noted at command
+adds at command (Begun txn) stood rs = noted at command
+adds at command Granted stood rs = noted at command
+adds at command Committed stood rs = noted at command
+adds at command Aborted stood rs = noted at command
+adds at command (Given total) stood rs = noted at command
+adds at command (Stated total) stood rs = noted at command
+adds at command (Accepted gain) stood rs = noted at command
+adds at command (Between lo hi) stood rs = noted at command
+adds at command (Shares lower raise) stood rs = noted at command
 
 -- What a reply tells of the records in front of it: kept says whether the next restart will say Kept, and an epoch is
 -- the greatest before it and one more.

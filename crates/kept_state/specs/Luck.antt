@@ -86,7 +86,15 @@ answer_reply at command luck =
 -- The one reply, where a restart would find this greatest epoch and this of the record in doubt.
 abbrev pub owed_with : Place → ℕ → Last → Command → Luck → Reply
 owed_with at epoch found commands.Restart luck = restart_reply epoch found luck
-owed_with at epoch found command luck = answer_reply at command luck
+owed_with at epoch found commands.Begin luck = answer_reply at commands.Begin luck
+owed_with at epoch found (commands.Escrow txn field change) luck = answer_reply at (commands.Escrow txn field change) luck
+owed_with at epoch found (commands.Commit txn) luck = answer_reply at (commands.Commit txn) luck
+owed_with at epoch found (commands.Abort txn) luck = answer_reply at (commands.Abort txn) luck
+owed_with at epoch found (commands.Give to field kind amount) luck = answer_reply at (commands.Give to field kind amount) luck
+owed_with at epoch found (commands.Restate to field kind) luck = answer_reply at (commands.Restate to field kind) luck
+owed_with at epoch found (commands.Accept told) luck = answer_reply at (commands.Accept told) luck
+owed_with at epoch found (commands.Read field) luck = answer_reply at (commands.Read field) luck
+owed_with at epoch found (commands.Share field) luck = answer_reply at (commands.Share field) luck
 
 -- The greatest epoch kept, after a reply.
 abbrev pub kept_after : Reply → Luck → ℕ → ℕ
