@@ -51,10 +51,8 @@ impl Medium for MemoryMedium {
     }
 
     fn append(&mut self, piece: &[u8]) -> Result<(), Device> {
-        match self.held.extend_from_slice(piece) {
-            Ok(()) => Ok(()),
-            Err(_) => unreachable!(),
-        }
+        self.held.extend_from_slice(piece).unwrap();
+        Ok(())
     }
 
     fn cut(&mut self, kept: usize) -> Result<(), Device> {

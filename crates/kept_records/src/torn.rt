@@ -100,14 +100,11 @@ impl Medium for TornMedium {
             } else {
                 piece.len()
             };
-            return match self.held.extend_from_slice(&piece[..kept]) {
-                Ok(()) => Err(Device),
-                Err(_) => unreachable!(),
-            };
-        }
-        match self.held.extend_from_slice(piece) {
-            Ok(()) => Ok(()),
-            Err(_) => unreachable!(),
+            self.held.extend_from_slice(&piece[..kept]).unwrap();
+            Err(Device)
+        } else {
+            self.held.extend_from_slice(piece).unwrap();
+            Ok(())
         }
     }
 
