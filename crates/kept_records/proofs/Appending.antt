@@ -1,12 +1,9 @@
 -- What an append of a record's text leaves, told by how many of its bytes were kept.
-use Rattle.std.proofs.Common.{◌≡◌, ◌⊎◌, ℕ, ◌+◌, ◌<◌, ◌≤◌, eqb, List, [], ◌∷◌, ◌++◌, length, take, drop, refl, sym, ap, subst, ◌∙◌, inl, inr, arith}
-use Rattle.std.specs.Fmt.{decimal}
+use Rattle.std.proofs.Common.{◌≡◌, ◌⊎◌, ℕ, ◌<◌, ◌≤◌, eqb, List, [], ◌∷◌, ◌++◌, length, take, drop, refl, sym, ap, subst, ◌∙◌, inl, inr, arith}
 use Rattle.std.specs.List.{flat_map, list_any}
 use Rattle.std.proofs.lemmas.Bool.{cases_lt}
-use Rattle.std.proofs.lemmas.Fmt.{length-decimal-le}
-use Rattle.std.proofs.lemmas.List.{take_at, take_all, take-append-drop, take-append-le, append-nil, length-append, nil_from_length}
+use Rattle.std.proofs.lemmas.List.{take_at, take_all, take-append-drop, take-append-le, append-nil, length-append}
 use Rattle.kept_records.specs.declared.record.Record.{Record}
-use Rattle.kept_records.specs.declared.record.Record.TheVariants.{Restart}
 use Rattle.kept_records.specs.Text.{text, IsRecord}
 use Rattle.kept_records.specs.Medium.{IsCutShort}
 use Rattle.kept_records.specs.Logs.{Reads, IsLog}
@@ -87,20 +84,3 @@ read_as_log bytes rs n reads = record {
   each = reads.each;
   no_lf = reads.rest;
 }
-
-pub log_size : (bytes : List ℕ) (rs : List Record) (rest : List ℕ) → IsLog bytes rs rest → length bytes ≡ length (flat_map text rs) + length rest
-log_size bytes rs rest log = ap length log.parts ∙ length-append (flat_map text rs) rest
-
-pub nothing_torn : (bytes : List ℕ) (rs : List Record) (rest : List ℕ) → IsLog bytes rs rest → length (flat_map text rs) ≡ length bytes → rest ≡ []
-nothing_torn bytes rs rest log size = nil_from_length rest (omega (arith, log_size bytes rs rest log, size))
-
--- ---- lengths of texts
-
-pub text_some : (r : Record) → 0 < length (text r)
-text_some r = omega (arith, length-append (body r) (10 ∷ []))
-
-pub restart_length : (epoch : ℕ) → length (text (Restart epoch)) ≡ length (decimal epoch) + 3
-restart_length epoch = omega (arith, length-append (decimal epoch) (10 ∷ []))
-
-pub restart_short : (epoch : ℕ) → epoch ≤ 1_000_000_000 → length (text (Restart epoch)) ≤ 13
-restart_short epoch most = omega (arith, restart_length epoch, length-decimal-le 10 epoch (omega arith) (omega (arith, most)) (omega (arith, most)))

@@ -9,7 +9,6 @@ ghost use Rattle.kept_records.specs.Text.{text, IsRecord};
 ghost use Rattle.kept_records.specs.Logs.{IsLog, Reads, AreAll};
 ghost use Rattle.kept_records.specs.Medium.{CountsRead, AppendFate, ReadFate};
 ghost use Rattle.kept_records.specs.Keeping.{IsKept, Appends, CutsAndAppends, CutAndAppendFate, stands_behind};
-ghost use Rattle.kept_records.specs.Stands.{greatest, later};
 
 use crate::log::{RecordFault, read_records};
 use crate::medium::{Device, Medium, MediumFault};
@@ -130,31 +129,6 @@ pub fn append_restart<M: Medium>(
     Ok(cut_and_append(medium, whole, present, &line))
 }
 
-// The greatest epoch, with one more record.
-fn later_epoch(epoch: u32, next: &Record) -> u32
-    ensures { result ≡ later epoch next.now }
-{
-    match next {
-        Record::Restart { epoch: later } => epoch.max(*later),
-        _ => epoch,
-    }
-}
-
-/// The greatest epoch of a restart among the records, and 0 where there is none. Costs a pass over
-/// the records.
-///
-/// Source: this project.
-#[tactic(auto, using(std::proofs::lemmas::List::Sums::fold_more), unfolding(crate::specs::Stands::greatest))]
-pub fn greatest_epoch(records: &[Record]) -> u32
-    ensures { result ≡ greatest records.now }
-{
-    let mut epoch = 0;
-    for kept in records {
-        epoch = later_epoch(epoch, kept);
-    }
-    epoch
-}
-
 /// Whether a record stands behind so many, and it is no restart: whether the record is there that
 /// was added behind them, since a restart adds only its own.
 ///
@@ -164,7 +138,7 @@ pub fn stands_behind(records: &[Record], place: usize) -> bool
 {
     match records.get(place) {
         None => false,
-        Some(Record::Restart { epoch: _ }) => false,
-        Some(_) => true,
+        Some(Record::Restart { .. }) => false,
+        Some(Record::Commit { .. } | Record::Gift { .. } | Record::Accept { .. }) => true,
     }
 }

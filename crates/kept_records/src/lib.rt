@@ -14,9 +14,7 @@ mod record;
 mod torn;
 mod writing;
 
-pub use keeping::{
-    ReadLog, append_record, append_restart, greatest_epoch, read_log, stands_behind,
-};
+pub use keeping::{ReadLog, append_record, append_restart, read_log, stands_behind};
 pub use laws::{kept_bytes_tell_what_stands, no_text_begins_another, torn_end_keeps_records};
 pub use log::{Front, RecordFault, read_front, read_records};
 pub use medium::{Device, Medium, MediumFault, Mishap};

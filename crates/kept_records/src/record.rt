@@ -37,13 +37,6 @@ impl Escrows {
     {
         &self.held
     }
-
-    /// The escrows, in their order, as the list that was handed in. Takes no memory.
-    pub fn into_vec(self) -> Vec<Escrow>
-        ensures all { result.items ≡ self }
-    {
-        self.held
-    }
 }
 
 /// What a site keeps of what it answered, so that it stands the same after a stop. Each record is

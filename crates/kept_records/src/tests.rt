@@ -230,9 +230,7 @@ fn torn_of(alloc: Global, text: &str) -> Option<TornMedium> {
 #[test]
 fn memory_never_fails(rt: HostRuntime) {
     let alloc = rt.alloc();
-    let Some(mut medium) = memory_of(alloc, "R 1\n") else {
-        return;
-    };
+    let mut medium = memory_of(alloc, "R 1\n").expect(&rt, "memory");
     assert_eq!(rt; added(&mut medium, b"G 1 0"), Some(true));
     assert!(rt; holds(alloc, &mut medium, "R 1\nG 1 0"));
     assert_eq!(rt; shortened(alloc, &mut medium, 4), Some(true));
@@ -261,7 +259,7 @@ fn failed_cut(rt: &impl Abort, alloc: Global, medium: &mut TornMedium) {
 
 fn failed_read(rt: &impl Abort, alloc: Global, medium: &mut TornMedium) {
     medium.arm(Mishap::Read);
-    assert!(rt; !holds(alloc, medium, "R 1\n"));
+    assert!(rt; matches!(medium.read_all(alloc), Err(MediumFault::Device)));
     assert!(rt; holds(alloc, medium, "R 1\n"));
     assert_eq!(rt; medium.failures(), 4);
 }
@@ -269,9 +267,7 @@ fn failed_read(rt: &impl Abort, alloc: Global, medium: &mut TornMedium) {
 #[test]
 fn mishaps_strike_once(rt: HostRuntime) {
     let alloc = rt.alloc();
-    let Some(mut medium) = torn_of(alloc, "R 1\n") else {
-        return;
-    };
+    let mut medium = torn_of(alloc, "R 1\n").expect(&rt, "memory");
     torn_appends(&rt, alloc, &mut medium);
     failed_cut(&rt, alloc, &mut medium);
     failed_read(&rt, alloc, &mut medium);
@@ -294,19 +290,6 @@ fn fronts(rt: HostRuntime) {
     assert_eq!(rt; front_of(alloc, "R 03\nR 4\n"), Some((0, 0, Some(1))));
     assert_eq!(rt; front_of(alloc, "R 1\nR 12\nR 03"), Some((2, 9, None)));
     assert_eq!(rt; front_of(alloc, ""), Some((0, 0, None)));
-}
-
-/// The greatest epoch of the records of a log.
-fn greatest_of(alloc: Global, text: &str) -> Option<u32> {
-    let (records, _) = read_records(alloc, text.as_bytes()).ok()?;
-    Some(greatest_epoch(&records))
-}
-
-#[test]
-fn greatest_epochs(rt: HostRuntime) {
-    let alloc = rt.alloc();
-    assert_eq!(rt; greatest_of(alloc, "R 2\nC 0 1 0 -20\nR 7\nR 3\n"), Some(7));
-    assert_eq!(rt; greatest_of(alloc, "C 9 1 0 -20\nR 7"), Some(0));
 }
 
 /// Whether a record that is no restart stands behind none, one, two and three records of a log.
@@ -350,9 +333,7 @@ fn log_lengths<M: Medium>(alloc: Global, medium: &mut M) -> Option<(usize, usize
 #[test]
 fn a_log_is_read(rt: HostRuntime) {
     let alloc = rt.alloc();
-    let Some(bytes) = log_of(alloc, "C 0 1 0 -20\nG 1 0") else {
-        return;
-    };
+    let bytes = log_of(alloc, "C 0 1 0 -20\nG 1 0").expect(&rt, "a log");
     let mut medium = MemoryMedium::new(bytes);
     assert_eq!(rt; log_lengths(alloc, &mut medium), Some((1, 12, 17)));
     assert!(rt; holds(alloc, &mut medium, "C 0 1 0 -20\nG 1 0"));
@@ -361,9 +342,7 @@ fn a_log_is_read(rt: HostRuntime) {
 #[test]
 fn a_log_whose_device_fails_is_not_read(rt: HostRuntime) {
     let alloc = rt.alloc();
-    let Some(bytes) = log_of(alloc, "R 1\n") else {
-        return;
-    };
+    let bytes = log_of(alloc, "R 1\n").expect(&rt, "a log");
     let mut medium = TornMedium::new(bytes);
     medium.arm(Mishap::Read);
     assert!(rt; matches!(read_log(alloc, &mut medium), Err(MediumFault::Device)));
@@ -381,9 +360,7 @@ fn appended<M: Medium>(alloc: Global, medium: &mut M, kept: &Record) -> Option<b
 #[test]
 fn records_are_appended(rt: HostRuntime) {
     let alloc = rt.alloc();
-    let Some(mut medium) = memory_of(alloc, "") else {
-        return;
-    };
+    let mut medium = memory_of(alloc, "").expect(&rt, "memory");
     let gift = Record::Gift {
         to: SiteNo(1),
         field: FieldNo(0),
@@ -399,9 +376,7 @@ fn records_are_appended(rt: HostRuntime) {
 }
 
 fn torn_restart(rt: &impl Abort, alloc: Global, kept: u64, wanted: &str) {
-    let Some(mut medium) = torn_of(alloc, "") else {
-        return;
-    };
+    let mut medium = torn_of(alloc, "").expect(rt, "memory");
     medium.arm(Mishap::Append(kept));
     assert_eq!(rt;
         appended(alloc, &mut medium, &Record::Restart { epoch: 1 }),
@@ -437,9 +412,7 @@ fn restarted<M: Medium>(alloc: Global, medium: &mut M, whole: usize, epoch: u32)
 #[test]
 fn a_restart_is_appended(rt: HostRuntime) {
     let alloc = rt.alloc();
-    let Some(mut medium) = memory_of(alloc, "C 0 1 0 -20\nR 1") else {
-        return;
-    };
+    let mut medium = memory_of(alloc, "C 0 1 0 -20\nR 1").expect(&rt, "memory");
     assert_eq!(rt; restarted(alloc, &mut medium, 12, 1), Some(true));
     assert!(rt; holds(alloc, &mut medium, "C 0 1 0 -20\nR 1\n"));
     assert_eq!(rt;
@@ -450,9 +423,7 @@ fn a_restart_is_appended(rt: HostRuntime) {
 }
 
 fn restart_under(rt: &impl Abort, alloc: Global, mishap: Mishap, stands: bool, wanted: &str) {
-    let Some(mut medium) = torn_of(alloc, "C 0 1 0 -20\nG 1 0") else {
-        return;
-    };
+    let mut medium = torn_of(alloc, "C 0 1 0 -20\nG 1 0").expect(rt, "memory");
     medium.arm(mishap);
     assert_eq!(rt; restarted(alloc, &mut medium, 12, 1), Some(stands));
     assert!(rt; holds(alloc, &mut medium, wanted));
@@ -471,9 +442,7 @@ fn a_restart_under_a_mishap(rt: HostRuntime) {
 #[test]
 fn nothing_is_cut_of_whole_records(rt: HostRuntime) {
     let alloc = rt.alloc();
-    let Some(mut medium) = torn_of(alloc, "R 1\n") else {
-        return;
-    };
+    let mut medium = torn_of(alloc, "R 1\n").expect(&rt, "memory");
     medium.arm(Mishap::Cut);
     assert_eq!(rt; restarted(alloc, &mut medium, 4, 2), Some(true));
     assert!(rt; holds(alloc, &mut medium, "R 1\nR 2\n"));
