@@ -13,6 +13,3 @@ pub use laws::{lucky_replies_are_owed, records_stand};
 pub use luck::Luck;
 pub use steps::{doubt_is_settled, records_may_be_written, replies_leave};
 pub use worked::{worked_luck, worked_records, wrong_records};
-
-#[cfg(test)]
-mod tests;
