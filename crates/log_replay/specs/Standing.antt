@@ -69,9 +69,9 @@ CanTakeIn schema old (Accept from field kind total) =
     × (total - accepted_at old.ledger from.0 field.0 kind ≤ room_at old.rights field.0)
 CanTakeIn schema old (Restart epoch) = old.epoch < epoch
 
--- A record that can be taken in is. Where it is, the new standing is for the old records and for it, whichever lawful
--- records the old one is for, and what is held stays held. Where nothing is held, it is taken in exactly where it may
--- stand behind those before it.
+-- Whether a record is taken in, and what that leaves. Where nothing is held, it is taken in exactly where it may stand
+-- behind those before it (answered). Where it is, the new standing is for the old records and for it, whichever lawful
+-- records the old one is for (stands), and what is held stays held (held). A record that can be taken in is (takes_).
 pub record TakesIn (schema : SchemaValue) (old : Standing) (r : Record) (answer : Bool) (new : Standing) : Type 0 where
   pub answered : (s : ℕ) (rs : List Record) → Lawful schema s rs → IsStandingFor schema s rs old → answer ≡ may_stand schema s rs r
   pub stands : answer ≡ true → (s : ℕ) (rs : List Record) → Lawful schema s rs → Stands schema s rs old → Stands schema s (rs ++ r ∷ []) new

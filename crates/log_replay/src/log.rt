@@ -13,7 +13,8 @@ use std::alloc::{AllocError, Global};
 /// What a log came to.
 #[derive(Drop)]
 pub enum Replayed {
-    /// Each record may stand behind those before it, and this is what they stand for.
+    /// Each record may stand behind those before it, and this is what they stand for, with no rights
+    /// held.
     Standing(Standing),
     /// This record, counted from 1, is the first that breaks a rule: it may not stand behind those
     /// before it, and each of those may.

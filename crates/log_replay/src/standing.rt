@@ -17,21 +17,25 @@ use kept_records::Record;
 use site_rights::{Outcome, Rights};
 use std::alloc::{AllocError, Global};
 
-/// What the records taken in so far stand for: the rights of the site, none of them held, the totals
-/// that it gave and accepted, and the epoch of the last restart, 0 to 1,000,000,000.
+/// What the records of a site taken in so far stand for, and what its open transactions hold of it.
+/// A log that is read comes to one with no rights held; a site that is up stands on one too, and
+/// takes in each record that it appends.
 ///
 /// Source: Balegas and others 2015 for the rights and the totals; this project for the epoch.
 #[derive(Drop)]
 pub struct Standing {
+    /// The own rights of the site on each field, those that are free and those that are held.
     pub rights: Rights,
+    /// The totals that it gave to and accepted from each other site, in rights.
     pub ledger: Ledger,
+    /// The epoch of the last restart, 0 to 1,000,000,000, and 0 where there was none.
     pub epoch: u32,
 }
 
 impl Standing {
-    /// What no records stand for: the site's parts, nothing given or accepted, and epoch 0. The
-    /// error is want of memory. Costs a row for each field, and one for each site and field; no
-    /// later call takes memory.
+    /// What no records stand for: the site's parts with none of them held, nothing given or
+    /// accepted, and epoch 0. The error is want of memory. Costs memory for a row of each field, and
+    /// for one of each site and field; no later call takes memory.
     pub fn new(alloc: Global, schema: &Schema, site: SiteNo) -> Result<Standing, AllocError>
         requires site_in { site.0 < schema.now.sites }
         ensures nothing { IfOk result (λ standing. IsStandingFor schema.now site.0 [] standing) }
@@ -43,9 +47,13 @@ impl Standing {
         })
     }
 
-    /// Takes in the next record, and answers whether it may stand behind those before it. Where it
-    /// may not, nothing is claimed of what is left. The schema is the one that the standing was made
-    /// for. Costs one step for each escrow of the record, and no memory.
+    /// Takes in the next record, and answers whether it did. Where no rights are held, it does exactly
+    /// where the record may stand behind those before it. In any case it does where what the record
+    /// spends is free and what it adds has room. The standing is then for the old records and for
+    /// this one, and what was held stays held. Where it doesn't, nothing is claimed of what is left.
+    ///
+    /// The schema is the one that the standing was made for, and the record's numbers lie in the
+    /// ranges that `Record` tells. Costs one step for each escrow of the record, and no memory.
     ///
     /// Source: O'Neil 1986 for the commit; Balegas and others 2015 for the gift and the acceptance;
     /// this project for the restart and for what each of them has to meet.
