@@ -3,9 +3,9 @@
 ghost use Rattle.std.specs.Prelude.{◌≡◌, ◌<◌, ◌≤◌, ◌&&◌, ◌++◌, ◌∷◌, [], ℕ, List, true, IfOk, IsTrue, ◌↔◌};
 ghost use Rattle.std.specs.List.{list_all};
 ghost use Rattle.field_bounds.specs.Schema.{SchemaValue};
+ghost use Rattle.field_bounds.specs.Owed.{max_total};
 ghost use Rattle.kept_records.specs.declared.record.Record.{Record};
 ghost use Rattle.kept_records.specs.declared.record.Record.TheVariants.{Commit, Gift, Accept, Restart};
-ghost use Rattle.field_bounds.specs.Owed.{max_total};
 ghost use Rattle.kept_records.specs.Text.{IsRecord};
 ghost use Rattle.kept_records.specs.Stands.{is_field, is_other_site, may_stand, Lawful};
 ghost use Rattle.site_rights.specs.Rights.{AreInRange, by_escrows, taken};
