@@ -53,25 +53,12 @@ impl Accounts {
         match command {
             Command::Commit { txn } | Command::Abort { txn } => self.release(txn),
             Command::Begin
-            | Command::Escrow {
-                txn: _,
-                field: _,
-                change: _,
-            }
-            | Command::Give {
-                to: _,
-                field: _,
-                kind: _,
-                amount: _,
-            }
-            | Command::Restate {
-                to: _,
-                field: _,
-                kind: _,
-            }
+            | Command::Escrow { .. }
+            | Command::Give { .. }
+            | Command::Restate { .. }
             | Command::Accept(_)
-            | Command::Read { field: _ }
-            | Command::Share { field: _ }
+            | Command::Read { .. }
+            | Command::Share { .. }
             | Command::Restart => {}
         }
     }
