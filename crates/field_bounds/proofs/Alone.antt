@@ -1,7 +1,7 @@
 -- A schema that was read is within the limits, and a trace of one site alone is sound.
 use Rattle.std.proofs.Common.{◌≡◌, ◌≢◌, ℕ, ◌<◌, ℤ, Bool, true, false, cond, List, [], ◌∷◌, length, Result, Ok, Err, refl, sym, ◌∙◌, ap, subst, inl, inr, eqb, arith}
 use Rattle.std.specs.Prelude.{nat_lt, nat_le}
-use Rattle.std.proofs.lemmas.Bool.{and_parts, cases_Bool, eqb-true, eqb-false, eq-eqb, ne_eqb, leb-true, leb-false}
+use Rattle.std.proofs.lemmas.Bool.{and_parts, cases_Bool, eqb-true, eqb-false, eq-eqb, ne_eqb, leb-true}
 use Rattle.serde_json.specs.Data.{Data}
 use Rattle.field_bounds.specs.declared.fault.SchemaFault.{SchemaFault}
 use Rattle.field_bounds.specs.declared.fault.SchemaFault.TheVariants.{SiteCount, FieldCount, TooLong}
@@ -12,13 +12,13 @@ use Rattle.field_bounds.specs.declared.entry.Reply.TheVariants.{Accepted, Unsure
 use Rattle.field_bounds.specs.declared.entry.Entry.{Entry}
 use Rattle.field_bounds.specs.declared.entry.Statement.{Statement}
 use Rattle.field_bounds.specs.Schema.{FieldValue, SchemaValue, ◌>>=◌}
-use Rattle.field_bounds.specs.Limits.{max_header, is_site_count, is_field_count, first_fault, unless, count_of, of_parts, IsSchema}
+use Rattle.field_bounds.specs.Limits.{max_header, max_sites, max_fields, is_site_count, is_field_count, first_fault, unless, count_of, of_parts, IsSchema}
 use Rattle.field_bounds.specs.Header.{parts_of, data_of, schema_of}
 use Rattle.field_bounds.specs.Effects.{fresh}
 use Rattle.field_bounds.specs.Owed.{Place, place, AnswerFits, Fits, IsRun}
 use Rattle.field_bounds.specs.Central.{own, AreOf, StatementRule, IsAtSites, IsTold, IsSound}
 use Rattle.field_bounds.proofs.Kept.{IsSchema-of}
-use Rattle.field_bounds.proofs.Refused.{is_refused, not_refused}
+use Rattle.field_bounds.proofs.Refused.{is_refused, not_refused, accept_is_from_a_site, accept_is_from_another}
 
 -- ---- what is read is within the limits
 
@@ -29,8 +29,8 @@ of_parts-limits sites fields s h = by (is_site_count sites) (is_field_count (len
     by : (some few : Bool) → is_site_count sites ≡ some → is_field_count (length fields) ≡ few
         → cond some (cond few (unless (first_fault [] fields) (record { sites = sites; fields = fields })) (Err FieldCount)) (Err SiteCount) ≡ Ok s → IsSchema s
     by true true some few made =
-        let a = and_parts (nat_le 1 sites) (nat_le sites 16) some in
-        let b = and_parts (nat_le 1 (length fields)) (nat_le (length fields) 64) few in
+        let a = and_parts (nat_le 1 sites) (nat_le sites max_sites) some in
+        let b = and_parts (nat_le 1 (length fields)) (nat_le (length fields) max_fields) few in
         IsSchema-of sites fields s (leb-true _ _ a.0) (leb-true _ _ a.1) (leb-true _ _ b.0) (leb-true _ _ b.1) made
     by true false some few made = absurd cc
     by false few some fits made = absurd cc
@@ -84,9 +84,7 @@ alone_is_sound schema s o below are told run =
 only_site_refuses : (at : Place) (told : Statement) (r : Reply) → at.schema.sites ≡ 1 → at.site ≡ 0 → AnswerFits at (Accept told) r → is_refused r ≡ false → ⊥
 only_site_refuses at told r one here fits met =
     let none = not_refused at (Accept told) r fits met in
-    let from = leb-false _ _ none.1.0 in
-    let apart : told.from.0 ≡ at.site → ⊥ = eqb-false told.from.0 at.site none.1.1.1.1.1.1.0 in
-    apart (omega (arith, from, one, here))
+    accept_is_from_another at told none (omega (arith, accept_is_from_a_site at told none, one, here))
 
 only_site_rule : (at : Place) (t : List Entry) (c : Command) (r : Reply) → at.schema.sites ≡ 1 → at.site ≡ 0 → Fits at c r → StatementRule t c r
 only_site_rule at t (Accept told) (Accepted gain) one here fits = absurd (only_site_refuses at told (Accepted gain) one here fits refl)

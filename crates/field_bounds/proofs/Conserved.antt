@@ -1,5 +1,5 @@
 -- The sums of all sites are tied to the committed value and its bounds.
-use Rattle.std.proofs.Common.{◌≡◌, ℕ, zero, suc, ◌+◌, ◌-◌, ◌<◌, ◌≤◌, Bool, false, ◌&&◌, ◌||◌, List, [], ◌∷◌, sym, ◌∙◌, arith, eqb}
+use Rattle.std.proofs.Common.{◌≡◌, ℕ, zero, suc, ◌+◌, ◌-◌, ◌<◌, ◌≤◌, Bool, false, ◌&&◌, ◌||◌, List, [], ◌∷◌, sym, ◌∙◌, arith}
 use Rattle.std.proofs.lemmas.Int.{ints}
 use Rattle.std.proofs.lemmas.Bool.{or_left, and_parts}
 use Rattle.std.specs.Prelude.{ℤ, pos, ◌+ℤ◌, ◌-ℤ◌, ◌≤ℤ◌, unsigned_abs, slice_index_or}
@@ -12,7 +12,7 @@ use Rattle.field_bounds.specs.Kind.{other}
 use Rattle.field_bounds.specs.Schema.{FieldValue, SchemaValue}
 use Rattle.field_bounds.specs.Limits.{IsField, IsSchema}
 use Rattle.field_bounds.specs.Parts.{total_of, no_field, field_at, part_of, sum_below}
-use Rattle.field_bounds.specs.Effects.{is_committed, is_open, granted, gifts, share, fresh}
+use Rattle.field_bounds.specs.Effects.{is_committed, is_open, granted, is_to, gifts, share, fresh}
 use Rattle.field_bounds.specs.Central.{own, at_site, sizes, is_committed_in, is_open_in, outcome, open_sizes, inf, sup, shares, in_flight, given_between, accepted_between, IsSound, IsConserved, IsConservedThroughout}
 use Rattle.field_bounds.proofs.Parts.{shares_add_up}
 use Rattle.field_bounds.proofs.Lawful.{IsLawful}
@@ -91,7 +91,7 @@ module _ (schema : SchemaValue) (good : IsSchema schema) (t : List Entry) (sound
         gifts_split schema (fresh schema s) (at_site schema t s) lawful f k,
         gains_split schema (fresh schema s) (at_site schema t s) lawful f k,
         sum_below-zero schema.sites,
-        sum_below-same schema.sites (λ to. gifts (λ site. eqb site to) f k (at_site schema t s)) (λ to. given_between schema t f k s to) (λ to less. omega arith),
+        sum_below-same schema.sites (λ to. gifts (is_to to) f k (at_site schema t s)) (λ to. given_between schema t f k s to) (λ to less. omega arith),
       )
 
   total : (ℕ → ℕ) → ℕ

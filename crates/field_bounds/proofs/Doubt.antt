@@ -1,36 +1,36 @@
 -- What is in doubt: only while a site is down, and then no more than what a command would have been answered.
-use Rattle.std.proofs.Common.{◌≡◌, ℕ, ◌<◌, ◌+◌, Bool, true, false, List, [], ◌∷◌, refl, sym, zero-add, ◌∙◌, ap, subst, inl, inr, arith, None}
+use Rattle.std.proofs.Common.{◌≡◌, ℕ, ◌<◌, ◌+◌, Bool, true, false, List, [], ◌∷◌, refl, sym, zero-add, ◌∙◌, ap, subst, inl, inr, arith, Option, None}
 use Rattle.field_bounds.specs.declared.entry.Command.{Command}
-use Rattle.field_bounds.specs.declared.entry.Command.TheVariants.{Begin, Escrow, Commit, Abort, Give, Accept, Restart}
+use Rattle.field_bounds.specs.declared.entry.Command.TheVariants.{Begin, Restart}
 use Rattle.field_bounds.specs.declared.entry.Last.{Last}
 use Rattle.field_bounds.specs.declared.entry.Reply.{Reply}
-use Rattle.field_bounds.specs.declared.entry.Reply.TheVariants.{Begun, Granted, Committed, Aborted, Given, Accepted, Restarted, Unsure, StillDown, Refused}
+use Rattle.field_bounds.specs.declared.entry.Reply.TheVariants.{Restarted, Unsure, StillDown, Refused}
 use Rattle.field_bounds.specs.declared.entry.Refusal.{Refusal}
 use Rattle.field_bounds.specs.declared.entry.Entry.{Entry}
+use Rattle.field_bounds.specs.declared.effect.Effect.{Effect}
+use Rattle.field_bounds.specs.declared.effect.Effect.TheVariants.{Stops}
 use Rattle.field_bounds.specs.Schema.{SchemaValue}
-use Rattle.field_bounds.specs.Effects.{Base, Effect, Stops, after, effects, kept_before, says_kept}
+use Rattle.field_bounds.specs.Effects.{Base, effect_of, counts, with_effect, after, effects, kept_before, says_kept}
 use Rattle.field_bounds.specs.Owed.{Place, place, first, refusals, answer, is_up, up_after, is_unsure, is_begun_reply, epoch_of, epoch_after, count_since, count_after, IsRestarted, Fits, RestartFits, AnswerFits, IsRun}
 use Rattle.field_bounds.proofs.Refused.{match_cases, is_restart, up_there}
 
 -- ---- where a site is up, nothing is in doubt
 
+counts_sure : (kept : Bool) (r : Reply) → is_unsure r ≡ false → counts kept r ≡ counts false r
+counts_sure kept Unsure h = cc
+counts_sure kept r h = refl
+
 -- only an answer in doubt depends on what is kept
 pub after_kept : (base : Base) (kept : Bool) (c : Command) (r : Reply) (es : List Effect) → is_unsure r ≡ false → after base kept c r es ≡ after base false c r es
-after_kept base kept Begin (Begun txn) es h = refl
-after_kept base kept (Escrow txn field change) Granted es h = refl
-after_kept base kept (Commit txn) Committed es h = refl
-after_kept base kept (Commit txn) Unsure es h = cc
-after_kept base kept (Abort txn) Aborted es h = refl
-after_kept base kept (Give to field kind amount) (Given total) es h = refl
-after_kept base kept (Give to field kind amount) Unsure es h = cc
-after_kept base kept (Accept told) (Accepted gain) es h = refl
-after_kept base kept (Accept told) Unsure es h = cc
-after_kept base kept Restart (Restarted epoch found) es h = refl
-after_kept base kept c r es h = refl
+after_kept base kept c r es h = ap (λ (counted : Bool). with_effect counted (effect_of c r) es) (counts_sure kept r h)
+
+-- a refusal has no effect
+refusal_passes : (c : Command) (x : Refusal) → effect_of c (Refused x) ≡ None
+refusal_passes Begin x = refl
+refusal_passes c x = refl
 
 pub after_refused : (base : Base) (kept : Bool) (c : Command) (x : Refusal) (es : List Effect) → after base kept c (Refused x) es ≡ es
-after_refused base kept Begin x es = refl
-after_refused base kept c x es = refl
+after_refused base kept c x es = ap (λ (effect : Option Effect). with_effect true effect es) (refusal_passes c x)
 
 up_step : (base : Base) (kept : Bool) (o : List Entry) (c : Command) (r : Reply) → (is_up base o ≡ true → effects base kept o ≡ effects base false o) → up_after (is_up base o) r ≡ true
     → after base kept c r (effects base (kept_before kept r) o) ≡ after base false c r (effects base (kept_before false r) o)

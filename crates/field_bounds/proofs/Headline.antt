@@ -1,6 +1,6 @@
 -- Every sound trace is a run of one central store.
 use Rattle.std.proofs.Common.{◌≡◌, ℕ, ◌<◌, ◌≤◌, Bool, true, false, List, [], ◌∷◌, refl, sym, ◌∙◌, ap, inl, inr, arith, Some}
-use Rattle.std.proofs.lemmas.Bool.{ltb-true, ltb-false}
+use Rattle.std.proofs.lemmas.Bool.{ltb-true}
 use Rattle.std.proofs.lemmas.Int.{ints}
 use Rattle.std.specs.Prelude.{unsigned_abs, ℤ, pos, ◌+ℤ◌, ◌-ℤ◌, ◌≤ℤ◌, ◌⊎◌, if◌then◌else◌}
 use Rattle.field_bounds.specs.declared.kind.Kind.{Kind}
@@ -18,17 +18,17 @@ use Rattle.field_bounds.specs.Limits.{IsSchema}
 use Rattle.field_bounds.specs.Parts.{field_at}
 use Rattle.field_bounds.specs.Effects.{is_open, granted, own_rights, share, fresh}
 use Rattle.field_bounds.specs.Owed.{Place, Test, place, first, refusals, answer, AnswerFits, Fits}
-use Rattle.field_bounds.specs.Central.{own, at_site, is_open_in, open_sizes, inf, sup, shares, MayBeGranted, GrantRule, ShortageRule, IntervalRule, KeepsRules, IsCentral, IsSound, IsConserved}
-use Rattle.field_bounds.proofs.Refused.{match_cases, is_refused, answered}
+use Rattle.field_bounds.specs.Central.{own, at_site, is_open_in, open_sizes, inf, sup, shares, floor_in, ceiling_in, OutcomesAreBounded, MayBeGranted, GrantRule, ShortageRule, IntervalRule, KeepsRules, IsCentral, IsSound, IsConserved}
+use Rattle.field_bounds.proofs.Refused.{match_cases, is_refused, answered, escrow_is_enough}
 use Rattle.field_bounds.proofs.Sums.{term_below}
 use Rattle.field_bounds.proofs.Traces.{sound_front, sound_fits}
-use Rattle.field_bounds.proofs.Conserved.{is_conserved, traced, free_of, open_of}
+use Rattle.field_bounds.proofs.Conserved.{outcomes_between, is_conserved, traced, free_of, open_of}
 
--- ---- a refusal Short comes from a test for it, and no test before that holds
+-- ---- a refusal Short comes from a test for it
 
 abbrev short_here : Bool → Refusal → ℕ → Type 0 → Type 0
 short_here b (Short x) h rest = ((b ≡ true) × (x ≡ h)) ⊎ rest
-short_here b r h rest = (b ≡ false) × rest
+short_here b r h rest = rest
 
 abbrev ShortHolds : List Test → ℕ → Type 0
 ShortHolds [] h = ⊥
@@ -41,7 +41,7 @@ short_step : (b : Bool) (r : Refusal) (rest : List Test) (h : ℕ) → (if b the
 short_step true (Short x) rest h e more = inl (refl, some_short x h e)
 short_step false (Short x) rest h e more = inr (more e)
 short_step true r rest h e more = cc
-short_step false r rest h e more = (refl, more e)
+short_step false r rest h e more = more e
 
 short_holds : (tests : List Test) (h : ℕ) → first tests ≡ Some (Short h) → ShortHolds tests h
 short_holds [] h e = cc
@@ -88,22 +88,22 @@ module _ (schema : SchemaValue) (good : IsSchema schema) (t : List Entry) (sound
   grant_step : (c : Command) (r : Reply) → Fits (place schema s (fresh schema s) (own s t)) c r → GrantRule schema t c r
   grant_step (Escrow txn field change) Granted fits =
       let none = (answered (place schema s (fresh schema s) (own s t)) (Escrow txn field change) Granted fits refl).0 in
-      let enough : unsigned_abs change ≤ share (fresh schema s) field.0 (kind_of change) (at_site schema t s) = ltb-false _ _ none.1.1.1.1.1.0 in
+      let enough = escrow_is_enough (place schema s (fresh schema s) (own s t)) txn field change none in
       λ known. may_be_granted field.0 (kind_of change) (unsigned_abs change) (omega (arith, enough, share_within field.0 (kind_of change)))
   grant_step c r fits = tt
 
   shortage_step : (c : Command) (r : Reply) → Fits (place schema s (fresh schema s) (own s t)) c r → ShortageRule schema t s c r
   shortage_step (Escrow txn field change) (Refused (Short h)) fits =
       let holds = short_fits (place schema s (fresh schema s) (own s t)) (Escrow txn field change) h fits in
-      λ known. elim holds.1.1.1.1.1 [
+      λ known. elim holds [
         | inl here ↦ (sym here.1, omega (arith, ltb-true _ _ here.0, here.1))
-        | inr none ↦ absurd none.1
+        | inr none ↦ absurd none
       ]
   shortage_step (Give to field kind amount) (Refused (Short h)) fits =
       let holds = short_fits (place schema s (fresh schema s) (own s t)) (Give to field kind amount) h fits in
-      λ known. elim holds.1.1.1.1.1 [
+      λ known. elim holds [
         | inl here ↦ (sym here.1, omega (arith, ltb-true _ _ here.0, here.1))
-        | inr none ↦ absurd none.1.1
+        | inr none ↦ absurd none
       ]
   shortage_step c r fits = tt
 
@@ -138,7 +138,14 @@ sound_is_central schema good (e ∷ t) sound =
     (sound_is_central schema good t (sound_front schema e t sound), keeps_rules schema good e t sound)
 
 -- the infimum is not below the floor, and the supremum not above the ceiling
-pub within_bounds : (schema : SchemaValue) → IsSchema schema → (t : List Entry) → IsSound schema t → (f : ℕ) → ((field_at schema f).floor ≤ℤ inf schema t f) × (sup schema t f ≤ℤ (field_at schema f).ceiling)
+pub within_bounds : (schema : SchemaValue) → IsSchema schema → (t : List Entry) → IsSound schema t → (f : ℕ) → (floor_in schema t f ≤ℤ inf schema t f) × (sup schema t f ≤ℤ ceiling_in schema t f)
 within_bounds schema good t sound f =
     let law = is_conserved schema good t sound in
     (omega (arith, ints, law.lowering f), omega (arith, ints, law.raising f))
+
+-- so however the open transactions end, no field is left outside its bounds
+pub outcomes_are_bounded : (schema : SchemaValue) → IsSchema schema → (t : List Entry) → IsSound schema t → OutcomesAreBounded schema t
+outcomes_are_bounded schema good t sound f chosen =
+    let bounds = within_bounds schema good t sound f in
+    let between = outcomes_between schema t f chosen in
+    (omega (arith, ints, bounds.0, between.0), omega (arith, ints, bounds.1, between.1))

@@ -14,7 +14,7 @@ use Rattle.field_bounds.specs.declared.schema.FieldBounds.{FieldBounds}
 use Rattle.field_bounds.specs.declared.fault.SchemaFault.{SchemaFault}
 use Rattle.field_bounds.specs.declared.fault.SchemaFault.TheVariants.{Name, NameUsed, Bounds}
 use Rattle.field_bounds.specs.Schema.{FieldValue, SchemaValue}
-use Rattle.field_bounds.specs.Limits.{is_name, is_used, has_bounds, field_fault, first_fault, or_else, unless, IsField, HasOwnNames, IsSchema}
+use Rattle.field_bounds.specs.Limits.{max_sites, max_fields, is_name, is_used, has_bounds, field_fault, first_fault, or_else, unless, IsField, HasOwnNames, IsSchema}
 use Rattle.field_bounds.specs.Kept.{entry_value, kept_values}
 
 pub field_is : (es : List (String Global × FieldBounds)) (i : ℕ) (e : String Global × FieldBounds) (d : FieldValue) → slice_get es i ≡ Some e → slice_index_or (kept_values es) i d ≡ entry_value e
@@ -80,7 +80,7 @@ kept_all None x y h = (refl, cc)
 kept_all (Some e) x y h = absurd cc
 
 -- what the limits let pass is within them
-pub IsSchema-of : (sites : ℕ) (fs : List FieldValue) (s : SchemaValue) → 1 ≤ sites → sites ≤ 16 → 1 ≤ length fs → length fs ≤ 64 → unless (first_fault [] fs) (record { sites = sites; fields = fs }) ≡ Ok s → IsSchema s
+pub IsSchema-of : (sites : ℕ) (fs : List FieldValue) (s : SchemaValue) → 1 ≤ sites → sites ≤ max_sites → 1 ≤ length fs → length fs ≤ max_fields → unless (first_fault [] fs) (record { sites = sites; fields = fs }) ≡ Ok s → IsSchema s
 IsSchema-of sites fs s some few some_field few_fields h =
     let made : SchemaValue = record { sites = sites; fields = fs } in
     let p = kept_all (first_fault [] fs) made s h in
@@ -91,7 +91,7 @@ made_of : {A B : Type 0} (g : A → B) (o : Option SchemaFault) (x y : A) → un
 made_of g None x y h = let same : x ≡ y = cc in ap (λ z. Ok (g z)) same
 made_of g (Some e) x y h = absurd cc
 
-pub IsSchema-from : (sites : ℕ) (fs kept : List FieldValue) → 1 ≤ sites → sites ≤ 16 → 1 ≤ length fs → length fs ≤ 64 → unless (first_fault [] fs) fs ≡ Ok kept → IsSchema (record { sites = sites; fields = kept })
+pub IsSchema-from : (sites : ℕ) (fs kept : List FieldValue) → 1 ≤ sites → sites ≤ max_sites → 1 ≤ length fs → length fs ≤ max_fields → unless (first_fault [] fs) fs ≡ Ok kept → IsSchema (record { sites = sites; fields = kept })
 IsSchema-from sites fs kept some few some_field few_fields h =
     let of : List FieldValue → SchemaValue = λ (k : List FieldValue). record { sites = sites; fields = k } in
     IsSchema-of sites fs (of kept) some few some_field few_fields (made_of of (first_fault [] fs) fs kept h)

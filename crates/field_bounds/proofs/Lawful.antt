@@ -1,13 +1,16 @@
 -- Effects that each were allowed: what they are, and that they leave no rights below zero.
-use Rattle.std.proofs.Common.{◌≡◌, ℕ, ◌<◌, ◌≤◌, Bool, true, false, not, ◌&&◌, ◌||◌, cond, List, [], ◌∷◌, length, refl, sym, ◌∙◌, ap, inl, inr, arith, eqb}
+use Rattle.std.proofs.Common.{◌≡◌, ℕ, ◌<◌, ◌≤◌, Bool, true, false, not, ◌&&◌, ◌||◌, cond, Option, Some, None, List, [], ◌∷◌, length, refl, sym, ◌∙◌, ap, inl, inr, arith, eqb}
 use Rattle.std.proofs.lemmas.Bool.{and_parts, eqb-true, cases_Bool, or_right}
 use Rattle.std.specs.Prelude.{unsigned_abs}
 use Rattle.field_bounds.specs.declared.kind.Kind.{Kind}
 use Rattle.field_bounds.specs.declared.kind.Kind.TheVariants.{Lower, Raise}
+use Rattle.field_bounds.specs.declared.id.SiteNo.{SiteNo}
 use Rattle.field_bounds.specs.declared.id.TxnId.{TxnId}
+use Rattle.field_bounds.specs.declared.effect.Effect.{Effect}
+use Rattle.field_bounds.specs.declared.effect.Effect.TheVariants.{Begins, Grants, Commits, Aborts, Gives, Accepts, Stops}
 use Rattle.field_bounds.specs.Kind.{kind_of, same_kind, other}
 use Rattle.field_bounds.specs.Schema.{SchemaValue}
-use Rattle.field_bounds.specs.Effects.{Base, Effect, Begins, Grants, Commits, Aborts, Gives, Accepts, Stops, same_txn, is_begun, is_committed, is_dropped, is_aborted, is_open, granted, rights_in, rights_out, share}
+use Rattle.field_bounds.specs.Effects.{Base, same_txn, is_begun, is_committed, is_dropped, is_aborted, is_open, granted, rights_in, rights_out, share}
 
 -- what an escrow that is granted keeps to
 pub record MayGrant (schema : SchemaValue) (base : Base) (es : List Effect) (txn : TxnId) (f : ℕ) (change : ℕ) (k : Kind) : Type 0 where
@@ -16,9 +19,14 @@ pub record MayGrant (schema : SchemaValue) (base : Base) (es : List Effect) (txn
   pub begun : is_begun txn es ≡ true
   pub opened : is_open txn es ≡ true
 
+-- what left went to a site of the schema: nothing is given up for good yet
+abbrev pub IsReceiver : SchemaValue → Option SiteNo → Type 0
+IsReceiver schema None = ⊥
+IsReceiver schema (Some site) = site.0 < schema.sites
+
 -- what a gift keeps to
-pub record MayGive (schema : SchemaValue) (base : Base) (es : List Effect) (to f : ℕ) (k : Kind) (amount : ℕ) : Type 0 where
-  pub to_site : to < schema.sites
+pub record MayGive (schema : SchemaValue) (base : Base) (es : List Effect) (to : Option SiteNo) (f : ℕ) (k : Kind) (amount : ℕ) : Type 0 where
+  pub to_site : IsReceiver schema to
   pub in_schema : f < length schema.fields
   pub enough : amount ≤ share base f k es
 
@@ -30,11 +38,11 @@ pub record MayAccept (schema : SchemaValue) (from f : ℕ) : Type 0 where
 -- what may take effect after these effects
 abbrev pub MayFollow : SchemaValue → Base → List Effect → Effect → Type 0
 MayFollow schema base es (Begins txn) = is_begun txn es ≡ false
-MayFollow schema base es (Grants txn f change) = MayGrant schema base es txn f (unsigned_abs change) (kind_of change)
+MayFollow schema base es (Grants txn field change) = MayGrant schema base es txn field.0 (unsigned_abs change) (kind_of change)
 MayFollow schema base es (Commits txn) = (is_begun txn es ≡ true) × (is_open txn es ≡ true)
 MayFollow schema base es (Aborts txn) = (is_begun txn es ≡ true) × (is_open txn es ≡ true)
-MayFollow schema base es (Gives to f k amount) = MayGive schema base es to f k amount
-MayFollow schema base es (Accepts from f k total) = MayAccept schema from f
+MayFollow schema base es (Gives to field k amount) = MayGive schema base es to field.0 k amount
+MayFollow schema base es (Accepts from field k total) = MayAccept schema from.0 field.0
 MayFollow schema base es Stops = Unit {0}
 
 abbrev pub IsLawful : SchemaValue → Base → List Effect → Type 0
@@ -64,7 +72,7 @@ counted-mono true true q n h = rw (h refl) (omega arith)
 pub granted-mono : (p q : TxnId → Bool) → ((id : TxnId) → p id ≡ true → q id ≡ true) → (f : ℕ) (k : Kind) (es : List Effect) → granted p f k es ≤ granted q f k es
 granted-mono p q h f k [] = omega arith
 granted-mono p q h f k (Grants txn field change ∷ es) =
-    omega (arith, granted-mono p q h f k es, counted-mono (eqb field f && same_kind (kind_of change) k) (p txn) (q txn) (unsigned_abs change) (h txn))
+    omega (arith, granted-mono p q h f k es, counted-mono (eqb field.0 f && same_kind (kind_of change) k) (p txn) (q txn) (unsigned_abs change) (h txn))
 granted-mono p q h f k (Begins txn ∷ es) = granted-mono p q h f k es
 granted-mono p q h f k (Commits txn ∷ es) = granted-mono p q h f k es
 granted-mono p q h f k (Aborts txn ∷ es) = granted-mono p q h f k es
@@ -103,7 +111,7 @@ pub covered : (schema : SchemaValue) (base : Base) (es : List Effect) → IsLawf
 covered schema base [] lawful f k = omega arith
 covered schema base (Begins txn ∷ es) lawful f k = covered schema base es lawful.0 f k
 covered schema base (Grants txn field change ∷ es) lawful f k =
-    omega (arith, covered schema base es lawful.0 f k, taken (λ f' k'. share base f' k' es) field f (kind_of change) k true (unsigned_abs change) lawful.1.enough)
+    omega (arith, covered schema base es lawful.0 f k, taken (λ f' k'. share base f' k' es) field.0 f (kind_of change) k true (unsigned_abs change) lawful.1.enough)
 covered schema base (Commits txn ∷ es) lawful f k =
     omega (
       arith,
@@ -124,5 +132,5 @@ covered schema base (Stops ∷ es) lawful f k =
       granted-mono (λ id. is_aborted id es) (λ id. is_aborted id (Stops ∷ es)) (λ id. stays_dropped (is_committed id es) (is_dropped id es) (is_begun id es)) f k es,
     )
 covered schema base (Gives to field kind amount ∷ es) lawful f k =
-    omega (arith, covered schema base es lawful.0 f k, taken (λ f' k'. share base f' k' es) field f kind k true amount lawful.1.enough)
+    omega (arith, covered schema base es lawful.0 f k, taken (λ f' k'. share base f' k' es) field.0 f kind k true amount lawful.1.enough)
 covered schema base (Accepts from field kind total ∷ es) lawful f k = omega (arith, covered schema base es lawful.0 f k)

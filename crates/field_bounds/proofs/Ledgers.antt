@@ -1,56 +1,54 @@
 -- No site has accepted more than it was given.
-use Rattle.std.proofs.Common.{◌≡◌, ℕ, ◌≤◌, max, Bool, true, false, ◌&&◌, cond, List, [], ◌∷◌, refl, sym, ap, subst, inl, inr, arith, eqb, Some}
-use Rattle.std.proofs.lemmas.Bool.{cases_Bool, cases_eq, eq-eqb, eqb-true, and_parts, not-false}
+use Rattle.std.proofs.Common.{◌≡◌, ℕ, ◌≤◌, max, Bool, true, false, ◌&&◌, cond, List, [], ◌∷◌, refl, sym, ap, subst, inl, inr, arith, eqb, Option, Some, None}
+use Rattle.std.proofs.lemmas.Bool.{cases_Bool, cases_eq, eq-eqb, eqb-true, and_parts}
 use Rattle.field_bounds.specs.declared.kind.Kind.{Kind}
 use Rattle.field_bounds.specs.declared.kind.Kind.TheVariants.{Lower, Raise}
+use Rattle.field_bounds.specs.declared.id.FieldNo.{FieldNo}
 use Rattle.field_bounds.specs.declared.id.SiteNo.{SiteNo}
 use Rattle.field_bounds.specs.declared.entry.Statement.{Statement}
 use Rattle.field_bounds.specs.declared.entry.Command.{Command}
-use Rattle.field_bounds.specs.declared.entry.Command.TheVariants.{Begin, Escrow, Commit, Abort, Give, Restate, Accept, Restart}
+use Rattle.field_bounds.specs.declared.entry.Command.TheVariants.{Give, Restate, Accept}
 use Rattle.field_bounds.specs.declared.entry.Reply.{Reply}
-use Rattle.field_bounds.specs.declared.entry.Reply.TheVariants.{Begun, Granted, Committed, Aborted, Given, Stated, Accepted, Restarted, Unsure}
+use Rattle.field_bounds.specs.declared.entry.Reply.TheVariants.{Given, Stated, Accepted, Restarted, Unsure}
 use Rattle.field_bounds.specs.declared.entry.Entry.{Entry}
+use Rattle.field_bounds.specs.declared.effect.Effect.{Effect}
+use Rattle.field_bounds.specs.declared.effect.Effect.TheVariants.{Gives, Accepts}
 use Rattle.field_bounds.specs.Kind.{same_kind}
 use Rattle.field_bounds.specs.Schema.{SchemaValue}
-use Rattle.field_bounds.specs.Effects.{Base, Effect, Gives, after, effects, kept_before, says_kept, gifts, given, accepted, fresh}
-use Rattle.field_bounds.specs.Owed.{Place, place, refusals, Fits}
+use Rattle.field_bounds.specs.Effects.{Base, effect_of, counts, with_effect, after, effects, kept_before, says_kept, is_to, gifts, given, accepted, fresh}
+use Rattle.field_bounds.specs.Owed.{Place, place, Fits}
 use Rattle.field_bounds.specs.Statements.{told_by, IsIssued}
 use Rattle.field_bounds.specs.Central.{own, StatementRule, IsSound, given_between}
 use Rattle.field_bounds.proofs.Lawful.{same_kind-true}
-use Rattle.field_bounds.proofs.Refused.{answered, not_refused, NoneHolds}
+use Rattle.field_bounds.proofs.Refused.{answered, not_refused, accept_is_mine}
 use Rattle.field_bounds.proofs.Traces.{own_here, own_there, sound_front, sound_fits}
 
 -- ---- what was given only grows
 
-module _ (base : Base) (p : ℕ → Bool) (f : ℕ) (k : Kind) where
+all_count : (r : Reply) → counts true r ≡ true
+all_count Unsure = refl
+all_count r = refl
+
+module _ (base : Base) (p : Option SiteNo → Bool) (f : ℕ) (k : Kind) where
+  gifts_with : (counted : Bool) (effect : Option Effect) (es : List Effect) → gifts p f k es ≤ gifts p f k (with_effect counted effect es)
+  gifts_with counted None es = omega arith
+  gifts_with false (Some effect) es = omega arith
+  gifts_with true (Some (Gives to field kind amount)) es = omega arith
+  gifts_with true (Some effect) es = omega arith
+
   gifts_grow : (kept : Bool) (c : Command) (r : Reply) (es : List Effect) → gifts p f k es ≤ gifts p f k (after base kept c r es)
-  gifts_grow kept Begin (Begun txn) es = omega arith
-  gifts_grow kept (Escrow txn field change) Granted es = omega arith
-  gifts_grow kept (Commit txn) Committed es = omega arith
-  gifts_grow true (Commit txn) Unsure es = omega arith
-  gifts_grow false (Commit txn) Unsure es = omega arith
-  gifts_grow kept (Abort txn) Aborted es = omega arith
-  gifts_grow kept (Give to field kind amount) (Given total) es = omega arith
-  gifts_grow true (Give to field kind amount) Unsure es = omega arith
-  gifts_grow false (Give to field kind amount) Unsure es = omega arith
-  gifts_grow kept (Accept told) (Accepted gain) es = omega arith
-  gifts_grow true (Accept told) Unsure es = omega arith
-  gifts_grow false (Accept told) Unsure es = omega arith
-  gifts_grow kept Restart (Restarted epoch found) es = omega arith
-  gifts_grow kept c r es = omega arith
+  gifts_grow kept c r es = gifts_with (counts kept r) (effect_of c r) es
+
+  more_with : (few many : Bool) (effect : Option Effect) (less more : List Effect) → (few ≡ true → many ≡ true) → gifts p f k less ≤ gifts p f k more
+      → gifts p f k (with_effect few effect less) ≤ gifts p f k (with_effect many effect more)
+  more_with few many None less more counted h = h
+  more_with true false (Some effect) less more counted h = cc (counted refl)
+  more_with true true (Some (Gives to field kind amount)) less more counted h = omega (arith, h)
+  more_with true true (Some effect) less more counted h = h
+  more_with false many (Some effect) less more counted h = omega (arith, h, gifts_with many (Some effect) more)
 
   kept_more : (c : Command) (r : Reply) (less more : List Effect) → gifts p f k less ≤ gifts p f k more → gifts p f k (after base false c r less) ≤ gifts p f k (after base true c r more)
-  kept_more Begin (Begun txn) less more h = h
-  kept_more (Escrow txn field change) Granted less more h = h
-  kept_more (Commit txn) Committed less more h = h
-  kept_more (Commit txn) Unsure less more h = h
-  kept_more (Abort txn) Aborted less more h = h
-  kept_more (Give to field kind amount) (Given total) less more h = omega (arith, h)
-  kept_more (Give to field kind amount) Unsure less more h = omega (arith, h)
-  kept_more (Accept told) (Accepted gain) less more h = h
-  kept_more (Accept told) Unsure less more h = h
-  kept_more Restart (Restarted epoch found) less more h = h
-  kept_more c r less more h = h
+  kept_more c r less more h = more_with (counts false r) (counts true r) (effect_of c r) less more (λ _. all_count r) h
 
   kept_step : (c : Command) (r : Reply) (o : List Entry) → gifts p f k (effects base false o) ≤ gifts p f k (effects base true o)
       → gifts p f k (after base false c r (effects base (kept_before false r) o)) ≤ gifts p f k (after base true c r (effects base (kept_before true r) o))
@@ -76,9 +74,9 @@ module _ (base : Base) (p : ℕ → Bool) (f : ℕ) (k : Kind) where
 
 pub given_grows : (schema : SchemaValue) (e : Entry) (t : List Entry) (f : ℕ) (k : Kind) (from to : ℕ) → given_between schema t f k from to ≤ given_between schema (e ∷ t) f k from to
 given_grows schema e t f k from to =
-    let of : List Entry → ℕ = λ o. gifts (λ site. eqb site to) f k (effects (fresh schema from) false o) in
+    let of : List Entry → ℕ = λ o. gifts (is_to to) f k (effects (fresh schema from) false o) in
     elim (cases_eq e.site.0 from) [
-      | inl here ↦ omega (arith, ap of (own_here from e t here), gifts_after (fresh schema from) (λ site. eqb site to) f k e (own from t))
+      | inl here ↦ omega (arith, ap of (own_here from e t here), gifts_after (fresh schema from) (is_to to) f k e (own from t))
       | inr there ↦ omega (arith, ap of (own_there from e t there))
     ]
 
@@ -108,7 +106,7 @@ told_is_covered at from (Give to field kind amount) (Given total) told fits h =
     let made : Statement = record { from = from; to = to; field = field; kind = kind; total = total } in
     let is = given_total _ _ (answered at (Give to field kind amount) (Given total) fits refl).1 in
     let on = same_here field.0 kind to.0 in
-    let covers : total ≤ given at.base to.0 field.0 kind (Gives to.0 field.0 kind amount ∷ at.effects) = rw on (omega (arith, is)) in
+    let covers : total ≤ given at.base to.0 field.0 kind (Gives (Some to) field kind amount ∷ at.effects) = rw on (omega (arith, is)) in
     subst (λ (x : Statement). (x.from ≡ from) × IsCovered at (Give to field kind amount) (Given total) x) (some_same made told h) (refl, covers)
 told_is_covered at from (Restate to field kind) (Stated total) told fits h =
     let made : Statement = record { from = from; to = to; field = field; kind = kind; total = total } in
@@ -147,44 +145,30 @@ issued_is_covered schema (e ∷ t) sound told (inl now) =
 
 -- ---- what was accepted was told
 
--- of f, k and a site, no more than a bound is accepted, also by an answer in doubt
-abbrev pub AcceptsWithin : ℕ → ℕ → ℕ → Kind → Command → Reply → Type 0
-AcceptsWithin bound from f k (Accept told) (Accepted gain) = told.from.0 ≡ from → told.field.0 ≡ f → told.kind ≡ k → told.total ≤ bound
-AcceptsWithin bound from f k (Accept told) Unsure = told.from.0 ≡ from → told.field.0 ≡ f → told.kind ≡ k → told.total ≤ bound
-AcceptsWithin bound from f k c r = Unit {0}
+-- of f, k and a site, no more than a bound is accepted
+abbrev pub AcceptsWithin : ℕ → ℕ → ℕ → Kind → Option Effect → Type 0
+AcceptsWithin bound from f k (Some (Accepts site field kind total)) = site.0 ≡ from → field.0 ≡ f → kind ≡ k → total ≤ bound
+AcceptsWithin bound from f k effect = Unit {0}
 
 module _ (base : Base) (bound from f : ℕ) (k : Kind) where
-  merged : (told : Statement) (before : ℕ) → before ≤ bound → (told.from.0 ≡ from → told.field.0 ≡ f → told.kind ≡ k → told.total ≤ bound)
-      → cond (eqb told.field.0 f && same_kind told.kind k && eqb told.from.0 from) (max told.total before) before ≤ bound
-  merged told before low within =
-      elim (cases_Bool (eqb told.field.0 f && same_kind told.kind k && eqb told.from.0 from)) as (λ _. cond (eqb told.field.0 f && same_kind told.kind k && eqb told.from.0 from) (max told.total before) before ≤ bound) [
+  merged : (site : SiteNo) (field : FieldNo) (kind : Kind) (total before : ℕ) → before ≤ bound → (site.0 ≡ from → field.0 ≡ f → kind ≡ k → total ≤ bound)
+      → cond (eqb field.0 f && same_kind kind k && eqb site.0 from) (max total before) before ≤ bound
+  merged site field kind total before low within =
+      elim (cases_Bool (eqb field.0 f && same_kind kind k && eqb site.0 from)) as (λ _. cond (eqb field.0 f && same_kind kind k && eqb site.0 from) (max total before) before ≤ bound) [
         | inl on ↦
-            let parts = and_parts (eqb told.field.0 f && same_kind told.kind k) (eqb told.from.0 from) on in
-            let both = and_parts (eqb told.field.0 f) (same_kind told.kind k) parts.0 in
+            let parts = and_parts (eqb field.0 f && same_kind kind k) (eqb site.0 from) on in
+            let both = and_parts (eqb field.0 f) (same_kind kind k) parts.0 in
             let small = within (eqb-true _ _ parts.1) (eqb-true _ _ both.0) (same_kind-true _ _ both.1) in
             rw on (omega (arith, small))
         | inr off ↦ rw off low
       ]
 
-  accepted_after : (kept : Bool) (c : Command) (r : Reply) (es : List Effect) → accepted base from f k es ≤ bound → AcceptsWithin bound from f k c r → accepted base from f k (after base kept c r es) ≤ bound
-  accepted_after kept Begin (Begun txn) es low within = low
-  accepted_after kept (Escrow txn field change) Granted es low within = low
-  accepted_after kept (Commit txn) Committed es low within = low
-  accepted_after true (Commit txn) Unsure es low within = low
-  accepted_after false (Commit txn) Unsure es low within = low
-  accepted_after kept (Abort txn) Aborted es low within = low
-  accepted_after kept (Give to field kind amount) (Given total) es low within = low
-  accepted_after true (Give to field kind amount) Unsure es low within = low
-  accepted_after false (Give to field kind amount) Unsure es low within = low
-  accepted_after kept (Accept told) (Accepted gain) es low within = merged told (accepted base from f k es) low within
-  accepted_after true (Accept told) Unsure es low within = merged told (accepted base from f k es) low within
-  accepted_after false (Accept told) Unsure es low within = low
-  accepted_after kept Restart (Restarted epoch found) es low within = low
-  accepted_after kept c r es low within = low
-
--- an acceptance is for this site
-accept_is_mine : (at : Place) (told : Statement) → NoneHolds (refusals at (Accept told)) → told.to.0 ≡ at.site
-accept_is_mine at told none = eqb-true _ _ (not-false _ none.1.1.1.1.1.1.1.0)
+  accepted_after : (counted : Bool) (effect : Option Effect) (es : List Effect) → accepted base from f k es ≤ bound → AcceptsWithin bound from f k effect
+      → accepted base from f k (with_effect counted effect es) ≤ bound
+  accepted_after counted None es low within = low
+  accepted_after false (Some effect) es low within = low
+  accepted_after true (Some (Accepts site field kind total)) es low within = merged site field kind total (accepted base from f k es) low within
+  accepted_after true (Some effect) es low within = low
 
 module _ (schema : SchemaValue) (e : Entry) (t : List Entry) (sound : IsSound schema (e ∷ t)) (from f : ℕ) (k : Kind) where
   bounded : (told : Statement) → IsIssued told t → told.to.0 ≡ e.site.0 → told.from.0 ≡ from → told.field.0 ≡ f → told.kind ≡ k → told.total ≤ given_between schema (e ∷ t) f k from e.site.0
@@ -196,11 +180,12 @@ module _ (schema : SchemaValue) (e : Entry) (t : List Entry) (sound : IsSound sc
   abbrev here : Place
   here = place schema e.site.0 (fresh schema e.site.0) (own e.site.0 t)
 
-  accepts_within : (c : Command) (r : Reply) → Fits here c r → StatementRule t c r → AcceptsWithin (given_between schema (e ∷ t) f k from e.site.0) from f k c r
+  accepts_within : (c : Command) (r : Reply) → Fits here c r → StatementRule t c r → AcceptsWithin (given_between schema (e ∷ t) f k from e.site.0) from f k (effect_of c r)
   accepts_within (Accept told) (Accepted gain) fits issued =
       bounded told issued (accept_is_mine here told (not_refused here (Accept told) (Accepted gain) fits refl))
   accepts_within (Accept told) Unsure fits issued =
       bounded told issued (accept_is_mine here told (not_refused here (Accept told) Unsure fits refl))
+  accepts_within c Unsure fits rule = tt
   accepts_within c r fits rule = tt
 
 -- no site has accepted more than it was given, whatever is kept of what is in doubt
@@ -218,7 +203,7 @@ accepted_is_given schema (e ∷ t) sound kept f k from to =
           let before = accepted_is_given schema t front (kept_before kept e.reply) f k from s in
           let low : accepted (fresh schema s) from f k was ≤ most s = omega (arith, before, given_grows schema e t f k from s) in
           let step : IsLow s (e ∷ own s t) =
-          accepted_after (fresh schema s) (most s) from f k kept e.command e.reply was low
+          accepted_after (fresh schema s) (most s) from f k (counts kept e.reply) (effect_of e.command e.reply) was low
           (accepts_within schema e t sound from f k e.command e.reply (sound_fits schema e t sound) sound.statements.1) in
           subst (λ (x : ℕ). IsLow x (own x (e ∷ t))) here (subst (λ (o : List Entry). IsLow s o) (sym (own_here s e t refl)) step)
       | inr there ↦

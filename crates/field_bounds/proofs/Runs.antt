@@ -1,16 +1,18 @@
 -- What took effect in a run was allowed, whatever is said of what is in doubt.
-use Rattle.std.proofs.Common.{◌≡◌, ℕ, ◌+◌, ◌<◌, ◌≤◌, Bool, true, false, cond, None, List, ◌∷◌, refl, sym, ap, inl, inr, arith}
-use Rattle.std.proofs.lemmas.Bool.{cases_Bool, ltb-false, or_cases, or_parts}
+use Rattle.std.proofs.Common.{◌≡◌, ℕ, ◌+◌, ◌<◌, ◌≤◌, Bool, true, false, cond, Some, None, List, ◌∷◌, refl, sym, ap, inl, inr, arith}
+use Rattle.std.proofs.lemmas.Bool.{cases_Bool, or_cases, or_parts}
 use Rattle.field_bounds.specs.declared.id.TxnId.{TxnId}
 use Rattle.field_bounds.specs.declared.entry.Command.{Command}
 use Rattle.field_bounds.specs.declared.entry.Command.TheVariants.{Begin, Escrow, Commit, Abort, Give, Restate, Accept, Read, Share, Restart}
 use Rattle.field_bounds.specs.declared.entry.Reply.TheVariants.{Unsure}
 use Rattle.field_bounds.specs.declared.entry.Entry.{Entry}
+use Rattle.field_bounds.specs.declared.effect.Effect.{Effect}
+use Rattle.field_bounds.specs.declared.effect.Effect.TheVariants.{Begins, Grants, Commits, Aborts, Gives, Accepts, Stops}
 use Rattle.field_bounds.specs.Schema.{SchemaValue}
-use Rattle.field_bounds.specs.Effects.{Base, Effect, Begins, Grants, Commits, Aborts, Gives, Accepts, Stops, same_txn, is_begun, is_committed, is_dropped, is_open, after, effects}
+use Rattle.field_bounds.specs.Effects.{Base, same_txn, is_begun, is_committed, is_dropped, is_open, after, effects}
 use Rattle.field_bounds.specs.Owed.{Place, place, refusals, first, answer, epoch_of, count_since, count_after, is_begun_reply, IsRun}
 use Rattle.field_bounds.proofs.Lawful.{IsLawful, same_txn-true, open_parts}
-use Rattle.field_bounds.proofs.Refused.{none_holds, begun_and_open, is_below}
+use Rattle.field_bounds.proofs.Refused.{none_holds, escrow_is_in_schema, escrow_is_opened, escrow_is_enough, commit_is_opened, abort_is_opened, give_is_to_a_site, give_is_in_schema, give_is_enough, accept_is_from_a_site, accept_is_in_schema}
 use Rattle.field_bounds.proofs.Doubt.{run_holds}
 
 -- every transaction begun so far stands in this epoch or an earlier one; in this one it has a number given out, and in an
@@ -109,39 +111,39 @@ module _ (schema : SchemaValue) (s : ℕ) (base : Base) (o : List Entry) where
       let begun = numbered_more epoch (count + 1) (1 + count) (Begins (next_id epoch count) ∷ es) (omega arith) (numbered_begin epoch count es l.numbered) in
       (record { numbered = begun; lawful = (l.lawful, next_is_new epoch count es l.numbered) }, l)
   carries (Escrow txn field change) h kept l =
-      let none = (none_holds (refusals at (Escrow txn field change)) h).1 in
-      let both = begun_and_open (is_begun txn es) (is_open txn es) none.1.0 in
-      let may : Now count (Grants txn field.0 change ∷ es) =
+      let none = none_holds (refusals at (Escrow txn field change)) h in
+      let both = escrow_is_opened at txn field change none in
+      let may : Now count (Grants txn field change ∷ es) =
       record {
         numbered = record { epochs = l.numbered.epochs; numbers = l.numbered.numbers; current = l.numbered.current };
-        lawful = (l.lawful, record { in_schema = is_below _ _ none.0; enough = ltb-false _ _ none.1.1.1.1.0; begun = both.0; opened = both.1 });
+        lawful = (l.lawful, record { in_schema = escrow_is_in_schema at txn field change none; enough = escrow_is_enough at txn field change none; begun = both.0; opened = both.1 });
       } in
-      (still (Grants txn field.0 change ∷ es) may, l)
+      (still (Grants txn field change ∷ es) may, l)
   carries (Commit txn) h kept l =
-      let both = begun_and_open (is_begun txn es) (is_open txn es) (none_holds (refusals at (Commit txn)) h).1.0 in
+      let both = commit_is_opened at txn (none_holds (refusals at (Commit txn)) h) in
       let may : Now count (Commits txn ∷ es) =
       record { numbered = record { epochs = l.numbered.epochs; numbers = l.numbered.numbers; current = l.numbered.current }; lawful = (l.lawful, both) } in
       (still (Commits txn ∷ es) may, either kept (Commits txn ∷ es) may l)
   carries (Abort txn) h kept l =
-      let both = begun_and_open (is_begun txn es) (is_open txn es) (none_holds (refusals at (Abort txn)) h).1.0 in
+      let both = abort_is_opened at txn (none_holds (refusals at (Abort txn)) h) in
       (still (Aborts txn ∷ es) (record { numbered = numbered_abort epoch count txn es l.numbered; lawful = (l.lawful, both) }), l)
   carries (Give to field kind amount) h kept l =
-      let none = (none_holds (refusals at (Give to field kind amount)) h).1 in
-      let more : List Effect = Gives to.0 field.0 kind amount ∷ es in
+      let none = none_holds (refusals at (Give to field kind amount)) h in
+      let more : List Effect = Gives (Some to) field kind amount ∷ es in
       let may : Now count more =
       record {
         numbered = record { epochs = l.numbered.epochs; numbers = l.numbered.numbers; current = l.numbered.current };
-        lawful = (l.lawful, record { to_site = is_below _ _ none.0; in_schema = is_below _ _ none.1.0; enough = ltb-false _ _ none.1.1.1.1.0 });
+        lawful = (l.lawful, record { to_site = give_is_to_a_site at to field kind amount none; in_schema = give_is_in_schema at to field kind amount none; enough = give_is_enough at to field kind amount none });
       } in
       (still more may, either kept more may l)
   carries (Restate to field kind) h kept l = (still es l, l)
   carries (Accept told) h kept l =
-      let none = (none_holds (refusals at (Accept told)) h).1 in
-      let more : List Effect = Accepts told.from.0 told.field.0 told.kind told.total ∷ es in
+      let none = none_holds (refusals at (Accept told)) h in
+      let more : List Effect = Accepts told.from told.field told.kind told.total ∷ es in
       let may : Now count more =
       record {
         numbered = record { epochs = l.numbered.epochs; numbers = l.numbered.numbers; current = l.numbered.current };
-        lawful = (l.lawful, record { from_site = is_below _ _ none.0; in_schema = is_below _ _ none.1.1.0 });
+        lawful = (l.lawful, record { from_site = accept_is_from_a_site at told none; in_schema = accept_is_in_schema at told none });
       } in
       (still more may, either kept more may l)
   carries (Read field) h kept l = (still es l, l)

@@ -1,12 +1,14 @@
 -- How the sums of each site are tied to each other.
-use Rattle.std.proofs.Common.{◌≡◌, ℕ, ◌+◌, ◌-◌, ◌≢◌, max, Bool, true, false, not, ◌&&◌, cond, List, [], ◌∷◌, refl, sym, arith, eqb}
+use Rattle.std.proofs.Common.{◌≡◌, ℕ, ◌+◌, ◌-◌, ◌≢◌, max, Bool, true, false, not, Some, None, ◌&&◌, cond, List, [], ◌∷◌, refl, sym, arith, eqb}
 use Rattle.std.proofs.lemmas.Bool.{eq-eqb, ne_eqb}
 use Rattle.std.specs.Prelude.{unsigned_abs}
 use Rattle.field_bounds.specs.declared.kind.Kind.{Kind}
 use Rattle.field_bounds.specs.declared.id.TxnId.{TxnId}
+use Rattle.field_bounds.specs.declared.effect.Effect.{Effect}
+use Rattle.field_bounds.specs.declared.effect.Effect.TheVariants.{Begins, Grants, Commits, Aborts, Gives, Accepts, Stops}
 use Rattle.field_bounds.specs.Kind.{kind_of, same_kind, other}
 use Rattle.field_bounds.specs.Schema.{SchemaValue}
-use Rattle.field_bounds.specs.Effects.{Base, Effect, Begins, Grants, Commits, Aborts, Gives, Accepts, Stops, is_committed, is_dropped, is_open, granted, gifts, accepted, gains, share}
+use Rattle.field_bounds.specs.Effects.{Base, is_committed, is_dropped, is_open, granted, is_to, gifts, accepted, gains, share}
 use Rattle.field_bounds.specs.Parts.{sum_below}
 use Rattle.field_bounds.proofs.Lawful.{IsLawful, covered}
 use Rattle.field_bounds.proofs.Sums.{sum_below_bump, sum_below-zero}
@@ -22,7 +24,7 @@ pub granted_split : (c d : TxnId → Bool) (f : ℕ) (k : Kind) (es : List Effec
     → granted (λ _. true) f k es ≡ granted (λ id. not (c id) && d id) f k es + granted c f k es + granted (λ id. not (c id) && not (d id)) f k es
 granted_split c d f k [] = refl
 granted_split c d f k (Grants txn field change ∷ es) =
-    omega (arith, granted_split c d f k es, split_step (eqb field f && same_kind (kind_of change) k) (c txn) (d txn) (unsigned_abs change))
+    omega (arith, granted_split c d f k es, split_step (eqb field.0 f && same_kind (kind_of change) k) (c txn) (d txn) (unsigned_abs change))
 granted_split c d f k (Begins txn ∷ es) = granted_split c d f k es
 granted_split c d f k (Commits txn ∷ es) = granted_split c d f k es
 granted_split c d f k (Aborts txn ∷ es) = granted_split c d f k es
@@ -49,19 +51,20 @@ gift_there false to amount = refl
 
 -- the gifts to all are the gifts to each
 pub gifts_split : (schema : SchemaValue) (base : Base) (es : List Effect) → IsLawful schema base es → (f : ℕ) (k : Kind)
-    → gifts (λ _. true) f k es ≡ sum_below schema.sites (λ to. gifts (λ site. eqb site to) f k es)
+    → gifts (λ _. true) f k es ≡ sum_below schema.sites (λ to. gifts (is_to to) f k es)
 gifts_split schema base [] lawful f k = sym (sum_below-zero schema.sites)
-gifts_split schema base (Gives to field kind amount ∷ es) lawful f k =
-    let on = eqb field f && same_kind kind k in
+gifts_split schema base (Gives None field kind amount ∷ es) lawful f k = absurd lawful.1.to_site
+gifts_split schema base (Gives (Some to) field kind amount ∷ es) lawful f k =
+    let on = eqb field.0 f && same_kind kind k in
     omega (
       arith,
       gifts_split schema base es lawful.0 f k,
       sum_below_bump schema.sites
-          (λ j. gifts (λ site. eqb site j) f k es)
-          (λ j. gifts (λ site. eqb site j) f k (Gives to field kind amount ∷ es))
-          to (cond (on && true) amount 0) lawful.1.to_site
-          (omega (arith, gift_there on to amount))
-          (λ j apart. omega (arith, gift_here on to j amount apart)),
+          (λ j. gifts (is_to j) f k es)
+          (λ j. gifts (is_to j) f k (Gives (Some to) field kind amount ∷ es))
+          to.0 (cond (on && true) amount 0) lawful.1.to_site
+          (omega (arith, gift_there on to.0 amount))
+          (λ j apart. omega (arith, gift_here on to.0 j amount apart)),
     )
 gifts_split schema base (Grants txn field change ∷ es) lawful f k = gifts_split schema base es lawful.0 f k
 gifts_split schema base (Begins txn ∷ es) lawful f k = gifts_split schema base es lawful.0 f k
@@ -83,16 +86,16 @@ pub gains_split : (schema : SchemaValue) (base : Base) (es : List Effect) → Is
     → gains base f k es + sum_below schema.sites (λ from. base.accepted from f k) ≡ sum_below schema.sites (λ from. accepted base from f k es)
 gains_split schema base [] lawful f k = omega arith
 gains_split schema base (Accepts site field kind total ∷ es) lawful f k =
-    let on = eqb field f && same_kind kind k in
+    let on = eqb field.0 f && same_kind kind k in
     omega (
       arith,
       gains_split schema base es lawful.0 f k,
       sum_below_bump schema.sites
           (λ from. accepted base from f k es)
           (λ from. accepted base from f k (Accepts site field kind total ∷ es))
-          site (cond on (total - accepted base site f k es) 0) lawful.1.from_site
-          (gain_there on site total (accepted base site f k es))
-          (λ from apart. gain_here on site from total (accepted base from f k es) apart),
+          site.0 (cond on (total - accepted base site.0 f k es) 0) lawful.1.from_site
+          (gain_there on site.0 total (accepted base site.0 f k es))
+          (λ from apart. gain_here on site.0 from total (accepted base from f k es) apart),
     )
 gains_split schema base (Gives to field kind amount ∷ es) lawful f k = gains_split schema base es lawful.0 f k
 gains_split schema base (Grants txn field change ∷ es) lawful f k = gains_split schema base es lawful.0 f k

@@ -1,14 +1,18 @@
 -- What one more effect does to the rights of a site.
-use Rattle.std.proofs.Common.{◌≡◌, ℕ, ◌+◌, ◌-◌, Bool, true, false, not, ◌&&◌, ◌||◌, cond, List, [], ◌∷◌, refl, sym, ◌∙◌, ap, subst, inl, inr, arith, eqb}
+use Rattle.std.proofs.Common.{◌≡◌, ℕ, ◌+◌, ◌-◌, Bool, true, false, not, Option, ◌&&◌, ◌||◌, cond, List, [], ◌∷◌, refl, sym, ◌∙◌, ap, subst, inl, inr, arith, eqb}
 use Rattle.std.proofs.lemmas.Bool.{cases_Bool, or_right, or_parts, eq-eqb, eqb-true, eqb-false, ne_eqb, false≢true}
 use Rattle.std.proofs.lemmas.List.Sums.{sum_by-cons}
 use Rattle.std.specs.Prelude.{unsigned_abs, sum_by}
 use Rattle.field_bounds.specs.declared.kind.Kind.{Kind}
+use Rattle.field_bounds.specs.declared.id.FieldNo.{FieldNo}
+use Rattle.field_bounds.specs.declared.id.SiteNo.{SiteNo}
 use Rattle.field_bounds.specs.declared.id.TxnId.{TxnId}
 use Rattle.field_bounds.specs.declared.entry.Escrow.{Escrow}
+use Rattle.field_bounds.specs.declared.effect.Effect.{Effect}
+use Rattle.field_bounds.specs.declared.effect.Effect.TheVariants.{Begins, Grants, Commits, Aborts, Gives, Accepts, Stops}
 use Rattle.field_bounds.specs.Kind.{kind_of, same_kind, other}
 use Rattle.field_bounds.specs.Schema.{SchemaValue}
-use Rattle.field_bounds.specs.Effects.{Base, Effect, Begins, Grants, Commits, Aborts, Gives, Accepts, Stops, same_txn, is_begun, is_committed, is_dropped, is_aborted, is_open, escrows_of, takes, granted, accepted, share, held}
+use Rattle.field_bounds.specs.Effects.{Base, same_txn, is_begun, is_committed, is_dropped, is_aborted, is_open, escrows_of, takes, granted, accepted, share, held}
 use Rattle.field_bounds.proofs.Lawful.{IsLawful, covered, open_parts, same_txn-true}
 
 both_step : (on p q : Bool) (n : ℕ) → (p ≡ true → q ≡ false) → cond (on && (p || q)) n 0 ≡ cond (on && p) n 0 + cond (on && q) n 0
@@ -20,7 +24,7 @@ both_step true false q n h = omega arith
 pub granted-or : (p q : TxnId → Bool) → ((id : TxnId) → p id ≡ true → q id ≡ false) → (f : ℕ) (k : Kind) (es : List Effect) → granted (λ id. p id || q id) f k es ≡ granted p f k es + granted q f k es
 granted-or p q h f k [] = refl
 granted-or p q h f k (Grants txn field change ∷ es) =
-    omega (arith, granted-or p q h f k es, both_step (eqb field f && same_kind (kind_of change) k) (p txn) (q txn) (unsigned_abs change) (h txn))
+    omega (arith, granted-or p q h f k es, both_step (eqb field.0 f && same_kind (kind_of change) k) (p txn) (q txn) (unsigned_abs change) (h txn))
 granted-or p q h f k (Begins txn ∷ es) = granted-or p q h f k es
 granted-or p q h f k (Commits txn ∷ es) = granted-or p q h f k es
 granted-or p q h f k (Aborts txn ∷ es) = granted-or p q h f k es
@@ -33,7 +37,7 @@ pub granted-same : (schema : SchemaValue) (base : Base) (p q : TxnId → Bool) (
 granted-same schema base p q f k [] lawful h = refl
 granted-same schema base p q f k (Grants txn field change ∷ es) lawful h =
     let rest = granted-same schema base p q f k es lawful.0 h in
-    let here = ap (λ (b : Bool). cond (eqb field f && same_kind (kind_of change) k && b) (unsigned_abs change) 0) (h txn lawful.1.begun) in
+    let here = ap (λ (b : Bool). cond (eqb field.0 f && same_kind (kind_of change) k && b) (unsigned_abs change) 0) (h txn lawful.1.begun) in
     omega (arith, rest, here)
 granted-same schema base p q f k (Begins txn ∷ es) lawful h = granted-same schema base p q f k es lawful.0 (λ id begun. h id (or_right (same_txn txn id) (is_begun id es) begun))
 granted-same schema base p q f k (Commits txn ∷ es) lawful h = granted-same schema base p q f k es lawful.0 h
@@ -137,7 +141,7 @@ module _ (schema : SchemaValue) (base : Base) (es : List Effect) (lawful : IsLaw
       )
 
   -- an escrow that is granted is taken from the share and held
-  pub share_grant : (txn : TxnId) (e : Escrow) → is_open txn es ≡ true → share base f k (Grants txn e.field.0 e.change ∷ es) ≡ share base f k es - takes f k e
+  pub share_grant : (txn : TxnId) (e : Escrow) → is_open txn es ≡ true → share base f k (Grants txn e.field e.change ∷ es) ≡ share base f k es - takes f k e
   share_grant txn e opened =
       let fate = open_parts (is_committed txn es) (is_dropped txn es) opened in
       let aborted : is_aborted txn es ≡ false = rw (fate.0, fate.1) refl in
@@ -148,19 +152,19 @@ module _ (schema : SchemaValue) (base : Base) (es : List Effect) (lawful : IsLaw
         weigh_true (eqb e.field.0 f && same_kind (kind_of e.change) k) (unsigned_abs e.change),
       )
 
-  pub held_grant : (txn : TxnId) (e : Escrow) → is_open txn es ≡ true → held f k (Grants txn e.field.0 e.change ∷ es) ≡ held f k es + takes f k e
+  pub held_grant : (txn : TxnId) (e : Escrow) → is_open txn es ≡ true → held f k (Grants txn e.field e.change ∷ es) ≡ held f k es + takes f k e
   held_grant txn e opened =
       omega (arith, weigh_one (eqb e.field.0 f && same_kind (kind_of e.change) k) (is_open txn es) (unsigned_abs e.change) opened)
 
   -- a gift leaves the share, and nothing else does
-  pub share_give : (to field : ℕ) (kind : Kind) (amount : ℕ)
-      → share base f k (Gives to field kind amount ∷ es) ≡ share base f k es - cond (eqb field f && same_kind kind k) amount 0
+  pub share_give : (to : Option SiteNo) (field : FieldNo) (kind : Kind) (amount : ℕ)
+      → share base f k (Gives to field kind amount ∷ es) ≡ share base f k es - cond (eqb field.0 f && same_kind kind k) amount 0
   share_give to field kind amount =
-      omega (arith, covered schema base es lawful f k, weigh_true (eqb field f && same_kind kind k) amount)
+      omega (arith, covered schema base es lawful f k, weigh_true (eqb field.0 f && same_kind kind k) amount)
 
   -- a gain comes to the share
-  pub share_accept : (from field : ℕ) (kind : Kind) (total : ℕ)
-      → share base f k (Accepts from field kind total ∷ es) ≡ share base f k es + cond (eqb field f && same_kind kind k) (total - accepted base from f k es) 0
+  pub share_accept : (from : SiteNo) (field : FieldNo) (kind : Kind) (total : ℕ)
+      → share base f k (Accepts from field kind total ∷ es) ≡ share base f k es + cond (eqb field.0 f && same_kind kind k) (total - accepted base from.0 f k es) 0
   share_accept from field kind total = omega (arith, covered schema base es lawful f k)
 
 -- ---- the escrows of one transaction
@@ -179,8 +183,8 @@ sum_by_case false f k e rest = omega arith
 pub of_txn_is : (txn : TxnId) (f : ℕ) (k : Kind) (es : List Effect) → of_txn txn f k es ≡ sum_by (takes f k) (escrows_of txn es)
 of_txn_is id f k [] = refl
 of_txn_is id f k (Grants txn field change ∷ es) =
-    let e : Escrow = record { field = record { 0 = field }; change = change } in
-    let on = eqb field f && same_kind (kind_of change) k in
+    let e : Escrow = record { field = field; change = change } in
+    let on = eqb field.0 f && same_kind (kind_of change) k in
     omega (arith, of_txn_is id f k es, weigh_case on (same_txn id txn) (unsigned_abs change), sum_by_case (same_txn id txn) f k e (escrows_of id es))
 of_txn_is id f k (Begins txn ∷ es) = of_txn_is id f k es
 of_txn_is id f k (Commits txn ∷ es) = of_txn_is id f k es

@@ -4,9 +4,11 @@ use Rattle.std.proofs.lemmas.Bool.{eq-eqb, or_right}
 use Rattle.std.specs.Prelude.{unsigned_abs}
 use Rattle.field_bounds.specs.declared.kind.Kind.{Kind}
 use Rattle.field_bounds.specs.declared.id.TxnId.{TxnId}
+use Rattle.field_bounds.specs.declared.effect.Effect.{Effect}
+use Rattle.field_bounds.specs.declared.effect.Effect.TheVariants.{Begins, Grants, Commits, Aborts, Gives, Accepts, Stops}
 use Rattle.field_bounds.specs.Kind.{kind_of, same_kind, other}
 use Rattle.field_bounds.specs.Schema.{SchemaValue}
-use Rattle.field_bounds.specs.Effects.{Base, Effect, Begins, Grants, Commits, Aborts, Gives, Accepts, Stops, same_txn, is_begun, is_committed, is_dropped, is_aborted, is_open, begun, open_txns, granted, gifts, gains, share, held, own_rights}
+use Rattle.field_bounds.specs.Effects.{Base, same_txn, is_begun, is_committed, is_dropped, is_aborted, is_open, begun, open_txns, granted, gifts, gains, share, held, own_rights}
 use Rattle.field_bounds.proofs.Lawful.{IsLawful, covered, open_parts}
 use Rattle.field_bounds.proofs.Shares.{balance}
 use Rattle.field_bounds.proofs.Steps.{granted-or, granted-same, weigh_none, of_txn, fate_here}
@@ -49,7 +51,7 @@ weigh_false false n = refl
 
 granted-none : (f : ℕ) (k : Kind) (es : List Effect) → granted (λ _. false) f k es ≡ 0
 granted-none f k [] = refl
-granted-none f k (Grants txn field change ∷ es) = omega (arith, granted-none f k es, weigh_false (eqb field f && same_kind (kind_of change) k) (unsigned_abs change))
+granted-none f k (Grants txn field change ∷ es) = omega (arith, granted-none f k es, weigh_false (eqb field.0 f && same_kind (kind_of change) k) (unsigned_abs change))
 granted-none f k (Begins txn ∷ es) = granted-none f k es
 granted-none f k (Commits txn ∷ es) = granted-none f k es
 granted-none f k (Aborts txn ∷ es) = granted-none f k es
@@ -112,7 +114,7 @@ kept_is_committed schema base (Grants txn field change ∷ es) lawful f k =
     omega (
       arith,
       kept_is_committed schema base es lawful.0 f k,
-      weigh_none (eqb field f && same_kind (kind_of change) k) (is_committed txn es) (unsigned_abs change) (open_parts (is_committed txn es) (is_dropped txn es) lawful.1.opened).0,
+      weigh_none (eqb field.0 f && same_kind (kind_of change) k) (is_committed txn es) (unsigned_abs change) (open_parts (is_committed txn es) (is_dropped txn es) lawful.1.opened).0,
     )
 kept_is_committed schema base (Begins txn ∷ es) lawful f k = kept_is_committed schema base es lawful.0 f k
 kept_is_committed schema base (Aborts txn ∷ es) lawful f k = kept_is_committed schema base es lawful.0 f k

@@ -1,5 +1,5 @@
 -- Sums over one trace of all sites, site by site.
-use Rattle.std.proofs.Common.{◌≡◌, ℕ, suc, ◌+◌, ◌≤◌, ◌≢◌, Bool, true, false, ◌&&◌, ◌||◌, cond, List, [], ◌∷◌, refl, sym, zero-add, ◌∙◌, ap, arith, eqb, subst}
+use Rattle.std.proofs.Common.{◌≡◌, ℕ, suc, ◌+◌, ◌≤◌, ◌≢◌, Bool, true, false, ◌&&◌, ◌||◌, cond, Option, Some, None, List, [], ◌∷◌, refl, sym, zero-add, ◌∙◌, ap, arith, eqb, subst}
 use Rattle.std.proofs.lemmas.Bool.{eq-eqb, ne_eqb}
 use Rattle.std.specs.Prelude.{ℤ, pos, negsuc, ◌-ℤ◌, unsigned_abs}
 use Rattle.std.proofs.lemmas.Int.{ints}
@@ -7,14 +7,16 @@ use Rattle.field_bounds.specs.declared.kind.Kind.{Kind}
 use Rattle.field_bounds.specs.declared.kind.Kind.TheVariants.{Lower, Raise}
 use Rattle.field_bounds.specs.declared.id.TxnId.{TxnId}
 use Rattle.field_bounds.specs.declared.entry.Command.{Command}
-use Rattle.field_bounds.specs.declared.entry.Command.TheVariants.{Begin, Escrow, Commit, Abort, Give, Accept, Restart}
+use Rattle.field_bounds.specs.declared.entry.Command.TheVariants.{Escrow}
 use Rattle.field_bounds.specs.declared.entry.Reply.{Reply}
-use Rattle.field_bounds.specs.declared.entry.Reply.TheVariants.{Begun, Granted, Committed, Aborted, Given, Accepted, Restarted, Unsure}
+use Rattle.field_bounds.specs.declared.entry.Reply.TheVariants.{Granted}
 use Rattle.field_bounds.specs.declared.entry.Entry.{Entry}
+use Rattle.field_bounds.specs.declared.effect.Effect.{Effect}
+use Rattle.field_bounds.specs.declared.effect.Effect.TheVariants.{Grants}
 use Rattle.field_bounds.specs.Kind.{kind_of, same_kind}
 use Rattle.field_bounds.specs.Schema.{SchemaValue}
 use Rattle.field_bounds.specs.Parts.{sum_below}
-use Rattle.field_bounds.specs.Effects.{Base, Effect, fresh, after, effects, kept_before, granted}
+use Rattle.field_bounds.specs.Effects.{Base, fresh, effect_of, counts, with_effect, after, effects, kept_before, granted}
 use Rattle.field_bounds.specs.Owed.{place, Fits, IsRun}
 use Rattle.field_bounds.specs.Central.{own, size_of, sizes, change_of, changes, IsAtSites, IsSound}
 use Rattle.field_bounds.proofs.Sums.{sum_below_bump, sum_below-zero}
@@ -44,23 +46,23 @@ sound_fits schema e t sound =
 
 -- ---- sizes
 
+-- the effect is a grant
+abbrev grants : Option Effect → Bool
+grants (Some (Grants txn field change)) = true
+grants effect = false
+
 module _ (base : Base) (p : TxnId → Bool) (f : ℕ) (k : Kind) where
+  sizes_pass : (counted : Bool) (effect : Option Effect) (es : List Effect) → grants effect ≡ false → granted p f k (with_effect counted effect es) ≡ granted p f k es
+  sizes_pass counted None es h = refl
+  sizes_pass counted (Some (Grants txn field change)) es h = cc
+  sizes_pass true (Some effect) es h = refl
+  sizes_pass false (Some effect) es h = refl
+
   after_sizes : (kept : Bool) (s : ℕ) (c : Command) (r : Reply) (es : List Effect)
       → granted p f k (after base kept c r es) ≡ size_of (λ _. p) f k s c r + granted p f k es
   after_sizes kept s (Escrow txn field change) Granted es = refl
-  after_sizes kept s Begin (Begun txn) es = sym (zero-add (granted p f k es))
-  after_sizes kept s (Commit txn) Committed es = sym (zero-add (granted p f k es))
-  after_sizes true s (Commit txn) Unsure es = sym (zero-add (granted p f k es))
-  after_sizes false s (Commit txn) Unsure es = sym (zero-add (granted p f k es))
-  after_sizes kept s (Abort txn) Aborted es = sym (zero-add (granted p f k es))
-  after_sizes kept s (Give to field kind amount) (Given total) es = sym (zero-add (granted p f k es))
-  after_sizes true s (Give to field kind amount) Unsure es = sym (zero-add (granted p f k es))
-  after_sizes false s (Give to field kind amount) Unsure es = sym (zero-add (granted p f k es))
-  after_sizes kept s (Accept told) (Accepted gain) es = sym (zero-add (granted p f k es))
-  after_sizes true s (Accept told) Unsure es = sym (zero-add (granted p f k es))
-  after_sizes false s (Accept told) Unsure es = sym (zero-add (granted p f k es))
-  after_sizes kept s Restart (Restarted epoch found) es = sym (zero-add (granted p f k es))
-  after_sizes kept s c r es = sym (zero-add (granted p f k es))
+  after_sizes kept s c Granted es = sizes_pass true (effect_of c Granted) es refl ∙ sym (zero-add (granted p f k es))
+  after_sizes kept s c r es = sizes_pass (counts kept r) (effect_of c r) es refl ∙ sym (zero-add (granted p f k es))
 
   -- what took effect has the escrows that were granted, whatever is kept
   pub effects_sizes : (kept : Bool) (o : List Entry) → granted p f k (effects base kept o) ≡ sizes (λ _. p) f k o

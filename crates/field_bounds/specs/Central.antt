@@ -6,15 +6,16 @@ use Rattle.field_bounds.specs.declared.kind.Kind.TheVariants.{Lower, Raise}
 use Rattle.field_bounds.specs.declared.id.SiteNo.{SiteNo}
 use Rattle.field_bounds.specs.declared.id.TxnId.{TxnId}
 use Rattle.field_bounds.specs.declared.entry.Command.{Command}
-use Rattle.field_bounds.specs.declared.entry.Command.TheVariants.{Escrow, Give, Accept, Read, Restart}
+use Rattle.field_bounds.specs.declared.entry.Command.TheVariants.{Begin, Escrow, Commit, Abort, Give, Restate, Accept, Read, Share, Restart}
 use Rattle.field_bounds.specs.declared.entry.Reply.{Reply}
 use Rattle.field_bounds.specs.declared.entry.Reply.TheVariants.{Granted, Accepted, Between, Unsure, Refused}
 use Rattle.field_bounds.specs.declared.entry.Refusal.TheVariants.{Short}
 use Rattle.field_bounds.specs.declared.entry.Entry.{Entry}
+use Rattle.field_bounds.specs.declared.effect.Effect.{Effect}
 use Rattle.field_bounds.specs.Kind.{same_kind, kind_of}
 use Rattle.field_bounds.specs.Schema.{SchemaValue}
 use Rattle.field_bounds.specs.Parts.{field_at, sum_below}
-use Rattle.field_bounds.specs.Effects.{fresh, Effect, is_committed, is_open, given, accepted, share, effects}
+use Rattle.field_bounds.specs.Effects.{fresh, is_committed, is_open, given, accepted, share, effects}
 use Rattle.field_bounds.specs.Owed.{IsRun}
 use Rattle.field_bounds.specs.Statements.{IsIssued}
 
@@ -34,11 +35,23 @@ AreOf s (e ∷ t) = (e.site.0 ≡ s) × AreOf s t
 abbrev pub asked_of : Entry → SiteNo × Command
 asked_of e = (e.site, e.command)
 
+-- The reply where it is in doubt (this project).
+abbrev pub doubtful : Reply → Option Reply
+doubtful Unsure = Some Unsure
+doubtful reply = None
+
 -- The reply, where a site's entries alone don't tell it: one in doubt, or to a restart (this project).
 abbrev pub chosen_by : Command → Reply → Option Reply
+chosen_by Begin reply = doubtful reply
+chosen_by (Escrow txn field change) reply = doubtful reply
+chosen_by (Commit txn) reply = doubtful reply
+chosen_by (Abort txn) reply = doubtful reply
+chosen_by (Give to field kind amount) reply = doubtful reply
+chosen_by (Restate to field kind) reply = doubtful reply
+chosen_by (Accept told) reply = doubtful reply
+chosen_by (Read field) reply = doubtful reply
+chosen_by (Share field) reply = doubtful reply
 chosen_by Restart reply = Some reply
-chosen_by command Unsure = Some Unsure
-chosen_by command reply = None
 
 -- What an entry was asked, and the reply where that isn't told by the entries before it (this project).
 abbrev pub decided_of : Entry → (SiteNo × Command) × Option Reply
@@ -60,9 +73,18 @@ is_open_in schema t s txn = is_open txn (at_site schema t s)
 
 -- The size of an entry's escrow, if it was granted on field f, of kind k, to a transaction that passes (this project).
 abbrev pub size_of : (ℕ → TxnId → Bool) → ℕ → Kind → ℕ → Command → Reply → ℕ
+size_of p f k s Begin reply = 0
 size_of p f k s (Escrow txn field change) Granted =
     if (field.0 == f) && same_kind (kind_of change) k && p s txn then unsigned_abs change else 0
-size_of p f k s command reply = 0
+size_of p f k s (Escrow txn field change) reply = 0
+size_of p f k s (Commit txn) reply = 0
+size_of p f k s (Abort txn) reply = 0
+size_of p f k s (Give to field kind amount) reply = 0
+size_of p f k s (Restate to field kind) reply = 0
+size_of p f k s (Accept told) reply = 0
+size_of p f k s (Read field) reply = 0
+size_of p f k s (Share field) reply = 0
+size_of p f k s Restart reply = 0
 
 -- The sizes of all such escrows of the trace, added up (this project).
 abbrev pub sizes : (ℕ → TxnId → Bool) → ℕ → Kind → List Entry → ℕ
@@ -71,8 +93,17 @@ sizes p f k (e ∷ t) = size_of p f k e.site.0 e.command e.reply + sizes p f k t
 
 -- The change of an entry's escrow, if it was granted on field f to a transaction that passes (this project).
 abbrev pub change_of : (ℕ → TxnId → Bool) → ℕ → ℕ → Command → Reply → ℤ
+change_of p f s Begin reply = pos 0
 change_of p f s (Escrow txn field change) Granted = if (field.0 == f) && p s txn then change else pos 0
-change_of p f s command reply = pos 0
+change_of p f s (Escrow txn field change) reply = pos 0
+change_of p f s (Commit txn) reply = pos 0
+change_of p f s (Abort txn) reply = pos 0
+change_of p f s (Give to field kind amount) reply = pos 0
+change_of p f s (Restate to field kind) reply = pos 0
+change_of p f s (Accept told) reply = pos 0
+change_of p f s (Read field) reply = pos 0
+change_of p f s (Share field) reply = pos 0
+change_of p f s Restart reply = pos 0
 
 -- The changes of all such escrows of the trace, added up (this project).
 abbrev pub changes : (ℕ → TxnId → Bool) → ℕ → List Entry → ℤ
@@ -105,19 +136,44 @@ is_committed_by schema t chosen s txn = is_committed_in schema t s txn || (is_op
 abbrev pub outcome : SchemaValue → List Entry → ℕ → (ℕ → TxnId → Bool) → ℤ
 outcome schema t f chosen = (field_at schema f).value +ℤ changes (is_committed_by schema t chosen) f t
 
+-- ---- the bounds of a field in a trace
+
+-- The floor of a field after a trace, and its ceiling: those of the schema, as no command moves a bound yet (this project).
+abbrev pub floor_in : SchemaValue → List Entry → ℕ → ℤ
+floor_in schema t f = (field_at schema f).floor
+
+abbrev pub ceiling_in : SchemaValue → List Entry → ℕ → ℤ
+ceiling_in schema t f = (field_at schema f).ceiling
+
+-- Whichever open transactions are committed and whichever aborted, each field's value is left within its bounds: no
+-- outcome lies below the floor or above the ceiling (O'Neil 1986).
+abbrev pub OutcomesAreBounded : SchemaValue → List Entry → Type 0
+OutcomesAreBounded schema t =
+    (f : ℕ) (chosen : ℕ → TxnId → Bool) →
+    (floor_in schema t f ≤ℤ outcome schema t f chosen) × (outcome schema t f chosen ≤ℤ ceiling_in schema t f)
+
 -- ---- the rules of one entry, over the front before it
 
 -- One central store may grant a lowering that leaves the infimum at the floor or above, and a raising that leaves
 -- the supremum at the ceiling or below (O'Neil 1986).
 abbrev pub MayBeGranted : SchemaValue → List Entry → ℕ → Kind → ℕ → Type 0
-MayBeGranted schema t f Lower n = (field_at schema f).floor ≤ℤ (inf schema t f -ℤ pos n)
-MayBeGranted schema t f Raise n = (sup schema t f +ℤ pos n) ≤ℤ (field_at schema f).ceiling
+MayBeGranted schema t f Lower n = floor_in schema t f ≤ℤ (inf schema t f -ℤ pos n)
+MayBeGranted schema t f Raise n = (sup schema t f +ℤ pos n) ≤ℤ ceiling_in schema t f
 
 -- An escrow on a field of the schema is granted only where one central store may grant it (this project).
 abbrev pub GrantRule : SchemaValue → List Entry → Command → Reply → Type 0
+GrantRule schema t Begin reply = Unit {0}
 GrantRule schema t (Escrow txn field change) Granted =
     field.0 < length schema.fields → MayBeGranted schema t field.0 (kind_of change) (unsigned_abs change)
-GrantRule schema t command reply = Unit {0}
+GrantRule schema t (Escrow txn field change) reply = Unit {0}
+GrantRule schema t (Commit txn) reply = Unit {0}
+GrantRule schema t (Abort txn) reply = Unit {0}
+GrantRule schema t (Give to field kind amount) reply = Unit {0}
+GrantRule schema t (Restate to field kind) reply = Unit {0}
+GrantRule schema t (Accept told) reply = Unit {0}
+GrantRule schema t (Read field) reply = Unit {0}
+GrantRule schema t (Share field) reply = Unit {0}
+GrantRule schema t Restart reply = Unit {0}
 
 -- Of a field of the schema, the number told is the site's share of the kind, and less than was asked (this project).
 abbrev pub IsShortage : SchemaValue → List Entry → ℕ → ℕ → Kind → ℕ → ℕ → Type 0
@@ -126,22 +182,49 @@ IsShortage schema t s f k asked told =
 
 -- An escrow or a gift that is refused as short is told such a shortage (this project).
 abbrev pub ShortageRule : SchemaValue → List Entry → ℕ → Command → Reply → Type 0
+ShortageRule schema t s Begin reply = Unit {0}
 ShortageRule schema t s (Escrow txn field change) (Refused (Short told)) =
     IsShortage schema t s field.0 (kind_of change) (unsigned_abs change) told
+ShortageRule schema t s (Escrow txn field change) reply = Unit {0}
+ShortageRule schema t s (Commit txn) reply = Unit {0}
+ShortageRule schema t s (Abort txn) reply = Unit {0}
 ShortageRule schema t s (Give to field kind amount) (Refused (Short told)) = IsShortage schema t s field.0 kind amount told
-ShortageRule schema t s command reply = Unit {0}
+ShortageRule schema t s (Give to field kind amount) reply = Unit {0}
+ShortageRule schema t s (Restate to field kind) reply = Unit {0}
+ShortageRule schema t s (Accept told) reply = Unit {0}
+ShortageRule schema t s (Read field) reply = Unit {0}
+ShortageRule schema t s (Share field) reply = Unit {0}
+ShortageRule schema t s Restart reply = Unit {0}
 
 -- The interval that a read tells of a field of the schema holds the committed value (this project).
 abbrev pub IntervalRule : SchemaValue → List Entry → Command → Reply → Type 0
+IntervalRule schema t Begin reply = Unit {0}
+IntervalRule schema t (Escrow txn field change) reply = Unit {0}
+IntervalRule schema t (Commit txn) reply = Unit {0}
+IntervalRule schema t (Abort txn) reply = Unit {0}
+IntervalRule schema t (Give to field kind amount) reply = Unit {0}
+IntervalRule schema t (Restate to field kind) reply = Unit {0}
+IntervalRule schema t (Accept told) reply = Unit {0}
 IntervalRule schema t (Read field) (Between lo hi) =
     field.0 < length schema.fields → (lo ≤ℤ committed schema t field.0) × (committed schema t field.0 ≤ℤ hi)
-IntervalRule schema t command reply = Unit {0}
+IntervalRule schema t (Read field) reply = Unit {0}
+IntervalRule schema t (Share field) reply = Unit {0}
+IntervalRule schema t Restart reply = Unit {0}
 
 -- A statement that is accepted, or whose acceptance is in doubt, was issued before (this project).
 abbrev pub StatementRule : List Entry → Command → Reply → Type 0
+StatementRule t Begin reply = Unit {0}
+StatementRule t (Escrow txn field change) reply = Unit {0}
+StatementRule t (Commit txn) reply = Unit {0}
+StatementRule t (Abort txn) reply = Unit {0}
+StatementRule t (Give to field kind amount) reply = Unit {0}
+StatementRule t (Restate to field kind) reply = Unit {0}
 StatementRule t (Accept told) (Accepted gain) = IsIssued told t
 StatementRule t (Accept told) Unsure = IsIssued told t
-StatementRule t command reply = Unit {0}
+StatementRule t (Accept told) reply = Unit {0}
+StatementRule t (Read field) reply = Unit {0}
+StatementRule t (Share field) reply = Unit {0}
+StatementRule t Restart reply = Unit {0}
 
 -- An entry keeps the rules over the front before it, and its site is in the schema (this project).
 pub record KeepsRules (schema : SchemaValue) (t : List Entry) (e : Entry) : Type 0 where
@@ -200,8 +283,8 @@ shares schema t f k = sum_below schema.sites (λ s. share (fresh schema s) f k (
 -- of all sites and the rights in flight; and no site has accepted more from another than that gave it (Balegas and
 -- others 2015 for the floor, this project for both, for open escrows and for what is in flight).
 pub record IsConserved (schema : SchemaValue) (t : List Entry) : Type 0 where
-  pub lowering : (f : ℕ) → inf schema t f ≡ ((field_at schema f).floor +ℤ pos (shares schema t f Lower + in_flight schema t f Lower))
-  pub raising : (f : ℕ) → sup schema t f +ℤ pos (shares schema t f Raise + in_flight schema t f Raise) ≡ (field_at schema f).ceiling
+  pub lowering : (f : ℕ) → inf schema t f ≡ (floor_in schema t f +ℤ pos (shares schema t f Lower + in_flight schema t f Lower))
+  pub raising : (f : ℕ) → sup schema t f +ℤ pos (shares schema t f Raise + in_flight schema t f Raise) ≡ ceiling_in schema t f
   pub accepted : (f from to : ℕ) (k : Kind) → accepted_between schema t f k from to ≤ given_between schema t f k from to
 
 -- Rights are conserved in every front of a trace, from the empty one to the whole one (this project).

@@ -1,13 +1,16 @@
 -- What took effect at one site, and the sums over it: fates, ledgers and rights.
 -- Lists of entries and of effects have the newest first, so that the rest of a list is what came before its head.
-use Rattle.std.specs.Prelude.{ℕ, ◌+◌, ◌-◌, ◌==◌, max, ℤ, unsigned_abs, Bool, true, false, not, ◌&&◌, ◌||◌, if◌then◌else◌, List, [], ◌∷◌, filter}
+use Rattle.std.specs.Prelude.{ℕ, ◌+◌, ◌-◌, ◌==◌, max, unsigned_abs, Bool, true, false, not, Option, Some, None, ◌&&◌, ◌||◌, if◌then◌else◌, List, [], ◌∷◌, filter}
 use Rattle.field_bounds.specs.declared.kind.Kind.{Kind}
+use Rattle.field_bounds.specs.declared.id.SiteNo.{SiteNo}
 use Rattle.field_bounds.specs.declared.id.TxnId.{TxnId}
+use Rattle.field_bounds.specs.declared.effect.Effect.{Effect}
+use Rattle.field_bounds.specs.declared.effect.Effect.TheVariants.{Begins, Grants, Commits, Aborts, Gives, Accepts, Stops}
 use Rattle.field_bounds.specs.declared.entry.Escrow.{Escrow as EscrowOf}
 use Rattle.field_bounds.specs.declared.entry.Command.{Command}
-use Rattle.field_bounds.specs.declared.entry.Command.TheVariants.{Begin, Escrow, Commit, Abort, Give, Accept, Restart}
+use Rattle.field_bounds.specs.declared.entry.Command.TheVariants.{Begin, Escrow, Commit, Abort, Give, Restate, Accept, Read, Share, Restart}
 use Rattle.field_bounds.specs.declared.entry.Reply.{Reply}
-use Rattle.field_bounds.specs.declared.entry.Reply.TheVariants.{Begun, Granted, Committed, Aborted, Given, Accepted, Restarted, Unsure}
+use Rattle.field_bounds.specs.declared.entry.Reply.TheVariants.{Begun, Granted, Committed, Aborted, Given, Stated, Accepted, Between, Shares, Restarted, Unsure, StillDown, Refused}
 use Rattle.field_bounds.specs.declared.entry.Last.{Last}
 use Rattle.field_bounds.specs.declared.entry.Last.TheVariants.{Nothing, Kept, Lost}
 use Rattle.field_bounds.specs.declared.entry.Entry.{Entry}
@@ -27,16 +30,6 @@ pub record Base : Type 0 where
 -- The base of a site that has answered nothing yet: up, at epoch 0, with its parts, and nothing given or accepted.
 abbrev pub fresh : SchemaValue → ℕ → Base
 fresh schema s = record { up = true; epoch = 0; rights = part_of schema s; given = λ _ _ _. 0; accepted = λ _ _ _. 0 }
-
--- What an entry, once it took effect, did at its site (this project).
-pub data Effect : Type 0 where
-  Begins : (txn : TxnId) → Effect
-  Grants : (txn : TxnId) (field : ℕ) (change : ℤ) → Effect
-  Commits : (txn : TxnId) → Effect
-  Aborts : (txn : TxnId) → Effect
-  Gives : (to : ℕ) (field : ℕ) (kind : Kind) (amount : ℕ) → Effect
-  Accepts : (from : ℕ) (field : ℕ) (kind : Kind) (total : ℕ) → Effect
-  Stops : Effect
 
 -- Whether two ids name one transaction.
 abbrev pub same_txn : TxnId → TxnId → Bool
@@ -81,7 +74,7 @@ open_txns es = filter (λ id. is_open id es) (begun es)
 abbrev pub escrows_of : TxnId → List Effect → List EscrowOf
 escrows_of id [] = []
 escrows_of id (Grants txn field change ∷ es) =
-    if same_txn id txn then record { field = record { 0 = field }; change = change } ∷ escrows_of id es else escrows_of id es
+    if same_txn id txn then record { field = field; change = change } ∷ escrows_of id es else escrows_of id es
 escrows_of id (_ ∷ es) = escrows_of id es
 
 -- ---- sums
@@ -94,27 +87,32 @@ takes f k e = if (e.field.0 == f) && same_kind (kind_of e.change) k then unsigne
 abbrev pub granted : (TxnId → Bool) → ℕ → Kind → List Effect → ℕ
 granted p f k [] = 0
 granted p f k (Grants txn field change ∷ es) =
-    (if (field == f) && same_kind (kind_of change) k && p txn then unsigned_abs change else 0) + granted p f k es
+    (if (field.0 == f) && same_kind (kind_of change) k && p txn then unsigned_abs change else 0) + granted p f k es
 granted p f k (_ ∷ es) = granted p f k es
 
--- The amounts given away of a kind on field f, to the sites that pass.
-abbrev pub gifts : (ℕ → Bool) → ℕ → Kind → List Effect → ℕ
+-- Whether what left went to site s: what left for good went to none.
+abbrev pub is_to : ℕ → Option SiteNo → Bool
+is_to s None = false
+is_to s (Some site) = site.0 == s
+
+-- The amounts of a kind on field f that left, to the receivers that pass.
+abbrev pub gifts : (Option SiteNo → Bool) → ℕ → Kind → List Effect → ℕ
 gifts p f k [] = 0
 gifts p f k (Gives to field kind amount ∷ es) =
-    (if (field == f) && same_kind kind k && p to then amount else 0) + gifts p f k es
+    (if (field.0 == f) && same_kind kind k && p to then amount else 0) + gifts p f k es
 gifts p f k (_ ∷ es) = gifts p f k es
 
 -- ---- ledgers (Balegas and others 2015: totals that only grow, merged by the greater)
 
 -- The total given to a site.
 abbrev pub given : Base → ℕ → ℕ → Kind → List Effect → ℕ
-given base to f k es = base.given to f k + gifts (λ site. site == to) f k es
+given base to f k es = base.given to f k + gifts (is_to to) f k es
 
 -- The greatest total accepted from a site.
 abbrev pub accepted : Base → ℕ → ℕ → Kind → List Effect → ℕ
 accepted base from f k [] = base.accepted from f k
 accepted base from f k (Accepts site field kind total ∷ es) =
-    if (field == f) && same_kind kind k && (site == from)
+    if (field.0 == f) && same_kind kind k && (site.0 == from)
     then max total (accepted base from f k es)
     else accepted base from f k es
 accepted base from f k (_ ∷ es) = accepted base from f k es
@@ -123,7 +121,7 @@ accepted base from f k (_ ∷ es) = accepted base from f k es
 abbrev pub gains : Base → ℕ → Kind → List Effect → ℕ
 gains base f k [] = 0
 gains base f k (Accepts site field kind total ∷ es) =
-    (if (field == f) && same_kind kind k then total - accepted base site f k es else 0) + gains base f k es
+    (if (field.0 == f) && same_kind kind k then total - accepted base site.0 f k es else 0) + gains base f k es
 gains base f k (_ ∷ es) = gains base f k es
 
 -- ---- the rights of a site (Balegas and others 2015: what was gained less what was spent; this project for the two kinds)
@@ -136,7 +134,7 @@ rights_in base f k es =
     + granted (λ id. is_committed id es) f (other k) es
     + gains base f k es
 
--- What took rights: every escrow that was granted, and every gift.
+-- What took rights: every escrow that was granted, and all that left.
 abbrev pub rights_out : ℕ → Kind → List Effect → ℕ
 rights_out f k es = granted (λ _. true) f k es + gifts (λ _. true) f k es
 
@@ -153,19 +151,53 @@ own_rights base f k es = share base f k es + held f k es
 
 -- ---- what took effect
 
+-- What a command does where it takes effect: with its answer, and in doubt where its answer may be so (this project).
+abbrev pub effect_of : Command → Reply → Option Effect
+effect_of Begin (Begun txn) = Some (Begins txn)
+effect_of Begin reply = None
+effect_of (Escrow txn field change) Granted = Some (Grants txn field change)
+effect_of (Escrow txn field change) reply = None
+effect_of (Commit txn) Committed = Some (Commits txn)
+effect_of (Commit txn) Unsure = Some (Commits txn)
+effect_of (Commit txn) reply = None
+effect_of (Abort txn) Aborted = Some (Aborts txn)
+effect_of (Abort txn) reply = None
+effect_of (Give to field kind amount) (Given total) = Some (Gives (Some to) field kind amount)
+effect_of (Give to field kind amount) Unsure = Some (Gives (Some to) field kind amount)
+effect_of (Give to field kind amount) reply = None
+effect_of (Restate to field kind) reply = None
+effect_of (Accept told) (Accepted gain) = Some (Accepts told.from told.field told.kind told.total)
+effect_of (Accept told) Unsure = Some (Accepts told.from told.field told.kind told.total)
+effect_of (Accept told) reply = None
+effect_of (Read field) reply = None
+effect_of (Share field) reply = None
+effect_of Restart (Restarted epoch found) = Some Stops
+effect_of Restart reply = None
+
+-- Whether what a reply answers counts: where it is in doubt, as it was kept, and always otherwise (this project).
+abbrev pub counts : Bool → Reply → Bool
+counts kept (Begun txn) = true
+counts kept Granted = true
+counts kept Committed = true
+counts kept Aborted = true
+counts kept (Given total) = true
+counts kept (Stated total) = true
+counts kept (Accepted gain) = true
+counts kept (Between lo hi) = true
+counts kept (Shares lower raise) = true
+counts kept (Restarted epoch found) = true
+counts kept Unsure = kept
+counts kept StillDown = true
+counts kept (Refused refusal) = true
+
+-- The effects with one more in front, if there is one and it counts.
+abbrev pub with_effect : Bool → Option Effect → List Effect → List Effect
+with_effect counted None es = es
+with_effect counted (Some effect) es = if counted then effect ∷ es else es
+
 -- The effects after a command that was answered; one in doubt took effect where it was kept (this project).
 abbrev pub after : Base → Bool → Command → Reply → List Effect → List Effect
-after base kept Begin (Begun txn) es = Begins txn ∷ es
-after base kept (Escrow txn field change) Granted es = Grants txn field.0 change ∷ es
-after base kept (Commit txn) Committed es = Commits txn ∷ es
-after base kept (Commit txn) Unsure es = if kept then Commits txn ∷ es else es
-after base kept (Abort txn) Aborted es = Aborts txn ∷ es
-after base kept (Give to field kind amount) (Given total) es = Gives to.0 field.0 kind amount ∷ es
-after base kept (Give to field kind amount) Unsure es = if kept then Gives to.0 field.0 kind amount ∷ es else es
-after base kept (Accept told) (Accepted gain) es = Accepts told.from.0 told.field.0 told.kind told.total ∷ es
-after base kept (Accept told) Unsure es = if kept then Accepts told.from.0 told.field.0 told.kind told.total ∷ es else es
-after base kept Restart (Restarted epoch found) es = Stops ∷ es
-after base kept command reply es = es
+after base kept command reply es = with_effect (counts kept reply) (effect_of command reply) es
 
 -- Whether a restart found that what was in doubt is kept.
 abbrev pub says_kept : Last → Bool
@@ -175,8 +207,19 @@ says_kept Lost = false
 
 -- Whether what stands in doubt before this reply was kept, if what stands in doubt after it was.
 abbrev pub kept_before : Bool → Reply → Bool
+kept_before kept (Begun txn) = kept
+kept_before kept Granted = kept
+kept_before kept Committed = kept
+kept_before kept Aborted = kept
+kept_before kept (Given total) = kept
+kept_before kept (Stated total) = kept
+kept_before kept (Accepted gain) = kept
+kept_before kept (Between lo hi) = kept
+kept_before kept (Shares lower raise) = kept
 kept_before kept (Restarted epoch found) = says_kept found
-kept_before kept reply = kept
+kept_before kept Unsure = kept
+kept_before kept StillDown = kept
+kept_before kept (Refused refusal) = kept
 
 -- What took effect at a site; kept says whether the next restart, if any, finds that what is in doubt is kept.
 abbrev pub effects : Base → Bool → List Entry → List Effect

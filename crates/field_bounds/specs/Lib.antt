@@ -1,5 +1,6 @@
 pub mod Kind
 pub mod Schema
+pub mod Equality
 pub mod Limits
 pub mod Header
 pub mod Parts

@@ -15,18 +15,28 @@ use Rattle.field_bounds.specs.declared.entry.Refusal.{Refusal}
 use Rattle.field_bounds.specs.declared.entry.Refusal.TheVariants.{Down, NoSite, NoField, NoTransaction, Zero, TooLarge, Short, SelfGift, LedgerFull, NotYours, Forged, TooManyOpen, TooManyEscrows, NumbersFull, NothingGiven}
 use Rattle.field_bounds.specs.declared.entry.Entry.{Entry}
 use Rattle.field_bounds.specs.declared.entry.Statement.{Statement}
+use Rattle.field_bounds.specs.declared.effect.Effect.{Effect}
 use Rattle.field_bounds.specs.Kind.{kind_of}
 use Rattle.field_bounds.specs.Schema.{SchemaValue}
 use Rattle.field_bounds.specs.Parts.{field_at, width_of}
-use Rattle.field_bounds.specs.Effects.{Base, Effect, is_begun, is_open, open_txns, escrows_of, given, accepted, share, own_rights, effects}
+use Rattle.field_bounds.specs.Effects.{Base, is_begun, is_open, open_txns, escrows_of, given, accepted, share, own_rights, effects}
 
 -- ---- up or down, epochs and counts
 
 abbrev pub up_after : Bool → Reply → Bool
+up_after up (Begun txn) = up
+up_after up Granted = up
+up_after up Committed = up
+up_after up Aborted = up
+up_after up (Given total) = up
+up_after up (Stated total) = up
+up_after up (Accepted gain) = up
+up_after up (Between lo hi) = up
+up_after up (Shares lower raise) = up
 up_after up (Restarted epoch found) = true
 up_after up Unsure = false
 up_after up StillDown = false
-up_after up reply = up
+up_after up (Refused refusal) = up
 
 -- Whether a site is up: its base is, or it restarted since, and nothing took it down after that (this project).
 abbrev pub is_up : Base → List Entry → Bool
@@ -34,8 +44,19 @@ is_up base [] = base.up
 is_up base (e ∷ o) = up_after (is_up base o) e.reply
 
 abbrev pub epoch_after : ℕ → Reply → ℕ
+epoch_after epoch (Begun txn) = epoch
+epoch_after epoch Granted = epoch
+epoch_after epoch Committed = epoch
+epoch_after epoch Aborted = epoch
+epoch_after epoch (Given total) = epoch
+epoch_after epoch (Stated total) = epoch
+epoch_after epoch (Accepted gain) = epoch
+epoch_after epoch (Between lo hi) = epoch
+epoch_after epoch (Shares lower raise) = epoch
 epoch_after epoch (Restarted new found) = new
-epoch_after epoch reply = epoch
+epoch_after epoch Unsure = epoch
+epoch_after epoch StillDown = epoch
+epoch_after epoch (Refused refusal) = epoch
 
 -- The epoch in which a site stands: that of the last restart, or the base's (this project).
 abbrev pub epoch_of : Base → List Entry → ℕ
@@ -98,8 +119,7 @@ first [] = None
 first (test ∷ rest) = if test.0 then Some test.1 else first rest
 
 -- The greatest amount or change without its sign, the greatest total of gifts from one site to another on a field and of
--- a kind, the most open transactions, the most escrows of one, and the last transaction number of
--- an epoch, which is the last epoch too.
+-- a kind, the most open transactions, the most escrows of one, the last transaction number of an epoch, and the last epoch.
 abbrev pub max_change : ℕ
 max_change = 2_000_000_000_000_000
 
@@ -114,6 +134,9 @@ max_escrows = 16
 
 abbrev pub max_number : ℕ
 max_number = 1_000_000_000
+
+abbrev pub max_epoch : ℕ
+max_epoch = 1_000_000_000
 
 -- The share and the own rights of a kind on a field, where the site stands.
 abbrev pub free : Place → FieldNo → Kind → ℕ
@@ -236,18 +259,32 @@ shares_of at field = if is_none (first (refusals at (Share field))) then Some (s
 
 -- A reply that touches neither rights nor transactions nor totals.
 abbrev pub is_quiet : Reply → Bool
+is_quiet (Begun txn) = false
+is_quiet Granted = false
+is_quiet Committed = false
+is_quiet Aborted = false
+is_quiet (Given total) = false
 is_quiet (Stated total) = true
+is_quiet (Accepted gain) = false
 is_quiet (Between lo hi) = true
 is_quiet (Shares lower raise) = true
+is_quiet (Restarted epoch found) = false
+is_quiet Unsure = false
+is_quiet StillDown = false
 is_quiet (Refused refusal) = true
-is_quiet reply = false
 
 -- Whether the command writes a record where it is answered, so that its answer may be in doubt (this project).
 abbrev pub writes : Place → Command → Bool
+writes at Begin = false
+writes at (Escrow txn field change) = false
 writes at (Commit txn) = nat_lt 0 (count_escrows txn at.effects)
+writes at (Abort txn) = false
 writes at (Give to field kind amount) = true
+writes at (Restate to field kind) = false
 writes at (Accept told) = nat_lt 0 (gain_of at told.from told.field told.kind told.total)
-writes at command = false
+writes at (Read field) = false
+writes at (Share field) = false
+writes at Restart = false
 
 -- The reply is the first refusal that holds, or else the answer, or in doubt where the command writes.
 abbrev pub AnswerFits : Place → Command → Reply → Type 0
@@ -274,19 +311,27 @@ last_epoch at = epoch_of at.base at.entries + count_since is_still_down at.entri
 -- A restart may be answered with this epoch and this finding.
 abbrev pub MayRestart : Place → ℕ → Last → Type 0
 MayRestart at epoch found =
-    (epoch_of at.base at.entries + 1 ≤ epoch) × (epoch ≤ last_epoch at + 1) × (epoch ≤ max_number) × TellsDoubt at found
+    (epoch_of at.base at.entries + 1 ≤ epoch) × (epoch ≤ last_epoch at + 1) × (epoch ≤ max_epoch) × TellsDoubt at found
 
 -- What a restart may answer: it may fail at any time, and finds no epoch left only where that may be.
 abbrev pub RestartFits : Place → Reply → Type 0
 RestartFits at StillDown = Unit {0}
-RestartFits at (Refused refusal) = (refusal ≡ NumbersFull) × (max_number ≤ last_epoch at)
+RestartFits at (Refused refusal) = (refusal ≡ NumbersFull) × (max_epoch ≤ last_epoch at)
 RestartFits at (Restarted epoch found) = MayRestart at epoch found
 RestartFits at reply = ⊥
 
 -- The site may give this reply to this command.
 abbrev pub Fits : Place → Command → Reply → Type 0
+Fits at Begin reply = AnswerFits at Begin reply
+Fits at (Escrow txn field change) reply = AnswerFits at (Escrow txn field change) reply
+Fits at (Commit txn) reply = AnswerFits at (Commit txn) reply
+Fits at (Abort txn) reply = AnswerFits at (Abort txn) reply
+Fits at (Give to field kind amount) reply = AnswerFits at (Give to field kind amount) reply
+Fits at (Restate to field kind) reply = AnswerFits at (Restate to field kind) reply
+Fits at (Accept told) reply = AnswerFits at (Accept told) reply
+Fits at (Read field) reply = AnswerFits at (Read field) reply
+Fits at (Share field) reply = AnswerFits at (Share field) reply
 Fits at Restart reply = RestartFits at reply
-Fits at command reply = AnswerFits at command reply
 
 -- Each entry of a history fits those before it.
 abbrev pub IsRun : SchemaValue → ℕ → Base → List Entry → Type 0

@@ -1,5 +1,7 @@
 -- What a schema is, and what a call that reads one gives (this project).
-use Rattle.std.specs.Prelude.{◌≡◌, ℕ, ℤ, List, Result, Ok, Err, string_bytes}
+use Rattle.std.specs.Cmp.Lexicographic.{pointwise}
+use Rattle.std.specs.Ordering.{int_eq}
+use Rattle.std.specs.Prelude.{◌≡◌, ℕ, ℤ, Bool, ◌==◌, ◌&&◌, bytes_eq, List, Result, Ok, Err, string_bytes}
 use Rattle.field_bounds.specs.declared.fault.SchemaFault.{SchemaFault}
 use Rattle.field_bounds.specs.declared.fault.SchemaFault.TheVariants.{NotJson, Shape, SiteCount, FieldCount, Name, NameUsed, Bounds, NoMemory, TooLong}
 use Rattle.field_bounds.specs.declared.field.FieldSpec.{FieldSpec}
@@ -15,6 +17,15 @@ pub record FieldValue : Type 0 where
 pub record SchemaValue : Type 0 where
   pub sites : ℕ
   pub fields : List FieldValue
+
+-- Whether two fields have the same name, floor, ceiling and value.
+abbrev pub same_field : FieldValue → FieldValue → Bool
+same_field f g =
+    bytes_eq f.name g.name && int_eq f.floor g.floor && int_eq f.ceiling g.ceiling && int_eq f.value g.value
+
+-- Whether two schemas have as many sites, and the same fields in the same order.
+abbrev pub same_schema : SchemaValue → SchemaValue → Bool
+same_schema a b = (a.sites == b.sites) && pointwise same_field a.fields b.fields
 
 -- What the parts of a field tell.
 abbrev pub spec_value : FieldSpec → FieldValue

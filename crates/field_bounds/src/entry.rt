@@ -20,7 +20,7 @@ pub struct Escrow {
 ///
 /// Source: Balegas and others 2015 for transfers that are kept as entries that only grow, this
 /// project for the statement.
-#[derive(Clone, Copy, Debug, PartialEq, Eq)]
+#[derive(Clone, Copy, Debug, PartialEq, Eq, PartialOrd, Ord, Hash)]
 pub struct Statement {
     pub from: SiteNo,
     pub to: SiteNo,

@@ -1,15 +1,15 @@
 //! How sites, fields and transactions are named.
 
 /// A site of a schema by its number, from 0. A value may lie outside any schema.
-#[derive(Clone, Copy, Debug, PartialEq, Eq)]
+#[derive(Clone, Copy, Debug, PartialEq, Eq, PartialOrd, Ord, Hash)]
 pub struct SiteNo(pub u16);
 
 /// A field of a schema by its place in the header, from 0. A value may lie outside any schema.
-#[derive(Clone, Copy, Debug, PartialEq, Eq)]
+#[derive(Clone, Copy, Debug, PartialEq, Eq, PartialOrd, Ord, Hash)]
 pub struct FieldNo(pub u16);
 
 /// A transaction at its site: the epoch in which it was begun, and its number there, from 1.
-#[derive(Clone, Copy, Debug, PartialEq, Eq)]
+#[derive(Clone, Copy, Debug, PartialEq, Eq, PartialOrd, Ord, Hash)]
 pub struct TxnId {
     pub epoch: u32,
     pub number: u32,

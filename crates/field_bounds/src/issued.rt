@@ -31,6 +31,17 @@ pub fn statement_of(entry: &Entry) -> Option<Statement>
             kind,
             total,
         }),
-        _ => None,
+        (Command::Give { .. } | Command::Restate { .. }, _)
+        | (
+            Command::Begin
+            | Command::Escrow { .. }
+            | Command::Commit { .. }
+            | Command::Abort { .. }
+            | Command::Accept(_)
+            | Command::Read { .. }
+            | Command::Share { .. }
+            | Command::Restart,
+            _,
+        ) => None,
     }
 }

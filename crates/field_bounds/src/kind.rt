@@ -8,7 +8,7 @@ ghost use Rattle.field_bounds.specs.Kind.{other, kind_of};
 ///
 /// Source: Balegas and others 2015 for the rights of a bounded counter, this project for the two
 /// kinds side by side.
-#[derive(Clone, Copy, Debug, PartialEq, Eq)]
+#[derive(Clone, Copy, Debug, PartialEq, Eq, PartialOrd, Ord, Hash)]
 pub enum Kind {
     Lower,
     Raise,

@@ -9,10 +9,9 @@ ghost use Rattle.field_bounds.specs.declared.entry.Reply.{Reply};
 ghost use Rattle.field_bounds.specs.declared.entry.Entry.{Entry};
 ghost use Rattle.field_bounds.specs.Schema.{SchemaValue};
 ghost use Rattle.field_bounds.specs.Limits.{IsSchema};
-ghost use Rattle.field_bounds.specs.Parts.{field_at};
 ghost use Rattle.field_bounds.specs.Effects.{Base, open_txns, held, share, own_rights, says_kept, effects, rights_in, rights_out};
 ghost use Rattle.field_bounds.specs.Owed.{Place, is_up, IsRestarted, Fits, IsRun};
-ghost use Rattle.field_bounds.specs.Central.{AreOf, chosen_by, decided_of, inf, sup, outcome, IsCentral, IsSound, IsConservedThroughout};
+ghost use Rattle.field_bounds.specs.Central.{AreOf, chosen_by, decided_of, inf, sup, outcome, floor_in, ceiling_in, OutcomesAreBounded, IsCentral, IsSound, IsConservedThroughout};
 
 /// At a site whose replies are all owed, the rights that went out never exceed those that came in:
 /// the share, which is their difference, is never cut off at 0.
@@ -67,9 +66,10 @@ pub fn restarts_settle()
 /// is less than was asked, and an interval that was read holds the committed value (`central`). At
 /// every moment the infimum lies above the floor, and the supremum below the ceiling, by exactly the
 /// rights that the sites have free and those in flight, which were given and aren't accepted yet;
-/// and no site has accepted more than it was given (`conserved`). So no field can be taken past a
+/// and no site has accepted more than it was given (`conserved`). So the infimum is never below the
+/// floor, and the supremum never above the ceiling (`bounded`), and no field can be taken past a
 /// bound, however the open transactions end, and whichever statements come late, twice or never
-/// (`bounded`). A trace has the newest entry first.
+/// (`outcomes`). A trace has the newest entry first.
 ///
 /// Source: O'Neil 1986 for infimum, supremum and the test of a grant, Balegas and others 2015 for
 /// rights that are divided among sites and transferred, this project for the rules and the theorem.
@@ -80,8 +80,10 @@ pub fn one_central_store()
         IsSchema schema → IsSound schema trace → IsConservedThroughout schema trace }
     ensures bounded { (schema : SchemaValue) (trace : List Entry) →
         IsSchema schema → IsSound schema trace → (f : ℕ) →
-        ((field_at schema f).floor ≤ℤ inf schema trace f)
-        × (sup schema trace f ≤ℤ (field_at schema f).ceiling) }
+        (floor_in schema trace f ≤ℤ inf schema trace f)
+        × (sup schema trace f ≤ℤ ceiling_in schema trace f) }
+    ensures outcomes { (schema : SchemaValue) (trace : List Entry) →
+        IsSchema schema → IsSound schema trace → OutcomesAreBounded schema trace }
 {}
 
 /// Whichever of the open transactions of a trace are committed and whichever aborted, the value

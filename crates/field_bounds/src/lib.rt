@@ -2,6 +2,7 @@
 //! and the words in which sites are asked and answer.
 #![tactic(auto)]
 
+mod effect;
 mod entry;
 mod fault;
 mod field;
@@ -17,6 +18,7 @@ mod restart_rows;
 mod schema;
 mod worked;
 
+pub use effect::Effect;
 pub use entry::{Command, Entry, Escrow, Last, Refusal, Reply, Statement};
 pub use fault::SchemaFault;
 pub use field::FieldSpec;

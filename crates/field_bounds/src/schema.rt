@@ -3,7 +3,7 @@
 //! Source: this project. The division of rights among sites follows Balegas and others 2015.
 
 ghost use Rattle.std.specs.Prelude.{◌≡◌, [], ◌<◌, ◌≤◌, map, IsTrue, Ok, Err, Option, option_map, slice_get, length};
-ghost use Rattle.field_bounds.specs.Schema.{Gives, spec_value};
+ghost use Rattle.field_bounds.specs.Schema.{Gives, same_schema, spec_value};
 ghost use Rattle.field_bounds.specs.Limits.{is_name_byte, is_name_length, is_name, is_used, has_bounds, field_fault, first_fault, unless, count_of, of_parts};
 ghost use Rattle.field_bounds.specs.Header.{schema_of};
 ghost use Rattle.field_bounds.specs.Kept.{entry_value, kept_values};
@@ -19,7 +19,7 @@ use std::alloc::{AllocError, Global};
 use std::marker::Model;
 
 /// The numbers that a field begins with.
-#[derive(Clone, Copy)]
+#[derive(Clone, Copy, PartialEq, Eq)]
 pub(crate) struct FieldBounds {
     pub floor: i64,
     pub ceiling: i64,
@@ -46,6 +46,30 @@ impl Model for Schema {
     ghost view = { λ s. record { sites = s.sites; fields = map entry_value s.fields.entries } };
 
     ghost invariant = { λ s. IsSchema (record { sites = s.sites; fields = map entry_value s.fields.entries }) };
+}
+
+/// Two schemas are equal where they have as many sites, and the same fields in the same order, each
+/// with the same name, floor, ceiling and value. Costs a look at each field, and no memory.
+impl PartialEq for Schema {
+    ghost use Rattle.std.specs.Bool.{Decides};
+    ghost use Rattle.field_bounds.specs.Equality.{schemas_per};
+
+    ghost eq = { same_schema };
+
+    ghost laws = { schemas_per };
+
+    fn eq(&self, other: &Schema) -> bool
+        ensures value { result ≡ same_schema self.now other.now }
+        ensures same { Decides result (self.now ≡ other.now) }
+    {
+        self.sites == other.sites && self.fields.as_slice() == other.fields.as_slice()
+    }
+}
+
+impl Eq for Schema {
+    ghost use Rattle.field_bounds.specs.Equality.{schemas_equiv};
+
+    ghost laws = { schemas_equiv };
 }
 
 #[tactic(auto, unfolding(crate::specs::Limits::is_name_byte))]

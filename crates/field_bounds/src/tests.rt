@@ -5,7 +5,9 @@ use std::alloc::{AllocError, Global};
 use std::process::Abort;
 use std::test::Fail;
 
+mod equal_schemas;
 mod headers;
+mod keys;
 
 /// Two sites and one field, whose 40 lowering rights and 60 raising rights divide evenly.
 const EVEN: &str = r#"{"sites":2,"fields":[{"name":"stock","floor":0,"ceiling":100,"value":40}]}"#;

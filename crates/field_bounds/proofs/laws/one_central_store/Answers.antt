@@ -1,5 +1,5 @@
 use Rattle.field_bounds.proofs.Conserved.{conserved_throughout}
-use Rattle.field_bounds.proofs.Headline.{sound_is_central, within_bounds}
+use Rattle.field_bounds.proofs.Headline.{sound_is_central, within_bounds, outcomes_are_bounded}
 use Rattle.field_bounds.proofs.laws.one_central_store.Goals as goal
 
 pub returns-clause-central : goal.returns-clause-central
@@ -10,3 +10,6 @@ returns-clause-conserved c = λ schema trace good sound. conserved_throughout sc
 
 pub returns-clause-bounded : goal.returns-clause-bounded
 returns-clause-bounded c = λ schema trace good sound f. within_bounds schema good trace sound f
+
+pub returns-clause-outcomes : goal.returns-clause-outcomes
+returns-clause-outcomes c = λ schema trace good sound. outcomes_are_bounded schema good trace sound

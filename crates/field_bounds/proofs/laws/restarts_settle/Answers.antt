@@ -1,5 +1,6 @@
 use Rattle.std.proofs.Common.{List, ◌∙◌, ap}
-use Rattle.field_bounds.specs.Effects.{Effect, says_kept, effects, open_txns, held, share}
+use Rattle.field_bounds.specs.declared.effect.Effect.{Effect}
+use Rattle.field_bounds.specs.Effects.{says_kept, effects, open_txns, held, share}
 use Rattle.field_bounds.proofs.Doubt.{nothing_in_doubt, restarted_is}
 use Rattle.field_bounds.proofs.Runs.{run_is_lawful}
 use Rattle.field_bounds.proofs.Stops.{stop_closes_all, share_stop, held_stop}

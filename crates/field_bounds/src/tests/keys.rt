@@ -1,0 +1,47 @@
+//! Sites, fields, transactions, kinds and statements as keys of maps, and in order.
+
+use super::*;
+use std::collections::{BTreeMap, HashMap};
+
+/// A transaction of an epoch.
+const fn txn(epoch: u32, number: u32) -> TxnId {
+    TxnId { epoch, number }
+}
+
+#[test]
+fn keyed_by_site(rt: HostRuntime) -> Result<(), Fail> {
+    let mut totals = HashMap::new(rt.alloc());
+    for (site, amount) in [(1, 5), (0, 7), (1, 2)] {
+        totals.insert(SiteNo(site), amount)?;
+    }
+    assert_eq!(rt; totals.get(&SiteNo(0)), Some(&7));
+    assert_eq!(rt; totals.get(&SiteNo(1)), Some(&2));
+    assert_eq!(rt; totals.get(&SiteNo(2)), None);
+    Ok(())
+}
+
+#[test]
+fn keyed_by_transaction(rt: HostRuntime) -> Result<(), Fail> {
+    let mut fates = BTreeMap::new(rt.alloc());
+    fates.insert(txn(2, 1), "open")?;
+    fates.insert(txn(1, 9), "committed")?;
+    fates.insert(txn(1, 8), "aborted")?;
+    assert_eq!(rt; fates.get(&txn(1, 9)), Some(&"committed"));
+    assert_eq!(rt; fates.get(&txn(2, 9)), None);
+    let first = fates.first_key_value().map(|(txn, _)| *txn);
+    assert_eq!(rt; first, Some(txn(1, 8)));
+    Ok(())
+}
+
+#[test]
+fn in_order(rt: HostRuntime) {
+    let mut txns = [txn(2, 1), txn(1, 9), txn(1, 8)];
+    txns.sort_unstable();
+    assert_eq!(rt; txns, [txn(1, 8), txn(1, 9), txn(2, 1)]);
+    let mut fields = [FieldNo(3), FieldNo(0), FieldNo(1)];
+    fields.sort_unstable();
+    assert_eq!(rt; fields, [FieldNo(0), FieldNo(1), FieldNo(3)]);
+    assert_eq!(rt; Kind::Lower < Kind::Raise, true);
+    assert_eq!(rt; told(5) < told(6), true);
+    assert_eq!(rt; told(5) < told(5), false);
+}
