@@ -1,5 +1,6 @@
 -- Records that agree with what took effect: the same totals, and the same sizes committed.
-use Rattle.std.proofs.Common.{◌≡◌, ℕ, ◌+◌, ◌≤◌, max, Bool, true, false, cond, List, [], ◌∷◌, ◌++◌, length, reverse, refl, sym, ◌∙◌, ap, arith, eqb}
+use Rattle.std.proofs.Common.{◌≡◌, ℕ, ◌+◌, ◌≤◌, max, Bool, true, false, ◌&&◌, cond, List, [], ◌∷◌, ◌++◌, length, reverse, refl, sym, ◌∙◌, ap, arith, eqb, Some}
+use Rattle.std.proofs.lemmas.Bool.{and_parts, eqb-true}
 use Rattle.std.proofs.lemmas.Grind.{reverse_onto}
 use Rattle.std.proofs.lemmas.List.Sums.{sum_by_push, sum_by-cons}
 use Rattle.std.specs.Prelude.{ℤ, sum_by}
@@ -11,8 +12,10 @@ use Rattle.field_bounds.specs.declared.entry.Escrow.{Escrow}
 use Rattle.kept_records.specs.declared.record.Record.{Record}
 use Rattle.kept_records.specs.declared.record.Record.TheVariants.{Commit, Gift, Accept, Restart}
 use Rattle.field_bounds.specs.Schema.{SchemaValue}
-use Rattle.field_bounds.specs.Kind.{other}
-use Rattle.field_bounds.specs.Effects.{Base, Effect, Begins, Grants, Commits, Aborts, Gives, Accepts, Stops, escrows_of, takes, gifts, given, accepted, own_rights}
+use Rattle.field_bounds.specs.Kind.{same_kind, other}
+use Rattle.field_bounds.specs.declared.effect.Effect.{Effect}
+use Rattle.field_bounds.specs.declared.effect.Effect.TheVariants.{Begins, Grants, Commits, Aborts, Gives, Accepts, Stops}
+use Rattle.field_bounds.specs.Effects.{Base, escrows_of, takes, is_to, gifts, given, accepted, own_rights}
 use Rattle.field_bounds.specs.Owed.{count_escrows}
 use Rattle.kept_records.specs.Stands.{given_in, accepted_in, committed_in, own_in, gained_in, spent_in}
 use Rattle.kept_state.specs.Keeps.{IsBase}
@@ -87,11 +90,11 @@ module _ (base : Base) (bs : List Record) (es : List Effect) (rs : List Record) 
       }
 
   pub agree_give : (to : SiteNo) (field : FieldNo) (kind : Kind) (amount total : ℕ) → total ≡ given base to.0 field.0 kind es + amount
-      → Agree base bs (Gives to.0 field.0 kind amount ∷ es) (rs ++ Gift to field kind total ∷ [])
+      → Agree base bs (Gives (Some to) field kind amount ∷ es) (rs ++ Gift to field kind total ∷ [])
   agree_give to field kind amount total is =
       let r : Record = Gift to field kind total in
       record {
-        gives = λ site f k. give_step (key field.0 kind to.0 f k site) amount (given_in rs site f k) total (gifts (λ x. eqb x site) f k es) (base.given site f k)
+        gives = λ site f k. give_step (key field.0 kind to.0 f k site) amount (given_in rs site f k) total (gifts (is_to site) f k es) (base.given site f k)
             (λ on. omega (arith, is, at_key (λ x y z. given base x y z es) field.0 kind to.0 f k site on, agree.gives site f k)) (agree.gives site f k)
             ∙ sym (given_push site f k rs r);
         accepts = λ from f k. agree.accepts from f k ∙ sym (accepted_push from f k rs r);
@@ -99,7 +102,7 @@ module _ (base : Base) (bs : List Record) (es : List Effect) (rs : List Record) 
       }
 
   pub agree_accept : (from : SiteNo) (field : FieldNo) (kind : Kind) (total : ℕ)
-      → Agree base bs (Accepts from.0 field.0 kind total ∷ es) (rs ++ Accept from field kind total ∷ [])
+      → Agree base bs (Accepts from field kind total ∷ es) (rs ++ Accept from field kind total ∷ [])
   agree_accept from field kind total =
       let r : Record = Accept from field kind total in
       record {
@@ -109,7 +112,7 @@ module _ (base : Base) (bs : List Record) (es : List Effect) (rs : List Record) 
       }
 
   pub agree_repeat : (from : SiteNo) (field : FieldNo) (kind : Kind) (total : ℕ) → total ≤ accepted base from.0 field.0 kind es
-      → Agree base bs (Accepts from.0 field.0 kind total ∷ es) rs
+      → Agree base bs (Accepts from field kind total ∷ es) rs
   agree_repeat from field kind total old =
       record {
         gives = λ to f k. agree.gives to f k;
@@ -131,7 +134,7 @@ module _ (base : Base) (bs : List Record) (es : List Effect) (rs : List Record) 
   pub agree_begin : (txn : TxnId) → Agree base bs (Begins txn ∷ es) rs
   agree_begin txn = record { gives = agree.gives; accepts = agree.accepts; commits = agree.commits }
 
-  pub agree_grant : (txn : TxnId) (field : ℕ) (change : ℤ) → Agree base bs (Grants txn field change ∷ es) rs
+  pub agree_grant : (txn : TxnId) (field : FieldNo) (change : ℤ) → Agree base bs (Grants txn field change ∷ es) rs
   agree_grant txn field change = record { gives = agree.gives; accepts = agree.accepts; commits = agree.commits }
 
   pub agree_abort : (txn : TxnId) → Agree base bs (Aborts txn ∷ es) rs
@@ -156,7 +159,7 @@ module _ (base : Base) (bs : List Record) (es : List Effect) (rs : List Record) 
         is.rights f k,
         sum_below-same schema.sites (λ to. given base to f k es) (λ to. given_in rs to f k) (λ to below. agree.gives to f k),
         sum_below-same schema.sites (λ to. base.given to f k) (λ to. given_in bs to f k) (λ to below. is.given to f k),
-        sum_below-add schema.sites (λ to. base.given to f k) (λ to. gifts (λ site. eqb site to) f k es),
+        sum_below-add schema.sites (λ to. base.given to f k) (λ to. gifts (is_to to) f k es),
         sum_below-same schema.sites (λ from. accepted base from f k es) (λ from. accepted_in rs from f k) (λ from below. agree.accepts from f k),
         sum_below-same schema.sites (λ from. base.accepted from f k) (λ from. accepted_in bs from f k) (λ from below. is.accepted from f k),
       )

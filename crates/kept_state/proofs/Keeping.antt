@@ -15,7 +15,9 @@ use Rattle.field_bounds.specs.declared.entry.Entry.{Entry}
 use Rattle.kept_records.specs.declared.record.Record.{Record}
 use Rattle.kept_records.specs.declared.record.Record.TheVariants as records
 use Rattle.field_bounds.specs.Schema.{SchemaValue}
-use Rattle.field_bounds.specs.Effects.{Base, Effect, Commits, Accepts, Stops, after, effects, kept_before, escrows_of, share, held, own_rights, given, accepted}
+use Rattle.field_bounds.specs.declared.effect.Effect.{Effect}
+use Rattle.field_bounds.specs.declared.effect.Effect.TheVariants.{Commits, Accepts, Stops}
+use Rattle.field_bounds.specs.Effects.{Base, after, effects, kept_before, escrows_of, share, held, own_rights, given, accepted}
 use Rattle.field_bounds.specs.Owed.{Place, place, first, refusals, answer, count_escrows, gain_of, Fits, RestartFits, AnswerFits, IsRun}
 use Rattle.kept_records.specs.Stands.{greatest, given_in, accepted_in, own_in}
 use Rattle.kept_state.specs.Keeps.{IsBase, noted, adds, Tells, Keeps}
@@ -40,13 +42,13 @@ module _ (at : Place) (bs rs : List Record) (agree : Agree at.base bs at.effects
   commit_noted txn false h = no_more _ (agree_empty at.base bs at.effects rs agree txn (omega (arith, ltb-false 0 (count_escrows txn at.effects) h)))
 
   accept_noted : (told : Statement) (b : Bool) → nat_lt 0 (gain_of at told.from told.field told.kind told.total) ≡ b
-      → After (Accepts told.from.0 told.field.0 told.kind told.total ∷ at.effects) (cond b (records.Accept told.from told.field told.kind told.total ∷ []) [])
+      → After (Accepts told.from told.field told.kind told.total ∷ at.effects) (cond b (records.Accept told.from told.field told.kind told.total ∷ []) [])
   accept_noted told true h = agree_accept at.base bs at.effects rs agree told.from told.field told.kind told.total
   accept_noted told false h = no_more _ (agree_repeat at.base bs at.effects rs agree told.from told.field told.kind told.total (omega (arith, ltb-false 0 (gain_of at told.from told.field told.kind told.total) h)))
 
   pub agree_answer : (c : Command) (kept : Bool) → After (after at.base kept c (answer at c) at.effects) (noted at c)
   agree_answer Begin kept = no_more _ (agree_begin at.base bs at.effects rs agree _)
-  agree_answer (Escrow txn field change) kept = no_more _ (agree_grant at.base bs at.effects rs agree txn field.0 change)
+  agree_answer (Escrow txn field change) kept = no_more _ (agree_grant at.base bs at.effects rs agree txn field change)
   agree_answer (Commit txn) kept = commit_noted txn (nat_lt 0 (count_escrows txn at.effects)) refl
   agree_answer (Abort txn) kept = no_more _ (agree_abort at.base bs at.effects rs agree txn)
   agree_answer (Give to field kind amount) kept = agree_give at.base bs at.effects rs agree to field kind amount _ refl

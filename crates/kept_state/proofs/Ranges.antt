@@ -1,10 +1,11 @@
 -- The numbers of a record that a command writes lie in the ranges of its text.
-use Rattle.std.proofs.Common.{◌≡◌, ℕ, ◌<◌, ◌≤◌, Bool, true, false, cond, List, [], ◌∷◌, ◌++◌, reverse, length, refl, sym, subst, inl, inr, arith, None}
-use Rattle.std.proofs.lemmas.Bool.{or_cases, ltb-false, ltb-true, leb-false, eqb-false}
+use Rattle.std.proofs.Common.{◌≡◌, ℕ, ◌<◌, ◌≤◌, Bool, true, false, cond, List, [], ◌∷◌, ◌++◌, reverse, length, refl, sym, subst, inl, inr, arith, Some, None}
+use Rattle.std.proofs.lemmas.Bool.{or_cases, ltb-true}
 use Rattle.std.proofs.lemmas.Grind.{reverse_onto}
 use Rattle.std.proofs.lemmas.List.{length-reverse}
-use Rattle.std.specs.Prelude.{ℤ, unsigned_abs, fold}
+use Rattle.std.specs.Prelude.{ℤ, fold}
 use Rattle.std.specs.List.{AllByRecursion}
+use Rattle.field_bounds.specs.declared.id.FieldNo.{FieldNo}
 use Rattle.field_bounds.specs.declared.id.TxnId.{TxnId}
 use Rattle.field_bounds.specs.declared.entry.Command.{Command}
 use Rattle.field_bounds.specs.declared.entry.Command.TheVariants.{Begin, Escrow, Commit, Abort, Give, Restate, Accept, Read, Share, Restart}
@@ -14,15 +15,17 @@ use Rattle.field_bounds.specs.declared.entry.Escrow.{Escrow as EscrowOf}
 use Rattle.field_bounds.specs.declared.entry.Entry.{Entry}
 use Rattle.field_bounds.specs.Schema.{SchemaValue}
 use Rattle.field_bounds.specs.Limits.{IsSchema}
-use Rattle.field_bounds.specs.Effects.{Base, Effect, Begins, Grants, Commits, Gives, Accepts, after, effects, same_txn, is_begun, is_open, escrows_of}
-use Rattle.field_bounds.specs.Owed.{Place, place, first, refusals, answer, writes, epoch_of, epoch_after, count_escrows, max_number, max_escrows, max_change, Fits, IsRun}
+use Rattle.field_bounds.specs.declared.effect.Effect.{Effect}
+use Rattle.field_bounds.specs.declared.effect.Effect.TheVariants.{Begins, Grants, Commits, Gives, Accepts}
+use Rattle.field_bounds.specs.Effects.{Base, after, effects, same_txn, is_begun, escrows_of}
+use Rattle.field_bounds.specs.Owed.{Place, place, first, refusals, answer, writes, epoch_of, epoch_after, count_escrows, max_number, max_epoch, max_escrows, Fits, IsRun}
 use Rattle.kept_records.specs.Text.{IsChange, IsEscrow, IsRecord}
 use Rattle.kept_records.specs.declared.record.Record.{Record}
 use Rattle.kept_records.specs.declared.record.Record.TheVariants as records
 use Rattle.kept_records.specs.Stands.{later, greatest}
 use Rattle.kept_state.specs.Keeps.{record_at, opened}
 use Rattle.field_bounds.proofs.Lawful.{same_txn-true}
-use Rattle.field_bounds.proofs.Refused.{none_holds, match_cases, begun_and_open}
+use Rattle.field_bounds.proofs.Refused.{none_holds, match_cases, begin_has_a_number, escrow_is_in_schema, escrow_is_some, escrow_is_small, escrow_is_one_of_few, commit_is_opened, give_is_to_a_site, give_is_in_schema, give_is_some, give_has_room, accept_is_from_a_site, accept_is_in_schema, accept_is_some, accept_is_small}
 use Rattle.field_bounds.proofs.Doubt.{run_holds, epoch_answer}
 use Rattle.field_bounds.proofs.Runs.{open_is_current}
 
@@ -60,10 +63,10 @@ each_more : (n : ℕ) (b : Bool) (e : EscrowOf) (xs : List EscrowOf) → IsGrant
 each_more n true e xs p h = (p, h)
 each_more n false e xs p h = h
 
-ranged_grant : (n : ℕ) (es : List Effect) (txn : TxnId) (field : ℕ) (change : ℤ) → field < n → IsChange change → count_escrows txn es < max_escrows → IsRanged n es
+ranged_grant : (n : ℕ) (es : List Effect) (txn : TxnId) (field : FieldNo) (change : ℤ) → field.0 < n → IsChange change → count_escrows txn es < max_escrows → IsRanged n es
     → IsRanged n (Grants txn field change ∷ es)
 ranged_grant n es txn field change below within room l =
-    let e : EscrowOf = record { field = record { 0 = field }; change = change } in
+    let e : EscrowOf = record { field = field; change = change } in
     record {
       numbers = l.numbers;
       few = λ id. one_more (same_txn id txn) e (escrows_of id es)
@@ -91,24 +94,25 @@ carried : (at : Place) (n : ℕ) → n ≡ length at.schema.fields → (c : Comm
     → IsRanged n (after at.base kept c (answer at c) at.effects) × IsRanged n (after at.base kept c Unsure at.effects)
 carried at n is Begin h kept l =
     let none = none_holds (refusals at Begin) h in
-    let room = leb-false _ _ none.1.1.0 in
+    let room = begin_has_a_number at none in
     (ranged_begin n at.effects _ (omega arith) (omega (arith, room)) l, l)
 carried at n is (Escrow txn field change) h kept l =
     let none = none_holds (refusals at (Escrow txn field change)) h in
-    let some = eqb-false (unsigned_abs change) 0 none.1.1.1.0 in
-    let most = ltb-false max_change (unsigned_abs change) none.1.1.1.1.0 in
-    let room = leb-false max_escrows (count_escrows txn at.effects) none.1.1.1.1.1.1.0 in
-    (ranged_grant n at.effects txn field.0 change (omega (arith, is, leb-false _ _ none.1.0)) (omega (arith, some), omega (arith, most)) (omega (arith, room)) l, l)
+    let known = escrow_is_in_schema at txn field change none in
+    let some = escrow_is_some at txn field change none in
+    let most = escrow_is_small at txn field change none in
+    let room = escrow_is_one_of_few at txn field change none in
+    (ranged_grant n at.effects txn field change (omega (arith, is, known)) (omega (arith, some), most) room l, l)
 carried at n is (Commit txn) h kept l =
     let made : IsRanged n (Commits txn ∷ at.effects) = record { numbers = l.numbers; few = l.few; each = l.each } in
     (made, either n kept _ _ made l)
 carried at n is (Abort txn) h kept l = (record { numbers = l.numbers; few = l.few; each = l.each }, l)
 carried at n is (Give to field kind amount) h kept l =
-    let made : IsRanged n (Gives to.0 field.0 kind amount ∷ at.effects) = record { numbers = l.numbers; few = l.few; each = l.each } in
+    let made : IsRanged n (Gives (Some to) field kind amount ∷ at.effects) = record { numbers = l.numbers; few = l.few; each = l.each } in
     (made, either n kept _ _ made l)
 carried at n is (Restate to field kind) h kept l = (l, l)
 carried at n is (Accept told) h kept l =
-    let made : IsRanged n (Accepts told.from.0 told.field.0 told.kind told.total ∷ at.effects) = record { numbers = l.numbers; few = l.few; each = l.each } in
+    let made : IsRanged n (Accepts told.from told.field told.kind told.total ∷ at.effects) = record { numbers = l.numbers; few = l.few; each = l.each } in
     (made, either n kept _ _ made l)
 carried at n is (Read field) h kept l = (l, l)
 carried at n is (Share field) h kept l = (l, l)
@@ -125,54 +129,54 @@ run_is_ranged schema s base o run kept =
 
 -- ---- epochs
 
-epoch_step : (at : Place) (n : ℕ) (c : Command) (r : Reply) → Fits at c r → n ≤ max_number → epoch_after n r ≤ max_number
+epoch_step : (at : Place) (n : ℕ) (c : Command) (r : Reply) → Fits at c r → n ≤ max_epoch → epoch_after n r ≤ max_epoch
 epoch_step at n Restart (Restarted epoch found) fits h = fits.2
 epoch_step at n Restart StillDown fits h = h
 epoch_step at n Restart (Refused x) fits h = h
 epoch_step at n Restart r fits h = absurd fits
 epoch_step at n c r fits h =
     elim (match_cases (first (refusals at c)) _ _ fits) [
-      | inl refused ↦ subst (λ (x : Reply). epoch_after n x ≤ max_number) (sym refused.2) h
+      | inl refused ↦ subst (λ (x : Reply). epoch_after n x ≤ max_epoch) (sym refused.2) h
       | inr met ↦ elim met.1 [
-        | inl answered ↦ subst (λ (x : Reply). epoch_after n x ≤ max_number) (sym answered) (omega (arith, epoch_answer at c n, h))
-        | inr unsure ↦ subst (λ (x : Reply). epoch_after n x ≤ max_number) (sym unsure.0) h
+        | inl answered ↦ subst (λ (x : Reply). epoch_after n x ≤ max_epoch) (sym answered) (omega (arith, epoch_answer at c n, h))
+        | inr unsure ↦ subst (λ (x : Reply). epoch_after n x ≤ max_epoch) (sym unsure.0) h
       ]
     ]
 
 -- a run's epoch is in the range, if its base's is
-pub epoch_in_range : (schema : SchemaValue) (s : ℕ) (base : Base) (o : List Entry) → IsRun schema s base o → base.epoch ≤ max_number → epoch_of base o ≤ max_number
+pub epoch_in_range : (schema : SchemaValue) (s : ℕ) (base : Base) (o : List Entry) → IsRun schema s base o → base.epoch ≤ max_epoch → epoch_of base o ≤ max_epoch
 epoch_in_range schema s base [] run h = h
 epoch_in_range schema s base (e ∷ o) run h = epoch_step (place schema s base o) (epoch_of base o) e.command e.reply run.1 (epoch_in_range schema s base o run.0 h)
 
 -- ---- epochs of records
 
-later_in_range : (n : ℕ) (r : Record) → IsRecord r → n ≤ max_number → later n r ≤ max_number
+later_in_range : (n : ℕ) (r : Record) → IsRecord r → n ≤ max_epoch → later n r ≤ max_epoch
 later_in_range n (records.Restart epoch) is h = omega (arith, is, h)
 later_in_range n r is h = h
 
-fold_in_range : (n : ℕ) (rs : List Record) → AllByRecursion IsRecord rs → n ≤ max_number → fold later n rs ≤ max_number
+fold_in_range : (n : ℕ) (rs : List Record) → AllByRecursion IsRecord rs → n ≤ max_epoch → fold later n rs ≤ max_epoch
 fold_in_range n [] is h = h
 fold_in_range n (r ∷ rs) is h = fold_in_range (later n r) rs is.1 (later_in_range n r is.0 h)
 
 -- the greatest epoch of records in the ranges of their texts
-pub greatest_in_range : (rs : List Record) → AllByRecursion IsRecord rs → greatest rs ≤ max_number
+pub greatest_in_range : (rs : List Record) → AllByRecursion IsRecord rs → greatest rs ≤ max_epoch
 unfolding greatest
 greatest_in_range rs is = fold_in_range 0 rs is (omega arith)
 
 -- so a site's base is in the range
-pub opened_in_range : (schema : SchemaValue) (s : ℕ) (empty : Bool) (bs : List Record) → AllByRecursion IsRecord bs → (opened schema s empty bs).epoch ≤ max_number
+pub opened_in_range : (schema : SchemaValue) (s : ℕ) (empty : Bool) (bs : List Record) → AllByRecursion IsRecord bs → (opened schema s empty bs).epoch ≤ max_epoch
 opened_in_range schema s true bs is = omega arith
 opened_in_range schema s false bs is = greatest_in_range bs is
 
 -- ---- records
 
 -- the record of a command that writes one is in the ranges of its text
-pub record_in_range : (schema : SchemaValue) (s : ℕ) (base : Base) (o : List Entry) → IsSchema schema → IsRun schema s base o → base.epoch ≤ max_number → (c : Command)
+pub record_in_range : (schema : SchemaValue) (s : ℕ) (base : Base) (o : List Entry) → IsSchema schema → IsRun schema s base o → base.epoch ≤ max_epoch → (c : Command)
     → first (refusals (place schema s base o) c) ≡ None → writes (place schema s base o) c ≡ true → IsRecord (record_at (place schema s base o) c)
 record_in_range schema s base o limits run small (Commit txn) h w =
     let at = place schema s base o in
     let none = none_holds (refusals at (Commit txn)) h in
-    let both = begun_and_open (is_begun txn at.effects) (is_open txn at.effects) none.1.0 in
+    let both = commit_is_opened at txn none in
     let ranged = run_is_ranged schema s base o run false in
     let number = ranged.numbers txn both.0 in
     let same = length-reverse (escrows_of txn at.effects) in (
@@ -187,16 +191,16 @@ record_in_range schema s base o limits run small (Commit txn) h w =
 record_in_range schema s base o limits run small (Give to field kind amount) h w =
     let at = place schema s base o in
     let none = none_holds (refusals at (Give to field kind amount)) h in (
-      omega (arith, limits.few_sites, leb-false _ _ none.1.0),
-      omega (arith, limits.few_fields, leb-false _ _ none.1.1.0),
-      (omega (arith, eqb-false amount 0 none.1.1.1.0), omega (arith, ltb-false _ _ none.1.1.1.1.1.1.1.0)),
+      omega (arith, limits.few_sites, give_is_to_a_site at to field kind amount none),
+      omega (arith, limits.few_fields, give_is_in_schema at to field kind amount none),
+      (omega (arith, give_is_some at to field kind amount none), give_has_room at to field kind amount none),
     )
 record_in_range schema s base o limits run small (Accept told) h w =
     let at = place schema s base o in
     let none = none_holds (refusals at (Accept told)) h in (
-      omega (arith, limits.few_sites, leb-false _ _ none.1.0),
-      omega (arith, limits.few_fields, leb-false _ _ none.1.1.1.0),
-      (omega (arith, eqb-false told.total 0 none.1.1.1.1.0), omega (arith, ltb-false _ _ none.1.1.1.1.1.0)),
+      omega (arith, limits.few_sites, accept_is_from_a_site at told none),
+      omega (arith, limits.few_fields, accept_is_in_schema at told none),
+      (omega (arith, accept_is_some at told none), accept_is_small at told none),
     )
 record_in_range schema s base o limits run small Begin h w = cc
 record_in_range schema s base o limits run small (Escrow txn field change) h w = cc

@@ -1,9 +1,9 @@
 -- The record of a command that isn't refused may stand behind those before it.
-use Rattle.std.proofs.Common.{◌≡◌, ℕ, ◌+◌, ◌-◌, ◌≤◌, ◌<◌, Bool, true, false, cond, List, [], ◌∷◌, reverse, length, refl, ◌∙◌, ap, subst, inl, inr, arith, None}
-use Rattle.std.proofs.lemmas.Bool.{and_parts, cases_Bool, eq-eqb, ltb-false, ltb-true, leb-false, lt-ltb, le-leb, eqb-false}
+use Rattle.std.proofs.Common.{◌≡◌, ◌≢◌, ℕ, ◌+◌, ◌-◌, ◌≤◌, ◌<◌, Bool, true, false, cond, List, [], ◌∷◌, reverse, length, refl, ◌∙◌, ap, subst, inl, inr, arith, None}
+use Rattle.std.proofs.lemmas.Bool.{and_parts, cases_Bool, eq-eqb, ne_eqb, ltb-true, lt-ltb, le-leb}
 use Rattle.std.proofs.lemmas.Grind.{reverse_onto}
 use Rattle.std.proofs.lemmas.List.Folds.{list_all-append}
-use Rattle.std.specs.Prelude.{◌==◌, nat_le, sum_by}
+use Rattle.std.specs.Prelude.{sum_by}
 use Rattle.std.specs.List.{list_all}
 use Rattle.field_bounds.specs.declared.kind.Kind.{Kind}
 use Rattle.field_bounds.specs.declared.kind.Kind.TheVariants.{Lower, Raise}
@@ -17,12 +17,14 @@ use Rattle.field_bounds.specs.declared.entry.Entry.{Entry}
 use Rattle.kept_records.specs.declared.record.Record.{Record}
 use Rattle.kept_records.specs.declared.record.Record.TheVariants as records
 use Rattle.field_bounds.specs.Schema.{SchemaValue}
-use Rattle.field_bounds.specs.Effects.{Base, Effect, Begins, Grants, Commits, Aborts, Gives, Accepts, Stops, same_txn, is_begun, is_open, escrows_of, takes, share, own_rights, given, accepted}
+use Rattle.field_bounds.specs.declared.effect.Effect.{Effect}
+use Rattle.field_bounds.specs.declared.effect.Effect.TheVariants.{Begins, Grants, Commits, Aborts, Gives, Accepts, Stops}
+use Rattle.field_bounds.specs.Effects.{Base, same_txn, is_begun, is_open, escrows_of, takes, share, own_rights, given, accepted}
 use Rattle.field_bounds.specs.Owed.{Place, place, first, refusals, writes, epoch_of, gain_of, told_so_far, IsRun}
 use Rattle.kept_records.specs.Stands.{greatest, given_in, accepted_in, own_in, is_other_site, may_commit, room_in, may_stand}
 use Rattle.kept_state.specs.Keeps.{IsBase, record_at, Keeps}
 use Rattle.field_bounds.proofs.Lawful.{IsLawful, granted-mono, same_txn-true}
-use Rattle.field_bounds.proofs.Refused.{none_holds, begun_and_open, is_restart, up_there}
+use Rattle.field_bounds.proofs.Refused.{none_holds, is_restart, up_there, commit_is_opened, give_is_to_a_site, give_is_in_schema, give_is_some, give_is_enough, give_is_to_another, accept_is_from_a_site, accept_is_in_schema, accept_is_from_another, accept_has_room}
 use Rattle.field_bounds.proofs.Doubt.{nothing_in_doubt}
 use Rattle.field_bounds.proofs.Runs.{run_is_lawful, open_is_current}
 use Rattle.kept_state.proofs.Agreeing.{of_txn_kept}
@@ -42,7 +44,7 @@ all_granted : (schema : SchemaValue) (base : Base) (p : EscrowOf → Bool) (id :
     → IsLawful schema base es → list_all p (escrows_of id es) ≡ true
 all_granted schema base p id h [] lawful = refl
 all_granted schema base p id h (Grants txn field change ∷ es) lawful =
-    let e : EscrowOf = record { field = record { 0 = field }; change = change } in
+    let e : EscrowOf = record { field = field; change = change } in
     let rest = all_granted schema base p id h es lawful.0 in
     elim (cases_Bool (same_txn id txn)) as (λ _. list_all p (cond (same_txn id txn) (e ∷ escrows_of id es) (escrows_of id es)) ≡ true) [
       | inl is ↦ rw (is, h e lawful.1.in_schema) rest
@@ -75,16 +77,16 @@ module _ (at : Place) (rs : List Record)
           granted-mono (λ id. same_txn txn id) (λ id. is_open id at.effects) (λ id same. subst (λ (x : TxnId). is_open x at.effects ≡ true) (same_txn-true txn id same) opened) f k at.effects,
         )
 
-    other_site : (site : SiteNo) → nat_le at.schema.sites site.0 ≡ false → (site.0 == at.site) ≡ false → is_other_site at.schema at.site site.0 ≡ true
-    other_site site known apart = rw (lt-ltb site.0 at.schema.sites (leb-false _ _ known), apart) refl
+    other_site : (site : SiteNo) → site.0 < at.schema.sites → site.0 ≢ at.site → is_other_site at.schema at.site site.0 ≡ true
+    other_site site known apart = rw (lt-ltb site.0 at.schema.sites known, ne_eqb site.0 at.site apart) refl
 
-    gift_stands : (to : SiteNo) (field : FieldNo) (kind : Kind) (amount : ℕ) → nat_le at.schema.sites to.0 ≡ false → nat_le (length at.schema.fields) field.0 ≡ false → (to.0 == at.site) ≡ false
+    gift_stands : (to : SiteNo) (field : FieldNo) (kind : Kind) (amount : ℕ) → to.0 < at.schema.sites → field.0 < length at.schema.fields → to.0 ≢ at.site
         → 0 < amount → amount ≤ share at.base field.0 kind at.effects → may_stand at.schema at.site rs (records.Gift to field kind (told_so_far at to field kind + amount)) ≡ true
     gift_stands to field kind amount site known apart some enough =
         let total = told_so_far at to field kind + amount in
         rw (
           other_site to site apart,
-          lt-ltb field.0 (length at.schema.fields) (leb-false _ _ known),
+          lt-ltb field.0 (length at.schema.fields) known,
           lt-ltb (given_in rs to.0 field.0 kind) total (omega (arith, given_is to.0 field.0 kind, some)),
           le-leb (total - given_in rs to.0 field.0 kind) (own_in at.schema at.site rs field.0 kind) (omega (arith, given_is to.0 field.0 kind, own_is field.0 kind, enough)),
         ) refl
@@ -92,7 +94,7 @@ module _ (at : Place) (rs : List Record)
     pub stands_there : (c : Command) → first (refusals at c) ≡ None → writes at c ≡ true → may_stand at.schema at.site rs (record_at at c) ≡ true
     stands_there (Commit txn) h w =
         let none = none_holds (refusals at (Commit txn)) h in
-        let both = begun_and_open (is_begun txn at.effects) (is_open txn at.effects) none.1.0 in
+        let both = commit_is_opened at txn none in
         let escrows = reverse (escrows_of txn at.effects) in
         rw (
           eq-eqb txn.epoch (greatest rs) (current txn both.0 both.1 ∙ greatest_is),
@@ -106,17 +108,22 @@ module _ (at : Place) (rs : List Record)
         ) refl
     stands_there (Give to field kind amount) h w =
         let none = none_holds (refusals at (Give to field kind amount)) h in
-        gift_stands to field kind amount none.1.0 none.1.1.0 none.1.1.1.1.1.1.0 (omega (arith, eqb-false amount 0 none.1.1.1.0)) (ltb-false _ _ none.1.1.1.1.1.0)
+        gift_stands to field kind amount
+        (give_is_to_a_site at to field kind amount none)
+        (give_is_in_schema at to field kind amount none)
+        (give_is_to_another at to field kind amount none)
+        (omega (arith, give_is_some at to field kind amount none))
+        (give_is_enough at to field kind amount none)
     stands_there (Accept told) h w =
         let none = none_holds (refusals at (Accept told)) h in
         let f = told.field.0 in
         let old = accepted_is told.from.0 f told.kind in
         rw (
-          other_site told.from none.1.0 none.1.1.1.1.1.1.0,
-          lt-ltb f (length at.schema.fields) (leb-false _ _ none.1.1.1.0),
+          other_site told.from (accept_is_from_a_site at told none) (accept_is_from_another at told none),
+          lt-ltb f (length at.schema.fields) (accept_is_in_schema at told none),
           lt-ltb (accepted_in rs told.from.0 f told.kind) told.total (omega (arith, old, ltb-true 0 (gain_of at told.from told.field told.kind told.total) w)),
           le-leb (told.total - accepted_in rs told.from.0 f told.kind) (room_in at.schema at.site rs f)
-              (omega (arith, old, own_is f Lower, own_is f Raise, ltb-false _ _ none.1.1.1.1.1.1.1.1.0)),
+              (omega (arith, old, own_is f Lower, own_is f Raise, accept_has_room at told none)),
         ) refl
     stands_there Begin h w = cc
     stands_there (Escrow txn field change) h w = cc
