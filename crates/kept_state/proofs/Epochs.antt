@@ -14,7 +14,7 @@ use Rattle.kept_records.specs.declared.record.Record.{Record}
 use Rattle.kept_records.specs.declared.record.Record.TheVariants as records
 use Rattle.field_bounds.specs.Schema.{SchemaValue}
 use Rattle.field_bounds.specs.Effects.{Base, kept_before}
-use Rattle.field_bounds.specs.Owed.{Place, place, is_up, up_after, epoch_of, epoch_after, count_since, count_after, is_still_down, is_unsure, count_escrows, gain_of, max_number, RestartFits}
+use Rattle.field_bounds.specs.Owed.{Place, place, is_up, up_after, epoch_of, epoch_after, count_since, count_after, is_still_down, is_unsure, count_escrows, gain_of, max_epoch, RestartFits}
 use Rattle.kept_records.specs.Stands.{later, greatest}
 use Rattle.kept_state.specs.Keeps.{IsBase, noted, adds, Tells, Keeps}
 use Rattle.kept_records.proofs.Pushes.{greatest_push}
@@ -77,12 +77,12 @@ up_epoch schema s base bs is kept o rs keeps up = omega (arith, keeps_epoch sche
 -- ---- the epochs that a restart may answer are the greatest kept one plus 1
 
 pub restart_fits : (schema : SchemaValue) (s : ℕ) (base : Base) (bs : List Record) → IsBase schema s base bs → (kept : Bool) (o : List Entry) (rs : List Record) → Keeps schema s base bs kept o rs
-    → (found : Last) → greatest rs < max_number → (count_since is_unsure o ≡ 0 → found ≡ Nothing) → (found ≡ Nothing → count_since is_unsure o ≡ 0)
+    → (found : Last) → greatest rs < max_epoch → (count_since is_unsure o ≡ 0 → found ≡ Nothing) → (found ≡ Nothing → count_since is_unsure o ≡ 0)
     → RestartFits (place schema s base o) (Restarted (greatest rs + 1) found)
 restart_fits schema s base bs is kept o rs keeps found below there back =
     let between = keeps_epoch schema s base bs is kept o rs keeps in
     (omega (arith, between), omega (arith, between), omega (arith, below), (there, back))
 
 pub refused_fits : (schema : SchemaValue) (s : ℕ) (base : Base) (bs : List Record) → IsBase schema s base bs → (kept : Bool) (o : List Entry) (rs : List Record) → Keeps schema s base bs kept o rs
-    → max_number ≤ greatest rs → RestartFits (place schema s base o) (Refused NumbersFull)
+    → max_epoch ≤ greatest rs → RestartFits (place schema s base o) (Refused NumbersFull)
 refused_fits schema s base bs is kept o rs keeps full = (refl, omega (arith, full, keeps_epoch schema s base bs is kept o rs keeps))

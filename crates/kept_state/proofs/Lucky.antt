@@ -13,7 +13,7 @@ use Rattle.field_bounds.specs.declared.entry.Last.TheVariants.{Nothing, Kept, Lo
 use Rattle.field_bounds.specs.declared.entry.Entry.{Entry}
 use Rattle.field_bounds.specs.Schema.{SchemaValue}
 use Rattle.field_bounds.specs.Effects.{Base}
-use Rattle.field_bounds.specs.Owed.{Place, place, first, refusals, answer, writes, epoch_of, epoch_after, count_since, count_after, is_still_down, is_unsure, max_number, Fits, RestartFits, AnswerFits}
+use Rattle.field_bounds.specs.Owed.{Place, place, first, refusals, answer, writes, epoch_of, epoch_after, count_since, count_after, is_still_down, is_unsure, max_epoch, Fits, RestartFits, AnswerFits}
 use Rattle.field_bounds.specs.Central.{own}
 use Rattle.kept_state.specs.declared.luck.Luck.{Luck}
 use Rattle.kept_state.specs.declared.luck.Luck.TheVariants.{Fine, Torn}
@@ -74,7 +74,7 @@ doubt_agrees schema s base (x ∷ xs) =
 
 -- ---- the one reply
 
-restart_cases : (at : Place) (covered : ℕ) (found : Last) (luck : Luck) (b : Bool) → leb max_number (epoch_of at.base at.entries + covered) ≡ b
+restart_cases : (at : Place) (covered : ℕ) (found : Last) (luck : Luck) (b : Bool) → leb max_epoch (epoch_of at.base at.entries + covered) ≡ b
     → covered ≤ count_since is_still_down at.entries → Agree found (count_since is_unsure at.entries)
     → RestartFits at (if b then Refused NumbersFull else (if is_torn luck then StillDown else Restarted (epoch_of at.base at.entries + covered + 1) found))
 restart_cases at covered found luck true full few agree = let much = leb-true _ _ full in (refl, omega (arith, few, much))
@@ -95,7 +95,7 @@ answer_cases at c luck None false is torn =
 
 pub lucky_fits : (schema : SchemaValue) (s : ℕ) (base : Base) (xs : List Lucky) (c : Command) (luck : Luck) → Fits (place schema s base (entries xs)) c (lucky_reply schema s base xs c luck)
 lucky_fits schema s base xs Restart luck =
-    restart_cases (place schema s base (entries xs)) (covered_restarts base xs) (doubt schema s base xs) luck (leb max_number (epoch_of base (entries xs) + covered_restarts base xs)) refl
+    restart_cases (place schema s base (entries xs)) (covered_restarts base xs) (doubt schema s base xs) luck (leb max_epoch (epoch_of base (entries xs) + covered_restarts base xs)) refl
     (covered_within base xs) (doubt_agrees schema s base xs)
 lucky_fits schema s base xs c luck =
     answer_cases (place schema s base (entries xs)) c luck (first (refusals (place schema s base (entries xs)) c)) (is_torn luck && writes (place schema s base (entries xs)) c) refl refl

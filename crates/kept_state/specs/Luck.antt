@@ -11,7 +11,7 @@ use Rattle.field_bounds.specs.declared.entry.Last.TheVariants.{Nothing, Kept, Lo
 use Rattle.field_bounds.specs.declared.entry.Entry.{Entry}
 use Rattle.field_bounds.specs.Schema.{SchemaValue}
 use Rattle.field_bounds.specs.Effects.{Base}
-use Rattle.field_bounds.specs.Owed.{Place, place, first, refusals, answer, writes, epoch_of, max_number}
+use Rattle.field_bounds.specs.Owed.{Place, place, first, refusals, answer, writes, epoch_of, max_epoch}
 use Rattle.kept_records.specs.declared.record.Record.TheVariants.{Restart}
 use Rattle.kept_records.specs.Text.{text}
 use Rattle.kept_state.specs.declared.luck.Luck.{Luck}
@@ -76,7 +76,7 @@ refused_or (Some refusal) reply = Refused refusal
 -- A restart that finds this greatest epoch and this of the record in doubt.
 abbrev pub restart_reply : ℕ → Last → Luck → Reply
 restart_reply kept_epoch found luck =
-    if nat_le max_number kept_epoch then Refused NumbersFull else (if is_torn luck then StillDown else Restarted (kept_epoch + 1) found)
+    if nat_le max_epoch kept_epoch then Refused NumbersFull else (if is_torn luck then StillDown else Restarted (kept_epoch + 1) found)
 
 -- Any other command: in doubt exactly where it would append and its luck is torn.
 abbrev pub answer_reply : Place → Command → Luck → Reply

@@ -11,7 +11,7 @@ ghost use Rattle.field_bounds.specs.declared.entry.Reply.TheVariants.{Restarted,
 ghost use Rattle.field_bounds.specs.declared.entry.Refusal.TheVariants.{NumbersFull};
 ghost use Rattle.field_bounds.specs.Schema.{SchemaValue};
 ghost use Rattle.field_bounds.specs.Effects.{Base, fresh, effects, share, held, own_rights, given, accepted};
-ghost use Rattle.field_bounds.specs.Owed.{place, is_up, epoch_of, count_since, is_unsure, max_number, Fits, RestartFits, IsRun};
+ghost use Rattle.field_bounds.specs.Owed.{place, is_up, epoch_of, count_since, is_unsure, max_epoch, Fits, RestartFits, IsRun};
 ghost use Rattle.kept_records.specs.declared.record.Record.{Record};
 ghost use Rattle.kept_records.specs.Stands.{greatest, given_in, accepted_in, own_in, stands, Lawful};
 ghost use Rattle.kept_state.specs.declared.luck.Luck.{Luck};
@@ -79,13 +79,13 @@ pub fn records_stand()
         InDoubt kept before note rs → stands_behind (length before) rs ≡ kept }
     ensures fits { (schema : SchemaValue) (s : ℕ) (base : Base) (bs : List Record) (kept : Bool)
         (o : List Entry) (rs : List Record) (found : Last) →
-        IsBase schema s base bs → Keeps schema s base bs kept o rs → greatest rs < max_number →
+        IsBase schema s base bs → Keeps schema s base bs kept o rs → greatest rs < max_epoch →
         (count_since is_unsure o ≡ 0 → found ≡ Nothing) →
         (found ≡ Nothing → count_since is_unsure o ≡ 0) →
         RestartFits (place schema s base o) (Restarted (greatest rs + 1) found) }
     ensures refused { (schema : SchemaValue) (s : ℕ) (base : Base) (bs : List Record) (kept : Bool)
         (o : List Entry) (rs : List Record) →
-        IsBase schema s base bs → Keeps schema s base bs kept o rs → max_number ≤ greatest rs →
+        IsBase schema s base bs → Keeps schema s base bs kept o rs → max_epoch ≤ greatest rs →
         RestartFits (place schema s base o) (Refused NumbersFull) }
     ensures stands { (schema : SchemaValue) (s : ℕ) (up : Bool) (rs : List Record) →
         Lawful schema s rs → IsBase schema s (stands schema s up rs) rs }

@@ -14,7 +14,7 @@ ghost use Rattle.field_bounds.specs.declared.entry.Refusal.{Refusal};
 ghost use Rattle.field_bounds.specs.Schema.{SchemaValue};
 ghost use Rattle.field_bounds.specs.Limits.{IsSchema};
 ghost use Rattle.field_bounds.specs.Effects.{Base};
-ghost use Rattle.field_bounds.specs.Owed.{Place, place, first, refusals, answer, writes, is_up, epoch_of, is_unsure, max_number, TellsDoubt, IsRun};
+ghost use Rattle.field_bounds.specs.Owed.{Place, place, first, refusals, answer, writes, is_up, epoch_of, is_unsure, max_epoch, TellsDoubt, IsRun};
 ghost use Rattle.kept_records.specs.declared.record.Record.{Record};
 ghost use Rattle.kept_records.specs.declared.record.Record.TheVariants as records;
 ghost use Rattle.kept_records.specs.Text.{IsRecord};
@@ -104,10 +104,10 @@ pub fn records_may_be_written()
         writes (place schema s base o) command ≡ true →
         may_stand schema s rs (record_at (place schema s base o) command) ≡ true }
     ensures in_range { (schema : SchemaValue) (s : ℕ) (base : Base) (o : List Entry)
-        (command : Command) → IsSchema schema → IsRun schema s base o → base.epoch ≤ max_number →
+        (command : Command) → IsSchema schema → IsRun schema s base o → base.epoch ≤ max_epoch →
         first (refusals (place schema s base o) command) ≡ None →
         writes (place schema s base o) command ≡ true →
         IsRecord (record_at (place schema s base o) command) }
     ensures epoch { (schema : SchemaValue) (s : ℕ) (base : Base) (o : List Entry) →
-        IsRun schema s base o → base.epoch ≤ max_number → epoch_of base o ≤ max_number }
+        IsRun schema s base o → base.epoch ≤ max_epoch → epoch_of base o ≤ max_epoch }
 {}
