@@ -9,7 +9,9 @@ use Rattle.field_bounds.specs.declared.kind.Kind.{Kind}
 use Rattle.field_bounds.specs.declared.id.TxnId.{TxnId}
 use Rattle.field_bounds.specs.declared.entry.Escrow.{Escrow}
 use Rattle.field_bounds.specs.Schema.{SchemaValue}
-use Rattle.field_bounds.specs.Effects.{Base, Effect, Begins, Grants, Commits, Aborts, Gives, Accepts, Stops, same_txn, begun, open_txns, is_begun, is_committed, is_dropped, is_open, escrows_of, takes, held}
+use Rattle.field_bounds.specs.declared.effect.Effect.{Effect}
+use Rattle.field_bounds.specs.declared.effect.Effect.TheVariants.{Begins, Grants, Commits, Aborts, Gives, Accepts, Stops}
+use Rattle.field_bounds.specs.Effects.{Base, same_txn, begun, open_txns, is_begun, is_committed, is_dropped, is_open, escrows_of, takes, held}
 use Rattle.field_bounds.specs.Owed.{count_open}
 use Rattle.field_bounds.proofs.Lawful.{IsLawful, granted-mono, same_txn-true}
 use Rattle.field_bounds.proofs.Steps.{same_txn-sym, of_txn, of_txn_is, held_grant, held_commit, held_abort, new_is_unused}
@@ -84,17 +86,17 @@ journal_of-begin t es opened none =
     ∙ map-append (row_of es) (reverse (open_txns es)) (t ∷ [])
     ∙ ap (λ (r : Row). journal_of es ++ r ∷ []) last
 
-one_more : (txn : TxnId) (e : Escrow) (es : List Effect) (u : TxnId) → with_escrow txn e (row_of es u) ≡ row_of (Grants txn e.field.0 e.change ∷ es) u
+one_more : (txn : TxnId) (e : Escrow) (es : List Effect) (u : TxnId) → with_escrow txn e (row_of es u) ≡ row_of (Grants txn e.field e.change ∷ es) u
 one_more txn e es u = by (same_txn u txn)
   where
     by : (b : Bool) → ◌≡◌ {A = Row} (cond b (u, reverse (escrows_of u es) ++ e ∷ []) (u, reverse (escrows_of u es))) (u, reverse (cond b (e ∷ escrows_of u es) (escrows_of u es)))
     by true = ap (λ (xs : List Escrow). (u, xs)) (sym (reverse-cons e (escrows_of u es)))
     by false = refl
 
-pub journal_of-grant : (txn : TxnId) (e : Escrow) (es : List Effect) → added txn e (journal_of es) ≡ journal_of (Grants txn e.field.0 e.change ∷ es)
+pub journal_of-grant : (txn : TxnId) (e : Escrow) (es : List Effect) → added txn e (journal_of es) ≡ journal_of (Grants txn e.field e.change ∷ es)
 journal_of-grant txn e es =
     map-map (with_escrow txn e) (row_of es) (reverse (open_txns es))
-    ∙ map-agree (λ u. with_escrow txn e (row_of es u)) (row_of (Grants txn e.field.0 e.change ∷ es)) (one_more txn e es) (reverse (open_txns es))
+    ∙ map-agree (λ u. with_escrow txn e (row_of es u)) (row_of (Grants txn e.field e.change ∷ es)) (one_more txn e es) (reverse (open_txns es))
 
 -- the effect of an end
 abbrev pub ended : Outcome → TxnId → Effect
@@ -151,7 +153,7 @@ module _ (schema : SchemaValue) (base : Base) (es : List Effect) (lawful : IsLaw
         journal = ap (λ (j : List Row). j ++ (t, []) ∷ []) was.journal ∙ sym (journal_of-begin t es opened unused.no_escrow);
       }
 
-  pub aside_grant : (txn : TxnId) (e : Escrow) → e.field.0 < length rows → is_open txn es ≡ true → SetsAside (Grants txn e.field.0 e.change ∷ es) (by_escrow taken rows e) (added txn e journal)
+  pub aside_grant : (txn : TxnId) (e : Escrow) → e.field.0 < length rows → is_open txn es ≡ true → SetsAside (Grants txn e.field e.change ∷ es) (by_escrow taken rows e) (added txn e journal)
   aside_grant txn e range opened =
       let same = length-by_escrow taken rows e in
       record {
@@ -164,10 +166,10 @@ module _ (schema : SchemaValue) (base : Base) (es : List Effect) (lawful : IsLaw
   in_range_of t [] l = All-nil (λ (e : Escrow). e.field.0 < length rows)
   in_range_of t (Grants txn field change ∷ fs) l =
       let before = in_range_of t fs l.0 in
-      by (same_txn t txn) before (All-cons (λ (e : Escrow). e.field.0 < length rows) (record { field = record { 0 = field }; change = change }) (escrows_of t fs) (omega (arith, was.count, l.1.in_schema)) before)
+      by (same_txn t txn) before (All-cons (λ (e : Escrow). e.field.0 < length rows) (record { field = field; change = change }) (escrows_of t fs) (omega (arith, was.count, l.1.in_schema)) before)
     where
-      by : (b : Bool) → AreInRange rows (escrows_of t fs) → AreInRange rows (record { field = record { 0 = field }; change = change } ∷ escrows_of t fs)
-          → AreInRange rows (cond b (record { field = record { 0 = field }; change = change } ∷ escrows_of t fs) (escrows_of t fs))
+      by : (b : Bool) → AreInRange rows (escrows_of t fs) → AreInRange rows (record { field = field; change = change } ∷ escrows_of t fs)
+          → AreInRange rows (cond b (record { field = field; change = change } ∷ escrows_of t fs) (escrows_of t fs))
       by true before more = more
       by false before more = before
   in_range_of t (Begins txn ∷ fs) l = in_range_of t fs l.0

@@ -4,7 +4,8 @@ use Rattle.field_bounds.specs.declared.kind.Kind.{Kind}
 use Rattle.field_bounds.specs.declared.entry.Entry.{Entry}
 use Rattle.field_bounds.specs.Schema.{SchemaValue}
 use Rattle.field_bounds.specs.Parts.{field_at, width_of}
-use Rattle.field_bounds.specs.Effects.{Base, Effect, given, accepted, share, held, effects}
+use Rattle.field_bounds.specs.declared.effect.Effect.{Effect}
+use Rattle.field_bounds.specs.Effects.{Base, given, accepted, share, held, effects}
 use Rattle.field_bounds.specs.Owed.{epoch_of, count_since, is_begun_reply, is_up}
 use Rattle.site_rights.specs.declared.field_rights.FieldRights.{FieldRights}
 use Rattle.site_rights.specs.Rights.{row_at, free_at, held_at}

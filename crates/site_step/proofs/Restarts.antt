@@ -13,7 +13,9 @@ use Rattle.field_bounds.specs.declared.entry.Reply.TheVariants.{Restarted, Still
 use Rattle.field_bounds.specs.declared.entry.Refusal.TheVariants.{NumbersFull}
 use Rattle.field_bounds.specs.declared.entry.Entry.{Entry}
 use Rattle.field_bounds.specs.Schema.{SchemaValue}
-use Rattle.field_bounds.specs.Effects.{Base, Effect, Stops, effects, says_kept}
+use Rattle.field_bounds.specs.declared.effect.Effect.{Effect}
+use Rattle.field_bounds.specs.declared.effect.Effect.TheVariants.{Stops}
+use Rattle.field_bounds.specs.Effects.{Base, effects, says_kept}
 use Rattle.field_bounds.specs.Owed.{Place, is_unsure, count_since, max_number, RestartFits}
 use Rattle.field_bounds.proofs.Runs.{run_is_lawful}
 use Rattle.field_bounds.proofs.Stops.{stop_closes_all, held_stop}

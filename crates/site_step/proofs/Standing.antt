@@ -2,7 +2,7 @@
 use Rattle.std.proofs.Common.{◌≡◌, ℕ, ◌+◌, ◌<◌, ◌≤◌, Bool, true, false, ◌&&◌, List, [], ◌∷◌, ◌++◌, length, reverse, refl, sym, ap, subst, ◌∙◌, arith, None}
 use Rattle.std.specs.Prelude.{◌==◌, unsigned_abs, sum_by}
 use Rattle.std.specs.List.{list_all}
-use Rattle.std.proofs.lemmas.Bool.{ltb-false, eqb-true, and_parts, false≢true}
+use Rattle.std.proofs.lemmas.Bool.{eqb-true, and_parts, false≢true}
 use Rattle.std.proofs.lemmas.List.{length-reverse}
 use Rattle.field_bounds.specs.declared.id.SiteNo.{SiteNo}
 use Rattle.field_bounds.specs.declared.id.FieldNo.{FieldNo}
@@ -16,9 +16,10 @@ use Rattle.field_bounds.specs.declared.entry.Reply.TheVariants.{Begun, Granted, 
 use Rattle.field_bounds.specs.declared.entry.Refusal.{Refusal}
 use Rattle.field_bounds.specs.Kind.{kind_of}
 use Rattle.field_bounds.specs.Schema.{SchemaValue}
-use Rattle.field_bounds.specs.Effects.{Base, Effect, effects, is_begun, is_open, escrows_of, takes}
+use Rattle.field_bounds.specs.declared.effect.Effect.{Effect}
+use Rattle.field_bounds.specs.Effects.{Base, effects, is_begun, is_open, escrows_of, takes}
 use Rattle.field_bounds.specs.Owed.{Place, place, refusals, first, answer, epoch_of, count_since, is_begun_reply, max_open, max_escrows, writes, told_so_far, IsRun}
-use Rattle.field_bounds.proofs.Refused.{none_holds, begun_and_open, is_below}
+use Rattle.field_bounds.proofs.Refused.{none_holds, begin_is_one_of_few, escrow_is_in_schema, escrow_is_opened, escrow_is_enough, escrow_is_one_of_few, commit_is_opened, abort_is_opened, give_is_in_schema, give_is_enough}
 use Rattle.field_bounds.proofs.Doubt.{after_refused}
 use Rattle.field_bounds.proofs.Runs.{Ran, run_leaves, next_is_new}
 use Rattle.site_rights.specs.declared.field_rights.FieldRights.{FieldRights}
@@ -77,18 +78,18 @@ module _ (schema : SchemaValue) (s : ℕ) (base : Base) (o : List Entry) (a : Ac
   -- what the ladder tells of a begin that isn't refused
   pub room_by : first (refusals at Begin) ≡ None → length journal < max_open
   room_by none =
-      omega (arith, ap length was.matches.journal, length-journal_of es, is_below _ _ (none_holds (refusals at Begin) none).1.0)
+      omega (arith, ap length was.matches.journal, length-journal_of es, begin_is_one_of_few at (none_holds (refusals at Begin) none))
 
   -- what the ladder tells of an escrow that isn't refused
   pub opened_by : (txn : TxnId) (e : Escrow) → first (refusals at (Ask txn e.field e.change)) ≡ None → (is_begun txn es ≡ true) × (is_open txn es ≡ true)
-  opened_by txn e none = begun_and_open (is_begun txn es) (is_open txn es) (none_holds (refusals at (Ask txn e.field e.change)) none).1.1.0
+  opened_by txn e none = escrow_is_opened at txn e.field e.change (none_holds (refusals at (Ask txn e.field e.change)) none)
 
   pub in_range_by : (txn : TxnId) (e : Escrow) → first (refusals at (Ask txn e.field e.change)) ≡ None → e.field.0 < length rows
-  in_range_by txn e none = omega (arith, was.matches.count, is_below _ _ (none_holds (refusals at (Ask txn e.field e.change)) none).1.0)
+  in_range_by txn e none = omega (arith, was.matches.count, escrow_is_in_schema at txn e.field e.change (none_holds (refusals at (Ask txn e.field e.change)) none))
 
   pub enough_by : (txn : TxnId) (e : Escrow) → first (refusals at (Ask txn e.field e.change)) ≡ None → unsigned_abs e.change ≤ free_at rows e.field.0 (kind_of e.change)
   enough_by txn e none =
-      omega (arith, was.matches.free e.field.0 (kind_of e.change) (in_range_by txn e none), ltb-false _ _ (none_holds (refusals at (Ask txn e.field e.change)) none).1.1.1.1.1.0)
+      omega (arith, was.matches.free e.field.0 (kind_of e.change) (in_range_by txn e none), escrow_is_enough at txn e.field e.change (none_holds (refusals at (Ask txn e.field e.change)) none))
 
   pub stands_open : (txn : TxnId) → (is_begun txn es ≡ true) × (is_open txn es ≡ true) → stands txn journal ≡ true
   stands_open txn both = ap (stands txn) was.matches.journal ∙ stands-journal_of txn es ∙ both_true (is_begun txn es) (is_open txn es) both.0 both.1
@@ -102,7 +103,7 @@ module _ (schema : SchemaValue) (s : ℕ) (base : Base) (o : List Entry) (a : Ac
         arith,
         ap length (escrows_are txn (opened_by txn e none)),
         length-reverse (escrows_of txn es),
-        is_below _ _ (none_holds (refusals at (Ask txn e.field e.change)) none).1.1.1.1.1.1.0,
+        escrow_is_one_of_few at txn e.field e.change (none_holds (refusals at (Ask txn e.field e.change)) none),
       )
 
   -- ---- ends
@@ -118,8 +119,8 @@ module _ (schema : SchemaValue) (s : ℕ) (base : Base) (o : List Entry) (a : Ac
 
   -- what the ladder tells of an end that isn't refused
   pub end_opened : (outcome : Outcome) (txn : TxnId) → first (refusals at (end_command outcome txn)) ≡ None → (is_begun txn es ≡ true) × (is_open txn es ≡ true)
-  end_opened Committed txn none = begun_and_open (is_begun txn es) (is_open txn es) (none_holds (refusals at (Commit txn)) none).1.0
-  end_opened Aborted txn none = begun_and_open (is_begun txn es) (is_open txn es) (none_holds (refusals at (Abort txn)) none).1.0
+  end_opened Committed txn none = commit_is_opened at txn (none_holds (refusals at (Commit txn)) none)
+  end_opened Aborted txn none = abort_is_opened at txn (none_holds (refusals at (Abort txn)) none)
 
   pub can_settle : (c : Command) → first (refusals at c) ≡ None → CanSettle a c
   can_settle (Commit txn) none = can_close txn (end_opened Committed txn none)
@@ -129,8 +130,8 @@ module _ (schema : SchemaValue) (s : ℕ) (base : Base) (o : List Entry) (a : Ac
   -- what the ladder tells of a gift that isn't refused
   give_enough : (to : SiteNo) (field : FieldNo) (kind : Kind) (amount : ℕ) → first (refusals at (Give to field kind amount)) ≡ None → amount ≤ free_at rows field.0 kind
   give_enough to field kind amount refused =
-      let none = (none_holds (refusals at (Give to field kind amount)) refused).1 in
-      omega (arith, was.matches.free field.0 kind (omega (arith, is_below _ _ none.1.0, was.matches.count)), ltb-false _ _ none.1.1.1.1.0)
+      let none = none_holds (refusals at (Give to field kind amount)) refused in
+      omega (arith, was.matches.free field.0 kind (omega (arith, give_is_in_schema at to field kind amount none, was.matches.count)), give_is_enough at to field kind amount none)
 
   -- ---- what is kept and what is set aside
 

@@ -8,7 +8,8 @@ use Rattle.field_bounds.specs.declared.entry.Command.TheVariants.{Begin, Escrow,
 use Rattle.field_bounds.specs.declared.entry.Entry.{Entry}
 use Rattle.field_bounds.specs.Schema.{SchemaValue}
 use Rattle.field_bounds.specs.Limits.{IsSchema}
-use Rattle.field_bounds.specs.Effects.{Base, Effect, open_txns, escrows_of, held, effects}
+use Rattle.field_bounds.specs.declared.effect.Effect.{Effect}
+use Rattle.field_bounds.specs.Effects.{Base, open_txns, escrows_of, held, effects}
 use Rattle.field_bounds.specs.Owed.{count_since, is_begun_reply, is_up, max_number, IsRun}
 use Rattle.site_rights.specs.declared.field_rights.FieldRights.{FieldRights}
 use Rattle.site_rights.specs.declared.field_rights.Outcome.TheVariants.{Aborted}
