@@ -34,7 +34,7 @@ use Rattle.kept_state.specs.Keeps.{Keeps, adds}
 use Rattle.kept_records.specs.Keeping.{stands_behind}
 use Rattle.kept_state.specs.Doubt.{IsDoubt, found_of}
 use Rattle.kept_state.specs.Luck.{restart_length, owed_with}
-use Rattle.kept_state.proofs.Pushes.{greatest_push}
+use Rattle.kept_records.proofs.Pushes.{greatest_push}
 use Rattle.kept_state.proofs.Lasting.{run_stays_lawful}
 use Rattle.kept_state.proofs.Epochs.{restart_fits, refused_fits}
 use Rattle.kept_state.proofs.Sure.{keeps_sure}

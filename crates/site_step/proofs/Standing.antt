@@ -33,7 +33,7 @@ use Rattle.kept_records.specs.declared.record.Record.{Record}
 use Rattle.kept_records.specs.Stands.{greatest, is_field, is_other_site, may_commit, may_stand, Lawful}
 use Rattle.kept_state.specs.Keeps.{record_at}
 use Rattle.log_replay.specs.Standing.{Stands, TakesIn}
-use Rattle.log_replay.proofs.RecordSums.{gift_parts, accept_parts}
+use Rattle.kept_records.proofs.Covering.{gift_parts, accept_parts}
 use Rattle.log_replay.proofs.StandingLaws.{has_places, here_only, four_first, is_other, commit_on_fields, room_is}
 use Rattle.site_step.specs.declared.accounts.Accounts.{Accounts}
 use Rattle.site_step.specs.Site.{end_command}
