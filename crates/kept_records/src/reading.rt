@@ -32,6 +32,7 @@ impl<T: Drop> From<AllocFailed<T>> for LineFault {
 }
 
 // What a gift and an acceptance tell, with the other site.
+#[derive(Drop)]
 struct Total {
     other: SiteNo,
     field: FieldNo,
@@ -113,17 +114,12 @@ fn take_total(mut words: Words) -> Option<Total>
 fn take_gift(words: Words) -> Option<Record>
     ensures { result ≡ gift_from words.entry }
 {
-    let Total {
-        other,
-        field,
-        kind,
-        total,
-    } = take_total(words)?;
+    let told = take_total(words)?;
     Some(Record::Gift {
-        to: other,
-        field,
-        kind,
-        total,
+        to: told.other,
+        field: told.field,
+        kind: told.kind,
+        total: told.total,
     })
 }
 
@@ -131,17 +127,12 @@ fn take_gift(words: Words) -> Option<Record>
 fn take_accept(words: Words) -> Option<Record>
     ensures { result ≡ accept_from words.entry }
 {
-    let Total {
-        other,
-        field,
-        kind,
-        total,
-    } = take_total(words)?;
+    let told = take_total(words)?;
     Some(Record::Accept {
-        from: other,
-        field,
-        kind,
-        total,
+        from: told.other,
+        field: told.field,
+        kind: told.kind,
+        total: told.total,
     })
 }
 
