@@ -112,9 +112,8 @@ impl Journal {
         ensures ok { OnOk result (self.new ≡ added txn escrow self.old) }
         ensures err { OnErr result (self.new ≡ self.old) }
     {
-        if let Some(at) = place(&self.rows, txn) {
-            self.rows[at].escrows.push(escrow)?;
-        }
+        let at = place(&self.rows, txn).unwrap();
+        self.rows[at].escrows.push(escrow)?;
         Ok(())
     }
 

@@ -12,6 +12,7 @@ use Rattle.site_rights.specs.declared.field_rights.FieldRights.{FieldRights}
 use Rattle.site_rights.specs.declared.field_rights.Outcome.{Outcome}
 use Rattle.site_rights.specs.declared.field_rights.Outcome.TheVariants.{Committed, Aborted}
 use Rattle.field_bounds.specs.Effects.{takes}
+use Rattle.field_bounds.specs.Owed.{max_change}
 
 -- The amounts of a kind.
 abbrev pub amounts_of : FieldRights → Kind → Amounts
@@ -26,7 +27,7 @@ with_amounts r Raise a = record r { raise = a }
 -- The four amounts together are at most the width, and the width is within the greatest change.
 abbrev pub IsWithinWidth : FieldRights → Type 0
 IsWithinWidth r =
-    (r.lower.free + r.lower.held + r.raise.free + r.raise.held ≤ r.width) × (r.width ≤ 2_000_000_000_000_000)
+    (r.lower.free + r.lower.held + r.raise.free + r.raise.held ≤ r.width) × (r.width ≤ max_change)
 
 -- What stands in for the rights on a field that isn't there.
 abbrev pub no_rights : FieldRights

@@ -1,6 +1,7 @@
 //! The rights of one site.
 
 ghost use Rattle.std.specs.Prelude.{◌≡◌, ◌+◌, ◌<◌, ◌≤◌, ◌↔◌, length, OnOk, IfErr, OnErr, IsOk, IfOk, All};
+ghost use Rattle.field_bounds.specs.Owed.{max_change};
 ghost use Rattle.site_rights.specs.Rights.{IsFresh, IsWithinWidth, free_at, held_at, own_at, room_at, at_field, taken, given_back, turned, dropped, added, by_escrow, by_escrows, ending, CanEnd, AreFresh, AreHeld, AreInRange};
 
 use crate::field_rights::{Amounts, FieldRights, Outcome, Short};
@@ -45,7 +46,7 @@ impl Rights {
     pub fn free(&self, field: FieldNo, kind: Kind) -> u64
         requires in_schema { field.0 < length self.now }
         ensures value { result ≡ free_at self.now field.0 kind }
-        ensures most { result ≤ 2_000_000_000_000_000 }
+        ensures most { result ≤ max_change }
     {
         self.amounts(field, kind).free
     }
@@ -55,7 +56,7 @@ impl Rights {
     pub fn held(&self, field: FieldNo, kind: Kind) -> u64
         requires in_schema { field.0 < length self.now }
         ensures value { result ≡ held_at self.now field.0 kind }
-        ensures most { result ≤ 2_000_000_000_000_000 }
+        ensures most { result ≤ max_change }
     {
         self.amounts(field, kind).held
     }
@@ -64,7 +65,7 @@ impl Rights {
     pub fn own(&self, field: FieldNo, kind: Kind) -> u64
         requires in_schema { field.0 < length self.now }
         ensures value { result ≡ own_at self.now field.0 kind }
-        ensures most { result ≤ 2_000_000_000_000_000 }
+        ensures most { result ≤ max_change }
     {
         let amounts = self.amounts(field, kind);
         amounts.free + amounts.held
@@ -75,7 +76,7 @@ impl Rights {
     pub fn room(&self, field: FieldNo) -> u64
         requires in_schema { field.0 < length self.now }
         ensures value { result ≡ room_at self.now field.0 }
-        ensures most { result ≤ 2_000_000_000_000_000 }
+        ensures most { result ≤ max_change }
     {
         let row = self.rows[usize::from(field.0)];
         let own = row.lower.free + row.lower.held + row.raise.free + row.raise.held;
@@ -93,9 +94,9 @@ impl Rights {
     {
         self.check_free(field, kind, amount)?;
         let row = &mut self.rows[usize::from(field.0)];
-        both_kinds!(kind, row, |own| {
-            own.free -= amount;
-            own.held += amount;
+        both_kinds!(kind, row, |taking| {
+            taking.free -= amount;
+            taking.held += amount;
         });
         Ok(())
     }
@@ -107,9 +108,9 @@ impl Rights {
         ensures given_back { self.new ≡ at_field given_back self.old field.0 kind amount }
     {
         let row = &mut self.rows[usize::from(field.0)];
-        both_kinds!(kind, row, |own| {
-            own.held -= amount;
-            own.free += amount;
+        both_kinds!(kind, row, |returning| {
+            returning.held -= amount;
+            returning.free += amount;
         });
     }
 
@@ -198,7 +199,7 @@ impl Rights {
         requires in_schema { field.0 < length self.now }
         ensures free { result.free ≡ free_at self.now field.0 kind }
         ensures held { result.held ≡ held_at self.now field.0 kind }
-        ensures most { result.free + result.held ≤ 2_000_000_000_000_000 }
+        ensures most { result.free + result.held ≤ max_change }
     {
         let row = self.rows[usize::from(field.0)];
         match kind {

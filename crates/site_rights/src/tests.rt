@@ -1,8 +1,9 @@
-ghost use Rattle.std.specs.Prelude.{◌<◌, length, IfSome};
+ghost use Rattle.std.specs.Prelude.{◌<◌, length, IfOk};
 
 use super::*;
 use field_bounds::{FieldNo, FieldSpec, Kind, Schema, SiteNo};
 use std::alloc::Global;
+use std::process::Abort;
 use std::test::Fail;
 
 const STOCK: FieldNo = FieldNo(0);
@@ -36,22 +37,19 @@ fn second_of_two_sites(rt: HostRuntime) -> Result<(), Fail> {
     Ok(())
 }
 
-/// The rights of site 1 of two, 20 to lower the field and 30 to raise it, or None where memory was
-/// refused.
-fn half(alloc: Global) -> Option<Rights>
-    ensures in_schema { IfSome result (λ rights. 0 < length rights) }
+/// The rights of site 1 of two, 20 to lower the field and 30 to raise it.
+fn half(rt: &impl Abort, alloc: Global) -> Result<Rights, Fail>
+    ensures in_schema { IfOk result (λ rights. 0 < length rights) }
 {
     let field = FieldSpec {
-        name: String::from_str(alloc, "stock").ok()?,
+        name: String::from_str(alloc, "stock")?,
         floor: 0,
         ceiling: 100,
         value: 40,
     };
-    let schema = Schema::new(alloc, 2, vec![in alloc; field].ok()?).ok()?;
-    if schema.sites() < 2 || schema.fields() == 0 {
-        return None;
-    }
-    Rights::new(alloc, &schema, SiteNo(1)).ok()
+    let schema = Schema::new(alloc, 2, vec![in alloc; field]?)?;
+    assert!(rt; schema.sites() == 2 && schema.fields() == 1);
+    Ok(Rights::new(alloc, &schema, SiteNo(1))?)
 }
 
 /// What is answered where 21 of 20 free lowering rights are to leave, and then 20.
@@ -74,10 +72,10 @@ fn filled_up(rights: &mut Rights) -> (u64, u64)
 }
 
 #[test]
-fn rights_leave_and_come(rt: HostRuntime) {
-    if let Some(mut rights) = half(rt.alloc()) {
-        let short = Short { share: 20 };
-        assert_eq!(rt; given_away(&mut rights), (Err(short), Ok(())));
-        assert_eq!(rt; filled_up(&mut rights), (70, 100));
-    }
+fn rights_leave_and_come(rt: HostRuntime) -> Result<(), Fail> {
+    let mut rights = half(&rt, rt.alloc())?;
+    let short = Short { share: 20 };
+    assert_eq!(rt; given_away(&mut rights), (Err(short), Ok(())));
+    assert_eq!(rt; filled_up(&mut rights), (70, 100));
+    Ok(())
 }
