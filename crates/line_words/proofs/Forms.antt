@@ -1,9 +1,10 @@
 -- Words that a reader reads, and lists of words: one law for each kind of argument.
-use Rattle.std.proofs.Common.{◌≡◌, ℕ, List, [], ◌∷◌, ◌++◌, Option, Some, refl, ap, subst, ◌∙◌}
+use Rattle.std.proofs.Common.{◌≡◌, ℕ, List, [], ◌∷◌, ◌++◌, Option, Some, refl, sym, ap, subst, ◌∙◌}
+use Rattle.std.specs.Prelude.{IfSome}
 use Rattle.std.specs.List.{AllByRecursion}
 use Rattle.std.proofs.lemmas.Option.{same_Some, some_pair_parts}
 use Rattle.line_words.specs.Reading.{◌>>=◌, word_at}
-use Rattle.line_words.proofs.Numbers.{bind_some}
+use Rattle.line_words.proofs.Numbers.{bind_some, some_from}
 use Rattle.line_words.proofs.WordLemmas.{IsWord}
 
 -- The reader reads the values' texts and no others.
@@ -11,6 +12,15 @@ pub record IsRead {A : Type 0} (Fits : A → Type 0) (text : A → List ℕ) (re
   pub takes : (w : List ℕ) (v : A) → read w ≡ Some v → Fits v × (w ≡ text v)
   pub again : (v : A) → Fits v → read (text v) ≡ Some v
   pub plain : (v : A) → Fits v → IsWord (text v)
+
+-- what the answer of a reader says of the word
+pub read_says : {A : Type 0} {Fits : A → Type 0} {text : A → List ℕ} {read : List ℕ → Option A} (law : IsRead Fits text read) (w : List ℕ) (r : Option A) → r ≡ read w
+    → record { value : r ≡ read w; found : IfSome r (λ v. w ≡ text v); only : (v : A) → Fits v → w ≡ text v → r ≡ Some v }
+read_says {read = read} law w r e = record {
+  value = e;
+  found = some_from r _ (λ v h. (law.takes w v (sym e ∙ h)).1);
+  only = λ v fits h. e ∙ ap read h ∙ law.again v fits;
+}
 
 -- the first word is a value's, and the rest is read on
 pub record Begins {A B : Type 0} (Fits : A → Type 0) (text : A → List ℕ) (next : A × List (List ℕ) → Option B) (ws : List (List ℕ)) (y : B) : Type 0 where

@@ -13,16 +13,22 @@ None >>= f = None
 unfoldable pub number_of : ℕ → List ℕ → Option ℕ
 number_of limit w = if nat_lt (digits_value 10 w) limit && bytes_eq (decimal (digits_value 10 w)) w then Some (digits_value 10 w) else None
 
+-- The i64 below 0 that the digits spell without its sign.
+unfoldable pub negative_of : List ℕ → Option ℤ
+negative_of digits = do
+  n ← number_of (2 ^ 64) digits
+  if n == 0 then None else (if nat_lt (2 ^ 63) n then None else Some (negsuc (n - 1)))
+
+-- The i64 from 0 on that the word spells.
+unfoldable pub positive_of : List ℕ → Option ℤ
+positive_of w = do
+  n ← number_of (2 ^ 64) w
+  if nat_lt (2 ^ 63 - 1) n then None else Some (pos n)
+
 -- The i64 that the word spells: a number, or a minus (45) and a number other than 0.
 unfoldable pub signed_of : List ℕ → Option ℤ
 signed_of [] = None
-signed_of (c ∷ w) = if c == 45
-    then (do
-      n ← number_of (2 ^ 64) w
-      if n == 0 then None else (if nat_lt (2 ^ 63) n then None else Some (negsuc (n - 1))))
-    else (do
-      n ← number_of (2 ^ 64) (c ∷ w)
-      if nat_lt (2 ^ 63 - 1) n then None else Some (pos n))
+signed_of (c ∷ w) = if c == 45 then negative_of w else positive_of (c ∷ w)
 
 -- The number below a limit that the word spells, by way of a u64.
 abbrev pub below : ℕ → List ℕ → Option ℕ

@@ -3,7 +3,7 @@
 ghost use Rattle.std.specs.Prelude.{◌≡◌, ℕ, ◌<◌, ◌^◌, IfSome, Some, FitsSigned, ℤ, ◌≤◌, MatchBool, slice_index_or, length};
 ghost use Rattle.std.specs.Int.{w64};
 ghost use Rattle.std.specs.Fmt.{decimal, signed_decimal};
-ghost use Rattle.line_words.specs.Reading.{number_of, signed_of};
+ghost use Rattle.line_words.specs.Reading.{number_of, negative_of, positive_of, signed_of};
 
 // The greatest i64.
 const GREATEST: u64 = 9_223_372_036_854_775_807;
@@ -18,8 +18,13 @@ fn has_leading_zero(word: &[u8]) -> bool
     word.len() > 1 && word[0] == b'0'
 }
 
-fn number(word: &[u8]) -> Option<u64>
-    ensures { result ≡ number_of (2 ^ 64) word.now }
+/// The number that the word spells, 0 to 18,446,744,073,709,551,615: decimal digits, none leading
+/// that is 0, and `0` alone for zero. None where the word spells no number of that range. So each
+/// number has one word. Costs a pass over the word, and no memory.
+pub fn read_number(word: &[u8]) -> Option<u64>
+    ensures value { result ≡ number_of (2 ^ 64) word.now }
+    ensures found { IfSome result (λ n. word.now ≡ decimal n) }
+    ensures only { (n : ℕ) → n < 2 ^ 64 → word.now ≡ decimal n → result ≡ Some n }
 {
     if word.is_empty() || has_leading_zero(word) {
         return None;
@@ -36,40 +41,31 @@ fn number(word: &[u8]) -> Option<u64>
     Some(value)
 }
 
-#[tactic(auto, unfolding(crate::specs::Reading::signed_of))]
-fn signed(word: &[u8]) -> Option<i64>
-    ensures { result ≡ signed_of word.now }
+/// The number below 0 whose digits these are.
+#[tactic(auto, unfolding(crate::specs::Reading::negative_of))]
+fn negative(digits: &[u8]) -> Option<i64>
+    ensures { result ≡ negative_of digits.now }
 {
-    match word {
-        [b'-', digits @ ..] => {
-            let size = number(digits)?;
-            if size == 0 {
-                return None;
-            }
-            if size > LEAST {
-                return None;
-            }
-            Some(-1 - (size - 1) as i64)
-        }
-        _ => {
-            let size = number(word)?;
-            if size > GREATEST {
-                return None;
-            }
-            Some(size as i64)
-        }
+    let size = read_number(digits)?;
+    if size == 0 {
+        return None;
     }
+    if size > LEAST {
+        return None;
+    }
+    Some(-1 - (size - 1) as i64)
 }
 
-/// The number that the word spells, 0 to 18,446,744,073,709,551,615: decimal digits, none leading
-/// that is 0, and `0` alone for zero. None where the word spells no number of that range. So each
-/// number has one word. Costs a pass over the word, and no memory.
-pub fn read_number(word: &[u8]) -> Option<u64>
-    ensures value { result ≡ number_of (2 ^ 64) word.now }
-    ensures found { IfSome result (λ n. word.now ≡ decimal n) }
-    ensures only { (n : ℕ) → n < 2 ^ 64 → word.now ≡ decimal n → result ≡ Some n }
+/// The number from 0 on that the word spells.
+#[tactic(auto, unfolding(crate::specs::Reading::positive_of))]
+fn positive(word: &[u8]) -> Option<i64>
+    ensures { result ≡ positive_of word.now }
 {
-    number(word)
+    let size = read_number(word)?;
+    if size > GREATEST {
+        return None;
+    }
+    Some(size as i64)
 }
 
 /// The number with a sign that the word spells, -9,223,372,036,854,775,808 to
@@ -80,5 +76,8 @@ pub fn read_signed(word: &[u8]) -> Option<i64>
     ensures found { IfSome result (λ z. word.now ≡ signed_decimal z) }
     ensures only { (z : ℤ) → FitsSigned w64 z → word.now ≡ signed_decimal z → result ≡ Some z }
 {
-    signed(word)
+    match word {
+        [b'-', digits @ ..] => negative(digits),
+        _ => positive(word),
+    }
 }
