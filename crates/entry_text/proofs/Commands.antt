@@ -1,6 +1,6 @@
 -- Commands are read as they are spelled.
-use Rattle.std.proofs.Common.{◌≡◌, ℕ, List, ◌∷◌, ◌++◌, Option, Some, None, refl, ap, subst, ◌∙◌}
-use Rattle.std.specs.Prelude.{codes}
+use Rattle.std.proofs.Common.{◌≡◌, ℕ, List, ◌∷◌, ◌++◌, Option, Some, None, refl, sym, ap, subst, ◌∙◌}
+use Rattle.std.specs.Prelude.{codes, IfSome}
 use Rattle.std.specs.List.{AllByRecursion}
 use Rattle.std.proofs.lemmas.Option.{some_pair_parts}
 use Rattle.field_bounds.specs.declared.id.SiteNo.{SiteNo}
@@ -9,10 +9,10 @@ use Rattle.field_bounds.specs.declared.entry.Command.TheVariants.{Begin, Escrow,
 use Rattle.field_bounds.specs.Schema.{SchemaValue}
 use Rattle.field_bounds.specs.Limits.{IsSchema}
 use Rattle.line_words.specs.Reading.{◌>>=◌, word_at}
-use Rattle.line_words.proofs.Numbers.{bind_some}
-use Rattle.line_words.proofs.WordLemmas.{IsWord, word_from_test}
+use Rattle.line_words.proofs.Numbers.{bind_some, some_from}
+use Rattle.line_words.proofs.WordLemmas.{IsWord}
 use Rattle.line_words.proofs.Forms.{IsRead, IsForm, found, taking, word_takes, word_again, made_of}
-use Rattle.line_words.proofs.WordKinds.{number_read, signed_read, beside_takes}
+use Rattle.line_words.proofs.WordKinds.{number_read, signed_read, table_read}
 use Rattle.line_words.proofs.Lines.{line_found, line_fits, line_only}
 use Rattle.entry_text.specs.declared.verb.Verb.{Verb}
 use Rattle.entry_text.specs.declared.verb.Verb.TheVariants as verbs
@@ -35,10 +35,6 @@ verb_text verbs.Read = codes "read"
 verb_text verbs.Share = codes "share"
 verb_text verbs.Restart = codes "restart"
 
-verb_takes : (w : List ℕ) (v : Verb) → verb_of w ≡ Some v → w ≡ verb_text v
-unfolding verb_of
-verb_takes w v e = beside_takes verb_text verb_table (refl, (refl, (refl, (refl, (refl, (refl, (refl, (refl, (refl, (refl, tt)))))))))) w v e
-
 verb_again : (v : Verb) → verb_of (verb_text v) ≡ Some v
 unfolding verb_of
 verb_again verbs.Begin = refl
@@ -52,20 +48,12 @@ verb_again verbs.Read = refl
 verb_again verbs.Share = refl
 verb_again verbs.Restart = refl
 
-verb_word : (v : Verb) → IsWord (verb_text v)
-verb_word verbs.Begin = word_from_test (verb_text verbs.Begin) refl
-verb_word verbs.Escrow = word_from_test (verb_text verbs.Escrow) refl
-verb_word verbs.Commit = word_from_test (verb_text verbs.Commit) refl
-verb_word verbs.Abort = word_from_test (verb_text verbs.Abort) refl
-verb_word verbs.Give = word_from_test (verb_text verbs.Give) refl
-verb_word verbs.Restate = word_from_test (verb_text verbs.Restate) refl
-verb_word verbs.Accept = word_from_test (verb_text verbs.Accept) refl
-verb_word verbs.Read = word_from_test (verb_text verbs.Read) refl
-verb_word verbs.Share = word_from_test (verb_text verbs.Share) refl
-verb_word verbs.Restart = word_from_test (verb_text verbs.Restart) refl
-
 verb_read : IsRead (λ (v : Verb). Unit {0}) verb_text verb_of
-verb_read = record { takes = λ w v e. (tt, verb_takes w v e); again = λ v fits. verb_again v; plain = λ v fits. verb_word v }
+unfolding verb_of
+verb_read = table_read verb_text verb_table (refl, (refl, (refl, (refl, (refl, (refl, (refl, (refl, (refl, (refl, tt)))))))))) refl verb_again
+
+verb_word : (v : Verb) → IsWord (verb_text v)
+verb_word v = verb_read.plain v tt
 
 -- ---- the words after it
 
@@ -193,14 +181,19 @@ command_form schema is = record {
   plain = λ x fits. (site_read.plain x.0 fits.0, command_plain schema is x.1 fits.1);
 }
 
-pub command_found : (schema : SchemaValue) → IsSchema schema → (bytes : List ℕ) (x : SiteNo × Command) → command_of schema bytes ≡ Some x → bytes ≡ command_text schema x.0 x.1
-unfolding command_of
-command_found schema is bytes x e = line_found (command_form schema is) bytes x e
-
-pub command_fits : (schema : SchemaValue) → IsSchema schema → (bytes : List ℕ) (x : SiteNo × Command) → command_of schema bytes ≡ Some x → SiteFits x.0 × CommandFits x.1
-unfolding command_of
-command_fits schema is bytes x e = line_fits (command_form schema is) bytes x e
-
 pub command_only : (schema : SchemaValue) → IsSchema schema → (x : SiteNo × Command) → SiteFits x.0 → CommandFits x.1 → command_of schema (command_text schema x.0 x.1) ≡ Some x
 unfolding command_of
 command_only schema is x s c = line_only (command_form schema is) x (site_text x.0) (command_words schema x.1) refl (s, c)
+
+-- what the answer of the reader says of the line
+pub command_says : (schema : SchemaValue) → IsSchema schema → (bytes : List ℕ) (r : Option (SiteNo × Command)) → r ≡ command_of schema bytes → record {
+  found : IfSome r (λ x. bytes ≡ command_text schema x.0 x.1);
+  fits : IfSome r (λ x. SiteFits x.0 × CommandFits x.1);
+  only : (site : SiteNo) (command : Command) → SiteFits site → CommandFits command → bytes ≡ command_text schema site command → r ≡ Some (site, command);
+}
+unfolding command_of
+command_says schema is bytes r e = record {
+  found = some_from r _ (λ x h. line_found (command_form schema is) bytes x (sym e ∙ h));
+  fits = some_from r _ (λ x h. line_fits (command_form schema is) bytes x (sym e ∙ h));
+  only = λ site command s c h. e ∙ ap (command_of schema) h ∙ command_only schema is (site, command) s c;
+}

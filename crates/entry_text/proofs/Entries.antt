@@ -1,6 +1,6 @@
 -- Entries are read as they are spelled.
-use Rattle.std.proofs.Common.{append_assoc, ◌≡◌, ℕ, List, ◌∷◌, ◌++◌, Some, refl, sym, ap, ◌∙◌}
-use Rattle.std.specs.Prelude.{codes}
+use Rattle.std.proofs.Common.{append_assoc, ◌≡◌, ℕ, List, ◌∷◌, ◌++◌, Option, Some, refl, sym, ap, ◌∙◌}
+use Rattle.std.specs.Prelude.{codes, IfSome}
 use Rattle.std.specs.List.{AllByRecursion}
 use Rattle.field_bounds.specs.declared.entry.Entry.{Entry}
 use Rattle.field_bounds.specs.declared.entry.Reply.{Reply}
@@ -8,10 +8,11 @@ use Rattle.field_bounds.specs.declared.entry.Reply.TheVariants.{Begun, Granted, 
 use Rattle.field_bounds.specs.Schema.{SchemaValue}
 use Rattle.field_bounds.specs.Limits.{IsSchema}
 use Rattle.line_words.specs.Words.{line}
+use Rattle.line_words.proofs.Numbers.{some_from}
 use Rattle.line_words.proofs.WordLemmas.{IsWord, word_from_test, line-append}
 use Rattle.line_words.proofs.Forms.{IsForm, found, taking, word_again, taking_form, form_again, made_of}
 use Rattle.line_words.proofs.WordKinds.{only_read, all_append}
-use Rattle.line_words.proofs.Lines.{line_found, line_only}
+use Rattle.line_words.proofs.Lines.{line_found, line_fits, line_only}
 use Rattle.entry_text.specs.Spelling.{entry_text, entry_words, command_text, site_text, command_words, reply_words, reply_text}
 use Rattle.entry_text.specs.Ranges.{EntryFits}
 use Rattle.entry_text.specs.Entries.{entry_at, entry_of}
@@ -42,14 +43,23 @@ entry_plain schema is v fits =
 pub entry_form : (schema : SchemaValue) → IsSchema schema → IsForm EntryFits (entry_words schema) (entry_at schema)
 entry_form schema is = record { takes = entry_takes schema is; again = entry_again schema is; plain = entry_plain schema is }
 
-pub entry_found : (schema : SchemaValue) → IsSchema schema → (bytes : List ℕ) (v : Entry) → entry_of schema bytes ≡ Some v → bytes ≡ entry_text schema v
-unfolding entry_of
-entry_found schema is bytes v e = line_found (entry_form schema is) bytes v e
-
-pub entry_only : (schema : SchemaValue) → IsSchema schema → (v : Entry) → EntryFits v → entry_of schema (entry_text schema v) ≡ Some v
+entry_only : (schema : SchemaValue) → IsSchema schema → (v : Entry) → EntryFits v → entry_of schema (entry_text schema v) ≡ Some v
 unfolding entry_of
 entry_only schema is v fits =
     line_only (entry_form schema is) v (site_text v.site) (command_words schema v.command ++ codes "->" ∷ reply_words v.reply) refl fits
+
+-- what the answer of the reader says of the line
+pub entry_says : (schema : SchemaValue) → IsSchema schema → (bytes : List ℕ) (r : Option Entry) → r ≡ entry_of schema bytes → record {
+  found : IfSome r (λ v. bytes ≡ entry_text schema v);
+  fits : IfSome r EntryFits;
+  only : (v : Entry) → EntryFits v → bytes ≡ entry_text schema v → r ≡ Some v;
+}
+unfolding entry_of
+entry_says schema is bytes r e = record {
+  found = some_from r _ (λ v h. line_found (entry_form schema is) bytes v (sym e ∙ h));
+  fits = some_from r _ (λ v h. line_fits (entry_form schema is) bytes v (sym e ∙ h));
+  only = λ v fits h. e ∙ ap (entry_of schema) h ∙ entry_only schema is v fits;
+}
 
 -- ---- an entry is its command, an arrow and its reply
 

@@ -99,6 +99,10 @@ mapped f None y e = absurd cc
 abbrev numbered : ℕ → FieldNo
 numbered k = record { 0 = k }
 
+pub named_is : (schema : SchemaValue) (w : List ℕ) (o : Option FieldNo) → option_map (λ n. n.0) o ≡ position (λ f. bytes_eq w f.name) schema.fields → o ≡ named schema w
+named_is schema w None e = ap (λ (p : Option ℕ). option_map numbered p) e
+named_is schema w (Some f) e = ap (λ (p : Option ℕ). option_map numbered p) e
+
 named_takes : (schema : SchemaValue) (w : List ℕ) (f : FieldNo) → named schema w ≡ Some f → (f.0 < length schema.fields) × ((get_or schema.fields f.0 no_field).name ≡ w)
 named_takes schema w f e =
     let fs = schema.fields in
@@ -154,7 +158,7 @@ field_takes schema is (c ∷ w) f e =
       | inr h ↦ by_name schema is (c ∷ w) f h.1
     ]
 
-plain_field : (schema : SchemaValue) (w : List ℕ) → (get_or w 0 0 ≡ 35 → ⊥) → field_of schema w ≡ named schema w
+pub plain_field : (schema : SchemaValue) (w : List ℕ) → (get_or w 0 0 ≡ 35 → ⊥) → field_of schema w ≡ named schema w
 unfolding field_of
 plain_field schema [] ne = refl
 plain_field schema (c ∷ w) ne = cond-false (eqb c 35) _ _ (ne_eqb c 35 ne)

@@ -1,5 +1,5 @@
 -- Replies are read as they are spelled.
-use Rattle.std.proofs.Common.{◌≡◌, ℕ, ◌^◌, ◌<◌, arith, List, ◌∷◌, ◌++◌, Some, refl, ◌∙◌}
+use Rattle.std.proofs.Common.{◌≡◌, ℕ, ◌^◌, ◌<◌, arith, true, List, [], ◌∷◌, ◌++◌, Some, refl, ◌∙◌}
 use Rattle.std.specs.Prelude.{codes}
 use Rattle.std.specs.List.{AllByRecursion}
 use Rattle.std.specs.Fmt.{decimal}
@@ -10,9 +10,9 @@ use Rattle.field_bounds.specs.declared.entry.Refusal.{Refusal}
 use Rattle.field_bounds.specs.declared.entry.Refusal.TheVariants.{Down, NoSite, NoField, NoTransaction, Zero, TooLarge, Short, SelfGift, LedgerFull, NotYours, Forged, TooManyOpen, TooManyEscrows, NumbersFull, NothingGiven}
 use Rattle.field_bounds.specs.declared.entry.Reply.{Reply}
 use Rattle.field_bounds.specs.declared.entry.Reply.TheVariants.{Begun, Granted, Committed, Aborted, Given, Stated, Accepted, Between, Shares, Restarted, Unsure, StillDown, Refused}
-use Rattle.line_words.proofs.WordLemmas.{IsWord, word_from_test}
+use Rattle.line_words.proofs.WordLemmas.{IsWord, is_word, word_from_test}
 use Rattle.line_words.proofs.Forms.{IsRead, IsForm, found, taking, word_again, taking_form, form_again, made_of}
-use Rattle.line_words.proofs.WordKinds.{number_read, signed_read, below_read, only_read, beside_takes}
+use Rattle.line_words.proofs.WordKinds.{number_read, signed_read, below_read, only_read, table_read}
 use Rattle.entry_text.specs.declared.refusal.Reason.{Reason}
 use Rattle.entry_text.specs.declared.refusal.Reason.TheVariants as reasons
 use Rattle.entry_text.specs.declared.reply.Label.{Label}
@@ -41,10 +41,6 @@ reason_text reasons.TooManyEscrows = codes "13"
 reason_text reasons.NumbersFull = codes "14"
 reason_text reasons.NothingGiven = codes "15"
 
-reason_takes : (w : List ℕ) (r : Reason) → reason_of w ≡ Some r → w ≡ reason_text r
-unfolding reason_of
-reason_takes w r e = beside_takes reason_text reason_table (refl, (refl, (refl, (refl, (refl, (refl, (refl, (refl, (refl, (refl, (refl, (refl, (refl, (refl, (refl, tt))))))))))))))) w r e
-
 reason_again : (r : Reason) → reason_of (reason_text r) ≡ Some r
 unfolding reason_of
 reason_again reasons.Down = refl
@@ -63,71 +59,49 @@ reason_again reasons.TooManyEscrows = refl
 reason_again reasons.NumbersFull = refl
 reason_again reasons.NothingGiven = refl
 
-reason_word : (r : Reason) → IsWord (reason_text r)
-reason_word reasons.Down = word_from_test (reason_text reasons.Down) refl
-reason_word reasons.NoSite = word_from_test (reason_text reasons.NoSite) refl
-reason_word reasons.NoField = word_from_test (reason_text reasons.NoField) refl
-reason_word reasons.NoTransaction = word_from_test (reason_text reasons.NoTransaction) refl
-reason_word reasons.Zero = word_from_test (reason_text reasons.Zero) refl
-reason_word reasons.TooLarge = word_from_test (reason_text reasons.TooLarge) refl
-reason_word reasons.Short = word_from_test (reason_text reasons.Short) refl
-reason_word reasons.SelfGift = word_from_test (reason_text reasons.SelfGift) refl
-reason_word reasons.LedgerFull = word_from_test (reason_text reasons.LedgerFull) refl
-reason_word reasons.NotYours = word_from_test (reason_text reasons.NotYours) refl
-reason_word reasons.Forged = word_from_test (reason_text reasons.Forged) refl
-reason_word reasons.TooManyOpen = word_from_test (reason_text reasons.TooManyOpen) refl
-reason_word reasons.TooManyEscrows = word_from_test (reason_text reasons.TooManyEscrows) refl
-reason_word reasons.NumbersFull = word_from_test (reason_text reasons.NumbersFull) refl
-reason_word reasons.NothingGiven = word_from_test (reason_text reasons.NothingGiven) refl
-
 reason_read : IsRead (λ (r : Reason). Unit {0}) reason_text reason_of
-reason_read = record { takes = λ w r e. (tt, reason_takes w r e); again = λ r fits. reason_again r; plain = λ r fits. reason_word r }
+unfolding reason_of
+reason_read = table_read reason_text reason_table (refl, (refl, (refl, (refl, (refl, (refl, (refl, (refl, (refl, (refl, (refl, (refl, (refl, (refl, (refl, tt))))))))))))))) refl reason_again
+
+reason_word : (r : Reason) → IsWord (reason_text r)
+reason_word r = reason_read.plain r tt
 
 -- a refusal that was put together is the one that was found
 made_refusal : {ws : List (List ℕ)} (b v : Refusal) (after rest : List (List ℕ)) → found b after ≡ found v rest → RefusalFits b → ws ≡ refusal_words b ++ after → RefusalFits v × (ws ≡ refusal_words v ++ rest)
 made_refusal {ws} b v after rest e fits is = made_of RefusalFits refusal_words ws b v after rest e fits is
+
+-- a refusal of a number and two words
+after_two : (number a b : List ℕ) → is_word a ≡ true → is_word b ≡ true → (refusal : Refusal) → RefusalFits refusal → refusal_words refusal ≡ number ∷ a ∷ b ∷ []
+    → (ws : List (List ℕ)) (v : Refusal) (rest : List (List ℕ)) → two_at a b refusal ws ≡ found v rest → RefusalFits v × (number ∷ ws ≡ refusal_words v ++ rest)
+unfolding two_at
+after_two number a b plain_a plain_b refusal fits spelled ws v rest e =
+    taking (only_read a plain_a) _ ws _ e (λ u r1 f1 w1 e1.
+    taking (only_read b plain_b) _ r1 _ e1 (λ u r2 f2 w2 e2.
+    made_refusal refusal v r2 rest e2 fits (cc (w1, w2, spelled))))
 
 after_reason : (r : Reason) (ws : List (List ℕ)) (v : Refusal) (rest : List (List ℕ)) → refusal_after r ws ≡ found v rest → RefusalFits v × (reason_text r ∷ ws ≡ refusal_words v ++ rest)
 unfolding refusal_after two_at three_at short_at ledger_full_at forged_at
 after_reason reasons.Down ws v rest e =
     taking (only_read (codes "down") refl) _ ws _ e (λ a r1 f1 w1 e1.
     made_refusal Down v r1 rest e1 tt (cc w1))
-after_reason reasons.NoSite ws v rest e =
-    taking (only_read (codes "no") refl) _ ws _ e (λ a r1 f1 w1 e1.
-    taking (only_read (codes "site") refl) _ r1 _ e1 (λ b r2 f2 w2 e2.
-    made_refusal NoSite v r2 rest e2 tt (cc (w1, w2))))
-after_reason reasons.NoField ws v rest e =
-    taking (only_read (codes "no") refl) _ ws _ e (λ a r1 f1 w1 e1.
-    taking (only_read (codes "field") refl) _ r1 _ e1 (λ b r2 f2 w2 e2.
-    made_refusal NoField v r2 rest e2 tt (cc (w1, w2))))
-after_reason reasons.NoTransaction ws v rest e =
-    taking (only_read (codes "no") refl) _ ws _ e (λ a r1 f1 w1 e1.
-    taking (only_read (codes "transaction") refl) _ r1 _ e1 (λ b r2 f2 w2 e2.
-    made_refusal NoTransaction v r2 rest e2 tt (cc (w1, w2))))
+after_reason reasons.NoSite ws v rest e = after_two (codes "2") (codes "no") (codes "site") refl refl NoSite tt refl ws v rest e
+after_reason reasons.NoField ws v rest e = after_two (codes "3") (codes "no") (codes "field") refl refl NoField tt refl ws v rest e
+after_reason reasons.NoTransaction ws v rest e = after_two (codes "4") (codes "no") (codes "transaction") refl refl NoTransaction tt refl ws v rest e
 after_reason reasons.Zero ws v rest e =
     taking (only_read (codes "zero") refl) _ ws _ e (λ a r1 f1 w1 e1.
     made_refusal Zero v r1 rest e1 tt (cc w1))
-after_reason reasons.TooLarge ws v rest e =
-    taking (only_read (codes "too") refl) _ ws _ e (λ a r1 f1 w1 e1.
-    taking (only_read (codes "large") refl) _ r1 _ e1 (λ b r2 f2 w2 e2.
-    made_refusal TooLarge v r2 rest e2 tt (cc (w1, w2))))
+after_reason reasons.TooLarge ws v rest e = after_two (codes "6") (codes "too") (codes "large") refl refl TooLarge tt refl ws v rest e
 after_reason reasons.Short ws v rest e =
     taking (only_read (codes "short") refl) _ ws _ e (λ a r1 f1 w1 e1.
     taking number_read _ r1 _ e1 (λ share r2 f2 w2 e2.
     made_refusal (Short share) v r2 rest e2 f2 (cc (w1, w2))))
-after_reason reasons.SelfGift ws v rest e =
-    taking (only_read (codes "self") refl) _ ws _ e (λ a r1 f1 w1 e1.
-    taking (only_read (codes "gift") refl) _ r1 _ e1 (λ b r2 f2 w2 e2.
-    made_refusal SelfGift v r2 rest e2 tt (cc (w1, w2))))
+after_reason reasons.SelfGift ws v rest e = after_two (codes "8") (codes "self") (codes "gift") refl refl SelfGift tt refl ws v rest e
 after_reason reasons.LedgerFull ws v rest e =
     taking (only_read (codes "ledger") refl) _ ws _ e (λ a r1 f1 w1 e1.
     taking (only_read (codes "full") refl) _ r1 _ e1 (λ b r2 f2 w2 e2.
     taking number_read _ r2 _ e2 (λ total r3 f3 w3 e3.
     made_refusal (LedgerFull total) v r3 rest e3 f3 (cc (w1, w2, w3)))))
-after_reason reasons.NotYours ws v rest e =
-    taking (only_read (codes "not") refl) _ ws _ e (λ a r1 f1 w1 e1.
-    taking (only_read (codes "yours") refl) _ r1 _ e1 (λ b r2 f2 w2 e2.
-    made_refusal NotYours v r2 rest e2 tt (cc (w1, w2))))
+after_reason reasons.NotYours ws v rest e = after_two (codes "10") (codes "not") (codes "yours") refl refl NotYours tt refl ws v rest e
 after_reason reasons.Forged ws v rest e =
     taking (only_read (codes "forged") refl) _ ws _ e (λ a r1 f1 w1 e1.
     taking number_read _ r1 _ e1 (λ room r2 f2 w2 e2.
@@ -142,14 +116,8 @@ after_reason reasons.TooManyEscrows ws v rest e =
     taking (only_read (codes "many") refl) _ r1 _ e1 (λ b r2 f2 w2 e2.
     taking (only_read (codes "escrows") refl) _ r2 _ e2 (λ d r3 f3 w3 e3.
     made_refusal TooManyEscrows v r3 rest e3 tt (cc (w1, w2, w3)))))
-after_reason reasons.NumbersFull ws v rest e =
-    taking (only_read (codes "numbers") refl) _ ws _ e (λ a r1 f1 w1 e1.
-    taking (only_read (codes "full") refl) _ r1 _ e1 (λ b r2 f2 w2 e2.
-    made_refusal NumbersFull v r2 rest e2 tt (cc (w1, w2))))
-after_reason reasons.NothingGiven ws v rest e =
-    taking (only_read (codes "nothing") refl) _ ws _ e (λ a r1 f1 w1 e1.
-    taking (only_read (codes "given") refl) _ r1 _ e1 (λ b r2 f2 w2 e2.
-    made_refusal NothingGiven v r2 rest e2 tt (cc (w1, w2))))
+after_reason reasons.NumbersFull ws v rest e = after_two (codes "14") (codes "numbers") (codes "full") refl refl NumbersFull tt refl ws v rest e
+after_reason reasons.NothingGiven ws v rest e = after_two (codes "15") (codes "nothing") (codes "given") refl refl NothingGiven tt refl ws v rest e
 
 refusal_takes : (ws : List (List ℕ)) (v : Refusal) (rest : List (List ℕ)) → refusal_at ws ≡ found v rest → RefusalFits v × (ws ≡ refusal_words v ++ rest)
 unfolding refusal_at
@@ -212,10 +180,6 @@ label_text labels.Unsure = codes "unsure"
 label_text labels.Still = codes "still"
 label_text labels.Refused = codes "refused"
 
-label_takes : (w : List ℕ) (l : Label) → label_of w ≡ Some l → w ≡ label_text l
-unfolding label_of
-label_takes w l e = beside_takes label_text label_table (refl, (refl, (refl, (refl, (refl, (refl, (refl, (refl, (refl, (refl, (refl, (refl, (refl, tt))))))))))))) w l e
-
 label_again : (l : Label) → label_of (label_text l) ≡ Some l
 unfolding label_of
 label_again labels.Begun = refl
@@ -232,29 +196,14 @@ label_again labels.Unsure = refl
 label_again labels.Still = refl
 label_again labels.Refused = refl
 
-label_word : (l : Label) → IsWord (label_text l)
-label_word labels.Begun = word_from_test (label_text labels.Begun) refl
-label_word labels.Granted = word_from_test (label_text labels.Granted) refl
-label_word labels.Committed = word_from_test (label_text labels.Committed) refl
-label_word labels.Aborted = word_from_test (label_text labels.Aborted) refl
-label_word labels.Given = word_from_test (label_text labels.Given) refl
-label_word labels.Stated = word_from_test (label_text labels.Stated) refl
-label_word labels.Accepted = word_from_test (label_text labels.Accepted) refl
-label_word labels.Between = word_from_test (label_text labels.Between) refl
-label_word labels.Shares = word_from_test (label_text labels.Shares) refl
-label_word labels.Restarted = word_from_test (label_text labels.Restarted) refl
-label_word labels.Unsure = word_from_test (label_text labels.Unsure) refl
-label_word labels.Still = word_from_test (label_text labels.Still) refl
-label_word labels.Refused = word_from_test (label_text labels.Refused) refl
-
 label_read : IsRead (λ (l : Label). Unit {0}) label_text label_of
-label_read = record { takes = λ w l e. (tt, label_takes w l e); again = λ l fits. label_again l; plain = λ l fits. label_word l }
+unfolding label_of
+label_read = table_read label_text label_table (refl, (refl, (refl, (refl, (refl, (refl, (refl, (refl, (refl, (refl, (refl, (refl, (refl, tt))))))))))))) refl label_again
+
+label_word : (l : Label) → IsWord (label_text l)
+label_word l = label_read.plain l tt
 
 -- what a restart found
-
-last_takes : (w : List ℕ) (l : Last) → last_of w ≡ Some l → w ≡ last_text l
-unfolding last_of
-last_takes w l e = beside_takes last_text last_table (refl, (refl, (refl, tt))) w l e
 
 last_again : (l : Last) → last_of (last_text l) ≡ Some l
 unfolding last_of
@@ -262,13 +211,12 @@ last_again Nothing = refl
 last_again Kept = refl
 last_again Lost = refl
 
-last_word : (l : Last) → IsWord (last_text l)
-last_word Nothing = word_from_test (last_text Nothing) refl
-last_word Kept = word_from_test (last_text Kept) refl
-last_word Lost = word_from_test (last_text Lost) refl
-
 last_read : IsRead (λ (l : Last). Unit {0}) last_text last_of
-last_read = record { takes = λ w l e. (tt, last_takes w l e); again = λ l fits. last_again l; plain = λ l fits. last_word l }
+unfolding last_of
+last_read = table_read last_text last_table (refl, (refl, (refl, tt))) refl last_again
+
+last_word : (l : Last) → IsWord (last_text l)
+last_word l = last_read.plain l tt
 
 epoch_read : IsRead (λ (n : ℕ). n < 2 ^ 32) decimal (below (2 ^ 32))
 epoch_read = below_read (2 ^ 32) (omega arith)

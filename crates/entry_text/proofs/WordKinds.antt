@@ -19,9 +19,9 @@ use Rattle.field_bounds.specs.Schema.{SchemaValue}
 use Rattle.field_bounds.specs.Limits.{IsSchema}
 use Rattle.line_words.specs.Reading.{◌>>=◌, below}
 use Rattle.line_words.proofs.Numbers.{bind_some}
-use Rattle.line_words.proofs.WordLemmas.{IsWord, IsWord-append, decimal_word, word_from_test}
+use Rattle.line_words.proofs.WordLemmas.{IsWord-append, decimal_word}
 use Rattle.line_words.proofs.Forms.{IsRead}
-use Rattle.line_words.proofs.WordKinds.{below_takes, below_again, beside_takes}
+use Rattle.line_words.proofs.WordKinds.{below_takes, below_again, table_read}
 use Rattle.entry_text.specs.Spelling.{site_text, id_text, kind_text, field_text}
 use Rattle.entry_text.specs.Ranges.{SiteFits, IdFits, FieldFits}
 use Rattle.entry_text.specs.Reading.{site_of, id_of, kind_of, kind_table, field_of}
@@ -108,13 +108,6 @@ unfolding kind_of
 kind_again Lower = refl
 kind_again Raise = refl
 
-kind_word : (k : Kind) → IsWord (kind_text k)
-kind_word Lower = word_from_test (kind_text Lower) refl
-kind_word Raise = word_from_test (kind_text Raise) refl
-
-kind_takes : (w : List ℕ) (k : Kind) → kind_of w ≡ Some k → w ≡ kind_text k
-unfolding kind_of
-kind_takes w k e = beside_takes kind_text kind_table (refl, (refl, tt)) w k e
-
 pub kind_read : IsRead (λ (k : Kind). Unit {0}) kind_text kind_of
-kind_read = record { takes = λ w k e. (tt, kind_takes w k e); again = λ k fits. kind_again k; plain = λ k fits. kind_word k }
+unfolding kind_of
+kind_read = table_read kind_text kind_table (refl, (refl, tt)) refl kind_again

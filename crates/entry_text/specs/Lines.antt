@@ -8,10 +8,14 @@ use Rattle.field_bounds.specs.Schema.{SchemaValue}
 use Rattle.entry_text.specs.Spelling.{command_text, entry_text}
 use Rattle.entry_text.specs.Ranges.{SiteFits, CommandFits, EntryFits}
 
--- No byte is a line feed (10), and there are at most 256.
+-- The most bytes of a line.
+abbrev pub max_line : ℕ
+max_line = 256
+
+-- No byte is a line feed (10), and there are no more than a line may have.
 pub record IsLine (bytes : List ℕ) : Type 0 where
   pub one_line : AllByRecursion (λ b. b ≢ 10) bytes
-  pub short : length bytes ≤ 256
+  pub short : length bytes ≤ max_line
 
 -- Each command's text under the schema is a line.
 abbrev pub CommandsAreLines : SchemaValue → Type 0

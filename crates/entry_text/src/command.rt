@@ -6,29 +6,29 @@ ghost use Rattle.field_bounds.specs.declared.entry.Command.{Command as CommandTy
 ghost use Rattle.line_words.specs.Reading.{Gives};
 ghost use Rattle.entry_text.specs.Spelling.{command_text};
 ghost use Rattle.entry_text.specs.Ranges.{SiteFits, CommandFits};
-ghost use Rattle.entry_text.specs.Commands.{escrow_at, give_at, restate_at, accept_at, arguments_at, command_at, command_of};
+ghost use Rattle.entry_text.specs.Commands.{escrow_at, give_at, restate_at, accept_at, arguments_at, command_at};
 
 use crate::verb::{Verb, verb_at};
-use crate::word::{field_at, kind_at, number_at, signed_at, site_at, txn_at, within_limits};
+use crate::word::{Fields, field_at, kind_at, number_at, signed_at, site_at, txn_at};
 use field_bounds::{Command, Schema, SiteNo, Statement};
 use line_words::Words;
 
 #[tactic(auto, unfolding(crate::specs::Commands::escrow_at))]
-fn escrow(line: &mut Words<'_>, schema: &Schema) -> Option<Command>
-    ensures { Gives result line.new (escrow_at schema.now line.old) }
+fn escrow(line: &mut Words<'_>, fields: &Fields<'_>) -> Option<Command>
+    ensures { Gives result line.new (escrow_at fields.now line.old) }
 {
     let txn = txn_at(line)?;
-    let field = field_at(line, schema)?;
+    let field = field_at(line, fields)?;
     let change = signed_at(line)?;
     Some(Command::Escrow { txn, field, change })
 }
 
 #[tactic(auto, unfolding(crate::specs::Commands::give_at))]
-fn give(line: &mut Words<'_>, schema: &Schema) -> Option<Command>
-    ensures { Gives result line.new (give_at schema.now line.old) }
+fn give(line: &mut Words<'_>, fields: &Fields<'_>) -> Option<Command>
+    ensures { Gives result line.new (give_at fields.now line.old) }
 {
     let to = site_at(line)?;
-    let field = field_at(line, schema)?;
+    let field = field_at(line, fields)?;
     let kind = kind_at(line)?;
     let amount = number_at(line)?;
     Some(Command::Give {
@@ -40,22 +40,22 @@ fn give(line: &mut Words<'_>, schema: &Schema) -> Option<Command>
 }
 
 #[tactic(auto, unfolding(crate::specs::Commands::restate_at))]
-fn restate(line: &mut Words<'_>, schema: &Schema) -> Option<Command>
-    ensures { Gives result line.new (restate_at schema.now line.old) }
+fn restate(line: &mut Words<'_>, fields: &Fields<'_>) -> Option<Command>
+    ensures { Gives result line.new (restate_at fields.now line.old) }
 {
     let to = site_at(line)?;
-    let field = field_at(line, schema)?;
+    let field = field_at(line, fields)?;
     let kind = kind_at(line)?;
     Some(Command::Restate { to, field, kind })
 }
 
 #[tactic(auto, unfolding(crate::specs::Commands::accept_at))]
-fn accept(line: &mut Words<'_>, schema: &Schema) -> Option<Command>
-    ensures { Gives result line.new (accept_at schema.now line.old) }
+fn accept(line: &mut Words<'_>, fields: &Fields<'_>) -> Option<Command>
+    ensures { Gives result line.new (accept_at fields.now line.old) }
 {
     let from = site_at(line)?;
     let to = site_at(line)?;
-    let field = field_at(line, schema)?;
+    let field = field_at(line, fields)?;
     let kind = kind_at(line)?;
     let total = number_at(line)?;
     Some(Command::Accept(Statement {
@@ -68,12 +68,12 @@ fn accept(line: &mut Words<'_>, schema: &Schema) -> Option<Command>
 }
 
 #[tactic(auto, unfolding(crate::specs::Commands::arguments_at))]
-fn arguments(line: &mut Words<'_>, schema: &Schema, verb: Verb) -> Option<Command>
-    ensures { Gives result line.new (arguments_at schema.now verb line.old) }
+fn arguments(line: &mut Words<'_>, fields: &Fields<'_>, verb: Verb) -> Option<Command>
+    ensures { Gives result line.new (arguments_at fields.now verb line.old) }
 {
     match verb {
         Verb::Begin => Some(Command::Begin),
-        Verb::Escrow => escrow(line, schema),
+        Verb::Escrow => escrow(line, fields),
         Verb::Commit => {
             let txn = txn_at(line)?;
             Some(Command::Commit { txn })
@@ -82,15 +82,15 @@ fn arguments(line: &mut Words<'_>, schema: &Schema, verb: Verb) -> Option<Comman
             let txn = txn_at(line)?;
             Some(Command::Abort { txn })
         }
-        Verb::Give => give(line, schema),
-        Verb::Restate => restate(line, schema),
-        Verb::Accept => accept(line, schema),
+        Verb::Give => give(line, fields),
+        Verb::Restate => restate(line, fields),
+        Verb::Accept => accept(line, fields),
         Verb::Read => {
-            let field = field_at(line, schema)?;
+            let field = field_at(line, fields)?;
             Some(Command::Read { field })
         }
         Verb::Share => {
-            let field = field_at(line, schema)?;
+            let field = field_at(line, fields)?;
             Some(Command::Share { field })
         }
         Verb::Restart => Some(Command::Restart),
@@ -99,26 +99,13 @@ fn arguments(line: &mut Words<'_>, schema: &Schema, verb: Verb) -> Option<Comman
 
 /// Takes a site and a command.
 #[tactic(auto, unfolding(crate::specs::Commands::command_at))]
-pub(crate) fn command(line: &mut Words<'_>, schema: &Schema) -> Option<(SiteNo, Command)>
-    ensures { Gives result line.new (command_at schema.now line.old) }
+pub(crate) fn command(line: &mut Words<'_>, fields: &Fields<'_>) -> Option<(SiteNo, Command)>
+    ensures { Gives result line.new (command_at fields.now line.old) }
 {
     let site = site_at(line)?;
     let verb = verb_at(line)?;
-    let command = arguments(line, schema, verb)?;
+    let command = arguments(line, fields, verb)?;
     Some((site, command))
-}
-
-#[tactic(auto, unfolding(crate::specs::Commands::command_of))]
-fn command_read(schema: &Schema, line: &[u8]) -> Option<(SiteNo, Command)>
-    ensures { result ≡ command_of schema.now line.now }
-{
-    let mut words = Words::new(line);
-    let command = command(&mut words, schema)?;
-    if words.is_empty() {
-        Some(command)
-    } else {
-        None
-    }
 }
 
 /// The site and the command that the line, without its LF, spells under the schema. The site may lie
@@ -131,6 +118,11 @@ pub fn read_command(schema: &Schema, line: &[u8]) -> Option<(SiteNo, Command)>
     ensures only { (site : Site) (command : CommandType) → SiteFits site → CommandFits command
         → line.now ≡ command_text schema.now site command → result ≡ Some (site, command) }
 {
-    within_limits(schema);
-    command_read(schema, line)
+    let mut words = Words::new(line);
+    let command = command(&mut words, &Fields::new(schema))?;
+    if words.is_empty() {
+        Some(command)
+    } else {
+        None
+    }
 }

@@ -5,19 +5,19 @@ ghost use Rattle.field_bounds.specs.declared.entry.Entry.{Entry as EntryType};
 ghost use Rattle.line_words.specs.Reading.{Gives};
 ghost use Rattle.entry_text.specs.Spelling.{entry_text};
 ghost use Rattle.entry_text.specs.Ranges.{EntryFits};
-ghost use Rattle.entry_text.specs.Entries.{entry_at, entry_of};
+ghost use Rattle.entry_text.specs.Entries.{entry_at};
 
 use crate::command::command;
 use crate::reply::reply;
-use crate::word::{expect, within_limits};
+use crate::word::{Fields, expect};
 use field_bounds::{Entry, Schema};
 use line_words::Words;
 
 #[tactic(auto, unfolding(crate::specs::Entries::entry_at))]
-fn entry(line: &mut Words<'_>, schema: &Schema) -> Option<Entry>
-    ensures { Gives result line.new (entry_at schema.now line.old) }
+fn entry(line: &mut Words<'_>, fields: &Fields<'_>) -> Option<Entry>
+    ensures { Gives result line.new (entry_at fields.now line.old) }
 {
-    let (site, command) = command(line, schema)?;
+    let (site, command) = command(line, fields)?;
     expect(line, "->")?;
     let reply = reply(line)?;
     Some(Entry {
@@ -27,15 +27,6 @@ fn entry(line: &mut Words<'_>, schema: &Schema) -> Option<Entry>
     })
 }
 
-#[tactic(auto, unfolding(crate::specs::Entries::entry_of))]
-fn entry_read(schema: &Schema, line: &[u8]) -> Option<Entry>
-    ensures { result ≡ entry_of schema.now line.now }
-{
-    let mut words = Words::new(line);
-    let entry = entry(&mut words, schema)?;
-    if words.is_empty() { Some(entry) } else { None }
-}
-
 /// The entry that the line, without its LF, spells under the schema: a command, ` -> ` and a reply.
 /// Any command may stand beside any reply, and the site may lie outside the schema. None where the
 /// line spells no entry.
@@ -43,9 +34,11 @@ fn entry_read(schema: &Schema, line: &[u8]) -> Option<Entry>
 /// Costs a pass over the line and at most one look-up in a map, and no memory.
 pub fn read_entry(schema: &Schema, line: &[u8]) -> Option<Entry>
     ensures found { IfSome result (λ entry. line.now ≡ entry_text schema.now entry) }
+    ensures fits { IfSome result EntryFits }
     ensures only { (entry : EntryType) → EntryFits entry → line.now ≡ entry_text schema.now entry
         → result ≡ Some entry }
 {
-    within_limits(schema);
-    entry_read(schema, line)
+    let mut words = Words::new(line);
+    let entry = entry(&mut words, &Fields::new(schema))?;
+    if words.is_empty() { Some(entry) } else { None }
 }

@@ -1,17 +1,14 @@
 //! Laws of the texts, each the contract of a call that does nothing.
 
+ghost use Rattle.field_bounds.specs.Schema.{SchemaValue};
+ghost use Rattle.field_bounds.specs.Limits.{IsSchema};
 ghost use Rattle.entry_text.specs.Lines.{CommandsAreLines, EntriesAreLines};
 
-use crate::word::within_limits;
-use field_bounds::Schema;
-
-/// Each text of a command or of an entry under the schema is a line: it has no LF, and at most 256
+/// Each text of a command or of an entry under a schema is a line: it has no LF, and at most 256
 /// bytes. The call does nothing; its contract is the law.
 ///
 /// Source: this project.
-pub fn texts_are_lines(schema: &Schema)
-    ensures commands { CommandsAreLines schema.now }
-    ensures entries { EntriesAreLines schema.now }
-{
-    within_limits(schema)
-}
+pub fn texts_are_lines()
+    ensures commands { (schema : SchemaValue) → IsSchema schema → CommandsAreLines schema }
+    ensures entries { (schema : SchemaValue) → IsSchema schema → EntriesAreLines schema }
+{}

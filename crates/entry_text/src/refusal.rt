@@ -4,8 +4,7 @@ ghost use Rattle.std.specs.Prelude.{◌≡◌};
 ghost use Rattle.line_words.specs.Reading.{Gives, word_at};
 ghost use Rattle.entry_text.specs.Replies.{reason_of, two_at, three_at, short_at, ledger_full_at, forged_at, refusal_after, refusal_at};
 
-use crate::verb::is_text;
-use crate::word::{expect, number_at};
+use crate::word::{expect, is_text, number_at};
 use field_bounds::Refusal;
 use line_words::Words;
 

@@ -5,8 +5,7 @@ ghost use Rattle.line_words.specs.Reading.{Gives, word_at};
 ghost use Rattle.entry_text.specs.Replies.{last_of, label_of, between_at, shares_at, restarted_at, reply_after, reply_at};
 
 use crate::refusal::refusal;
-use crate::verb::is_text;
-use crate::word::{epoch_at, expect, number_at, signed_at, txn_at};
+use crate::word::{epoch_at, expect, is_text, number_at, signed_at, txn_at};
 use field_bounds::{Last, Reply};
 use line_words::Words;
 

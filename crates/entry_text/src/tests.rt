@@ -154,10 +154,41 @@ fn reads_words(rt: HostRuntime) -> Result<(), Fail> {
     Ok(())
 }
 
+/// A name as long as a field's may be.
+const LONG: &str = "abbbbbbbbbbbbbbbbbbbbbbbbbbbbbbc";
+
+/// The longest entry: 84 bytes of a command, 4 of the arrow and 49 of the reply.
+const LONGEST: &str =
+    "65535 accept 65535 65535 abbbbbbbbbbbbbbbbbbbbbbbbbbbbbbc lower 18446744073709551615 -> between -9223372036854775808 -9223372036854775808";
+
 #[test]
-fn has_its_law(rt: HostRuntime) -> Result<(), Fail> {
-    let schema = stock(&rt, rt.alloc())?;
-    texts_are_lines(&schema);
+fn longest_entry_is_a_line(rt: HostRuntime) -> Result<(), Fail> {
+    texts_are_lines();
+    let long = FieldSpec {
+        name: String::from_str(rt.alloc(), LONG)?,
+        floor: 0,
+        ceiling: 100,
+        value: 40,
+    };
+    let schema = Schema::new(rt.alloc(), 2, vec![in rt.alloc(); long]?)?;
+    let entry = Entry {
+        site: SiteNo(65535),
+        command: Command::Accept(Statement {
+            from: SiteNo(65535),
+            to: SiteNo(65535),
+            field: FieldNo(0),
+            kind: Kind::Lower,
+            total: 18446744073709551615,
+        }),
+        reply: Reply::Between {
+            lo: -9223372036854775808,
+            hi: -9223372036854775808,
+        },
+    };
+    let text = write_entry(rt.alloc(), &schema, entry)?;
+    assert_eq!(rt; text.as_str(), LONGEST);
+    assert_eq!(rt; text.len(), 137);
+    assert_eq!(rt; read_entry(&schema, LONGEST.as_bytes()), Some(entry));
     Ok(())
 }
 

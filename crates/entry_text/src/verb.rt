@@ -1,9 +1,10 @@
 //! The words that say which command it is.
 
-ghost use Rattle.std.specs.Prelude.{◌≡◌, bytes_eq};
+ghost use Rattle.std.specs.Prelude.{◌≡◌};
 ghost use Rattle.line_words.specs.Reading.{Gives, word_at};
 ghost use Rattle.entry_text.specs.Commands.{verb_of};
 
+use crate::word::is_text;
 use line_words::Words;
 
 #[derive(Clone, Copy)]
@@ -18,13 +19,6 @@ pub(crate) enum Verb {
     Read,
     Share,
     Restart,
-}
-
-/// The word is this text.
-pub(crate) fn is_text(word: &[u8], text: &str) -> bool
-    ensures { result ≡ bytes_eq word.now text.now }
-{
-    word == text.as_bytes()
 }
 
 /// The verb of the word, if it is one.

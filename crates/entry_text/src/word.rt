@@ -1,17 +1,24 @@
 //! The readers of one word.
 
-ghost use Rattle.std.specs.Prelude.{◌≡◌, ◌==◌, ◌^◌, IfSome, Some, position};
+ghost use Rattle.std.specs.Prelude.{◌≡◌, ◌==◌, ◌^◌, IfSome, Some, position, bytes_eq};
 ghost use Rattle.field_bounds.specs.declared.kind.Kind.{Kind as KindType};
 ghost use Rattle.field_bounds.specs.declared.id.FieldNo.{FieldNo as FieldNumber};
 ghost use Rattle.field_bounds.specs.Limits.{IsSchema};
 ghost use Rattle.line_words.specs.Reading.{Gives, word_at, below, number_of, signed_of, only_of};
 ghost use Rattle.entry_text.specs.Spelling.{kind_text, field_text};
 ghost use Rattle.entry_text.specs.Ranges.{FieldFits};
-ghost use Rattle.entry_text.specs.Reading.{site_of, id_of, kind_of, named, field_of};
+ghost use Rattle.entry_text.specs.Reading.{site_of, id_of, kind_of, field_of};
 
-use crate::verb::is_text;
 use field_bounds::{FieldNo, Kind, Schema, SiteNo, TxnId};
 use line_words::{Words, read_number, read_signed};
+use std::marker::Model;
+
+/// The word is this text.
+pub(crate) fn is_text(word: &[u8], text: &str) -> bool
+    ensures { result ≡ bytes_eq word.now text.now }
+{
+    word == text.as_bytes()
+}
 
 fn small(word: &[u8]) -> Option<u16>
     ensures { result ≡ below (2 ^ 16) word.now }
@@ -48,38 +55,51 @@ fn txn(word: &[u8]) -> Option<TxnId>
     Some(TxnId { epoch, number })
 }
 
-#[tactic(auto, unfolding(crate::specs::Reading::kind_of))]
-fn kind(word: &[u8]) -> Option<Kind>
-    ensures { result ≡ kind_of word.now }
-{
-    if is_text(word, "lower") {
-        Some(Kind::Lower)
-    } else if is_text(word, "raise") {
-        Some(Kind::Raise)
-    } else {
-        None
-    }
+/// The fields of a schema, with their number at hand. Contracts see the schema.
+#[derive(Drop)]
+pub(crate) struct Fields<'a> {
+    schema: &'a Schema,
+    count: u16,
 }
 
-fn named(schema: &Schema, word: &[u8]) -> Option<FieldNo>
-    ensures { result ≡ named schema.now word.now }
-{
-    schema.field_no_of(word)
+impl<'a> Model for Fields<'a> {
+    ghost use Rattle.std.specs.Prelude.{◌≡◌, length};
+    ghost use Rattle.field_bounds.specs.Schema.{SchemaValue};
+
+    ghost Value = { SchemaValue };
+
+    ghost view = { λ f. f.schema.now };
+
+    ghost invariant = { λ f. f.count ≡ length f.schema.now.fields };
 }
 
-#[tactic(auto, unfolding(crate::specs::Reading::field_of))]
-fn field(schema: &Schema, word: &[u8]) -> Option<FieldNo>
-    ensures { result ≡ field_of schema.now word.now }
-{
-    match word {
-        [b'#', digits @ ..] => {
-            let number = small(digits)?;
-            if number < schema.fields() {
-                return None;
-            }
-            Some(FieldNo(number))
+impl<'a> Fields<'a> {
+    /// The fields of the schema.
+    pub(crate) fn new(schema: &'a Schema) -> Fields<'a>
+        ensures schema { result ≡ schema.now }
+        ensures limits { IsSchema schema.now }
+    {
+        Fields {
+            schema,
+            count: schema.fields(),
         }
-        _ => named(schema, word),
+    }
+
+    /// The field that the word spells.
+    #[tactic(auto, unfolding(crate::specs::Reading::field_of))]
+    fn read(&self, word: &[u8]) -> Option<FieldNo>
+        ensures { result ≡ field_of self.now word.now }
+    {
+        match word {
+            [b'#', digits @ ..] => {
+                let number = small(digits)?;
+                if number < self.count {
+                    return None;
+                }
+                Some(FieldNo(number))
+            }
+            _ => self.schema.field_no_of(word),
+        }
     }
 }
 
@@ -90,19 +110,20 @@ fn only(word: &[u8], text: &str) -> Option<()>
     if is_text(word, text) { Some(()) } else { None }
 }
 
-/// That the schema is within its limits, on which the readers' contracts rest.
-pub(crate) fn within_limits(schema: &Schema)
-    ensures limits { IsSchema schema.now }
-{
-    let _fields = schema.fields();
-}
-
 /// The kind that the word spells: `lower` or `raise`. None where it spells none. Costs no memory.
+#[tactic(auto, unfolding(crate::specs::Reading::kind_of))]
 pub fn read_kind(word: &[u8]) -> Option<Kind>
+    ensures value { result ≡ kind_of word.now }
     ensures found { IfSome result (λ k. word.now ≡ kind_text k) }
     ensures only { (k : KindType) → word.now ≡ kind_text k → result ≡ Some k }
 {
-    kind(word)
+    if is_text(word, "lower") {
+        Some(Kind::Lower)
+    } else if is_text(word, "raise") {
+        Some(Kind::Raise)
+    } else {
+        None
+    }
 }
 
 /// The field that the word spells: a name of the schema, or `#` and a number from the count of
@@ -113,8 +134,7 @@ pub fn read_field(schema: &Schema, word: &[u8]) -> Option<FieldNo>
     ensures only { (f : FieldNumber) → FieldFits f → word.now ≡ field_text schema.now f
         → result ≡ Some f }
 {
-    within_limits(schema);
-    field(schema, word)
+    Fields::new(schema).read(word)
 }
 
 /// Takes a number.
@@ -162,15 +182,15 @@ pub(crate) fn txn_at(line: &mut Words<'_>) -> Option<TxnId>
 pub(crate) fn kind_at(line: &mut Words<'_>) -> Option<Kind>
     ensures { Gives result line.new (word_at kind_of line.old) }
 {
-    kind(line.next()?)
+    read_kind(line.next()?)
 }
 
 /// Takes a field.
 #[tactic(auto, unfolding(line_words::specs::Reading::word_at))]
-pub(crate) fn field_at(line: &mut Words<'_>, schema: &Schema) -> Option<FieldNo>
-    ensures { Gives result line.new (word_at (field_of schema.now) line.old) }
+pub(crate) fn field_at(line: &mut Words<'_>, fields: &Fields<'_>) -> Option<FieldNo>
+    ensures { Gives result line.new (word_at (field_of fields.now) line.old) }
 {
-    field(schema, line.next()?)
+    fields.read(line.next()?)
 }
 
 /// Takes a word that has to be this text.

@@ -1,10 +1,10 @@
 -- The kinds of word that any line is made of: each is read as it is spelled.
-use Rattle.std.proofs.Common.{◌≡◌, ℕ, suc, true, ◌^◌, ◌<◌, ◌≤◌, ltb, List, [], ◌∷◌, ◌++◌, Option, Some, None, ap, subst, ◌∙◌, refl, arith, inl, inr}
+use Rattle.std.proofs.Common.{◌≡◌, ℕ, suc, true, ◌^◌, ◌<◌, ◌≤◌, ltb, List, [], ◌∷◌, ◌++◌, Option, Some, None, sym, ap, subst, ◌∙◌, refl, arith, inl, inr}
 use Rattle.std.specs.Prelude.{ℤ, pos, negsuc, FitsSigned, if◌then◌else◌, nat_lt, bytes_eq}
 use Rattle.std.specs.Int.{w64}
-use Rattle.std.specs.List.{AllByRecursion}
+use Rattle.std.specs.List.{AllByRecursion, list_all}
 use Rattle.std.specs.Fmt.{decimal, signed_decimal}
-use Rattle.std.proofs.lemmas.Bool.{lt-ltb, ltb-true, cond-true}
+use Rattle.std.proofs.lemmas.Bool.{lt-ltb, ltb-true, cond-true, and_parts}
 use Rattle.std.proofs.lemmas.Int.{ints}
 use Rattle.std.proofs.lemmas.Option.{same_Some, cond_some}
 use Rattle.std.proofs.lemmas.Slice.Eq.{bytes_eq-Decides}
@@ -56,13 +56,31 @@ below_read limit small = record {
 abbrev pub IsTable : {A : Type 0} → (A → List ℕ) → List (List ℕ × A) → Type 0
 IsTable text table = AllByRecursion (λ e. e.0 ≡ text e.1) table
 
-pub beside_takes : {A : Type 0} (text : A → List ℕ) (table : List (List ℕ × A)) → IsTable text table → (w : List ℕ) (v : A) → beside table w ≡ Some v → w ≡ text v
+beside_takes : {A : Type 0} (text : A → List ℕ) (table : List (List ℕ × A)) → IsTable text table → (w : List ℕ) (v : A) → beside table w ≡ Some v → w ≡ text v
 beside_takes text [] all w v e = absurd cc
 beside_takes text (k ∷ table) all w v e =
     elim (chosen (bytes_eq w k.0) (Some k.1) (beside table w) (Some v) e) [
       | inl h ↦ (bytes_eq-Decides w k.0).0 h.0 ∙ all.0 ∙ ap text (same_Some k.1 v h.1)
       | inr h ↦ beside_takes text table all.1 w v h.1
     ]
+
+-- what a table finds, it finds at one of its words
+beside_word : {A : Type 0} (table : List (List ℕ × A)) (w : List ℕ) (v : A) → list_all (λ e. is_word e.0) table ≡ true → beside table w ≡ Some v → IsWord w
+beside_word [] w v all e = absurd cc
+beside_word (k ∷ table) w v all e =
+    let words = and_parts (is_word k.0) (list_all (λ e. is_word e.0) table) all in
+    elim (chosen (bytes_eq w k.0) (Some k.1) (beside table w) (Some v) e) [
+      | inl h ↦ subst IsWord (sym ((bytes_eq-Decides w k.0).0 h.0)) (word_from_test k.0 words.0)
+      | inr h ↦ beside_word table w v words.1 h.1
+    ]
+
+-- a table of words, at which each value is found by its text
+pub table_read : {A : Type 0} (text : A → List ℕ) (table : List (List ℕ × A)) → IsTable text table → list_all (λ e. is_word e.0) table ≡ true → ((v : A) → beside table (text v) ≡ Some v) → IsRead (λ v. Unit {0}) text (beside table)
+table_read text table is words again = record {
+  takes = λ w v e. (tt, beside_takes text table is w v e);
+  again = λ v fits. again v;
+  plain = λ v fits. beside_word table (text v) v words (again v);
+}
 
 -- ---- words that say nothing more
 

@@ -1,15 +1,16 @@
-use Rattle.std.proofs.Common.{ap, ◌∙◌, sym}
-use Rattle.line_words.proofs.Numbers.{some_from}
+use Rattle.std.proofs.Common.{rules, Some, None}
 use Rattle.entry_text.specs.Commands.{command_of}
-use Rattle.entry_text.proofs.Commands.{command_found, command_fits, command_only}
+use Rattle.entry_text.proofs.Commands.{command_says}
 use Rattle.entry_text.proofs.command.read_command.Goals as goal
 
-pub returns-clause-found : goal.returns-clause-found
-returns-clause-found c = some_from c.command_read.result _ (λ x e. command_found c.args.schema.now c.within_limits.ensures.limits c.args.line.now x (sym c.command_read.ensures ∙ e))
+pub returns-in_err-command : goal.returns-in_err-command
+unfolding command_of
+returns-in_err-command c = command_says c.args.schema.now c.new.ensures.limits c.args.line.now _ (search rules)
 
-pub returns-clause-fits : goal.returns-clause-fits
-returns-clause-fits c = some_from c.command_read.result _ (λ x e. command_fits c.args.schema.now c.within_limits.ensures.limits c.args.line.now x (sym c.command_read.ensures ∙ e))
+pub returns-then-is_empty : goal.returns-then-is_empty
+unfolding command_of
+returns-then-is_empty c = command_says c.args.schema.now c.new.ensures.limits c.args.line.now (Some c.in_ok-command.command) (search rules)
 
-pub returns-clause-only : goal.returns-clause-only
-returns-clause-only c = λ site command s f e.
-    c.command_read.ensures ∙ ap (command_of c.args.schema.now) e ∙ command_only c.args.schema.now c.within_limits.ensures.limits (site, command) s f
+pub returns-else-is_empty : goal.returns-else-is_empty
+unfolding command_of
+returns-else-is_empty c = command_says c.args.schema.now c.new.ensures.limits c.args.line.now None (search rules)

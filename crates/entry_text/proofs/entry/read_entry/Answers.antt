@@ -1,12 +1,16 @@
-use Rattle.std.proofs.Common.{ap, ◌∙◌, sym}
-use Rattle.line_words.proofs.Numbers.{some_from}
+use Rattle.std.proofs.Common.{rules, Some, None}
 use Rattle.entry_text.specs.Entries.{entry_of}
-use Rattle.entry_text.proofs.Entries.{entry_found, entry_only}
+use Rattle.entry_text.proofs.Entries.{entry_says}
 use Rattle.entry_text.proofs.entry.read_entry.Goals as goal
 
-pub returns-clause-found : goal.returns-clause-found
-returns-clause-found c = some_from c.entry_read.result _ (λ v e. entry_found c.args.schema.now c.within_limits.ensures.limits c.args.line.now v (sym c.entry_read.ensures ∙ e))
+pub returns-in_err-entry : goal.returns-in_err-entry
+unfolding entry_of
+returns-in_err-entry c = entry_says c.args.schema.now c.new.ensures.limits c.args.line.now _ (search rules)
 
-pub returns-clause-only : goal.returns-clause-only
-returns-clause-only c = λ v fits e.
-    c.entry_read.ensures ∙ ap (entry_of c.args.schema.now) e ∙ entry_only c.args.schema.now c.within_limits.ensures.limits v fits
+pub returns-then-is_empty : goal.returns-then-is_empty
+unfolding entry_of
+returns-then-is_empty c = entry_says c.args.schema.now c.new.ensures.limits c.args.line.now (Some c.in_ok-entry.entry) (search rules)
+
+pub returns-else-is_empty : goal.returns-else-is_empty
+unfolding entry_of
+returns-else-is_empty c = entry_says c.args.schema.now c.new.ensures.limits c.args.line.now None (search rules)
