@@ -10,10 +10,11 @@ use Rattle.field_bounds.specs.declared.kind.Kind.TheVariants.{Lower, Raise}
 use Rattle.field_bounds.specs.declared.entry.Escrow.{Escrow}
 use Rattle.field_bounds.specs.Kind.{other, kind_of, same_kind}
 use Rattle.field_bounds.specs.Effects.{takes}
+use Rattle.site_rights.specs.declared.field_rights.Amounts.{Amounts}
 use Rattle.site_rights.specs.declared.field_rights.FieldRights.{FieldRights}
 use Rattle.site_rights.specs.declared.field_rights.Outcome.{Outcome}
 use Rattle.site_rights.specs.declared.field_rights.Outcome.TheVariants.{Committed, Aborted}
-use Rattle.site_rights.specs.Rights.{amounts_of, no_rights, row_at, free_at, held_at, width_at, at_field, taken, dropped, added, ending, by_escrow, by_escrows, AreInRange, AreHeld, CanEnd}
+use Rattle.site_rights.specs.Rights.{amounts_of, with_amounts, no_rights, row_at, free_at, held_at, width_at, at_field, taken, dropped, added, ending, by_escrow, by_escrows, AreInRange, AreHeld, CanEnd}
 
 -- by how much a change lowers, or raises
 abbrev pub size : Kind → ℤ → ℕ
@@ -65,24 +66,29 @@ pub length-by_escrows : (change : FieldRights → Kind → ℕ → FieldRights) 
 length-by_escrows change rows [] = refl
 length-by_escrows change rows (e ∷ es) = length-by_escrows change (by_escrow change rows e) es ∙ length-by_escrow change rows e
 
-pub row_at-by_escrow : (change : FieldRights → Kind → ℕ → FieldRights) (rows : List FieldRights) (e : Escrow) (g : ℕ) → e.field.0 < length rows
-    → row_at (by_escrow change rows e) g ≡ cond (e.field.0 == g) (change (row_at rows g) (kind_of e.change) (unsigned_abs e.change)) (row_at rows g)
-row_at-by_escrow change rows e g h =
-    row_at-set rows e.field.0 g (change (row_at rows e.field.0) (kind_of e.change) (unsigned_abs e.change)) h ∙ moved (cases_Bool (e.field.0 == g))
+-- a row after a change of the rights on a field
+row_at-field : (change : FieldRights → Kind → ℕ → FieldRights) (rows : List FieldRights) (f g : ℕ) (kind : Kind) (q : ℕ) → f < length rows
+    → row_at (at_field change rows f kind q) g ≡ cond (f == g) (change (row_at rows g) kind q) (row_at rows g)
+row_at-field change rows f g kind q h = row_at-set rows f g (change (row_at rows f) kind q) h ∙ moved (cases_Bool (f == g))
   where
-    moved : ((e.field.0 == g) ≡ true) ⊎ ((e.field.0 == g) ≡ false)
-        → cond (e.field.0 == g) (change (row_at rows e.field.0) (kind_of e.change) (unsigned_abs e.change)) (row_at rows g) ≡ cond (e.field.0 == g) (change (row_at rows g) (kind_of e.change) (unsigned_abs e.change)) (row_at rows g)
-    moved (inl same) =
-        ap (λ (x : ℕ). cond (e.field.0 == g) (change (get_or rows x no_rights) (kind_of e.change) (unsigned_abs e.change)) (row_at rows g)) (eqb-true e.field.0 g same)
+    moved : ((f == g) ≡ true) ⊎ ((f == g) ≡ false) → cond (f == g) (change (row_at rows f) kind q) (row_at rows g) ≡ cond (f == g) (change (row_at rows g) kind q) (row_at rows g)
+    moved (inl same) = ap (λ (x : ℕ). cond (f == g) (change (get_or rows x no_rights) kind q) (row_at rows g)) (eqb-true f g same)
     moved (inr differs) = rw differs refl
+
+-- what is read of a row after a change of the rights on a field, where the change does `step true` to it, and `step false` leaves it
+read-at_field : (read : FieldRights → ℕ) (change : FieldRights → Kind → ℕ → FieldRights) (step : Bool → ℕ → ℕ) (rows : List FieldRights) (f g : ℕ) (kind : Kind) (q : ℕ) → f < length rows
+    → ((r : FieldRights) → read (change r kind q) ≡ step true (read r)) → ((n : ℕ) → n ≡ step false n) → read (row_at (at_field change rows f kind q) g) ≡ step (f == g) (read (row_at rows g))
+read-at_field read change step rows f g kind q h changes stays = ap read (row_at-field change rows f g kind q h) ∙ one (f == g)
+  where
+    one : (b : Bool) → read (cond b (change (row_at rows g) kind q) (row_at rows g)) ≡ step b (read (row_at rows g))
+    one true = changes (row_at rows g)
+    one false = stays (read (row_at rows g))
 
 -- taking by an escrow
 pub held_at-taken : (rows : List FieldRights) (e : Escrow) (g : ℕ) (k : Kind) → e.field.0 < length rows → held_at (by_escrow taken rows e) g k ≡ held_at rows g k + takes g k e
-held_at-taken rows e g k h = ap (λ r. (amounts_of r k).held) (row_at-by_escrow taken rows e g h) ∙ one (e.field.0 == g)
-  where
-    one : (b : Bool) → (amounts_of (cond b (taken (row_at rows g) (kind_of e.change) (unsigned_abs e.change)) (row_at rows g)) k).held ≡ held_at rows g k + cond (b && same_kind (kind_of e.change) k) (unsigned_abs e.change) 0
-    one true = taken_held (row_at rows g) e.change k
-    one false = omega arith
+held_at-taken rows e g k h =
+    read-at_field (λ r. (amounts_of r k).held) taken (λ b n. n + cond (b && same_kind (kind_of e.change) k) (unsigned_abs e.change) 0) rows e.field.0 g (kind_of e.change) (unsigned_abs e.change) h
+    (λ r. taken_held r e.change k) (λ n. omega arith)
 
 -- taking by an escrow that is within the free rights
 taken_free : (r : FieldRights) (c : ℤ) (k : Kind) → (amounts_of (taken r (kind_of c) (unsigned_abs c)) k).free ≡ (amounts_of r k).free - size k c
@@ -92,11 +98,9 @@ taken_free r (negsuc n) Lower = omega arith
 taken_free r (negsuc n) Raise = omega arith
 
 pub free_at-taken : (rows : List FieldRights) (e : Escrow) (g : ℕ) (k : Kind) → e.field.0 < length rows → free_at (by_escrow taken rows e) g k ≡ free_at rows g k - takes g k e
-free_at-taken rows e g k h = ap (λ r. (amounts_of r k).free) (row_at-by_escrow taken rows e g h) ∙ one (e.field.0 == g)
-  where
-    one : (b : Bool) → (amounts_of (cond b (taken (row_at rows g) (kind_of e.change) (unsigned_abs e.change)) (row_at rows g)) k).free ≡ free_at rows g k - cond (b && same_kind (kind_of e.change) k) (unsigned_abs e.change) 0
-    one true = taken_free (row_at rows g) e.change k
-    one false = omega arith
+free_at-taken rows e g k h =
+    read-at_field (λ r. (amounts_of r k).free) taken (λ b n. n - cond (b && same_kind (kind_of e.change) k) (unsigned_abs e.change) 0) rows e.field.0 g (kind_of e.change) (unsigned_abs e.change) h
+    (λ r. taken_free r e.change k) (λ n. omega arith)
 
 -- ---- escrows that end one after another
 
@@ -116,14 +120,10 @@ ending_free Aborted r (pos n) Raise = omega arith
 ending_free Aborted r (negsuc n) Lower = omega arith
 ending_free Aborted r (negsuc n) Raise = omega arith
 
-one_free : (o : Outcome) (b : Bool) (r : FieldRights) (c : ℤ) (k : Kind)
-    → (amounts_of (cond b (ending o r (kind_of c) (unsigned_abs c)) r) k).free ≡ (amounts_of r k).free + cond (b && same_kind (kind_of c) (frees o k)) (unsigned_abs c) 0
-one_free o true r c k = ending_free o r c k
-one_free o false r c k = omega arith
-
 free_at-by_escrow : (o : Outcome) (rows : List FieldRights) (e : Escrow) (g : ℕ) (k : Kind) → e.field.0 < length rows → free_at (by_escrow (ending o) rows e) g k ≡ free_at rows g k + takes g (frees o k) e
 free_at-by_escrow o rows e g k h =
-    ap (λ r. (amounts_of r k).free) (row_at-by_escrow (ending o) rows e g h) ∙ one_free o (e.field.0 == g) (row_at rows g) e.change k
+    read-at_field (λ r. (amounts_of r k).free) (ending o) (λ b n. n + cond (b && same_kind (kind_of e.change) (frees o k)) (unsigned_abs e.change) 0) rows e.field.0 g (kind_of e.change) (unsigned_abs e.change) h
+    (λ r. ending_free o r e.change k) (λ n. omega arith)
 
 one_held : (o : Outcome) (b : Bool) (r : FieldRights) (c : ℤ) (k : Kind) → cond (b && same_kind (kind_of c) (kind_of c)) (unsigned_abs c) 0 ≤ (amounts_of r (kind_of c)).held
     → (amounts_of (cond b (ending o r (kind_of c) (unsigned_abs c)) r) k).held + cond (b && same_kind (kind_of c) k) (unsigned_abs c) 0 ≡ (amounts_of r k).held
@@ -133,7 +133,7 @@ one_held o false r c k h = omega arith
 held_at-by_escrow : (o : Outcome) (rows : List FieldRights) (e : Escrow) (g : ℕ) (k : Kind) → e.field.0 < length rows → takes g (kind_of e.change) e ≤ held_at rows g (kind_of e.change)
     → held_at (by_escrow (ending o) rows e) g k + takes g k e ≡ held_at rows g k
 held_at-by_escrow o rows e g k h enough =
-    ap (λ r. (amounts_of r k).held + takes g k e) (row_at-by_escrow (ending o) rows e g h) ∙ one_held o (e.field.0 == g) (row_at rows g) e.change k enough
+    ap (λ r. (amounts_of r k).held + takes g k e) (row_at-field (ending o) rows e.field.0 g (kind_of e.change) (unsigned_abs e.change) h) ∙ one_held o (e.field.0 == g) (row_at rows g) e.change k enough
 
 AreInRange-same : (rows rows' : List FieldRights) (es : List Escrow) → length rows' ≡ length rows → AreInRange rows es → AreInRange rows' es
 AreInRange-same rows rows' es same h = All-weaker (λ (e : Escrow). e.field.0 < length rows) (λ (e : Escrow). e.field.0 < length rows') (λ e lt. omega arith) es h
@@ -180,14 +180,6 @@ can_end o rows es i e d range h lt at =
 
 -- ---- rights that leave and come
 
-row_at-field : (change : FieldRights → Kind → ℕ → FieldRights) (rows : List FieldRights) (f g : ℕ) (kind : Kind) (q : ℕ) → f < length rows
-    → row_at (at_field change rows f kind q) g ≡ cond (f == g) (change (row_at rows g) kind q) (row_at rows g)
-row_at-field change rows f g kind q h = row_at-set rows f g (change (row_at rows f) kind q) h ∙ moved (cases_Bool (f == g))
-  where
-    moved : ((f == g) ≡ true) ⊎ ((f == g) ≡ false) → cond (f == g) (change (row_at rows f) kind q) (row_at rows g) ≡ cond (f == g) (change (row_at rows g) kind q) (row_at rows g)
-    moved (inl same) = ap (λ (x : ℕ). cond (f == g) (change (get_or rows x no_rights) kind q) (row_at rows g)) (eqb-true f g same)
-    moved (inr differs) = rw differs refl
-
 dropped_free : (r : FieldRights) (kind k : Kind) (q : ℕ) → (amounts_of (dropped r kind q) k).free ≡ (amounts_of r k).free - cond (same_kind kind k) q 0
 dropped_free r Lower Lower q = refl
 dropped_free r Lower Raise q = omega arith
@@ -214,64 +206,43 @@ added_held r Raise Raise q = refl
 
 -- rights that leave a field leave the free ones of their kind
 pub free_at-dropped : (rows : List FieldRights) (f g : ℕ) (kind k : Kind) (q : ℕ) → f < length rows → free_at (at_field dropped rows f kind q) g k ≡ free_at rows g k - cond ((f == g) && same_kind kind k) q 0
-free_at-dropped rows f g kind k q h = ap (λ r. (amounts_of r k).free) (row_at-field dropped rows f g kind q h) ∙ one (f == g)
-  where
-    one : (b : Bool) → (amounts_of (cond b (dropped (row_at rows g) kind q) (row_at rows g)) k).free ≡ free_at rows g k - cond (b && same_kind kind k) q 0
-    one true = dropped_free (row_at rows g) kind k q
-    one false = omega arith
+free_at-dropped rows f g kind k q h = read-at_field (λ r. (amounts_of r k).free) dropped (λ b n. n - cond (b && same_kind kind k) q 0) rows f g kind q h (λ r. dropped_free r kind k q) (λ n. omega arith)
 
 pub held_at-dropped : (rows : List FieldRights) (f g : ℕ) (kind k : Kind) (q : ℕ) → f < length rows → held_at (at_field dropped rows f kind q) g k ≡ held_at rows g k
-held_at-dropped rows f g kind k q h = ap (λ r. (amounts_of r k).held) (row_at-field dropped rows f g kind q h) ∙ one (f == g)
-  where
-    one : (b : Bool) → (amounts_of (cond b (dropped (row_at rows g) kind q) (row_at rows g)) k).held ≡ held_at rows g k
-    one true = dropped_held (row_at rows g) kind k q
-    one false = refl
+held_at-dropped rows f g kind k q h = read-at_field (λ r. (amounts_of r k).held) dropped (λ b n. n) rows f g kind q h (λ r. dropped_held r kind k q) (λ n. refl)
 
 -- rights that come to a field come to the free ones of their kind
 pub free_at-added : (rows : List FieldRights) (f g : ℕ) (kind k : Kind) (q : ℕ) → f < length rows → free_at (at_field added rows f kind q) g k ≡ free_at rows g k + cond ((f == g) && same_kind kind k) q 0
-free_at-added rows f g kind k q h = ap (λ r. (amounts_of r k).free) (row_at-field added rows f g kind q h) ∙ one (f == g)
-  where
-    one : (b : Bool) → (amounts_of (cond b (added (row_at rows g) kind q) (row_at rows g)) k).free ≡ free_at rows g k + cond (b && same_kind kind k) q 0
-    one true = added_free (row_at rows g) kind k q
-    one false = omega arith
+free_at-added rows f g kind k q h = read-at_field (λ r. (amounts_of r k).free) added (λ b n. n + cond (b && same_kind kind k) q 0) rows f g kind q h (λ r. added_free r kind k q) (λ n. omega arith)
 
 pub held_at-added : (rows : List FieldRights) (f g : ℕ) (kind k : Kind) (q : ℕ) → f < length rows → held_at (at_field added rows f kind q) g k ≡ held_at rows g k
-held_at-added rows f g kind k q h = ap (λ r. (amounts_of r k).held) (row_at-field added rows f g kind q h) ∙ one (f == g)
-  where
-    one : (b : Bool) → (amounts_of (cond b (added (row_at rows g) kind q) (row_at rows g)) k).held ≡ held_at rows g k
-    one true = added_held (row_at rows g) kind k q
-    one false = refl
+held_at-added rows f g kind k q h = read-at_field (λ r. (amounts_of r k).held) added (λ b n. n) rows f g kind q h (λ r. added_held r kind k q) (λ n. refl)
 
 -- ---- no change of rights changes a width
 
 abbrev pub KeepsWidth : (FieldRights → Kind → ℕ → FieldRights) → Type 0
 KeepsWidth change = (r : FieldRights) (k : Kind) (q : ℕ) → (change r k q).width ≡ r.width
 
+with_amounts_keeps : (r : FieldRights) (k : Kind) (a : Amounts) → (with_amounts r k a).width ≡ r.width
+with_amounts_keeps r Lower a = refl
+with_amounts_keeps r Raise a = refl
+
 pub taken_keeps : KeepsWidth taken
-taken_keeps r Lower q = refl
-taken_keeps r Raise q = refl
+taken_keeps r k q = with_amounts_keeps r k _
 
 pub ending_keeps : (o : Outcome) → KeepsWidth (ending o)
-ending_keeps Committed r Lower q = refl
-ending_keeps Committed r Raise q = refl
-ending_keeps Aborted r Lower q = refl
-ending_keeps Aborted r Raise q = refl
+ending_keeps Committed r k q = with_amounts_keeps (with_amounts r k _) (other k) _ ∙ with_amounts_keeps r k _
+ending_keeps Aborted r k q = with_amounts_keeps r k _
 
 pub dropped_keeps : KeepsWidth dropped
-dropped_keeps r Lower q = refl
-dropped_keeps r Raise q = refl
+dropped_keeps r k q = with_amounts_keeps r k _
 
 pub added_keeps : KeepsWidth added
-added_keeps r Lower q = refl
-added_keeps r Raise q = refl
+added_keeps r k q = with_amounts_keeps r k _
 
 pub width_at-field : (change : FieldRights → Kind → ℕ → FieldRights) → KeepsWidth change → (rows : List FieldRights) (f g : ℕ) (kind : Kind) (q : ℕ) → f < length rows
     → width_at (at_field change rows f kind q) g ≡ width_at rows g
-width_at-field change keeps rows f g kind q h = ap (λ (r : FieldRights). r.width) (row_at-field change rows f g kind q h) ∙ one (f == g)
-  where
-    one : (b : Bool) → (cond b (change (row_at rows g) kind q) (row_at rows g)).width ≡ width_at rows g
-    one true = keeps (row_at rows g) kind q
-    one false = refl
+width_at-field change keeps rows f g kind q h = read-at_field (λ r. r.width) change (λ b n. n) rows f g kind q h (λ r. keeps r kind q) (λ n. refl)
 
 pub width_at-by_escrows : (change : FieldRights → Kind → ℕ → FieldRights) → KeepsWidth change → (rows : List FieldRights) (es : List Escrow) → AreInRange rows es → (g : ℕ)
     → width_at (by_escrows change rows es) g ≡ width_at rows g
