@@ -101,27 +101,24 @@ within-put_at ledger s f kind account place small within r g k =
     subst (λ (x : Account). x.given ≤ max_total) (sym (account_at-put_at ledger s f r g kind k account place))
     (chosen_given ((s == r) && (f == g) && same_kind kind k) account (account_at ledger r g k) small (within r g k))
 
-given_of : (b : Bool) (a c : Account) → (cond b a c).given ≡ cond b a.given c.given
-given_of true a c = refl
-given_of false a c = refl
-
-accepted_of : (b : Bool) (a c : Account) → (cond b a c).accepted ≡ cond b a.accepted c.accepted
-accepted_of true a c = refl
-accepted_of false a c = refl
+-- what is read of an account after one was replaced
+read_at-put_at : (read : Account → ℕ) (ledger : LedgerValue) (s f r g : ℕ) (kind k : Kind) (account : Account) → IsPlace ledger s f
+    → read (account_at (put_at ledger s f kind account) r g k) ≡ cond ((s == r) && (f == g) && same_kind kind k) (read account) (read (account_at ledger r g k))
+read_at-put_at read ledger s f r g kind k account place = ap read (account_at-put_at ledger s f r g kind k account place) ∙ chosen ((s == r) && (f == g) && same_kind kind k)
+  where
+    chosen : (b : Bool) → read (cond b account (account_at ledger r g k)) ≡ cond b (read account) (read (account_at ledger r g k))
+    chosen true = refl
+    chosen false = refl
 
 pub total_at-with_total : (ledger : LedgerValue) (s f r g : ℕ) (kind k : Kind) (n : ℕ) → IsPlace ledger s f
     → total_at (with_total ledger s f kind n) r g k ≡ cond ((s == r) && (f == g) && same_kind kind k) n (total_at ledger r g k)
 total_at-with_total ledger s f r g kind k n place =
-    let account : Account = record { given = n; accepted = accepted_at ledger s f kind } in
-    ap (λ (x : Account). x.given) (account_at-put_at ledger s f r g kind k account place)
-    ∙ given_of ((s == r) && (f == g) && same_kind kind k) account (account_at ledger r g k)
+    read_at-put_at (λ x. x.given) ledger s f r g kind k (record { given = n; accepted = accepted_at ledger s f kind }) place
 
 pub accepted_at-with_accepted : (ledger : LedgerValue) (s f r g : ℕ) (kind k : Kind) (n : ℕ) → IsPlace ledger s f
     → accepted_at (with_accepted ledger s f kind n) r g k ≡ cond ((s == r) && (f == g) && same_kind kind k) n (accepted_at ledger r g k)
 accepted_at-with_accepted ledger s f r g kind k n place =
-    let account : Account = record { given = total_at ledger s f kind; accepted = n } in
-    ap (λ (x : Account). x.accepted) (account_at-put_at ledger s f r g kind k account place)
-    ∙ accepted_of ((s == r) && (f == g) && same_kind kind k) account (account_at ledger r g k)
+    read_at-put_at (λ x. x.accepted) ledger s f r g kind k (record { given = total_at ledger s f kind; accepted = n }) place
 
 -- what was given stays where a total is accepted, and the reverse
 same_place : (s r f g : ℕ) (kind k : Kind) → ((s == r) && (f == g) && same_kind kind k) ≡ true → (s ≡ r) × (f ≡ g) × (kind ≡ k)
@@ -130,25 +127,24 @@ same_place s r f g kind k h =
     let places = and_parts (s == r) (f == g) both.0 in
     (eqb-true s r places.0, eqb-true f g places.1, same_kind-true kind k both.1)
 
+stays-put_at : (read : Account → ℕ) (ledger : LedgerValue) (s f r g : ℕ) (kind k : Kind) (account : Account) → IsPlace ledger s f → read account ≡ read (account_at ledger s f kind)
+    → read (account_at (put_at ledger s f kind account) r g k) ≡ read (account_at ledger r g k)
+stays-put_at read ledger s f r g kind k account place same =
+    read_at-put_at read ledger s f r g kind k account place
+    ∙ elim (cases_Bool ((s == r) && (f == g) && same_kind kind k)) [
+      | inl here ↦ let at = same_place s r f g kind k here in rw here (cc (same, at.0, at.1, at.2))
+      | inr there ↦ rw there refl
+    ]
+
 pub accepted_at-with_total : (ledger : LedgerValue) (s f r g : ℕ) (kind k : Kind) (n : ℕ) → IsPlace ledger s f
     → accepted_at (with_total ledger s f kind n) r g k ≡ accepted_at ledger r g k
 accepted_at-with_total ledger s f r g kind k n place =
-    let account : Account = record { given = n; accepted = accepted_at ledger s f kind } in
-    ap (λ (x : Account). x.accepted) (account_at-put_at ledger s f r g kind k account place)
-    ∙ elim (cases_Bool ((s == r) && (f == g) && same_kind kind k)) [
-      | inl here ↦ let at = same_place s r f g kind k here in rw here (cc (at.0, at.1, at.2))
-      | inr there ↦ rw there refl
-    ]
+    stays-put_at (λ x. x.accepted) ledger s f r g kind k (record { given = n; accepted = accepted_at ledger s f kind }) place refl
 
 pub total_at-with_accepted : (ledger : LedgerValue) (s f r g : ℕ) (kind k : Kind) (n : ℕ) → IsPlace ledger s f
     → total_at (with_accepted ledger s f kind n) r g k ≡ total_at ledger r g k
 total_at-with_accepted ledger s f r g kind k n place =
-    let account : Account = record { given = total_at ledger s f kind; accepted = n } in
-    ap (λ (x : Account). x.given) (account_at-put_at ledger s f r g kind k account place)
-    ∙ elim (cases_Bool ((s == r) && (f == g) && same_kind kind k)) [
-      | inl here ↦ let at = same_place s r f g kind k here in rw here (cc (at.0, at.1, at.2))
-      | inr there ↦ rw there refl
-    ]
+    stays-put_at (λ x. x.given) ledger s f r g kind k (record { given = total_at ledger s f kind; accepted = n }) place refl
 
 -- ---- a fresh ledger
 
