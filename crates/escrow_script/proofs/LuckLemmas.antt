@@ -102,14 +102,14 @@ pub only_command : (schema : SchemaValue) (bytes : List ℕ) (site : SiteNo) (co
 only_command schema bytes site command luck small spelled only (Do t d other) fits e lucks =
     let both : (site, command) ≡ (t, d) = same_Some (site, command) (t, d) (only t d fits.0 fits.1 e) in
     ap Some (ap (λ (x : SiteNo × Command). Do x.0 x.1 luck) both ∙ ap (Do t d) (sym lucks))
-only_command schema bytes site command luck small spelled only (Deliver which other) fits e lucks =
-    absurd (no_delivery schema site command (codes "eliver " ++ decimal which) small (sym spelled ∙ e))
+only_command schema bytes site command luck small spelled only (Deliver k other) fits e lucks =
+    absurd (no_delivery schema site command (codes "eliver " ++ decimal k) small (sym spelled ∙ e))
 
 -- ---- a line that asks no step
 
 luck_fits : (step : WorldStep) → NumbersFit step → LuckFits (luck_of step)
 luck_fits (Do site command luck) fits = fits.2
-luck_fits (Deliver which luck) fits = fits.1
+luck_fits (Deliver k luck) fits = fits.1
 
 no_luck : (schema : SchemaValue) (bytes plain : List ℕ) (n : ℕ) → n < 2 ^ 64 → bytes ≡ plain ++ luck_text (Torn n)
     → ((step : WorldStep) → NumbersFit step → bytes ≡ plain_text schema step → luck_of step ≡ Fine → ⊥)

@@ -53,7 +53,7 @@ luck_words (Torn bytes) = codes "torn" ∷ decimal bytes ∷ []
 
 abbrev plain_words : SchemaValue → WorldStep → List (List ℕ)
 plain_words schema (Do site command luck) = site_text site ∷ command_words schema command
-plain_words schema (Deliver which luck) = codes "deliver" ∷ decimal which ∷ []
+plain_words schema (Deliver k luck) = codes "deliver" ∷ decimal k ∷ []
 
 abbrev step_words : SchemaValue → WorldStep → List (List ℕ)
 step_words schema step = plain_words schema step ++ luck_words (luck_of step)
@@ -61,8 +61,8 @@ step_words schema step = plain_words schema step ++ luck_words (luck_of step)
 spelled : (schema : SchemaValue) (step : WorldStep) → step_text schema step ≡ line (step_words schema step)
 spelled schema (Do site command Fine) = append-nil (command_text schema site command) ∙ ap line (sym (append-nil (site_text site ∷ command_words schema command)))
 spelled schema (Do site command (Torn bytes)) = sym (line-append (site_text site) (command_words schema command) (codes "torn") (decimal bytes ∷ []))
-spelled schema (Deliver which Fine) = append-nil (codes "deliver " ++ decimal which)
-spelled schema (Deliver which (Torn bytes)) = sym (line-append (codes "deliver") (decimal which ∷ []) (codes "torn") (decimal bytes ∷ []))
+spelled schema (Deliver k Fine) = append-nil (codes "deliver " ++ decimal k)
+spelled schema (Deliver k (Torn bytes)) = sym (line-append (codes "deliver") (decimal k ∷ []) (codes "torn") (decimal bytes ∷ []))
 
 luck_plain : (luck : Luck) → LuckFits luck → AllByRecursion IsWord (luck_words luck)
 luck_plain Fine fits = tt
@@ -71,16 +71,16 @@ luck_plain (Torn bytes) fits = (word_from_test (codes "torn") refl, (decimal_wor
 step_plain : (schema : SchemaValue) → IsSchema schema → (step : WorldStep) → NumbersFit step → AllByRecursion IsWord (step_words schema step)
 step_plain schema is (Do site command luck) fits =
     all_append (site_text site ∷ command_words schema command) (luck_words luck) ((command_form schema is).plain (site, command) (fits.0, fits.1)) (luck_plain luck fits.2)
-step_plain schema is (Deliver which luck) fits =
-    all_append (codes "deliver" ∷ decimal which ∷ []) (luck_words luck) (word_from_test (codes "deliver") refl, (decimal_word which fits.0, tt)) (luck_plain luck fits.1)
+step_plain schema is (Deliver k luck) fits =
+    all_append (codes "deliver" ∷ decimal k ∷ []) (luck_words luck) (word_from_test (codes "deliver") refl, (decimal_word k fits.0, tt)) (luck_plain luck fits.1)
 
 cut : (schema : SchemaValue) → IsSchema schema → (step : WorldStep) → NumbersFit step → words (step_text schema step) ≡ step_words schema step
 cut schema is (Do site command luck) fits =
     let all = step_plain schema is (Do site command luck) fits in
     ap words (spelled schema (Do site command luck)) ∙ words-join (site_text site) (command_words schema command ++ luck_words luck) all.0 all.1
-cut schema is (Deliver which luck) fits =
-    let all = step_plain schema is (Deliver which luck) fits in
-    ap words (spelled schema (Deliver which luck)) ∙ words-join (codes "deliver") (decimal which ∷ luck_words luck) all.0 all.1
+cut schema is (Deliver k luck) fits =
+    let all = step_plain schema is (Deliver k luck) fits in
+    ap words (spelled schema (Deliver k luck)) ∙ words-join (codes "deliver") (decimal k ∷ luck_words luck) all.0 all.1
 
 -- ---- each command has its own count of words
 
@@ -159,15 +159,15 @@ by_words schema is (Do s c Fine) (Do t d (Torn m)) fits fit e =
 by_words schema is (Do s c (Torn n)) (Do t d Fine) fits fit e =
     let more = no_more schema d c (luck_words (Torn n)) (sym (append-nil (command_words schema d)) ∙ sym (tail_is _ _ _ _ e)) in
     absurd (omega (arith, more))
-by_words schema is (Do s c luck) (Deliver which other) fits fit e = absurd (no_deliver s.0 (omega (arith, fits.0)) (head_is _ _ _ _ e))
-by_words schema is (Deliver which luck) (Do s c other) fits fit e = absurd (no_deliver s.0 (omega (arith, fit.0)) (sym (head_is _ _ _ _ e)))
+by_words schema is (Do s c luck) (Deliver k other) fits fit e = absurd (no_deliver s.0 (omega (arith, fits.0)) (head_is _ _ _ _ e))
+by_words schema is (Deliver k luck) (Do s c other) fits fit e = absurd (no_deliver s.0 (omega (arith, fit.0)) (sym (head_is _ _ _ _ e)))
 by_words schema is (Deliver n Fine) (Deliver m Fine) fits fit e =
     ap (λ (k : ℕ). Deliver k Fine) (decimal_one n m fits.0 fit.0 (head_is _ _ _ _ (tail_is _ _ _ _ e)))
 by_words schema is (Deliver n (Torn x)) (Deliver m (Torn y)) fits fit e =
     let rest = tail_is _ _ _ _ e in
-    let which = decimal_one n m fits.0 fit.0 (head_is _ _ _ _ rest) in
+    let number = decimal_one n m fits.0 fit.0 (head_is _ _ _ _ rest) in
     let bytes = decimal_one x y fits.1 fit.1 (head_is _ _ _ _ (tail_is _ _ _ _ (tail_is _ _ _ _ rest))) in
-    ap (λ (k : ℕ). Deliver k (Torn x)) which ∙ ap (λ (k : ℕ). Deliver m (Torn k)) bytes
+    ap (λ (k : ℕ). Deliver k (Torn x)) number ∙ ap (λ (k : ℕ). Deliver m (Torn k)) bytes
 by_words schema is (Deliver n Fine) (Deliver m (Torn y)) fits fit e = absurd (omega (arith, ap length e))
 by_words schema is (Deliver n (Torn x)) (Deliver m Fine) fits fit e = absurd (omega (arith, ap length e))
 

@@ -45,7 +45,7 @@ pub record CannotKeep (old new : Script) (piece : List ℕ) (fault : ScriptFault
 -- The entry is of what the step asks a site, where it names one.
 abbrev pub IsMadeBy : WorldStep → Entry → Type 0
 IsMadeBy (Do site command luck) entry = (entry.site ≡ site) × (entry.command ≡ command)
-IsMadeBy (Deliver which luck) entry = Unit {0}
+IsMadeBy (Deliver k luck) entry = Unit {0}
 
 -- The world has taken one more step.
 abbrev pub one_more : WorldValue → WorldStep → WorldValue

@@ -24,7 +24,7 @@ line_text line = line ++ 10 ∷ []
 -- What a step asks: a command, or the taking in of a statement by its number.
 abbrev pub plain_text : SchemaValue → WorldStep → List ℕ
 plain_text schema (Do site command luck) = command_text schema site command
-plain_text schema (Deliver which luck) = codes "deliver " ++ decimal which
+plain_text schema (Deliver k luck) = codes "deliver " ++ decimal k
 
 -- How its append goes: nothing where it is whole, and else how many bytes are kept.
 abbrev pub luck_text : Luck → List ℕ
@@ -43,7 +43,7 @@ LuckFits (Torn bytes) = bytes < 2 ^ 64
 -- What a step names fits, and the number of a statement is a u64.
 abbrev pub NumbersFit : WorldStep → Type 0
 NumbersFit (Do site command luck) = SiteFits site × CommandFits command × LuckFits luck
-NumbersFit (Deliver which luck) = (which < 2 ^ 64) × LuckFits luck
+NumbersFit (Deliver k luck) = (k < 2 ^ 64) × LuckFits luck
 
 -- A line behind the header asks this step: it is the step's line, of at most 256 bytes, and a world of the schema takes the
 -- step: its site is in the schema, and it is no acceptance, for a statement reaches a site only as it was issued.

@@ -55,9 +55,9 @@ fn split_luck(line: &[u8]) -> Option<(&[u8], u64)>
 
 // The number of the statement that a line without luck delivers.
 fn delivery(line: &[u8]) -> Option<u64>
-    ensures found { IfSome result (λ which. (line.now ≡ codes "deliver " ++ decimal which) × (which < 2 ^ 64)) }
-    ensures only { (which : ℕ) → which < 2 ^ 64 → line.now ≡ codes "deliver " ++ decimal which
-        → result ≡ Some which }
+    ensures found { IfSome result (λ k. (line.now ≡ codes "deliver " ++ decimal k) × (k < 2 ^ 64)) }
+    ensures only { (k : ℕ) → k < 2 ^ 64 → line.now ≡ codes "deliver " ++ decimal k
+        → result ≡ Some k }
 {
     read_number(line.strip_prefix(b"deliver ")?)
 }
@@ -76,8 +76,8 @@ fn plain_step(schema: &Schema, line: &[u8], luck: Luck) -> Option<WorldStep>
             luck,
         }),
         None => {
-            let which = delivery(line)?;
-            Some(WorldStep::Deliver { which, luck })
+            let k = delivery(line)?;
+            Some(WorldStep::Deliver { k, luck })
         }
     }
 }

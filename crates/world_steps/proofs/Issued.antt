@@ -56,9 +56,9 @@ numbered_step : (b : Bool) (y x : Statement) (ys : List Statement) (rest : Optio
 numbered_step true y x ys rest h more = inl (some_same y x h)
 numbered_step false y x ys rest h more = inr (more h)
 
-numbered_is_among : (which : ℕ) (ys : List Statement) (x : Statement) → numbered which ys ≡ Some x → IsAmong x ys
-numbered_is_among which [] x h = cc
-numbered_is_among which (y ∷ ys) x h = numbered_step (eqb which (suc (length ys))) y x ys (numbered which ys) h (numbered_is_among which ys x)
+numbered_is_among : (k : ℕ) (ys : List Statement) (x : Statement) → numbered k ys ≡ Some x → IsAmong x ys
+numbered_is_among k [] x h = cc
+numbered_is_among k (y ∷ ys) x h = numbered_step (eqb k (suc (length ys))) y x ys (numbered k ys) h (numbered_is_among k ys x)
 
 issued_step : (o : Option Statement) (x : Statement) (ys : List Statement) (Earlier : Type 0) → (IsAmong x ys → Earlier) → IsAmong x (with_statement o ys) → (o ≡ Some x) ⊎ Earlier
 issued_step None x ys Earlier more h = inr (more h)
@@ -69,5 +69,5 @@ among_is_issued : (t : List Entry) (x : Statement) → IsAmong x (issued t) → 
 among_is_issued [] x h = h
 among_is_issued (e ∷ t) x h = issued_step (statement_of e) x (issued t) (IsIssued x t) (among_is_issued t x) h
 
-pub numbered_is_issued : (which : ℕ) (t : List Entry) (x : Statement) → numbered which (issued t) ≡ Some x → IsIssued x t
-numbered_is_issued which t x h = among_is_issued t x (numbered_is_among which (issued t) x h)
+pub numbered_is_issued : (k : ℕ) (t : List Entry) (x : Statement) → numbered k (issued t) ≡ Some x → IsIssued x t
+numbered_is_issued k t x h = among_is_issued t x (numbered_is_among k (issued t) x h)

@@ -57,8 +57,8 @@ delivery_allows schema front sound who r (Some told) is h =
 pub step_allows : (schema : SchemaValue) (front : List Entry) → IsSound schema front → (step : WorldStep) → StepFits schema step → (who : SiteNo × Command) (r : Reply) → asked front step ≡ Some who → Allows schema front who r
 step_allows schema front sound (Do site command luck) fit who r h =
     subst (λ (w : SiteNo × Command). Allows schema front w r) (some_same (site, command) who h) (fit.0, rule_of_plain front command r fit.1)
-step_allows schema front sound (Deliver which luck) fit who r h =
-    delivery_allows schema front sound who r (numbered which (issued front)) (λ x is. numbered_is_issued which front x is) h
+step_allows schema front sound (Deliver k luck) fit who r h =
+    delivery_allows schema front sound who r (numbered k (issued front)) (λ x is. numbered_is_issued k front x is) h
 
 -- ---- the one reply is owed after the site's own part of the trace
 

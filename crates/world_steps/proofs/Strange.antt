@@ -101,8 +101,8 @@ module _ (schema : SchemaValue) (good : IsSchema schema) (front : List Entry) (s
       let who_is = some_same (site, command) who h in
       let plain : is_accept who.1 ≡ false = subst (λ (w : SiteNo × Command). is_accept w.1 ≡ false) who_is fit.1 in
       familiar_plain (place schema who.0.0 (fresh schema who.0.0) (own who.0.0 front)) who.1 x plain fits strange
-  never_strange (Deliver which luck) fit who h x fits strange =
-      let found = delivers who (numbered which (issued front)) (λ y is. numbered_is_issued which front y is) h in
+  never_strange (Deliver k luck) fit who h x fits strange =
+      let found = delivers who (numbered k (issued front)) (λ y is. numbered_is_issued k front y is) h in
       let told = found.0 in
       let fits_there = subst (λ (w : SiteNo × Command). Fits (place schema w.0.0 (fresh schema w.0.0) (own w.0.0 front)) w.1 (Refused x)) found.1 fits in
       familiar_accept (place schema told.to.0 (fresh schema told.to.0) (own told.to.0 front)) told x refl (never_forged schema good front sound told found.2) fits_there strange

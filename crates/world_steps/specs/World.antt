@@ -28,8 +28,8 @@ issued (e ∷ t) = with_statement (statement_of e) (issued t)
 
 -- The statement of a number, counted from 1 for the oldest.
 abbrev pub numbered : ℕ → List Statement → Option Statement
-numbered which [] = None
-numbered which (statement ∷ older) = if which == suc (length older) then Some statement else numbered which older
+numbered k [] = None
+numbered k (statement ∷ older) = if k == suc (length older) then Some statement else numbered k older
 
 -- ---- what a step asks
 
@@ -41,12 +41,12 @@ delivered (Some statement) = Some (statement.to, Accept statement)
 -- The site and the command of a step that comes after a trace; none where no statement has the number.
 abbrev pub asked : List Entry → WorldStep → Option (SiteNo × Command)
 asked t (Do site command luck) = Some (site, command)
-asked t (Deliver which luck) = delivered (numbered which (issued t))
+asked t (Deliver k luck) = delivered (numbered k (issued t))
 
 -- How the append of a step goes.
 abbrev pub luck_of : WorldStep → Luck
 luck_of (Do site command luck) = luck
-luck_of (Deliver which luck) = luck
+luck_of (Deliver k luck) = luck
 
 -- ---- which steps a world takes
 
@@ -58,7 +58,7 @@ is_accept command = false
 -- A command is asked at a site of the schema, and takes in no statement: statements come by delivery alone.
 abbrev pub StepFits : SchemaValue → WorldStep → Type 0
 StepFits schema (Do site command luck) = (site.0 < schema.sites) × (is_accept command ≡ false)
-StepFits schema (Deliver which luck) = Unit {0}
+StepFits schema (Deliver k luck) = Unit {0}
 
 -- ---- what is lived
 

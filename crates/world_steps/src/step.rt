@@ -22,7 +22,7 @@ pub enum WorldStep {
     /// over all statements that were issued, in their order. Where there is none of that number,
     /// the step makes no entry. A statement is never used up.
     Deliver {
-        which: u64,
+        k: u64,
         luck: Luck,
     },
 }
@@ -53,7 +53,7 @@ fn step_fits(schema: &Schema, step: &WorldStep) -> bool
             command: _,
             luck: _,
         } => site.0 < schema.sites(),
-        WorldStep::Deliver { which: _, luck: _ } => true,
+        WorldStep::Deliver { k: _, luck: _ } => true,
     }
 }
 

@@ -41,13 +41,13 @@ pub(crate) fn note(told: &mut Vec<Statement>, entry: &Entry)
 }
 
 /// The statement of a number, counted from 1.
-fn statement_numbered(told: &[Statement], which: u64) -> Option<Statement>
-    ensures value { result ≡ numbered which (reverse told.now) }
+fn statement_numbered(told: &[Statement], k: u64) -> Option<Statement>
+    ensures value { result ≡ numbered k (reverse told.now) }
 {
-    if which == 0 || which > told.len() as u64 {
+    if k == 0 || k > told.len() as u64 {
         return None;
     }
-    Some(told[(which - 1) as usize])
+    Some(told[(k - 1) as usize])
 }
 
 /// The site and the command of a step, where it makes an entry.
@@ -60,8 +60,8 @@ pub(crate) fn asked(told: &[Statement], step: &WorldStep) -> Option<(SiteNo, Com
             command,
             luck: _,
         } => Some((site, command)),
-        WorldStep::Deliver { which, luck: _ } => {
-            let statement = statement_numbered(told, which)?;
+        WorldStep::Deliver { k, luck: _ } => {
+            let statement = statement_numbered(told, k)?;
             Some((statement.to, Command::Accept(statement)))
         }
     }
@@ -77,7 +77,7 @@ pub(crate) fn luck_of(step: &WorldStep) -> Luck
             command: _,
             luck,
         }
-        | WorldStep::Deliver { which: _, luck } => luck,
+        | WorldStep::Deliver { k: _, luck } => luck,
     }
 }
 

@@ -49,7 +49,7 @@ const FIVE: Statement = Statement {
 
 /// The first statement is delivered.
 const DELIVER: WorldStep = WorldStep::Deliver {
-    which: 1,
+    k: 1,
     luck: Luck::Fine,
 };
 
@@ -164,7 +164,7 @@ fn read_told(told: Told) -> (WorldStep, Option<Reply>) {
             },
             Some(reply),
         ),
-        Told::Delivered(which, luck, reply) => (WorldStep::Deliver { which, luck }, reply),
+        Told::Delivered(k, luck, reply) => (WorldStep::Deliver { k, luck }, reply),
     }
 }
 
