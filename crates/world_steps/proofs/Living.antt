@@ -1,7 +1,8 @@
 -- One more step of a world.
-use Rattle.std.proofs.Common.{◌≡◌, ℕ, ◌+◌, ◌<◌, ◌≤◌, List, [], ◌∷◌, ◌++◌, length, reverse, sym, ap, subst, ◌∙◌, arith, Option, Some, None, All}
+use Rattle.std.proofs.Common.{◌≡◌, ℕ, ◌+◌, ◌<◌, ◌≤◌, List, [], ◌∷◌, ◌++◌, length, take, drop, reverse, sym, ap, subst, ◌∙◌, arith, Option, Some, None, All}
 use Rattle.std.proofs.lemmas.List.{reverse-append, length-append}
 use Rattle.std.proofs.lemmas.List.Elements.{All-push, All-tail, All-head}
+use Rattle.std.proofs.Math.Seq.{take-append_seam}
 use Rattle.field_bounds.specs.declared.id.SiteNo.{SiteNo}
 use Rattle.field_bounds.specs.declared.entry.Statement.{Statement}
 use Rattle.field_bounds.specs.declared.entry.Command.{Command}
@@ -19,10 +20,10 @@ use Rattle.kept_state.specs.Luck.{Lucky, entries, own_lucky, lucky_reply}
 use Rattle.site_step.specs.Site.{SiteValue}
 use Rattle.world_steps.specs.declared.step.WorldStep.{WorldStep}
 use Rattle.world_steps.specs.World.{with_statement, issued, asked, luck_of, StepFits, with_entry, world_of, trace_by}
-use Rattle.world_steps.specs.Promises.{IsBoundedThroughout, NoneStrange, IsOneStore}
+use Rattle.world_steps.specs.Promises.{IsOneStore}
 use Rattle.world_steps.specs.Standing.{AllStand}
-use Rattle.world_steps.specs.View.{IsWorld}
-use Rattle.world_steps.proofs.Sound.{StepsFit, step_allows, world_is_sound, bounded_throughout, none_strange}
+use Rattle.world_steps.specs.View.{WorldValue, trace_of, IsWorld}
+use Rattle.world_steps.proofs.Sound.{StepsFit, step_allows, world_is_sound, bounded_throughout, ends_throughout, none_strange}
 use Rattle.world_steps.proofs.Stand.{all_longer}
 
 -- ---- what is lived, after one more step
@@ -94,6 +95,11 @@ world_same schema steps more sites trace tracing told telling a b c w =
     (subst (λ (l : List Entry). IsWorld schema steps sites l telling) (sym b)
     (subst (λ (l : List Statement). IsWorld schema steps sites trace l) (sym c) w))
 
+-- a slice of all sites writes all of them
+pub sites_written : (count : ℕ) (sites moved : List SiteValue) → count ≡ length sites → length moved ≡ length sites → take count (moved ++ drop (length moved) sites) ≡ moved
+sites_written count sites moved all same =
+    ap (λ (n : ℕ). take n (moved ++ drop (length moved) sites)) (all ∙ sym same) ∙ take-append_seam moved (drop (length moved) sites)
+
 -- ---- what follows
 
 steps_more : (schema : SchemaValue) (older : List WorldStep) (step : WorldStep) → StepsFit schema older → StepFits schema step → StepsFit schema (older ++ step ∷ [])
@@ -106,25 +112,28 @@ all_fit schema (x ∷ steps) h =
     subst (λ (l : List WorldStep). StepsFit schema l) (sym (reverse-append (x ∷ []) steps))
     (steps_more schema (reverse steps) x (all_fit schema steps (All-tail (StepFits schema) x steps h)) (All-head (StepFits schema) x steps h))
 
--- every list of steps that fit, each of a world of this schema
-module _ (schema : SchemaValue) (good : IsSchema schema) (steps : List WorldStep) (fit : All (StepFits schema) steps) where
-  pub sound_of : IsSound schema (trace_by schema steps)
-  sound_of = world_is_sound schema (reverse steps) (all_fit schema steps fit)
+-- steps that fit, the newest first, are lived as one store
+pub one_store : (schema : SchemaValue) → IsSchema schema → (steps : List WorldStep) → StepsFit schema steps → IsOneStore schema (entries (world_of schema steps))
+one_store schema good steps fit =
+    let sound = world_is_sound schema steps fit in
+    let bounded = bounded_throughout schema good _ sound in
+    record {
+      sound = sound;
+      central = sound_is_central schema good _ sound;
+      conserved = conserved_throughout schema good _ sound;
+      bounded = bounded;
+      outcomes = ends_throughout schema _ bounded;
+      none_strange = none_strange schema good steps fit;
+    }
 
-  pub central_of : IsCentral schema (trace_by schema steps)
-  central_of = sound_is_central schema good _ sound_of
+-- and so is every list of steps of a world, the oldest first
+pub one_store_of : (schema : SchemaValue) → IsSchema schema → (steps : List WorldStep) → All (StepFits schema) steps → IsOneStore schema (trace_by schema steps)
+one_store_of schema good steps fit = one_store schema good (reverse steps) (all_fit schema steps fit)
 
-  pub conserved_of : IsConservedThroughout schema (trace_by schema steps)
-  conserved_of = conserved_throughout schema good _ sound_of
-
-  pub bounded_of : IsBoundedThroughout schema (trace_by schema steps)
-  bounded_of = bounded_throughout schema good _ sound_of
-
-  pub none_strange_of : NoneStrange (trace_by schema steps)
-  none_strange_of = none_strange schema good (reverse steps) (all_fit schema steps fit)
-
-  pub one_store_of : IsOneStore schema (trace_by schema steps)
-  one_store_of = record { sound = sound_of; central = central_of; conserved = conserved_of; bounded = bounded_of; none_strange = none_strange_of }
+-- as callers see it
+pub one_store_seen : (v : WorldValue) (schema : SchemaValue) (steps : List WorldStep) (sites : List SiteValue) (trace : List Entry) (told : List Statement)
+    → IsWorld schema steps sites trace told → record { schema = schema; steps = steps } ≡ v → IsOneStore v.schema (trace_of v)
+one_store_seen v schema steps sites trace told w is = subst (λ (x : WorldValue). IsOneStore x.schema (trace_of x)) is (one_store_of schema w.good steps w.fit)
 
 -- and so with one more step that fits
 pub one_store_after : (schema : SchemaValue) (steps more : List WorldStep) (step : WorldStep)
@@ -137,5 +146,5 @@ one_store_after schema steps more step good fit fits is =
 pub step_known : (schema : SchemaValue) (steps : List WorldStep) (sites : List SiteValue) (trace : List Entry) (told : List Statement) (step : WorldStep) (site : SiteNo) (command : Command)
     → IsWorld schema steps sites trace told → StepFits schema step → asked (trace_by schema steps) step ≡ Some (site, command) → site.0 < length sites
 step_known schema steps sites trace told step site command w fits is =
-    let known = (step_allows schema _ (sound_of schema w.good steps w.fit) step fits (site, command) Granted is).0 in
+    let known = (step_allows schema _ (one_store_of schema w.good steps w.fit).sound step fits (site, command) Granted is).0 in
     omega (arith, known, w.count)

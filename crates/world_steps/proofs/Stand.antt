@@ -111,25 +111,28 @@ all_next schema past bound sites x later known all st = λ s d below.
     ]
 
 -- one command at one of the sites
-pub all_after : (schema : SchemaValue) (past : List Lucky) (bound : ℕ) (sites : List SiteValue) (site : SiteNo) (command : Command) (luck : Luck) (reply : Reply) (v later : SiteValue)
-    → site.0 < length sites → v ≡ get_or sites site.0 v → AllStand schema past bound sites
-    → ((epoch : ℕ) (found : Last) → Finds v epoch found → Once v epoch found command luck reply later)
+pub all_after : (schema : SchemaValue) (past : List Lucky) (bound : ℕ) (sites : List SiteValue) (site : SiteNo) (command : Command) (luck : Luck) (reply : Reply) (i : ℕ) (d later : SiteValue)
+    → i ≡ site.0 → site.0 < length sites → AllStand schema past bound sites
+    → ((epoch : ℕ) (found : Last) → Finds (get_or sites i d) epoch found → Once (get_or sites i d) epoch found command luck reply later)
     → (reply ≡ lucky_reply schema site.0 (fresh schema site.0) (own_lucky site.0 past) command luck)
-    × AllStand schema ((record { site = site; command = command; reply = reply }, luck) ∷ past) (bound + 1) (slice_set sites site.0 later)
+    × AllStand schema ((record { site = site; command = command; reply = reply }, luck) ∷ past) (bound + 1) (slice_set sites i later)
 unfolding AllStand
-all_after schema past bound sites site command luck reply v later known is all once =
+all_after schema past bound sites site command luck reply i d later same known all once =
     let ys : List Lucky = own_lucky site.0 past in
-    let st : Stands schema site.0 ys bound v = subst (λ (w : SiteValue). Stands schema site.0 ys bound w) (sym is) (all site.0 v known) in
-    let did = once _ _ st.finds in (
+    let v : SiteValue = get_or sites i d in
+    let st : Stands schema site.0 ys bound v = subst (λ (n : ℕ). Stands schema site.0 ys bound (get_or sites n d)) (sym same) (all site.0 d known) in
+    let did = once _ _ st.finds in
+    let e : Entry = record { site = site; command = command; reply = reply } in (
       reply_is_lucky schema site.0 ys bound v command luck reply later st did,
-      all_next schema past bound sites (record { site = site; command = command; reply = reply }, luck) later known all (stands_next schema site ys bound v command luck reply later st did),
+      subst (λ (n : ℕ). AllStand schema ((e, luck) ∷ past) (bound + 1) (slice_set sites n later)) (sym same)
+          (all_next schema past bound sites (e, luck) later known all (stands_next schema site ys bound v command luck reply later st did)),
     )
 
 -- ---- no mishap is to come
 
-pub calm_at : (bound : ℕ) (sites : List SiteValue) (s : ℕ) (v : SiteValue) → s < length sites → v ≡ get_or sites s v → AreCalm bound sites → (v.foretold ≡ Some Never) × (v.failed < bound)
+pub calm_at : (bound : ℕ) (sites : List SiteValue) (s i : ℕ) (d : SiteValue) → i ≡ s → s < length sites → AreCalm bound sites → ((get_or sites i d).foretold ≡ Some Never) × ((get_or sites i d).failed < bound)
 unfolding AreCalm
-calm_at bound sites s v known is calm = subst (λ (w : SiteValue). (w.foretold ≡ Some Never) × (w.failed < bound)) (sym is) (calm s v known)
+calm_at bound sites s i d same known calm = calm i d (omega (arith, same, known))
 
 pub all_calm : (schema : SchemaValue) (past : List Lucky) (bound most : ℕ) (sites : List SiteValue) → bound < most → AllStand schema past bound sites → AreCalm most sites
 unfolding AreCalm AllStand

@@ -1,13 +1,14 @@
 -- What is promised of every trace of a world, beside what makes it a run of one central store (this project).
 use Rattle.std.specs.Prelude.{◌≡◌, ℕ, ◌≤ℤ◌, Bool, true, false, List, [], ◌∷◌}
+use Rattle.field_bounds.specs.declared.id.TxnId.{TxnId}
 use Rattle.field_bounds.specs.declared.entry.Reply.{Reply}
-use Rattle.field_bounds.specs.declared.entry.Reply.TheVariants.{Refused}
+use Rattle.field_bounds.specs.declared.entry.Reply.TheVariants.{Begun, Granted, Committed, Aborted, Given, Stated, Accepted, Between, Shares, Restarted, Unsure, StillDown, Refused}
 use Rattle.field_bounds.specs.declared.entry.Refusal.{Refusal}
-use Rattle.field_bounds.specs.declared.entry.Refusal.TheVariants.{NotYours, Forged}
+use Rattle.field_bounds.specs.declared.entry.Refusal.TheVariants.{Down, NoSite, NoField, NoTransaction, Zero, TooLarge, Short, SelfGift, LedgerFull, NotYours, Forged, TooManyOpen, TooManyEscrows, NumbersFull, NothingGiven}
 use Rattle.field_bounds.specs.declared.entry.Entry.{Entry}
 use Rattle.field_bounds.specs.Schema.{SchemaValue}
 use Rattle.field_bounds.specs.Parts.{field_at}
-use Rattle.field_bounds.specs.Central.{inf, sup, IsSound, IsCentral, IsConservedThroughout}
+use Rattle.field_bounds.specs.Central.{inf, sup, outcome, IsSound, IsCentral, IsConservedThroughout}
 
 -- Of each field, the infimum is at the floor or above, and the supremum at the ceiling or below: however the open
 -- transactions end, the value stays within its bounds (O'Neil 1986).
@@ -20,16 +21,51 @@ abbrev pub IsBoundedThroughout : SchemaValue → List Entry → Type 0
 IsBoundedThroughout schema [] = IsBounded schema []
 IsBoundedThroughout schema (e ∷ t) = IsBoundedThroughout schema t × IsBounded schema (e ∷ t)
 
+-- Whichever of the open transactions are committed and whichever aborted, the value of each field is then at its floor or
+-- above, and at its ceiling or below (O'Neil 1986 for outcomes, this project for the promise).
+abbrev pub EndsInBounds : SchemaValue → List Entry → Type 0
+EndsInBounds schema t =
+    (f : ℕ) (chosen : ℕ → TxnId → Bool)
+    → ((field_at schema f).floor ≤ℤ outcome schema t f chosen) × (outcome schema t f chosen ≤ℤ (field_at schema f).ceiling)
+
+-- So in every front of a trace, from the empty one to the whole one.
+abbrev pub EndsInBoundsThroughout : SchemaValue → List Entry → Type 0
+EndsInBoundsThroughout schema [] = EndsInBounds schema []
+EndsInBoundsThroughout schema (e ∷ t) = EndsInBoundsThroughout schema t × EndsInBounds schema (e ∷ t)
+
 -- The refusals of a statement that is another site's, and of one that tells of more rights than there is room for.
 abbrev pub is_strange : Refusal → Bool
 is_strange NotYours = true
 is_strange (Forged room) = true
-is_strange refusal = false
+is_strange Down = false
+is_strange NoSite = false
+is_strange NoField = false
+is_strange NoTransaction = false
+is_strange Zero = false
+is_strange TooLarge = false
+is_strange (Short share) = false
+is_strange SelfGift = false
+is_strange (LedgerFull total) = false
+is_strange TooManyOpen = false
+is_strange TooManyEscrows = false
+is_strange NumbersFull = false
+is_strange NothingGiven = false
 
 -- A reply that is neither of these refusals.
 abbrev pub IsFamiliar : Reply → Type 0
 IsFamiliar (Refused refusal) = is_strange refusal ≡ false
-IsFamiliar reply = Unit {0}
+IsFamiliar (Begun txn) = Unit {0}
+IsFamiliar Granted = Unit {0}
+IsFamiliar Committed = Unit {0}
+IsFamiliar Aborted = Unit {0}
+IsFamiliar (Given total) = Unit {0}
+IsFamiliar (Stated total) = Unit {0}
+IsFamiliar (Accepted gain) = Unit {0}
+IsFamiliar (Between lo hi) = Unit {0}
+IsFamiliar (Shares lower raise) = Unit {0}
+IsFamiliar (Restarted epoch found) = Unit {0}
+IsFamiliar Unsure = Unit {0}
+IsFamiliar StillDown = Unit {0}
 
 -- No entry of a trace has one of these refusals.
 abbrev pub NoneStrange : List Entry → Type 0
@@ -37,11 +73,13 @@ NoneStrange [] = Unit {0}
 NoneStrange (e ∷ t) = NoneStrange t × IsFamiliar e.reply
 
 -- A trace is one of a world: each site gave the replies that it owes after its own entries and took in only statements
--- that were issued before, the trace is a run of one central store, rights are conserved in every front and each field is
--- bounded in it, and no statement is refused as another site's or as forged.
+-- that were issued before, the trace is a run of one central store, in every front rights are conserved, each field is
+-- bounded, and however the open transactions end it is left within its bounds, and no statement is refused as another
+-- site's or as forged.
 pub record IsOneStore (schema : SchemaValue) (t : List Entry) : Type 0 where
   pub sound : IsSound schema t
   pub central : IsCentral schema t
   pub conserved : IsConservedThroughout schema t
   pub bounded : IsBoundedThroughout schema t
+  pub outcomes : EndsInBoundsThroughout schema t
   pub none_strange : NoneStrange t

@@ -10,7 +10,7 @@ use Rattle.field_bounds.specs.declared.entry.Reply.{Reply}
 use Rattle.field_bounds.specs.declared.entry.Reply.TheVariants.{Begun, Granted, Given, Stated, Accepted, Between, Shares, Restarted, Unsure, StillDown, Refused}
 use Rattle.field_bounds.specs.declared.entry.Refusal.TheVariants.{Down, NoTransaction, NoField, Zero, Short, SelfGift, NothingGiven}
 use Rattle.field_bounds.specs.declared.entry.Entry.{Entry}
-use Rattle.field_bounds.specs.Worked.{halved, stock, unknown, txn, lower_by}
+use Rattle.field_bounds.specs.Worked.{halved, stock, unknown, txn, lower_by, asked}
 use Rattle.field_bounds.specs.WorkedGifts.{site, give_lower}
 use Rattle.kept_state.specs.declared.luck.Luck.TheVariants.{Fine, Torn}
 use Rattle.world_steps.specs.declared.step.WorldStep.{WorldStep}
@@ -184,3 +184,10 @@ refused =
     ∷ fine 0 (Read unknown) (Refused NoField)
     ∷ (Deliver 1 Fine, None)
     ∷ []
+
+-- ---- outcomes
+
+-- A trace that no world makes wherever the escrow asks for more than there is: it was granted all the same, to the
+-- transaction that is open. It has the newest entry first.
+abbrev pub granted : Command → List Entry
+granted escrow = asked escrow Granted ∷ asked Begin (Begun (txn 1)) ∷ []

@@ -4,7 +4,7 @@ use Rattle.std.specs.Prelude.{◌≡◌, ℕ, suc, ◌<◌, ◌==◌, Bool, true
 use Rattle.field_bounds.specs.declared.id.SiteNo.{SiteNo}
 use Rattle.field_bounds.specs.declared.entry.Statement.{Statement}
 use Rattle.field_bounds.specs.declared.entry.Command.{Command}
-use Rattle.field_bounds.specs.declared.entry.Command.TheVariants.{Accept}
+use Rattle.field_bounds.specs.declared.entry.Command.TheVariants.{Begin, Escrow, Commit, Abort, Give, Restate, Accept, Read, Share, Restart}
 use Rattle.field_bounds.specs.declared.entry.Entry.{Entry}
 use Rattle.field_bounds.specs.Schema.{SchemaValue}
 use Rattle.field_bounds.specs.Effects.{fresh}
@@ -53,7 +53,15 @@ luck_of (Deliver k luck) = luck
 -- The command takes in a statement.
 abbrev pub is_accept : Command → Bool
 is_accept (Accept told) = true
-is_accept command = false
+is_accept Begin = false
+is_accept (Escrow txn field change) = false
+is_accept (Commit txn) = false
+is_accept (Abort txn) = false
+is_accept (Give to field kind amount) = false
+is_accept (Restate to field kind) = false
+is_accept (Read field) = false
+is_accept (Share field) = false
+is_accept Restart = false
 
 -- A command is asked at a site of the schema, and takes in no statement: statements come by delivery alone.
 abbrev pub StepFits : SchemaValue → WorldStep → Type 0

@@ -15,9 +15,9 @@ mod world;
 
 pub use kept_state::Luck;
 pub use laws::every_world_is_one_store;
-pub use rows::{worked_worlds, wrong_worlds};
+pub use rows::{worked_worlds, wrong_outcomes, wrong_worlds};
 pub use run::run_world;
-pub use step::{StepReply, WorldStep, steps_fit};
+pub use step::{StepReply, WorldStep, step_fits, steps_fit};
 pub use world::World;
 
 #[cfg(test)]

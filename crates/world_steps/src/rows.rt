@@ -1,15 +1,16 @@
 //! Worked rows of a world, computed against the definitions, each as a clause of a function that does
 //! nothing. Of a field from 0 to 100 at 40, each of two sites has 20 rights to lower and 30 to raise it.
 
-ghost use Rattle.std.specs.Prelude.{pos, take, None, Some};
-ghost use Rattle.field_bounds.specs.declared.entry.Command.TheVariants.{Restart, Share};
+ghost use Rattle.std.specs.Prelude.{◌∷◌, pos, take, None, Some};
+ghost use Rattle.field_bounds.specs.declared.entry.Command.TheVariants.{Abort, Restart, Share};
 ghost use Rattle.field_bounds.specs.declared.entry.Last.TheVariants.{Nothing, Kept, Lost};
 ghost use Rattle.field_bounds.specs.declared.entry.Refusal.TheVariants.{NotYours};
-ghost use Rattle.field_bounds.specs.declared.entry.Reply.TheVariants.{Accepted, Restarted, Shares, Refused, StillDown};
-ghost use Rattle.field_bounds.specs.Worked.{stock};
+ghost use Rattle.field_bounds.specs.declared.entry.Reply.TheVariants.{Aborted, Accepted, Restarted, Shares, Refused, StillDown};
+ghost use Rattle.field_bounds.specs.Worked.{halved, stock, txn, lower_by, raise_by, asked};
 ghost use Rattle.kept_state.specs.declared.luck.Luck.TheVariants.{Fine};
 ghost use Rattle.world_steps.specs.declared.step.WorldStep.TheVariants.{Deliver};
-ghost use Rattle.world_steps.specs.Worked.{fine, delivered, Comes, NeverComes, passed_on, out_of_order, aborted, lost, kept, kept_late, epoch_used, gift_kept, taken_in, taken_in_late, read_elsewhere, refused};
+ghost use Rattle.world_steps.specs.Promises.{EndsInBounds, EndsInBoundsThroughout};
+ghost use Rattle.world_steps.specs.Worked.{fine, delivered, Comes, NeverComes, passed_on, out_of_order, aborted, lost, kept, kept_late, epoch_used, gift_kept, taken_in, taken_in_late, read_elsewhere, refused, granted};
 
 /// The steps of these rows make a trace of these replies.
 ///
@@ -49,4 +50,16 @@ pub fn wrong_worlds()
     ensures fails { NeverComes (take 4 kept) (fine 0 Restart StillDown) }
     ensures accepted_again { NeverComes (take 4 taken_in) (delivered (Accepted 5)) }
     ensures counted_twice { NeverComes (take 5 taken_in_late) (fine 1 (Share stock) (Shares 30 30)) }
+{}
+
+/// What keeps no promise of `outcomes`: one right to lower too many was granted, so that the field
+/// would end below its floor were the transaction committed (`below`); the same with a right to
+/// raise (`above`); and a trace in which that transaction was aborted since, as its fronts are held
+/// to the promise too (`before`).
+///
+/// Source: this project.
+pub fn wrong_outcomes()
+    ensures below { ¬ EndsInBounds halved (granted (lower_by 1 41)) }
+    ensures above { ¬ EndsInBounds halved (granted (raise_by 1 61)) }
+    ensures before { ¬ EndsInBoundsThroughout halved (asked (Abort (txn 1)) Aborted ∷ granted (lower_by 1 41)) }
 {}

@@ -3,7 +3,7 @@
 ghost use Rattle.std.specs.Prelude.{◌≡◌, All, IfOk, reverse};
 ghost use Rattle.field_bounds.specs.Central.{IsSound, IsCentral, IsConservedThroughout};
 ghost use Rattle.world_steps.specs.World.{StepFits, trace_by};
-ghost use Rattle.world_steps.specs.Promises.{IsBoundedThroughout, NoneStrange};
+ghost use Rattle.world_steps.specs.Promises.{IsBoundedThroughout, EndsInBoundsThroughout, NoneStrange};
 
 use crate::step::WorldStep;
 use crate::world::World;
@@ -17,8 +17,10 @@ use std::alloc::{AllocError, Global};
 /// stopped inside any append, the trace is a run of one central escrow store: each escrow granted is
 /// allowed by its infimum and supremum, each shortage names the site's true share, less than was
 /// asked, and each interval read holds the committed value (`central`). In every front of it rights
-/// are conserved (`conserved`) and each field lies within its bounds, however the open transactions
-/// end (`bounded`), and no statement is refused as another site's or as forged (`none_strange`).
+/// are conserved (`conserved`) and each field's infimum and supremum lie within its bounds
+/// (`bounded`): whichever of the open transactions are committed and whichever aborted, the value of
+/// every field lies within its floor and ceiling (`outcomes`). No statement is refused as another
+/// site's or as forged (`none_strange`).
 ///
 /// The error is want of memory. Costs what each step costs, and memory for each step and entry.
 ///
@@ -35,6 +37,7 @@ pub fn run_world(
     ensures central { IfOk result (λ trace. IsCentral schema (reverse trace.items)) }
     ensures conserved { IfOk result (λ trace. IsConservedThroughout schema (reverse trace.items)) }
     ensures bounded { IfOk result (λ trace. IsBoundedThroughout schema (reverse trace.items)) }
+    ensures outcomes { IfOk result (λ trace. EndsInBoundsThroughout schema (reverse trace.items)) }
     ensures none_strange { IfOk result (λ trace. NoneStrange (reverse trace.items)) }
 {
     let mut world = World::new(alloc, schema)?;

@@ -22,6 +22,7 @@ pub enum WorldStep {
     /// over all statements that were issued, in their order. Where there is none of that number,
     /// the step makes no entry. A statement is never used up.
     Deliver {
+        /// The statement's number, counted from 1.
         k: u64,
         luck: Luck,
     },
@@ -38,8 +39,11 @@ pub enum StepReply {
     NoStatement,
 }
 
-/// Whether a world of this schema takes the step.
-fn step_fits(schema: &Schema, step: &WorldStep) -> bool
+/// Whether a world of this schema takes the step: the site of a `Do` is in the schema, and its
+/// command isn't an Accept. Costs no memory.
+///
+/// Source: this project.
+pub fn step_fits(schema: &Schema, step: &WorldStep) -> bool
     ensures fits { IsTrue result ↔ StepFits schema.now step.now }
 {
     match *step {
@@ -57,8 +61,8 @@ fn step_fits(schema: &Schema, step: &WorldStep) -> bool
     }
 }
 
-/// Whether a world of this schema takes each of the steps: the site of each `Do` is in the schema,
-/// and its command isn't an Accept. Costs one look at each step, and no memory.
+/// Whether a world of this schema takes each of the steps, as `step_fits` tells. Costs one look at
+/// each step, and no memory.
 ///
 /// Source: this project.
 pub fn steps_fit(schema: &Schema, steps: &[WorldStep]) -> bool

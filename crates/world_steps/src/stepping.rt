@@ -19,24 +19,13 @@ use kept_state::Luck;
 use site_step::Site;
 use std::alloc::{AllocError, Global};
 
-/// Adds to a list that has room.
-pub(crate) fn add<T: Copy>(list: &mut Vec<T>, item: T)
-    requires room { vec_len list.old < vec_capacity list.old }
-    ensures items { list.new.items ≡ list.old.items ++ item ∷ [] }
-{
-    match list.push(item) {
-        Ok(()) => (),
-        Err(_) => unreachable!(),
-    }
-}
-
 /// Adds the statement that an entry issues, if any, to a list that has room.
 pub(crate) fn note(told: &mut Vec<Statement>, entry: &Entry)
     requires room { vec_len told.old < vec_capacity told.old }
     ensures told { reverse told.new.items ≡ with_statement (statement_of entry.now) (reverse told.old.items) }
 {
     if let Some(statement) = statement_of(entry) {
-        add(told, statement);
+        told.push_reserved(statement);
     }
 }
 
@@ -112,20 +101,20 @@ fn apply_once(
 
 /// One command at one of the sites, with its luck.
 pub(crate) fn apply_at(
-    sites: &mut Vec<Site<TornMedium>>,
+    sites: &mut [Site<TornMedium>],
     alloc: Global,
     number: SiteNo,
     command: Command,
     luck: Luck,
 ) -> Result<Reply, AllocError>
-    requires known { number.0 < length sites.old.items }
-    requires calm { AreCalm 18_446_744_073_709_551_615 sites.old.items }
+    requires known { number.0 < length sites.old }
+    requires calm { AreCalm 18_446_744_073_709_551_615 sites.old }
     ensures stand { IfOk result (λ reply. (schema : SchemaValue) (past : List Lucky) (bound : ℕ) →
-        AllStand schema past bound sites.old.items →
+        AllStand schema past bound sites.old →
         (reply ≡ lucky_reply schema number.0 (fresh schema number.0) (own_lucky number.0 past) command luck)
-        × AllStand schema ((record { site = number; command = command; reply = reply }, luck) ∷ past) (bound + 1) sites.new.items) }
-    ensures count { length sites.new.items ≡ length sites.old.items }
-    ensures err { OnErr result (sites.new.items ≡ sites.old.items) }
+        × AllStand schema ((record { site = number; command = command; reply = reply }, luck) ∷ past) (bound + 1) sites.new) }
+    ensures count { length sites.new ≡ length sites.old }
+    ensures err { OnErr result (sites.new ≡ sites.old) }
 {
     apply_once(&mut sites[usize::from(number.0)], alloc, command, luck)
 }

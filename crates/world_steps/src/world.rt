@@ -1,16 +1,17 @@
 //! The world.
 
 ghost use Rattle.std.specs.Prelude.{◌≡◌, ◌<◌, ◌++◌, [], ◌∷◌, IfOk, OnOk, OnErr, length, reverse};
+ghost use Rattle.field_bounds.specs.Limits.{IsSchema};
 ghost use Rattle.field_bounds.specs.Effects.{fresh};
 ghost use Rattle.field_bounds.specs.Owed.{place, shares_of};
 ghost use Rattle.field_bounds.specs.Central.{own, IsSound, IsCentral, IsConservedThroughout};
 ghost use Rattle.world_steps.specs.World.{issued, StepFits};
 ghost use Rattle.world_steps.specs.Standing.{Stands, AllStand};
-ghost use Rattle.world_steps.specs.Promises.{IsBoundedThroughout, NoneStrange, IsOneStore};
+ghost use Rattle.world_steps.specs.Promises.{IsBoundedThroughout, EndsInBoundsThroughout, NoneStrange, IsOneStore};
 ghost use Rattle.world_steps.specs.View.{trace_of, Answers};
 
 use crate::step::{StepReply, WorldStep};
-use crate::stepping::{add, apply_at, asked, luck_of, note};
+use crate::stepping::{apply_at, asked, luck_of, note};
 use field_bounds::{Entry, FieldNo, Schema, SiteNo, Statement};
 use kept_records::TornMedium;
 use site_step::Site;
@@ -103,7 +104,7 @@ impl World {
         self.trace.reserve(1)?;
         self.issued.reserve(1)?;
         let Some((site, command)) = asked(&self.issued, step) else {
-            add(&mut self.steps, *step);
+            self.steps.push_reserved(*step);
             return Ok(StepReply::NoStatement);
         };
         let reply = apply_at(&mut self.sites, alloc, site, command, luck_of(step))?;
@@ -112,15 +113,16 @@ impl World {
             command,
             reply,
         };
-        add(&mut self.trace, entry);
+        self.trace.push_reserved(entry);
         note(&mut self.issued, &entry);
-        add(&mut self.steps, *step);
+        self.steps.push_reserved(*step);
         Ok(StepReply::Made(entry))
     }
 
-    /// The schema of the sites. Costs no memory.
+    /// The schema of the sites, which is within its limits. Costs no memory.
     pub fn schema(&self) -> &Schema
         ensures value { result.now ≡ self.now.schema }
+        ensures limits { IsSchema self.now.schema }
     {
         &self.schema
     }
@@ -132,9 +134,10 @@ impl World {
     /// which is less than was asked, and each interval read holds the committed value (`central`).
     /// In every front of the trace the infimum lies above the floor, and the supremum below the
     /// ceiling, by exactly the free rights of all sites and those in flight, and no site has accepted
-    /// more than it was given (`conserved`); so no field can be taken past a bound, however the open
-    /// transactions end (`bounded`). And no statement is refused as another site's, or as forged
-    /// (`none_strange`). Costs no memory.
+    /// more than it was given (`conserved`); so the infimum is never below the floor, nor the supremum
+    /// above the ceiling (`bounded`): whichever of the open transactions are committed and whichever
+    /// aborted, the value of every field lies within its floor and ceiling (`outcomes`). And no
+    /// statement is refused as another site's, or as forged (`none_strange`). Costs no memory.
     ///
     /// Source: O'Neil 1986 for infimum, supremum and the test of a grant, Balegas and others 2015 for
     /// rights that are divided among sites and transferred, this project for the theorem.
@@ -144,6 +147,7 @@ impl World {
         ensures central { IsCentral self.now.schema (trace_of self.now) }
         ensures conserved { IsConservedThroughout self.now.schema (trace_of self.now) }
         ensures bounded { IsBoundedThroughout self.now.schema (trace_of self.now) }
+        ensures outcomes { EndsInBoundsThroughout self.now.schema (trace_of self.now) }
         ensures none_strange { NoneStrange (trace_of self.now) }
     {
         &self.trace
@@ -152,11 +156,7 @@ impl World {
     /// The trace alone.
     pub(crate) fn into_trace(self) -> Vec<Entry>
         ensures world { reverse result.items ≡ trace_of self }
-        ensures sound { IsSound self.schema (trace_of self) }
-        ensures central { IsCentral self.schema (trace_of self) }
-        ensures conserved { IsConservedThroughout self.schema (trace_of self) }
-        ensures bounded { IsBoundedThroughout self.schema (trace_of self) }
-        ensures none_strange { NoneStrange (trace_of self) }
+        ensures one_store { IsOneStore self.schema (trace_of self) }
     {
         self.trace
     }

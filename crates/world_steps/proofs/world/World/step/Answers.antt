@@ -7,10 +7,11 @@ use Rattle.kept_state.specs.declared.luck.Luck.{Luck}
 use Rattle.kept_state.specs.Luck.{Lucky, own_lucky, lucky_reply}
 use Rattle.world_steps.specs.declared.step.WorldStep.{WorldStep}
 use Rattle.world_steps.specs.World.{asked, StepFits, with_statement, world_of, trace_by}
-use Rattle.world_steps.specs.Standing.{AllStand}
-use Rattle.world_steps.specs.View.{WorldValue}
+use Rattle.site_step.specs.Site.{SiteValue}
+use Rattle.world_steps.specs.Standing.{AllStand, AreCalm}
+use Rattle.world_steps.specs.View.{WorldValue, IsWorld}
 use Rattle.world_steps.proofs.Stand.{all_calm}
-use Rattle.world_steps.proofs.Living.{world_idle, world_goes, world_same, step_known, one_store_after}
+use Rattle.world_steps.proofs.Living.{world_idle, world_goes, world_same, sites_written, step_known, one_store_after}
 use Rattle.world_steps.proofs.world.World.step.Goals as goal
 
 pub invariant_of-self-in_default : goal.invariant_of-self-in_default
@@ -22,7 +23,7 @@ invariant_of-self-in_default c =
     let is = c.asked.ensures.value (trace_by f.schema f.steps.items) (ap (λ (l : List Statement). reverse l) told ∙ w.told_is) in
     let none : asked (trace_by f.schema f.steps.items) c.args.step.now ≡ None = sym is ∙ c.in_default.is in
     world_same f.schema (f.steps.items ++ c.args.step.now ∷ []) _ f.sites.items f.trace.items _ f.issued.items _
-    (c.add.ensures.items ∙ ap (λ (l : List WorldStep). l ++ c.args.step.now ∷ []) c.reserve.ensures.items)
+    (c.push_reserved.ensures.items ∙ ap (λ (l : List WorldStep). l ++ c.args.step.now ∷ []) c.reserve.ensures.items)
     c.reserve-2.ensures.items c.reserve-3.ensures.items
     (world_idle f.schema f.steps.items f.sites.items f.trace.items f.issued.items c.args.step.now w fits none)
 
@@ -33,14 +34,16 @@ apply_at-requires-clause-known c =
     let fits : StepFits f.schema c.args.step.now = subst (λ (v : WorldValue). StepFits v.schema c.args.step.now) (sym c.self.view_is) c.requires.fits in
     let told : c.deref.result.now ≡ f.issued.items = c.deref.ensures.value ∙ c.reserve-3.ensures.items in
     let is = c.asked.ensures.value (trace_by f.schema f.steps.items) (ap (λ (l : List Statement). reverse l) told ∙ w.told_is) in
-    step_known f.schema f.steps.items f.sites.items f.trace.items f.issued.items c.args.step.now c.in-Some.site c.in-Some.command w fits (sym is ∙ c.in-Some.is)
+    subst (λ (l : List SiteValue). c.in-Some.site.0 < length l) (sym c.deref_mut.ensures.value)
+    (step_known f.schema f.steps.items f.sites.items f.trace.items f.issued.items c.args.step.now c.in-Some.site c.in-Some.command w fits (sym is ∙ c.in-Some.is))
 
 pub apply_at-requires-clause-calm : goal.apply_at-requires-clause-calm
 apply_at-requires-clause-calm c =
     let f = c.self.inside in
     let w = c.self.invariant in
     let long : length f.steps.items < 18446744073709551615 = omega (arith, f.steps.ok.0, f.steps.ok.1, f.steps.small) in
-    all_calm f.schema (world_of f.schema (reverse f.steps.items)) (length f.steps.items) 18446744073709551615 f.sites.items long w.stand
+    subst (λ (l : List SiteValue). AreCalm 18446744073709551615 l) (sym c.deref_mut.ensures.value)
+    (all_calm f.schema (world_of f.schema (reverse f.steps.items)) (length f.steps.items) 18446744073709551615 f.sites.items long w.stand)
 
 pub invariant_of-self-2 : goal.invariant_of-self-2
 invariant_of-self-2 c =
@@ -52,16 +55,20 @@ invariant_of-self-2 c =
     let fits : StepFits f.schema step = subst (λ (v : WorldValue). StepFits v.schema step) (sym c.self.view_is) c.requires.fits in
     let told : c.deref.result.now ≡ f.issued.items = c.deref.ensures.value ∙ c.reserve-3.ensures.items in
     let is = c.asked.ensures.value (trace_by f.schema f.steps.items) (ap (λ (l : List Statement). reverse l) told ∙ w.told_is) in
-    let did = c.in_ok-reply.ensures.stand f.schema past (length f.steps.items) w.stand in
+    let did = c.in_ok-reply.ensures.stand f.schema past (length f.steps.items) (subst (λ (l : List SiteValue). AllStand f.schema past (length f.steps.items) l) (sym c.deref_mut.ensures.value) w.stand) in
     let lucky = subst (λ (l : Luck). (e.reply ≡ lucky_reply f.schema e.site.0 (fresh f.schema e.site.0) (own_lucky e.site.0 past) e.command l)
-    × AllStand f.schema ((e, l) ∷ past) (length f.steps.items + 1) c.apply_at.new.sites.items) c.luck_of.ensures.value did in
-    world_same f.schema (f.steps.items ++ step ∷ []) _ c.apply_at.new.sites.items (f.trace.items ++ e ∷ []) _ c.note.new.told.items c.note.new.told.items
-    (c.add-3.ensures.items ∙ ap (λ (l : List WorldStep). l ++ step ∷ []) c.reserve.ensures.items)
-    (c.add-2.ensures.items ∙ ap (λ (l : List Entry). l ++ e ∷ []) c.reserve-2.ensures.items)
+    × AllStand f.schema ((e, l) ∷ past) (length f.steps.items + 1) c.apply_at.new.sites) c.luck_of.ensures.value did in
+    let sites = c.deref_mut.ensures.value in
+    let count = c.apply_at.ensures.count ∙ ap (λ (l : List SiteValue). length l) sites in
+    let written = sites_written _ f.sites.items c.apply_at.new.sites (sym c.deref_mut.ensures.len ∙ ap (λ (l : List SiteValue). length l) sites) count in
+    subst (λ (l : List SiteValue). IsWorld f.schema c.push_reserved-3.new.self.items l c.push_reserved-2.new.self.items c.note.new.told.items) (sym written)
+    (world_same f.schema (f.steps.items ++ step ∷ []) _ c.apply_at.new.sites (f.trace.items ++ e ∷ []) _ c.note.new.told.items c.note.new.told.items
+    (c.push_reserved-3.ensures.items ∙ ap (λ (l : List WorldStep). l ++ step ∷ []) c.reserve.ensures.items)
+    (c.push_reserved-2.ensures.items ∙ ap (λ (l : List Entry). l ++ e ∷ []) c.reserve-2.ensures.items)
     (let same : c.note.new.told.items ≡ c.note.new.told.items = refl in same)
-    (world_goes f.schema f.steps.items f.sites.items c.apply_at.new.sites.items f.trace.items f.issued.items c.note.new.told.items step e.site e.command e.reply w fits
-    (sym is ∙ c.in-Some.is) lucky.0 lucky.1 c.apply_at.ensures.count
-    (c.note.ensures.told ∙ ap (λ (l : List Statement). with_statement (statement_of e) (reverse l)) c.reserve-3.ensures.items))
+    (world_goes f.schema f.steps.items f.sites.items c.apply_at.new.sites f.trace.items f.issued.items c.note.new.told.items step e.site e.command e.reply w fits
+    (sym is ∙ c.in-Some.is) lucky.0 lucky.1 count
+    (c.note.ensures.told ∙ ap (λ (l : List Statement). with_statement (statement_of e) (reverse l)) c.reserve-3.ensures.items)))
 
 pub returns-in_default-clause-one_store : goal.returns-in_default-clause-one_store
 returns-in_default-clause-one_store c =
@@ -69,7 +76,7 @@ returns-in_default-clause-one_store c =
     let w = c.self.invariant in
     let fits : StepFits f.schema c.args.step.now = subst (λ (v : WorldValue). StepFits v.schema c.args.step.now) (sym c.self.view_is) c.requires.fits in
     one_store_after f.schema f.steps.items _ c.args.step.now w.good w.fit fits
-    (c.add.ensures.items ∙ ap (λ (l : List WorldStep). l ++ c.args.step.now ∷ []) c.reserve.ensures.items)
+    (c.push_reserved.ensures.items ∙ ap (λ (l : List WorldStep). l ++ c.args.step.now ∷ []) c.reserve.ensures.items)
 
 pub returns-clause-one_store : goal.returns-clause-one_store
 returns-clause-one_store c =
@@ -77,4 +84,4 @@ returns-clause-one_store c =
     let w = c.self.invariant in
     let fits : StepFits f.schema c.args.step.now = subst (λ (v : WorldValue). StepFits v.schema c.args.step.now) (sym c.self.view_is) c.requires.fits in
     one_store_after f.schema f.steps.items _ c.args.step.now w.good w.fit fits
-    (c.add-3.ensures.items ∙ ap (λ (l : List WorldStep). l ++ c.args.step.now ∷ []) c.reserve.ensures.items)
+    (c.push_reserved-3.ensures.items ∙ ap (λ (l : List WorldStep). l ++ c.args.step.now ∷ []) c.reserve.ensures.items)
