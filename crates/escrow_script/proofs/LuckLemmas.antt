@@ -127,11 +127,5 @@ pub no_step : (schema : SchemaValue) (bytes plain : List ℕ) (n : ℕ) → n < 
 no_step schema bytes plain n small torn first second step fits e =
     no_luck schema bytes plain n small torn first second step fits (luck_of step) refl (luck_fits step fits) e
 
--- ---- one step
-
-pub all_one : {A : Type 0} (P : A → Type 0) (x : A) → P x → All P (x ∷ [])
-all_one P x h zero d below = h
-all_one P x h (suc i) d below = absurd (omega arith)
-
 pub none_some : {A : Type 0} (x : A) → None ≡ Some x → ⊥
 none_some x e = cc

@@ -1,5 +1,5 @@
 -- One piece of input, and all of them.
-use Rattle.std.proofs.Common.{◌≡◌, ◌≢◌, ℕ, ◌+◌, ◌-◌, ◌<◌, ◌≤◌, List, [], ◌++◌, Option, length, take, drop, refl, sym, ap, ◌∙◌, subst, append_assoc, append-nil, take-append-drop, arith, inl, inr}
+use Rattle.std.proofs.Common.{◌≡◌, ◌≢◌, ℕ, ◌+◌, ◌-◌, ◌<◌, ◌≤◌, List, [], ◌++◌, Option, Result, Ok, Err, IfErr, OnErr, length, take, drop, refl, sym, ap, ◌∙◌, subst, append_assoc, append-nil, take-append-drop, arith, inl, inr}
 use Rattle.std.proofs.lemmas.List.{length-append, length-take-le, length-drop, take-take}
 use Rattle.std.proofs.Math.Seq.{take-append-add}
 use Rattle.std.specs.Io.KnownBytes.{Appends, Consumes, IsAtEnd}
@@ -210,6 +210,11 @@ AppendsFront-after before middle after written out wrote front = (
 )
 
 -- the last write failed after a run that was through
+-- what is said where a call ends by a write fault
+pub on_write : {T : Type 0} (r : Result T ScriptFault) (P : Type 0) (Q : ScriptFault → Type 0) → (P → Q Write) → IfErr r (λ fault. fault ≡ Write) → OnErr r P → IfErr r Q
+on_write (Ok x) P Q f is p = tt
+on_write (Err fault) P Q f is p = subst Q (sym is) (f p)
+
 pub Fails-last : (from to before middle after : Option (List ℕ)) (s : Script) (ended : End)
     → RunsThrough from to before middle s → AppendsFront middle after s.out.items → Fails from to before after ended Write
 Fails-last from to before middle after s ended runs front =

@@ -5,28 +5,25 @@ use Rattle.std.proofs.Math.Seq.{take-append-add}
 use Rattle.std.proofs.lemmas.Bool.{cases_lt}
 use Rattle.field_bounds.specs.Schema.{SchemaValue}
 use Rattle.field_bounds.specs.Header.{schema_of}
-use Rattle.field_bounds.specs.Central.{IsSound}
 use Rattle.field_bounds.proofs.Alone.{schema_of-limits}
-use Rattle.field_bounds.proofs.Sound.{sound_empty}
-use Rattle.field_bounds.proofs.Headline.{sound_is_central}
-use Rattle.field_bounds.proofs.Conserved.{conserved_throughout}
 use Rattle.escrow_script.specs.declared.machine.Machine.{Machine}
 use Rattle.world_steps.specs.declared.step.WorldStep.{WorldStep}
 use Rattle.world_steps.specs.View.{WorldValue}
-use Rattle.world_steps.proofs.Sound.{StepsFit, world_is_sound}
-use Rattle.escrow_script.specs.Text.{line_text, trace, IsAnswer, AreAnswers, HasText}
+use Rattle.world_steps.proofs.Sound.{StepsFit}
+use Rattle.world_steps.proofs.Living.{one_store}
+use Rattle.escrow_script.specs.Text.{line_text, most_line, IsAnswer, AreAnswers, HasText}
 use Rattle.escrow_script.specs.Run.{with_piece, kept, one_more, Answered, Moves, StandsFor}
 
 -- ---- as much of a line as is kept
 
-kept_cases : (line : List ℕ) → (take 257 line ≡ line) ⊎ ((256 < length line) × (256 < length (take 257 line)))
-kept_cases line = elim (cases_lt 256 (length line)) [
-  | inl h ↦ inr (h, rw (length-take 257 line) (omega arith))
-  | inr h ↦ inl (take_all 257 line (omega arith))
+kept_cases : (line : List ℕ) → (take (most_line + 1) line ≡ line) ⊎ ((most_line < length line) × (most_line < length (take (most_line + 1) line)))
+kept_cases line = elim (cases_lt most_line (length line)) [
+  | inl h ↦ inr (h, rw (length-take (most_line + 1) line) (omega arith))
+  | inr h ↦ inl (take_all (most_line + 1) line (omega arith))
 ]
 
 -- a world that is given as much of a line as is kept answers as to the whole line
-Answered-kept : (line : List ℕ) (old new : WorldValue) (out grown : List ℕ) → Answered (take 257 line) old new out grown → Answered line old new out grown
+Answered-kept : (line : List ℕ) (old new : WorldValue) (out grown : List ℕ) → Answered (take (most_line + 1) line) old new out grown → Answered line old new out grown
 Answered-kept line old new out grown answered = elim (kept_cases line) [
   | inl e ↦ subst (λ l. Answered l old new out grown) e answered
   | inr long ↦ elim answered [
@@ -49,7 +46,7 @@ take_of_append n xs ys = elim (cases_lt n (length xs)) [
 
 pub with_piece-kept : (m : Option Machine) (line piece : List ℕ) → with_piece m (kept m line) piece ≡ kept m (line ++ piece)
 with_piece-kept None line piece = refl
-with_piece-kept (Some m) line piece = take_of_append 257 line piece
+with_piece-kept (Some m) line piece = take_of_append (most_line + 1) line piece
 
 -- ---- one more line
 
@@ -69,8 +66,6 @@ HasText-more : (schema : SchemaValue) (old new : List WorldStep) (lines : List (
 HasText-more schema old new lines line text reply has answer =
     let back : reverse (has.behind ++ line ∷ []) ≡ line ∷ reverse has.behind = reverse-append has.behind (line ∷ []) in
     let answers : AreAnswers schema (line ∷ reverse has.behind) new (has.body ++ reply) = (old, (has.body, reply, has.answers, answer, refl)) in
-    let sound : IsSound schema (trace schema new) = world_is_sound schema new (answers_fit schema (line ∷ reverse has.behind) new (has.body ++ reply) answers) in
-    let good = schema_of-limits has.header schema has.start in
     record {
       header = has.header;
       behind = has.behind ++ line ∷ [];
@@ -78,9 +73,7 @@ HasText-more schema old new lines line text reply has answer =
       parts = ap (λ l. l ++ line ∷ []) has.parts;
       start = has.start;
       answers = subst (λ ls. AreAnswers schema ls new (has.body ++ reply)) (sym back) answers;
-      sound = sound;
-      central = sound_is_central schema good (trace schema new) sound;
-      conserved = conserved_throughout schema good (trace schema new) sound;
+      one_store = one_store schema (schema_of-limits has.header schema has.start) new (answers_fit schema (line ∷ reverse has.behind) new (has.body ++ reply) answers);
       written = ap (λ t. t ++ reply) has.written ∙ append_assoc (line_text has.header) has.body reply;
     }
 
@@ -93,9 +86,7 @@ HasText-start schema line start = record {
   parts = refl;
   start = start;
   answers = (refl, refl);
-  sound = sound_empty schema;
-  central = tt;
-  conserved = conserved_throughout schema (schema_of-limits line schema start) [] (sound_empty schema);
+  one_store = one_store schema (schema_of-limits line schema start) [] tt;
   written = sym (append-nil (line_text line));
 }
 

@@ -4,7 +4,6 @@ use Rattle.std.specs.Prelude.{◌≡◌, ℕ, ◌^◌, ◌<◌, ◌≤◌, ◌�
 use Rattle.std.specs.Fmt.{decimal}
 use Rattle.field_bounds.specs.Schema.{SchemaValue}
 use Rattle.field_bounds.specs.Header.{schema_of}
-use Rattle.field_bounds.specs.Central.{IsSound, IsCentral, IsConservedThroughout}
 use Rattle.field_bounds.specs.declared.entry.Entry.{Entry}
 use Rattle.entry_text.specs.Spelling.{command_text, entry_text}
 use Rattle.entry_text.specs.Ranges.{SiteFits, CommandFits}
@@ -14,6 +13,7 @@ use Rattle.kept_state.specs.Luck.{entries}
 use Rattle.world_steps.specs.declared.step.WorldStep.{WorldStep}
 use Rattle.world_steps.specs.declared.step.WorldStep.TheVariants.{Do, Deliver}
 use Rattle.world_steps.specs.World.{asked, luck_of, StepFits, world_of}
+use Rattle.world_steps.specs.Promises.{IsOneStore}
 
 -- A line and its LF (10).
 abbrev pub line_text : List ℕ → List ℕ
@@ -45,12 +45,16 @@ abbrev pub NumbersFit : WorldStep → Type 0
 NumbersFit (Do site command luck) = SiteFits site × CommandFits command × LuckFits luck
 NumbersFit (Deliver k luck) = (k < 2 ^ 64) × LuckFits luck
 
--- A line behind the header asks this step: it is the step's line, of at most 256 bytes, and a world of the schema takes the
+-- The most bytes of a line behind the header, without its LF.
+abbrev pub most_line : ℕ
+most_line = 256
+
+-- A line behind the header asks this step: it is the step's line, which isn't too long, and a world of the schema takes the
 -- step: its site is in the schema, and it is no acceptance, for a statement reaches a site only as it was issued.
 pub record Asks (schema : SchemaValue) (line : List ℕ) (step : WorldStep) : Type 0 where
   pub text : line ≡ step_text schema step
   pub numbers : NumbersFit step
-  pub short : length line ≤ 256
+  pub short : length line ≤ most_line
   pub fits : StepFits schema step
 
 -- A bad line asks nothing.
@@ -88,8 +92,7 @@ AreAnswers schema (line ∷ before) steps text =
     (old : List WorldStep) × ((front last : List ℕ) × AreAnswers schema before old front × IsAnswer schema line old steps last × (text ≡ front ++ last))
 
 -- The text of lines, the oldest first: the header line as it was read, and an answer for each line behind it, by the one
--- trace of the steps that the lines ask, in their order. Each site gave the replies that it owes after its own entries, and
--- the trace is a run of one central store, in which rights are conserved.
+-- trace of the steps that the lines ask, in their order. The trace is one of a world, a run of one central store.
 pub record HasText (schema : SchemaValue) (steps : List WorldStep) (lines : List (List ℕ)) (text : List ℕ) : Type 0 where
   pub header : List ℕ
   pub behind : List (List ℕ)
@@ -97,9 +100,7 @@ pub record HasText (schema : SchemaValue) (steps : List WorldStep) (lines : List
   pub parts : lines ≡ header ∷ behind
   pub start : schema_of header ≡ Ok schema
   pub answers : AreAnswers schema (reverse behind) steps body
-  pub sound : IsSound schema (trace schema steps)
-  pub central : IsCentral schema (trace schema steps)
-  pub conserved : IsConservedThroughout schema (trace schema steps)
+  pub one_store : IsOneStore schema (trace schema steps)
   pub written : text ≡ line_text header ++ body
 
 -- The text of lines by some schema and steps, or nothing for no line.

@@ -2,7 +2,6 @@
 
 ghost use Rattle.std.specs.Prelude.{◌≡◌, ◌≢◌, ◌^◌, ◌<◌, ◌++◌, ◌∷◌, All, IfNone, IfSome, MatchOption, Some, ℕ, List, codes};
 ghost use Rattle.std.specs.Fmt.{decimal};
-ghost use Rattle.field_bounds.specs.Limits.{IsSchema};
 ghost use Rattle.kept_state.specs.declared.luck.Luck.TheVariants.{Torn};
 ghost use Rattle.world_steps.specs.declared.step.WorldStep.{WorldStep as StepType};
 ghost use Rattle.world_steps.specs.World.{luck_of};
@@ -10,10 +9,10 @@ ghost use Rattle.escrow_script.specs.Text.{plain_text, luck_text, step_text, Luc
 
 use entry_text::{read_command, read_number};
 use field_bounds::Schema;
-use world_steps::{Luck, WorldStep, steps_fit};
+use world_steps::{Luck, World, WorldStep, step_fits};
 
-// The most bytes of a command line.
-const MOST_LINE: usize = 256;
+/// The most bytes of a line behind the header, without its LF.
+pub(crate) const MOST_LINE: usize = 256;
 
 /// The step that a line asks, and the line without its luck.
 #[derive(Drop)]
@@ -96,26 +95,19 @@ fn any_step<'a>(schema: &Schema, line: &'a [u8]) -> Option<Asked<'a>>
     Some(Asked { step, plain })
 }
 
-// That the schema is within its limits, on which it rests that a line asks one step at most.
-fn within_limits(schema: &Schema)
-    ensures limits { IsSchema schema.now }
-{
-    let _fields = schema.fields();
-}
-
-/// The step that a line behind the header, without its LF, asks, or None where it is a bad line.
-/// Costs no memory.
-pub(crate) fn line_step<'a>(schema: &Schema, line: &'a [u8]) -> Option<Asked<'a>>
-    ensures asks { IfSome result (λ asked. Asks schema.now line.now asked.step) }
-    ensures plain { IfSome result (λ asked. asked.plain.now ≡ plain_text schema.now asked.step) }
-    ensures bad { IfNone result (IsBad schema.now line.now) }
+/// The step that a line behind the header, without its LF, asks of a world, or None where it is a
+/// bad line. Costs no memory.
+pub(crate) fn line_step<'a>(world: &World, line: &'a [u8]) -> Option<Asked<'a>>
+    ensures asks { IfSome result (λ asked. Asks world.now.schema line.now asked.step) }
+    ensures plain { IfSome result (λ asked. asked.plain.now ≡ plain_text world.now.schema asked.step) }
+    ensures bad { IfNone result (IsBad world.now.schema line.now) }
 {
     if line.len() > MOST_LINE {
         return None;
     }
-    within_limits(schema);
+    let schema = world.schema();
     let asked = any_step(schema, line)?;
-    if steps_fit(schema, &[asked.step]) {
+    if step_fits(schema, &asked.step) {
         Some(asked)
     } else {
         None

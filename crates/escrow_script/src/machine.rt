@@ -137,7 +137,7 @@ impl Machine {
             out.old.items out.new.items) }
         ensures err { OnErr result (out.new.items ≡ out.old.items) }
     {
-        let Some(asked) = line_step(self.world.schema(), line) else {
+        let Some(asked) = line_step(&self.world, line) else {
             return add_line(out, b"bad line");
         };
         match self.world.step(alloc, &asked.step)? {

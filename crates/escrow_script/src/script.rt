@@ -5,6 +5,7 @@ ghost use Rattle.escrow_script.specs.Run.{Answers, Fails};
 ghost use Rattle.escrow_script.specs.Watched.{known, last_of, HasFailed, GaveNothing, HasRefused};
 
 use crate::fault::ScriptFault;
+use crate::line::MOST_LINE;
 use crate::machine::{Machine, add_line};
 use crate::watched::Watched;
 use field_bounds::{MAX_HEADER, SchemaFault};
@@ -16,9 +17,6 @@ const MOST_LINES: u32 = 1_000_000;
 
 // The most bytes of an input.
 const MOST_BYTES: u64 = 268_435_456;
-
-// As much of a line behind the header as tells that it is too long.
-const LINE_KEPT: usize = 257;
 
 // How much is read in one call, and how much output is gathered before a write.
 const PIECE: usize = 65_536;
@@ -76,7 +74,8 @@ impl Script {
         }
     }
 
-    // Adds the next bytes of a line.
+    // Adds the next bytes of a line. Of a line behind the header it keeps as much as tells that the
+    // line is too long.
     fn keep(&mut self, piece: &[u8]) -> Result<(), ScriptFault>
         ensures ok { OnOk result (HasKept self.old self.new piece.now) }
         ensures err { IfErr result (CannotKeep self.old self.new piece.now) }
@@ -84,7 +83,9 @@ impl Script {
         ensures not_write { IfErr result (λ fault. fault ≢ ScriptFault.Write) }
     {
         if self.machine.is_some() {
-            let room = LINE_KEPT.saturating_sub(self.line.len()).min(piece.len());
+            let room = (MOST_LINE + 1)
+                .saturating_sub(self.line.len())
+                .min(piece.len());
             self.line.extend_from_slice(front(piece, room))?;
             return Ok(());
         }
@@ -185,8 +186,7 @@ impl Script {
         if self.lines >= MOST_LINES {
             return Err(ScriptFault::TooLong);
         }
-        self.keep(rest)?;
-        Ok(())
+        self.keep(rest)
     }
 
     // Whether a header line came, and the line that is being read has no byte.
@@ -207,8 +207,7 @@ impl Script {
         if self.is_between_lines() {
             return Ok(());
         }
-        self.end_line()?;
-        Ok(())
+        self.end_line()
     }
 
     // Writes what is to be written, then reads the next piece and takes it. The answer is the
@@ -273,8 +272,7 @@ impl Script {
             }
             bytes += count;
         }
-        self.end_input()?;
-        Ok(())
+        self.end_input()
     }
 }
 
@@ -289,7 +287,8 @@ impl Script {
 /// ends with LF; a last line without LF counts where it has at least one byte.
 ///
 /// So what is written at Ok is the text of the one trace that the steps make, and that trace is a
-/// run of one central escrow store, in which rights are conserved.
+/// run of one central escrow store, with all that `World::trace` says of it: rights are conserved,
+/// and however the open transactions end, the value of every field lies within its bounds.
 ///
 /// The faults are those of the input, line by line: `Header` and `NoMemory`; `TooLong` where a byte
 /// follows the 1,000,000th line or the 268,435,456th byte; `Read` where a read answers an error of
@@ -329,19 +328,14 @@ pub fn run_script<R: Read, W: Write>(
     ensures write { IfErr result (λ fault. fault ≡ ScriptFault.Write → HasRefused writer.new) }
 {
     let mut script = Script::new(alloc);
-    match script.run_to_end(reader, writer) {
-        Ok(()) => {
-            script.write_out(writer)?;
-            Ok(())
-        }
-        Err(fault) => match fault {
-            ScriptFault::Write => Err(ScriptFault::Write),
-            other => {
-                script.write_out(writer)?;
-                Err(other)
-            }
-        },
+    let Err(fault) = script.run_to_end(reader, writer) else {
+        return script.write_out(writer);
+    };
+    if let ScriptFault::Write = fault {
+        return Err(fault);
     }
+    script.write_out(writer)?;
+    Err(fault)
 }
 
 #[cfg(test)]

@@ -1,5 +1,5 @@
 use Rattle.std.proofs.Common.{arith}
-use Rattle.std.proofs.lemmas.Result.{err_from_is_err_and}
+use Rattle.std.proofs.lemmas.Result.{err_from_is_err_and, IfErr-weaker, on_ok_weaker}
 use Rattle.escrow_script.proofs.PieceLemmas.{Stops-weaker, Stands-start, Stops-memory}
 use Rattle.escrow_script.proofs.script.Script.run_to_end.Goals as goal
 
@@ -29,22 +29,20 @@ returns-in_err-count-clause-err g c =
     let p = err_from_is_err_and c.from_residual-in_err-count.result c.from_residual-in_err-count.ensures.1 in
     rw (p.1, p.2) (c.in_err-count.ensures.err _ _ c.pieces.invariant.stands)
 
-pub returns-in_err-end_input-clause-err : goal.returns-in_err-end_input-clause-err
-returns-in_err-end_input-clause-err g c =
-    let p = err_from_is_err_and c.from_residual-in_err-end_input.result c.from_residual-in_err-end_input.ensures.1 in
+pub returns-clause-err : goal.returns-clause-err
+returns-clause-err g c =
     let next = c.in_ok-count.ensures.ok _ _ c.pieces.invariant.stands in
-    rw (p.1, p.2) (
-      next.0.read,
-      next.0.consumed,
-      Stops-weaker _ _ _ _ _ _ _ (λ _. next.1 c.if-count-eq0.true) (c.in_err-end_input.ensures.err next.0.read _ _ next.0.at),
-    )
+    IfErr-weaker c.end_input.result _ _
+    (λ fault stops. (next.0.read, next.0.consumed, Stops-weaker fault _ _ _ _ _ _ (λ _. next.1 c.if-count-eq0.true) (stops next.0.read _ _ next.0.at)))
+    c.end_input.ensures.err
 
 pub returns-clause-ok : goal.returns-clause-ok
 returns-clause-ok g c =
     let next = c.in_ok-count.ensures.ok _ _ c.pieces.invariant.stands in
-    (next.0.read, next.0.consumed, (next.1 c.if-count-eq0.true).0, c.in_ok-end_input.ensures.ok next.0.read _ _ next.0.at)
+    on_ok_weaker c.end_input.result (λ finishes. (next.0.read, next.0.consumed, (next.1 c.if-count-eq0.true).0, finishes next.0.read _ _ next.0.at))
+    c.end_input.ensures.ok
 
 pub returns-clause-end : goal.returns-clause-end
 returns-clause-end g c =
     let next = c.in_ok-count.ensures.ok _ _ c.pieces.invariant.stands in
-    (next.1 c.if-count-eq0.true).1
+    on_ok_weaker c.end_input.result (λ finishes. (next.1 c.if-count-eq0.true).1) c.end_input.ensures.ok

@@ -1,5 +1,5 @@
 use Rattle.std.proofs.Common.{◌≡◌, ℕ, List, [], ◌∷◌, ◌++◌, sym, ap, ◌∙◌, append_assoc, arith}
-use Rattle.std.proofs.lemmas.Result.{err_from_is_err_and}
+use Rattle.std.proofs.lemmas.Result.{err_from_is_err_and, IfErr-weaker, on_ok_weaker}
 use Rattle.escrow_script.proofs.RunLemmas.{At-kept, At-along, Stops-keep, Stops-full, Stops-along, some_after_line, some_after_some, not_empty_some}
 use Rattle.escrow_script.proofs.script.Script.take_piece.Goals as goal
 
@@ -50,16 +50,16 @@ returns-then-self-ge-MOST_LINES-2-clause-err g c = λ read more before at.
     (some_after_some c.lines.rest.now more (not_empty_some c.lines.rest.now _ c.is_empty.ensures c.if-is_empty.false))
     (inv.goes read before at))
 
-pub returns-in_err-keep-clause-err : goal.returns-in_err-keep-clause-err
-returns-in_err-keep-clause-err g c =
+pub returns-clause-err : goal.returns-clause-err
+returns-clause-err g c =
     let inv = c.lines.invariant in
-    let p = err_from_is_err_and c.from_residual-in_err-keep.result c.from_residual-in_err-keep.ensures.1 in
-    rw (p.1, p.2) (λ read more before at.
+    IfErr-weaker c.keep.result _ _ (λ fault cannot read more before at.
     Stops-along _ _ _ _ _ _ _ (piece_parts read inv.done c.lines.rest.now c.args.piece.now more inv.split)
-    (Stops-keep _ (read ++ inv.done) c.lines.rest.now more _ _ _ _ _ c.in_default.ensures (inv.goes read before at) c.in_err-keep.ensures.err))
+    (Stops-keep fault (read ++ inv.done) c.lines.rest.now more _ _ _ _ _ c.in_default.ensures (inv.goes read before at) cannot)) c.keep.ensures.err
 
 pub returns-clause-ok : goal.returns-clause-ok
-returns-clause-ok g c = λ read before at.
+returns-clause-ok g c =
     let inv = c.lines.invariant in
+    on_ok_weaker c.keep.result (λ kept read before at.
     At-along _ _ _ _ _ (append_assoc read inv.done c.lines.rest.now ∙ ap (λ l. read ++ l) (sym inv.split))
-    (At-kept _ _ _ _ _ _ c.in_default.ensures (inv.goes read before at) c.in_ok-keep.ensures.ok)
+    (At-kept _ _ _ _ _ _ c.in_default.ensures (inv.goes read before at) kept)) c.keep.ensures.ok
