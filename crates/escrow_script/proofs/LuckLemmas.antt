@@ -1,5 +1,5 @@
 -- A line with luck is cut at its luck, and in no other place.
-use Rattle.std.proofs.Common.{◌≡◌, ◌≢◌, ℕ, zero, suc, ◌^◌, ◌<◌, List, [], ◌∷◌, ◌++◌, length, get_or, Option, None, Some, refl, sym, ap, ◌∙◌, append_assoc, append-nil, arith}
+use Rattle.std.proofs.Common.{◌≡◌, ◌≢◌, ℕ, ◌^◌, ◌<◌, List, [], ◌∷◌, ◌++◌, length, get_or, Option, None, Some, refl, sym, ap, ◌∙◌, append_assoc, append-nil, arith}
 use Rattle.std.specs.Prelude.{codes, IfNone}
 use Rattle.std.specs.List.{All, AllByRecursion}
 use Rattle.std.specs.Fmt.{decimal}
@@ -23,7 +23,7 @@ use Rattle.world_steps.specs.declared.step.WorldStep.{WorldStep}
 use Rattle.world_steps.specs.declared.step.WorldStep.TheVariants.{Do, Deliver}
 use Rattle.world_steps.specs.World.{luck_of}
 use Rattle.escrow_script.specs.Text.{plain_text, luck_text, step_text, LuckFits, NumbersFit}
-use Rattle.escrow_script.proofs.StepLemmas.{decimal_one}
+use Rattle.escrow_script.proofs.StepLemmas.{head_is, tail_is, decimal_one}
 
 -- ---- the last space of a line
 
@@ -33,12 +33,6 @@ IsUnspaced w = All (λ b. b ≢ 32) w
 has_space : (w front back : List ℕ) → IsUnspaced w → w ≡ front ++ 32 ∷ back → ⊥
 has_space w front back h e =
     h (length front) 0 (omega (arith, ap length e, length-append front (32 ∷ back))) (ap (λ (l : List ℕ). get_or l (length front) 0) e ∙ get_or-append_seam front 32 back 0)
-
-head_is : (x y : ℕ) (xs ys : List ℕ) → x ∷ xs ≡ y ∷ ys → x ≡ y
-head_is x y xs ys h = cc
-
-tail_is : (x y : ℕ) (xs ys : List ℕ) → x ∷ xs ≡ y ∷ ys → xs ≡ ys
-tail_is x y xs ys h = cc
 
 last_word : (a w b v : List ℕ) → IsUnspaced w → IsUnspaced v → a ++ 32 ∷ w ≡ b ++ 32 ∷ v → (a ≡ b) × (w ≡ v)
 last_word [] w [] v hw hv e = (refl, tail_is 32 32 w v e)
@@ -126,6 +120,3 @@ pub no_step : (schema : SchemaValue) (bytes plain : List ℕ) (n : ℕ) → n < 
     → (step : WorldStep) → NumbersFit step → bytes ≡ step_text schema step → ⊥
 no_step schema bytes plain n small torn first second step fits e =
     no_luck schema bytes plain n small torn first second step fits (luck_of step) refl (luck_fits step fits) e
-
-pub none_some : {A : Type 0} (x : A) → None ≡ Some x → ⊥
-none_some x e = cc

@@ -13,19 +13,10 @@ use Rattle.kept_state.specs.Luck.{entries}
 use Rattle.world_steps.specs.declared.step.WorldStep.{WorldStep}
 use Rattle.world_steps.specs.World.{asked, luck_of, with_entry, world_of}
 use Rattle.escrow_script.specs.Text.{line_text, trace, Asks, IsReply, IsAnswer, AreAnswers, HasText}
-use Rattle.escrow_script.proofs.StepLemmas.{one_step}
-
-head_is : (x y : List ℕ) (xs ys : List (List ℕ)) → x ∷ xs ≡ y ∷ ys → x ≡ y
-head_is x y xs ys h = cc
-
-tail_is : (x y : List ℕ) (xs ys : List (List ℕ)) → x ∷ xs ≡ y ∷ ys → xs ≡ ys
-tail_is x y xs ys h = cc
+use Rattle.escrow_script.proofs.StepLemmas.{head_is, tail_is, one_step}
 
 ok_is : (r : Result SchemaValue SchemaFault) (s t : SchemaValue) → r ≡ Ok s → r ≡ Ok t → s ≡ t
 ok_is r s t h g = cc
-
-entry_is : (e f : Entry) (t u : List Entry) → e ∷ t ≡ f ∷ u → e ≡ f
-entry_is e f t u h = cc
 
 -- a line asks one step
 only_asked : (schema : SchemaValue) → IsSchema schema → (line : List ℕ) (step other : WorldStep) → Asks schema line step → Asks schema line other → step ≡ other
@@ -60,7 +51,7 @@ no_growth schema earlier step entry none grows =
 
 one_reply : (schema : SchemaValue) (earlier : List WorldStep) (step : WorldStep) (text again : List ℕ) → IsReply schema earlier step text → IsReply schema earlier step again → text ≡ again
 one_reply schema earlier step text again (inl a) (inl b) =
-    a.2 ∙ ap (λ (e : Entry). line_text (entry_text schema e)) (entry_is a.0 b.0 _ _ (sym a.1 ∙ b.1)) ∙ sym b.2
+    a.2 ∙ ap (λ (e : Entry). line_text (entry_text schema e)) (head_is a.0 b.0 _ _ (sym a.1 ∙ b.1)) ∙ sym b.2
 one_reply schema earlier step text again (inl a) (inr b) = absurd (no_growth schema earlier step a.0 b.0 a.1)
 one_reply schema earlier step text again (inr a) (inl b) = absurd (no_growth schema earlier step b.0 a.0 b.1)
 one_reply schema earlier step text again (inr a) (inr b) = a.1 ∙ sym b.1

@@ -1,5 +1,6 @@
 -- Statements that were issued, and their numbers.
 use Rattle.std.proofs.Common.{◌≡◌, ℕ, suc, ◌<◌, ◌⊎◌, Bool, true, false, cond, List, [], ◌∷◌, length, refl, sym, ap, subst, inl, inr, eqb, Option, Some, None}
+use Rattle.std.proofs.lemmas.Option.{same_Some}
 use Rattle.field_bounds.specs.declared.id.SiteNo.{SiteNo}
 use Rattle.field_bounds.specs.declared.entry.Statement.{Statement}
 use Rattle.field_bounds.specs.declared.entry.Command.{Command}
@@ -17,20 +18,17 @@ use Rattle.field_bounds.proofs.Traces.{sound_front, sound_fits}
 use Rattle.field_bounds.proofs.Ledgers.{told_is_covered}
 use Rattle.world_steps.specs.World.{with_statement, issued, numbered}
 
-pub some_same : {A : Type 0} (a b : A) → Some a ≡ Some b → a ≡ b
-some_same a b h = cc
-
 -- ---- giver and receiver of a statement are in the schema
 
 told_to : (at : Place) (from : SiteNo) (c : Command) (r : Reply) (told : Statement) → Fits at c r → told_by from c r ≡ Some told → told.to.0 < at.schema.sites
 told_to at from (Give to field kind amount) (Given total) told fits h =
     let none = (answered at (Give to field kind amount) (Given total) fits refl).0 in
     let made : Statement = record { from = from; to = to; field = field; kind = kind; total = total } in
-    subst (λ (x : Statement). x.to.0 < at.schema.sites) (some_same made told h) (is_below _ _ none.1.0)
+    subst (λ (x : Statement). x.to.0 < at.schema.sites) (same_Some made told h) (is_below _ _ none.1.0)
 told_to at from (Restate to field kind) (Stated total) told fits h =
     let none = (answered at (Restate to field kind) (Stated total) fits refl).0 in
     let made : Statement = record { from = from; to = to; field = field; kind = kind; total = total } in
-    subst (λ (x : Statement). x.to.0 < at.schema.sites) (some_same made told h) (is_below _ _ none.1.0)
+    subst (λ (x : Statement). x.to.0 < at.schema.sites) (same_Some made told h) (is_below _ _ none.1.0)
 told_to at from c r told fits h = cc
 
 pub issued_to : (schema : SchemaValue) (t : List Entry) → IsSound schema t → (told : Statement) → IsIssued told t → told.to.0 < schema.sites
@@ -53,7 +51,7 @@ IsAmong x [] = ⊥
 IsAmong x (y ∷ ys) = (y ≡ x) ⊎ IsAmong x ys
 
 numbered_step : (b : Bool) (y x : Statement) (ys : List Statement) (rest : Option Statement) → cond b (Some y) rest ≡ Some x → (rest ≡ Some x → IsAmong x ys) → IsAmong x (y ∷ ys)
-numbered_step true y x ys rest h more = inl (some_same y x h)
+numbered_step true y x ys rest h more = inl (same_Some y x h)
 numbered_step false y x ys rest h more = inr (more h)
 
 numbered_is_among : (k : ℕ) (ys : List Statement) (x : Statement) → numbered k ys ≡ Some x → IsAmong x ys

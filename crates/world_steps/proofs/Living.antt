@@ -13,7 +13,6 @@ use Rattle.field_bounds.specs.Schema.{SchemaValue}
 use Rattle.field_bounds.specs.Limits.{IsSchema}
 use Rattle.field_bounds.specs.Effects.{fresh}
 use Rattle.field_bounds.specs.Statements.{statement_of}
-use Rattle.field_bounds.specs.Central.{IsSound, IsCentral, IsConservedThroughout}
 use Rattle.field_bounds.proofs.Conserved.{conserved_throughout}
 use Rattle.field_bounds.proofs.Headline.{sound_is_central}
 use Rattle.kept_state.specs.Luck.{Lucky, entries, own_lucky, lucky_reply}

@@ -2,6 +2,7 @@
 use Rattle.std.proofs.Common.{◌≡◌, ℕ, ◌<◌, false, List, [], ◌∷◌, refl, subst, arith, Option, Some, None}
 use Rattle.std.proofs.lemmas.Int.{ints}
 use Rattle.std.specs.Prelude.{ℤ, ◌≤ℤ◌}
+use Rattle.std.proofs.lemmas.Option.{same_Some}
 use Rattle.field_bounds.specs.declared.id.SiteNo.{SiteNo}
 use Rattle.field_bounds.specs.declared.entry.Statement.{Statement}
 use Rattle.field_bounds.specs.declared.entry.Command.{Command}
@@ -26,7 +27,7 @@ use Rattle.world_steps.specs.declared.step.WorldStep.{WorldStep}
 use Rattle.world_steps.specs.declared.step.WorldStep.TheVariants.{Do, Deliver}
 use Rattle.world_steps.specs.World.{issued, numbered, delivered, asked, luck_of, is_accept, StepFits, with_entry, world_of}
 use Rattle.world_steps.specs.Promises.{IsBounded, IsBoundedThroughout, EndsInBounds, EndsInBoundsThroughout, NoneStrange}
-use Rattle.world_steps.proofs.Issued.{some_same, issued_to, numbered_is_issued}
+use Rattle.world_steps.proofs.Issued.{issued_to, numbered_is_issued}
 use Rattle.world_steps.proofs.Strange.{familiar_step}
 
 -- each step fits; steps have the newest first
@@ -54,12 +55,12 @@ delivery_allows : (schema : SchemaValue) (front : List Entry) → IsSound schema
 delivery_allows schema front sound who r None is h = cc
 delivery_allows schema front sound who r (Some told) is h =
     let now = is told refl in
-    subst (λ (w : SiteNo × Command). Allows schema front w r) (some_same (told.to, Accept told) who h)
+    subst (λ (w : SiteNo × Command). Allows schema front w r) (same_Some (told.to, Accept told) who h)
     (issued_to schema front sound told now, rule_of_issued front told r now)
 
 pub step_allows : (schema : SchemaValue) (front : List Entry) → IsSound schema front → (step : WorldStep) → StepFits schema step → (who : SiteNo × Command) (r : Reply) → asked front step ≡ Some who → Allows schema front who r
 step_allows schema front sound (Do site command luck) fit who r h =
-    subst (λ (w : SiteNo × Command). Allows schema front w r) (some_same (site, command) who h) (fit.0, rule_of_plain front command r fit.1)
+    subst (λ (w : SiteNo × Command). Allows schema front w r) (same_Some (site, command) who h) (fit.0, rule_of_plain front command r fit.1)
 step_allows schema front sound (Deliver k luck) fit who r h =
     delivery_allows schema front sound who r (numbered k (issued front)) (λ x is. numbered_is_issued k front x is) h
 

@@ -2,6 +2,7 @@
 use Rattle.std.proofs.Common.{◌≡◌, ◌≤◌, Bool, true, false, not, List, [], ◌∷◌, refl, sym, ◌∙◌, ap, subst, inl, inr, arith, eqb, Option, Some, None}
 use Rattle.std.proofs.lemmas.Bool.{eq-eqb, ltb-true, cases_Bool}
 use Rattle.std.specs.Prelude.{◌⊎◌, if◌then◌else◌}
+use Rattle.std.proofs.lemmas.Option.{same_Some}
 use Rattle.field_bounds.specs.declared.id.SiteNo.{SiteNo}
 use Rattle.field_bounds.specs.declared.entry.Statement.{Statement}
 use Rattle.field_bounds.specs.declared.entry.Command.{Command}
@@ -22,7 +23,7 @@ use Rattle.world_steps.specs.declared.step.WorldStep.{WorldStep}
 use Rattle.world_steps.specs.declared.step.WorldStep.TheVariants.{Do, Deliver}
 use Rattle.world_steps.specs.World.{issued, numbered, delivered, asked, is_accept, StepFits}
 use Rattle.world_steps.specs.Promises.{is_strange, IsFamiliar}
-use Rattle.world_steps.proofs.Issued.{some_same, numbered_is_issued}
+use Rattle.world_steps.proofs.Issued.{numbered_is_issued}
 use Rattle.world_steps.proofs.Forged.{never_forged}
 
 -- ---- such a refusal comes from a test for it
@@ -93,12 +94,12 @@ module _ (schema : SchemaValue) (good : IsSchema schema) (front : List Entry) (s
   delivers : (who : SiteNo × Command) (found : Option Statement) → ((x : Statement) → found ≡ Some x → IsIssued x front) → delivered found ≡ Some who
       → (told : Statement) × (who ≡ (told.to, Accept told)) × IsIssued told front
   delivers who None is h = cc
-  delivers who (Some told) is h = (told, sym (some_same (told.to, Accept told) who h), is told refl)
+  delivers who (Some told) is h = (told, sym (same_Some (told.to, Accept told) who h), is told refl)
 
   never_strange : (step : WorldStep) → StepFits schema step → (who : SiteNo × Command) → asked front step ≡ Some who → (x : Refusal)
       → Fits (place schema who.0.0 (fresh schema who.0.0) (own who.0.0 front)) who.1 (Refused x) → is_strange x ≡ true → ⊥
   never_strange (Do site command luck) fit who h x fits strange =
-      let who_is = some_same (site, command) who h in
+      let who_is = same_Some (site, command) who h in
       let plain : is_accept who.1 ≡ false = subst (λ (w : SiteNo × Command). is_accept w.1 ≡ false) who_is fit.1 in
       familiar_plain (place schema who.0.0 (fresh schema who.0.0) (own who.0.0 front)) who.1 x plain fits strange
   never_strange (Deliver k luck) fit who h x fits strange =

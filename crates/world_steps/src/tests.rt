@@ -116,6 +116,10 @@ fn which_steps_fit(rt: HostRuntime) -> Result<(), Fail> {
     let schema = stock_of_two(alloc);
     assert!(rt; schema.is_some());
     let schema = schema.unwrap();
+    assert!(rt; step_fits(&schema, &fine(1, READ)));
+    assert!(rt; step_fits(&schema, &DELIVER));
+    assert!(rt; !step_fits(&schema, &fine(2, READ)));
+    assert!(rt; !step_fits(&schema, &fine(1, Command::Accept(FIVE))));
     assert!(rt; steps_fit(&schema, &[]));
     assert!(rt; steps_fit(&schema, &[fine(1, READ), DELIVER]));
     assert!(rt; !steps_fit(&schema, &[fine(1, READ), fine(2, READ)]));

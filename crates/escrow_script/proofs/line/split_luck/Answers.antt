@@ -1,6 +1,7 @@
 use Rattle.std.proofs.Common.{◌^◌, sym}
 use Rattle.line_words.proofs.Numbers.{number_takes}
-use Rattle.escrow_script.proofs.LuckLemmas.{luck_joined, luck_cut, luck_spaced, if_none, none_some}
+use Rattle.std.proofs.lemmas.Option.{none-some}
+use Rattle.escrow_script.proofs.LuckLemmas.{luck_joined, luck_cut, luck_spaced, if_none}
 use Rattle.escrow_script.proofs.line.split_luck.Goals as goal
 
 pub returns-in_err-front-clause-none : goal.returns-in_err-front-clause-none
@@ -10,7 +11,7 @@ returns-in_err-front-clause-none c =
 pub returns-in_err-bytes-clause-none : goal.returns-in_err-bytes-clause-none
 returns-in_err-bytes-clause-none c =
     if_none c.from_residual-in_err-bytes.result _ (λ plain bytes small torn.
-    none_some bytes (c.in_err-bytes.ensures.only bytes small
+    none-some bytes (c.in_err-bytes.ensures.only bytes small
     (luck_cut c.args.line.now c.in_ok-front.front.now c.in_ok-front.word.now plain bytes small c.in_ok-front.ensures.0 c.in_ok-front.ensures.1 torn).1))
 
 pub returns-in_err-plain-clause-none : goal.returns-in_err-plain-clause-none

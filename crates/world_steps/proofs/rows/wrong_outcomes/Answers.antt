@@ -1,5 +1,5 @@
 use Rattle.std.proofs.Common.{true, arith}
-use Rattle.std.specs.Prelude.{ℤ, pos, neg_ℤ, ◌≤ℤ◌}
+use Rattle.std.specs.Prelude.{pos, neg_ℤ, ◌≤ℤ◌}
 use Rattle.std.proofs.lemmas.Int.{ints}
 use Rattle.world_steps.proofs.rows.wrong_outcomes.Goals as goal
 
