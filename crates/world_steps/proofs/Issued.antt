@@ -13,7 +13,7 @@ use Rattle.field_bounds.specs.Effects.{fresh}
 use Rattle.field_bounds.specs.Owed.{Place, place, Fits}
 use Rattle.field_bounds.specs.Statements.{told_by, statement_of, IsIssued}
 use Rattle.field_bounds.specs.Central.{own, IsSound}
-use Rattle.field_bounds.proofs.Refused.{is_below, answered}
+use Rattle.field_bounds.proofs.Refused.{answered, give_is_to_a_site, restate_is_to_a_site}
 use Rattle.field_bounds.proofs.Traces.{sound_front, sound_fits}
 use Rattle.field_bounds.proofs.Ledgers.{told_is_covered}
 use Rattle.world_steps.specs.World.{with_statement, issued, numbered}
@@ -24,11 +24,11 @@ told_to : (at : Place) (from : SiteNo) (c : Command) (r : Reply) (told : Stateme
 told_to at from (Give to field kind amount) (Given total) told fits h =
     let none = (answered at (Give to field kind amount) (Given total) fits refl).0 in
     let made : Statement = record { from = from; to = to; field = field; kind = kind; total = total } in
-    subst (λ (x : Statement). x.to.0 < at.schema.sites) (same_Some made told h) (is_below _ _ none.1.0)
+    subst (λ (x : Statement). x.to.0 < at.schema.sites) (same_Some made told h) (give_is_to_a_site at to field kind amount none)
 told_to at from (Restate to field kind) (Stated total) told fits h =
     let none = (answered at (Restate to field kind) (Stated total) fits refl).0 in
     let made : Statement = record { from = from; to = to; field = field; kind = kind; total = total } in
-    subst (λ (x : Statement). x.to.0 < at.schema.sites) (same_Some made told h) (is_below _ _ none.1.0)
+    subst (λ (x : Statement). x.to.0 < at.schema.sites) (same_Some made told h) (restate_is_to_a_site at to field kind none)
 told_to at from c r told fits h = cc
 
 pub issued_to : (schema : SchemaValue) (t : List Entry) → IsSound schema t → (told : Statement) → IsIssued told t → told.to.0 < schema.sites

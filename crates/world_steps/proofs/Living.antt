@@ -22,7 +22,7 @@ use Rattle.world_steps.specs.World.{with_statement, issued, asked, luck_of, Step
 use Rattle.world_steps.specs.Promises.{IsOneStore}
 use Rattle.world_steps.specs.Standing.{AllStand}
 use Rattle.world_steps.specs.View.{WorldValue, trace_of, IsWorld}
-use Rattle.world_steps.proofs.Sound.{StepsFit, step_allows, world_is_sound, bounded_throughout, ends_throughout, none_strange}
+use Rattle.world_steps.proofs.Sound.{StepsFit, step_allows, world_is_sound, bounded_throughout, outcomes_throughout, none_strange}
 use Rattle.world_steps.proofs.Stand.{all_longer}
 
 -- ---- what is lived, after one more step
@@ -121,7 +121,7 @@ one_store schema good steps fit =
       central = sound_is_central schema good _ sound;
       conserved = conserved_throughout schema good _ sound;
       bounded = bounded;
-      outcomes = ends_throughout schema _ bounded;
+      outcomes = outcomes_throughout schema good _ sound;
       none_strange = none_strange schema good steps fit;
     }
 

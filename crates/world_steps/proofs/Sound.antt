@@ -1,7 +1,5 @@
 -- The trace of a world is sound, and what follows from that.
-use Rattle.std.proofs.Common.{◌≡◌, ℕ, ◌<◌, false, List, [], ◌∷◌, refl, subst, arith, Option, Some, None}
-use Rattle.std.proofs.lemmas.Int.{ints}
-use Rattle.std.specs.Prelude.{ℤ, ◌≤ℤ◌}
+use Rattle.std.proofs.Common.{◌≡◌, ℕ, ◌<◌, false, List, [], ◌∷◌, refl, subst, Option, Some, None}
 use Rattle.std.proofs.lemmas.Option.{same_Some}
 use Rattle.field_bounds.specs.declared.id.SiteNo.{SiteNo}
 use Rattle.field_bounds.specs.declared.entry.Statement.{Statement}
@@ -17,8 +15,7 @@ use Rattle.field_bounds.specs.Owed.{place, Fits}
 use Rattle.field_bounds.specs.Statements.{IsIssued}
 use Rattle.field_bounds.specs.Central.{own, StatementRule, IsSound}
 use Rattle.field_bounds.proofs.Traces.{sound_front}
-use Rattle.field_bounds.proofs.Conserved.{outcomes_between}
-use Rattle.field_bounds.proofs.Headline.{within_bounds}
+use Rattle.field_bounds.proofs.Headline.{within_bounds, outcomes_are_bounded}
 use Rattle.field_bounds.proofs.Sound.{sound_empty, sound_more}
 use Rattle.kept_state.specs.declared.luck.Luck.{Luck}
 use Rattle.kept_state.specs.Luck.{Lucky, entries, own_lucky, lucky_reply}
@@ -26,7 +23,7 @@ use Rattle.kept_state.proofs.Lucky.{lucky_fits, own_entries}
 use Rattle.world_steps.specs.declared.step.WorldStep.{WorldStep}
 use Rattle.world_steps.specs.declared.step.WorldStep.TheVariants.{Do, Deliver}
 use Rattle.world_steps.specs.World.{issued, numbered, delivered, asked, luck_of, is_accept, StepFits, with_entry, world_of}
-use Rattle.world_steps.specs.Promises.{IsBounded, IsBoundedThroughout, EndsInBounds, EndsInBoundsThroughout, NoneStrange}
+use Rattle.world_steps.specs.Promises.{IsBoundedThroughout, OutcomesAreBoundedThroughout, NoneStrange}
 use Rattle.world_steps.proofs.Issued.{issued_to, numbered_is_issued}
 use Rattle.world_steps.proofs.Strange.{familiar_step}
 
@@ -72,9 +69,6 @@ lucky_is_owed schema s past c luck =
     subst (λ (o : List Entry). Fits (place schema s (fresh schema s) o) c (lucky_reply schema s (fresh schema s) (own_lucky s past) c luck)) (own_entries s past)
     (lucky_fits schema s (fresh schema s) (own_lucky s past) c luck)
 
-between_bounds : (floor low value high ceiling : ℤ) → floor ≤ℤ low → high ≤ℤ ceiling → low ≤ℤ value → value ≤ℤ high → (floor ≤ℤ value) × (value ≤ℤ ceiling)
-between_bounds floor low value high ceiling below above least most = (omega (arith, ints, below, least), omega (arith, ints, above, most))
-
 -- ---- so every trace is sound
 
 module _ (schema : SchemaValue) where
@@ -100,12 +94,10 @@ module _ (schema : SchemaValue) where
       (bounded_throughout good t (sound_front schema e t sound), λ f. within_bounds schema good (e ∷ t) sound f)
 
   -- and so are the values that the open transactions leave, however they end
-  ends_in_bounds : (t : List Entry) → IsBounded schema t → EndsInBounds schema t
-  ends_in_bounds t bounded = λ f chosen. let between = outcomes_between schema t f chosen in between_bounds _ _ _ _ _ (bounded f).0 (bounded f).1 between.0 between.1
-
-  pub ends_throughout : (t : List Entry) → IsBoundedThroughout schema t → EndsInBoundsThroughout schema t
-  ends_throughout [] bounded = ends_in_bounds [] bounded
-  ends_throughout (e ∷ t) bounded = (ends_throughout t bounded.0, ends_in_bounds (e ∷ t) bounded.1)
+  pub outcomes_throughout : IsSchema schema → (t : List Entry) → IsSound schema t → OutcomesAreBoundedThroughout schema t
+  outcomes_throughout good [] sound = outcomes_are_bounded schema good [] sound
+  outcomes_throughout good (e ∷ t) sound =
+      (outcomes_throughout good t (sound_front schema e t sound), outcomes_are_bounded schema good (e ∷ t) sound)
 
   strange_more : IsSchema schema → (past : List Lucky) → IsSound schema (entries past) → NoneStrange (entries past) → (step : WorldStep) → StepFits schema step
       → (found : Option (SiteNo × Command)) → asked (entries past) step ≡ found → NoneStrange (entries (with_entry schema found (luck_of step) past))

@@ -1,37 +1,29 @@
 -- What is promised of every trace of a world, beside what makes it a run of one central store (this project).
 use Rattle.std.specs.Prelude.{◌≡◌, ℕ, ◌≤ℤ◌, Bool, true, false, List, [], ◌∷◌}
-use Rattle.field_bounds.specs.declared.id.TxnId.{TxnId}
 use Rattle.field_bounds.specs.declared.entry.Reply.{Reply}
 use Rattle.field_bounds.specs.declared.entry.Reply.TheVariants.{Begun, Granted, Committed, Aborted, Given, Stated, Accepted, Between, Shares, Restarted, Unsure, StillDown, Refused}
 use Rattle.field_bounds.specs.declared.entry.Refusal.{Refusal}
 use Rattle.field_bounds.specs.declared.entry.Refusal.TheVariants.{Down, NoSite, NoField, NoTransaction, Zero, TooLarge, Short, SelfGift, LedgerFull, NotYours, Forged, TooManyOpen, TooManyEscrows, NumbersFull, NothingGiven}
 use Rattle.field_bounds.specs.declared.entry.Entry.{Entry}
 use Rattle.field_bounds.specs.Schema.{SchemaValue}
-use Rattle.field_bounds.specs.Parts.{field_at}
-use Rattle.field_bounds.specs.Central.{inf, sup, outcome, IsSound, IsCentral, IsConservedThroughout}
+use Rattle.field_bounds.specs.Central.{inf, sup, floor_in, ceiling_in, OutcomesAreBounded, IsSound, IsCentral, IsConservedThroughout}
 
 -- Of each field, the infimum is at the floor or above, and the supremum at the ceiling or below: however the open
 -- transactions end, the value stays within its bounds (O'Neil 1986).
 abbrev pub IsBounded : SchemaValue → List Entry → Type 0
 IsBounded schema t =
-    (f : ℕ) → ((field_at schema f).floor ≤ℤ inf schema t f) × (sup schema t f ≤ℤ (field_at schema f).ceiling)
+    (f : ℕ) → (floor_in schema t f ≤ℤ inf schema t f) × (sup schema t f ≤ℤ ceiling_in schema t f)
 
 -- So in every front of a trace, from the empty one to the whole one.
 abbrev pub IsBoundedThroughout : SchemaValue → List Entry → Type 0
 IsBoundedThroughout schema [] = IsBounded schema []
 IsBoundedThroughout schema (e ∷ t) = IsBoundedThroughout schema t × IsBounded schema (e ∷ t)
 
--- Whichever of the open transactions are committed and whichever aborted, the value of each field is then at its floor or
--- above, and at its ceiling or below (O'Neil 1986 for outcomes, this project for the promise).
-abbrev pub EndsInBounds : SchemaValue → List Entry → Type 0
-EndsInBounds schema t =
-    (f : ℕ) (chosen : ℕ → TxnId → Bool)
-    → ((field_at schema f).floor ≤ℤ outcome schema t f chosen) × (outcome schema t f chosen ≤ℤ (field_at schema f).ceiling)
-
--- So in every front of a trace, from the empty one to the whole one.
-abbrev pub EndsInBoundsThroughout : SchemaValue → List Entry → Type 0
-EndsInBoundsThroughout schema [] = EndsInBounds schema []
-EndsInBoundsThroughout schema (e ∷ t) = EndsInBoundsThroughout schema t × EndsInBounds schema (e ∷ t)
+-- In every front of a trace, whichever of the open transactions are committed and whichever aborted, the value of each
+-- field is then at its floor or above, and at its ceiling or below (O'Neil 1986 for outcomes, this project for the promise).
+abbrev pub OutcomesAreBoundedThroughout : SchemaValue → List Entry → Type 0
+OutcomesAreBoundedThroughout schema [] = OutcomesAreBounded schema []
+OutcomesAreBoundedThroughout schema (e ∷ t) = OutcomesAreBoundedThroughout schema t × OutcomesAreBounded schema (e ∷ t)
 
 -- The refusals of a statement that is another site's, and of one that tells of more rights than there is room for.
 abbrev pub is_strange : Refusal → Bool
@@ -81,5 +73,5 @@ pub record IsOneStore (schema : SchemaValue) (t : List Entry) : Type 0 where
   pub central : IsCentral schema t
   pub conserved : IsConservedThroughout schema t
   pub bounded : IsBoundedThroughout schema t
-  pub outcomes : EndsInBoundsThroughout schema t
+  pub outcomes : OutcomesAreBoundedThroughout schema t
   pub none_strange : NoneStrange t

@@ -9,7 +9,8 @@ ghost use Rattle.field_bounds.specs.declared.entry.Reply.TheVariants.{Aborted, A
 ghost use Rattle.field_bounds.specs.Worked.{halved, stock, txn, lower_by, raise_by, asked};
 ghost use Rattle.kept_state.specs.declared.luck.Luck.TheVariants.{Fine};
 ghost use Rattle.world_steps.specs.declared.step.WorldStep.TheVariants.{Deliver};
-ghost use Rattle.world_steps.specs.Promises.{EndsInBounds, EndsInBoundsThroughout};
+ghost use Rattle.field_bounds.specs.Central.{OutcomesAreBounded};
+ghost use Rattle.world_steps.specs.Promises.{OutcomesAreBoundedThroughout};
 ghost use Rattle.world_steps.specs.Worked.{fine, delivered, Comes, NeverComes, passed_on, out_of_order, aborted, lost, kept, kept_late, epoch_used, gift_kept, taken_in, taken_in_late, read_elsewhere, refused, granted};
 
 /// The steps of these rows make a trace of these replies.
@@ -59,7 +60,7 @@ pub fn wrong_worlds()
 ///
 /// Source: this project.
 pub fn wrong_outcomes()
-    ensures below { ¬ EndsInBounds halved (granted (lower_by 1 41)) }
-    ensures above { ¬ EndsInBounds halved (granted (raise_by 1 61)) }
-    ensures before { ¬ EndsInBoundsThroughout halved (asked (Abort (txn 1)) Aborted ∷ granted (lower_by 1 41)) }
+    ensures below { ¬ OutcomesAreBounded halved (granted (lower_by 1 41)) }
+    ensures above { ¬ OutcomesAreBounded halved (granted (raise_by 1 61)) }
+    ensures before { ¬ OutcomesAreBoundedThroughout halved (asked (Abort (txn 1)) Aborted ∷ granted (lower_by 1 41)) }
 {}

@@ -3,7 +3,7 @@
 ghost use Rattle.std.specs.Prelude.{◌≡◌, All, IfOk, reverse};
 ghost use Rattle.field_bounds.specs.Central.{IsSound, IsCentral, IsConservedThroughout};
 ghost use Rattle.world_steps.specs.World.{StepFits, trace_by};
-ghost use Rattle.world_steps.specs.Promises.{IsBoundedThroughout, EndsInBoundsThroughout, NoneStrange};
+ghost use Rattle.world_steps.specs.Promises.{IsBoundedThroughout, OutcomesAreBoundedThroughout, NoneStrange};
 
 use crate::step::WorldStep;
 use crate::world::World;
@@ -37,7 +37,7 @@ pub fn run_world(
     ensures central { IfOk result (λ trace. IsCentral schema (reverse trace.items)) }
     ensures conserved { IfOk result (λ trace. IsConservedThroughout schema (reverse trace.items)) }
     ensures bounded { IfOk result (λ trace. IsBoundedThroughout schema (reverse trace.items)) }
-    ensures outcomes { IfOk result (λ trace. EndsInBoundsThroughout schema (reverse trace.items)) }
+    ensures outcomes { IfOk result (λ trace. OutcomesAreBoundedThroughout schema (reverse trace.items)) }
     ensures none_strange { IfOk result (λ trace. NoneStrange (reverse trace.items)) }
 {
     let mut world = World::new(alloc, schema)?;

@@ -7,7 +7,7 @@ ghost use Rattle.field_bounds.specs.Owed.{place, shares_of};
 ghost use Rattle.field_bounds.specs.Central.{own, IsSound, IsCentral, IsConservedThroughout};
 ghost use Rattle.world_steps.specs.World.{issued, StepFits};
 ghost use Rattle.world_steps.specs.Standing.{Stands, AllStand};
-ghost use Rattle.world_steps.specs.Promises.{IsBoundedThroughout, EndsInBoundsThroughout, NoneStrange, IsOneStore};
+ghost use Rattle.world_steps.specs.Promises.{IsBoundedThroughout, OutcomesAreBoundedThroughout, NoneStrange, IsOneStore};
 ghost use Rattle.world_steps.specs.View.{trace_of, Answers};
 
 use crate::step::{StepReply, WorldStep};
@@ -147,7 +147,7 @@ impl World {
         ensures central { IsCentral self.now.schema (trace_of self.now) }
         ensures conserved { IsConservedThroughout self.now.schema (trace_of self.now) }
         ensures bounded { IsBoundedThroughout self.now.schema (trace_of self.now) }
-        ensures outcomes { EndsInBoundsThroughout self.now.schema (trace_of self.now) }
+        ensures outcomes { OutcomesAreBoundedThroughout self.now.schema (trace_of self.now) }
         ensures none_strange { NoneStrange (trace_of self.now) }
     {
         &self.trace
