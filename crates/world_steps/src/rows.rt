@@ -1,7 +1,7 @@
 //! Worked rows of a world, computed against the definitions, each as a clause of a function that does
 //! nothing. Of a field from 0 to 100 at 40, each of two sites has 20 rights to lower and 30 to raise it.
 
-ghost use Rattle.std.specs.Prelude.{◌∷◌, pos, take, None, Some};
+ghost use Rattle.std.specs.Prelude.{◌∷◌, take, None};
 ghost use Rattle.field_bounds.specs.declared.entry.Command.TheVariants.{Abort, Restart, Share};
 ghost use Rattle.field_bounds.specs.declared.entry.Last.TheVariants.{Nothing, Kept, Lost};
 ghost use Rattle.field_bounds.specs.declared.entry.Refusal.TheVariants.{NotYours};
