@@ -22,15 +22,15 @@ counts_sure kept r h = refl
 
 -- only an answer in doubt depends on what is kept
 pub after_kept : (base : Base) (kept : Bool) (c : Command) (r : Reply) (es : List Effect) → is_unsure r ≡ false → after base kept c r es ≡ after base false c r es
-after_kept base kept c r es h = ap (λ (counted : Bool). with_effect counted (effect_of c r) es) (counts_sure kept r h)
+after_kept base kept c r es h = ap (λ (counted : Bool). with_effect counted (effect_of base es c r) es) (counts_sure kept r h)
 
 -- a refusal has no effect
-refusal_passes : (c : Command) (x : Refusal) → effect_of c (Refused x) ≡ None
-refusal_passes Begin x = refl
-refusal_passes c x = refl
+refusal_passes : (base : Base) (es : List Effect) (c : Command) (x : Refusal) → effect_of base es c (Refused x) ≡ None
+refusal_passes base es Begin x = refl
+refusal_passes base es c x = refl
 
 pub after_refused : (base : Base) (kept : Bool) (c : Command) (x : Refusal) (es : List Effect) → after base kept c (Refused x) es ≡ es
-after_refused base kept c x es = ap (λ (effect : Option Effect). with_effect true effect es) (refusal_passes c x)
+after_refused base kept c x es = ap (λ (effect : Option Effect). with_effect true effect es) (refusal_passes base es c x)
 
 up_step : (base : Base) (kept : Bool) (o : List Entry) (c : Command) (r : Reply) → (is_up base o ≡ true → effects base kept o ≡ effects base false o) → up_after (is_up base o) r ≡ true
     → after base kept c r (effects base (kept_before kept r) o) ≡ after base false c r (effects base (kept_before false r) o)

@@ -1,12 +1,12 @@
 -- Every sound trace is a run of one central store.
 use Rattle.std.proofs.Common.{◌≡◌, ℕ, ◌<◌, ◌≤◌, Bool, true, false, List, [], ◌∷◌, refl, sym, ◌∙◌, ap, inl, inr, arith, Some}
-use Rattle.std.proofs.lemmas.Bool.{ltb-true}
+use Rattle.std.proofs.lemmas.Bool.{eqb-true, eqb-false, ltb-true}
 use Rattle.std.proofs.lemmas.Int.{ints}
 use Rattle.std.specs.Prelude.{unsigned_abs, ℤ, pos, ◌+ℤ◌, ◌-ℤ◌, ◌≤ℤ◌, ◌⊎◌, if◌then◌else◌}
 use Rattle.field_bounds.specs.declared.kind.Kind.{Kind}
 use Rattle.field_bounds.specs.declared.kind.Kind.TheVariants.{Lower, Raise}
 use Rattle.field_bounds.specs.declared.entry.Command.{Command}
-use Rattle.field_bounds.specs.declared.entry.Command.TheVariants.{Begin, Escrow, Give, Read}
+use Rattle.field_bounds.specs.declared.entry.Command.TheVariants.{Begin, Escrow, Give, Spare, Read}
 use Rattle.field_bounds.specs.declared.entry.Reply.{Reply}
 use Rattle.field_bounds.specs.declared.entry.Reply.TheVariants.{Granted, Between, Unsure, Refused}
 use Rattle.field_bounds.specs.declared.entry.Refusal.{Refusal}
@@ -47,6 +47,24 @@ short_holds : (tests : List Test) (h : ℕ) → first tests ≡ Some (Short h) �
 short_holds [] h e = cc
 short_holds (test ∷ rest) h e = short_step test.0 test.1 rest h e (short_holds rest h)
 
+-- and no test before it holds
+abbrev before_short : Bool → Refusal → Type 0 → Type 0
+before_short b (Short x) rest = Unit {0}
+before_short b r rest = (b ≡ false) × rest
+
+abbrev NoneBefore : List Test → Type 0
+NoneBefore [] = Unit {0}
+NoneBefore (test ∷ rest) = before_short test.0 test.1 (NoneBefore rest)
+
+before_step : (b : Bool) (r : Refusal) (rest : List Test) (h : ℕ) → (if b then Some r else first rest) ≡ Some (Short h) → (first rest ≡ Some (Short h) → NoneBefore rest) → before_short b r (NoneBefore rest)
+before_step b (Short x) rest h e more = tt
+before_step true r rest h e more = cc
+before_step false r rest h e more = (refl, more e)
+
+none_before : (tests : List Test) (h : ℕ) → first tests ≡ Some (Short h) → NoneBefore tests
+none_before [] h e = tt
+none_before (test ∷ rest) h e = before_step test.0 test.1 rest h e (none_before rest h)
+
 refused_same : (x y : Refusal) → Refused x ≡ Refused y → x ≡ y
 refused_same x y e = cc
 
@@ -54,10 +72,12 @@ answer_is_no_refusal : (at : Place) (c : Command) → is_refused (answer at c) �
 answer_is_no_refusal at Begin = refl
 answer_is_no_refusal at c = refl
 
-short_fits : (at : Place) (c : Command) (h : ℕ) → AnswerFits at c (Refused (Short h)) → ShortHolds (refusals at c) h
+short_fits : (at : Place) (c : Command) (h : ℕ) → AnswerFits at c (Refused (Short h)) → ShortHolds (refusals at c) h × NoneBefore (refusals at c)
 short_fits at c h fits =
     elim (match_cases (first (refusals at c)) _ _ fits) [
-      | inl refused ↦ short_holds (refusals at c) h (refused.1 ∙ ap Some (sym (refused_same (Short h) refused.0 refused.2)))
+      | inl refused ↦
+          let is = refused.1 ∙ ap Some (sym (refused_same (Short h) refused.0 refused.2)) in
+          (short_holds (refusals at c) h is, none_before (refusals at c) h is)
       | inr met ↦ elim met.1 [
         | inl same ↦ let refuses : is_refused (answer at c) ≡ true = ap is_refused (sym same) in let not_so = answer_is_no_refusal at c in cc
         | inr unsure ↦ let refuses : is_refused Unsure ≡ true = ap is_refused (sym unsure.0) in cc
@@ -95,14 +115,20 @@ module _ (schema : SchemaValue) (good : IsSchema schema) (t : List Entry) (sound
   shortage_step : (c : Command) (r : Reply) → Fits (place schema s (fresh schema s) (own s t)) c r → ShortageRule schema t s c r
   shortage_step (Escrow txn field change) (Refused (Short h)) fits =
       let holds = short_fits (place schema s (fresh schema s) (own s t)) (Escrow txn field change) h fits in
-      λ known. elim holds [
+      λ known. elim holds.0 [
         | inl here ↦ (sym here.1, omega (arith, ltb-true _ _ here.0, here.1))
         | inr none ↦ absurd none
       ]
   shortage_step (Give to field kind amount) (Refused (Short h)) fits =
       let holds = short_fits (place schema s (fresh schema s) (own s t)) (Give to field kind amount) h fits in
-      λ known. elim holds [
+      λ known. elim holds.0 [
         | inl here ↦ (sym here.1, omega (arith, ltb-true _ _ here.0, here.1))
+        | inr none ↦ absurd none
+      ]
+  shortage_step (Spare to field kind want) (Refused (Short h)) fits =
+      let holds = short_fits (place schema s (fresh schema s) (own s t)) (Spare to field kind want) h fits in
+      λ known. elim holds.0 [
+        | inl here ↦ (sym here.1, omega (arith, eqb-true _ _ here.0, here.1, eqb-false want 0 (assumption holds.1)))
         | inr none ↦ absurd none
       ]
   shortage_step c r fits = tt

@@ -1,5 +1,5 @@
 -- No site has accepted more than it was given.
-use Rattle.std.proofs.Common.{◌≡◌, ℕ, ◌≤◌, max, Bool, true, false, ◌&&◌, cond, List, [], ◌∷◌, refl, sym, ap, subst, inl, inr, arith, eqb, Option, Some, None}
+use Rattle.std.proofs.Common.{◌≡◌, ℕ, ◌+◌, ◌≤◌, max, Bool, true, false, ◌&&◌, cond, List, [], ◌∷◌, refl, sym, ap, subst, inl, inr, arith, eqb, Option, Some, None}
 use Rattle.std.proofs.lemmas.Bool.{cases_Bool, cases_eq, eq-eqb, eqb-true, and_parts}
 use Rattle.field_bounds.specs.declared.kind.Kind.{Kind}
 use Rattle.field_bounds.specs.declared.kind.Kind.TheVariants.{Lower, Raise}
@@ -7,16 +7,16 @@ use Rattle.field_bounds.specs.declared.id.FieldNo.{FieldNo}
 use Rattle.field_bounds.specs.declared.id.SiteNo.{SiteNo}
 use Rattle.field_bounds.specs.declared.entry.Statement.{Statement}
 use Rattle.field_bounds.specs.declared.entry.Command.{Command}
-use Rattle.field_bounds.specs.declared.entry.Command.TheVariants.{Give, Restate, Accept}
+use Rattle.field_bounds.specs.declared.entry.Command.TheVariants.{Give, Restate, Spare, Accept}
 use Rattle.field_bounds.specs.declared.entry.Reply.{Reply}
-use Rattle.field_bounds.specs.declared.entry.Reply.TheVariants.{Given, Stated, Accepted, Restarted, Unsure}
+use Rattle.field_bounds.specs.declared.entry.Reply.TheVariants.{Given, Stated, Spared, Accepted, Restarted, Unsure}
 use Rattle.field_bounds.specs.declared.entry.Entry.{Entry}
 use Rattle.field_bounds.specs.declared.effect.Effect.{Effect}
 use Rattle.field_bounds.specs.declared.effect.Effect.TheVariants.{Gives, Accepts}
 use Rattle.field_bounds.specs.Kind.{same_kind}
 use Rattle.field_bounds.specs.Schema.{SchemaValue}
 use Rattle.field_bounds.specs.Effects.{Base, effect_of, counts, with_effect, after, effects, kept_before, says_kept, is_to, gifts, given, accepted, fresh}
-use Rattle.field_bounds.specs.Owed.{Place, place, Fits}
+use Rattle.field_bounds.specs.Owed.{Place, place, is_unsure, spared_of, told_so_far, Fits}
 use Rattle.field_bounds.specs.Statements.{told_by, IsIssued}
 use Rattle.field_bounds.specs.Central.{own, StatementRule, IsSound, given_between}
 use Rattle.field_bounds.proofs.Lawful.{same_kind-true}
@@ -29,6 +29,15 @@ all_count : (r : Reply) → counts true r ≡ true
 all_count Unsure = refl
 all_count r = refl
 
+-- only what a spare in doubt does rests on what took effect before it
+sure_effect : (base : Base) (es before : List Effect) (c : Command) (r : Reply) → is_unsure r ≡ false → effect_of base es c r ≡ effect_of base before c r
+sure_effect base es before (Spare to field kind want) Unsure h = cc
+sure_effect base es before c r h = refl
+
+uncounted : (effect : Option Effect) (es : List Effect) → with_effect false effect es ≡ es
+uncounted None es = refl
+uncounted (Some effect) es = refl
+
 module _ (base : Base) (p : Option SiteNo → Bool) (f : ℕ) (k : Kind) where
   gifts_with : (counted : Bool) (effect : Option Effect) (es : List Effect) → gifts p f k es ≤ gifts p f k (with_effect counted effect es)
   gifts_with counted None es = omega arith
@@ -37,7 +46,7 @@ module _ (base : Base) (p : Option SiteNo → Bool) (f : ℕ) (k : Kind) where
   gifts_with true (Some effect) es = omega arith
 
   gifts_grow : (kept : Bool) (c : Command) (r : Reply) (es : List Effect) → gifts p f k es ≤ gifts p f k (after base kept c r es)
-  gifts_grow kept c r es = gifts_with (counts kept r) (effect_of c r) es
+  gifts_grow kept c r es = gifts_with (counts kept r) (effect_of base es c r) es
 
   more_with : (few many : Bool) (effect : Option Effect) (less more : List Effect) → (few ≡ true → many ≡ true) → gifts p f k less ≤ gifts p f k more
       → gifts p f k (with_effect few effect less) ≤ gifts p f k (with_effect many effect more)
@@ -48,7 +57,11 @@ module _ (base : Base) (p : Option SiteNo → Bool) (f : ℕ) (k : Kind) where
   more_with false many (Some effect) less more counted h = omega (arith, h, gifts_with many (Some effect) more)
 
   kept_more : (c : Command) (r : Reply) (less more : List Effect) → gifts p f k less ≤ gifts p f k more → gifts p f k (after base false c r less) ≤ gifts p f k (after base true c r more)
-  kept_more c r less more h = more_with (counts false r) (counts true r) (effect_of c r) less more (λ _. all_count r) h
+  kept_more c Unsure less more h =
+      omega (arith, h, ap (gifts p f k) (uncounted (effect_of base less c Unsure) less), gifts_with true (effect_of base more c Unsure) more)
+  kept_more c r less more h =
+      subst (λ (effect : Option Effect). gifts p f k (with_effect (counts false r) effect less) ≤ gifts p f k (after base true c r more)) (sym (sure_effect base less more c r refl))
+      (more_with (counts false r) (counts true r) (effect_of base more c r) less more (λ _. all_count r) h)
 
   kept_step : (c : Command) (r : Reply) (o : List Entry) → gifts p f k (effects base false o) ≤ gifts p f k (effects base true o)
       → gifts p f k (after base false c r (effects base (kept_before false r) o)) ≤ gifts p f k (after base true c r (effects base (kept_before true r) o))
@@ -101,6 +114,9 @@ given_total m n h = cc
 stated_total : (m n : ℕ) → Stated m ≡ Stated n → m ≡ n
 stated_total m n h = cc
 
+spared_parts : (a m b n : ℕ) → Spared a m ≡ Spared b n → (a ≡ b) × (m ≡ n)
+spared_parts a m b n h = (cc, cc)
+
 pub told_is_covered : (at : Place) (from : SiteNo) (c : Command) (r : Reply) (told : Statement) → Fits at c r → told_by from c r ≡ Some told → (told.from ≡ from) × IsCovered at c r told
 told_is_covered at from (Give to field kind amount) (Given total) told fits h =
     let made : Statement = record { from = from; to = to; field = field; kind = kind; total = total } in
@@ -113,11 +129,19 @@ told_is_covered at from (Restate to field kind) (Stated total) told fits h =
     let is = stated_total _ _ (answered at (Restate to field kind) (Stated total) fits refl).1 in
     let covers : total ≤ given at.base to.0 field.0 kind at.effects = omega (arith, is) in
     subst (λ (x : Statement). (x.from ≡ from) × IsCovered at (Restate to field kind) (Stated total) x) (some_same made told h) (refl, covers)
+told_is_covered at from (Spare to field kind want) (Spared amount total) told fits h =
+    let made : Statement = record { from = from; to = to; field = field; kind = kind; total = total } in
+    let spares = spared_of at field kind want in
+    let is = spared_parts amount total spares (told_so_far at to field kind + spares) (answered at (Spare to field kind want) (Spared amount total) fits refl).1 in
+    let on = same_here field.0 kind to.0 in
+    let covers : total ≤ given at.base to.0 field.0 kind (Gives (Some to) field kind amount ∷ at.effects) = rw on (omega (arith, is.0, is.1)) in
+    subst (λ (x : Statement). (x.from ≡ from) × IsCovered at (Spare to field kind want) (Spared amount total) x) (some_same made told h) (refl, covers)
 told_is_covered at from c r told fits h = cc
 
 kept_before_told : (from : SiteNo) (c : Command) (r : Reply) (told : Statement) → told_by from c r ≡ Some told → kept_before false r ≡ false
 kept_before_told from (Give to field kind amount) (Given total) told h = refl
 kept_before_told from (Restate to field kind) (Stated total) told h = refl
+kept_before_told from (Spare to field kind want) (Spared amount total) told h = refl
 kept_before_told from c r told h = cc
 
 -- a statement that was issued tells no more than was given
@@ -180,13 +204,13 @@ module _ (schema : SchemaValue) (e : Entry) (t : List Entry) (sound : IsSound sc
   abbrev here : Place
   here = place schema e.site.0 (fresh schema e.site.0) (own e.site.0 t)
 
-  accepts_within : (c : Command) (r : Reply) → Fits here c r → StatementRule t c r → AcceptsWithin (given_between schema (e ∷ t) f k from e.site.0) from f k (effect_of c r)
-  accepts_within (Accept told) (Accepted gain) fits issued =
+  accepts_within : (c : Command) (r : Reply) (base : Base) (es : List Effect) → Fits here c r → StatementRule t c r → AcceptsWithin (given_between schema (e ∷ t) f k from e.site.0) from f k (effect_of base es c r)
+  accepts_within (Accept told) (Accepted gain) base es fits issued =
       bounded told issued (accept_is_mine here told (not_refused here (Accept told) (Accepted gain) fits refl))
-  accepts_within (Accept told) Unsure fits issued =
+  accepts_within (Accept told) Unsure base es fits issued =
       bounded told issued (accept_is_mine here told (not_refused here (Accept told) Unsure fits refl))
-  accepts_within c Unsure fits rule = tt
-  accepts_within c r fits rule = tt
+  accepts_within c Unsure base es fits rule = tt
+  accepts_within c r base es fits rule = tt
 
 -- no site has accepted more than it was given, whatever is kept of what is in doubt
 pub accepted_is_given : (schema : SchemaValue) (t : List Entry) → IsSound schema t → (kept : Bool) (f : ℕ) (k : Kind) (from to : ℕ)
@@ -203,8 +227,8 @@ accepted_is_given schema (e ∷ t) sound kept f k from to =
           let before = accepted_is_given schema t front (kept_before kept e.reply) f k from s in
           let low : accepted (fresh schema s) from f k was ≤ most s = omega (arith, before, given_grows schema e t f k from s) in
           let step : IsLow s (e ∷ own s t) =
-          accepted_after (fresh schema s) (most s) from f k (counts kept e.reply) (effect_of e.command e.reply) was low
-          (accepts_within schema e t sound from f k e.command e.reply (sound_fits schema e t sound) sound.statements.1) in
+          accepted_after (fresh schema s) (most s) from f k (counts kept e.reply) (effect_of (fresh schema s) was e.command e.reply) was low
+          (accepts_within schema e t sound from f k e.command e.reply (fresh schema s) was (sound_fits schema e t sound) sound.statements.1) in
           subst (λ (x : ℕ). IsLow x (own x (e ∷ t))) here (subst (λ (o : List Entry). IsLow s o) (sym (own_here s e t refl)) step)
       | inr there ↦
           let before = accepted_is_given schema t front kept f k from to in

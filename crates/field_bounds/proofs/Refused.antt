@@ -9,12 +9,12 @@ use Rattle.field_bounds.specs.declared.id.TxnId.{TxnId}
 use Rattle.field_bounds.specs.declared.entry.Statement.{Statement}
 use Rattle.field_bounds.specs.declared.entry.Command.{Command}
 use Rattle.field_bounds.specs.declared.entry.Reply.{Reply}
-use Rattle.field_bounds.specs.declared.entry.Command.TheVariants.{Begin, Escrow, Commit, Abort, Give, Restate, Accept, Read, Share, Restart}
+use Rattle.field_bounds.specs.declared.entry.Command.TheVariants.{Begin, Escrow, Commit, Abort, Give, Restate, Spare, Accept, Read, Share, Restart}
 use Rattle.field_bounds.specs.declared.entry.Reply.TheVariants.{Refused, Unsure}
 use Rattle.field_bounds.specs.declared.entry.Refusal.{Refusal}
 use Rattle.field_bounds.specs.Kind.{kind_of}
 use Rattle.field_bounds.specs.Effects.{is_begun, is_open}
-use Rattle.field_bounds.specs.Owed.{Place, Test, first, is_up, is_begun_reply, count_since, count_open, count_escrows, max_change, max_total, max_open, max_escrows, max_number, free, told_so_far, gain_of, room, refusals, answer, AnswerFits}
+use Rattle.field_bounds.specs.Owed.{Place, Test, first, is_up, is_begun_reply, count_since, count_open, count_escrows, max_change, max_total, max_open, max_escrows, max_number, free, told_so_far, spared_of, gain_of, room, refusals, answer, AnswerFits}
 
 -- no test of the list holds
 abbrev pub NoneHolds : List Test → Type 0
@@ -52,6 +52,7 @@ up_there at (Commit txn) n h = not-false (is_up at.base at.entries) (assumption 
 up_there at (Abort txn) n h = not-false (is_up at.base at.entries) (assumption (none_holds (refusals at (Abort txn)) h))
 up_there at (Give to field kind amount) n h = not-false (is_up at.base at.entries) (assumption (none_holds (refusals at (Give to field kind amount)) h))
 up_there at (Restate to field kind) n h = not-false (is_up at.base at.entries) (assumption (none_holds (refusals at (Restate to field kind)) h))
+up_there at (Spare to field kind want) n h = not-false (is_up at.base at.entries) (assumption (none_holds (refusals at (Spare to field kind want)) h))
 up_there at (Accept told) n h = not-false (is_up at.base at.entries) (assumption (none_holds (refusals at (Accept told)) h))
 up_there at (Read field) n h = not-false (is_up at.base at.entries) (assumption (none_holds (refusals at (Read field)) h))
 up_there at (Share field) n h = not-false (is_up at.base at.entries) (assumption (none_holds (refusals at (Share field)) h))
@@ -140,6 +141,28 @@ module _ (at : Place) where
 
   pub restate_is_to_a_site : (to : SiteNo) (field : FieldNo) (kind : Kind) → NoneHolds (refusals at (Restate to field kind)) → to.0 < at.schema.sites
   restate_is_to_a_site to field kind none = leb-false at.schema.sites to.0 (assumption none)
+
+  module _ (to : SiteNo) (field : FieldNo) (kind : Kind) (want : ℕ) (none : NoneHolds (refusals at (Spare to field kind want))) where
+    pub spare_is_to_a_site : to.0 < at.schema.sites
+    spare_is_to_a_site = leb-false at.schema.sites to.0 (assumption none)
+
+    pub spare_is_in_schema : field.0 < length at.schema.fields
+    spare_is_in_schema = leb-false (length at.schema.fields) field.0 (assumption none)
+
+    pub spare_is_some : want ≢ 0
+    spare_is_some = eqb-false want 0 (assumption none)
+
+    pub spare_is_small : want ≤ max_change
+    spare_is_small = ltb-false max_change want (assumption none)
+
+    pub spare_has_a_share : free at field kind ≢ 0
+    spare_has_a_share = eqb-false (free at field kind) 0 (assumption none)
+
+    pub spare_is_to_another : to.0 ≢ at.site
+    spare_is_to_another = eqb-false to.0 at.site (assumption none)
+
+    pub spare_has_room : told_so_far at to field kind + spared_of at field kind want ≤ max_total
+    spare_has_room = ltb-false max_total (told_so_far at to field kind + spared_of at field kind want) (assumption none)
 
   module _ (told : Statement) (none : NoneHolds (refusals at (Accept told))) where
     pub accept_is_from_a_site : told.from.0 < at.schema.sites

@@ -61,8 +61,8 @@ module _ (base : Base) (p : TxnId → Bool) (f : ℕ) (k : Kind) where
   after_sizes : (kept : Bool) (s : ℕ) (c : Command) (r : Reply) (es : List Effect)
       → granted p f k (after base kept c r es) ≡ size_of (λ _. p) f k s c r + granted p f k es
   after_sizes kept s (Escrow txn field change) Granted es = refl
-  after_sizes kept s c Granted es = sizes_pass true (effect_of c Granted) es refl ∙ sym (zero-add (granted p f k es))
-  after_sizes kept s c r es = sizes_pass (counts kept r) (effect_of c r) es refl ∙ sym (zero-add (granted p f k es))
+  after_sizes kept s c Granted es = sizes_pass true (effect_of base es c Granted) es refl ∙ sym (zero-add (granted p f k es))
+  after_sizes kept s c r es = sizes_pass (counts kept r) (effect_of base es c r) es refl ∙ sym (zero-add (granted p f k es))
 
   -- what took effect has the escrows that were granted, whatever is kept
   pub effects_sizes : (kept : Bool) (o : List Entry) → granted p f k (effects base kept o) ≡ sizes (λ _. p) f k o

@@ -6,7 +6,7 @@ use Rattle.field_bounds.specs.declared.kind.Kind.TheVariants.{Lower, Raise}
 use Rattle.field_bounds.specs.declared.id.SiteNo.{SiteNo}
 use Rattle.field_bounds.specs.declared.id.TxnId.{TxnId}
 use Rattle.field_bounds.specs.declared.entry.Command.{Command}
-use Rattle.field_bounds.specs.declared.entry.Command.TheVariants.{Begin, Escrow, Commit, Abort, Give, Restate, Accept, Read, Share, Restart}
+use Rattle.field_bounds.specs.declared.entry.Command.TheVariants.{Begin, Escrow, Commit, Abort, Give, Restate, Spare, Accept, Read, Share, Restart}
 use Rattle.field_bounds.specs.declared.entry.Reply.{Reply}
 use Rattle.field_bounds.specs.declared.entry.Reply.TheVariants.{Granted, Accepted, Between, Unsure, Refused}
 use Rattle.field_bounds.specs.declared.entry.Refusal.TheVariants.{Short}
@@ -48,6 +48,7 @@ chosen_by (Commit txn) reply = doubtful reply
 chosen_by (Abort txn) reply = doubtful reply
 chosen_by (Give to field kind amount) reply = doubtful reply
 chosen_by (Restate to field kind) reply = doubtful reply
+chosen_by (Spare to field kind want) reply = doubtful reply
 chosen_by (Accept told) reply = doubtful reply
 chosen_by (Read field) reply = doubtful reply
 chosen_by (Share field) reply = doubtful reply
@@ -81,6 +82,7 @@ size_of p f k s (Commit txn) reply = 0
 size_of p f k s (Abort txn) reply = 0
 size_of p f k s (Give to field kind amount) reply = 0
 size_of p f k s (Restate to field kind) reply = 0
+size_of p f k s (Spare to field kind want) reply = 0
 size_of p f k s (Accept told) reply = 0
 size_of p f k s (Read field) reply = 0
 size_of p f k s (Share field) reply = 0
@@ -100,6 +102,7 @@ change_of p f s (Commit txn) reply = pos 0
 change_of p f s (Abort txn) reply = pos 0
 change_of p f s (Give to field kind amount) reply = pos 0
 change_of p f s (Restate to field kind) reply = pos 0
+change_of p f s (Spare to field kind want) reply = pos 0
 change_of p f s (Accept told) reply = pos 0
 change_of p f s (Read field) reply = pos 0
 change_of p f s (Share field) reply = pos 0
@@ -170,6 +173,7 @@ GrantRule schema t (Commit txn) reply = Unit {0}
 GrantRule schema t (Abort txn) reply = Unit {0}
 GrantRule schema t (Give to field kind amount) reply = Unit {0}
 GrantRule schema t (Restate to field kind) reply = Unit {0}
+GrantRule schema t (Spare to field kind want) reply = Unit {0}
 GrantRule schema t (Accept told) reply = Unit {0}
 GrantRule schema t (Read field) reply = Unit {0}
 GrantRule schema t (Share field) reply = Unit {0}
@@ -180,7 +184,7 @@ abbrev pub IsShortage : SchemaValue → List Entry → ℕ → ℕ → Kind → 
 IsShortage schema t s f k asked told =
     f < length schema.fields → (told ≡ share (fresh schema s) f k (at_site schema t s)) × (told < asked)
 
--- An escrow or a gift that is refused as short is told such a shortage (this project).
+-- An escrow, a gift or a spare that is refused as short is told such a shortage (this project).
 abbrev pub ShortageRule : SchemaValue → List Entry → ℕ → Command → Reply → Type 0
 ShortageRule schema t s Begin reply = Unit {0}
 ShortageRule schema t s (Escrow txn field change) (Refused (Short told)) =
@@ -191,6 +195,8 @@ ShortageRule schema t s (Abort txn) reply = Unit {0}
 ShortageRule schema t s (Give to field kind amount) (Refused (Short told)) = IsShortage schema t s field.0 kind amount told
 ShortageRule schema t s (Give to field kind amount) reply = Unit {0}
 ShortageRule schema t s (Restate to field kind) reply = Unit {0}
+ShortageRule schema t s (Spare to field kind want) (Refused (Short told)) = IsShortage schema t s field.0 kind want told
+ShortageRule schema t s (Spare to field kind want) reply = Unit {0}
 ShortageRule schema t s (Accept told) reply = Unit {0}
 ShortageRule schema t s (Read field) reply = Unit {0}
 ShortageRule schema t s (Share field) reply = Unit {0}
@@ -204,6 +210,7 @@ IntervalRule schema t (Commit txn) reply = Unit {0}
 IntervalRule schema t (Abort txn) reply = Unit {0}
 IntervalRule schema t (Give to field kind amount) reply = Unit {0}
 IntervalRule schema t (Restate to field kind) reply = Unit {0}
+IntervalRule schema t (Spare to field kind want) reply = Unit {0}
 IntervalRule schema t (Accept told) reply = Unit {0}
 IntervalRule schema t (Read field) (Between lo hi) =
     field.0 < length schema.fields → (lo ≤ℤ committed schema t field.0) × (committed schema t field.0 ≤ℤ hi)
@@ -219,6 +226,7 @@ StatementRule t (Commit txn) reply = Unit {0}
 StatementRule t (Abort txn) reply = Unit {0}
 StatementRule t (Give to field kind amount) reply = Unit {0}
 StatementRule t (Restate to field kind) reply = Unit {0}
+StatementRule t (Spare to field kind want) reply = Unit {0}
 StatementRule t (Accept told) (Accepted gain) = IsIssued told t
 StatementRule t (Accept told) Unsure = IsIssued told t
 StatementRule t (Accept told) reply = Unit {0}

@@ -1,6 +1,6 @@
 -- What took effect at one site, and the sums over it: fates, ledgers and rights.
 -- Lists of entries and of effects have the newest first, so that the rest of a list is what came before its head.
-use Rattle.std.specs.Prelude.{ℕ, ◌+◌, ◌-◌, ◌==◌, max, unsigned_abs, Bool, true, false, not, Option, Some, None, ◌&&◌, ◌||◌, if◌then◌else◌, List, [], ◌∷◌, filter}
+use Rattle.std.specs.Prelude.{ℕ, ◌+◌, ◌-◌, ◌/◌, ◌==◌, min, max, unsigned_abs, Bool, true, false, not, Option, Some, None, ◌&&◌, ◌||◌, if◌then◌else◌, List, [], ◌∷◌, filter}
 use Rattle.field_bounds.specs.declared.kind.Kind.{Kind}
 use Rattle.field_bounds.specs.declared.id.SiteNo.{SiteNo}
 use Rattle.field_bounds.specs.declared.id.TxnId.{TxnId}
@@ -8,9 +8,9 @@ use Rattle.field_bounds.specs.declared.effect.Effect.{Effect}
 use Rattle.field_bounds.specs.declared.effect.Effect.TheVariants.{Begins, Grants, Commits, Aborts, Gives, Accepts, Stops}
 use Rattle.field_bounds.specs.declared.entry.Escrow.{Escrow as EscrowOf}
 use Rattle.field_bounds.specs.declared.entry.Command.{Command}
-use Rattle.field_bounds.specs.declared.entry.Command.TheVariants.{Begin, Escrow, Commit, Abort, Give, Restate, Accept, Read, Share, Restart}
+use Rattle.field_bounds.specs.declared.entry.Command.TheVariants.{Begin, Escrow, Commit, Abort, Give, Restate, Spare, Accept, Read, Share, Restart}
 use Rattle.field_bounds.specs.declared.entry.Reply.{Reply}
-use Rattle.field_bounds.specs.declared.entry.Reply.TheVariants.{Begun, Granted, Committed, Aborted, Given, Stated, Accepted, Between, Shares, Restarted, Unsure, StillDown, Refused}
+use Rattle.field_bounds.specs.declared.entry.Reply.TheVariants.{Begun, Granted, Committed, Aborted, Given, Stated, Spared, Accepted, Between, Shares, Restarted, Unsure, StillDown, Refused}
 use Rattle.field_bounds.specs.declared.entry.Last.{Last}
 use Rattle.field_bounds.specs.declared.entry.Last.TheVariants.{Nothing, Kept, Lost}
 use Rattle.field_bounds.specs.declared.entry.Entry.{Entry}
@@ -151,28 +151,37 @@ own_rights base f k es = share base f k es + held f k es
 
 -- ---- what took effect
 
--- What a command does where it takes effect: with its answer, and in doubt where its answer may be so (this project).
-abbrev pub effect_of : Command → Reply → Option Effect
-effect_of Begin (Begun txn) = Some (Begins txn)
-effect_of Begin reply = None
-effect_of (Escrow txn field change) Granted = Some (Grants txn field change)
-effect_of (Escrow txn field change) reply = None
-effect_of (Commit txn) Committed = Some (Commits txn)
-effect_of (Commit txn) Unsure = Some (Commits txn)
-effect_of (Commit txn) reply = None
-effect_of (Abort txn) Aborted = Some (Aborts txn)
-effect_of (Abort txn) reply = None
-effect_of (Give to field kind amount) (Given total) = Some (Gives (Some to) field kind amount)
-effect_of (Give to field kind amount) Unsure = Some (Gives (Some to) field kind amount)
-effect_of (Give to field kind amount) reply = None
-effect_of (Restate to field kind) reply = None
-effect_of (Accept told) (Accepted gain) = Some (Accepts told.from told.field told.kind told.total)
-effect_of (Accept told) Unsure = Some (Accepts told.from told.field told.kind told.total)
-effect_of (Accept told) reply = None
-effect_of (Read field) reply = None
-effect_of (Share field) reply = None
-effect_of Restart (Restarted epoch found) = Some Stops
-effect_of Restart reply = None
+-- What a site spares of its share where another wants some: all that is wanted, and at most half of the share, rounded up
+-- (this project).
+abbrev pub spared : ℕ → ℕ → ℕ
+spared share want = min want ((share + 1) / 2)
+
+-- What a command does where it takes effect, behind these effects: with its answer, and in doubt where its answer may be
+-- so. A spare that is in doubt has the amount that it would have been answered (this project).
+abbrev pub effect_of : Base → List Effect → Command → Reply → Option Effect
+effect_of base es Begin (Begun txn) = Some (Begins txn)
+effect_of base es Begin reply = None
+effect_of base es (Escrow txn field change) Granted = Some (Grants txn field change)
+effect_of base es (Escrow txn field change) reply = None
+effect_of base es (Commit txn) Committed = Some (Commits txn)
+effect_of base es (Commit txn) Unsure = Some (Commits txn)
+effect_of base es (Commit txn) reply = None
+effect_of base es (Abort txn) Aborted = Some (Aborts txn)
+effect_of base es (Abort txn) reply = None
+effect_of base es (Give to field kind amount) (Given total) = Some (Gives (Some to) field kind amount)
+effect_of base es (Give to field kind amount) Unsure = Some (Gives (Some to) field kind amount)
+effect_of base es (Give to field kind amount) reply = None
+effect_of base es (Restate to field kind) reply = None
+effect_of base es (Spare to field kind want) (Spared amount total) = Some (Gives (Some to) field kind amount)
+effect_of base es (Spare to field kind want) Unsure = Some (Gives (Some to) field kind (spared (share base field.0 kind es) want))
+effect_of base es (Spare to field kind want) reply = None
+effect_of base es (Accept told) (Accepted gain) = Some (Accepts told.from told.field told.kind told.total)
+effect_of base es (Accept told) Unsure = Some (Accepts told.from told.field told.kind told.total)
+effect_of base es (Accept told) reply = None
+effect_of base es (Read field) reply = None
+effect_of base es (Share field) reply = None
+effect_of base es Restart (Restarted epoch found) = Some Stops
+effect_of base es Restart reply = None
 
 -- Whether what a reply answers counts: where it is in doubt, as it was kept, and always otherwise (this project).
 abbrev pub counts : Bool → Reply → Bool
@@ -182,6 +191,7 @@ counts kept Committed = true
 counts kept Aborted = true
 counts kept (Given total) = true
 counts kept (Stated total) = true
+counts kept (Spared amount total) = true
 counts kept (Accepted gain) = true
 counts kept (Between lo hi) = true
 counts kept (Shares lower raise) = true
@@ -197,7 +207,7 @@ with_effect counted (Some effect) es = if counted then effect ∷ es else es
 
 -- The effects after a command that was answered; one in doubt took effect where it was kept (this project).
 abbrev pub after : Base → Bool → Command → Reply → List Effect → List Effect
-after base kept command reply es = with_effect (counts kept reply) (effect_of command reply) es
+after base kept command reply es = with_effect (counts kept reply) (effect_of base es command reply) es
 
 -- Whether a restart found that what was in doubt is kept.
 abbrev pub says_kept : Last → Bool
@@ -213,6 +223,7 @@ kept_before kept Committed = kept
 kept_before kept Aborted = kept
 kept_before kept (Given total) = kept
 kept_before kept (Stated total) = kept
+kept_before kept (Spared amount total) = kept
 kept_before kept (Accepted gain) = kept
 kept_before kept (Between lo hi) = kept
 kept_before kept (Shares lower raise) = kept

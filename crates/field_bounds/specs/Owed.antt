@@ -6,9 +6,9 @@ use Rattle.field_bounds.specs.declared.id.TxnId.{TxnId}
 use Rattle.field_bounds.specs.declared.id.FieldNo.{FieldNo}
 use Rattle.field_bounds.specs.declared.id.SiteNo.{SiteNo}
 use Rattle.field_bounds.specs.declared.entry.Command.{Command}
-use Rattle.field_bounds.specs.declared.entry.Command.TheVariants.{Begin, Escrow, Commit, Abort, Give, Restate, Accept, Read, Share, Restart}
+use Rattle.field_bounds.specs.declared.entry.Command.TheVariants.{Begin, Escrow, Commit, Abort, Give, Restate, Spare, Accept, Read, Share, Restart}
 use Rattle.field_bounds.specs.declared.entry.Reply.{Reply}
-use Rattle.field_bounds.specs.declared.entry.Reply.TheVariants.{Begun, Granted, Committed, Aborted, Given, Stated, Accepted, Between, Shares, Restarted, Unsure, StillDown, Refused}
+use Rattle.field_bounds.specs.declared.entry.Reply.TheVariants.{Begun, Granted, Committed, Aborted, Given, Stated, Spared, Accepted, Between, Shares, Restarted, Unsure, StillDown, Refused}
 use Rattle.field_bounds.specs.declared.entry.Last.{Last}
 use Rattle.field_bounds.specs.declared.entry.Last.TheVariants.{Nothing}
 use Rattle.field_bounds.specs.declared.entry.Refusal.{Refusal}
@@ -19,7 +19,7 @@ use Rattle.field_bounds.specs.declared.effect.Effect.{Effect}
 use Rattle.field_bounds.specs.Kind.{kind_of}
 use Rattle.field_bounds.specs.Schema.{SchemaValue}
 use Rattle.field_bounds.specs.Parts.{field_at, width_of}
-use Rattle.field_bounds.specs.Effects.{Base, is_begun, is_open, open_txns, escrows_of, given, accepted, share, own_rights, effects}
+use Rattle.field_bounds.specs.Effects.{Base, is_begun, is_open, open_txns, escrows_of, given, accepted, share, own_rights, spared, effects}
 
 -- ---- up or down, epochs and counts
 
@@ -30,6 +30,7 @@ up_after up Committed = up
 up_after up Aborted = up
 up_after up (Given total) = up
 up_after up (Stated total) = up
+up_after up (Spared amount total) = up
 up_after up (Accepted gain) = up
 up_after up (Between lo hi) = up
 up_after up (Shares lower raise) = up
@@ -50,6 +51,7 @@ epoch_after epoch Committed = epoch
 epoch_after epoch Aborted = epoch
 epoch_after epoch (Given total) = epoch
 epoch_after epoch (Stated total) = epoch
+epoch_after epoch (Spared amount total) = epoch
 epoch_after epoch (Accepted gain) = epoch
 epoch_after epoch (Between lo hi) = epoch
 epoch_after epoch (Shares lower raise) = epoch
@@ -149,6 +151,10 @@ owned at field kind = own_rights at.base field.0 kind at.effects
 abbrev pub told_so_far : Place → SiteNo → FieldNo → Kind → ℕ
 told_so_far at to field kind = given at.base to.0 field.0 kind at.effects
 
+-- What a site spares where so much is wanted.
+abbrev pub spared_of : Place → FieldNo → Kind → ℕ → ℕ
+spared_of at field kind want = spared (free at field kind) want
+
 -- What a stated total has above the greatest one accepted before from its site.
 abbrev pub gain_of : Place → SiteNo → FieldNo → Kind → ℕ → ℕ
 gain_of at from field kind total = total - accepted at.base from.0 field.0 kind at.effects
@@ -178,6 +184,10 @@ too_large most n = when (nat_lt most n) TooLarge
 
 abbrev pub short : Place → FieldNo → Kind → ℕ → Test
 short at field kind q = when (nat_lt (free at field kind) q) (Short (free at field kind))
+
+-- A spare is short only where there is no share at all.
+abbrev pub no_share : Place → FieldNo → Kind → Test
+no_share at field kind = when (free at field kind == 0) (Short (free at field kind))
 
 abbrev pub self_gift : Place → SiteNo → Test
 self_gift at site = when (site.0 == at.site) SelfGift
@@ -217,6 +227,9 @@ refusals at (Give to field kind amount) =
     ∷ short at field kind amount ∷ self_gift at to ∷ ledger_full at to field kind amount ∷ []
 refusals at (Restate to field kind) =
     down at ∷ no_site at to ∷ no_field at field ∷ self_gift at to ∷ nothing_given at to field kind ∷ []
+refusals at (Spare to field kind want) =
+    down at ∷ no_site at to ∷ no_field at field ∷ zero_asked want ∷ too_large max_change want
+    ∷ no_share at field kind ∷ self_gift at to ∷ ledger_full at to field kind (spared_of at field kind want) ∷ []
 refusals at (Accept told) =
     down at ∷ no_site at told.from ∷ no_site at told.to ∷ no_field at told.field ∷ zero_asked told.total
     ∷ too_large max_total told.total ∷ self_gift at told.from ∷ not_yours at told.to ∷ forged at told ∷ []
@@ -244,6 +257,8 @@ answer at (Commit txn) = Committed
 answer at (Abort txn) = Aborted
 answer at (Give to field kind amount) = Given (told_so_far at to field kind + amount)
 answer at (Restate to field kind) = Stated (told_so_far at to field kind)
+answer at (Spare to field kind want) =
+    Spared (spared_of at field kind want) (told_so_far at to field kind + spared_of at field kind want)
 answer at (Accept told) = Accepted (gain_of at told.from told.field told.kind told.total)
 answer at (Read field) = Between (interval_at at field).0 (interval_at at field).1
 answer at (Share field) = Shares (shares_at at field).0 (shares_at at field).1
@@ -265,6 +280,7 @@ is_quiet Committed = false
 is_quiet Aborted = false
 is_quiet (Given total) = false
 is_quiet (Stated total) = true
+is_quiet (Spared amount total) = false
 is_quiet (Accepted gain) = false
 is_quiet (Between lo hi) = true
 is_quiet (Shares lower raise) = true
@@ -281,6 +297,7 @@ writes at (Commit txn) = nat_lt 0 (count_escrows txn at.effects)
 writes at (Abort txn) = false
 writes at (Give to field kind amount) = true
 writes at (Restate to field kind) = false
+writes at (Spare to field kind want) = true
 writes at (Accept told) = nat_lt 0 (gain_of at told.from told.field told.kind told.total)
 writes at (Read field) = false
 writes at (Share field) = false
@@ -328,6 +345,7 @@ Fits at (Commit txn) reply = AnswerFits at (Commit txn) reply
 Fits at (Abort txn) reply = AnswerFits at (Abort txn) reply
 Fits at (Give to field kind amount) reply = AnswerFits at (Give to field kind amount) reply
 Fits at (Restate to field kind) reply = AnswerFits at (Restate to field kind) reply
+Fits at (Spare to field kind want) reply = AnswerFits at (Spare to field kind want) reply
 Fits at (Accept told) reply = AnswerFits at (Accept told) reply
 Fits at (Read field) reply = AnswerFits at (Read field) reply
 Fits at (Share field) reply = AnswerFits at (Share field) reply

@@ -4,13 +4,13 @@ use Rattle.std.specs.Prelude.{◌≡◌, ◌⊎◌, List, [], ◌∷◌, Option,
 use Rattle.field_bounds.specs.declared.id.SiteNo.{SiteNo}
 use Rattle.field_bounds.specs.declared.entry.Statement.{Statement}
 use Rattle.field_bounds.specs.declared.entry.Command.{Command}
-use Rattle.field_bounds.specs.declared.entry.Command.TheVariants.{Begin, Escrow, Commit, Abort, Give, Restate, Accept, Read, Share, Restart}
+use Rattle.field_bounds.specs.declared.entry.Command.TheVariants.{Begin, Escrow, Commit, Abort, Give, Restate, Spare, Accept, Read, Share, Restart}
 use Rattle.field_bounds.specs.declared.entry.Reply.{Reply}
-use Rattle.field_bounds.specs.declared.entry.Reply.TheVariants.{Given, Stated}
+use Rattle.field_bounds.specs.declared.entry.Reply.TheVariants.{Given, Stated, Spared}
 use Rattle.field_bounds.specs.declared.entry.Entry.{Entry}
 
--- What a command with its reply states, where a site gave the reply: a Give answered Given, and a Restate answered
--- Stated, state the reply's total.
+-- What a command with its reply states, where a site gave the reply: a Give answered Given, a Restate answered Stated, and
+-- a Spare answered Spared, state the reply's total.
 abbrev pub told_by : SiteNo → Command → Reply → Option Statement
 told_by from Begin reply = None
 told_by from (Escrow txn field change) reply = None
@@ -20,6 +20,8 @@ told_by from (Give to field kind amount) (Given total) = Some (record { from = f
 told_by from (Give to field kind amount) reply = None
 told_by from (Restate to field kind) (Stated total) = Some (record { from = from; to = to; field = field; kind = kind; total = total })
 told_by from (Restate to field kind) reply = None
+told_by from (Spare to field kind want) (Spared amount total) = Some (record { from = from; to = to; field = field; kind = kind; total = total })
+told_by from (Spare to field kind want) reply = None
 told_by from (Accept told) reply = None
 told_by from (Read field) reply = None
 told_by from (Share field) reply = None

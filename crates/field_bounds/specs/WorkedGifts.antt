@@ -4,9 +4,9 @@ use Rattle.field_bounds.specs.declared.kind.Kind.TheVariants.{Lower, Raise}
 use Rattle.field_bounds.specs.declared.id.SiteNo.{SiteNo}
 use Rattle.field_bounds.specs.declared.entry.Statement.{Statement}
 use Rattle.field_bounds.specs.declared.entry.Command.{Command}
-use Rattle.field_bounds.specs.declared.entry.Command.TheVariants.{Begin, Give, Restate, Accept, Read, Share}
+use Rattle.field_bounds.specs.declared.entry.Command.TheVariants.{Begin, Give, Restate, Spare, Accept, Read, Share}
 use Rattle.field_bounds.specs.declared.entry.Reply.{Reply}
-use Rattle.field_bounds.specs.declared.entry.Reply.TheVariants.{Begun, Granted, Given, Stated, Accepted, Between, Shares, Refused}
+use Rattle.field_bounds.specs.declared.entry.Reply.TheVariants.{Begun, Granted, Given, Stated, Spared, Accepted, Between, Shares, Refused}
 use Rattle.field_bounds.specs.declared.entry.Refusal.TheVariants.{NoSite, NoField, Zero, TooLarge, Short, SelfGift, LedgerFull, NotYours, Forged, NothingGiven}
 use Rattle.field_bounds.specs.declared.entry.Entry.{Entry}
 use Rattle.field_bounds.specs.Effects.{Base, fresh}
@@ -22,6 +22,13 @@ site n = record { 0 = n }
 -- A gift of lowering rights to a site.
 abbrev pub give_lower : ℕ → ℕ → Command
 give_lower to amount = Give (site to) stock Lower amount
+
+-- Lowering rights, or raising ones, spared for a site that wants so many.
+abbrev pub spare_lower : ℕ → ℕ → Command
+spare_lower to want = Spare (site to) stock Lower want
+
+abbrev pub spare_raise : ℕ → ℕ → Command
+spare_raise to want = Spare (site to) stock Raise want
 
 -- What site 0 tells site 1 of the lowering rights that it gave.
 abbrev pub told : ℕ → Statement
@@ -78,6 +85,29 @@ given_twice =
     ∷ asked (Share stock) (Shares 15 30)
     ∷ []
 
+-- Of 30 rights the site spares half, of the 15 left half rounded up, and no more than is wanted: each is a gift as any other.
+abbrev pub spared_twice : List Entry
+spared_twice =
+    asked (spare_raise 1 100) (Spared 15 15)
+    ∷ asked (spare_raise 1 100) (Spared 8 23)
+    ∷ asked (spare_raise 1 2) (Spared 2 25)
+    ∷ asked (Restate (site 1) stock Raise) (Stated 25)
+    ∷ asked (Share stock) (Shares 20 5)
+    ∷ []
+
+-- An unknown site or field, nothing, too much, and itself are refused, and so is all once no share is left.
+abbrev pub not_spared : List Entry
+not_spared =
+    asked (spare_lower 2 1) (Refused NoSite)
+    ∷ asked (Spare (site 1) unknown Lower 1) (Refused NoField)
+    ∷ asked (spare_lower 1 0) (Refused Zero)
+    ∷ asked (spare_lower 1 2_000_000_000_000_001) (Refused TooLarge)
+    ∷ asked (spare_lower 0 1) (Refused SelfGift)
+    ∷ asked (give_lower 1 19) (Given 19)
+    ∷ asked (spare_lower 1 5) (Spared 1 20)
+    ∷ asked (spare_lower 1 5) (Refused (Short 0))
+    ∷ []
+
 -- A base with 10 rights of each kind, whose totals lack 1 of the greatest.
 abbrev pub nearly_full : Base
 nearly_full =
@@ -95,6 +125,16 @@ filled =
     asked (give_lower 1 2) (Refused (LedgerFull 999_999_999_999_999_999))
     ∷ asked (give_lower 1 1) (Given 1_000_000_000_000_000_000)
     ∷ asked (give_lower 1 1) (Refused (LedgerFull 1_000_000_000_000_000_000))
+    ∷ []
+
+-- A spare passes the greatest total by what it would spare, and not by what is wanted: of one right left it spares that one.
+abbrev pub spare_filled : List Entry
+spare_filled =
+    asked (spare_lower 1 2) (Refused (LedgerFull 999_999_999_999_999_999))
+    ∷ asked Begin (Begun (txn 1))
+    ∷ asked (lower_by 1 9) Granted
+    ∷ asked (spare_lower 1 100) (Spared 1 1_000_000_000_000_000_000)
+    ∷ asked (spare_lower 1 1) (Refused (Short 0))
     ∷ []
 
 -- ---- rows of the receiver, site 1

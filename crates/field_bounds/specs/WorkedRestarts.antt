@@ -3,7 +3,7 @@
 use Rattle.std.specs.Prelude.{ℕ, List, [], ◌∷◌, ◌++◌, take, false}
 use Rattle.field_bounds.specs.declared.id.TxnId.{TxnId}
 use Rattle.field_bounds.specs.declared.entry.Command.TheVariants.{Begin, Commit, Restate, Read, Share, Restart}
-use Rattle.field_bounds.specs.declared.kind.Kind.TheVariants.{Lower}
+use Rattle.field_bounds.specs.declared.kind.Kind.TheVariants.{Lower, Raise}
 use Rattle.field_bounds.specs.declared.entry.Last.{Last}
 use Rattle.field_bounds.specs.declared.entry.Last.TheVariants.{Nothing, Kept, Lost}
 use Rattle.field_bounds.specs.declared.entry.Reply.TheVariants.{Begun, Granted, Stated, Shares, Restarted, Unsure, StillDown, Refused}
@@ -11,7 +11,7 @@ use Rattle.field_bounds.specs.declared.entry.Refusal.TheVariants.{Down, NoTransa
 use Rattle.field_bounds.specs.declared.entry.Entry.{Entry}
 use Rattle.field_bounds.specs.Effects.{Base}
 use Rattle.field_bounds.specs.Worked.{stock, txn, lower_by, asked}
-use Rattle.field_bounds.specs.WorkedGifts.{site, give_lower}
+use Rattle.field_bounds.specs.WorkedGifts.{site, give_lower, spare_raise}
 
 -- ---- how a row is written
 
@@ -72,6 +72,19 @@ gift_kept =
     ∷ asked (Restate (site 1) stock Lower) (Stated 5)
     ∷ asked (Share stock) (Shares 15 30)
     ∷ []
+
+-- A spare in doubt that was kept is a gift of what it would have been answered: of 30 rights the half.
+abbrev pub spare_kept : List Entry
+spare_kept =
+    asked (spare_raise 1 100) Unsure
+    ∷ restarted 1 Kept
+    ∷ asked (Restate (site 1) stock Raise) (Stated 15)
+    ∷ asked (Share stock) (Shares 20 15)
+    ∷ []
+
+-- One that was lost leaves all as it was.
+abbrev pub spare_lost : List Entry
+spare_lost = take 1 spare_kept ++ restarted 1 Lost ∷ asked (Share stock) (Shares 20 30) ∷ []
 
 -- ---- the last epoch
 

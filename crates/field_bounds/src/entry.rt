@@ -61,6 +61,14 @@ pub enum Command {
         field: FieldNo,
         kind: Kind,
     },
+    /// Gives free rights of a kind on a field to another site: as many as it wants, and at most half
+    /// of the share, rounded up.
+    Spare {
+        to: SiteNo,
+        field: FieldNo,
+        kind: Kind,
+        want: u64,
+    },
     /// Takes in a statement of another site: what it tells beyond the statements taken in before
     /// becomes free rights here.
     Accept(Statement),
@@ -94,7 +102,8 @@ pub enum Refusal {
     /// The amount or the change without its sign is above 2,000,000,000,000,000, or the stated total
     /// above 1,000,000,000,000,000,000.
     TooLarge,
-    /// More is asked than the site's share of the kind, which is told.
+    /// More is asked than the site's share of the kind, which is told. A spare is short only where
+    /// that share is 0.
     Short { share: u64 },
     /// The other site is this site.
     SelfGift,
@@ -141,6 +150,8 @@ pub enum Reply {
     Given { total: u64 },
     /// This is the total given so far, in rights.
     Stated { total: u64 },
+    /// So many were given, in rights, and this is the total given so far.
+    Spared { amount: u64, total: u64 },
     /// The statement was taken in, and so many rights became free by it: 0 where nothing in it was
     /// new.
     Accepted { gain: u64 },
@@ -153,7 +164,7 @@ pub enum Reply {
     /// aborted, and `last` settles what was in doubt.
     Restarted { epoch: u32, last: Last },
     /// The command may be kept or not, and the site is down: the next restart tells which. Only a
-    /// commit of a transaction with an escrow, a give, and an accept that brings a gain are
+    /// commit of a transaction with an escrow, a give, a spare, and an accept that brings a gain are
     /// answered so.
     Unsure,
     /// The restart failed, and the site is down.

@@ -4,14 +4,14 @@
 
 ghost use Rattle.std.specs.Prelude.{◌≡◌, ℕ, pos, reverse, take, Some, None};
 ghost use Rattle.field_bounds.specs.declared.kind.Kind.TheVariants.{Lower};
-ghost use Rattle.field_bounds.specs.declared.entry.Command.TheVariants.{Restate, Accept};
-ghost use Rattle.field_bounds.specs.declared.entry.Refusal.TheVariants.{Forged};
-ghost use Rattle.field_bounds.specs.declared.entry.Reply.TheVariants.{Given, Stated, Accepted, Refused};
+ghost use Rattle.field_bounds.specs.declared.entry.Command.TheVariants.{Restate, Spare, Accept};
+ghost use Rattle.field_bounds.specs.declared.entry.Refusal.TheVariants.{Short, Forged};
+ghost use Rattle.field_bounds.specs.declared.entry.Reply.TheVariants.{Given, Stated, Spared, Accepted, Refused};
 ghost use Rattle.field_bounds.specs.Owed.{IsRun};
 ghost use Rattle.field_bounds.specs.Central.{committed, inf, sup, shares, in_flight, given_between, accepted_between, IsTold, IsSound};
 ghost use Rattle.field_bounds.specs.Statements.{statement_of};
 ghost use Rattle.field_bounds.specs.Worked.{halved, stock, asked};
-ghost use Rattle.field_bounds.specs.WorkedGifts.{site, give_lower, told, takes_in, IsOwedAt, IsWrongAt, not_given, given_away, given_twice, nearly_full, filled, room_filled, late_and_twice, not_taken_in, passed_on, made_up};
+ghost use Rattle.field_bounds.specs.WorkedGifts.{site, give_lower, told, takes_in, IsOwedAt, IsWrongAt, not_given, given_away, given_twice, spare_raise, spared_twice, not_spared, nearly_full, filled, spare_filled, room_filled, late_and_twice, not_taken_in, passed_on, made_up};
 
 /// Each reply of these rows is owed.
 ///
@@ -20,7 +20,10 @@ pub fn worked_gifts()
     ensures not_given { IsOwedAt 0 not_given }
     ensures given_away { IsOwedAt 0 given_away }
     ensures given_twice { IsOwedAt 0 given_twice }
+    ensures spared_twice { IsOwedAt 0 spared_twice }
+    ensures not_spared { IsOwedAt 0 not_spared }
     ensures filled { IsRun halved 0 nearly_full (reverse filled) }
+    ensures spare_filled { IsRun halved 0 nearly_full (reverse spare_filled) }
     ensures room_filled { IsOwedAt 1 room_filled }
     ensures late_and_twice { IsOwedAt 1 late_and_twice }
     ensures not_taken_in { IsOwedAt 1 not_taken_in }
@@ -28,8 +31,9 @@ pub fn worked_gifts()
 
 /// In those rows these other replies aren't owed: 21 rights given of 20, an amount answered where a
 /// total is owed, a restatement that counts again, a total taken in as if all of it were new, a
-/// lower total taken in as the greatest, a second taking in of the same, and a refusal of what is
-/// within the room.
+/// lower total taken in as the greatest, a second taking in of the same, a refusal of what is within
+/// the room, more spared than half of the share, half of an odd share rounded down, and a spare
+/// refused where there is a share.
 ///
 /// Source: this project.
 pub fn wrong_gifts()
@@ -41,6 +45,9 @@ pub fn wrong_gifts()
     ensures forgotten { IsWrongAt 1 (take 2 late_and_twice) (Accept (told 5)) (Accepted 2) }
     ensures twice { IsWrongAt 1 (take 2 late_and_twice) (Accept (told 5)) (Accepted 5) }
     ensures in_room { (room : ℕ) → IsWrongAt 1 (take 0 late_and_twice) (Accept (told 50)) (Refused (Forged room)) }
+    ensures all_spared { IsWrongAt 0 (take 0 spared_twice) (spare_raise 1 100) (Spared 30 30) }
+    ensures rounded_down { IsWrongAt 0 (take 1 spared_twice) (spare_raise 1 100) (Spared 7 22) }
+    ensures spare_short { IsWrongAt 0 (take 0 spared_twice) (spare_raise 1 100) (Refused (Short 30)) }
 {}
 
 /// The row of both sites is a sound trace. After the gift, 5 rights are in flight, and the shares of
@@ -53,6 +60,7 @@ pub fn worked_flight()
     ensures sound { IsSound halved (reverse passed_on) }
     ensures issued { statement_of (asked (give_lower 1 5) (Given 5)) ≡ Some (told 5) }
     ensures restated { statement_of (asked (Restate (site 1) stock Lower) (Stated 5)) ≡ Some (told 5) }
+    ensures spared { statement_of (asked (Spare (site 1) stock Lower 9) (Spared 2 5)) ≡ Some (told 5) }
     ensures unissued { statement_of (takes_in 5 (Accepted 5)) ≡ None }
     ensures flying { let front = reverse (take 1 passed_on) in
         (in_flight halved front 0 Lower ≡ 5)

@@ -5,8 +5,8 @@ ghost use Rattle.field_bounds.specs.Statements.{statement_of};
 
 use crate::entry::{Command, Entry, Reply, Statement};
 
-/// The statement that an entry issues: that of a Give answered Given, or of a Restate answered
-/// Stated, with the entry's site as giver and the reply's total. None for every other entry. Takes
+/// The statement that an entry issues: that of a Give answered Given, a Restate answered Stated, or a
+/// Spare answered Spared, with the entry's site as giver and the reply's total. None for every other entry. Takes
 /// no memory.
 ///
 /// Source: this project.
@@ -24,14 +24,23 @@ pub fn statement_of(entry: &Entry) -> Option<Statement>
             },
             Reply::Given { total },
         )
-        | (Command::Restate { to, field, kind }, Reply::Stated { total }) => Some(Statement {
+        | (Command::Restate { to, field, kind }, Reply::Stated { total })
+        | (
+            Command::Spare {
+                to,
+                field,
+                kind,
+                want: _,
+            },
+            Reply::Spared { amount: _, total },
+        ) => Some(Statement {
             from,
             to,
             field,
             kind,
             total,
         }),
-        (Command::Give { .. } | Command::Restate { .. }, _)
+        (Command::Give { .. } | Command::Restate { .. } | Command::Spare { .. }, _)
         | (
             Command::Begin
             | Command::Escrow { .. }

@@ -3,7 +3,7 @@
 //! rights to lower and 30 to raise it.
 
 ghost use Rattle.std.specs.Prelude.{◌≡◌, ℕ, pos, [], ◌∷◌, reverse, take, None};
-ghost use Rattle.field_bounds.specs.declared.kind.Kind.TheVariants.{Lower};
+ghost use Rattle.field_bounds.specs.declared.kind.Kind.TheVariants.{Lower, Raise};
 ghost use Rattle.field_bounds.specs.declared.entry.Command.TheVariants.{Begin, Commit, Restate, Read, Share, Restart};
 ghost use Rattle.field_bounds.specs.declared.entry.Last.{Last};
 ghost use Rattle.field_bounds.specs.declared.entry.Last.TheVariants.{Nothing, Kept, Lost};
@@ -13,8 +13,8 @@ ghost use Rattle.field_bounds.specs.Owed.{IsRun};
 ghost use Rattle.field_bounds.specs.Statements.{statement_of};
 ghost use Rattle.field_bounds.specs.Central.{committed, inf, sup, shares, in_flight, IsTold, IsSound};
 ghost use Rattle.field_bounds.specs.Worked.{halved, stock, txn, asked};
-ghost use Rattle.field_bounds.specs.WorkedGifts.{site, give_lower, takes_in, IsOwedAt, IsWrongAt};
-ghost use Rattle.field_bounds.specs.WorkedRestarts.{txn_of, aborted, in_doubt, lost, kept, kept_late, epoch_used, gift_kept, spent, no_epoch_left};
+ghost use Rattle.field_bounds.specs.WorkedGifts.{site, give_lower, spare_raise, takes_in, IsOwedAt, IsWrongAt};
+ghost use Rattle.field_bounds.specs.WorkedRestarts.{txn_of, aborted, in_doubt, lost, kept, kept_late, epoch_used, gift_kept, spare_kept, spare_lost, spent, no_epoch_left};
 
 /// Each reply of these rows is owed.
 ///
@@ -26,6 +26,8 @@ pub fn worked_restarts()
     ensures kept_late { IsOwedAt 0 kept_late }
     ensures epoch_used { IsOwedAt 0 epoch_used }
     ensures gift_kept { IsOwedAt 0 gift_kept }
+    ensures spare_kept { IsOwedAt 0 spare_kept }
+    ensures spare_lost { IsOwedAt 0 spare_lost }
     ensures no_epoch_left { IsRun halved 0 spent (reverse no_epoch_left) }
 {}
 
@@ -54,8 +56,8 @@ pub fn wrong_restarts()
 
 /// The rows `kept` and `lost` are sound traces. While the commit of 20 is in doubt it counts as
 /// open: the committed value is 40, the infimum 20 and the supremum 40. Once it was kept all three
-/// are 20, once it was lost all three are 40. A gift in doubt issues no statement; once it was kept
-/// its 5 rights are in flight. A trace that takes in what nobody gave isn't sound, also where that
+/// are 20, once it was lost all three are 40. A gift or a spare in doubt issues no statement; once it was kept
+/// its rights are in flight, 5 of the gift and 15 of the spare. A trace that takes in what nobody gave isn't sound, also where that
 /// is in doubt.
 ///
 /// Source: this project.
@@ -76,5 +78,8 @@ pub fn worked_doubt()
     ensures unissued { statement_of (asked (give_lower 1 5) Unsure) ≡ None }
     ensures flying { let whole = reverse gift_kept in
         (in_flight halved whole 0 Lower ≡ 5) × (shares halved whole 0 Lower ≡ 35) }
+    ensures spared_unissued { statement_of (asked (spare_raise 1 100) Unsure) ≡ None }
+    ensures spared_flying { let whole = reverse spare_kept in
+        (in_flight halved whole 0 Raise ≡ 15) × (shares halved whole 0 Raise ≡ 45) }
     ensures made_up { ¬ IsTold (takes_in 5 Unsure ∷ []) }
 {}

@@ -238,6 +238,14 @@ const RESTATE: Command = Command::Restate {
     kind: Kind::Lower,
 };
 
+/// As many as it wants, and half of the share at most.
+const SPARE: Command = Command::Spare {
+    to: SiteNo(1),
+    field: FieldNo(0),
+    kind: Kind::Lower,
+    want: 9,
+};
+
 /// What site 0 tells site 1 of its gifts.
 fn told(total: u64) -> Statement {
     Statement {
@@ -263,8 +271,15 @@ fn statements(rt: HostRuntime) {
     let given = Reply::Given { total: 8 };
     let restated = Reply::Stated { total: 8 };
     let gained = Reply::Accepted { gain: 8 };
+    let spared = Reply::Spared {
+        amount: 3,
+        total: 8,
+    };
     assert_eq!(rt; stated(GIVE, given), Some(told(8)));
     assert_eq!(rt; stated(RESTATE, restated), Some(told(8)));
+    assert_eq!(rt; stated(SPARE, spared), Some(told(8)));
+    assert_eq!(rt; stated(SPARE, given), None);
+    assert_eq!(rt; stated(GIVE, spared), None);
     assert_eq!(rt; stated(GIVE, restated), None);
     assert_eq!(rt; stated(RESTATE, given), None);
     assert_eq!(rt; stated(Command::Accept(told(8)), gained), None);
@@ -282,6 +297,7 @@ fn amount_of(command: Command) -> u64 {
         Abort { txn } => 0,
         Give { to, field, kind, amount } => amount,
         Restate { to, field, kind } => 0,
+        Spare { to, field, kind, want } => want,
         Accept(told) => told.total,
         Read { field } => 0,
         Share { field } => 0,
@@ -293,5 +309,6 @@ fn amount_of(command: Command) -> u64 {
 fn arms(rt: HostRuntime) {
     assert_eq!(rt; amount_of(GIVE), 5);
     assert_eq!(rt; amount_of(Command::Accept(told(6))), 6);
+    assert_eq!(rt; amount_of(SPARE), 9);
     assert_eq!(rt; amount_of(Command::Begin), 0);
 }
