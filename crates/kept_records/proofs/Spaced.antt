@@ -5,6 +5,7 @@ use Rattle.std.specs.List.{join_with_byte}
 use Rattle.std.proofs.lemmas.List.{take_more, append-nil}
 use Rattle.std.proofs.lemmas.List.Concat.{flat_map-append}
 use Rattle.field_bounds.specs.declared.entry.Escrow.{Escrow}
+use Rattle.line_words.specs.Words.{line}
 use Rattle.kept_records.specs.declared.record.Record.{Record}
 use Rattle.kept_records.specs.Text.{text, letter_of, words_of, spaced, escrow_words}
 
@@ -36,8 +37,11 @@ escrow_pushed start before mid after es i e d lt is b m a =
     ∙ ap (λ (l : List ℕ). start ++ l) (sym words)
     ∙ ap (λ (l : List Escrow). start ++ spaced (escrow_words l)) (sym more)
 
--- the text, piece by piece
-pub text_is : (r : Record) (letter : ℕ) (none first all whole : List ℕ) → letter ≡ letter_of r → none ≡ [] → first ≡ none ++ letter ∷ [] → all ≡ first ++ spaced (words_of r) → whole ≡ all ++ 10 ∷ [] → whole ≡ text r
-text_is r letter none first all whole l n f a w =
-    w ∙ ap (λ (x : List ℕ). x ++ 10 ∷ []) (a ∙ ap (λ (x : List ℕ). x ++ spaced (words_of r)) (f ∙ ap (λ (x : List ℕ). x ++ letter ∷ []) n ∙ ap (λ (c : ℕ). c ∷ []) l)
-    ∙ sym (line_spaced (letter_of r ∷ []) (words_of r)))
+-- the text behind what there was, piece by piece
+pub text_behind : (r : Record) (letter : ℕ) (front first all whole : List ℕ) → letter ≡ letter_of r → first ≡ front ++ letter ∷ [] → all ≡ first ++ spaced (words_of r) → whole ≡ all ++ 10 ∷ [] → whole ≡ front ++ text r
+text_behind r letter front first all whole l f a w =
+    let words : List ℕ = (letter ∷ []) ++ spaced (words_of r) in
+    let is : words ≡ line ((letter_of r ∷ []) ∷ words_of r) = ap (λ (c : ℕ). (c ∷ []) ++ spaced (words_of r)) l ∙ sym (line_spaced (letter_of r ∷ []) (words_of r)) in
+    w ∙ ap (λ (x : List ℕ). x ++ 10 ∷ []) (a ∙ ap (λ (x : List ℕ). x ++ spaced (words_of r)) f ∙ append_assoc front (letter ∷ []) (spaced (words_of r)))
+    ∙ append_assoc front words (10 ∷ [])
+    ∙ ap (λ (x : List ℕ). front ++ (x ++ 10 ∷ [])) is

@@ -13,7 +13,7 @@ ghost use Rattle.kept_records.specs.Keeping.{IsKept, Appends, CutsAndAppends, Cu
 use crate::log::{RecordFault, read_records};
 use crate::medium::{Device, Medium, MediumFault};
 use crate::record::Record;
-use crate::writing::write_record;
+use crate::writing::{put_record, write_record};
 use std::alloc::{AllocError, Global};
 
 /// What a medium was read as.
@@ -60,11 +60,13 @@ pub fn read_log<M: Medium>(alloc: Global, medium: &mut M) -> Result<ReadLog, Med
 /// Adds a record behind the bytes of a medium. The inner result tells how it went: Ok where the
 /// record's whole text stands there; its error is a fault of the device, which leaves some front of
 /// the text: none of it, a part, or all. The outer error is want of memory, which changes nothing.
-/// The record's numbers have to lie in the ranges that `Record` tells. Costs memory for the text.
+/// The record's numbers have to lie in the ranges that `Record` tells. The text is made in `line`,
+/// whatever that held, and its memory is used again: record after record costs none for the text but
+/// where one is longer than each before it.
 ///
 /// Source: this project.
 pub fn append_record<M: Medium>(
-    alloc: Global,
+    line: &mut Vec<u8>,
     medium: &mut M,
     kept: &Record,
 ) -> Result<Result<(), Device>, AllocError>
@@ -75,9 +77,9 @@ pub fn append_record<M: Medium>(
     ensures failed { OnErr result (M.failed medium.new ≡ M.failed medium.old) }
     ensures foretold { OnErr result (M.foretold medium.new ≡ M.foretold medium.old) }
 {
-    let line = write_record(alloc, kept)?;
+    put_record(line, kept)?;
     medium.reserve(line.len())?;
-    Ok(medium.append(&line))
+    Ok(medium.append(line))
 }
 
 // Cuts what stands behind the first bytes, where there is something, and adds a line.

@@ -354,7 +354,11 @@ fn a_log_whose_device_fails_is_not_read(rt: HostRuntime) {
 fn appended<M: Medium>(alloc: Global, medium: &mut M, kept: &Record) -> Option<bool>
     requires { IsRecord kept.now }
 {
-    Some(append_record(alloc, medium, kept).ok()?.is_ok())
+    Some(
+        append_record(&mut Vec::new(alloc), medium, kept)
+            .ok()?
+            .is_ok(),
+    )
 }
 
 #[test]

@@ -11,6 +11,7 @@ use itoa::Buffer;
 use std::alloc::{AllocError, Global};
 
 // Adds a space and a word.
+#[inline(always)]
 fn push_word(line: &mut Vec<u8>, word: &[u8]) -> Result<(), AllocError>
     ensures { OnOk result (line.new.items ≡ line.old.items ++ 32 ∷ word.now) }
 {
@@ -20,6 +21,7 @@ fn push_word(line: &mut Vec<u8>, word: &[u8]) -> Result<(), AllocError>
 }
 
 // Adds a space and a number.
+#[inline(always)]
 fn push_number(line: &mut Vec<u8>, number: u64) -> Result<(), AllocError>
     ensures { OnOk result (line.new.items ≡ line.old.items ++ 32 ∷ decimal number) }
 {
@@ -28,6 +30,7 @@ fn push_number(line: &mut Vec<u8>, number: u64) -> Result<(), AllocError>
 }
 
 // Adds a space and a number with its sign.
+#[inline(always)]
 fn push_signed(line: &mut Vec<u8>, number: i64) -> Result<(), AllocError>
     ensures { OnOk result (line.new.items ≡ line.old.items ++ 32 ∷ signed_decimal number) }
 {
@@ -108,6 +111,25 @@ fn push_words(line: &mut Vec<u8>, kept: &Record) -> Result<(), AllocError>
     }
 }
 
+// Adds the text of a record, its line feed included.
+fn push_record(line: &mut Vec<u8>, kept: &Record) -> Result<(), AllocError>
+    ensures { OnOk result (line.new.items ≡ line.old.items ++ text kept.now) }
+{
+    line.push(letter(kept))?;
+    push_words(line, kept)?;
+    line.push(b'\n')?;
+    Ok(())
+}
+
+/// Writes the text of a record, its line feed included, in place of what `line` holds, whose memory
+/// is used again. The error is want of memory; `line` then holds anything.
+pub(crate) fn put_record(line: &mut Vec<u8>, kept: &Record) -> Result<(), AllocError>
+    ensures text { OnOk result (line.new.items ≡ text kept.now) }
+{
+    line.clear();
+    push_record(line, kept)
+}
+
 /// The text of a record, its line feed included. Its numbers have to lie in the ranges that
 /// `Record` tells. A front of the text is the whole text, or has no line feed: so an append that
 /// fails, or a stop, leaves the whole record or none. The error is want of memory. Costs a pass
@@ -118,8 +140,6 @@ pub fn write_record(alloc: Global, kept: &Record) -> Result<Vec<u8>, AllocError>
     ensures torn { IfOk result (λ line. TearsClean line.items) }
 {
     let mut line = Vec::new(alloc);
-    line.push(letter(kept))?;
-    push_words(&mut line, kept)?;
-    line.push(b'\n')?;
+    put_record(&mut line, kept)?;
     Ok(line)
 }

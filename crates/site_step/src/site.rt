@@ -42,6 +42,8 @@ pub struct Site<M: Medium> {
     count: usize,
     doubt: Option<usize>,
     accounts: Accounts,
+    // The text of the last record; its memory is used again.
+    line: Vec<u8>,
 }
 
 impl<M: Medium> Model for Site<M> {
@@ -110,6 +112,7 @@ impl<M: Medium> Site<M> {
                     journal: Journal::new(alloc),
                     last: 0,
                 },
+                line: Vec::new(alloc),
             }),
             Err(fault) => Err((fault, medium)),
         }
@@ -175,9 +178,10 @@ impl<M: Medium> Site<M> {
     ///
     /// Costs a look through the open transactions, at most 64, for a command that names one, and
     /// one step for each escrow of a transaction that ends. A Give, a Restate and an Accept look at
-    /// one total and at the rights on one field. What is written has the length of one record.
-    /// Nothing of that grows with the history, the number of fields or the number of sites. A Restart
-    /// reads the whole medium, and takes in each record there.
+    /// one total and at the rights on one field. What is written has the length of one record; its
+    /// text is made in a buffer of the site, whose memory is used again. Nothing of that grows with
+    /// the history, the number of fields or the number of sites. A Restart reads the whole medium, and
+    /// takes in each record there.
     pub fn apply(&mut self, alloc: Global, command: Command) -> Result<Reply, AllocError>
         ensures ok { IfOk result (λ reply. Applies self.old command reply self.new) }
         ensures err { OnErr result (self.new ≡ self.old) }
@@ -190,9 +194,9 @@ impl<M: Medium> Site<M> {
             Escrow { txn, field, change } => self.grant(txn, field, change),
             Commit { txn } => self.commit(alloc, txn),
             Abort { txn } => self.answer(Command::Abort { txn }, Reply::Aborted),
-            Give { to, field, kind, amount } => self.give(alloc, to, field, kind, amount),
+            Give { to, field, kind, amount } => self.give(to, field, kind, amount),
             Restate { to, field, kind } => self.restate(to, field, kind),
-            Accept(told) => self.accept(alloc, told),
+            Accept(told) => self.accept(told),
             Read { field } => self.read(field),
             Share { field } => self.tell_shares(field),
             Restart => self.restart(alloc),

@@ -9,7 +9,7 @@ use field_bounds::{
     Command, FieldNo, Kind, MAX_CHANGE, MAX_TOTAL, Refusal, Reply, SiteNo, Statement, refuse_first,
 };
 use kept_records::{Medium, Record};
-use std::alloc::{AllocError, Global};
+use std::alloc::AllocError;
 
 impl<M: Medium> Site<M> {
     fn knows(&self, site: SiteNo) -> bool
@@ -114,7 +114,6 @@ impl<M: Medium> Site<M> {
 
     pub(super) fn give(
         &mut self,
-        alloc: Global,
         to: SiteNo,
         field: FieldNo,
         kind: Kind,
@@ -137,7 +136,7 @@ impl<M: Medium> Site<M> {
             kind,
             amount,
         };
-        self.write(alloc, command, &record, Reply::Given { total })
+        self.write(command, &record, Reply::Given { total })
     }
 
     pub(super) fn restate(
@@ -157,7 +156,7 @@ impl<M: Medium> Site<M> {
         )
     }
 
-    pub(super) fn accept(&mut self, alloc: Global, told: Statement) -> Result<Reply, AllocError>
+    pub(super) fn accept(&mut self, told: Statement) -> Result<Reply, AllocError>
         requires unrefused { first (refusals (here self.old) (Command.Accept told)) ≡ None }
         ensures ok { IfOk result (λ reply. Applies self.old (Command.Accept told) reply self.new) }
         ensures err { OnErr result (self.new ≡ self.old) }
@@ -173,6 +172,6 @@ impl<M: Medium> Site<M> {
             kind: told.kind,
             total: told.total,
         };
-        self.write(alloc, command, &record, Reply::Accepted { gain })
+        self.write(command, &record, Reply::Accepted { gain })
     }
 }

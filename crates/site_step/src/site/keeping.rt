@@ -50,7 +50,6 @@ impl<M: Medium> Site<M> {
     /// Carries out this record of a command, once it stands whole, and adds the command's entry.
     pub(super) fn write(
         &mut self,
-        alloc: Global,
         command: Command,
         kept: &Record,
         reply: Reply,
@@ -63,7 +62,7 @@ impl<M: Medium> Site<M> {
         ensures err { OnErr result (self.new ≡ self.old) }
     {
         self.history.reserve(1)?;
-        match append_record(alloc, &mut self.medium, kept)? {
+        match append_record(&mut self.line, &mut self.medium, kept)? {
             Ok(()) => {
                 self.accounts.carry_out(&self.schema, kept);
                 self.count += 1;
@@ -145,7 +144,7 @@ impl<M: Medium> Site<M> {
         }
         let escrows = Escrows::new(Vec::from_slice(alloc, escrows)?);
         let kept = Record::Commit { txn, escrows };
-        self.write(alloc, command, &kept, Reply::Committed)
+        self.write(command, &kept, Reply::Committed)
     }
 
     pub(super) fn read(&mut self, field: FieldNo) -> Result<Reply, AllocError>
