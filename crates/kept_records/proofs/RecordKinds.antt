@@ -7,7 +7,7 @@ use Rattle.std.proofs.lemmas.Option.{cond_some, same_Some}
 use Rattle.field_bounds.specs.declared.kind.Kind.{Kind}
 use Rattle.field_bounds.specs.declared.id.TxnId.{TxnId}
 use Rattle.field_bounds.specs.declared.entry.Escrow.{Escrow}
-use Rattle.field_bounds.specs.Owed.{max_total, max_escrows, max_number}
+use Rattle.field_bounds.specs.Owed.{max_total, max_escrows, max_number, max_epoch}
 use Rattle.line_words.specs.Reading.{◌>>=◌, word_at, ended}
 use Rattle.line_words.proofs.Numbers.{bind_some}
 use Rattle.line_words.proofs.WordLemmas.{IsWord}
@@ -88,13 +88,13 @@ accept_again t fits = rw (total_again t fits) refl
 restart_takes : (ws : List (List ℕ)) (r : Record) → restart_from ws ≡ Some r → Spells 82 ws r
 unfolding restart_from
 restart_takes ws r e =
-    taking (number_law 1 max_number (omega arith)) (λ epoch. ended (Restart epoch.0, epoch.1)) ws r e (λ epoch rest fits is on.
+    taking (number_law 1 max_epoch (omega arith)) (λ epoch. ended (Restart epoch.0, epoch.1)) ws r e (λ epoch rest fits is on.
     let end = ended_is (Restart epoch) rest r on in
     subst (Spells 82 ws) end.1 (refl, sym (is ∙ ap (λ (l : List (List ℕ)). decimal epoch ∷ l) end.0), (omega (arith, fits.0), fits.1)))
 
 restart_again : (epoch : ℕ) → IsRecord (Restart epoch) → restart_from (decimal epoch ∷ []) ≡ Some (Restart epoch)
 unfolding restart_from
-restart_again epoch fits = word_again (number_law 1 max_number (omega arith)) (λ e. ended (Restart e.0, e.1)) epoch [] (omega (arith, fits.0), fits.1)
+restart_again epoch fits = word_again (number_law 1 max_epoch (omega arith)) (λ e. ended (Restart e.0, e.1)) epoch [] (omega (arith, fits.0), fits.1)
 
 -- ---- commits
 
@@ -126,7 +126,7 @@ escrows_again (e ∷ es) fits =
 commit_takes : (ws : List (List ℕ)) (r : Record) → commit_from ws ≡ Some r → Spells 67 ws r
 unfolding commit_from
 commit_takes ws r e =
-    taking (number_law 0 max_number (omega arith)) (λ epoch. word_at (number_within 1 max_number) epoch.1 >>= λ number. escrows_from number.1 >>= λ es. cond (leb 1 (length es) && leb (length es) max_escrows) (Some (Commit (record { epoch = epoch.0; number = number.0 }) es)) None) ws r e (λ epoch as1 a-fits a-is a-on.
+    taking (number_law 0 max_epoch (omega arith)) (λ epoch. word_at (number_within 1 max_number) epoch.1 >>= λ number. escrows_from number.1 >>= λ es. cond (leb 1 (length es) && leb (length es) max_escrows) (Some (Commit (record { epoch = epoch.0; number = number.0 }) es)) None) ws r e (λ epoch as1 a-fits a-is a-on.
     taking (number_law 1 max_number (omega arith)) (λ number. escrows_from number.1 >>= λ es. cond (leb 1 (length es) && leb (length es) max_escrows) (Some (Commit (record { epoch = epoch; number = number.0 }) es)) None) as1 r a-on (λ number bs b-fits b-is b-on.
     let c = bind_some (escrows_from bs) (λ es. cond (leb 1 (length es) && leb (length es) max_escrows) (Some (Commit (record { epoch = epoch; number = number }) es)) None) r b-on in
     let all : Record = Commit (record { epoch = epoch; number = number }) c.0 in
@@ -141,7 +141,7 @@ unfolding commit_from
 commit_again txn es fits =
     let low : leb 1 (length es) ≡ true = le-leb _ _ (omega (arith, fits.3)) in
     let high : leb (length es) 16 ≡ true = le-leb _ _ fits.4 in
-    word_again (number_law 0 max_number (omega arith)) _ txn.epoch _ (omega arith, fits.0)
+    word_again (number_law 0 max_epoch (omega arith)) _ txn.epoch _ (omega arith, fits.0)
     ∙ word_again (number_law 1 max_number (omega arith)) _ txn.number _ (omega (arith, fits.1), fits.2)
     ∙ rw (escrows_again es fits.5, low, high) refl
 
@@ -194,7 +194,7 @@ escrows_plain (e ∷ es) fits = ((number_law 0 max_place (omega arith)).plain e.
 
 pub words_plain : (r : Record) → IsRecord r → AllByRecursion IsWord ((letter_of r ∷ []) ∷ words_of r)
 words_plain (Commit txn es) fits =
-    (letter_word 67 (omega arith) (omega arith), ((number_law 0 max_number (omega arith)).plain txn.epoch (omega arith, fits.0), ((number_law 1 max_number (omega arith)).plain txn.number (omega (arith, fits.1), fits.2), escrows_plain es fits.5)))
+    (letter_word 67 (omega arith) (omega arith), ((number_law 0 max_epoch (omega arith)).plain txn.epoch (omega arith, fits.0), ((number_law 1 max_number (omega arith)).plain txn.number (omega (arith, fits.1), fits.2), escrows_plain es fits.5)))
 words_plain (Gift to f k n) fits = (letter_word 71 (omega arith) (omega arith), total_plain (record { other = to; field = f; kind = k; total = n }) fits)
 words_plain (Accept from f k n) fits = (letter_word 65 (omega arith) (omega arith), total_plain (record { other = from; field = f; kind = k; total = n }) fits)
-words_plain (Restart epoch) fits = (letter_word 82 (omega arith) (omega arith), ((number_law 1 max_number (omega arith)).plain epoch (omega (arith, fits.0), fits.1), tt))
+words_plain (Restart epoch) fits = (letter_word 82 (omega arith) (omega arith), ((number_law 1 max_epoch (omega arith)).plain epoch (omega (arith, fits.0), fits.1), tt))

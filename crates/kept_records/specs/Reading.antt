@@ -1,6 +1,6 @@
 -- What record the words of a line spell, word by word (this project).
 use Rattle.std.specs.Prelude.{◌≡◌, ℕ, ◌^◌, ℤ, unsigned_abs, List, [], ◌∷◌, length, Option, Some, None, Result, Ok, Err, nat_le, ◌&&◌, ◌==◌, if◌then◌else◌}
-use Rattle.field_bounds.specs.Owed.{max_change, max_total, max_escrows, max_number}
+use Rattle.field_bounds.specs.Owed.{max_change, max_total, max_escrows, max_number, max_epoch}
 use Rattle.field_bounds.specs.declared.kind.Kind.{Kind}
 use Rattle.field_bounds.specs.declared.kind.Kind.TheVariants.{Lower, Raise}
 use Rattle.field_bounds.specs.declared.entry.Escrow.{Escrow}
@@ -58,7 +58,7 @@ accept_from ws = do
 -- An epoch, and no word more.
 unfoldable pub restart_from : List (List ℕ) → Option Record
 restart_from ws = do
-  epoch ← word_at (number_within 1 max_number) ws
+  epoch ← word_at (number_within 1 max_epoch) ws
   ended (Restart epoch.0, epoch.1)
 
 -- Pairs of a field and a change, up to the last word.
@@ -74,7 +74,7 @@ escrows_from (w ∷ v ∷ ws) = do
 -- The id of a transaction and 1 to 16 escrows.
 unfoldable pub commit_from : List (List ℕ) → Option Record
 commit_from ws = do
-  epoch ← word_at (number_within 0 max_number) ws
+  epoch ← word_at (number_within 0 max_epoch) ws
   number ← word_at (number_within 1 max_number) epoch.1
   es ← escrows_from number.1
   if nat_le 1 (length es) && nat_le (length es) max_escrows then Some (Commit (record { epoch = epoch.0; number = number.0 }) es) else None

@@ -2,7 +2,7 @@
 use Rattle.std.specs.Prelude.{ℕ, ◌≤◌, ◌<◌, ℤ, unsigned_abs, List, [], ◌∷◌, ◌++◌, length}
 use Rattle.std.specs.Fmt.{decimal, signed_decimal}
 use Rattle.std.specs.List.{flat_map, AllByRecursion}
-use Rattle.field_bounds.specs.Owed.{max_change, max_total, max_escrows, max_number}
+use Rattle.field_bounds.specs.Owed.{max_change, max_total, max_escrows, max_number, max_epoch}
 use Rattle.field_bounds.specs.declared.kind.Kind.{Kind}
 use Rattle.field_bounds.specs.declared.kind.Kind.TheVariants.{Lower, Raise}
 use Rattle.field_bounds.specs.declared.id.SiteNo.{SiteNo}
@@ -70,8 +70,8 @@ IsTotal total = (0 < total) × (total ≤ max_total)
 
 -- The numbers of a record lie in the ranges of its text.
 abbrev pub IsRecord : Record → Type 0
-IsRecord (Commit txn escrows) = (txn.epoch ≤ max_number) × (0 < txn.number) × (txn.number ≤ max_number)
+IsRecord (Commit txn escrows) = (txn.epoch ≤ max_epoch) × (0 < txn.number) × (txn.number ≤ max_number)
     × (0 < length escrows) × (length escrows ≤ max_escrows) × AllByRecursion IsEscrow escrows
 IsRecord (Gift to field kind total) = (to.0 ≤ max_place) × (field.0 ≤ max_place) × IsTotal total
 IsRecord (Accept from field kind total) = (from.0 ≤ max_place) × (field.0 ≤ max_place) × IsTotal total
-IsRecord (Restart epoch) = (0 < epoch) × (epoch ≤ max_number)
+IsRecord (Restart epoch) = (0 < epoch) × (epoch ≤ max_epoch)

@@ -2,7 +2,7 @@
 
 ghost use Rattle.std.specs.Prelude.{◌≡◌, ◌+◌, ◌<◌, ◌≤◌, List, ℕ, OnErr, IfOk, length};
 ghost use Rattle.std.specs.List.{flat_map};
-ghost use Rattle.field_bounds.specs.Owed.{max_number};
+ghost use Rattle.field_bounds.specs.Owed.{max_epoch};
 ghost use Rattle.kept_records.specs.declared.record.Record.{Record};
 ghost use Rattle.kept_records.specs.declared.record.Record.TheVariants.{Restart};
 ghost use Rattle.kept_records.specs.Text.{text, IsRecord};
@@ -119,7 +119,7 @@ pub fn append_restart<M: Medium>(
     requires present { present ≡ length (M.bytes medium.old) }
     requires within { whole ≤ present }
     requires some { 0 < epoch }
-    requires most { epoch ≤ max_number }
+    requires most { epoch ≤ max_epoch }
     ensures added { IfOk result (λ added. CutsAndAppends added whole (M.bytes medium.old) (text (Restart epoch)) (M.bytes medium.new) (M.failed medium.old) (M.failed medium.new)) }
     ensures fate { IfOk result (λ added. CutAndAppendFate (M.foretold medium.old) whole (M.bytes medium.old) (text (Restart epoch)) added (M.bytes medium.new) (M.foretold medium.new)) }
     ensures bytes { OnErr result (M.bytes medium.new ≡ M.bytes medium.old) }

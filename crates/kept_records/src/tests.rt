@@ -1,5 +1,5 @@
 ghost use Rattle.std.specs.Prelude.{◌≡◌, ◌<◌, ◌≤◌, IfSome};
-ghost use Rattle.field_bounds.specs.Owed.{max_number};
+ghost use Rattle.field_bounds.specs.Owed.{max_epoch};
 ghost use Rattle.kept_records.specs.Text.{IsRecord};
 ghost use Rattle.kept_records.specs.Keeping.{IsKept};
 
@@ -400,7 +400,7 @@ fn a_torn_append_leaves_a_front(rt: HostRuntime) {
 /// memory was refused.
 fn restarted<M: Medium>(alloc: Global, medium: &mut M, whole: usize, epoch: u32) -> Option<bool>
     requires some { 0 < epoch }
-    requires most { epoch ≤ max_number }
+    requires most { epoch ≤ max_epoch }
 {
     let present = medium.read_all(alloc).ok()?.len();
     if present < whole {

@@ -8,7 +8,7 @@ use Rattle.field_bounds.specs.declared.entry.Reply.{Reply}
 use Rattle.field_bounds.specs.declared.entry.Reply.TheVariants.{StillDown, Refused, Restarted, Unsure}
 use Rattle.field_bounds.specs.declared.entry.Refusal.{Refusal}
 use Rattle.field_bounds.specs.declared.entry.Refusal.TheVariants.{NumbersFull}
-use Rattle.field_bounds.specs.Owed.{Place, first, refusals, answer, max_number}
+use Rattle.field_bounds.specs.Owed.{Place, first, refusals, answer, max_epoch}
 use Rattle.field_bounds.proofs.Refused.{is_restart}
 use Rattle.kept_records.specs.declared.medium.Mishap.{Mishap}
 use Rattle.kept_records.specs.declared.medium.Mishap.TheVariants.{Never}
@@ -34,7 +34,7 @@ restarted true epoch found = (λ h. cc, λ h. cc)
 restarted false epoch found = (λ h. cc, λ h. cc)
 
 fine_is_sure : (at : Place) (epoch : ℕ) (found : Last) (c : Command) → IsSure (owed_with at epoch found c Fine)
-fine_is_sure at epoch found Restart = restarted (nat_le max_number epoch) (epoch + 1) found
+fine_is_sure at epoch found Restart = restarted (nat_le max_epoch epoch) (epoch + 1) found
 fine_is_sure at epoch found c = reply_is_sure (first (refusals at c)) (answer at c) (answer_is_sure at c refl)
 
 never_under : (v : SiteValue) (rs : List Record) (rest : List ℕ) (c : Command) → owed_under v rs rest c Never ≡ owed_with (here v) (greatest rs) (found_of v.doubt rs) c Fine

@@ -16,7 +16,7 @@ use Rattle.field_bounds.specs.Schema.{SchemaValue}
 use Rattle.field_bounds.specs.declared.effect.Effect.{Effect}
 use Rattle.field_bounds.specs.declared.effect.Effect.TheVariants.{Stops}
 use Rattle.field_bounds.specs.Effects.{Base, effects, says_kept}
-use Rattle.field_bounds.specs.Owed.{Place, is_unsure, count_since, max_number, RestartFits}
+use Rattle.field_bounds.specs.Owed.{Place, is_unsure, count_since, max_epoch, RestartFits}
 use Rattle.field_bounds.proofs.Runs.{run_is_lawful}
 use Rattle.field_bounds.proofs.Stops.{stop_closes_all, held_stop}
 use Rattle.kept_records.specs.declared.medium.Mishap.{Mishap}
@@ -136,7 +136,7 @@ module _ (v : SiteValue) (up : Bool) (count : ℕ) (a : Accounts) (was : IsSound
     exact_down (Torn n) epoch told known finds =
         let torn = failing.torn n known in
         let old = finds_of v epoch told finds rs was.rest was.log in
-        let below : nat_le max_number epoch ≡ false = subst (λ (m : ℕ). nat_le max_number m ≡ false) old.0 (lt-leb max_number (greatest rs) torn.0) in
+        let below : nat_le max_epoch epoch ≡ false = subst (λ (m : ℕ). nat_le max_epoch m ≡ false) old.0 (lt-leb max_epoch (greatest rs) torn.0) in
         record {
           reply_is = rw below refl;
           finds = elim torn.1 [
@@ -165,10 +165,10 @@ module _ (v : SiteValue) (up : Bool) (count : ℕ) (a : Accounts) (was : IsSound
     under_down : (m : Mishap) → v.foretold ≡ Some m → StillDown ≡ owed_under v rs was.rest Restart m
     under_down Never known = absurd (failing.never known)
     under_down Read known = refl
-    under_down (Append n) known = rw (lt-leb max_number (greatest rs) (failing.torn n known).0) refl
+    under_down (Append n) known = rw (lt-leb max_epoch (greatest rs) (failing.torn n known).0) refl
     under_down Cut known =
         let is = failing.cut known in
-        rw (lt-leb max_number (greatest rs) is.0, luck_torn was.rest is.1) refl
+        rw (lt-leb max_epoch (greatest rs) is.0, luck_torn was.rest is.1) refl
 
     applies_down : (stood : Bool) (rest : List ℕ) → IsLog bytes (rs ++ adds at Restart StillDown stood rs) rest → Applies v Restart StillDown down
     applies_down stood rest log =
@@ -251,11 +251,11 @@ module _ (v : SiteValue) (up : Bool) (count : ℕ) (a : Accounts) (was : IsSound
   abbrev Full : Reply
   Full = Refused NumbersFull
 
-  under_full : max_number ≤ greatest rs → (v.foretold ≡ Some Read → ⊥) → (m : Mishap) → v.foretold ≡ Some m → Full ≡ owed_under v rs was.rest Restart m
+  under_full : max_epoch ≤ greatest rs → (v.foretold ≡ Some Read → ⊥) → (m : Mishap) → v.foretold ≡ Some m → Full ≡ owed_under v rs was.rest Restart m
   under_full most read Read known = absurd (read known)
-  under_full most read m known = rw (le-leb max_number (greatest rs) most) refl
+  under_full most read m known = rw (le-leb max_epoch (greatest rs) most) refl
 
-  full : (left : Option Mishap) → max_number ≤ greatest rs → (v.foretold ≡ Some Read → ⊥) → left ≡ v.foretold → Ends v Restart Full (record v { history = entry_of v Restart Full ∷ v.history; foretold = left }) up count a
+  full : (left : Option Mishap) → max_epoch ≤ greatest rs → (v.foretold ≡ Some Read → ⊥) → left ≡ v.foretold → Ends v Restart Full (record v { history = entry_of v Restart Full ∷ v.history; foretold = left }) up count a
   full left most read stays =
       let w : SiteValue = record v { history = entry_of v Restart Full ∷ v.history; foretold = left } in
       let fits = refused_fits schema s base v.based was.ground.is_base was.kept v.history rs was.keeps most in
@@ -284,7 +284,7 @@ module _ (v : SiteValue) (up : Bool) (count : ℕ) (a : Accounts) (was : IsSound
             log = subst (λ (all : List Record). IsLog v.bytes all rest) (sym (append-nil other)) is;
             doubt = refl;
             restarts = tt;
-            refuses = subst (λ (all : List Record). max_number ≤ greatest all) (same_log v.bytes rs other was.rest rest was.log is).0 most;
+            refuses = subst (λ (all : List Record). max_epoch ≤ greatest all) (same_log v.bytes rs other was.rest rest was.log is).0 most;
           };
           writes_ = refl;
           foretold = stays;
@@ -292,7 +292,7 @@ module _ (v : SiteValue) (up : Bool) (count : ℕ) (a : Accounts) (was : IsSound
               (subst (λ (x : List ℕ). Full ≡ owed_under v rs x Restart m) (same_log v.bytes rs other was.rest more was.log is).1 (under_full most read m known));
           exact = λ luck epoch last known finds.
               let old = finds_of v epoch last finds rs was.rest was.log in
-              let over : nat_le max_number epoch ≡ true = le-leb max_number epoch (omega (arith, old.0, most)) in
+              let over : nat_le max_epoch epoch ≡ true = le-leb max_epoch epoch (omega (arith, old.0, most)) in
               record { reply_is = rw over refl; finds = finds_same v w epoch last refl refl finds };
         };
       }
@@ -333,7 +333,7 @@ module _ (v : SiteValue) (up : Bool) (count : ℕ) (a : Accounts) (was : IsSound
           last = last_is;
         }
 
-    module _ (bytes : List ℕ) (left : Option Mishap) (some : greatest rs < max_number) (log : IsLog bytes (rs ++ next_restart rs ∷ []) [])
+    module _ (bytes : List ℕ) (left : Option Mishap) (some : greatest rs < max_epoch) (log : IsLog bytes (rs ++ next_restart rs ∷ []) [])
         (torn : (n : ℕ) → v.foretold ≡ Some (Append n) → ⊥) (read : v.foretold ≡ Some Read → ⊥) (cut : v.foretold ≡ Some Cut → was.rest ≡ []) (stays : left ≡ v.foretold) where
       abbrev epoch : ℕ
       epoch = greatest rs + 1
@@ -347,7 +347,7 @@ module _ (v : SiteValue) (up : Bool) (count : ℕ) (a : Accounts) (was : IsSound
       exact_anew : (luck : Luck) (kept : ℕ) (found_ : Last) → v.foretold ≡ Some (mishap_of luck) → Finds v kept found_ → IsExact v Restart (Restarted epoch last) anew luck kept found_
       exact_anew Fine kept found_ known finds =
           let old = finds_of v kept found_ finds rs was.rest was.log in
-          let below : nat_le max_number kept ≡ false = subst (λ (m : ℕ). nat_le max_number m ≡ false) old.0 (lt-leb max_number (greatest rs) some) in
+          let below : nat_le max_epoch kept ≡ false = subst (λ (m : ℕ). nat_le max_epoch m ≡ false) old.0 (lt-leb max_epoch (greatest rs) some) in
           let owed : ◌≡◌ {A = Reply} (Restarted epoch last) (Restarted (kept + 1) found_) = rw (old.0, old.1) refl in
           record {
             reply_is = rw below owed;
@@ -356,11 +356,11 @@ module _ (v : SiteValue) (up : Bool) (count : ℕ) (a : Accounts) (was : IsSound
       exact_anew (Torn n) kept found_ known finds = absurd (torn n known)
 
       under_anew : (m : Mishap) → v.foretold ≡ Some m → Restarted epoch last ≡ owed_under v rs was.rest Restart m
-      under_anew Never known = rw (lt-leb max_number (greatest rs) some) refl
+      under_anew Never known = rw (lt-leb max_epoch (greatest rs) some) refl
       under_anew (Append n) known = absurd (torn n known)
       under_anew Read known = absurd (read known)
       under_anew Cut known =
-          subst (λ (x : List ℕ). Restarted epoch last ≡ owed_with at (greatest rs) last Restart (luck_under Restart x Cut)) (sym (cut known)) (rw (lt-leb max_number (greatest rs) some) refl)
+          subst (λ (x : List ℕ). Restarted epoch last ≡ owed_with at (greatest rs) last Restart (luck_under Restart x Cut)) (sym (cut known)) (rw (lt-leb max_epoch (greatest rs) some) refl)
 
       restarted : Ends v Restart (Restarted epoch last) anew true (length rs + 1) b
       restarted =

@@ -5,7 +5,7 @@ use Rattle.std.specs.List.{flat_map}
 use Rattle.std.proofs.lemmas.Bool.{false≢true}
 use Rattle.std.proofs.lemmas.List.{append-nil, length-append}
 use Rattle.field_bounds.specs.Schema.{SchemaValue}
-use Rattle.field_bounds.specs.Owed.{max_number}
+use Rattle.field_bounds.specs.Owed.{max_epoch}
 use Rattle.kept_records.specs.declared.medium.Device.{Device}
 use Rattle.kept_records.specs.declared.medium.MediumFault.{MediumFault}
 use Rattle.kept_records.specs.declared.medium.MediumFault.TheVariants as faults
@@ -64,7 +64,7 @@ left_append : {T : Type 0} (foretold mid : Option Mishap) (read : T) (n : ℕ) �
 left_append foretold mid read n fate known = (subst (λ (m : Option Mishap). ReadFate m (Ok read) mid) known fate).1
 
 module _ {T : Type 0} (schema : SchemaValue) (s : ℕ) (old new : List ℕ) (foretold mid left : Option Mishap) (before after whole : ℕ) (found : List Record) (standing : Standing) (read : T)
-    (only : AreAll old found whole) (size : whole ≡ length (flat_map text found)) (for_ : IsStandingFor schema s found standing) (below : standing.epoch < max_number)
+    (only : AreAll old found whole) (size : whole ≡ length (flat_map text found)) (for_ : IsStandingFor schema s found standing) (below : standing.epoch < max_epoch)
     (fate_of_read : ReadFate foretold (Ok read) mid) (rs : List Record) (rest : List ℕ) (log : IsLog old rs rest) where
   abbrev next : Record
   next = Restart (standing.epoch + 1)
@@ -84,7 +84,7 @@ module _ {T : Type 0} (schema : SchemaValue) (s : ℕ) (old new : List ℕ) (for
   fits : IsRecord next
   fits = (omega arith, omega (arith, below))
 
-  some : greatest rs < max_number
+  some : greatest rs < max_epoch
   some = omega (arith, below, epoch_is)
 
   length_is : length old ≡ whole + length rest

@@ -1,7 +1,7 @@
 -- What a restart does to a medium, and finds on it (this project).
 use Rattle.std.specs.Prelude.{◌≡◌, ◌≢◌, ◌⊎◌, ℕ, ◌+◌, ◌<◌, ◌≤◌, List, [], ◌∷◌, ◌++◌, length, Option, Some}
 use Rattle.field_bounds.specs.Schema.{SchemaValue}
-use Rattle.field_bounds.specs.Owed.{max_number}
+use Rattle.field_bounds.specs.Owed.{max_epoch}
 use Rattle.kept_records.specs.declared.medium.Mishap.{Mishap}
 use Rattle.kept_records.specs.declared.medium.Mishap.TheVariants.{Never, Append, Cut, Read}
 use Rattle.kept_records.specs.declared.record.Record.{Record}
@@ -42,15 +42,15 @@ pub record FailsOver (rs : List Record) (rest old bytes : List ℕ) (foretold le
   pub leaves : LeavesSome rs (next_restart rs) bytes
   pub left_ : (bytes ≡ old) ⊎ IsCutShort (flat_map text rs) (text (next_restart rs)) bytes
   pub never : foretold ≡ Some Never → ⊥
-  pub torn : (n : ℕ) → foretold ≡ Some (Append n) → (greatest rs < max_number) × LeavesFront n rs (next_restart rs) bytes
-  pub cut : foretold ≡ Some Cut → (greatest rs < max_number) × (rest ≢ [])
+  pub torn : (n : ℕ) → foretold ≡ Some (Append n) → (greatest rs < max_epoch) × LeavesFront n rs (next_restart rs) bytes
+  pub cut : foretold ≡ Some Cut → (greatest rs < max_epoch) × (rest ≢ [])
   pub struck_ : left ≡ struck foretold
 
 -- A restart found no epoch left.
 pub record FullOver (rs : List Record) (old bytes : List ℕ) (foretold left : Option Mishap) (before after : ℕ) : Type 0 where
   pub same : bytes ≡ old
   pub counts : after ≡ before
-  pub full : max_number ≤ greatest rs
+  pub full : max_epoch ≤ greatest rs
   pub read : foretold ≡ Some Read → ⊥
   pub stays : left ≡ foretold
 
@@ -59,7 +59,7 @@ pub record StandsOver (schema : SchemaValue) (s : ℕ) (rs found : List Record) 
   pub counts : after ≡ before
   pub records : found ≡ rs
   pub epoch_is : epoch ≡ greatest rs + 1
-  pub some : greatest rs < max_number
+  pub some : greatest rs < max_epoch
   pub log : IsLog bytes (rs ++ next_restart rs ∷ []) []
   pub torn : (n : ℕ) → foretold ≡ Some (Append n) → ⊥
   pub read : foretold ≡ Some Read → ⊥

@@ -10,7 +10,7 @@ use Rattle.field_bounds.specs.declared.entry.Last.{Last}
 use Rattle.field_bounds.specs.declared.entry.Entry.{Entry}
 use Rattle.field_bounds.specs.Schema.{SchemaValue}
 use Rattle.field_bounds.specs.Effects.{Base}
-use Rattle.field_bounds.specs.Owed.{Place, place, Fits, writes, max_number}
+use Rattle.field_bounds.specs.Owed.{Place, place, Fits, writes, max_epoch}
 use Rattle.site_rights.specs.declared.field_rights.Outcome.{Outcome}
 use Rattle.site_rights.specs.declared.field_rights.Outcome.TheVariants.{Committed, Aborted}
 use Rattle.kept_records.specs.declared.medium.Mishap.{Mishap}
@@ -86,12 +86,12 @@ doubt_from reply rs doubt = doubt
 -- torn end; where the greatest epoch is the last, it is refused.
 abbrev pub RestartsOver : Reply → List Record → Option ℕ → List ℕ → Type 0
 RestartsOver (Restarted epoch found) rs doubt rest =
-    (epoch ≡ greatest rs + 1) × (found ≡ found_of doubt rs) × (rest ≡ []) × (epoch ≤ max_number)
+    (epoch ≡ greatest rs + 1) × (found ≡ found_of doubt rs) × (rest ≡ []) × (epoch ≤ max_epoch)
 RestartsOver reply rs doubt rest = Unit {0}
 
 -- A restart is refused exactly where the greatest epoch kept is the last.
 abbrev pub RefusesOver : Command → Reply → List Record → Type 0
-RefusesOver Restart (Refused refusal) rs = max_number ≤ greatest rs
+RefusesOver Restart (Refused refusal) rs = max_epoch ≤ greatest rs
 RefusesOver Restart reply rs = Unit {0}
 RefusesOver Begin reply rs = Unit {0}
 RefusesOver (Ask txn field change) reply rs = Unit {0}

@@ -10,7 +10,7 @@ use Rattle.field_bounds.specs.Schema.{SchemaValue}
 use Rattle.field_bounds.specs.Limits.{IsSchema}
 use Rattle.field_bounds.specs.declared.effect.Effect.{Effect}
 use Rattle.field_bounds.specs.Effects.{Base, open_txns, escrows_of, held, effects}
-use Rattle.field_bounds.specs.Owed.{count_since, is_begun_reply, is_up, max_number, IsRun}
+use Rattle.field_bounds.specs.Owed.{count_since, is_begun_reply, is_up, max_epoch, IsRun}
 use Rattle.site_rights.specs.declared.field_rights.FieldRights.{FieldRights}
 use Rattle.site_rights.specs.declared.field_rights.Outcome.TheVariants.{Aborted}
 use Rattle.site_rights.specs.Rights.{held_at, ending, by_escrows, AreInRange, AreHeld}
@@ -128,7 +128,7 @@ is_carried (Share field) = true
 pub record RestsOn (schema : SchemaValue) (site : SiteNo) (base : Base) (based : List Record) : Type 0 where
   pub site_in : site.0 < schema.sites
   pub limits : IsSchema schema
-  pub epoch_in : base.epoch ≤ max_number
+  pub epoch_in : base.epoch ≤ max_epoch
   pub is_base : IsBase schema site.0 base based
   pub based_on : Lawful schema site.0 based
 

@@ -1,6 +1,6 @@
 use Rattle.std.proofs.Common.{rules, ◌+◌, ◌<◌, List, ℕ, sym, subst, ◌∙◌}
 use Rattle.std.specs.Prelude.{Ok, Err}
-use Rattle.field_bounds.specs.Owed.{max_number}
+use Rattle.field_bounds.specs.Owed.{max_epoch}
 use Rattle.kept_records.specs.declared.record.Record.{Record}
 use Rattle.kept_records.specs.declared.medium.Device.{Device}
 use Rattle.kept_records.specs.declared.record.Record.TheVariants.{Restart}
@@ -34,7 +34,7 @@ returns-in-Ok-2-clause-resumes g c = λ rs rest log.
     let line : List ℕ = text (Restart (standing.epoch + 1)) in
     let stands = rw c.in-Standing.is at c.in_ok-standing.ensures.standing in
     let for_ = subst (λ (rs : List Record). IsStandingFor schema site rs standing) c.deref.ensures.value stands.1 in
-    let below : standing.epoch < max_number = search rules in
+    let below : standing.epoch < max_epoch = search rules in
     let added = subst (λ (n : ℕ). CutsAndAppends {T = Unit {0}} {E = Device} (Ok tt) read.whole old line new n after) c.in-Ok.ensures.failed
     (subst (λ (b : List ℕ). CutsAndAppends {T = Unit {0}} {E = Device} (Ok tt) read.whole b line new (g.M.Medium.failed c.read_log.new.medium) after) c.in-Ok.ensures.bytes
     (rw c.in-Ok-2.is at c.in_ok-append_restart.ensures.added)) in
@@ -58,7 +58,7 @@ returns-in-Err-clause-resumes g c = λ rs rest log.
     let line : List ℕ = text (Restart (standing.epoch + 1)) in
     let stands = rw c.in-Standing.is at c.in_ok-standing.ensures.standing in
     let for_ = subst (λ (rs : List Record). IsStandingFor schema site rs standing) c.deref.ensures.value stands.1 in
-    let below : standing.epoch < max_number = search rules in
+    let below : standing.epoch < max_epoch = search rules in
     let added = subst (λ (n : ℕ). CutsAndAppends {T = Unit {0}} {E = Device} (Err c.in-Err.field-0) read.whole old line new n after) c.in-Ok.ensures.failed
     (subst (λ (b : List ℕ). CutsAndAppends {T = Unit {0}} {E = Device} (Err c.in-Err.field-0) read.whole b line new (g.M.Medium.failed c.read_log.new.medium) after) c.in-Ok.ensures.bytes
     (rw c.in-Err.is at c.in_ok-append_restart.ensures.added)) in
