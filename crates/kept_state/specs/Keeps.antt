@@ -54,7 +54,17 @@ adds at command (Shares lower raise) stood rs = noted at command
 abbrev pub Tells : Bool → Bool → List Record → Reply → Type 0
 Tells kept stood rs Unsure = stood ≡ kept
 Tells kept stood rs (Restarted epoch found) = epoch ≡ greatest rs + 1
-Tells kept stood rs reply = Unit {0}
+Tells kept stood rs StillDown = Unit {0}
+Tells kept stood rs (Refused refusal) = Unit {0}
+Tells kept stood rs (Begun txn) = Unit {0}
+Tells kept stood rs Granted = Unit {0}
+Tells kept stood rs Committed = Unit {0}
+Tells kept stood rs Aborted = Unit {0}
+Tells kept stood rs (Given total) = Unit {0}
+Tells kept stood rs (Stated total) = Unit {0}
+Tells kept stood rs (Accepted gain) = Unit {0}
+Tells kept stood rs (Between lo hi) = Unit {0}
+Tells kept stood rs (Shares lower raise) = Unit {0}
 
 -- An entry of a site.
 abbrev pub entry_at : SiteNo → Command → Reply → Entry

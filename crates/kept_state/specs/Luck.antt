@@ -3,7 +3,7 @@ use Rattle.std.specs.Prelude.{ℕ, suc, ◌+◌, ◌==◌, nat_le, Bool, true, f
 use Rattle.field_bounds.specs.declared.entry.Command.{Command}
 use Rattle.field_bounds.specs.declared.entry.Command.TheVariants as commands
 use Rattle.field_bounds.specs.declared.entry.Reply.{Reply}
-use Rattle.field_bounds.specs.declared.entry.Reply.TheVariants.{Restarted, Unsure, StillDown, Refused}
+use Rattle.field_bounds.specs.declared.entry.Reply.TheVariants.{Begun, Granted, Committed, Aborted, Given, Stated, Accepted, Between, Shares, Restarted, Unsure, StillDown, Refused}
 use Rattle.field_bounds.specs.declared.entry.Refusal.{Refusal}
 use Rattle.field_bounds.specs.declared.entry.Refusal.TheVariants.{NumbersFull}
 use Rattle.field_bounds.specs.declared.entry.Last.{Last}
@@ -43,7 +43,18 @@ own_lucky s (x ∷ xs) = if x.0.site.0 == s then x ∷ own_lucky s xs else own_l
 abbrev pub covered_after : Reply → Luck → ℕ → ℕ → ℕ
 covered_after (Restarted epoch found) luck size n = 0
 covered_after StillDown (Torn bytes) size n = if nat_le size bytes then suc n else n
-covered_after reply luck size n = n
+covered_after StillDown Fine size n = n
+covered_after Unsure luck size n = n
+covered_after (Refused refusal) luck size n = n
+covered_after (Begun txn) luck size n = n
+covered_after Granted luck size n = n
+covered_after Committed luck size n = n
+covered_after Aborted luck size n = n
+covered_after (Given total) luck size n = n
+covered_after (Stated total) luck size n = n
+covered_after (Accepted gain) luck size n = n
+covered_after (Between lo hi) luck size n = n
+covered_after (Shares lower raise) luck size n = n
 
 abbrev pub covered_restarts : Base → List Lucky → ℕ
 covered_restarts base [] = 0
@@ -56,7 +67,17 @@ abbrev pub doubt_after : Reply → Luck → ℕ → Last → Last
 doubt_after (Restarted epoch found) luck size before = Nothing
 doubt_after Unsure (Torn bytes) size before = if nat_le size bytes then Kept else Lost
 doubt_after Unsure Fine size before = Lost
-doubt_after reply luck size before = before
+doubt_after StillDown luck size before = before
+doubt_after (Refused refusal) luck size before = before
+doubt_after (Begun txn) luck size before = before
+doubt_after Granted luck size before = before
+doubt_after Committed luck size before = before
+doubt_after Aborted luck size before = before
+doubt_after (Given total) luck size before = before
+doubt_after (Stated total) luck size before = before
+doubt_after (Accepted gain) luck size before = before
+doubt_after (Between lo hi) luck size before = before
+doubt_after (Shares lower raise) luck size before = before
 
 abbrev pub doubt : SchemaValue → ℕ → Base → List Lucky → Last
 doubt schema s base [] = Nothing
@@ -100,7 +121,18 @@ owed_with at epoch found (commands.Share field) luck = answer_reply at (commands
 abbrev pub kept_after : Reply → Luck → ℕ → ℕ
 kept_after (Restarted epoch found) luck kept = epoch
 kept_after StillDown (Torn bytes) kept = if nat_le (restart_length (kept + 1)) bytes then kept + 1 else kept
-kept_after reply luck kept = kept
+kept_after StillDown Fine kept = kept
+kept_after Unsure luck kept = kept
+kept_after (Refused refusal) luck kept = kept
+kept_after (Begun txn) luck kept = kept
+kept_after Granted luck kept = kept
+kept_after Committed luck kept = kept
+kept_after Aborted luck kept = kept
+kept_after (Given total) luck kept = kept
+kept_after (Stated total) luck kept = kept
+kept_after (Accepted gain) luck kept = kept
+kept_after (Between lo hi) luck kept = kept
+kept_after (Shares lower raise) luck kept = kept
 
 -- The one reply after what a site has lived through.
 abbrev pub lucky_reply : SchemaValue → ℕ → Base → List Lucky → Command → Luck → Reply

@@ -31,12 +31,14 @@ IsFirstBad schema s bytes n =
 -- A line is named only where it is the first bad one.
 abbrev pub TellsLine : SchemaValue → ℕ → List ℕ → OpenFault → Type 0
 TellsLine schema s bytes (Line n) = IsFirstBad schema s bytes n
-TellsLine schema s bytes fault = Unit {0}
+TellsLine schema s bytes Device = Unit {0}
+TellsLine schema s bytes NoMemory = Unit {0}
 
 -- No line is bad where the bytes are a log of lawful records.
 abbrev pub SparesLogs : SchemaValue → ℕ → List ℕ → OpenFault → Type 0
 SparesLogs schema s bytes (Line n) = (rs : List Record) (rest : List ℕ) → IsLog bytes rs rest → Lawful schema s rs → ⊥
-SparesLogs schema s bytes fault = Unit {0}
+SparesLogs schema s bytes Device = Unit {0}
+SparesLogs schema s bytes NoMemory = Unit {0}
 
 -- The fault of a medium that isn't read.
 abbrev pub fault_of : MediumFault → OpenFault

@@ -5,7 +5,7 @@ use Rattle.field_bounds.specs.declared.id.TxnId.{TxnId}
 use Rattle.field_bounds.specs.declared.entry.Command.{Command}
 use Rattle.field_bounds.specs.declared.entry.Command.TheVariants.{Begin, Escrow as Ask, Commit, Abort, Give, Restate, Accept, Read, Share, Restart}
 use Rattle.field_bounds.specs.declared.entry.Reply.{Reply}
-use Rattle.field_bounds.specs.declared.entry.Reply.TheVariants.{Committed as SaysCommitted, Aborted as SaysAborted, Restarted, Unsure, StillDown, Refused}
+use Rattle.field_bounds.specs.declared.entry.Reply.TheVariants.{Begun, Granted, Committed as SaysCommitted, Aborted as SaysAborted, Given, Stated, Accepted, Between, Shares, Restarted, Unsure, StillDown, Refused}
 use Rattle.field_bounds.specs.declared.entry.Last.{Last}
 use Rattle.field_bounds.specs.declared.entry.Entry.{Entry}
 use Rattle.field_bounds.specs.Schema.{SchemaValue}
@@ -74,25 +74,67 @@ end_reply Aborted = SaysAborted
 abbrev pub failed_after : Reply → ℕ → ℕ
 failed_after Unsure n = n + 1
 failed_after StillDown n = n + 1
-failed_after reply n = n
+failed_after (Restarted epoch found) n = n
+failed_after (Refused refusal) n = n
+failed_after (Begun txn) n = n
+failed_after Granted n = n
+failed_after SaysCommitted n = n
+failed_after SaysAborted n = n
+failed_after (Given total) n = n
+failed_after (Stated total) n = n
+failed_after (Accepted gain) n = n
+failed_after (Between lo hi) n = n
+failed_after (Shares lower raise) n = n
 
 -- Where the record in doubt stands: behind the records that there were, settled by a restart, else as before.
 abbrev pub doubt_from : Reply → List Record → Option ℕ → Option ℕ
 doubt_from Unsure rs doubt = Some (length rs)
 doubt_from (Restarted epoch found) rs doubt = None
-doubt_from reply rs doubt = doubt
+doubt_from StillDown rs doubt = doubt
+doubt_from (Refused refusal) rs doubt = doubt
+doubt_from (Begun txn) rs doubt = doubt
+doubt_from Granted rs doubt = doubt
+doubt_from SaysCommitted rs doubt = doubt
+doubt_from SaysAborted rs doubt = doubt
+doubt_from (Given total) rs doubt = doubt
+doubt_from (Stated total) rs doubt = doubt
+doubt_from (Accepted gain) rs doubt = doubt
+doubt_from (Between lo hi) rs doubt = doubt
+doubt_from (Shares lower raise) rs doubt = doubt
 
 -- A restart tells the greatest epoch kept and one more, and exactly what became of the record in doubt, and leaves no
 -- torn end; where the greatest epoch is the last, it is refused.
 abbrev pub RestartsOver : Reply → List Record → Option ℕ → List ℕ → Type 0
 RestartsOver (Restarted epoch found) rs doubt rest =
     (epoch ≡ greatest rs + 1) × (found ≡ found_of doubt rs) × (rest ≡ []) × (epoch ≤ max_epoch)
-RestartsOver reply rs doubt rest = Unit {0}
+RestartsOver Unsure rs doubt rest = Unit {0}
+RestartsOver StillDown rs doubt rest = Unit {0}
+RestartsOver (Refused refusal) rs doubt rest = Unit {0}
+RestartsOver (Begun txn) rs doubt rest = Unit {0}
+RestartsOver Granted rs doubt rest = Unit {0}
+RestartsOver SaysCommitted rs doubt rest = Unit {0}
+RestartsOver SaysAborted rs doubt rest = Unit {0}
+RestartsOver (Given total) rs doubt rest = Unit {0}
+RestartsOver (Stated total) rs doubt rest = Unit {0}
+RestartsOver (Accepted gain) rs doubt rest = Unit {0}
+RestartsOver (Between lo hi) rs doubt rest = Unit {0}
+RestartsOver (Shares lower raise) rs doubt rest = Unit {0}
 
 -- A restart is refused exactly where the greatest epoch kept is the last.
 abbrev pub RefusesOver : Command → Reply → List Record → Type 0
 RefusesOver Restart (Refused refusal) rs = max_epoch ≤ greatest rs
-RefusesOver Restart reply rs = Unit {0}
+RefusesOver Restart (Restarted epoch found) rs = Unit {0}
+RefusesOver Restart Unsure rs = Unit {0}
+RefusesOver Restart StillDown rs = Unit {0}
+RefusesOver Restart (Begun txn) rs = Unit {0}
+RefusesOver Restart Granted rs = Unit {0}
+RefusesOver Restart SaysCommitted rs = Unit {0}
+RefusesOver Restart SaysAborted rs = Unit {0}
+RefusesOver Restart (Given total) rs = Unit {0}
+RefusesOver Restart (Stated total) rs = Unit {0}
+RefusesOver Restart (Accepted gain) rs = Unit {0}
+RefusesOver Restart (Between lo hi) rs = Unit {0}
+RefusesOver Restart (Shares lower raise) rs = Unit {0}
 RefusesOver Begin reply rs = Unit {0}
 RefusesOver (Ask txn field change) reply rs = Unit {0}
 RefusesOver (Commit txn) reply rs = Unit {0}
@@ -127,17 +169,17 @@ LeavesFailed old new =
 abbrev pub Writes : Place → Command → Reply → List ℕ → List ℕ → Type 0
 Writes at command (Refused refusal) old new = new ≡ old
 Writes at command Unsure old new = IsCutShort old (text (record_at at command)) new
-Writes at Restart StillDown old new = LeavesFailed old new
-Writes at Restart reply old new = Unit {0}
-Writes at Begin reply old new = new ≡ old ++ line_of at Begin
-Writes at (Ask txn field change) reply old new = new ≡ old ++ line_of at (Ask txn field change)
-Writes at (Commit txn) reply old new = new ≡ old ++ line_of at (Commit txn)
-Writes at (Abort txn) reply old new = new ≡ old ++ line_of at (Abort txn)
-Writes at (Give to field kind amount) reply old new = new ≡ old ++ line_of at (Give to field kind amount)
-Writes at (Restate to field kind) reply old new = new ≡ old ++ line_of at (Restate to field kind)
-Writes at (Accept told) reply old new = new ≡ old ++ line_of at (Accept told)
-Writes at (Read field) reply old new = new ≡ old ++ line_of at (Read field)
-Writes at (Share field) reply old new = new ≡ old ++ line_of at (Share field)
+Writes at command StillDown old new = LeavesFailed old new
+Writes at command (Restarted epoch found) old new = Unit {0}
+Writes at command (Begun txn) old new = new ≡ old ++ line_of at command
+Writes at command Granted old new = new ≡ old ++ line_of at command
+Writes at command SaysCommitted old new = new ≡ old ++ line_of at command
+Writes at command SaysAborted old new = new ≡ old ++ line_of at command
+Writes at command (Given total) old new = new ≡ old ++ line_of at command
+Writes at command (Stated total) old new = new ≡ old ++ line_of at command
+Writes at command (Accepted gain) old new = new ≡ old ++ line_of at command
+Writes at command (Between lo hi) old new = new ≡ old ++ line_of at command
+Writes at command (Shares lower raise) old new = new ≡ old ++ line_of at command
 
 -- ---- under a mishap that is known
 
@@ -149,7 +191,17 @@ struck (Some mishap) = Some mishaps.Never
 abbrev pub foretold_after : Reply → Option Mishap → Option Mishap
 foretold_after Unsure foretold = struck foretold
 foretold_after StillDown foretold = struck foretold
-foretold_after reply foretold = foretold
+foretold_after (Restarted epoch found) foretold = foretold
+foretold_after (Refused refusal) foretold = foretold
+foretold_after (Begun txn) foretold = foretold
+foretold_after Granted foretold = foretold
+foretold_after SaysCommitted foretold = foretold
+foretold_after SaysAborted foretold = foretold
+foretold_after (Given total) foretold = foretold
+foretold_after (Stated total) foretold = foretold
+foretold_after (Accepted gain) foretold = foretold
+foretold_after (Between lo hi) foretold = foretold
+foretold_after (Shares lower raise) foretold = foretold
 
 -- The mishap of an append that goes by luck.
 abbrev pub mishap_of : Luck → Mishap
