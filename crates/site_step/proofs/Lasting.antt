@@ -33,11 +33,11 @@ restarted : (full : Bool) (epoch : ℕ) (found : Last) → IsSure (if full then 
 restarted true epoch found = (λ h. cc, λ h. cc)
 restarted false epoch found = (λ h. cc, λ h. cc)
 
-fine_is_sure : (at : Place) (epoch : ℕ) (found : Last) (c : Command) → IsSure (owed_with at epoch found c Fine)
+pub fine_is_sure : (at : Place) (epoch : ℕ) (found : Last) (c : Command) → IsSure (owed_with at epoch found c Fine)
 fine_is_sure at epoch found Restart = restarted (nat_le max_epoch epoch) (epoch + 1) found
 fine_is_sure at epoch found c = reply_is_sure (first (refusals at c)) (answer at c) (answer_is_sure at c refl)
 
-never_under : (v : SiteValue) (rs : List Record) (rest : List ℕ) (c : Command) → owed_under v rs rest c Never ≡ owed_with (here v) (greatest rs) (found_of v.doubt rs) c Fine
+pub never_under : (v : SiteValue) (rs : List Record) (rest : List ℕ) (c : Command) → owed_under v rs rest c Never ≡ owed_with (here v) (greatest rs) (found_of v.doubt rs) c Fine
 never_under v rs rest Restart = refl
 never_under v rs rest c = refl
 

@@ -9,3 +9,4 @@ pub mod Restarts
 pub mod Opens
 mod Calls
 mod Lasting
+mod Excluded

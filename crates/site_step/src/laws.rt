@@ -1,10 +1,18 @@
 //! Laws of what the calls of a site do, each as the contract of a function that does nothing.
 
-ghost use Rattle.std.specs.Prelude.{◌≡◌, List, Some};
+ghost use Rattle.std.specs.Prelude.{◌≡◌, ◌≢◌, ◌≤◌, ◌⊎◌, ℕ, List, [], Some};
 ghost use Rattle.field_bounds.specs.declared.entry.Command.{Command};
+ghost use Rattle.field_bounds.specs.declared.entry.Command.TheVariants.{Restart};
 ghost use Rattle.field_bounds.specs.declared.entry.Reply.{Reply};
-ghost use Rattle.kept_records.specs.declared.medium.Mishap.TheVariants.{Never};
-ghost use Rattle.site_step.specs.Site.{SiteValue, Applies, HoldsLog};
+ghost use Rattle.field_bounds.specs.declared.entry.Reply.TheVariants.{Refused, StillDown};
+ghost use Rattle.field_bounds.specs.declared.entry.Refusal.{Refusal};
+ghost use Rattle.field_bounds.specs.Owed.{max_epoch};
+ghost use Rattle.kept_records.specs.declared.medium.Mishap.{Mishap};
+ghost use Rattle.kept_records.specs.declared.medium.Mishap.TheVariants.{Never, Cut, Read};
+ghost use Rattle.kept_records.specs.declared.record.Record.{Record};
+ghost use Rattle.kept_records.specs.Logs.{IsLog};
+ghost use Rattle.kept_records.specs.Stands.{greatest};
+ghost use Rattle.site_step.specs.Site.{SiteValue, owed_under, Applies, HoldsLog};
 ghost use Rattle.site_step.specs.Calls.{Call, Leads, IsSure, AreSure};
 
 /// Over a medium that is known not to fail, as one in memory, no answer of a site is in doubt and no
@@ -22,4 +30,39 @@ pub fn nothing_in_doubt()
         before.foretold ≡ Some Never → Leads before calls later → AreSure calls }
     ensures lasts { (before later : SiteValue) (calls : List Call) →
         before.foretold ≡ Some Never → Leads before calls later → later.foretold ≡ Some Never }
+{}
+
+/// What the contract of a call leaves no room for, whatever the body, which can't see what mishap is
+/// foretold:
+///
+/// - A refusal leaves the medium's bytes and the mishap that is foretold for it as they were
+///   (`refused`).
+/// - A restart cuts nothing where the last epoch is kept, so that it is refused before anything is
+///   cut: under a mishap for cuts it doesn't fail (`full`).
+/// - Nor does it cut where no bytes stand behind the last line feed (`whole`).
+/// - A restart reads first, at the last epoch too: under a mishap for reads it fails, and the mishap
+///   is used up (`read`).
+/// - No other command cuts or reads: under a mishap for one of these its reply is the one that it has
+///   where none strikes, and the mishap is still to come (`others`).
+///
+/// Source: this project.
+pub fn no_needless_cut_or_failure()
+    ensures refused { (before later : SiteValue) (command : Command) (refusal : Refusal) →
+        Applies before command (Refused refusal) later →
+        (later.bytes ≡ before.bytes) × (later.foretold ≡ before.foretold) }
+    ensures full { (before later : SiteValue) (rs : List Record) (rest : List ℕ) (reply : Reply) →
+        IsLog before.bytes rs rest → before.foretold ≡ Some Cut → max_epoch ≤ greatest rs →
+        Applies before Restart reply later → reply ≢ StillDown }
+    ensures whole { (before later : SiteValue) (rs : List Record) (reply : Reply) →
+        IsLog before.bytes rs [] → before.foretold ≡ Some Cut →
+        Applies before Restart reply later → reply ≢ StillDown }
+    ensures read { (before later : SiteValue) (rs : List Record) (rest : List ℕ) (reply : Reply) →
+        IsLog before.bytes rs rest → before.foretold ≡ Some Read →
+        Applies before Restart reply later →
+        (reply ≡ StillDown) × (later.foretold ≡ Some Never) }
+    ensures others { (before later : SiteValue) (rs : List Record) (rest : List ℕ) (mishap : Mishap)
+        (command : Command) (reply : Reply) →
+        IsLog before.bytes rs rest → before.foretold ≡ Some mishap →
+        ((mishap ≡ Cut) ⊎ (mishap ≡ Read)) → command ≢ Restart → Applies before command reply later →
+        (reply ≡ owed_under before rs rest command Never) × (later.foretold ≡ before.foretold) }
 {}

@@ -6,7 +6,7 @@ mod accounts;
 mod laws;
 mod site;
 
-pub use laws::nothing_in_doubt;
+pub use laws::{no_needless_cut_or_failure, nothing_in_doubt};
 pub use site::{OpenFault, Site};
 
 #[cfg(test)]

@@ -1,6 +1,6 @@
 use Rattle.std.proofs.Common.{rules, ◌≡◌, ◌<◌, length, ap, ◌∙◌}
 use Rattle.std.specs.Prelude.{nat_lt}
-use Rattle.std.proofs.lemmas.Bool.{false≢true, lt-ltb}
+use Rattle.std.proofs.lemmas.Bool.{lt-ltb}
 use Rattle.kept_records.specs.declared.record.Record.TheVariants as records
 use Rattle.site_step.proofs.Calls.{commit_opened, commit_escrows, commit_count}
 use Rattle.site_step.proofs.Settling.{some_there}
