@@ -7,14 +7,12 @@ use Rattle.std.proofs.lemmas.List.{append-nil, length-append}
 use Rattle.field_bounds.specs.Schema.{SchemaValue}
 use Rattle.field_bounds.specs.Owed.{max_epoch}
 use Rattle.kept_records.specs.declared.medium.Device.{Device}
-use Rattle.kept_records.specs.declared.medium.MediumFault.{MediumFault}
-use Rattle.kept_records.specs.declared.medium.MediumFault.TheVariants as faults
 use Rattle.kept_records.specs.declared.medium.Mishap.{Mishap}
 use Rattle.kept_records.specs.declared.medium.Mishap.TheVariants.{Never, Append, Cut, Read}
 use Rattle.kept_records.specs.declared.record.Record.{Record}
 use Rattle.kept_records.specs.declared.record.Record.TheVariants.{Restart}
 use Rattle.kept_records.specs.Text.{text, IsRecord}
-use Rattle.kept_records.specs.Medium.{IsCutShort, ReadFate}
+use Rattle.kept_records.specs.Medium.{IsCutShort}
 use Rattle.kept_records.specs.Logs.{IsLog, AreAll}
 use Rattle.kept_records.specs.Keeping.{CutsAndAppends, StrikesCut, CutAndAppendGo, CutAndAppendFate}
 use Rattle.kept_records.specs.Stands.{greatest, may_stand, LawfulBehind, Lawful, BreaksRule}
@@ -46,26 +44,9 @@ front_left : (n : ℕ) (bytes : List ℕ) (rs : List Record) (r : Record) → Ho
 front_left n bytes rs r (inl front) = inl (front.1, take n (text r), front.0)
 front_left n bytes rs r (inr whole) = inr (whole.1, whole.0)
 
--- the mishap that a read leaves
-left_never : {T : Type 0} (foretold mid : Option Mishap) (read : T) → ReadFate foretold (Ok read) mid → foretold ≡ Some Never → mid ≡ Some Never
-left_never foretold mid read fate known = (subst (λ (m : Option Mishap). ReadFate m (Ok read) mid) known fate).1
-
-left_cut : {T : Type 0} (foretold mid : Option Mishap) (read : T) → ReadFate foretold (Ok read) mid → foretold ≡ Some Cut → mid ≡ Some Cut
-left_cut foretold mid read fate known = (subst (λ (m : Option Mishap). ReadFate m (Ok read) mid) known fate).1
-
-not_read : {T : Type 0} (read : T) → ◌≡◌ {A = Result T MediumFault} (Ok read) (Err faults.Device) → ⊥
-not_read read h = cc
-
-no_bytes_left : (rest : List ℕ) → length rest ≡ 0 → rest ≡ []
-no_bytes_left [] h = refl
-no_bytes_left (b ∷ rest) h = absurd (omega (arith, h))
-
-left_append : {T : Type 0} (foretold mid : Option Mishap) (read : T) (n : ℕ) → ReadFate foretold (Ok read) mid → foretold ≡ Some (Append n) → mid ≡ Some (Append n)
-left_append foretold mid read n fate known = (subst (λ (m : Option Mishap). ReadFate m (Ok read) mid) known fate).1
-
-module _ {T : Type 0} (schema : SchemaValue) (s : ℕ) (old new : List ℕ) (foretold mid left : Option Mishap) (before after whole : ℕ) (found : List Record) (standing : Standing) (read : T)
-    (only : AreAll old found whole) (size : whole ≡ length (flat_map text found)) (for_ : IsStandingFor schema s found standing) (below : standing.epoch < max_epoch)
-    (fate_of_read : ReadFate foretold (Ok read) mid) (rs : List Record) (rest : List ℕ) (log : IsLog old rs rest) where
+module _ (old new : List ℕ) (foretold left : Option Mishap) (before after whole : ℕ) (found : List Record) (standing : Standing)
+    (only : AreAll old found whole) (size : whole ≡ length (flat_map text found)) (below : standing.epoch < max_epoch) (unread : foretold ≡ Some Read → ⊥)
+    (schema : SchemaValue) (s : ℕ) (rs : List Record) (rest : List ℕ) (log : IsLog old rs rest) (for_ : IsStandingFor schema s rs standing) where
   abbrev next : Record
   next = Restart (standing.epoch + 1)
 
@@ -76,7 +57,7 @@ module _ {T : Type 0} (schema : SchemaValue) (s : ℕ) (old new : List ℕ) (for
   size_is = size ∙ ap (λ (all : List Record). length (flat_map text all)) same
 
   epoch_is : standing.epoch ≡ greatest rs
-  epoch_is = for_.for_.epoch ∙ ap greatest same
+  epoch_is = for_.for_.epoch
 
   next_is : next ≡ next_restart rs
   next_is = ap (λ (n : ℕ). Restart (n + 1)) epoch_is
@@ -90,8 +71,8 @@ module _ {T : Type 0} (schema : SchemaValue) (s : ℕ) (old new : List ℕ) (for
   length_is : length old ≡ whole + length rest
   length_is = ap length log.parts ∙ length-append (flat_map text rs) rest ∙ ap (λ (n : ℕ). n + length rest) (sym size_is)
 
-  struck_under : (m : Mishap) (mid_ : Option Mishap) (result : Result Unit Device) → mid_ ≡ Some m → CutAndAppendFate mid_ whole old (text next) result new left → CutAndAppendGo m whole old (text next) result new left
-  struck_under m mid_ result known fate = subst (λ (x : Option Mishap). CutAndAppendFate x whole old (text next) result new left) known fate
+  goes_under : (m : Mishap) (result : Result Unit Device) → foretold ≡ Some m → CutAndAppendFate foretold whole old (text next) result new left → CutAndAppendGo m whole old (text next) result new left
+  goes_under m result known fate = subst (λ (x : Option Mishap). CutAndAppendFate x whole old (text next) result new left) known fate
 
   is_clean : (result : Result Unit Device) → (IsErr result → ⊥) → StrikesCut whole old result new left → rest ≡ []
   is_clean result ok strikes = clean_by rest length_is
@@ -103,30 +84,25 @@ module _ {T : Type 0} (schema : SchemaValue) (s : ℕ) (old new : List ℕ) (for
   not_clean : (device : Device) → StrikesCut whole old (Err device) new left → rest ≢ []
   not_clean device strikes none = false≢true (strikes.1 (omega (arith, length_is, ap length none))).0
 
-  mishap_stays : (m : Option Mishap) → ReadFate m (Ok read) mid → CutAndAppendFate {E = Device} mid whole old (text next) (Ok tt) new left → left ≡ m
-  mishap_stays None read_as fate = subst (λ (x : Option Mishap). CutAndAppendFate {E = Device} x whole old (text next) (Ok tt) new left) read_as fate
-  mishap_stays (Some Never) read_as fate = (struck_under Never mid (Ok tt) read_as.1 fate).1
-  mishap_stays (Some (Append n)) read_as fate = absurd (false≢true (struck_under (Append n) mid (Ok tt) read_as.1 fate).0)
-  mishap_stays (Some Cut) read_as fate =
-      let strikes = struck_under Cut mid (Ok tt) read_as.1 fate in
-      (strikes.1 (omega (arith, length_is, ap length (is_clean (Ok tt) (λ e. false≢true e) strikes)))).1
-  mishap_stays (Some Read) read_as fate = absurd (not_read read read_as.0)
+  mishap_stays : (m : Option Mishap) → (m ≡ Some Read → ⊥) → CutAndAppendFate {E = Device} m whole old (text next) (Ok tt) new left → left ≡ m
+  mishap_stays None past fate = fate
+  mishap_stays (Some Never) past fate = fate.1
+  mishap_stays (Some (Append n)) past fate = absurd (false≢true fate.0)
+  mishap_stays (Some Cut) past fate = (fate.1 (omega (arith, length_is, ap length (is_clean (Ok tt) (λ e. false≢true e) fate)))).1
+  mishap_stays (Some Read) past fate = absurd (past refl)
 
-  mishap_struck : (m : Option Mishap) (device : Device) → ReadFate m (Ok read) mid → CutAndAppendFate mid whole old (text next) (Err device) new left → left ≡ struck m
-  mishap_struck None device read_as fate = subst (λ (x : Option Mishap). CutAndAppendFate x whole old (text next) (Err device) new left) read_as fate
-  mishap_struck (Some Never) device read_as fate = absurd (false≢true (struck_under Never mid (Err device) read_as.1 fate).0)
-  mishap_struck (Some (Append n)) device read_as fate = (struck_under (Append n) mid (Err device) read_as.1 fate).2
-  mishap_struck (Some Cut) device read_as fate = cut_by rest length_is
+  mishap_struck : (m : Option Mishap) (device : Device) → (m ≡ Some Read → ⊥) → CutAndAppendFate m whole old (text next) (Err device) new left → left ≡ struck m
+  mishap_struck None device past fate = fate
+  mishap_struck (Some Never) device past fate = absurd (false≢true fate.0)
+  mishap_struck (Some (Append n)) device past fate = fate.2
+  mishap_struck (Some Cut) device past fate = cut_by rest length_is
     where
-      strikes : StrikesCut whole old (Err device) new left
-      strikes = struck_under Cut mid (Err device) read_as.1 fate
-
       cut_by : (rest_ : List ℕ) → length old ≡ whole + length rest_ → left ≡ Some Never
-      cut_by [] is = absurd (false≢true (strikes.1 (omega (arith, is))).0)
-      cut_by (b ∷ more) is = (strikes.0 (omega (arith, is))).2
-  mishap_struck (Some Read) device read_as fate = absurd (not_read read read_as.0)
+      cut_by [] is = absurd (false≢true (fate.1 (omega (arith, is))).0)
+      cut_by (b ∷ more) is = (fate.0 (omega (arith, is))).2
+  mishap_struck (Some Read) device past fate = absurd (past refl)
 
-  pub stands_over : CutsAndAppends {T = Unit {0}} {E = Device} (Ok tt) whole old (text next) new before after → CutAndAppendFate {E = Device} mid whole old (text next) (Ok tt) new left
+  pub stands_over : CutsAndAppends {T = Unit {0}} {E = Device} (Ok tt) whole old (text next) new before after → CutAndAppendFate {E = Device} foretold whole old (text next) (Ok tt) new left
       → StandsOver schema s rs found (standing.epoch + 1) rest new foretold left before after × IsStandingFor schema s rs standing
   stands_over added fate = (
     record {
@@ -136,14 +112,12 @@ module _ {T : Type 0} (schema : SchemaValue) (s : ℕ) (old new : List ℕ) (for
       some = some;
       log = subst (λ (r : Record). IsLog new (rs ++ r ∷ []) []) next_is
           (subst (λ (bytes : List ℕ). IsLog bytes (rs ++ next ∷ []) []) (sym added.0) (cut_added old rest rs next whole log size_is fits));
-      torn = λ n known.
-          let goes = subst (λ (m : Option Mishap). CutAndAppendFate {E = Device} m whole old (text next) (Ok tt) new left) (left_append foretold mid read n fate_of_read known) fate in
-          false≢true goes.0;
-      read = λ known. let goes = subst (λ (m : Option Mishap). ReadFate m (Ok read) mid) known fate_of_read in not_read read goes.0;
-      cut = λ known. is_clean (Ok tt) (λ e. false≢true e) (struck_under Cut mid (Ok tt) (left_cut foretold mid read fate_of_read known) fate);
-      stays = mishap_stays foretold fate_of_read fate;
+      torn = λ n known. false≢true (goes_under (Append n) (Ok tt) known fate).0;
+      read = unread;
+      cut = λ known. is_clean (Ok tt) (λ e. false≢true e) (goes_under Cut (Ok tt) known fate);
+      stays = mishap_stays foretold unread fate;
     },
-    subst (λ (all : List Record). IsStandingFor schema s all standing) same for_,
+    for_,
   )
 
   whole_is : take whole old ≡ flat_map text rs
@@ -158,23 +132,21 @@ module _ {T : Type 0} (schema : SchemaValue) (s : ℕ) (old new : List ℕ) (for
   leaves_of (inl unchanged) = inl (rest, subst (λ (bytes : List ℕ). IsLog bytes rs rest) (sym unchanged) log)
   leaves_of (inr cut) = subst (λ (r : Record). LeavesSome rs r new) next_is (some_left cut.0 new rs next (cut_cut_short old rest new rs next whole log size_is fits cut))
 
-  pub fails_over : (device : Device) → CutsAndAppends {T = Unit {0}} (Err device) whole old (text next) new before after → CutAndAppendFate mid whole old (text next) (Err device) new left
+  pub fails_over : (device : Device) → CutsAndAppends {T = Unit {0}} (Err device) whole old (text next) new before after → CutAndAppendFate foretold whole old (text next) (Err device) new left
       → FailsOver rs rest old new foretold left before after
   fails_over device added fate =
       record {
         counts = added.1;
         leaves = leaves_of added.0;
         left_ = left_of added.0;
-        never = λ known.
-            let goes = subst (λ (m : Option Mishap). CutAndAppendFate m whole old (text next) (Err device) new left) (left_never foretold mid read fate_of_read known) fate in
-            false≢true goes.0;
+        never = λ known. false≢true (goes_under Never (Err device) known fate).0;
         torn = λ n known.
-            let goes = subst (λ (m : Option Mishap). CutAndAppendFate m whole old (text next) (Err device) new left) (left_append foretold mid read n fate_of_read known) fate in
+            let goes = goes_under (Append n) (Err device) known fate in
             let front = cut_torn old rest rs next whole n log size_is fits in (
               some,
               subst (λ (r : Record). LeavesFront n rs r new) next_is
                   (front_left n new rs next (subst (λ (bytes : List ℕ). HoldsFront n bytes rs next) (sym goes.1) front)),
             );
-        cut = λ known. (some, not_clean device (struck_under Cut mid (Err device) (left_cut foretold mid read fate_of_read known) fate));
-        struck_ = mishap_struck foretold device fate_of_read fate;
+        cut = λ known. (some, not_clean device (goes_under Cut (Err device) known fate));
+        struck_ = mishap_struck foretold device unread fate;
       }

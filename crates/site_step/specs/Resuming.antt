@@ -11,6 +11,7 @@ use Rattle.kept_records.specs.Text.{text}
 use Rattle.kept_records.specs.Medium.{IsCutShort}
 use Rattle.kept_records.specs.Logs.{IsLog}
 use Rattle.kept_records.specs.Stands.{greatest, Lawful}
+use Rattle.log_replay.specs.declared.standing.Standing.{Standing as StandingValue}
 use Rattle.log_replay.specs.Standing.{IsStandingFor}
 use Rattle.site_step.specs.Site.{struck}
 use Rattle.site_step.specs.declared.site.restart.Resumed.{Resumed}
@@ -72,3 +73,9 @@ ResumesOver schema s rs rest Failed old bytes foretold left before after = Fails
 ResumesOver schema s rs rest NumbersFull old bytes foretold left before after = FullOver rs old bytes foretold left before after
 ResumesOver schema s rs rest (Standing found standing epoch) old bytes foretold left before after =
     StandsOver schema s rs found.items epoch rest bytes foretold left before after × IsStandingFor schema s rs standing
+
+-- How a restart went over any records that the bytes hold and that this standing is for.
+abbrev pub ResumesAs : StandingValue → Resumed → List ℕ → List ℕ → Option Mishap → Option Mishap → ℕ → ℕ → Type 0
+ResumesAs standing resumed old bytes foretold left before after =
+    (schema : SchemaValue) (s : ℕ) (rs : List Record) (rest : List ℕ) → IsLog old rs rest → IsStandingFor schema s rs standing
+    → ResumesOver schema s rs rest resumed old bytes foretold left before after

@@ -1,16 +1,20 @@
 //! A restart: the site stands anew on what its medium holds.
 
-ghost use Rattle.std.specs.Prelude.{◌≡◌, ◌<◌, [], List, ℕ, OnErr, IfOk};
+ghost use Rattle.std.specs.Prelude.{◌≡◌, ◌<◌, ◌≤◌, [], List, ℕ, length, Some, OnErr, IfOk};
+ghost use Rattle.std.specs.List.{flat_map};
+ghost use Rattle.field_bounds.specs.Owed.{max_epoch};
+ghost use Rattle.kept_records.specs.declared.medium.Mishap.TheVariants.{Read};
+ghost use Rattle.kept_records.specs.Text.{text};
 ghost use Rattle.field_bounds.specs.declared.entry.Command.TheVariants as commands;
 ghost use Rattle.kept_records.specs.declared.record.Record.{Record};
-ghost use Rattle.kept_records.specs.Logs.{IsLog};
+ghost use Rattle.kept_records.specs.Logs.{IsLog, AreAll};
 ghost use Rattle.kept_state.specs.Doubt.{found_of};
 ghost use Rattle.site_step.specs.Site.{Applies};
-ghost use Rattle.site_step.specs.Resuming.{IsLawfulLog, ResumesOver};
+ghost use Rattle.site_step.specs.Resuming.{IsLawfulLog, ResumesOver, ResumesAs};
 
 use super::Site;
 use field_bounds::{Command, Entry, Last, MAX_EPOCH, Refusal, Reply, Schema, SiteNo};
-use kept_records::{Medium, MediumFault, Record, append_restart, read_log, stands_behind};
+use kept_records::{Medium, MediumFault, ReadLog, Record, append_restart, read_log, stands_behind};
 use log_replay::{Replayed, Standing, replay};
 use std::alloc::{AllocError, Global};
 
@@ -28,6 +32,58 @@ enum Resumed {
         standing: Standing,
         epoch: u32,
     },
+}
+
+/// Cuts a torn end and adds the record of a restart in the next epoch.
+fn add_restart<M: Medium>(
+    alloc: Global,
+    medium: &mut M,
+    log: ReadLog,
+    standing: Standing,
+) -> Result<Resumed, AllocError>
+    requires only { AreAll (M.bytes medium.old) log.records.items log.whole }
+    requires whole { log.whole ≡ length (flat_map text log.records.items) }
+    requires present { log.present ≡ length (M.bytes medium.old) }
+    requires within { log.whole ≤ log.present }
+    requires below { standing.epoch < max_epoch }
+    requires read { M.foretold medium.old ≡ Some Read → ⊥ }
+    ensures resumes { IfOk result (λ resumed. ResumesAs standing resumed (M.bytes medium.old) (M.bytes medium.new) (M.foretold medium.old) (M.foretold medium.new) (M.failed medium.old) (M.failed medium.new)) }
+    ensures bytes { OnErr result (M.bytes medium.new ≡ M.bytes medium.old) }
+    ensures failed { OnErr result (M.failed medium.new ≡ M.failed medium.old) }
+    ensures foretold { OnErr result (M.foretold medium.new ≡ M.foretold medium.old) }
+{
+    let epoch = standing.epoch + 1;
+    match append_restart(alloc, medium, log.whole, log.present, epoch)? {
+        Ok(()) => Ok(Resumed::Standing {
+            records: log.records,
+            standing,
+            epoch,
+        }),
+        Err(_) => Ok(Resumed::Failed),
+    }
+}
+
+/// Adds the record of a restart behind the log that was read, where an epoch is left.
+fn resume_over<M: Medium>(
+    alloc: Global,
+    medium: &mut M,
+    log: ReadLog,
+    standing: Standing,
+) -> Result<Resumed, AllocError>
+    requires only { AreAll (M.bytes medium.old) log.records.items log.whole }
+    requires whole { log.whole ≡ length (flat_map text log.records.items) }
+    requires present { log.present ≡ length (M.bytes medium.old) }
+    requires within { log.whole ≤ log.present }
+    requires read { M.foretold medium.old ≡ Some Read → ⊥ }
+    ensures resumes { IfOk result (λ resumed. ResumesAs standing resumed (M.bytes medium.old) (M.bytes medium.new) (M.foretold medium.old) (M.foretold medium.new) (M.failed medium.old) (M.failed medium.new)) }
+    ensures bytes { OnErr result (M.bytes medium.new ≡ M.bytes medium.old) }
+    ensures failed { OnErr result (M.failed medium.new ≡ M.failed medium.old) }
+    ensures foretold { OnErr result (M.foretold medium.new ≡ M.foretold medium.old) }
+{
+    if standing.epoch >= MAX_EPOCH {
+        return Ok(Resumed::NumbersFull);
+    }
+    add_restart(alloc, medium, log, standing)
 }
 
 /// Reads the medium, cuts a torn end and adds the record of a restart.
@@ -54,18 +110,7 @@ fn resume<M: Medium>(
         Replayed::Standing(standing) => standing,
         Replayed::BreaksRule { number: _ } => unreachable!(),
     };
-    if standing.epoch >= MAX_EPOCH {
-        return Ok(Resumed::NumbersFull);
-    }
-    let epoch = standing.epoch + 1;
-    match append_restart(alloc, medium, log.whole, log.present, epoch)? {
-        Ok(()) => Ok(Resumed::Standing {
-            records: log.records,
-            standing,
-            epoch,
-        }),
-        Err(_) => Ok(Resumed::Failed),
-    }
+    resume_over(alloc, medium, log, standing)
 }
 
 /// What became of the record in doubt, before which so many records stood.
