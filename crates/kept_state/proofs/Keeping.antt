@@ -7,7 +7,7 @@ use Rattle.field_bounds.specs.declared.kind.Kind.{Kind}
 use Rattle.field_bounds.specs.declared.id.TxnId.{TxnId}
 use Rattle.field_bounds.specs.declared.entry.Statement.{Statement}
 use Rattle.field_bounds.specs.declared.entry.Command.{Command}
-use Rattle.field_bounds.specs.declared.entry.Command.TheVariants.{Begin, Escrow, Commit, Abort, Give, Restate, Accept, Read, Share, Restart}
+use Rattle.field_bounds.specs.declared.entry.Command.TheVariants.{Begin, Escrow, Commit, Abort, Give, Restate, Spare, Accept, Read, Share, Restart}
 use Rattle.field_bounds.specs.declared.entry.Reply.{Reply}
 use Rattle.field_bounds.specs.declared.entry.Reply.TheVariants.{Restarted, Unsure, StillDown, Refused}
 use Rattle.field_bounds.specs.declared.entry.Last.{Last}
@@ -18,7 +18,7 @@ use Rattle.field_bounds.specs.Schema.{SchemaValue}
 use Rattle.field_bounds.specs.declared.effect.Effect.{Effect}
 use Rattle.field_bounds.specs.declared.effect.Effect.TheVariants.{Commits, Accepts, Stops}
 use Rattle.field_bounds.specs.Effects.{Base, after, effects, kept_before, escrows_of, share, held, own_rights, given, accepted}
-use Rattle.field_bounds.specs.Owed.{Place, place, first, refusals, answer, count_escrows, gain_of, Fits, RestartFits, AnswerFits, IsRun}
+use Rattle.field_bounds.specs.Owed.{Place, place, first, refusals, answer, count_escrows, spared_of, gain_of, Fits, RestartFits, AnswerFits, IsRun}
 use Rattle.kept_records.specs.Stands.{greatest, given_in, accepted_in, own_in}
 use Rattle.kept_state.specs.Keeps.{IsBase, noted, adds, Tells, Keeps}
 use Rattle.field_bounds.proofs.Refused.{match_cases, is_restart, up_there}
@@ -53,6 +53,7 @@ module _ (at : Place) (bs rs : List Record) (agree : Agree at.base bs at.effects
   agree_answer (Abort txn) kept = no_more _ (agree_abort at.base bs at.effects rs agree txn)
   agree_answer (Give to field kind amount) kept = agree_give at.base bs at.effects rs agree to field kind amount _ refl
   agree_answer (Restate to field kind) kept = no_more _ agree
+  agree_answer (Spare to field kind want) kept = agree_give at.base bs at.effects rs agree to field kind (spared_of at field kind want) _ refl
   agree_answer (Accept told) kept = accept_noted told (nat_lt 0 (gain_of at told.from told.field told.kind told.total)) refl
   agree_answer (Read field) kept = no_more _ agree
   agree_answer (Share field) kept = no_more _ agree
@@ -61,9 +62,11 @@ module _ (at : Place) (bs rs : List Record) (agree : Agree at.base bs at.effects
   pub agree_unsure : (c : Command) (kept : Bool) → After (after at.base kept c Unsure at.effects) (cond kept (noted at c) [])
   agree_unsure (Commit txn) true = commit_noted txn (nat_lt 0 (count_escrows txn at.effects)) refl
   agree_unsure (Give to field kind amount) true = agree_give at.base bs at.effects rs agree to field kind amount _ refl
+  agree_unsure (Spare to field kind want) true = agree_give at.base bs at.effects rs agree to field kind (spared_of at field kind want) _ refl
   agree_unsure (Accept told) true = accept_noted told (nat_lt 0 (gain_of at told.from told.field told.kind told.total)) refl
   agree_unsure (Commit txn) false = no_more _ agree
   agree_unsure (Give to field kind amount) false = no_more _ agree
+  agree_unsure (Spare to field kind want) false = no_more _ agree
   agree_unsure (Accept told) false = no_more _ agree
   agree_unsure Begin true = no_more _ agree
   agree_unsure (Escrow txn field change) true = no_more _ agree

@@ -5,7 +5,7 @@ use Rattle.field_bounds.specs.declared.kind.Kind.TheVariants.{Lower, Raise}
 use Rattle.field_bounds.specs.Worked.{halved}
 use Rattle.kept_records.specs.declared.record.Record.TheVariants as records
 use Rattle.kept_records.specs.Stands.{own_in, committed_in, given_in, accepted_in, greatest}
-use Rattle.kept_state.specs.Worked.{Leaves, IsLawfulAtZero, commit, commit_of_two, gift, found_kept, found_lost, gifts_kept, committed}
+use Rattle.kept_state.specs.Worked.{Leaves, IsLawfulAtZero, commit, commit_of_two, gift, found_kept, found_lost, gifts_kept, spares_kept, committed}
 
 pub commit_kept : Leaves found_kept (commit ∷ records.Restart 1 ∷ records.Restart 2 ∷ [])
 unfolding greatest
@@ -18,6 +18,10 @@ commit_lost = ([], true, ([], false, ([], false, ([], true, ([], true, refl, tt,
 pub gift_kept : Leaves gifts_kept (gift 3 ∷ gift 5 ∷ records.Restart 1 ∷ [])
 unfolding greatest
 gift_kept = (gift 3 ∷ gift 5 ∷ [], true, (gift 3 ∷ [], true, ([], true, refl, tt, refl), refl, refl), refl, refl)
+
+pub spare_kept : Leaves spares_kept (gift 10 ∷ gift 13 ∷ records.Restart 1 ∷ [])
+unfolding greatest
+spare_kept = (gift 10 ∷ gift 13 ∷ [], true, (gift 10 ∷ [], true, ([], true, refl, tt, refl), refl, refl), refl, refl)
 
 pub in_order : Leaves committed (commit_of_two ∷ [])
 in_order = ([], true, ([], true, ([], true, ([], true, refl, tt, refl), tt, refl), tt, refl), tt, refl)

@@ -8,7 +8,7 @@ use Rattle.std.specs.List.{AllByRecursion}
 use Rattle.field_bounds.specs.declared.id.FieldNo.{FieldNo}
 use Rattle.field_bounds.specs.declared.id.TxnId.{TxnId}
 use Rattle.field_bounds.specs.declared.entry.Command.{Command}
-use Rattle.field_bounds.specs.declared.entry.Command.TheVariants.{Begin, Escrow, Commit, Abort, Give, Restate, Accept, Read, Share, Restart}
+use Rattle.field_bounds.specs.declared.entry.Command.TheVariants.{Begin, Escrow, Commit, Abort, Give, Restate, Spare, Accept, Read, Share, Restart}
 use Rattle.field_bounds.specs.declared.entry.Reply.{Reply}
 use Rattle.field_bounds.specs.declared.entry.Reply.TheVariants.{Restarted, Unsure, StillDown, Refused}
 use Rattle.field_bounds.specs.declared.entry.Escrow.{Escrow as EscrowOf}
@@ -18,14 +18,15 @@ use Rattle.field_bounds.specs.Limits.{IsSchema}
 use Rattle.field_bounds.specs.declared.effect.Effect.{Effect}
 use Rattle.field_bounds.specs.declared.effect.Effect.TheVariants.{Begins, Grants, Commits, Gives, Accepts}
 use Rattle.field_bounds.specs.Effects.{Base, after, effects, same_txn, is_begun, escrows_of}
-use Rattle.field_bounds.specs.Owed.{Place, place, first, refusals, answer, writes, epoch_of, epoch_after, count_escrows, max_number, max_epoch, max_escrows, Fits, IsRun}
+use Rattle.field_bounds.specs.Owed.{Place, place, first, refusals, answer, writes, epoch_of, epoch_after, count_escrows, free, spared_of, max_number, max_epoch, max_escrows, Fits, IsRun}
 use Rattle.kept_records.specs.Text.{IsChange, IsEscrow, IsRecord}
 use Rattle.kept_records.specs.declared.record.Record.{Record}
 use Rattle.kept_records.specs.declared.record.Record.TheVariants as records
 use Rattle.kept_records.specs.Stands.{later, greatest}
 use Rattle.kept_state.specs.Keeps.{record_at, opened}
 use Rattle.field_bounds.proofs.Lawful.{same_txn-true}
-use Rattle.field_bounds.proofs.Refused.{none_holds, match_cases, begin_has_a_number, escrow_is_in_schema, escrow_is_some, escrow_is_small, escrow_is_one_of_few, commit_is_opened, give_is_to_a_site, give_is_in_schema, give_is_some, give_has_room, accept_is_from_a_site, accept_is_in_schema, accept_is_some, accept_is_small}
+use Rattle.field_bounds.proofs.Sparing.{spared_is_some}
+use Rattle.field_bounds.proofs.Refused.{none_holds, match_cases, begin_has_a_number, escrow_is_in_schema, escrow_is_some, escrow_is_small, escrow_is_one_of_few, commit_is_opened, give_is_to_a_site, give_is_in_schema, give_is_some, give_has_room, spare_is_to_a_site, spare_is_in_schema, spare_is_some, spare_has_a_share, spare_has_room, accept_is_from_a_site, accept_is_in_schema, accept_is_some, accept_is_small}
 use Rattle.field_bounds.proofs.Doubt.{run_holds, epoch_answer}
 use Rattle.field_bounds.proofs.Runs.{open_is_current}
 
@@ -111,6 +112,9 @@ carried at n is (Give to field kind amount) h kept l =
     let made : IsRanged n (Gives (Some to) field kind amount ∷ at.effects) = record { numbers = l.numbers; few = l.few; each = l.each } in
     (made, either n kept _ _ made l)
 carried at n is (Restate to field kind) h kept l = (l, l)
+carried at n is (Spare to field kind want) h kept l =
+    let made : IsRanged n (Gives (Some to) field kind (spared_of at field kind want) ∷ at.effects) = record { numbers = l.numbers; few = l.few; each = l.each } in
+    (made, either n kept _ _ made l)
 carried at n is (Accept told) h kept l =
     let made : IsRanged n (Accepts told.from told.field told.kind told.total ∷ at.effects) = record { numbers = l.numbers; few = l.few; each = l.each } in
     (made, either n kept _ _ made l)
@@ -194,6 +198,14 @@ record_in_range schema s base o limits run small (Give to field kind amount) h w
       omega (arith, limits.few_sites, give_is_to_a_site at to field kind amount none),
       omega (arith, limits.few_fields, give_is_in_schema at to field kind amount none),
       (omega (arith, give_is_some at to field kind amount none), give_has_room at to field kind amount none),
+    )
+record_in_range schema s base o limits run small (Spare to field kind want) h w =
+    let at = place schema s base o in
+    let none = none_holds (refusals at (Spare to field kind want)) h in
+    let some = spared_is_some (free at field kind) want (spare_has_a_share at to field kind want none) (spare_is_some at to field kind want none) in (
+      omega (arith, limits.few_sites, spare_is_to_a_site at to field kind want none),
+      omega (arith, limits.few_fields, spare_is_in_schema at to field kind want none),
+      (omega (arith, some), spare_has_room at to field kind want none),
     )
 record_in_range schema s base o limits run small (Accept told) h w =
     let at = place schema s base o in

@@ -11,7 +11,7 @@ use Rattle.field_bounds.specs.declared.id.TxnId.{TxnId}
 use Rattle.field_bounds.specs.declared.id.SiteNo.{SiteNo}
 use Rattle.field_bounds.specs.declared.id.FieldNo.{FieldNo}
 use Rattle.field_bounds.specs.declared.entry.Command.{Command}
-use Rattle.field_bounds.specs.declared.entry.Command.TheVariants.{Begin, Escrow, Commit, Abort, Give, Restate, Accept, Read, Share, Restart}
+use Rattle.field_bounds.specs.declared.entry.Command.TheVariants.{Begin, Escrow, Commit, Abort, Give, Restate, Spare, Accept, Read, Share, Restart}
 use Rattle.field_bounds.specs.declared.entry.Escrow.{Escrow as EscrowOf}
 use Rattle.field_bounds.specs.declared.entry.Entry.{Entry}
 use Rattle.kept_records.specs.declared.record.Record.{Record}
@@ -20,11 +20,12 @@ use Rattle.field_bounds.specs.Schema.{SchemaValue}
 use Rattle.field_bounds.specs.declared.effect.Effect.{Effect}
 use Rattle.field_bounds.specs.declared.effect.Effect.TheVariants.{Begins, Grants, Commits, Aborts, Gives, Accepts, Stops}
 use Rattle.field_bounds.specs.Effects.{Base, same_txn, is_begun, is_open, escrows_of, takes, share, own_rights, given, accepted}
-use Rattle.field_bounds.specs.Owed.{Place, place, first, refusals, writes, epoch_of, gain_of, told_so_far, IsRun}
+use Rattle.field_bounds.specs.Owed.{Place, place, first, refusals, writes, epoch_of, free, spared_of, gain_of, told_so_far, IsRun}
 use Rattle.kept_records.specs.Stands.{greatest, given_in, accepted_in, own_in, is_other_site, may_commit, room_in, may_stand}
 use Rattle.kept_state.specs.Keeps.{IsBase, record_at, Keeps}
 use Rattle.field_bounds.proofs.Lawful.{IsLawful, granted-mono, same_txn-true}
-use Rattle.field_bounds.proofs.Refused.{none_holds, is_restart, up_there, commit_is_opened, give_is_to_a_site, give_is_in_schema, give_is_some, give_is_enough, give_is_to_another, accept_is_from_a_site, accept_is_in_schema, accept_is_from_another, accept_has_room}
+use Rattle.field_bounds.proofs.Sparing.{spared_is_there, spared_is_some}
+use Rattle.field_bounds.proofs.Refused.{none_holds, is_restart, up_there, commit_is_opened, give_is_to_a_site, give_is_in_schema, give_is_some, give_is_enough, give_is_to_another, spare_is_to_a_site, spare_is_in_schema, spare_is_some, spare_has_a_share, spare_is_to_another, accept_is_from_a_site, accept_is_in_schema, accept_is_from_another, accept_has_room}
 use Rattle.field_bounds.proofs.Doubt.{nothing_in_doubt}
 use Rattle.field_bounds.proofs.Runs.{run_is_lawful, open_is_current}
 use Rattle.kept_state.proofs.Agreeing.{of_txn_kept}
@@ -114,6 +115,14 @@ module _ (at : Place) (rs : List Record)
         (give_is_to_another at to field kind amount none)
         (omega (arith, give_is_some at to field kind amount none))
         (give_is_enough at to field kind amount none)
+    stands_there (Spare to field kind want) h w =
+        let none = none_holds (refusals at (Spare to field kind want)) h in
+        gift_stands to field kind (spared_of at field kind want)
+        (spare_is_to_a_site at to field kind want none)
+        (spare_is_in_schema at to field kind want none)
+        (spare_is_to_another at to field kind want none)
+        (spared_is_some (free at field kind) want (spare_has_a_share at to field kind want none) (spare_is_some at to field kind want none))
+        (spared_is_there (free at field kind) want)
     stands_there (Accept told) h w =
         let none = none_holds (refusals at (Accept told)) h in
         let f = told.field.0 in

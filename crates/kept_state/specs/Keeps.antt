@@ -6,20 +6,21 @@ use Rattle.field_bounds.specs.declared.id.SiteNo.{SiteNo}
 use Rattle.field_bounds.specs.declared.entry.Command.{Command}
 use Rattle.field_bounds.specs.declared.entry.Command.TheVariants as commands
 use Rattle.field_bounds.specs.declared.entry.Reply.{Reply}
-use Rattle.field_bounds.specs.declared.entry.Reply.TheVariants.{Begun, Granted, Committed, Aborted, Given, Stated, Accepted, Between, Shares, Restarted, Unsure, StillDown, Refused}
+use Rattle.field_bounds.specs.declared.entry.Reply.TheVariants.{Begun, Granted, Committed, Aborted, Given, Stated, Spared, Accepted, Between, Shares, Restarted, Unsure, StillDown, Refused}
 use Rattle.field_bounds.specs.declared.entry.Entry.{Entry}
 use Rattle.field_bounds.specs.Schema.{SchemaValue}
 use Rattle.field_bounds.specs.Effects.{Base, fresh, escrows_of, kept_before}
-use Rattle.field_bounds.specs.Owed.{Place, place, told_so_far, writes}
+use Rattle.field_bounds.specs.Owed.{Place, place, told_so_far, spared_of, writes}
 use Rattle.kept_records.specs.declared.record.Record.{Record}
 use Rattle.kept_records.specs.declared.record.Record.TheVariants.{Commit, Gift, Accept, Restart}
 use Rattle.kept_records.specs.Stands.{greatest, stands, gained_in, spent_in, given_in, accepted_in}
 
 -- The record of a command that is carried out where a site stands: a transaction's escrows in order of grant, the new
--- total of a gift, the total of a statement. For a command that writes none there stands a restart's that no site keeps.
+-- total of a gift or of a spare, the total of a statement. For a command that writes none there stands a restart's that no site keeps.
 abbrev pub record_at : Place → Command → Record
 record_at at (commands.Commit txn) = Commit txn (reverse (escrows_of txn at.effects))
 record_at at (commands.Give to field kind amount) = Gift to field kind (told_so_far at to field kind + amount)
+record_at at (commands.Spare to field kind want) = Gift to field kind (told_so_far at to field kind + spared_of at field kind want)
 record_at at (commands.Accept told) = Accept told.from told.field told.kind told.total
 record_at at commands.Begin = Restart 0
 record_at at (commands.Escrow txn field change) = Restart 0
@@ -45,6 +46,7 @@ adds at command Committed stood rs = noted at command
 adds at command Aborted stood rs = noted at command
 adds at command (Given total) stood rs = noted at command
 adds at command (Stated total) stood rs = noted at command
+adds at command (Spared amount total) stood rs = noted at command
 adds at command (Accepted gain) stood rs = noted at command
 adds at command (Between lo hi) stood rs = noted at command
 adds at command (Shares lower raise) stood rs = noted at command
@@ -62,6 +64,7 @@ Tells kept stood rs Committed = Unit {0}
 Tells kept stood rs Aborted = Unit {0}
 Tells kept stood rs (Given total) = Unit {0}
 Tells kept stood rs (Stated total) = Unit {0}
+Tells kept stood rs (Spared amount total) = Unit {0}
 Tells kept stood rs (Accepted gain) = Unit {0}
 Tells kept stood rs (Between lo hi) = Unit {0}
 Tells kept stood rs (Shares lower raise) = Unit {0}

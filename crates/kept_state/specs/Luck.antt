@@ -3,7 +3,7 @@ use Rattle.std.specs.Prelude.{ℕ, suc, ◌+◌, ◌==◌, nat_le, Bool, true, f
 use Rattle.field_bounds.specs.declared.entry.Command.{Command}
 use Rattle.field_bounds.specs.declared.entry.Command.TheVariants as commands
 use Rattle.field_bounds.specs.declared.entry.Reply.{Reply}
-use Rattle.field_bounds.specs.declared.entry.Reply.TheVariants.{Begun, Granted, Committed, Aborted, Given, Stated, Accepted, Between, Shares, Restarted, Unsure, StillDown, Refused}
+use Rattle.field_bounds.specs.declared.entry.Reply.TheVariants.{Begun, Granted, Committed, Aborted, Given, Stated, Spared, Accepted, Between, Shares, Restarted, Unsure, StillDown, Refused}
 use Rattle.field_bounds.specs.declared.entry.Refusal.{Refusal}
 use Rattle.field_bounds.specs.declared.entry.Refusal.TheVariants.{NumbersFull}
 use Rattle.field_bounds.specs.declared.entry.Last.{Last}
@@ -52,6 +52,7 @@ covered_after Committed luck size n = n
 covered_after Aborted luck size n = n
 covered_after (Given total) luck size n = n
 covered_after (Stated total) luck size n = n
+covered_after (Spared amount total) luck size n = n
 covered_after (Accepted gain) luck size n = n
 covered_after (Between lo hi) luck size n = n
 covered_after (Shares lower raise) luck size n = n
@@ -75,6 +76,7 @@ doubt_after Committed luck size before = before
 doubt_after Aborted luck size before = before
 doubt_after (Given total) luck size before = before
 doubt_after (Stated total) luck size before = before
+doubt_after (Spared amount total) luck size before = before
 doubt_after (Accepted gain) luck size before = before
 doubt_after (Between lo hi) luck size before = before
 doubt_after (Shares lower raise) luck size before = before
@@ -113,6 +115,7 @@ owed_with at epoch found (commands.Commit txn) luck = answer_reply at (commands.
 owed_with at epoch found (commands.Abort txn) luck = answer_reply at (commands.Abort txn) luck
 owed_with at epoch found (commands.Give to field kind amount) luck = answer_reply at (commands.Give to field kind amount) luck
 owed_with at epoch found (commands.Restate to field kind) luck = answer_reply at (commands.Restate to field kind) luck
+owed_with at epoch found (commands.Spare to field kind want) luck = answer_reply at (commands.Spare to field kind want) luck
 owed_with at epoch found (commands.Accept told) luck = answer_reply at (commands.Accept told) luck
 owed_with at epoch found (commands.Read field) luck = answer_reply at (commands.Read field) luck
 owed_with at epoch found (commands.Share field) luck = answer_reply at (commands.Share field) luck
@@ -130,6 +133,7 @@ kept_after Committed luck kept = kept
 kept_after Aborted luck kept = kept
 kept_after (Given total) luck kept = kept
 kept_after (Stated total) luck kept = kept
+kept_after (Spared amount total) luck kept = kept
 kept_after (Accepted gain) luck kept = kept
 kept_after (Between lo hi) luck kept = kept
 kept_after (Shares lower raise) luck kept = kept

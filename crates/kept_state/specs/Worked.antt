@@ -5,12 +5,12 @@ use Rattle.field_bounds.specs.declared.kind.Kind.TheVariants.{Lower}
 use Rattle.field_bounds.specs.declared.entry.Command.{Command}
 use Rattle.field_bounds.specs.declared.entry.Command.TheVariants as commands
 use Rattle.field_bounds.specs.declared.entry.Reply.{Reply}
-use Rattle.field_bounds.specs.declared.entry.Reply.TheVariants.{Begun, Granted, Committed, Given, Unsure}
+use Rattle.field_bounds.specs.declared.entry.Reply.TheVariants.{Begun, Granted, Committed, Given, Spared, Unsure}
 use Rattle.field_bounds.specs.declared.entry.Last.TheVariants.{Kept, Lost}
 use Rattle.field_bounds.specs.declared.entry.Entry.{Entry}
 use Rattle.field_bounds.specs.Effects.{fresh}
 use Rattle.field_bounds.specs.Worked.{halved, stock, txn, lower_by, raise_by, asked}
-use Rattle.field_bounds.specs.WorkedGifts.{site, give_lower}
+use Rattle.field_bounds.specs.WorkedGifts.{site, give_lower, spare_lower}
 use Rattle.field_bounds.specs.WorkedRestarts.{restarted, still_down}
 use Rattle.kept_records.specs.declared.record.Record.{Record}
 use Rattle.kept_records.specs.declared.record.Record.TheVariants.{Commit, Gift}
@@ -83,6 +83,10 @@ found_lost = doubted ++ still_down ∷ restarted 1 Lost ∷ []
 -- Two gifts, of 3 and of 2, and a restart behind the second, which was in doubt.
 abbrev pub gifts_kept : List Entry
 gifts_kept = asked (give_lower 1 3) (Given 3) ∷ asked (give_lower 1 2) Unsure ∷ restarted 1 Kept ∷ []
+
+-- Two spares, of half of 20 and of the 3 that were wanted, and a restart behind the second, which was in doubt.
+abbrev pub spares_kept : List Entry
+spares_kept = asked (spare_lower 1 100) (Spared 10 10) ∷ asked (spare_lower 1 3) Unsure ∷ restarted 1 Kept ∷ []
 
 -- ---- histories with luck
 

@@ -12,12 +12,12 @@ ghost use Rattle.field_bounds.specs.WorkedGifts.{IsOwedAt};
 ghost use Rattle.kept_records.specs.declared.record.Record.TheVariants as records;
 ghost use Rattle.kept_records.specs.Stands.{own_in};
 ghost use Rattle.kept_state.specs.declared.luck.Luck.TheVariants.{Fine, Torn};
-ghost use Rattle.kept_state.specs.Worked.{Leaves, IsLawfulAtZero, replies, commit, commit_of_two, gift, committed, found_kept, found_lost, gifts_kept, torn, torn_twice, torn_gift};
+ghost use Rattle.kept_state.specs.Worked.{Leaves, IsLawfulAtZero, replies, commit, commit_of_two, gift, committed, found_kept, found_lost, gifts_kept, spares_kept, torn, torn_twice, torn_gift};
 
 /// What these histories leave. A commit of 20 in doubt that is kept stands in front of the records
 /// of both restarts, the one that failed too (`kept`), and leaves 0 rights to lower and 50 to raise
 /// (`rights`); where it is lost, the record of the restart stands alone (`lost`). A gift is kept with
-/// all that was given before (`gifts`), and a commit with its escrows in the order in which they were
+/// all that was given before (`gifts`), a spare likewise (`spares`), and a commit with its escrows in the order in which they were
 /// granted (`in_order`). Each of these records may stand (`lawful`), and each reply of
 /// these histories is owed (`owed`): the premises of the laws are met.
 ///
@@ -26,11 +26,12 @@ pub fn worked_records()
     ensures kept { Leaves found_kept (commit ∷ records.Restart 1 ∷ records.Restart 2 ∷ []) }
     ensures lost { Leaves found_lost (records.Restart 1 ∷ []) }
     ensures gifts { Leaves gifts_kept (gift 3 ∷ gift 5 ∷ records.Restart 1 ∷ []) }
+    ensures spares { Leaves spares_kept (gift 10 ∷ gift 13 ∷ records.Restart 1 ∷ []) }
     ensures in_order { Leaves committed (commit_of_two ∷ []) }
     ensures rights { let rs = commit ∷ records.Restart 1 ∷ records.Restart 2 ∷ [] in
         (own_in halved 0 rs 0 Lower ≡ 0) × (own_in halved 0 rs 0 Raise ≡ 50) }
     ensures lawful { IsLawfulAtZero (commit ∷ records.Restart 1 ∷ records.Restart 2 ∷ []) }
-    ensures owed { IsOwedAt 0 found_kept × IsOwedAt 0 found_lost × IsOwedAt 0 gifts_kept × IsOwedAt 0 committed }
+    ensures owed { IsOwedAt 0 found_kept × IsOwedAt 0 found_lost × IsOwedAt 0 gifts_kept × IsOwedAt 0 spares_kept × IsOwedAt 0 committed }
 {}
 
 /// What these histories don't leave: neither a commit that was kept without its record, nor one that

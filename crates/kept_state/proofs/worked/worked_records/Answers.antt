@@ -1,4 +1,4 @@
-use Rattle.kept_state.proofs.LogRows.{commit_kept, commit_lost, gift_kept, in_order, kept_rights, kept_lawful}
+use Rattle.kept_state.proofs.LogRows.{commit_kept, commit_lost, gift_kept, spare_kept, in_order, kept_rights, kept_lawful}
 use Rattle.kept_state.proofs.worked.worked_records.Goals as goal
 
 pub returns-clause-kept : goal.returns-clause-kept
@@ -9,6 +9,9 @@ returns-clause-lost c = commit_lost
 
 pub returns-clause-gifts : goal.returns-clause-gifts
 returns-clause-gifts c = gift_kept
+
+pub returns-clause-spares : goal.returns-clause-spares
+returns-clause-spares c = spare_kept
 
 pub returns-clause-in_order : goal.returns-clause-in_order
 returns-clause-in_order c = in_order
