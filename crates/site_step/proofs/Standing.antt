@@ -11,15 +11,16 @@ use Rattle.field_bounds.specs.declared.kind.Kind.{Kind}
 use Rattle.field_bounds.specs.declared.entry.Escrow.{Escrow}
 use Rattle.field_bounds.specs.declared.entry.Entry.{Entry}
 use Rattle.field_bounds.specs.declared.entry.Command.{Command}
-use Rattle.field_bounds.specs.declared.entry.Command.TheVariants.{Begin, Escrow as Ask, Commit, Abort, Give, Restate, Accept, Read, Share, Restart}
+use Rattle.field_bounds.specs.declared.entry.Command.TheVariants.{Begin, Escrow as Ask, Commit, Abort, Give, Restate, Spare, Accept, Read, Share, Restart}
 use Rattle.field_bounds.specs.declared.entry.Reply.TheVariants.{Begun, Granted, Refused}
 use Rattle.field_bounds.specs.declared.entry.Refusal.{Refusal}
 use Rattle.field_bounds.specs.Kind.{kind_of}
 use Rattle.field_bounds.specs.Schema.{SchemaValue}
 use Rattle.field_bounds.specs.declared.effect.Effect.{Effect}
 use Rattle.field_bounds.specs.Effects.{Base, effects, is_begun, is_open, escrows_of, takes}
-use Rattle.field_bounds.specs.Owed.{Place, place, refusals, first, answer, epoch_of, count_since, is_begun_reply, max_open, max_escrows, writes, told_so_far, IsRun}
-use Rattle.field_bounds.proofs.Refused.{none_holds, begin_is_one_of_few, escrow_is_in_schema, escrow_is_opened, escrow_is_enough, escrow_is_one_of_few, commit_is_opened, abort_is_opened, give_is_in_schema, give_is_enough}
+use Rattle.field_bounds.specs.Owed.{Place, place, refusals, first, answer, epoch_of, count_since, is_begun_reply, max_open, max_escrows, writes, free, told_so_far, spared_of, IsRun}
+use Rattle.field_bounds.proofs.Refused.{none_holds, begin_is_one_of_few, escrow_is_in_schema, escrow_is_opened, escrow_is_enough, escrow_is_one_of_few, commit_is_opened, abort_is_opened, give_is_in_schema, give_is_enough, spare_is_in_schema}
+use Rattle.field_bounds.proofs.Sparing.{spared_is_there}
 use Rattle.field_bounds.proofs.Doubt.{after_refused}
 use Rattle.field_bounds.proofs.Runs.{Ran, run_leaves, next_is_new}
 use Rattle.site_rights.specs.declared.field_rights.FieldRights.{FieldRights}
@@ -133,6 +134,12 @@ module _ (schema : SchemaValue) (s : ℕ) (base : Base) (o : List Entry) (a : Ac
       let none = none_holds (refusals at (Give to field kind amount)) refused in
       omega (arith, was.matches.free field.0 kind (omega (arith, give_is_in_schema at to field kind amount none, was.matches.count)), give_is_enough at to field kind amount none)
 
+  -- and of a spare
+  spare_enough : (to : SiteNo) (field : FieldNo) (kind : Kind) (want : ℕ) → first (refusals at (Spare to field kind want)) ≡ None → spared_of at field kind want ≤ free_at rows field.0 kind
+  spare_enough to field kind want refused =
+      let none = none_holds (refusals at (Spare to field kind want)) refused in
+      omega (arith, was.matches.free field.0 kind (omega (arith, spare_is_in_schema at to field kind want none, was.matches.count)), spared_is_there (free at field kind) want)
+
   -- ---- what is kept and what is set aside
 
   module _ (rs : List Record) (st : StandsOn schema s base o rs a) where
@@ -204,6 +211,7 @@ module _ (schema : SchemaValue) (s : ℕ) (base : Base) (o : List Entry) (a : Ac
     stands_settled n (Abort txn) is w none =
         let both = end_opened Aborted txn none in record { standing = stands_released txn both; aside = aside_released Aborted txn both; last = omega (arith, st.last) }
     stands_settled n (Give to field kind amount) is w none = cc
+    stands_settled n (Spare to field kind want) is w none = cc
     stands_settled n (Accept told) is w none = record { standing = st.standing; aside = record { held = st.aside.held; journal = st.aside.journal }; last = omega (arith, st.last) }
     stands_settled n (Restate to field kind) is w none = record { standing = st.standing; aside = st.aside; last = omega (arith, st.last) }
     stands_settled n (Read field) is w none = record { standing = st.standing; aside = st.aside; last = omega (arith, st.last) }
@@ -250,6 +258,19 @@ module _ (schema : SchemaValue) (s : ℕ) (base : Base) (o : List Entry) (a : Ac
               omega (arith, was.holds.given to.0 field.0 kind other, give_enough to field kind amount none),
             );
           }
+      can_carry (Spare to field kind want) none w may =
+          let parts = gift_parts schema s rs to field kind (told_so_far at to field kind + spared_of at field kind want) may in
+          let here = four_first (is_other_site schema s to.0) (is_field schema field.0) _ _ may in
+          let other = is_other schema s to.0 field.0 here in
+          record {
+            ready = tt;
+            places = has_places schema s rs rows ledger a.standing.epoch st.standing;
+            takes_ = (
+              subst (λ (x : ℕ). (is_other_site schema x to.0 && is_field schema field.0) ≡ true) (sym st.standing.site) here,
+              omega (arith, st.standing.given to.0 field.0 kind other, parts.1),
+              omega (arith, was.holds.given to.0 field.0 kind other, spare_enough to field kind want none),
+            );
+          }
       can_carry (Accept told) none w may =
           let parts = accept_parts schema s rs told.from told.field told.kind told.total may in
           let here = four_first (is_other_site schema s told.from.0) (is_field schema told.field.0) _ _ may in
@@ -287,6 +308,9 @@ module _ (schema : SchemaValue) (s : ℕ) (base : Base) (o : List Entry) (a : Ac
           record { standing = did.0; aside = did.1; last = omega (arith, st.last, last_is) }
       stands_carried n (Give to field kind amount) none w b took same last_is =
           let did = taken_stands es a b (record_at at (Give to field kind amount)) st.standing st.aside took same in
+          record { standing = did.0; aside = record { held = did.1.held; journal = did.1.journal }; last = omega (arith, st.last, last_is) }
+      stands_carried n (Spare to field kind want) none w b took same last_is =
+          let did = taken_stands es a b (record_at at (Spare to field kind want)) st.standing st.aside took same in
           record { standing = did.0; aside = record { held = did.1.held; journal = did.1.journal }; last = omega (arith, st.last, last_is) }
       stands_carried n (Accept told) none w b took same last_is =
           let did = taken_stands es a b (record_at at (Accept told)) st.standing st.aside took same in

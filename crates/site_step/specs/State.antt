@@ -4,7 +4,7 @@ use Rattle.field_bounds.specs.declared.kind.Kind.{Kind}
 use Rattle.field_bounds.specs.declared.id.TxnId.{TxnId}
 use Rattle.field_bounds.specs.declared.id.SiteNo.{SiteNo}
 use Rattle.field_bounds.specs.declared.entry.Command.{Command}
-use Rattle.field_bounds.specs.declared.entry.Command.TheVariants.{Begin, Escrow, Commit, Abort, Give, Restate, Accept, Read, Share, Restart}
+use Rattle.field_bounds.specs.declared.entry.Command.TheVariants.{Begin, Escrow, Commit, Abort, Give, Restate, Spare, Accept, Read, Share, Restart}
 use Rattle.field_bounds.specs.declared.entry.Entry.{Entry}
 use Rattle.field_bounds.specs.Schema.{SchemaValue}
 use Rattle.field_bounds.specs.Limits.{IsSchema}
@@ -66,6 +66,7 @@ settled a Begin = a
 settled a (Escrow txn field change) = a
 settled a (Give to field kind amount) = a
 settled a (Restate to field kind) = a
+settled a (Spare to field kind want) = a
 settled a (Accept told) = a
 settled a (Read field) = a
 settled a (Share field) = a
@@ -91,6 +92,7 @@ CanSettle a Begin = Unit {0}
 CanSettle a (Escrow txn field change) = Unit {0}
 CanSettle a (Give to field kind amount) = Unit {0}
 CanSettle a (Restate to field kind) = Unit {0}
+CanSettle a (Spare to field kind want) = Unit {0}
 CanSettle a (Accept told) = Unit {0}
 CanSettle a (Read field) = Unit {0}
 CanSettle a (Share field) = Unit {0}
@@ -117,6 +119,7 @@ is_carried (Commit txn) = true
 is_carried (Abort txn) = true
 is_carried (Give to field kind amount) = true
 is_carried (Restate to field kind) = true
+is_carried (Spare to field kind want) = true
 is_carried (Accept told) = true
 is_carried (Read field) = true
 is_carried (Share field) = true

@@ -56,6 +56,7 @@ impl Accounts {
             | Command::Escrow { .. }
             | Command::Give { .. }
             | Command::Restate { .. }
+            | Command::Spare { .. }
             | Command::Accept(_)
             | Command::Read { .. }
             | Command::Share { .. }

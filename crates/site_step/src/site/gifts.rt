@@ -1,7 +1,7 @@
 //! Gifts of rights: what refuses them, and what they write.
 
 ghost use Rattle.std.specs.Prelude.{◌≡◌, ◌≢◌, ◌==◌, ◌<◌, ◌≤◌, nat_lt, true, None, length, OnErr, IfOk};
-ghost use Rattle.field_bounds.specs.Owed.{first, refusals, room, told_so_far, gain_of, max_change, max_total, is_up};
+ghost use Rattle.field_bounds.specs.Owed.{first, refusals, room, told_so_far, spared_of, gain_of, max_change, max_total, is_up};
 ghost use Rattle.site_step.specs.Site.{here, base_of, Applies};
 
 use super::Site;
@@ -9,6 +9,7 @@ use field_bounds::{
     Command, FieldNo, Kind, MAX_CHANGE, MAX_TOTAL, Refusal, Reply, SiteNo, Statement, refuse_first,
 };
 use kept_records::{Medium, Record};
+use rebalance::spare_amount;
 use std::alloc::AllocError;
 
 impl<M: Medium> Site<M> {
@@ -34,6 +35,16 @@ impl<M: Medium> Site<M> {
         ensures most { result ≤ max_total }
     {
         self.accounts.standing.ledger.total(to, field, kind)
+    }
+
+    /// What the site spares of its share where so much is wanted.
+    fn spared(&self, field: FieldNo, kind: Kind, want: u64) -> u64
+        requires up { is_up (base_of self.now) self.now.history ≡ true }
+        requires field_in { field.0 < length self.now.schema.fields }
+        ensures value { result ≡ spared_of (here self.now) field kind want }
+        ensures most { result ≤ max_change }
+    {
+        spare_amount(self.free(field, kind), want)
     }
 
     /// What a stated total has above those accepted before from its site.
@@ -96,6 +107,29 @@ impl<M: Medium> Site<M> {
         }
     }
 
+    pub(super) fn spare_refusal(
+        &self,
+        to: SiteNo,
+        field: FieldNo,
+        kind: Kind,
+        want: u64,
+    ) -> Option<Refusal>
+        ensures { result ≡ first (refusals (here self.now) (Command.Spare to field kind want)) }
+    {
+        refuse_first! {
+            !self.is_up() => Refusal::Down,
+            !self.knows(to) => Refusal::NoSite,
+            !self.has(field) => Refusal::NoField,
+            want == 0 => Refusal::Zero,
+            want > MAX_CHANGE => Refusal::TooLarge,
+            self.free(field, kind) == 0 => Refusal::Short { share: self.free(field, kind) },
+            self.is_here(to) => Refusal::SelfGift,
+            self.told_so_far(to, field, kind) + self.spared(field, kind, want) > MAX_TOTAL => Refusal::LedgerFull {
+                total: self.told_so_far(to, field, kind),
+            },
+        }
+    }
+
     pub(super) fn accept_refusal(&self, told: Statement) -> Option<Refusal>
         ensures { result ≡ first (refusals (here self.now) (Command.Accept told)) }
     {
@@ -154,6 +188,34 @@ impl<M: Medium> Site<M> {
             Command::Restate { to, field, kind },
             Reply::Stated { total },
         )
+    }
+
+    pub(super) fn spare(
+        &mut self,
+        to: SiteNo,
+        field: FieldNo,
+        kind: Kind,
+        want: u64,
+    ) -> Result<Reply, AllocError>
+        requires unrefused { first (refusals (here self.old) (Command.Spare to field kind want)) ≡ None }
+        ensures ok { IfOk result (λ reply. Applies self.old (Command.Spare to field kind want) reply self.new) }
+        ensures err { OnErr result (self.new ≡ self.old) }
+    {
+        let amount = self.spared(field, kind, want);
+        let total = self.told_so_far(to, field, kind) + amount;
+        let record = Record::Gift {
+            to,
+            field,
+            kind,
+            total,
+        };
+        let command = Command::Spare {
+            to,
+            field,
+            kind,
+            want,
+        };
+        self.write(command, &record, Reply::Spared { amount, total })
     }
 
     pub(super) fn accept(&mut self, told: Statement) -> Result<Reply, AllocError>

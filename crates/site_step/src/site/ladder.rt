@@ -96,6 +96,7 @@ impl<M: Medium> Site<M> {
             Abort { txn } => self.end_refusal(txn),
             Give { to, field, kind, amount } => self.give_refusal(to, field, kind, amount),
             Restate { to, field, kind } => self.restate_refusal(to, field, kind),
+            Spare { to, field, kind, want } => self.spare_refusal(to, field, kind, want),
             Accept(told) => self.accept_refusal(told),
             Read { field } => self.field_refusal(field),
             Share { field } => self.field_refusal(field),
