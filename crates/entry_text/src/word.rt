@@ -14,24 +14,28 @@ use line_words::{Words, read_number, read_signed};
 use std::marker::Model;
 
 /// The word is this text.
+#[inline(always)]
 pub(crate) fn is_text(word: &[u8], text: &str) -> bool
     ensures { result ≡ bytes_eq word.now text.now }
 {
     word == text.as_bytes()
 }
 
+#[inline(always)]
 fn small(word: &[u8]) -> Option<u16>
     ensures { result ≡ below (2 ^ 16) word.now }
 {
     u16::try_from(read_number(word)?).ok()
 }
 
+#[inline(always)]
 fn medium(word: &[u8]) -> Option<u32>
     ensures { result ≡ below (2 ^ 32) word.now }
 {
     u32::try_from(read_number(word)?).ok()
 }
 
+#[inline(always)]
 #[tactic(auto, unfolding(crate::specs::Reading::site_of))]
 fn site(word: &[u8]) -> Option<SiteNo>
     ensures { result ≡ site_of word.now }
@@ -39,12 +43,14 @@ fn site(word: &[u8]) -> Option<SiteNo>
     Some(SiteNo(small(word)?))
 }
 
+#[inline(always)]
 fn place_of_dot(bytes: &[u8]) -> Option<usize>
     ensures { result ≡ position (λ b. b == 46) bytes.now }
 {
     bytes.iter().position(|b| *b == b'.')
 }
 
+#[inline(always)]
 #[tactic(auto, unfolding(crate::specs::Reading::id_of))]
 fn txn(word: &[u8]) -> Option<TxnId>
     ensures { result ≡ id_of word.now }
@@ -138,6 +144,7 @@ pub fn read_field(schema: &Schema, word: &[u8]) -> Option<FieldNo>
 }
 
 /// Takes a number.
+#[inline]
 #[tactic(auto, unfolding(line_words::specs::Reading::word_at))]
 pub(crate) fn number_at(line: &mut Words<'_>) -> Option<u64>
     ensures { Gives result line.new (word_at (number_of (2 ^ 64)) line.old) }
@@ -154,6 +161,7 @@ pub(crate) fn epoch_at(line: &mut Words<'_>) -> Option<u32>
 }
 
 /// Takes a number with a sign.
+#[inline]
 #[tactic(auto, unfolding(line_words::specs::Reading::word_at))]
 pub(crate) fn signed_at(line: &mut Words<'_>) -> Option<i64>
     ensures { Gives result line.new (word_at signed_of line.old) }
@@ -162,6 +170,7 @@ pub(crate) fn signed_at(line: &mut Words<'_>) -> Option<i64>
 }
 
 /// Takes a site: a number up to 65535.
+#[inline(always)]
 #[tactic(auto, unfolding(line_words::specs::Reading::word_at))]
 pub(crate) fn site_at(line: &mut Words<'_>) -> Option<SiteNo>
     ensures { Gives result line.new (word_at site_of line.old) }
@@ -170,6 +179,7 @@ pub(crate) fn site_at(line: &mut Words<'_>) -> Option<SiteNo>
 }
 
 /// Takes a transaction: `EPOCH.NUMBER`, each a number of u32.
+#[inline(always)]
 #[tactic(auto, unfolding(line_words::specs::Reading::word_at))]
 pub(crate) fn txn_at(line: &mut Words<'_>) -> Option<TxnId>
     ensures { Gives result line.new (word_at id_of line.old) }
@@ -186,6 +196,7 @@ pub(crate) fn kind_at(line: &mut Words<'_>) -> Option<Kind>
 }
 
 /// Takes a field.
+#[inline(always)]
 #[tactic(auto, unfolding(line_words::specs::Reading::word_at))]
 pub(crate) fn field_at(line: &mut Words<'_>, fields: &Fields<'_>) -> Option<FieldNo>
     ensures { Gives result line.new (word_at (field_of fields.now) line.old) }

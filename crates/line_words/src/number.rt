@@ -11,6 +11,7 @@ const GREATEST: u64 = 9_223_372_036_854_775_807;
 // The least i64 without its sign.
 const LEAST: u64 = 9_223_372_036_854_775_808;
 
+#[inline(always)]
 fn has_leading_zero(word: &[u8]) -> bool
     ensures { MatchBool result ((slice_index_or word.now 0 0 ≡ 48) × (1 < length word.now))
         (slice_index_or word.now 0 0 ≡ 48 → length word.now ≤ 1) }
@@ -21,6 +22,7 @@ fn has_leading_zero(word: &[u8]) -> bool
 /// The number that the word spells, 0 to 18,446,744,073,709,551,615: decimal digits, none leading
 /// that is 0, and `0` alone for zero. None where the word spells no number of that range. So each
 /// number has one word. Costs a pass over the word, and no memory.
+#[inline]
 pub fn read_number(word: &[u8]) -> Option<u64>
     ensures value { result ≡ number_of (2 ^ 64) word.now }
     ensures found { IfSome result (λ n. word.now ≡ decimal n) }
@@ -71,6 +73,7 @@ fn positive(word: &[u8]) -> Option<i64>
 /// The number with a sign that the word spells, -9,223,372,036,854,775,808 to
 /// 9,223,372,036,854,775,807: a number, or `-` and a number other than 0. None where the word
 /// spells no number of that range. Costs a pass over the word, and no memory.
+#[inline]
 pub fn read_signed(word: &[u8]) -> Option<i64>
     ensures value { result ≡ signed_of word.now }
     ensures found { IfSome result (λ z. word.now ≡ signed_decimal z) }

@@ -5,6 +5,7 @@ ghost use Rattle.line_words.specs.Words.{words};
 
 use std::marker::Model;
 
+#[inline(always)]
 fn place_of_space(bytes: &[u8]) -> Option<usize>
     ensures { result ≡ position (λ b. b == 32) bytes.now }
 {
@@ -45,6 +46,7 @@ impl<'a> Words<'a> {
 
     /// Takes the next word, or tells None where no word is left. Costs a pass over the word, and
     /// no memory.
+    #[inline(always)]
     pub fn next(&mut self) -> Option<&'a [u8]>
         ensures first { MatchOption result (self.old ≡ []) (λ w. self.old ≡ w.now ∷ self.new) }
     {
