@@ -7,6 +7,7 @@
 //! Source: this project.
 #![tactic(auto)]
 
+mod append;
 mod command;
 mod display;
 mod entry;
@@ -17,12 +18,16 @@ mod verb;
 mod word;
 mod writing;
 
+pub use append::append_reply;
 pub use command::read_command;
 pub use entry::read_entry;
 pub use laws::texts_are_lines;
 pub use line_words::{read_number, read_signed};
 pub use word::{read_field, read_kind};
-pub use writing::{append_entry, put_reply, write_command, write_entry};
+pub use writing::{append_entry, write_command, write_entry};
+
+/// The most bytes of a line, without its line feed.
+pub const MAX_LINE: usize = 256;
 
 #[cfg(test)]
 mod tests;

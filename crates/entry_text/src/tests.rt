@@ -53,10 +53,22 @@ fn is_reply(alloc: Global, schema: &Schema, line: &str, reply: Reply) -> bool {
     if read_entry(schema, line.as_bytes()) != Some(entry) {
         return false;
     }
+    if !is_appended(alloc, line, reply) {
+        return false;
+    }
     match write_entry(alloc, schema, entry) {
         Ok(text) => text.as_str() == line,
         Err(_) => false,
     }
+}
+
+/// Behind a begin at site 0 and an arrow, the reply makes the line.
+fn is_appended(alloc: Global, line: &str, reply: Reply) -> bool {
+    let mut out = match Vec::from_slice(alloc, b"0 begin -> ") {
+        Ok(out) => out,
+        Err(_) => return false,
+    };
+    append_reply(&mut out, reply).is_ok() && out.as_slice() == line.as_bytes()
 }
 
 fn is_refusal(alloc: Global, schema: &Schema, line: &str, refusal: Refusal) -> bool {

@@ -1,10 +1,10 @@
 //! Commands, replies and entries as they are written.
 
 ghost use Rattle.std.specs.Prelude.{◌≡◌, ◌++◌, IfOk, OnOk, OnErr, string_bytes, codes};
-ghost use Rattle.entry_text.specs.Spelling.{command_text, reply_text, entry_text};
+ghost use Rattle.entry_text.specs.Spelling.{command_text, entry_text};
 
 use crate::display::{CommandText, ReplyText};
-use field_bounds::{Command, Entry, Reply, Schema, SiteNo};
+use field_bounds::{Command, Entry, Schema, SiteNo};
 use std::alloc::{AllocError, Global};
 
 /// The line, without an LF, that spells the command at the site under the schema. The error is want
@@ -66,15 +66,4 @@ pub fn append_entry(
 {
     put_entry(text, schema, entry)?;
     out.extend_from_slice(text.as_bytes())
-}
-
-/// Writes the text of the reply, as it stands behind the arrow of an entry, in place of what `text`
-/// holds. The error is want of memory; `text` then holds anything. Its memory is used again, so that
-/// reply after reply costs none once it is large enough.
-pub fn put_reply(text: &mut String, reply: Reply) -> Result<(), AllocError>
-    ensures ok { OnOk result (string_bytes text.new ≡ reply_text reply) }
-{
-    let reply = ReplyText(reply);
-    text.clear();
-    write!(text, "{reply}")
 }

@@ -11,19 +11,20 @@ use Rattle.world_steps.specs.declared.step.WorldStep.{WorldStep}
 use Rattle.world_steps.specs.View.{WorldValue}
 use Rattle.world_steps.proofs.Sound.{StepsFit}
 use Rattle.world_steps.proofs.Living.{one_store}
-use Rattle.escrow_script.specs.Text.{line_text, most_line, IsAnswer, AreAnswers, HasText}
+use Rattle.entry_text.specs.Lines.{max_line}
+use Rattle.escrow_script.specs.Text.{line_text, IsAnswer, AreAnswers, HasText}
 use Rattle.escrow_script.specs.Run.{with_piece, kept, one_more, Answered, Moves, StandsFor}
 
 -- ---- as much of a line as is kept
 
-kept_cases : (line : List ℕ) → (take (most_line + 1) line ≡ line) ⊎ ((most_line < length line) × (most_line < length (take (most_line + 1) line)))
-kept_cases line = elim (cases_lt most_line (length line)) [
-  | inl h ↦ inr (h, rw (length-take (most_line + 1) line) (omega arith))
-  | inr h ↦ inl (take_all (most_line + 1) line (omega arith))
+kept_cases : (line : List ℕ) → (take (max_line + 1) line ≡ line) ⊎ ((max_line < length line) × (max_line < length (take (max_line + 1) line)))
+kept_cases line = elim (cases_lt max_line (length line)) [
+  | inl h ↦ inr (h, rw (length-take (max_line + 1) line) (omega arith))
+  | inr h ↦ inl (take_all (max_line + 1) line (omega arith))
 ]
 
 -- a world that is given as much of a line as is kept answers as to the whole line
-Answered-kept : (line : List ℕ) (old new : WorldValue) (out grown : List ℕ) → Answered (take (most_line + 1) line) old new out grown → Answered line old new out grown
+Answered-kept : (line : List ℕ) (old new : WorldValue) (out grown : List ℕ) → Answered (take (max_line + 1) line) old new out grown → Answered line old new out grown
 Answered-kept line old new out grown answered = elim (kept_cases line) [
   | inl e ↦ subst (λ l. Answered l old new out grown) e answered
   | inr long ↦ elim answered [
@@ -46,7 +47,7 @@ take_of_append n xs ys = elim (cases_lt n (length xs)) [
 
 pub with_piece-kept : (m : Option Machine) (line piece : List ℕ) → with_piece m (kept m line) piece ≡ kept m (line ++ piece)
 with_piece-kept None line piece = refl
-with_piece-kept (Some m) line piece = take_of_append (most_line + 1) line piece
+with_piece-kept (Some m) line piece = take_of_append (max_line + 1) line piece
 
 -- ---- one more line
 

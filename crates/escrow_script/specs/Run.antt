@@ -10,7 +10,8 @@ use Rattle.escrow_script.specs.declared.fault.ScriptFault.{ScriptFault}
 use Rattle.escrow_script.specs.declared.fault.ScriptFault.TheVariants.{Read, TooLong, Write, Header, NoMemory}
 use Rattle.escrow_script.specs.declared.watched.End.{End}
 use Rattle.escrow_script.specs.declared.watched.End.TheVariants.{Nothing}
-use Rattle.escrow_script.specs.Text.{line_text, most_line, Asks, IsBad, IsReply, HasText, IsTextOf}
+use Rattle.entry_text.specs.Lines.{max_line}
+use Rattle.escrow_script.specs.Text.{line_text, Asks, IsBad, IsReply, HasText, IsTextOf}
 use Rattle.world_steps.specs.declared.step.WorldStep.{WorldStep}
 use Rattle.world_steps.specs.declared.step.WorldStep.TheVariants.{Do, Deliver}
 use Rattle.field_bounds.specs.declared.entry.Entry.{Entry}
@@ -21,7 +22,7 @@ use Rattle.escrow_script.specs.Watched.{AppendsFront}
 -- A line with the next bytes: all of them in a header line, and else as many as tell that the line is too long.
 abbrev pub with_piece : Option Machine → List ℕ → List ℕ → List ℕ
 with_piece None line piece = line ++ piece
-with_piece (Some m) line piece = line ++ take (most_line + 1 - length line) piece
+with_piece (Some m) line piece = line ++ take (max_line + 1 - length line) piece
 
 -- The line has the piece at its end, and all else is as before.
 pub record HasKept (old new : Script) (piece : List ℕ) : Type 0 where
@@ -88,7 +89,7 @@ pub record CannotEnd (old new : Script) (fault : ScriptFault) : Type 0 where
 -- As much of a line as is kept: all of a header line, and else as much as tells that it is too long.
 abbrev pub kept : Option Machine → List ℕ → List ℕ
 kept None line = line
-kept (Some m) line = take (most_line + 1) line
+kept (Some m) line = take (max_line + 1) line
 
 -- The machine after the lines, whose text this is.
 abbrev pub StandsFor : Option Machine → List (List ℕ) → List ℕ → Type 0

@@ -7,6 +7,7 @@ use Rattle.field_bounds.specs.Header.{schema_of}
 use Rattle.field_bounds.specs.declared.entry.Entry.{Entry}
 use Rattle.entry_text.specs.Spelling.{command_text, entry_text}
 use Rattle.entry_text.specs.Ranges.{SiteFits, CommandFits}
+use Rattle.entry_text.specs.Lines.{max_line}
 use Rattle.kept_state.specs.declared.luck.Luck.{Luck}
 use Rattle.kept_state.specs.declared.luck.Luck.TheVariants.{Fine, Torn}
 use Rattle.kept_state.specs.Luck.{entries}
@@ -45,16 +46,12 @@ abbrev pub NumbersFit : WorldStep → Type 0
 NumbersFit (Do site command luck) = SiteFits site × CommandFits command × LuckFits luck
 NumbersFit (Deliver k luck) = (k < 2 ^ 64) × LuckFits luck
 
--- The most bytes of a line behind the header, without its LF.
-abbrev pub most_line : ℕ
-most_line = 256
-
 -- A line behind the header asks this step: it is the step's line, which isn't too long, and a world of the schema takes the
 -- step: its site is in the schema, and it is no acceptance, for a statement reaches a site only as it was issued.
 pub record Asks (schema : SchemaValue) (line : List ℕ) (step : WorldStep) : Type 0 where
   pub text : line ≡ step_text schema step
   pub numbers : NumbersFit step
-  pub short : length line ≤ most_line
+  pub short : length line ≤ max_line
   pub fits : StepFits schema step
 
 -- A bad line asks nothing.

@@ -7,12 +7,9 @@ ghost use Rattle.world_steps.specs.declared.step.WorldStep.{WorldStep as StepTyp
 ghost use Rattle.world_steps.specs.World.{luck_of};
 ghost use Rattle.escrow_script.specs.Text.{plain_text, luck_text, step_text, LuckFits, NumbersFit, Asks, IsBad};
 
-use entry_text::{read_command, read_number};
+use entry_text::{MAX_LINE, read_command, read_number};
 use field_bounds::Schema;
 use world_steps::{Luck, World, WorldStep, step_fits};
-
-/// The most bytes of a line behind the header, without its LF.
-pub(crate) const MOST_LINE: usize = 256;
 
 /// The step that a line asks, and the line without its luck.
 #[derive(Drop)]
@@ -102,7 +99,7 @@ pub(crate) fn line_step<'a>(world: &World, line: &'a [u8]) -> Option<Asked<'a>>
     ensures plain { IfSome result (λ asked. asked.plain.now ≡ plain_text world.now.schema asked.step) }
     ensures bad { IfNone result (IsBad world.now.schema line.now) }
 {
-    if line.len() > MOST_LINE {
+    if line.len() > MAX_LINE {
         return None;
     }
     let schema = world.schema();

@@ -3,14 +3,14 @@
 ghost use Rattle.std.specs.Prelude.{◌≡◌, [], ◌∷◌, ◌++◌, ◌≤◌, length, take, codes, Ok, OnOk, OnErr, IfOk, IfErr};
 ghost use Rattle.field_bounds.specs.Header.{schema_of};
 ghost use Rattle.escrow_script.specs.Faults.{TellsHeader};
-ghost use Rattle.entry_text.specs.Spelling.{entry_text};
+ghost use Rattle.entry_text.specs.Spelling.{reply_text, entry_text};
 ghost use Rattle.escrow_script.specs.Text.{line_text, plain_text};
 ghost use Rattle.escrow_script.specs.Run.{IsMadeBy};
 
 use crate::fault::ScriptFault;
 use crate::line::{Asked, line_step};
-use entry_text::{append_entry, put_reply};
-use field_bounds::{Entry, Schema};
+use entry_text::{append_entry, append_reply};
+use field_bounds::{Entry, Reply, Schema};
 use std::alloc::{AllocError, Global};
 use world_steps::{StepReply, World, WorldStep};
 
@@ -37,16 +37,29 @@ pub(crate) fn add_line(out: &mut Vec<u8>, line: &[u8]) -> Result<(), AllocError>
     add(out, kept, b"\n")
 }
 
+// Adds a reply, or, where memory is refused, cuts back to the first `kept` bytes.
+fn add_reply(out: &mut Vec<u8>, kept: usize, reply: Reply) -> Result<(), AllocError>
+    requires { kept ≤ length out.old.items }
+    ensures ok { OnOk result (out.new.items ≡ out.old.items ++ reply_text reply) }
+    ensures err { OnErr result (out.new.items ≡ take kept out.old.items) }
+{
+    if append_reply(out, reply).is_err() {
+        out.truncate(kept);
+        return Err(AllocError);
+    }
+    Ok(())
+}
+
 // Adds an entry and its LF, or changes nothing where memory is refused.
-fn add_entry(out: &mut Vec<u8>, command: &[u8], reply: &[u8]) -> Result<(), AllocError>
+fn add_entry(out: &mut Vec<u8>, command: &[u8], reply: Reply) -> Result<(), AllocError>
     ensures ok { OnOk result (out.new.items
-        ≡ out.old.items ++ (command.now ++ codes " -> " ++ reply.now ++ 10 ∷ [])) }
+        ≡ out.old.items ++ (command.now ++ codes " -> " ++ reply_text reply ++ 10 ∷ [])) }
     ensures err { OnErr result (out.new.items ≡ out.old.items) }
 {
     let kept = out.len();
     add(out, kept, command)?;
     add(out, kept, b" -> ")?;
-    add(out, kept, reply)?;
+    add_reply(out, kept, reply)?;
     add(out, kept, b"\n")
 }
 
@@ -93,10 +106,7 @@ fn add_made(
     ensures err { OnErr result (out.new.items ≡ out.old.items) }
 {
     match asked.step {
-        WorldStep::Do { .. } => {
-            put_reply(text, entry.reply)?;
-            add_entry(out, asked.plain, text.as_bytes())
-        }
+        WorldStep::Do { .. } => add_entry(out, asked.plain, entry.reply),
         WorldStep::Deliver { .. } => add_whole(out, text, schema, entry),
     }
 }
@@ -105,7 +115,7 @@ fn add_made(
 #[derive(Drop)]
 pub(crate) struct Machine {
     world: World,
-    // The text of the last reply or entry; its memory is used again.
+    // The text of the last acceptance; its memory is used again.
     text: String,
 }
 

@@ -5,9 +5,9 @@ ghost use Rattle.escrow_script.specs.Run.{Answers, Fails};
 ghost use Rattle.escrow_script.specs.Watched.{known, last_of, HasFailed, GaveNothing, HasRefused};
 
 use crate::fault::ScriptFault;
-use crate::line::MOST_LINE;
 use crate::machine::{Machine, add_line};
 use crate::watched::Watched;
+use entry_text::MAX_LINE;
 use field_bounds::{MAX_HEADER, SchemaFault};
 use std::alloc::{AllocError, Global};
 use std::io::{Read, Write};
@@ -83,7 +83,7 @@ impl Script {
         ensures not_write { IfErr result (λ fault. fault ≢ ScriptFault.Write) }
     {
         if self.machine.is_some() {
-            let room = (MOST_LINE + 1)
+            let room = (MAX_LINE + 1)
                 .saturating_sub(self.line.len())
                 .min(piece.len());
             self.line.extend_from_slice(front(piece, room))?;

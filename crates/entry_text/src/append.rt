@@ -1,0 +1,167 @@
+//! Replies added to bytes piece by piece, for a script that answers line after line. `write_entry`
+//! and `append_entry` spell them by `Display`; both ways write `reply_text`.
+
+ghost use Rattle.std.specs.Prelude.{◌≡◌, ◌++◌, ◌∷◌, [], OnOk, OnErr, length, take, codes};
+ghost use Rattle.std.specs.Fmt.{decimal, signed_decimal};
+ghost use Rattle.line_words.specs.Words.{line};
+ghost use Rattle.entry_text.specs.Spelling.{id_text, last_text, refusal_words, reply_text};
+
+use field_bounds::{Last, Refusal, Reply, TxnId};
+use itoa::Buffer;
+use std::alloc::AllocError;
+
+// Adds a number.
+#[inline]
+fn push_number(out: &mut Vec<u8>, number: u64) -> Result<(), AllocError>
+    ensures ok { OnOk result (out.new.items ≡ out.old.items ++ decimal number) }
+    ensures err { OnErr result (out.new.items ≡ out.old.items) }
+{
+    let mut buffer = Buffer::new();
+    out.extend_from_slice(buffer.format(number).as_bytes())
+}
+
+// Adds a number of u32.
+#[inline]
+fn push_medium(out: &mut Vec<u8>, number: u32) -> Result<(), AllocError>
+    ensures ok { OnOk result (out.new.items ≡ out.old.items ++ decimal number) }
+    ensures err { OnErr result (out.new.items ≡ out.old.items) }
+{
+    let mut buffer = Buffer::new();
+    out.extend_from_slice(buffer.format(number).as_bytes())
+}
+
+// Adds a number with its sign.
+#[inline]
+fn push_signed(out: &mut Vec<u8>, number: i64) -> Result<(), AllocError>
+    ensures ok { OnOk result (out.new.items ≡ out.old.items ++ signed_decimal number) }
+    ensures err { OnErr result (out.new.items ≡ out.old.items) }
+{
+    let mut buffer = Buffer::new();
+    out.extend_from_slice(buffer.format(number).as_bytes())
+}
+
+// Adds some words and a number.
+#[inline]
+fn push_counted(out: &mut Vec<u8>, words: &[u8], number: u64) -> Result<(), AllocError>
+    ensures ok { OnOk result (out.new.items ≡ out.old.items ++ (words.now ++ decimal number)) }
+    ensures err { OnErr result (take (length out.old.items) out.new.items ≡ out.old.items) }
+{
+    out.extend_from_slice(words)?;
+    push_number(out, number)
+}
+
+#[inline]
+fn push_begun(out: &mut Vec<u8>, txn: TxnId) -> Result<(), AllocError>
+    ensures ok { OnOk result (out.new.items
+        ≡ out.old.items ++ line (codes "begun" ∷ id_text txn ∷ [])) }
+    ensures err { OnErr result (take (length out.old.items) out.new.items ≡ out.old.items) }
+{
+    out.extend_from_slice(b"begun ")?;
+    push_medium(out, txn.epoch)?;
+    out.extend_from_slice(b".")?;
+    push_medium(out, txn.number)
+}
+
+#[inline]
+fn push_between(out: &mut Vec<u8>, lo: i64, hi: i64) -> Result<(), AllocError>
+    ensures ok { OnOk result (out.new.items
+        ≡ out.old.items ++ line (codes "between" ∷ signed_decimal lo ∷ signed_decimal hi ∷ [])) }
+    ensures err { OnErr result (take (length out.old.items) out.new.items ≡ out.old.items) }
+{
+    out.extend_from_slice(b"between ")?;
+    push_signed(out, lo)?;
+    out.extend_from_slice(b" ")?;
+    push_signed(out, hi)
+}
+
+fn push_shares(out: &mut Vec<u8>, lower: u64, raise: u64) -> Result<(), AllocError>
+    ensures ok { OnOk result (out.new.items
+        ≡ out.old.items ++ line (codes "share" ∷ decimal lower ∷ decimal raise ∷ [])) }
+    ensures err { OnErr result (take (length out.old.items) out.new.items ≡ out.old.items) }
+{
+    out.extend_from_slice(b"share ")?;
+    push_number(out, lower)?;
+    out.extend_from_slice(b" ")?;
+    push_number(out, raise)
+}
+
+fn last_word(last: Last) -> &'static [u8]
+    ensures { result.now ≡ last_text last }
+{
+    match last {
+        Last::Nothing => b"nothing",
+        Last::Kept => b"kept",
+        Last::Lost => b"lost",
+    }
+}
+
+fn push_restarted(out: &mut Vec<u8>, epoch: u32, last: Last) -> Result<(), AllocError>
+    ensures ok { OnOk result (out.new.items
+        ≡ out.old.items ++ line (codes "restarted" ∷ decimal epoch ∷ last_text last ∷ [])) }
+    ensures err { OnErr result (take (length out.old.items) out.new.items ≡ out.old.items) }
+{
+    out.extend_from_slice(b"restarted ")?;
+    push_medium(out, epoch)?;
+    out.extend_from_slice(b" ")?;
+    out.extend_from_slice(last_word(last))
+}
+
+fn push_refusal(out: &mut Vec<u8>, refusal: Refusal) -> Result<(), AllocError>
+    ensures ok { OnOk result (out.new.items
+        ≡ out.old.items ++ line (codes "refused" ∷ refusal_words refusal)) }
+    ensures err { OnErr result (take (length out.old.items) out.new.items ≡ out.old.items) }
+{
+    match refusal {
+        Refusal::Down => out.extend_from_slice(b"refused 1 down"),
+        Refusal::NoSite => out.extend_from_slice(b"refused 2 no site"),
+        Refusal::NoField => out.extend_from_slice(b"refused 3 no field"),
+        Refusal::NoTransaction => out.extend_from_slice(b"refused 4 no transaction"),
+        Refusal::Zero => out.extend_from_slice(b"refused 5 zero"),
+        Refusal::TooLarge => out.extend_from_slice(b"refused 6 too large"),
+        Refusal::Short { share } => push_counted(out, b"refused 7 short ", share),
+        Refusal::SelfGift => out.extend_from_slice(b"refused 8 self gift"),
+        Refusal::LedgerFull { total } => push_counted(out, b"refused 9 ledger full ", total),
+        Refusal::NotYours => out.extend_from_slice(b"refused 10 not yours"),
+        Refusal::Forged { room } => push_counted(out, b"refused 11 forged ", room),
+        Refusal::TooManyOpen => out.extend_from_slice(b"refused 12 too many open"),
+        Refusal::TooManyEscrows => out.extend_from_slice(b"refused 13 too many escrows"),
+        Refusal::NumbersFull => out.extend_from_slice(b"refused 14 numbers full"),
+        Refusal::NothingGiven => out.extend_from_slice(b"refused 15 nothing given"),
+    }
+}
+
+#[inline]
+fn push_reply(out: &mut Vec<u8>, reply: Reply) -> Result<(), AllocError>
+    ensures ok { OnOk result (out.new.items ≡ out.old.items ++ reply_text reply) }
+    ensures err { OnErr result (take (length out.old.items) out.new.items ≡ out.old.items) }
+{
+    match reply {
+        Reply::Begun(txn) => push_begun(out, txn),
+        Reply::Granted => out.extend_from_slice(b"granted"),
+        Reply::Committed => out.extend_from_slice(b"committed"),
+        Reply::Aborted => out.extend_from_slice(b"aborted"),
+        Reply::Given { total } => push_counted(out, b"given ", total),
+        Reply::Stated { total } => push_counted(out, b"stated ", total),
+        Reply::Accepted { gain } => push_counted(out, b"accepted ", gain),
+        Reply::Between { lo, hi } => push_between(out, lo, hi),
+        Reply::Shares { lower, raise } => push_shares(out, lower, raise),
+        Reply::Restarted { epoch, last } => push_restarted(out, epoch, last),
+        Reply::Unsure => out.extend_from_slice(b"unsure"),
+        Reply::StillDown => out.extend_from_slice(b"still down"),
+        Reply::Refused(refusal) => push_refusal(out, refusal),
+    }
+}
+
+/// Adds the text of the reply, as it stands behind the arrow of an entry, behind what `out` holds.
+/// The error is want of memory, and leaves `out` as it was. Costs no memory but that of `out`.
+pub fn append_reply(out: &mut Vec<u8>, reply: Reply) -> Result<(), AllocError>
+    ensures ok { OnOk result (out.new.items ≡ out.old.items ++ reply_text reply) }
+    ensures err { OnErr result (out.new.items ≡ out.old.items) }
+{
+    let kept = out.len();
+    if push_reply(out, reply).is_err() {
+        out.truncate(kept);
+        return Err(AllocError);
+    }
+    Ok(())
+}
