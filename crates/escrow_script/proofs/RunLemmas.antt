@@ -15,9 +15,9 @@ use Rattle.field_bounds.specs.Header.{schema_of}
 use Rattle.escrow_script.specs.Lines.{whole_lines, last_part, last_line, with_header, script_lines}
 use Rattle.escrow_script.specs.Text.{IsTextOf}
 use Rattle.escrow_script.specs.Watched.{AppendsFront}
-use Rattle.escrow_script.specs.Run.{At, HasKept, CannotKeep, HasEnded, CannotEnd, HasWritten, Stops, kept, with_piece, BeginsWithBreak, Leaves, LeavesFront, StandsFor, Moves, Completes}
+use Rattle.escrow_script.specs.Run.{At, HasKept, CannotKeep, HasEnded, CannotEnd, HasAnswered, HasWritten, Stops, kept, with_piece, BeginsWithBreak, Leaves, LeavesFront, StandsFor, Moves, Completes}
 use Rattle.escrow_script.proofs.LineLemmas.{whole_lines-unbroken, last_part-unbroken, whole_lines-broken, last_part-broken, last_part_after-none}
-use Rattle.escrow_script.proofs.TextLemmas.{StandsFor-more, with_piece-kept}
+use Rattle.escrow_script.proofs.TextLemmas.{StandsFor-next, StandsFor-more, with_piece-kept}
 
 StandsFor-along : (m n : Option Machine) (ks ls : List (List ℕ)) (s t : List ℕ) → m ≡ n → ks ≡ ls → s ≡ t → StandsFor m ks s → StandsFor n ls t
 StandsFor-along m n ks ls s t em el et stands =
@@ -225,6 +225,36 @@ Completes-stands (Some m) lines before after written out some appended stands = 
 some_lines : (m : Option Machine) (wl : List (List ℕ)) (text : List ℕ) → IsSome m → StandsFor m wl text → with_header (wl ++ []) ≡ wl
 some_lines None wl text some stands = cc
 some_lines (Some m) wl text some stands = with_header-some wl [] stands.header stands.behind stands.parts ∙ append-nil wl
+
+-- ---- a line of which nothing was kept
+
+pub At-whole : (read line : List ℕ) (old new : Script) (before after : Option (List ℕ)) → All (λ b. b ≢ 10) line
+    → old.line.items ≡ [] → At read old before after → HasAnswered old new line → At (read ++ (line ++ 10 ∷ [])) new before after
+At-whole read line old new before after unbroken empty at step =
+    let none : last_part read ≡ [] = kept-empty old.machine (last_part read) (sym at.line ∙ empty) in
+    let last : last_part (read ++ line) ≡ line = last_part-unbroken read line unbroken ∙ ap (λ l. l ++ line) none in
+    let more : whole_lines ((read ++ line) ++ 10 ∷ []) ≡ whole_lines read ++ line ∷ [] =
+    whole_lines-broken (read ++ line) ∙ ap (λ ls. ls ++ last_part (read ++ line) ∷ []) (whole_lines-unbroken read line unbroken)
+    ∙ ap (λ l. whole_lines read ++ l ∷ []) last in
+    At-along _ _ _ _ _ (append_assoc read line (10 ∷ [])) (record {
+      written = at.written;
+      appended = at.appended;
+      stands = subst (λ ls. StandsFor new.machine ls (at.written ++ new.out.items)) (sym more)
+          (StandsFor-next old.machine new.machine (whole_lines read) line at.written old.out.items new.out.items at.stands step.machine);
+      line = step.kept ∙ empty ∙ sym (ap (kept new.machine) (last_part-broken (read ++ line)) ∙ kept-nil new.machine);
+      lines = step.lines ∙ ap (λ n. n + 1) at.lines ∙ sym (length_push (whole_lines read) line) ∙ ap length (sym more);
+    })
+
+-- memory ran out before anything changed what is to be written
+pub Stops-unchanged : (read back : List ℕ) (old new : Script) (before after : Option (List ℕ)) (ended : Type 0)
+    → new.out.items ≡ old.out.items → At read old before after → Stops NoMemory (read ++ back) new before after ended
+Stops-unchanged read back old new before after ended same at = record {
+  front = read;
+  back = back;
+  parts = refl;
+  why = tt;
+  text = At-leaves read old new before after at same;
+}
 
 pub Finishes-between : (read : List ℕ) (s : Script) (before after : Option (List ℕ))
     → IsSome s.machine → s.line.items ≡ [] → At read s before after → Completes before after s.out.items (script_lines read)

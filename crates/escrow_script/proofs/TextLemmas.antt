@@ -117,20 +117,32 @@ answered-grows line old new out grown (inr asked) = record {
 }
 
 -- the machine after one more line
-pub StandsFor-more : (m n : Option Machine) (lines : List (List ℕ)) (line written out grown : List ℕ)
-    → StandsFor m lines (written ++ out) → Moves m (kept m line) n out grown → StandsFor n (lines ++ line ∷ []) (written ++ grown)
-StandsFor-more None None lines line written out grown stands moves = absurd moves
-StandsFor-more None (Some n) lines line written out grown stands moves =
+pub StandsFor-next : (m n : Option Machine) (lines : List (List ℕ)) (line written out grown : List ℕ)
+    → StandsFor m lines (written ++ out) → Moves m line n out grown → StandsFor n (lines ++ line ∷ []) (written ++ grown)
+StandsFor-next None None lines line written out grown stands moves = absurd moves
+StandsFor-next None (Some n) lines line written out grown stands moves =
     let (start, empty, text) = moves in
     let first : lines ++ line ∷ [] ≡ line ∷ [] = ap (λ l. l ++ line ∷ []) stands.0 in
     let only : written ++ grown ≡ line_text line =
     ap (λ t. written ++ t) text ∙ sym (append_assoc written out (line_text line)) ∙ ap (λ t. t ++ line_text line) stands.1 in
     rw (first, only, empty) (HasText-start n.world.schema line start)
-StandsFor-more (Some m) None lines line written out grown stands moves = absurd moves
-StandsFor-more (Some m) (Some n) lines line written out grown stands moves =
-    let grows = answered-grows line m.world n.world out grown (Answered-kept line m.world n.world out grown moves) in
+StandsFor-next (Some m) None lines line written out grown stands moves = absurd moves
+StandsFor-next (Some m) (Some n) lines line written out grown stands moves =
+    let grows = answered-grows line m.world n.world out grown moves in
     let text : (written ++ out) ++ grows.reply ≡ written ++ grown =
     append_assoc written out grows.reply ∙ ap (λ t. written ++ t) (sym grows.text) in
     subst (λ (s : SchemaValue). HasText s (reverse n.world.steps) (lines ++ line ∷ []) (written ++ grown)) (sym grows.same)
     (subst (HasText m.world.schema (reverse n.world.steps) (lines ++ line ∷ [])) text
     (HasText-more m.world.schema (reverse m.world.steps) (reverse n.world.steps) lines line (written ++ out) grows.reply stands grows.answer))
+
+Moves-kept : (m n : Option Machine) (line out grown : List ℕ) → Moves m (kept m line) n out grown → Moves m line n out grown
+Moves-kept None None line out grown moves = moves
+Moves-kept None (Some n) line out grown moves = moves
+Moves-kept (Some m) None line out grown moves = moves
+Moves-kept (Some m) (Some n) line out grown moves = Answered-kept line m.world n.world out grown moves
+
+-- the same, where the machine has as much of the line as is kept
+pub StandsFor-more : (m n : Option Machine) (lines : List (List ℕ)) (line written out grown : List ℕ)
+    → StandsFor m lines (written ++ out) → Moves m (kept m line) n out grown → StandsFor n (lines ++ line ∷ []) (written ++ grown)
+StandsFor-more m n lines line written out grown stands moves =
+    StandsFor-next m n lines line written out grown stands (Moves-kept m n line out grown moves)

@@ -86,6 +86,12 @@ pub record CannotEnd (old new : Script) (fault : ScriptFault) : Type 0 where
   pub why : EndFault fault old
   pub out : new.out.items ≡ old.out.items
 
+-- The machine has a line of which nothing was kept, and what it answers is to be written.
+pub record HasAnswered (old new : Script) (line : List ℕ) : Type 0 where
+  pub machine : Moves old.machine line new.machine old.out.items new.out.items
+  pub kept : new.line.items ≡ old.line.items
+  pub lines : new.lines ≡ old.lines + 1
+
 -- As much of a line as is kept: all of a header line, and else as much as tells that it is too long.
 abbrev pub kept : Option Machine → List ℕ → List ℕ
 kept None line = line
@@ -161,6 +167,14 @@ abbrev pub StopsIn : Script → Script → Option (List ℕ) → Option (List �
 StopsIn old new middle after bytes fault =
     (read more : List ℕ) (before : Option (List ℕ)) → At read old before middle
     → Stops fault (read ++ (bytes ++ more)) new before after ⊥
+
+-- The line and its LF are taken in, and nothing is written.
+abbrev pub EndsWith : Script → Script → List ℕ → Type 0
+EndsWith old new line = (after : Option (List ℕ)) → GoesOn old new after after (line ++ 10 ∷ [])
+
+-- The fault came in the line or at its LF, and nothing is written.
+abbrev pub CannotEndWith : Script → Script → List ℕ → ScriptFault → Type 0
+CannotEndWith old new line fault = (after : Option (List ℕ)) → StopsIn old new after after (line ++ 10 ∷ []) fault
 
 -- The known bytes grow by bytes that, with those in the buffer, are the text of the lines under some schema.
 abbrev pub Completes : Option (List ℕ) → Option (List ℕ) → List ℕ → List (List ℕ) → Type 0

@@ -59,7 +59,7 @@ struct Script {
 
 impl Script {
     ghost use Rattle.std.specs.Io.KnownBytes.{Appends};
-    ghost use Rattle.escrow_script.specs.Run.{HasKept, CannotKeep, HasEnded, CannotEnd, HasWritten, GoesOn, StopsIn, Finishes, StopsAtEnd, IsFresh, RunsThrough, StopsAfter, StandsNext, StopsNext};
+    ghost use Rattle.escrow_script.specs.Run.{HasKept, CannotKeep, HasEnded, CannotEnd, HasAnswered, EndsWith, CannotEndWith, HasWritten, GoesOn, StopsIn, Finishes, StopsAtEnd, IsFresh, RunsThrough, StopsAfter, StandsNext, StopsNext};
     ghost use Rattle.escrow_script.specs.Watched.{AppendsFront};
 
     fn new(alloc: Global) -> Script
@@ -133,6 +133,40 @@ impl Script {
         Ok(())
     }
 
+    // Answers a line of which no byte was kept.
+    fn answer_whole(&mut self, line: &[u8]) -> Result<(), AllocError>
+        requires started { IsSome self.old.machine }
+        requires room { self.old.lines < 2 ^ 32 - 1 }
+        ensures ok { OnOk result (HasAnswered self.old self.new line.now) }
+        ensures err { OnErr result (self.new.out.items ≡ self.old.out.items) }
+    {
+        let Some(machine) = &mut self.machine else {
+            unreachable!()
+        };
+        machine.answer(self.alloc, line, &mut self.out)?;
+        self.lines += 1;
+        Ok(())
+    }
+
+    // Takes the rest of a line, whose LF was read. A line that lies whole in the piece isn't copied.
+    fn end_with(&mut self, line: &[u8]) -> Result<(), ScriptFault>
+        requires room { self.old.lines < 1000000 }
+        requires unbroken { All (λ b. b ≢ 10) line.now }
+        ensures ok { OnOk result (EndsWith self.old self.new line.now) }
+        ensures err { IfErr result (CannotEndWith self.old self.new line.now) }
+        ensures lines { OnOk result (self.new.lines ≡ self.old.lines + 1) }
+        ensures not_read { IfErr result (λ fault. fault ≢ ScriptFault.Read) }
+        ensures not_write { IfErr result (λ fault. fault ≢ ScriptFault.Write) }
+    {
+        let whole = self.is_between_lines();
+        if whole {
+            self.answer_whole(line)?;
+            return Ok(());
+        }
+        self.keep(line)?;
+        self.end_line()
+    }
+
     // Takes a whole line, whose LF was read.
     fn take_line<W: Write>(
         &mut self,
@@ -149,8 +183,7 @@ impl Script {
         ensures refused { IfErr result (λ fault. fault ≡ ScriptFault.Write → HasRefused writer.new) }
         ensures not_read { IfErr result (λ fault. fault ≢ ScriptFault.Read) }
     {
-        self.keep(line)?;
-        self.end_line()?;
+        self.end_with(line)?;
         if self.out.len() >= PIECE {
             self.write_out(writer)?;
         }
