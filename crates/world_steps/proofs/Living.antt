@@ -1,5 +1,5 @@
 -- One more step of a world.
-use Rattle.std.proofs.Common.{◌≡◌, ℕ, ◌+◌, ◌<◌, ◌≤◌, List, [], ◌∷◌, ◌++◌, length, take, drop, reverse, sym, ap, subst, ◌∙◌, arith, Option, Some, None, All}
+use Rattle.std.proofs.Common.{◌≡◌, ℕ, ◌+◌, ◌<◌, List, [], ◌∷◌, ◌++◌, length, take, drop, reverse, sym, ap, subst, ◌∙◌, arith, Option, Some, None, All}
 use Rattle.std.proofs.lemmas.List.{reverse-append, length-append}
 use Rattle.std.proofs.lemmas.List.Elements.{All-push, All-tail, All-head}
 use Rattle.std.proofs.Math.Seq.{take-append_seam}
@@ -18,12 +18,35 @@ use Rattle.field_bounds.proofs.Headline.{sound_is_central}
 use Rattle.kept_state.specs.Luck.{Lucky, entries, own_lucky, lucky_reply}
 use Rattle.site_step.specs.Site.{SiteValue}
 use Rattle.world_steps.specs.declared.step.WorldStep.{WorldStep}
+use Rattle.world_steps.specs.declared.kept.KeptSteps.{KeptSteps}
 use Rattle.world_steps.specs.World.{with_statement, issued, asked, luck_of, StepFits, with_entry, world_of, trace_by}
 use Rattle.world_steps.specs.Promises.{IsOneStore}
 use Rattle.world_steps.specs.Standing.{AllStand}
+use Rattle.world_steps.specs.Kept.{steps_kept, SameKept}
 use Rattle.world_steps.specs.View.{WorldValue, trace_of, IsWorld}
 use Rattle.world_steps.proofs.Sound.{StepsFit, step_allows, world_is_sound, bounded_throughout, outcomes_throughout, none_strange}
-use Rattle.world_steps.proofs.Stand.{all_longer}
+
+-- ---- what is kept of the steps
+
+-- the same that is kept tells the same steps
+same_steps : (trace tracing : List Entry) (kept ready : KeptSteps) → tracing ≡ trace → SameKept kept ready → steps_kept tracing ready ≡ steps_kept trace kept
+same_steps trace tracing kept ready is same = rw (is, same.ways, same.numbers, same.torn)
+
+-- so one more step is told, once there was room for it: one that made no entry
+pub missed_more : (trace tracing : List Entry) (kept ready later : KeptSteps) (step : WorldStep) → tracing ≡ trace → SameKept kept ready
+    → ((t : List Entry) → steps_kept t later ≡ steps_kept t ready ++ step ∷ [])
+    → steps_kept tracing later ≡ steps_kept trace kept ++ step ∷ []
+missed_more trace tracing kept ready later step is same more =
+    more tracing ∙ ap (λ (l : List WorldStep). l ++ step ∷ []) (same_steps trace tracing kept ready is same)
+
+-- and one that made an entry
+pub made_more : (past trace before tracing : List Entry) (e : Entry) (kept ready later : KeptSteps) (step : WorldStep) → before ≡ trace → tracing ≡ before ++ e ∷ [] → SameKept kept ready
+    → asked past step ≡ Some (e.site, e.command)
+    → ((p t : List Entry) (x : Entry) → asked p step ≡ Some (x.site, x.command) → steps_kept (t ++ x ∷ []) later ≡ steps_kept t ready ++ step ∷ [])
+    → steps_kept tracing later ≡ steps_kept trace kept ++ step ∷ []
+made_more past trace before tracing e kept ready later step is grown same asks more =
+    ap (λ (l : List Entry). steps_kept l later) grown ∙ more past before e asks
+    ∙ ap (λ (l : List WorldStep). l ++ step ∷ []) (same_steps trace before kept ready is same)
 
 -- ---- what is lived, after one more step
 
@@ -53,12 +76,11 @@ pub world_idle : (schema : SchemaValue) (steps : List WorldStep) (sites : List S
     → IsWorld schema (steps ++ step ∷ []) sites trace told
 world_idle schema steps sites trace told step w fits none =
     let same = sym (past_idle schema steps step none) in
-    let longer : length steps ≤ length (steps ++ step ∷ []) = omega (arith, length-append steps (step ∷ [])) in
     record {
       good = w.good;
       fit = All-push (StepFits schema) steps step w.fit fits;
       count = w.count;
-      stand = subst (λ (past : List Lucky). AllStand schema past (length (steps ++ step ∷ [])) sites) same (all_longer schema _ (length steps) (length (steps ++ step ∷ [])) sites longer w.stand);
+      stand = subst (λ (past : List Lucky). AllStand schema past (length trace) sites) same w.stand;
       trace_is = w.trace_is ∙ ap entries same;
       told_is = w.told_is ∙ ap (λ (past : List Lucky). issued (entries past)) same;
     }
@@ -67,7 +89,7 @@ pub world_goes : (schema : SchemaValue) (steps : List WorldStep) (sites moved : 
     (site : SiteNo) (command : Command) (reply : Reply)
     → IsWorld schema steps sites trace told → StepFits schema step → asked (trace_by schema steps) step ≡ Some (site, command)
     → reply ≡ lucky_reply schema site.0 (fresh schema site.0) (own_lucky site.0 (world_of schema (reverse steps))) command (luck_of step)
-    → AllStand schema ((record { site = site; command = command; reply = reply }, luck_of step) ∷ world_of schema (reverse steps)) (length steps + 1) moved
+    → AllStand schema ((record { site = site; command = command; reply = reply }, luck_of step) ∷ world_of schema (reverse steps)) (length trace + 1) moved
     → length moved ≡ length sites
     → reverse telling ≡ with_statement (statement_of (record { site = site; command = command; reply = reply })) (reverse told)
     → IsWorld schema (steps ++ step ∷ []) moved (trace ++ record { site = site; command = command; reply = reply } ∷ []) telling
@@ -75,12 +97,12 @@ world_goes schema steps sites moved trace told telling step site command reply w
     let past : List Lucky = world_of schema (reverse steps) in
     let e : Entry = record { site = site; command = command; reply = reply } in
     let same = sym (past_goes schema steps step site command reply some is) in
-    let longer : length steps + 1 ≡ length (steps ++ step ∷ []) = omega (arith, length-append steps (step ∷ [])) in
+    let longer : length trace + 1 ≡ length (trace ++ e ∷ []) = omega (arith, length-append trace (e ∷ [])) in
     record {
       good = w.good;
       fit = All-push (StepFits schema) steps step w.fit fits;
       count = count ∙ w.count;
-      stand = subst (λ (l : List Lucky). AllStand schema l (length (steps ++ step ∷ [])) moved) same
+      stand = subst (λ (l : List Lucky). AllStand schema l (length (trace ++ e ∷ [])) moved) same
           (subst (λ (n : ℕ). AllStand schema ((e, luck_of step) ∷ past) n moved) longer stand);
       trace_is = reverse-append trace (e ∷ []) ∙ ap (λ (t : List Entry). e ∷ t) w.trace_is ∙ ap entries same;
       told_is = told_is ∙ ap (λ (l : List Statement). with_statement (statement_of e) l) w.told_is ∙ ap (λ (l : List Lucky). issued (entries l)) same;

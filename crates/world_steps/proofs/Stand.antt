@@ -138,10 +138,6 @@ pub all_calm : (schema : SchemaValue) (past : List Lucky) (bound most : ℕ) (si
 unfolding AreCalm AllStand
 all_calm schema past bound most sites h all = λ s d below. let st = all s d below in (st.foretold_is, omega (arith, h, st.failed_is))
 
-pub all_longer : (schema : SchemaValue) (past : List Lucky) (bound more : ℕ) (sites : List SiteValue) → bound ≤ more → AllStand schema past bound sites → AllStand schema past more sites
-unfolding AllStand
-all_longer schema past bound more sites h all = λ s d below. stands_longer schema s (own_lucky s past) bound more (get_or sites s d) h (all s d below)
-
 -- ---- sites over empty media
 
 -- one more of them

@@ -37,6 +37,6 @@ pub record IsWorld (schema : SchemaValue) (steps : List WorldStep) (sites : List
   pub good : IsSchema schema
   pub fit : All (StepFits schema) steps
   pub count : length sites ≡ schema.sites
-  pub stand : AllStand schema (world_of schema (reverse steps)) (length steps) sites
+  pub stand : AllStand schema (world_of schema (reverse steps)) (length trace) sites
   pub trace_is : reverse trace ≡ trace_by schema steps
   pub told_is : reverse told ≡ issued (trace_by schema steps)

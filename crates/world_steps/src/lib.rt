@@ -6,6 +6,7 @@
 //! among sites and transferred, this project for the world and the theorem.
 #![tactic(auto)]
 
+mod kept;
 mod laws;
 mod rows;
 mod run;

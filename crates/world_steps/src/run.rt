@@ -22,7 +22,7 @@ use std::alloc::{AllocError, Global};
 /// every field lies within its floor and ceiling (`outcomes`). No statement is refused as another
 /// site's or as forged (`none_strange`).
 ///
-/// The error is want of memory. Costs what each step costs, and memory for each step and entry.
+/// The error is want of memory. Costs what each step costs.
 ///
 /// Source: O'Neil 1986 for infimum, supremum and the test of a grant, Balegas and others 2015 for
 /// rights that are divided among sites and transferred, this project for the theorem.

@@ -10,6 +10,7 @@ ghost use Rattle.world_steps.specs.Standing.{Stands, AllStand};
 ghost use Rattle.world_steps.specs.Promises.{IsBoundedThroughout, OutcomesAreBoundedThroughout, NoneStrange, IsOneStore};
 ghost use Rattle.world_steps.specs.View.{trace_of, Answers};
 
+use crate::kept::KeptSteps;
 use crate::step::{StepReply, WorldStep};
 use crate::stepping::{apply_at, asked, luck_of, note};
 use field_bounds::{Entry, FieldNo, Schema, SiteNo, Statement};
@@ -19,26 +20,28 @@ use std::alloc::{AllocError, Global};
 use std::marker::Model;
 
 /// All sites of a schema, each over a medium in memory that is torn where a step says so. Contracts
-/// see the schema and the steps taken, in order: all else is told by these.
+/// see the schema and the steps taken, in order: all else is told by these. Of the steps a world keeps
+/// only what its trace doesn't tell.
 ///
 /// Source: this project.
 #[derive(Drop)]
 pub struct World {
     schema: Schema,
     sites: Vec<Site<TornMedium>>,
-    steps: Vec<WorldStep>,
     trace: Vec<Entry>,
+    steps: KeptSteps,
     issued: Vec<Statement>,
 }
 
 impl Model for World {
+    ghost use Rattle.world_steps.specs.Kept.{steps_kept};
     ghost use Rattle.world_steps.specs.View.{WorldValue, IsWorld};
 
     ghost Value = { WorldValue };
 
-    ghost view = { λ w. record { schema = w.schema; steps = w.steps.items } };
+    ghost view = { λ w. record { schema = w.schema; steps = steps_kept w.trace.items w.steps } };
 
-    ghost invariant = { λ w. IsWorld w.schema w.steps.items w.sites.items w.trace.items w.issued.items };
+    ghost invariant = { λ w. IsWorld w.schema (steps_kept w.trace.items w.steps) w.sites.items w.trace.items w.issued.items };
 }
 
 /// A site over an empty medium, which won't fail: the only fault is want of memory.
@@ -74,8 +77,8 @@ impl World {
         Ok(World {
             schema,
             sites,
-            steps: Vec::new(alloc),
             trace: Vec::new(alloc),
+            steps: KeptSteps::new(alloc),
             issued: Vec::new(alloc),
         })
     }
@@ -89,8 +92,9 @@ impl World {
     /// The trace after it, as after every list of steps, is a run of one central escrow store, with
     /// all that `trace` says of it (`one_store`).
     ///
-    /// Costs what the site's `apply` costs, and amortized pushes of the step, the entry and the
-    /// statement, which are kept. Nothing else grows with the trace.
+    /// Costs what the site's `apply` costs, and amortized pushes of the entry and the statement, which
+    /// are kept, and of what the entry doesn't tell of the step: one byte, and 8 more for the number
+    /// of a delivery and for luck that is torn. Nothing else grows with the trace.
     ///
     /// Source: this project.
     pub fn step(&mut self, alloc: Global, step: &WorldStep) -> Result<StepReply, AllocError>
@@ -100,11 +104,11 @@ impl World {
         ensures one_store { OnOk result (IsOneStore self.new.schema (trace_of self.new)) }
         ensures err { OnErr result (self.new ≡ self.old) }
     {
-        self.steps.reserve(1)?;
+        self.steps.reserve(step)?;
         self.trace.reserve(1)?;
         self.issued.reserve(1)?;
         let Some((site, command)) = asked(&self.issued, step) else {
-            self.steps.push_reserved(*step);
+            self.steps.keep_missed(step);
             return Ok(StepReply::NoStatement);
         };
         let reply = apply_at(&mut self.sites, alloc, site, command, luck_of(step))?;
@@ -115,7 +119,7 @@ impl World {
         };
         self.trace.push_reserved(entry);
         note(&mut self.issued, &entry);
-        self.steps.push_reserved(*step);
+        self.steps.keep_made(step);
         Ok(StepReply::Made(entry))
     }
 
