@@ -8,7 +8,7 @@ ghost use Rattle.field_bounds.specs.Effects.{fresh};
 ghost use Rattle.field_bounds.specs.Statements.{statement_of};
 ghost use Rattle.kept_records.specs.declared.medium.Mishap.TheVariants as mishaps;
 ghost use Rattle.kept_state.specs.Luck.{Lucky, own_lucky, lucky_reply};
-ghost use Rattle.site_step.specs.Site.{Finds, mishap_of};
+ghost use Rattle.site_step.specs.Site.{Finds};
 ghost use Rattle.world_steps.specs.World.{issued, with_statement, numbered, asked, luck_of};
 ghost use Rattle.world_steps.specs.Standing.{Once, AllStand, AreCalm};
 
@@ -70,17 +70,8 @@ pub(crate) fn luck_of(step: &WorldStep) -> Luck
     }
 }
 
-/// The mishap of an append that goes by luck.
-fn mishap_of(luck: Luck) -> Mishap
-    ensures value { result ≡ mishap_of luck }
-{
-    match luck {
-        Luck::Fine => Mishap::Never,
-        Luck::Torn(bytes) => Mishap::Append(bytes),
-    }
-}
-
-/// One command at a site, with its luck; nothing is armed after it.
+/// One command at a site, with its luck: a mishap is armed where that is torn, and nothing is armed
+/// after it.
 fn apply_once(
     site: &mut Site<TornMedium>,
     alloc: Global,
@@ -93,7 +84,10 @@ fn apply_once(
         Once site.old epoch found command luck reply site.new) }
     ensures err { OnErr result (site.new ≡ site.old) }
 {
-    site.arm(mishap_of(luck));
+    let Luck::Torn(bytes) = luck else {
+        return site.apply(alloc, command);
+    };
+    site.arm(Mishap::Append(bytes));
     let answered = site.apply(alloc, command);
     site.arm(Mishap::Never);
     answered
