@@ -15,7 +15,7 @@ use crate::step::{StepReply, WorldStep};
 use crate::stepping::{apply_at, asked, luck_of, note};
 use field_bounds::{Entry, FieldNo, Schema, SiteNo, Statement};
 use kept_records::TornMedium;
-use site_step::Site;
+use site_step::{OpenFault, Site};
 use std::alloc::{AllocError, Global};
 use std::marker::Model;
 
@@ -51,7 +51,9 @@ fn fresh_site(alloc: Global, schema: Schema, site: SiteNo) -> Result<Site<TornMe
 {
     match Site::open(alloc, schema, site, TornMedium::new(Vec::new(alloc))) {
         Ok(made) => Ok(made),
-        Err(_) => Err(AllocError),
+        Err((OpenFault::NoMemory, _)) => Err(AllocError),
+        Err((OpenFault::Device, _)) => unreachable!(),
+        Err((OpenFault::Line(_), _)) => unreachable!(),
     }
 }
 
