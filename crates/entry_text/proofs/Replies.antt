@@ -9,7 +9,7 @@ use Rattle.field_bounds.specs.declared.entry.Last.TheVariants.{Nothing, Kept, Lo
 use Rattle.field_bounds.specs.declared.entry.Refusal.{Refusal}
 use Rattle.field_bounds.specs.declared.entry.Refusal.TheVariants.{Down, NoSite, NoField, NoTransaction, Zero, TooLarge, Short, SelfGift, LedgerFull, NotYours, Forged, TooManyOpen, TooManyEscrows, NumbersFull, NothingGiven}
 use Rattle.field_bounds.specs.declared.entry.Reply.{Reply}
-use Rattle.field_bounds.specs.declared.entry.Reply.TheVariants.{Begun, Granted, Committed, Aborted, Given, Stated, Accepted, Between, Shares, Restarted, Unsure, StillDown, Refused}
+use Rattle.field_bounds.specs.declared.entry.Reply.TheVariants.{Begun, Granted, Committed, Aborted, Given, Stated, Spared, Accepted, Between, Shares, Restarted, Unsure, StillDown, Refused}
 use Rattle.line_words.proofs.WordLemmas.{IsWord, is_word, word_from_test}
 use Rattle.line_words.proofs.Forms.{IsRead, IsForm, found, taking, word_again, taking_form, form_again, made_of}
 use Rattle.line_words.proofs.WordKinds.{number_read, signed_read, below_read, only_read, table_read}
@@ -19,7 +19,7 @@ use Rattle.entry_text.specs.declared.reply.Label.{Label}
 use Rattle.entry_text.specs.declared.reply.Label.TheVariants as labels
 use Rattle.entry_text.specs.Spelling.{last_text, refusal_words, reply_words}
 use Rattle.entry_text.specs.Ranges.{RefusalFits, ReplyFits}
-use Rattle.entry_text.specs.Replies.{reason_of, reason_table, two_at, three_at, short_at, ledger_full_at, forged_at, refusal_after, refusal_at, last_of, last_table, label_of, label_table, between_at, shares_at, restarted_at, reply_after, reply_at}
+use Rattle.entry_text.specs.Replies.{reason_of, reason_table, two_at, three_at, short_at, ledger_full_at, forged_at, refusal_after, refusal_at, last_of, last_table, label_of, label_table, spared_at, between_at, shares_at, restarted_at, reply_after, reply_at}
 use Rattle.entry_text.proofs.WordKinds.{id_read}
 
 -- ---- refusals
@@ -172,6 +172,7 @@ label_text labels.Committed = codes "committed"
 label_text labels.Aborted = codes "aborted"
 label_text labels.Given = codes "given"
 label_text labels.Stated = codes "stated"
+label_text labels.Spared = codes "spared"
 label_text labels.Accepted = codes "accepted"
 label_text labels.Between = codes "between"
 label_text labels.Shares = codes "share"
@@ -188,6 +189,7 @@ label_again labels.Committed = refl
 label_again labels.Aborted = refl
 label_again labels.Given = refl
 label_again labels.Stated = refl
+label_again labels.Spared = refl
 label_again labels.Accepted = refl
 label_again labels.Between = refl
 label_again labels.Shares = refl
@@ -198,7 +200,7 @@ label_again labels.Refused = refl
 
 label_read : IsRead (λ (l : Label). Unit {0}) label_text label_of
 unfolding label_of
-label_read = table_read label_text label_table (refl, (refl, (refl, (refl, (refl, (refl, (refl, (refl, (refl, (refl, (refl, (refl, (refl, tt))))))))))))) refl label_again
+label_read = table_read label_text label_table (refl, (refl, (refl, (refl, (refl, (refl, (refl, (refl, (refl, (refl, (refl, (refl, (refl, (refl, tt)))))))))))))) refl label_again
 
 label_word : (l : Label) → IsWord (label_text l)
 label_word l = label_read.plain l tt
@@ -226,7 +228,7 @@ made_reply : {ws : List (List ℕ)} (b v : Reply) (after rest : List (List ℕ))
 made_reply {ws} b v after rest e fits is = made_of ReplyFits reply_words ws b v after rest e fits is
 
 after_label : (l : Label) (ws : List (List ℕ)) (v : Reply) (rest : List (List ℕ)) → reply_after l ws ≡ found v rest → ReplyFits v × (label_text l ∷ ws ≡ reply_words v ++ rest)
-unfolding reply_after between_at shares_at restarted_at
+unfolding reply_after spared_at between_at shares_at restarted_at
 after_label labels.Begun ws v rest e =
     taking id_read _ ws _ e (λ txn r1 f1 w1 e1.
     made_reply (Begun txn) v r1 rest e1 f1 (cc w1))
@@ -239,6 +241,10 @@ after_label labels.Given ws v rest e =
 after_label labels.Stated ws v rest e =
     taking number_read _ ws _ e (λ total r1 f1 w1 e1.
     made_reply (Stated total) v r1 rest e1 f1 (cc w1))
+after_label labels.Spared ws v rest e =
+    taking number_read _ ws _ e (λ amount r1 f1 w1 e1.
+    taking number_read _ r1 _ e1 (λ total r2 f2 w2 e2.
+    made_reply (Spared amount total) v r2 rest e2 (f1, f2) (cc (w1, w2))))
 after_label labels.Accepted ws v rest e =
     taking number_read _ ws _ e (λ gain r1 f1 w1 e1.
     made_reply (Accepted gain) v r1 rest e1 f1 (cc w1))
@@ -269,13 +275,14 @@ reply_takes ws v rest e =
     let t = after_label l r1 v rest e1 in (t.0, w1 ∙ t.1))
 
 reply_again : (v : Reply) (rest : List (List ℕ)) → ReplyFits v → reply_at (reply_words v ++ rest) ≡ found v rest
-unfolding reply_at reply_after between_at shares_at restarted_at
+unfolding reply_at reply_after spared_at between_at shares_at restarted_at
 reply_again (Begun txn) rest fits = word_again label_read _ labels.Begun _ tt ∙ word_again id_read _ txn rest fits
 reply_again Granted rest fits = word_again label_read _ labels.Granted rest tt
 reply_again Committed rest fits = word_again label_read _ labels.Committed rest tt
 reply_again Aborted rest fits = word_again label_read _ labels.Aborted rest tt
 reply_again (Given total) rest fits = word_again label_read _ labels.Given _ tt ∙ word_again number_read _ total rest fits
 reply_again (Stated total) rest fits = word_again label_read _ labels.Stated _ tt ∙ word_again number_read _ total rest fits
+reply_again (Spared amount total) rest fits = word_again label_read _ labels.Spared _ tt ∙ word_again number_read _ amount _ fits.0 ∙ word_again number_read _ total rest fits.1
 reply_again (Accepted gain) rest fits = word_again label_read _ labels.Accepted _ tt ∙ word_again number_read _ gain rest fits
 reply_again (Between lo hi) rest fits = word_again label_read _ labels.Between _ tt ∙ word_again signed_read _ lo _ fits.0 ∙ word_again signed_read _ hi rest fits.1
 reply_again (Shares lower raise) rest fits = word_again label_read _ labels.Shares _ tt ∙ word_again number_read _ lower _ fits.0 ∙ word_again number_read _ raise rest fits.1
@@ -291,6 +298,7 @@ reply_plain Committed fits = (label_word labels.Committed, tt)
 reply_plain Aborted fits = (label_word labels.Aborted, tt)
 reply_plain (Given total) fits = (label_word labels.Given, (number_read.plain total fits, tt))
 reply_plain (Stated total) fits = (label_word labels.Stated, (number_read.plain total fits, tt))
+reply_plain (Spared amount total) fits = (label_word labels.Spared, (number_read.plain amount fits.0, (number_read.plain total fits.1, tt)))
 reply_plain (Accepted gain) fits = (label_word labels.Accepted, (number_read.plain gain fits, tt))
 reply_plain (Between lo hi) fits = (label_word labels.Between, (signed_read.plain lo fits.0, (signed_read.plain hi fits.1, tt)))
 reply_plain (Shares lower raise) fits = (label_word labels.Shares, (number_read.plain lower fits.0, (number_read.plain raise fits.1, tt)))

@@ -13,7 +13,7 @@ use Rattle.entry_text.specs.Reading.{site_of, id_of, kind_of, field_of}
 -- The commands by their words.
 abbrev pub verb_table : List (List ℕ × Verb)
 verb_table = (codes "begin", verbs.Begin) ∷ (codes "escrow", verbs.Escrow) ∷ (codes "commit", verbs.Commit)
-    ∷ (codes "abort", verbs.Abort) ∷ (codes "give", verbs.Give) ∷ (codes "restate", verbs.Restate) ∷ (codes "accept", verbs.Accept)
+    ∷ (codes "abort", verbs.Abort) ∷ (codes "give", verbs.Give) ∷ (codes "restate", verbs.Restate) ∷ (codes "spare", verbs.Spare) ∷ (codes "accept", verbs.Accept)
     ∷ (codes "read", verbs.Read) ∷ (codes "share", verbs.Share) ∷ (codes "restart", verbs.Restart) ∷ []
 
 -- The command that the word names.
@@ -45,6 +45,15 @@ restate_at schema ws = do
   kind ← word_at kind_of field.1
   Some (commands.Restate to.0 field.0 kind.0, kind.1)
 
+-- A spare's receiver, field, kind and what is wanted, and the words after them.
+unfoldable pub spare_at : SchemaValue → List (List ℕ) → Option (Command × List (List ℕ))
+spare_at schema ws = do
+  to ← word_at site_of ws
+  field ← word_at (field_of schema) to.1
+  kind ← word_at kind_of field.1
+  want ← word_at (number_of (2 ^ 64)) kind.1
+  Some (commands.Spare to.0 field.0 kind.0 want.0, want.1)
+
 -- A statement's giver, receiver, field, kind and total, and the words after them.
 unfoldable pub accept_at : SchemaValue → List (List ℕ) → Option (Command × List (List ℕ))
 accept_at schema ws = do
@@ -67,6 +76,7 @@ arguments_at schema verbs.Abort ws = do
   Some (commands.Abort txn.0, txn.1)
 arguments_at schema verbs.Give ws = give_at schema ws
 arguments_at schema verbs.Restate ws = restate_at schema ws
+arguments_at schema verbs.Spare ws = spare_at schema ws
 arguments_at schema verbs.Accept ws = accept_at schema ws
 arguments_at schema verbs.Read ws = do
   field ← word_at (field_of schema) ws

@@ -93,13 +93,20 @@ refusal_at ws = do
 -- The replies by their words.
 abbrev pub label_table : List (List ℕ × Label)
 label_table = (codes "begun", labels.Begun) ∷ (codes "granted", labels.Granted) ∷ (codes "committed", labels.Committed) ∷ (codes "aborted", labels.Aborted)
-    ∷ (codes "given", labels.Given) ∷ (codes "stated", labels.Stated) ∷ (codes "accepted", labels.Accepted)
+    ∷ (codes "given", labels.Given) ∷ (codes "stated", labels.Stated) ∷ (codes "spared", labels.Spared) ∷ (codes "accepted", labels.Accepted)
     ∷ (codes "between", labels.Between) ∷ (codes "share", labels.Shares) ∷ (codes "restarted", labels.Restarted)
     ∷ (codes "unsure", labels.Unsure) ∷ (codes "still", labels.Still) ∷ (codes "refused", labels.Refused) ∷ []
 
 -- The reply that the word names.
 unfoldable pub label_of : List ℕ → Option Label
 label_of w = beside label_table w
+
+-- What was spared, and the total given so far.
+unfoldable pub spared_at : List (List ℕ) → Option (Reply × List (List ℕ))
+spared_at ws = do
+  amount ← word_at (number_of (2 ^ 64)) ws
+  total ← word_at (number_of (2 ^ 64)) amount.1
+  Some (replies.Spared amount.0 total.0, total.1)
 
 -- The two ends of an interval.
 unfoldable pub between_at : List (List ℕ) → Option (Reply × List (List ℕ))
@@ -144,6 +151,7 @@ reply_after labels.Given ws = do
 reply_after labels.Stated ws = do
   total ← word_at (number_of (2 ^ 64)) ws
   Some (replies.Stated total.0, total.1)
+reply_after labels.Spared ws = spared_at ws
 reply_after labels.Accepted ws = do
   gain ← word_at (number_of (2 ^ 64)) ws
   Some (replies.Accepted gain.0, gain.1)

@@ -74,6 +74,17 @@ fn push_between(out: &mut Vec<u8>, lo: i64, hi: i64) -> Result<(), AllocError>
     push_signed(out, hi)
 }
 
+fn push_spared(out: &mut Vec<u8>, amount: u64, total: u64) -> Result<(), AllocError>
+    ensures ok { OnOk result (out.new.items
+        ≡ out.old.items ++ line (codes "spared" ∷ decimal amount ∷ decimal total ∷ [])) }
+    ensures err { OnErr result (take (length out.old.items) out.new.items ≡ out.old.items) }
+{
+    out.extend_from_slice(b"spared ")?;
+    push_number(out, amount)?;
+    out.extend_from_slice(b" ")?;
+    push_number(out, total)
+}
+
 fn push_shares(out: &mut Vec<u8>, lower: u64, raise: u64) -> Result<(), AllocError>
     ensures ok { OnOk result (out.new.items
         ≡ out.old.items ++ line (codes "share" ∷ decimal lower ∷ decimal raise ∷ [])) }
@@ -142,6 +153,7 @@ fn push_reply(out: &mut Vec<u8>, reply: Reply) -> Result<(), AllocError>
         Reply::Aborted => out.extend_from_slice(b"aborted"),
         Reply::Given { total } => push_counted(out, b"given ", total),
         Reply::Stated { total } => push_counted(out, b"stated ", total),
+        Reply::Spared { amount, total } => push_spared(out, amount, total),
         Reply::Accepted { gain } => push_counted(out, b"accepted ", gain),
         Reply::Between { lo, hi } => push_between(out, lo, hi),
         Reply::Shares { lower, raise } => push_shares(out, lower, raise),

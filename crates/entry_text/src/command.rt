@@ -6,7 +6,7 @@ ghost use Rattle.field_bounds.specs.declared.entry.Command.{Command as CommandTy
 ghost use Rattle.line_words.specs.Reading.{Gives};
 ghost use Rattle.entry_text.specs.Spelling.{command_text};
 ghost use Rattle.entry_text.specs.Ranges.{SiteFits, CommandFits};
-ghost use Rattle.entry_text.specs.Commands.{escrow_at, give_at, restate_at, accept_at, arguments_at, command_at};
+ghost use Rattle.entry_text.specs.Commands.{escrow_at, give_at, restate_at, spare_at, accept_at, arguments_at, command_at};
 
 use crate::verb::{Verb, verb_at};
 use crate::word::{Fields, field_at, kind_at, number_at, signed_at, site_at, txn_at};
@@ -49,6 +49,22 @@ fn restate(line: &mut Words<'_>, fields: &Fields<'_>) -> Option<Command>
     Some(Command::Restate { to, field, kind })
 }
 
+#[tactic(auto, unfolding(crate::specs::Commands::spare_at))]
+fn spare(line: &mut Words<'_>, fields: &Fields<'_>) -> Option<Command>
+    ensures { Gives result line.new (spare_at fields.now line.old) }
+{
+    let to = site_at(line)?;
+    let field = field_at(line, fields)?;
+    let kind = kind_at(line)?;
+    let want = number_at(line)?;
+    Some(Command::Spare {
+        to,
+        field,
+        kind,
+        want,
+    })
+}
+
 #[tactic(auto, unfolding(crate::specs::Commands::accept_at))]
 fn accept(line: &mut Words<'_>, fields: &Fields<'_>) -> Option<Command>
     ensures { Gives result line.new (accept_at fields.now line.old) }
@@ -84,6 +100,7 @@ fn arguments(line: &mut Words<'_>, fields: &Fields<'_>, verb: Verb) -> Option<Co
         }
         Verb::Give => give(line, fields),
         Verb::Restate => restate(line, fields),
+        Verb::Spare => spare(line, fields),
         Verb::Accept => accept(line, fields),
         Verb::Read => {
             let field = field_at(line, fields)?;

@@ -103,6 +103,17 @@ impl fmt::Display for CommandText<'_> {
                 let kind = KindText(kind);
                 write!(f, "{site} restate {to} {field} {kind}")
             }
+            Command::Spare {
+                to,
+                field,
+                kind,
+                want,
+            } => {
+                let to = to.0;
+                let field = FieldText { schema, field };
+                let kind = KindText(kind);
+                write!(f, "{site} spare {to} {field} {kind} {want}")
+            }
             Command::Accept(statement) => {
                 let from = statement.from.0;
                 let to = statement.to.0;
@@ -189,6 +200,7 @@ impl fmt::Display for ReplyText {
             Reply::Aborted => write!(f, "aborted"),
             Reply::Given { total } => write!(f, "given {total}"),
             Reply::Stated { total } => write!(f, "stated {total}"),
+            Reply::Spared { amount, total } => write!(f, "spared {amount} {total}"),
             Reply::Accepted { gain } => write!(f, "accepted {gain}"),
             Reply::Between { lo, hi } => write!(f, "between {lo} {hi}"),
             Reply::Shares { lower, raise } => write!(f, "share {lower} {raise}"),

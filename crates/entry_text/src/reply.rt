@@ -2,7 +2,7 @@
 
 ghost use Rattle.std.specs.Prelude.{◌≡◌};
 ghost use Rattle.line_words.specs.Reading.{Gives, word_at};
-ghost use Rattle.entry_text.specs.Replies.{last_of, label_of, between_at, shares_at, restarted_at, reply_after, reply_at};
+ghost use Rattle.entry_text.specs.Replies.{last_of, label_of, spared_at, between_at, shares_at, restarted_at, reply_after, reply_at};
 
 use crate::refusal::refusal;
 use crate::word::{epoch_at, expect, is_text, number_at, signed_at, txn_at};
@@ -18,6 +18,7 @@ pub(crate) enum Label {
     Aborted,
     Given,
     Stated,
+    Spared,
     Accepted,
     Between,
     Shares,
@@ -43,6 +44,8 @@ fn label_named(word: &[u8]) -> Option<Label>
         Some(Label::Given)
     } else if is_text(word, "stated") {
         Some(Label::Stated)
+    } else if is_text(word, "spared") {
+        Some(Label::Spared)
     } else if is_text(word, "accepted") {
         Some(Label::Accepted)
     } else if is_text(word, "between") {
@@ -67,6 +70,15 @@ fn label_at(line: &mut Words<'_>) -> Option<Label>
     ensures { Gives result line.new (word_at label_of line.old) }
 {
     label_named(line.next()?)
+}
+
+#[tactic(auto, unfolding(crate::specs::Replies::spared_at))]
+fn spared(line: &mut Words<'_>) -> Option<Reply>
+    ensures { Gives result line.new (spared_at line.old) }
+{
+    let amount = number_at(line)?;
+    let total = number_at(line)?;
+    Some(Reply::Spared { amount, total })
 }
 
 #[tactic(auto, unfolding(crate::specs::Replies::between_at))]
@@ -142,6 +154,7 @@ fn reply_for(line: &mut Words<'_>, label: Label) -> Option<Reply>
             let gain = number_at(line)?;
             Some(Reply::Accepted { gain })
         }
+        Label::Spared => spared(line),
         Label::Between => between(line),
         Label::Shares => shares(line),
         Label::Restarted => restarted(line),

@@ -115,6 +115,12 @@ fn spells_gifts(rt: HostRuntime) -> Result<(), Fail> {
         field: FieldNo(1),
         kind: Kind::Raise,
     };
+    let spare = Command::Spare {
+        to: SiteNo(1),
+        field: STOCK,
+        kind: Kind::Raise,
+        want: 100,
+    };
     let accept = Command::Accept(Statement {
         from: SiteNo(0),
         to: SiteNo(1),
@@ -132,6 +138,7 @@ fn spells_gifts(rt: HostRuntime) -> Result<(), Fail> {
         )
     );
     assert!(rt; is_command(alloc, &schema, "0 restate 65535 #1 raise", 0, restate));
+    assert!(rt; is_command(alloc, &schema, "0 spare 1 stock raise 100", 0, spare));
     assert!(rt; is_command(alloc, &schema, "1 accept 0 1 stock lower 30", 1, accept));
     Ok(())
 }
@@ -269,6 +276,8 @@ fn refuses_other_gifts(rt: HostRuntime) -> Result<(), Fail> {
     assert!(rt; is_no_command(&schema, "0 give 65536 stock lower 1"));
     assert!(rt; is_no_command(&schema, "0 give 1 stock lower 18446744073709551616"));
     assert!(rt; is_no_command(&schema, "0 restate 1 stock"));
+    assert!(rt; is_no_command(&schema, "0 spare 1 stock raise"));
+    assert!(rt; is_no_command(&schema, "0 spare 1 stock raise 18446744073709551616"));
     assert!(rt; is_no_command(&schema, "0 accept 0 1 stock rise 30"));
     Ok(())
 }
@@ -280,6 +289,11 @@ fn spells_gift_replies(rt: HostRuntime) -> Result<(), Fail> {
     let stated = Reply::Stated {
         total: 18446744073709551615,
     };
+    let spared = Reply::Spared {
+        amount: 8,
+        total: 23,
+    };
+    assert!(rt; is_reply(alloc, &schema, "0 begin -> spared 8 23", spared));
     assert!(rt;
         is_reply(
             alloc,

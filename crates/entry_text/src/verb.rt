@@ -15,6 +15,7 @@ pub(crate) enum Verb {
     Abort,
     Give,
     Restate,
+    Spare,
     Accept,
     Read,
     Share,
@@ -38,6 +39,8 @@ fn verb_named(word: &[u8]) -> Option<Verb>
         Some(Verb::Give)
     } else if is_text(word, "restate") {
         Some(Verb::Restate)
+    } else if is_text(word, "spare") {
+        Some(Verb::Spare)
     } else if is_text(word, "accept") {
         Some(Verb::Accept)
     } else if is_text(word, "read") {

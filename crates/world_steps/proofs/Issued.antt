@@ -4,16 +4,16 @@ use Rattle.std.proofs.lemmas.Option.{same_Some}
 use Rattle.field_bounds.specs.declared.id.SiteNo.{SiteNo}
 use Rattle.field_bounds.specs.declared.entry.Statement.{Statement}
 use Rattle.field_bounds.specs.declared.entry.Command.{Command}
-use Rattle.field_bounds.specs.declared.entry.Command.TheVariants.{Give, Restate}
+use Rattle.field_bounds.specs.declared.entry.Command.TheVariants.{Give, Restate, Spare}
 use Rattle.field_bounds.specs.declared.entry.Reply.{Reply}
-use Rattle.field_bounds.specs.declared.entry.Reply.TheVariants.{Given, Stated}
+use Rattle.field_bounds.specs.declared.entry.Reply.TheVariants.{Given, Stated, Spared}
 use Rattle.field_bounds.specs.declared.entry.Entry.{Entry}
 use Rattle.field_bounds.specs.Schema.{SchemaValue}
 use Rattle.field_bounds.specs.Effects.{fresh}
 use Rattle.field_bounds.specs.Owed.{Place, place, Fits}
 use Rattle.field_bounds.specs.Statements.{told_by, statement_of, IsIssued}
 use Rattle.field_bounds.specs.Central.{own, IsSound}
-use Rattle.field_bounds.proofs.Refused.{answered, give_is_to_a_site, restate_is_to_a_site}
+use Rattle.field_bounds.proofs.Refused.{answered, give_is_to_a_site, restate_is_to_a_site, spare_is_to_a_site}
 use Rattle.field_bounds.proofs.Traces.{sound_front, sound_fits}
 use Rattle.field_bounds.proofs.Ledgers.{told_is_covered}
 use Rattle.world_steps.specs.World.{with_statement, issued, numbered}
@@ -29,6 +29,10 @@ told_to at from (Restate to field kind) (Stated total) told fits h =
     let none = (answered at (Restate to field kind) (Stated total) fits refl).0 in
     let made : Statement = record { from = from; to = to; field = field; kind = kind; total = total } in
     subst (λ (x : Statement). x.to.0 < at.schema.sites) (same_Some made told h) (restate_is_to_a_site at to field kind none)
+told_to at from (Spare to field kind want) (Spared amount total) told fits h =
+    let none = (answered at (Spare to field kind want) (Spared amount total) fits refl).0 in
+    let made : Statement = record { from = from; to = to; field = field; kind = kind; total = total } in
+    subst (λ (x : Statement). x.to.0 < at.schema.sites) (same_Some made told h) (spare_is_to_a_site at to field kind want none)
 told_to at from c r told fits h = cc
 
 pub issued_to : (schema : SchemaValue) (t : List Entry) → IsSound schema t → (told : Statement) → IsIssued told t → told.to.0 < schema.sites

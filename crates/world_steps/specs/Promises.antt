@@ -1,7 +1,7 @@
 -- What is promised of every trace of a world, beside what makes it a run of one central store (this project).
 use Rattle.std.specs.Prelude.{◌≡◌, ℕ, ◌≤ℤ◌, Bool, true, false, List, [], ◌∷◌}
 use Rattle.field_bounds.specs.declared.entry.Reply.{Reply}
-use Rattle.field_bounds.specs.declared.entry.Reply.TheVariants.{Begun, Granted, Committed, Aborted, Given, Stated, Accepted, Between, Shares, Restarted, Unsure, StillDown, Refused}
+use Rattle.field_bounds.specs.declared.entry.Reply.TheVariants.{Begun, Granted, Committed, Aborted, Given, Stated, Spared, Accepted, Between, Shares, Restarted, Unsure, StillDown, Refused}
 use Rattle.field_bounds.specs.declared.entry.Refusal.{Refusal}
 use Rattle.field_bounds.specs.declared.entry.Refusal.TheVariants.{Down, NoSite, NoField, NoTransaction, Zero, TooLarge, Short, SelfGift, LedgerFull, NotYours, Forged, TooManyOpen, TooManyEscrows, NumbersFull, NothingGiven}
 use Rattle.field_bounds.specs.declared.entry.Entry.{Entry}
@@ -52,6 +52,7 @@ IsFamiliar Committed = Unit {0}
 IsFamiliar Aborted = Unit {0}
 IsFamiliar (Given total) = Unit {0}
 IsFamiliar (Stated total) = Unit {0}
+IsFamiliar (Spared amount total) = Unit {0}
 IsFamiliar (Accepted gain) = Unit {0}
 IsFamiliar (Between lo hi) = Unit {0}
 IsFamiliar (Shares lower raise) = Unit {0}
