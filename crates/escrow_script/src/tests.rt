@@ -125,7 +125,7 @@ const WIDEST: &str =
     "{\"sites\":1,\"fields\":[{\"name\":\"stock\",\"floor\":-1000000000000000,\"ceiling\":1000000000000000,\"value\":1000000000000000}]}";
 
 /// Headers, each with command lines and what is replied to them.
-const WORKED: [(&str, &[(&str, &str)]); 12] = [
+const WORKED: [(&str, &[(&str, &str)]); 13] = [
     (
         HEADER,
         &[
@@ -267,6 +267,20 @@ const WORKED: [(&str, &[(&str, &str)]); 12] = [
         ],
     ),
     (
+        HALVED,
+        &[
+            ("0 spare 1 stock raise 100", "spared 15 15"),
+            ("0 spare 1 stock raise 100", "spared 8 23"),
+            ("0 spare 1 stock lower 3", "spared 3 3"),
+            ("0 spare 0 stock lower 3", "refused 8 self gift"),
+            ("0 spare 2 stock lower 3", "refused 2 no site"),
+            ("0 spare 1 stock lower 0", "refused 5 zero"),
+            ("0 give 1 stock lower 17", "given 20"),
+            ("0 spare 1 stock lower 3", "refused 7 short 0"),
+            ("0 share stock", "share 0 7"),
+        ],
+    ),
+    (
         TWINS,
         &[
             ("0 begin", "begun 0.1"),
@@ -281,7 +295,7 @@ const WORKED: [(&str, &[(&str, &str)]); 12] = [
 ];
 
 /// Lines over two sites, with deliveries and torn appends, each beside what answers it.
-const SAID: [&[(&str, &str)]; 12] = [
+const SAID: [&[(&str, &str)]; 13] = [
     // A gift is delivered, and again.
     &[
         (
@@ -337,6 +351,26 @@ const SAID: [&[(&str, &str)]; 12] = [
             "0 restate 1 stock lower -> stated 5",
         ),
         ("deliver 1", "1 accept 0 1 stock lower 5 -> accepted 5"),
+    ],
+    // So does a spare, which gives what it would have been answered.
+    &[
+        (
+            "0 spare 1 stock raise 100 torn 11",
+            "0 spare 1 stock raise 100 -> unsure",
+        ),
+        ("deliver 1", "deliver 1 -> refused 16 no statement"),
+        ("0 restart", "0 restart -> restarted 1 kept"),
+        (
+            "0 restate 1 stock raise",
+            "0 restate 1 stock raise -> stated 15",
+        ),
+        (
+            "0 spare 1 stock raise 100",
+            "0 spare 1 stock raise 100 -> spared 8 23",
+        ),
+        ("deliver 2", "1 accept 0 1 stock raise 23 -> accepted 23"),
+        ("deliver 1", "1 accept 0 1 stock raise 15 -> accepted 0"),
+        ("1 share stock", "1 share stock -> share 20 53"),
     ],
     // A restart whose record is torn fails.
     &[

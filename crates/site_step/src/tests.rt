@@ -61,6 +61,15 @@ fn give_lower(to: u16, amount: u64) -> Command {
     }
 }
 
+fn spare_raise(to: u16, want: u64) -> Command {
+    Command::Spare {
+        to: SiteNo(to),
+        field: STOCK,
+        kind: Kind::Raise,
+        want,
+    }
+}
+
 fn restate_lower(to: u16) -> Command {
     Command::Restate {
         to: SiteNo(to),
@@ -128,6 +137,22 @@ fn gives(rt: HostRuntime) -> Result<(), Fail> {
     );
     assert_eq!(rt; answer(alloc, &mut site, share), Some(shares));
     assert_eq!(rt; answer(alloc, &mut site, read), Some(between));
+    Ok(())
+}
+
+#[test]
+fn spares_half_at_most(rt: HostRuntime) -> Result<(), Fail> {
+    let alloc = rt.alloc();
+    let mut site = site_of_two(&rt, alloc, 0)?;
+    let itself = Reply::Refused(Refusal::SelfGift);
+    for (want, amount, total) in [(100, 15, 15), (100, 8, 23), (2, 2, 25), (9, 3, 28)] {
+        assert_eq!(rt;
+            answer(alloc, &mut site, spare_raise(1, want)),
+            Some(Reply::Spared { amount, total })
+        );
+    }
+    assert_eq!(rt; answer(alloc, &mut site, spare_raise(0, 1)), Some(itself));
+    assert_eq!(rt; site.share(STOCK), Some((20, 2)));
     Ok(())
 }
 

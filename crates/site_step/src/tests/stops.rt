@@ -427,3 +427,23 @@ fn each_length_of_a_torn_gift(rt: HostRuntime) {
         assert_eq!(rt; after, Some((kept, Some((15, 30)))));
     }
 }
+
+#[test]
+fn each_length_of_a_torn_spare(rt: HostRuntime) {
+    let lost = Reply::Restarted {
+        epoch: 1,
+        last: Last::Lost,
+    };
+    let kept = Reply::Restarted {
+        epoch: 1,
+        last: Last::Kept,
+    };
+    for bytes in 0..11 {
+        let after = after_torn(rt.alloc(), &[], spare_raise(1, 100), bytes);
+        assert_eq!(rt; after, Some((lost, Some((20, 30)))));
+    }
+    for bytes in 11..13 {
+        let after = after_torn(rt.alloc(), &[], spare_raise(1, 100), bytes);
+        assert_eq!(rt; after, Some((kept, Some((20, 15)))));
+    }
+}
