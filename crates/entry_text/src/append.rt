@@ -58,7 +58,7 @@ fn push_begun(out: &mut Vec<u8>, txn: TxnId) -> Result<(), AllocError>
 {
     out.extend_from_slice(b"begun ")?;
     push_medium(out, txn.epoch)?;
-    out.extend_from_slice(b".")?;
+    out.push(b'.')?;
     push_medium(out, txn.number)
 }
 
@@ -70,7 +70,7 @@ fn push_between(out: &mut Vec<u8>, lo: i64, hi: i64) -> Result<(), AllocError>
 {
     out.extend_from_slice(b"between ")?;
     push_signed(out, lo)?;
-    out.extend_from_slice(b" ")?;
+    out.push(b' ')?;
     push_signed(out, hi)
 }
 
@@ -92,7 +92,7 @@ fn push_shares(out: &mut Vec<u8>, lower: u64, raise: u64) -> Result<(), AllocErr
 {
     out.extend_from_slice(b"share ")?;
     push_number(out, lower)?;
-    out.extend_from_slice(b" ")?;
+    out.push(b' ')?;
     push_number(out, raise)
 }
 
@@ -113,7 +113,7 @@ fn push_restarted(out: &mut Vec<u8>, epoch: u32, last: Last) -> Result<(), Alloc
 {
     out.extend_from_slice(b"restarted ")?;
     push_medium(out, epoch)?;
-    out.extend_from_slice(b" ")?;
+    out.push(b' ')?;
     out.extend_from_slice(last_word(last))
 }
 

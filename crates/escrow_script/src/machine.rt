@@ -15,6 +15,7 @@ use std::alloc::{AllocError, Global};
 use world_steps::{StepReply, World, WorldStep};
 
 // Adds a piece, or, where memory is refused, cuts back to the first `kept` bytes.
+#[inline]
 fn add(out: &mut Vec<u8>, kept: usize, piece: &[u8]) -> Result<(), AllocError>
     requires { kept ≤ length out.old.items }
     ensures ok { OnOk result (out.new.items ≡ out.old.items ++ piece.now) }
