@@ -94,9 +94,9 @@ impl World {
     /// The trace after it, as after every list of steps, is a run of one central escrow store, with
     /// all that `trace` says of it (`one_store`).
     ///
-    /// Costs what the site's `apply` costs, and amortized pushes of the entry and the statement, which
-    /// are kept, and of what the entry doesn't tell of the step: one byte, and 8 more for the number
-    /// of a delivery and for luck that is torn. Nothing else grows with the trace.
+    /// Costs what the site's `apply` costs, and amortized pushes of the entry, of the statement and of
+    /// what the entry doesn't tell of the step, which are kept: one byte, 8 more for the number of a
+    /// delivery, and 8 more for luck that is torn. Nothing else grows with the trace.
     ///
     /// Source: this project.
     pub fn step(&mut self, alloc: Global, step: &WorldStep) -> Result<StepReply, AllocError>

@@ -66,7 +66,7 @@ const TAKE_NOTHING: Command = Command::Escrow {
 const READ_UNKNOWN: Command = Command::Read { field: FieldNo(1) };
 
 /// Each is refused for its own reason, and nothing was issued.
-const REFUSED: [Told; 6] = [
+const REFUSED: [Told; 7] = [
     Asked(
         0,
         GIVE_ITSELF,
@@ -88,6 +88,7 @@ const REFUSED: [Told; 6] = [
         Reply::Refused(Refusal::NoField),
     ),
     Delivered(1, Luck::Fine, None),
+    Delivered(1, Luck::Torn(3), None),
 ];
 
 #[test]
