@@ -14,7 +14,7 @@ use std::alloc::{AllocError, Global};
 pub(crate) enum Way {
     /// A command whose luck was fine: its entry tells it.
     Asked,
-    /// A command whose luck was torn.
+    /// A command whose luck was torn: its entry tells all but the bytes that it keeps.
     AskedTorn,
     /// A delivery that made an entry, and whose luck was fine.
     Delivered,
