@@ -1,5 +1,5 @@
 -- One piece of input, and all of them.
-use Rattle.std.proofs.Common.{◌≡◌, ◌≢◌, ℕ, ◌+◌, ◌-◌, ◌<◌, ◌≤◌, List, [], ◌++◌, Option, Result, Ok, Err, IfErr, OnErr, length, take, drop, refl, sym, ap, ◌∙◌, subst, append_assoc, append-nil, take-append-drop, arith, inl, inr}
+use Rattle.std.proofs.Common.{◌≡◌, ◌≢◌, ℕ, ◌+◌, ◌-◌, ◌<◌, ◌≤◌, List, [], ◌++◌, Option, Result, Ok, Err, IfErr, OnOk, OnErr, length, take, drop, refl, sym, ap, ◌∙◌, subst, append_assoc, append-nil, take-append-drop, arith, inl, inr}
 use Rattle.std.proofs.lemmas.List.{length-append, length-take-le, length-drop, take-take}
 use Rattle.std.proofs.Math.Seq.{take-append-add}
 use Rattle.std.specs.Io.KnownBytes.{Appends, Consumes, IsAtEnd}
@@ -214,6 +214,10 @@ AppendsFront-after before middle after written out wrote front = (
 pub on_write : {T : Type 0} (r : Result T ScriptFault) (P : Type 0) (Q : ScriptFault → Type 0) → (P → Q Write) → IfErr r (λ fault. fault ≡ Write) → OnErr r P → IfErr r Q
 on_write (Ok x) P Q f is p = tt
 on_write (Err fault) P Q f is p = subst Q (sym is) (f p)
+
+pub on_ok : {T : Type 0} (r : Result T ScriptFault) (P Q : Type 0) → (P → Q) → OnOk r P → OnOk r Q
+on_ok (Ok x) P Q f p = f p
+on_ok (Err fault) P Q f p = tt
 
 pub Fails-last : (from to before middle after : Option (List ℕ)) (s : Script) (ended : End)
     → RunsThrough from to before middle s → AppendsFront middle after s.out.items → Fails from to before after ended Write

@@ -334,7 +334,7 @@ impl Script {
 ///
 /// Output is written before each read, once 64 KiB of it have gathered behind a line, and at the
 /// end. Costs 64 KiB for input and somewhat more for output, and memory for the world, which keeps
-/// each step and each entry.
+/// each entry in its trace and in its site's history.
 ///
 /// Source: O'Neil 1986 for the central store, Balegas and others 2015 for rights that are divided
 /// among sites and given, this project for the script.

@@ -1,6 +1,10 @@
 use Rattle.std.proofs.lemmas.Result.{err_from_is_err_and}
-use Rattle.escrow_script.proofs.PieceLemmas.{Fails-last, Fails-again, Fails-other, on_write}
+use Rattle.escrow_script.proofs.PieceLemmas.{Answers-written, Fails-last, Fails-again, Fails-other, on_ok, on_write}
 use Rattle.escrow_script.proofs.script.run_script.Goals as goal
+
+pub returns-in_default-clause-ok : goal.returns-in_default-clause-ok
+returns-in_default-clause-ok g c =
+    on_ok c.write_out.result _ _ (λ wrote. Answers-written _ _ _ _ _ c.run_to_end.new.self c.in_default.ensures.ok wrote.1) c.write_out.ensures.ok
 
 pub returns-in_default-clause-fault : goal.returns-in_default-clause-fault
 returns-in_default-clause-fault g c =
