@@ -59,10 +59,10 @@ pub fn read_log<M: Medium>(alloc: Global, medium: &mut M) -> Result<ReadLog, Med
 
 /// Adds a record behind the bytes of a medium. The inner result tells how it went: Ok where the
 /// record's whole text stands there; its error is a fault of the device, which leaves some front of
-/// the text: none of it, a part, or all. The outer error is want of memory, which changes nothing.
-/// The record's numbers have to lie in the ranges that `Record` tells. The text is made in `line`,
-/// whatever that held, and its memory is used again: record after record costs none for the text but
-/// where one is longer than each before it.
+/// the text: none of it, a part, or all. The outer error is want of memory, which leaves the medium as
+/// it was. The record's numbers have to lie in the ranges that `Record` tells. The text is made in
+/// `line`, whatever that held, and its memory is used again: record after record costs none for the
+/// text but where one is longer than each before it.
 ///
 /// Source: this project.
 pub fn append_record<M: Medium>(
