@@ -8,7 +8,7 @@ use Rattle.field_bounds.specs.declared.id.TxnId.{TxnId}
 use Rattle.field_bounds.specs.declared.entry.Command.{Command}
 use Rattle.field_bounds.specs.declared.entry.Command.TheVariants.{Begin, Escrow, Commit, Abort, Give, Restate, Spare, Accept, Read, Share, Restart}
 use Rattle.field_bounds.specs.declared.entry.Reply.{Reply}
-use Rattle.field_bounds.specs.declared.entry.Reply.TheVariants.{Granted, Accepted, Between, Unsure, Refused}
+use Rattle.field_bounds.specs.declared.entry.Reply.TheVariants.{Begun, Granted, Committed, Aborted, Given, Stated, Spared, Accepted, Between, Shares, Restarted, Unsure, StillDown, Refused}
 use Rattle.field_bounds.specs.declared.entry.Refusal.TheVariants.{Short}
 use Rattle.field_bounds.specs.declared.entry.Entry.{Entry}
 use Rattle.field_bounds.specs.declared.effect.Effect.{Effect}
@@ -37,8 +37,20 @@ asked_of e = (e.site, e.command)
 
 -- The reply where it is in doubt (this project).
 abbrev pub doubtful : Reply → Option Reply
+doubtful (Begun txn) = None
+doubtful Granted = None
+doubtful Committed = None
+doubtful Aborted = None
+doubtful (Given total) = None
+doubtful (Stated total) = None
+doubtful (Spared amount total) = None
+doubtful (Accepted gain) = None
+doubtful (Between lo hi) = None
+doubtful (Shares lower raise) = None
+doubtful (Restarted epoch found) = None
 doubtful Unsure = Some Unsure
-doubtful reply = None
+doubtful StillDown = None
+doubtful (Refused refusal) = None
 
 -- The reply, where a site's entries alone don't tell it: one in doubt, or to a restart (this project).
 abbrev pub chosen_by : Command → Reply → Option Reply

@@ -66,8 +66,20 @@ epoch_of base [] = base.epoch
 epoch_of base (e ∷ o) = epoch_after (epoch_of base o) e.reply
 
 abbrev pub count_after : (Reply → Bool) → ℕ → Reply → ℕ
+count_after p n (Begun txn) = (if p (Begun txn) then 1 else 0) + n
+count_after p n Granted = (if p Granted then 1 else 0) + n
+count_after p n Committed = (if p Committed then 1 else 0) + n
+count_after p n Aborted = (if p Aborted then 1 else 0) + n
+count_after p n (Given total) = (if p (Given total) then 1 else 0) + n
+count_after p n (Stated total) = (if p (Stated total) then 1 else 0) + n
+count_after p n (Spared amount total) = (if p (Spared amount total) then 1 else 0) + n
+count_after p n (Accepted gain) = (if p (Accepted gain) then 1 else 0) + n
+count_after p n (Between lo hi) = (if p (Between lo hi) then 1 else 0) + n
+count_after p n (Shares lower raise) = (if p (Shares lower raise) then 1 else 0) + n
 count_after p n (Restarted epoch found) = 0
-count_after p n reply = (if p reply then 1 else 0) + n
+count_after p n Unsure = (if p Unsure then 1 else 0) + n
+count_after p n StillDown = (if p StillDown then 1 else 0) + n
+count_after p n (Refused refusal) = (if p (Refused refusal) then 1 else 0) + n
 
 -- The replies since the last restart that pass.
 abbrev pub count_since : (Reply → Bool) → List Entry → ℕ
@@ -76,15 +88,51 @@ count_since p (e ∷ o) = count_after p (count_since p o) e.reply
 
 abbrev pub is_begun_reply : Reply → Bool
 is_begun_reply (Begun txn) = true
-is_begun_reply reply = false
+is_begun_reply Granted = false
+is_begun_reply Committed = false
+is_begun_reply Aborted = false
+is_begun_reply (Given total) = false
+is_begun_reply (Stated total) = false
+is_begun_reply (Spared amount total) = false
+is_begun_reply (Accepted gain) = false
+is_begun_reply (Between lo hi) = false
+is_begun_reply (Shares lower raise) = false
+is_begun_reply (Restarted epoch found) = false
+is_begun_reply Unsure = false
+is_begun_reply StillDown = false
+is_begun_reply (Refused refusal) = false
 
 abbrev pub is_unsure : Reply → Bool
+is_unsure (Begun txn) = false
+is_unsure Granted = false
+is_unsure Committed = false
+is_unsure Aborted = false
+is_unsure (Given total) = false
+is_unsure (Stated total) = false
+is_unsure (Spared amount total) = false
+is_unsure (Accepted gain) = false
+is_unsure (Between lo hi) = false
+is_unsure (Shares lower raise) = false
+is_unsure (Restarted epoch found) = false
 is_unsure Unsure = true
-is_unsure reply = false
+is_unsure StillDown = false
+is_unsure (Refused refusal) = false
 
 abbrev pub is_still_down : Reply → Bool
+is_still_down (Begun txn) = false
+is_still_down Granted = false
+is_still_down Committed = false
+is_still_down Aborted = false
+is_still_down (Given total) = false
+is_still_down (Stated total) = false
+is_still_down (Spared amount total) = false
+is_still_down (Accepted gain) = false
+is_still_down (Between lo hi) = false
+is_still_down (Shares lower raise) = false
+is_still_down (Restarted epoch found) = false
+is_still_down Unsure = false
 is_still_down StillDown = true
-is_still_down reply = false
+is_still_down (Refused refusal) = false
 
 -- How many transactions are open, and how many escrows a transaction has.
 abbrev pub count_open : List Effect → ℕ
@@ -332,10 +380,20 @@ MayRestart at epoch found =
 
 -- What a restart may answer: it may fail at any time, and finds no epoch left only where that may be.
 abbrev pub RestartFits : Place → Reply → Type 0
+RestartFits at (Begun txn) = ⊥
+RestartFits at Granted = ⊥
+RestartFits at Committed = ⊥
+RestartFits at Aborted = ⊥
+RestartFits at (Given total) = ⊥
+RestartFits at (Stated total) = ⊥
+RestartFits at (Spared amount total) = ⊥
+RestartFits at (Accepted gain) = ⊥
+RestartFits at (Between lo hi) = ⊥
+RestartFits at (Shares lower raise) = ⊥
+RestartFits at (Restarted epoch found) = MayRestart at epoch found
+RestartFits at Unsure = ⊥
 RestartFits at StillDown = Unit {0}
 RestartFits at (Refused refusal) = (refusal ≡ NumbersFull) × (max_epoch ≤ last_epoch at)
-RestartFits at (Restarted epoch found) = MayRestart at epoch found
-RestartFits at reply = ⊥
 
 -- The site may give this reply to this command.
 abbrev pub Fits : Place → Command → Reply → Type 0
