@@ -12,8 +12,8 @@ use Rattle.field_bounds.specs.Kind.{other}
 use Rattle.field_bounds.specs.Schema.{FieldValue, SchemaValue}
 use Rattle.field_bounds.specs.Limits.{IsField, IsSchema}
 use Rattle.field_bounds.specs.Parts.{total_of, no_field, field_at, part_of, sum_below}
-use Rattle.field_bounds.specs.Effects.{is_committed, is_open, granted, is_to, gifts, share, fresh}
-use Rattle.field_bounds.specs.Central.{own, at_site, sizes, is_committed_in, is_open_in, outcome, open_sizes, inf, sup, shares, in_flight, given_between, accepted_between, IsSound, IsConserved, IsConservedThroughout}
+use Rattle.field_bounds.specs.Effects.{is_committed, is_open, granted, is_to, gifts, cut, share, fresh}
+use Rattle.field_bounds.specs.Central.{own, at_site, sizes, is_committed_in, is_open_in, outcome, open_sizes, inf, sup, cuts, shares, in_flight, given_between, accepted_between, IsSound, IsConserved, IsConservedThroughout}
 use Rattle.field_bounds.proofs.Parts.{shares_add_up}
 use Rattle.field_bounds.proofs.Lawful.{IsLawful}
 use Rattle.field_bounds.proofs.Runs.{run_is_lawful}
@@ -76,13 +76,17 @@ module _ (schema : SchemaValue) (good : IsSchema schema) (t : List Entry) (sound
   given_by : ℕ → Kind → ℕ → ℕ
   given_by f k s = sum_below schema.sites (λ to. given_between schema t f k s to)
 
+  -- what it gave up for good
+  cut_by : ℕ → Kind → ℕ → ℕ
+  cut_by f k s = cut (fresh schema s) f k (at_site schema t s)
+
   accepted_by : ℕ → Kind → ℕ → ℕ
   accepted_by f k s = sum_below schema.sites (λ from. accepted_between schema t f k from s)
 
-  -- one site: its share, with what it has committed, holds open and gave
+  -- one site: its share, with what it has committed, holds open, gave and gave up
   site_balance : (f : ℕ) (k : Kind) (s : ℕ) → s < schema.sites
-      → ((free_of f k s + committed_of f k s) + open_of f k s) + given_by f k s ≡ (part_of schema s f k + committed_of f (other k) s) + accepted_by f k s
-  unfolding given_by accepted_by
+      → ((free_of f k s + committed_of f k s) + open_of f k s) + (given_by f k s + cut_by f k s) ≡ (part_of schema s f k + committed_of f (other k) s) + accepted_by f k s
+  unfolding given_by cut_by accepted_by
   site_balance f k s below =
       let lawful = lawful_at s below in
       omega (
@@ -99,13 +103,14 @@ module _ (schema : SchemaValue) (good : IsSchema schema) (t : List Entry) (sound
 
   -- all sites
   all_balance : (f : ℕ) (k : Kind)
-      → ((shares schema t f k + total (committed_of f k)) + total (open_of f k)) + total (given_by f k) ≡ (total_of (field_at schema f) k + total (committed_of f (other k))) + total (accepted_by f k)
-  unfolding total
+      → ((shares schema t f k + total (committed_of f k)) + total (open_of f k)) + (total (given_by f k) + cuts schema t f k) ≡ (total_of (field_at schema f) k + total (committed_of f (other k))) + total (accepted_by f k)
+  unfolding total cut_by
   all_balance f k =
       omega (
         arith,
-        sum_below-same schema.sites (λ s. ((free_of f k s + committed_of f k s) + open_of f k s) + given_by f k s) (λ s. (part_of schema s f k + committed_of f (other k) s) + accepted_by f k s) (site_balance f k),
-        sum_below-add schema.sites (λ s. (free_of f k s + committed_of f k s) + open_of f k s) (given_by f k),
+        sum_below-same schema.sites (λ s. ((free_of f k s + committed_of f k s) + open_of f k s) + (given_by f k s + cut_by f k s)) (λ s. (part_of schema s f k + committed_of f (other k) s) + accepted_by f k s) (site_balance f k),
+        sum_below-add schema.sites (λ s. (free_of f k s + committed_of f k s) + open_of f k s) (λ s. given_by f k s + cut_by f k s),
+        sum_below-add schema.sites (given_by f k) (cut_by f k),
         sum_below-add schema.sites (λ s. free_of f k s + committed_of f k s) (open_of f k),
         sum_below-add schema.sites (free_of f k) (committed_of f k),
         sum_below-add schema.sites (λ s. part_of schema s f k + committed_of f (other k) s) (accepted_by f k),
@@ -139,9 +144,9 @@ module _ (schema : SchemaValue) (good : IsSchema schema) (t : List Entry) (sound
       sizes_split p f k schema t sound.sites
       ∙ sum_below-same schema.sites (λ s. sizes (λ _. p s) f k (own s t)) (λ s. granted (p s) f k (at_site schema t s)) (λ s below. sym (effects_sizes (fresh schema s) (p s) f k false (own s t)))
 
-  -- what the sites may take, with what is in flight, is what is not taken yet
+  -- what the sites may take, with what is in flight and what was given up, is what is not taken yet
   pub conserved : (f : ℕ) (k : Kind)
-      → shares schema t f k + in_flight schema t f k + sizes (is_committed_in schema t) f k t + open_sizes schema t f k ≡ total_of (field_at schema f) k + sizes (is_committed_in schema t) f (other k) t
+      → shares schema t f k + in_flight schema t f k + cuts schema t f k + sizes (is_committed_in schema t) f k t + open_sizes schema t f k ≡ total_of (field_at schema f) k + sizes (is_committed_in schema t) f (other k) t
   unfolding total
   conserved f k =
       omega (

@@ -1,14 +1,14 @@
 -- Every sound trace is a run of one central store.
-use Rattle.std.proofs.Common.{◌≡◌, ℕ, ◌<◌, ◌≤◌, Bool, true, false, List, [], ◌∷◌, refl, sym, ◌∙◌, ap, inl, inr, arith, Some}
+use Rattle.std.proofs.Common.{◌≡◌, ℕ, ◌+◌, ◌<◌, ◌≤◌, Bool, true, false, List, [], ◌∷◌, refl, sym, ◌∙◌, ap, inl, inr, arith, Some}
 use Rattle.std.proofs.lemmas.Bool.{eqb-true, eqb-false, ltb-true}
 use Rattle.std.proofs.lemmas.Int.{ints}
 use Rattle.std.specs.Prelude.{unsigned_abs, ℤ, pos, ◌+ℤ◌, ◌-ℤ◌, ◌≤ℤ◌, ◌⊎◌, if◌then◌else◌}
 use Rattle.field_bounds.specs.declared.kind.Kind.{Kind}
 use Rattle.field_bounds.specs.declared.kind.Kind.TheVariants.{Lower, Raise}
 use Rattle.field_bounds.specs.declared.entry.Command.{Command}
-use Rattle.field_bounds.specs.declared.entry.Command.TheVariants.{Begin, Escrow, Give, Spare, Read}
+use Rattle.field_bounds.specs.declared.entry.Command.TheVariants.{Begin, Escrow, Give, Spare, Tighten, Read}
 use Rattle.field_bounds.specs.declared.entry.Reply.{Reply}
-use Rattle.field_bounds.specs.declared.entry.Reply.TheVariants.{Granted, Between, Unsure, Refused}
+use Rattle.field_bounds.specs.declared.entry.Reply.TheVariants.{Granted, Tightened, Between, Unsure, Refused}
 use Rattle.field_bounds.specs.declared.entry.Refusal.{Refusal}
 use Rattle.field_bounds.specs.declared.entry.Refusal.TheVariants.{Short}
 use Rattle.field_bounds.specs.declared.entry.Entry.{Entry}
@@ -16,10 +16,10 @@ use Rattle.field_bounds.specs.Kind.{kind_of}
 use Rattle.field_bounds.specs.Schema.{SchemaValue}
 use Rattle.field_bounds.specs.Limits.{IsSchema}
 use Rattle.field_bounds.specs.Parts.{field_at}
-use Rattle.field_bounds.specs.Effects.{is_open, granted, own_rights, share, fresh}
+use Rattle.field_bounds.specs.Effects.{is_open, granted, own_rights, share, cut, fresh}
 use Rattle.field_bounds.specs.Owed.{Place, Test, place, first, refusals, answer, AnswerFits, Fits}
-use Rattle.field_bounds.specs.Central.{own, at_site, is_open_in, open_sizes, inf, sup, shares, floor_in, ceiling_in, OutcomesAreBounded, MayBeGranted, GrantRule, ShortageRule, IntervalRule, KeepsRules, IsCentral, IsSound, IsConserved}
-use Rattle.field_bounds.proofs.Refused.{match_cases, is_refused, answered, escrow_is_enough}
+use Rattle.field_bounds.specs.Central.{own, at_site, is_open_in, open_sizes, inf, sup, shares, cuts, floor_in, ceiling_in, OutcomesAreBounded, MayBeGranted, GrantRule, ShortageRule, IntervalRule, KeepsRules, IsCentral, IsSound, IsConserved}
+use Rattle.field_bounds.proofs.Refused.{match_cases, is_refused, answered, escrow_is_enough, tighten_is_enough}
 use Rattle.field_bounds.proofs.Sums.{term_below}
 use Rattle.field_bounds.proofs.Traces.{sound_front, sound_fits}
 use Rattle.field_bounds.proofs.Conserved.{outcomes_between, is_conserved, traced, free_of, open_of}
@@ -96,6 +96,9 @@ module _ (schema : SchemaValue) (good : IsSchema schema) (t : List Entry) (sound
   share_within : (f : ℕ) (k : Kind) → share (fresh schema s) f k (at_site schema t s) ≤ shares schema t f k
   share_within f k = term_below schema.sites (free_of schema good t sound f k) s below
 
+  cut_within : (f : ℕ) (k : Kind) → cut (fresh schema s) f k (at_site schema t s) ≤ cuts schema t f k
+  cut_within f k = term_below schema.sites (λ i. cut (fresh schema i) f k (at_site schema t i)) s below
+
   open_within : (f : ℕ) (k : Kind) → granted (λ id. is_open id (at_site schema t s)) f k (at_site schema t s) ≤ open_sizes schema t f k
   open_within f k =
       omega (arith, traced schema good t sound (is_open_in schema t) f k, term_below schema.sites (open_of schema good t sound f k) s below)
@@ -110,6 +113,10 @@ module _ (schema : SchemaValue) (good : IsSchema schema) (t : List Entry) (sound
       let none = (answered (place schema s (fresh schema s) (own s t)) (Escrow txn field change) Granted fits refl).0 in
       let enough = escrow_is_enough (place schema s (fresh schema s) (own s t)) txn field change none in
       λ known. may_be_granted field.0 (kind_of change) (unsigned_abs change) (omega (arith, enough, share_within field.0 (kind_of change)))
+  grant_step (Tighten field kind amount) (Tightened total) fits =
+      let none = (answered (place schema s (fresh schema s) (own s t)) (Tighten field kind amount) (Tightened total) fits refl).0 in
+      let enough = tighten_is_enough (place schema s (fresh schema s) (own s t)) field kind amount none in
+      λ known. may_be_granted field.0 kind amount (omega (arith, enough, share_within field.0 kind))
   grant_step c r fits = tt
 
   shortage_step : (c : Command) (r : Reply) → Fits (place schema s (fresh schema s) (own s t)) c r → ShortageRule schema t s c r
@@ -131,16 +138,22 @@ module _ (schema : SchemaValue) (good : IsSchema schema) (t : List Entry) (sound
         | inl here ↦ (sym here.1, omega (arith, eqb-true _ _ here.0, here.1, eqb-false want 0 (assumption holds.1)))
         | inr none ↦ absurd none
       ]
+  shortage_step (Tighten field kind amount) (Refused (Short h)) fits =
+      let holds = short_fits (place schema s (fresh schema s) (own s t)) (Tighten field kind amount) h fits in
+      λ known. elim holds.0 [
+        | inl here ↦ (sym here.1, omega (arith, ltb-true _ _ here.0, here.1))
+        | inr none ↦ absurd none
+      ]
   shortage_step c r fits = tt
 
   interval_step : (c : Command) (r : Reply) → Fits (place schema s (fresh schema s) (own s t)) c r → IntervalRule schema t c r
   interval_step (Read field) (Between lo hi) fits =
       let both = between_same _ _ _ _ (answered (place schema s (fresh schema s) (own s t)) (Read field) (Between lo hi) fits refl).1 in
-      let low : lo ≡ ((field_at schema field.0).floor +ℤ pos (own_rights (fresh schema s) field.0 Lower (at_site schema t s))) = both.0 in
-      let high : hi ≡ ((field_at schema field.0).ceiling -ℤ pos (own_rights (fresh schema s) field.0 Raise (at_site schema t s))) = both.1 in
+      let low : lo ≡ ((field_at schema field.0).floor +ℤ pos (cut (fresh schema s) field.0 Lower (at_site schema t s) + own_rights (fresh schema s) field.0 Lower (at_site schema t s))) = both.0 in
+      let high : hi ≡ ((field_at schema field.0).ceiling -ℤ pos (cut (fresh schema s) field.0 Raise (at_site schema t s) + own_rights (fresh schema s) field.0 Raise (at_site schema t s))) = both.1 in
       λ known. (
-        omega (arith, ints, low, law.lowering field.0, share_within field.0 Lower, open_within field.0 Lower),
-        omega (arith, ints, high, law.raising field.0, share_within field.0 Raise, open_within field.0 Raise),
+        omega (arith, ints, low, law.lowering field.0, share_within field.0 Lower, cut_within field.0 Lower, open_within field.0 Lower),
+        omega (arith, ints, high, law.raising field.0, share_within field.0 Raise, cut_within field.0 Raise, open_within field.0 Raise),
       )
   interval_step c r fits = tt
 

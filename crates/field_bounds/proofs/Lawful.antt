@@ -19,12 +19,12 @@ pub record MayGrant (schema : SchemaValue) (base : Base) (es : List Effect) (txn
   pub begun : is_begun txn es ≡ true
   pub opened : is_open txn es ≡ true
 
--- what left went to a site of the schema: nothing is given up for good yet
+-- what left went to a site of the schema, or was given up for good
 abbrev pub IsReceiver : SchemaValue → Option SiteNo → Type 0
-IsReceiver schema None = ⊥
+IsReceiver schema None = Unit {0}
 IsReceiver schema (Some site) = site.0 < schema.sites
 
--- what a gift keeps to
+-- what leaves keeps to
 pub record MayGive (schema : SchemaValue) (base : Base) (es : List Effect) (to : Option SiteNo) (f : ℕ) (k : Kind) (amount : ℕ) : Type 0 where
   pub to_site : IsReceiver schema to
   pub in_schema : f < length schema.fields

@@ -1,5 +1,5 @@
 -- No site has accepted more than it was given.
-use Rattle.std.proofs.Common.{◌≡◌, ℕ, ◌+◌, ◌≤◌, max, Bool, true, false, ◌&&◌, cond, List, [], ◌∷◌, refl, sym, ap, subst, inl, inr, arith, eqb, Option, Some, None}
+use Rattle.std.proofs.Common.{◌≡◌, ℕ, ◌+◌, ◌≤◌, max, Bool, true, false, ◌&&◌, cond, List, [], ◌∷◌, ◌++◌, refl, sym, ap, subst, inl, inr, arith, eqb, Option, Some, None}
 use Rattle.std.proofs.lemmas.Bool.{cases_Bool, cases_eq, eq-eqb, eqb-true, and_parts}
 use Rattle.field_bounds.specs.declared.kind.Kind.{Kind}
 use Rattle.field_bounds.specs.declared.kind.Kind.TheVariants.{Lower, Raise}
@@ -15,15 +15,16 @@ use Rattle.field_bounds.specs.declared.effect.Effect.{Effect}
 use Rattle.field_bounds.specs.declared.effect.Effect.TheVariants.{Gives, Accepts}
 use Rattle.field_bounds.specs.Kind.{same_kind}
 use Rattle.field_bounds.specs.Schema.{SchemaValue}
-use Rattle.field_bounds.specs.Effects.{Base, effect_of, counts, with_effect, after, effects, kept_before, says_kept, is_to, gifts, given, accepted, fresh}
+use Rattle.field_bounds.specs.Effects.{Base, effect_of, counts, with_effect, after, effects, kept_before, says_kept, is_to, is_for_good, gifts, given, cut, accepted, fresh}
 use Rattle.field_bounds.specs.Owed.{Place, place, is_unsure, spared_of, told_so_far, Fits}
 use Rattle.field_bounds.specs.Statements.{told_by, IsIssued}
-use Rattle.field_bounds.specs.Central.{own, StatementRule, IsSound, given_between}
+use Rattle.field_bounds.specs.Central.{own, at_site, StatementRule, IsSound, cuts, given_between}
 use Rattle.field_bounds.proofs.Lawful.{same_kind-true}
 use Rattle.field_bounds.proofs.Refused.{answered, not_refused, accept_is_mine}
+use Rattle.field_bounds.proofs.Sums.{sum_below-mono}
 use Rattle.field_bounds.proofs.Traces.{own_here, own_there, sound_front, sound_fits}
 
--- ---- what was given only grows
+-- ---- what left only grows
 
 all_count : (r : Reply) → counts true r ≡ true
 all_count Unsure = refl
@@ -85,13 +86,32 @@ module _ (base : Base) (p : Option SiteNo → Bool) (f : ℕ) (k : Kind) where
         any_kept (kept_before false e.reply) o,
       )
 
-pub given_grows : (schema : SchemaValue) (e : Entry) (t : List Entry) (f : ℕ) (k : Kind) (from to : ℕ) → given_between schema t f k from to ≤ given_between schema (e ∷ t) f k from to
-given_grows schema e t f k from to =
-    let of : List Entry → ℕ = λ o. gifts (is_to to) f k (effects (fresh schema from) false o) in
-    elim (cases_eq e.site.0 from) [
-      | inl here ↦ omega (arith, ap of (own_here from e t here), gifts_after (fresh schema from) (is_to to) f k e (own from t))
-      | inr there ↦ omega (arith, ap of (own_there from e t there))
+left_grows : (schema : SchemaValue) (e : Entry) (t : List Entry) (p : Option SiteNo → Bool) (f : ℕ) (k : Kind) (s : ℕ) → gifts p f k (at_site schema t s) ≤ gifts p f k (at_site schema (e ∷ t) s)
+left_grows schema e t p f k s =
+    let of : List Entry → ℕ = λ o. gifts p f k (effects (fresh schema s) false o) in
+    elim (cases_eq e.site.0 s) [
+      | inl here ↦ omega (arith, ap of (own_here s e t here), gifts_after (fresh schema s) p f k e (own s t))
+      | inr there ↦ omega (arith, ap of (own_there s e t there))
     ]
+
+pub given_grows : (schema : SchemaValue) (e : Entry) (t : List Entry) (f : ℕ) (k : Kind) (from to : ℕ) → given_between schema t f k from to ≤ given_between schema (e ∷ t) f k from to
+given_grows schema e t f k from to = omega (arith, left_grows schema e t (is_to to) f k from)
+
+cut_grows : (schema : SchemaValue) (e : Entry) (t : List Entry) (f : ℕ) (k : Kind) (s : ℕ) → cut (fresh schema s) f k (at_site schema t s) ≤ cut (fresh schema s) f k (at_site schema (e ∷ t) s)
+cut_grows schema e t f k s = omega (arith, left_grows schema e t is_for_good f k s)
+
+-- what was given up is never less behind more entries
+pub cuts_grow : (schema : SchemaValue) (later before : List Entry) (f : ℕ) (k : Kind) → cuts schema before f k ≤ cuts schema (later ++ before) f k
+cuts_grow schema [] before f k = omega arith
+cuts_grow schema (e ∷ later) before f k =
+    omega (
+      arith,
+      cuts_grow schema later before f k,
+      sum_below-mono schema.sites
+          (λ s. cut (fresh schema s) f k (at_site schema (later ++ before) s))
+          (λ s. cut (fresh schema s) f k (at_site schema (e ∷ (later ++ before)) s))
+          (λ s. cut_grows schema e (later ++ before) f k s),
+    )
 
 -- ---- a statement tells no more than was given
 

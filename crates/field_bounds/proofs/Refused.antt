@@ -9,7 +9,7 @@ use Rattle.field_bounds.specs.declared.id.TxnId.{TxnId}
 use Rattle.field_bounds.specs.declared.entry.Statement.{Statement}
 use Rattle.field_bounds.specs.declared.entry.Command.{Command}
 use Rattle.field_bounds.specs.declared.entry.Reply.{Reply}
-use Rattle.field_bounds.specs.declared.entry.Command.TheVariants.{Begin, Escrow, Commit, Abort, Give, Restate, Spare, Accept, Read, Share, Restart}
+use Rattle.field_bounds.specs.declared.entry.Command.TheVariants.{Begin, Escrow, Commit, Abort, Give, Restate, Spare, Tighten, Accept, Read, Share, Restart}
 use Rattle.field_bounds.specs.declared.entry.Reply.TheVariants.{Refused, Unsure}
 use Rattle.field_bounds.specs.declared.entry.Refusal.{Refusal}
 use Rattle.field_bounds.specs.Kind.{kind_of}
@@ -53,6 +53,7 @@ up_there at (Abort txn) n h = not-false (is_up at.base at.entries) (assumption (
 up_there at (Give to field kind amount) n h = not-false (is_up at.base at.entries) (assumption (none_holds (refusals at (Give to field kind amount)) h))
 up_there at (Restate to field kind) n h = not-false (is_up at.base at.entries) (assumption (none_holds (refusals at (Restate to field kind)) h))
 up_there at (Spare to field kind want) n h = not-false (is_up at.base at.entries) (assumption (none_holds (refusals at (Spare to field kind want)) h))
+up_there at (Tighten field kind amount) n h = not-false (is_up at.base at.entries) (assumption (none_holds (refusals at (Tighten field kind amount)) h))
 up_there at (Accept told) n h = not-false (is_up at.base at.entries) (assumption (none_holds (refusals at (Accept told)) h))
 up_there at (Read field) n h = not-false (is_up at.base at.entries) (assumption (none_holds (refusals at (Read field)) h))
 up_there at (Share field) n h = not-false (is_up at.base at.entries) (assumption (none_holds (refusals at (Share field)) h))
@@ -163,6 +164,16 @@ module _ (at : Place) where
 
     pub spare_has_room : told_so_far at to field kind + spared_of at field kind want ≤ max_total
     spare_has_room = ltb-false max_total (told_so_far at to field kind + spared_of at field kind want) (assumption none)
+
+  module _ (field : FieldNo) (kind : Kind) (amount : ℕ) (none : NoneHolds (refusals at (Tighten field kind amount))) where
+    pub tighten_is_in_schema : field.0 < length at.schema.fields
+    tighten_is_in_schema = leb-false (length at.schema.fields) field.0 (assumption none)
+
+    pub tighten_is_some : amount ≢ 0
+    tighten_is_some = eqb-false amount 0 (assumption none)
+
+    pub tighten_is_enough : amount ≤ free at field kind
+    tighten_is_enough = ltb-false (free at field kind) amount (assumption none)
 
   module _ (told : Statement) (none : NoneHolds (refusals at (Accept told))) where
     pub accept_is_from_a_site : told.from.0 < at.schema.sites

@@ -3,7 +3,7 @@ use Rattle.std.proofs.Common.{◌≡◌, ℕ, ◌+◌, ◌<◌, ◌≤◌, Bool,
 use Rattle.std.proofs.lemmas.Bool.{cases_Bool, or_cases, or_parts}
 use Rattle.field_bounds.specs.declared.id.TxnId.{TxnId}
 use Rattle.field_bounds.specs.declared.entry.Command.{Command}
-use Rattle.field_bounds.specs.declared.entry.Command.TheVariants.{Begin, Escrow, Commit, Abort, Give, Restate, Spare, Accept, Read, Share, Restart}
+use Rattle.field_bounds.specs.declared.entry.Command.TheVariants.{Begin, Escrow, Commit, Abort, Give, Restate, Spare, Tighten, Accept, Read, Share, Restart}
 use Rattle.field_bounds.specs.declared.entry.Reply.TheVariants.{Unsure}
 use Rattle.field_bounds.specs.declared.entry.Entry.{Entry}
 use Rattle.field_bounds.specs.declared.effect.Effect.{Effect}
@@ -12,7 +12,7 @@ use Rattle.field_bounds.specs.Schema.{SchemaValue}
 use Rattle.field_bounds.specs.Effects.{Base, same_txn, is_begun, is_committed, is_dropped, is_open, after, effects}
 use Rattle.field_bounds.specs.Owed.{Place, place, refusals, first, answer, free, spared_of, epoch_of, count_since, count_after, is_begun_reply, IsRun}
 use Rattle.field_bounds.proofs.Lawful.{IsLawful, same_txn-true, open_parts}
-use Rattle.field_bounds.proofs.Refused.{none_holds, escrow_is_in_schema, escrow_is_opened, escrow_is_enough, commit_is_opened, abort_is_opened, give_is_to_a_site, give_is_in_schema, give_is_enough, spare_is_to_a_site, spare_is_in_schema, accept_is_from_a_site, accept_is_in_schema}
+use Rattle.field_bounds.proofs.Refused.{none_holds, escrow_is_in_schema, escrow_is_opened, escrow_is_enough, commit_is_opened, abort_is_opened, give_is_to_a_site, give_is_in_schema, give_is_enough, spare_is_to_a_site, spare_is_in_schema, tighten_is_in_schema, tighten_is_enough, accept_is_from_a_site, accept_is_in_schema}
 use Rattle.field_bounds.proofs.Sparing.{spared_is_there}
 use Rattle.field_bounds.proofs.Doubt.{run_holds}
 
@@ -145,6 +145,15 @@ module _ (schema : SchemaValue) (s : ℕ) (base : Base) (o : List Entry) where
       record {
         numbered = record { epochs = l.numbered.epochs; numbers = l.numbered.numbers; current = l.numbered.current };
         lawful = (l.lawful, record { to_site = spare_is_to_a_site at to field kind want none; in_schema = spare_is_in_schema at to field kind want none; enough = spared_is_there (free at field kind) want });
+      } in
+      (still more may, either kept more may l)
+  carries (Tighten field kind amount) h kept l =
+      let none = none_holds (refusals at (Tighten field kind amount)) h in
+      let more : List Effect = Gives None field kind amount ∷ es in
+      let may : Now count more =
+      record {
+        numbered = record { epochs = l.numbered.epochs; numbers = l.numbered.numbers; current = l.numbered.current };
+        lawful = (l.lawful, record { to_site = tt; in_schema = tighten_is_in_schema at field kind amount none; enough = tighten_is_enough at field kind amount none });
       } in
       (still more may, either kept more may l)
   carries (Accept told) h kept l =

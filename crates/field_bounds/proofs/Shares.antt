@@ -8,10 +8,10 @@ use Rattle.field_bounds.specs.declared.effect.Effect.{Effect}
 use Rattle.field_bounds.specs.declared.effect.Effect.TheVariants.{Begins, Grants, Commits, Aborts, Gives, Accepts, Stops}
 use Rattle.field_bounds.specs.Kind.{kind_of, same_kind, other}
 use Rattle.field_bounds.specs.Schema.{SchemaValue}
-use Rattle.field_bounds.specs.Effects.{Base, is_committed, is_dropped, is_open, granted, is_to, gifts, accepted, gains, share}
+use Rattle.field_bounds.specs.Effects.{Base, is_committed, is_dropped, is_open, granted, is_to, is_for_good, gifts, accepted, gains, share}
 use Rattle.field_bounds.specs.Parts.{sum_below}
 use Rattle.field_bounds.proofs.Lawful.{IsLawful, covered}
-use Rattle.field_bounds.proofs.Sums.{sum_below_bump, sum_below-zero}
+use Rattle.field_bounds.proofs.Sums.{sum_below_bump, sum_below-zero, sum_below-same}
 
 split_step : (on c d : Bool) (n : ℕ) → cond (on && true) n 0 ≡ cond (on && (not c && d)) n 0 + cond (on && c) n 0 + cond (on && (not c && not d)) n 0
 split_step false c d n = refl
@@ -39,7 +39,7 @@ pub balance : (schema : SchemaValue) (base : Base) (es : List Effect) → IsLawf
 balance schema base es lawful f k =
     omega (arith, covered schema base es lawful f k, granted_split (λ id. is_committed id es) (λ id. is_dropped id es) f k es)
 
--- ---- gifts to all sites, and gains from all
+-- ---- what left for all sites and for good, and gains from all
 
 gift_here : (on : Bool) (to site amount : ℕ) → site ≢ to → cond (on && eqb to site) amount 0 ≡ 0
 gift_here true to site amount apart = rw (ne_eqb to site (λ e. apart (sym e))) refl
@@ -49,16 +49,30 @@ gift_there : (on : Bool) (to amount : ℕ) → cond (on && eqb to to) amount 0 �
 gift_there true to amount = rw (eq-eqb to to refl) refl
 gift_there false to amount = refl
 
--- the gifts to all are the gifts to each
+gift_nowhere : (on : Bool) (amount : ℕ) → cond (on && false) amount 0 ≡ 0
+gift_nowhere true amount = refl
+gift_nowhere false amount = refl
+
+-- all that left is the gifts to each, and what was given up for good
 pub gifts_split : (schema : SchemaValue) (base : Base) (es : List Effect) → IsLawful schema base es → (f : ℕ) (k : Kind)
-    → gifts (λ _. true) f k es ≡ sum_below schema.sites (λ to. gifts (is_to to) f k es)
-gifts_split schema base [] lawful f k = sym (sum_below-zero schema.sites)
-gifts_split schema base (Gives None field kind amount ∷ es) lawful f k = absurd lawful.1.to_site
+    → gifts (λ _. true) f k es ≡ sum_below schema.sites (λ to. gifts (is_to to) f k es) + gifts is_for_good f k es
+gifts_split schema base [] lawful f k = omega (arith, sum_below-zero schema.sites)
+gifts_split schema base (Gives None field kind amount ∷ es) lawful f k =
+    let on = eqb field.0 f && same_kind kind k in
+    omega (
+      arith,
+      gifts_split schema base es lawful.0 f k,
+      sum_below-same schema.sites
+          (λ j. gifts (is_to j) f k (Gives None field kind amount ∷ es))
+          (λ j. gifts (is_to j) f k es)
+          (λ j less. omega (arith, gift_nowhere on amount)),
+    )
 gifts_split schema base (Gives (Some to) field kind amount ∷ es) lawful f k =
     let on = eqb field.0 f && same_kind kind k in
     omega (
       arith,
       gifts_split schema base es lawful.0 f k,
+      gift_nowhere on amount,
       sum_below_bump schema.sites
           (λ j. gifts (is_to j) f k es)
           (λ j. gifts (is_to j) f k (Gives (Some to) field kind amount ∷ es))

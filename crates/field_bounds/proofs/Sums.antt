@@ -8,6 +8,11 @@ pub sum_below-same : (n : ℕ) (F G : ℕ → ℕ) → ((j : ℕ) → j < n → 
 sum_below-same zero F G h = refl
 sum_below-same (suc n) F G h = omega (arith, h n (omega arith), sum_below-same n F G (λ j below. h j (omega arith)))
 
+-- no term is less
+pub sum_below-mono : (n : ℕ) (F G : ℕ → ℕ) → ((j : ℕ) → F j ≤ G j) → sum_below n F ≤ sum_below n G
+sum_below-mono zero F G h = omega arith
+sum_below-mono (suc n) F G h = omega (arith, h n, sum_below-mono n F G h)
+
 -- a sum of sums
 pub sum_below-add : (n : ℕ) (F G : ℕ → ℕ) → sum_below n (λ j. F j + G j) ≡ sum_below n F + sum_below n G
 sum_below-add zero F G = refl

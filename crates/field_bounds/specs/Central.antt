@@ -6,16 +6,16 @@ use Rattle.field_bounds.specs.declared.kind.Kind.TheVariants.{Lower, Raise}
 use Rattle.field_bounds.specs.declared.id.SiteNo.{SiteNo}
 use Rattle.field_bounds.specs.declared.id.TxnId.{TxnId}
 use Rattle.field_bounds.specs.declared.entry.Command.{Command}
-use Rattle.field_bounds.specs.declared.entry.Command.TheVariants.{Begin, Escrow, Commit, Abort, Give, Restate, Spare, Accept, Read, Share, Restart}
+use Rattle.field_bounds.specs.declared.entry.Command.TheVariants.{Begin, Escrow, Commit, Abort, Give, Restate, Spare, Tighten, Accept, Read, Share, Restart}
 use Rattle.field_bounds.specs.declared.entry.Reply.{Reply}
-use Rattle.field_bounds.specs.declared.entry.Reply.TheVariants.{Begun, Granted, Committed, Aborted, Given, Stated, Spared, Accepted, Between, Shares, Restarted, Unsure, StillDown, Refused}
+use Rattle.field_bounds.specs.declared.entry.Reply.TheVariants.{Begun, Granted, Committed, Aborted, Given, Stated, Spared, Tightened, Accepted, Between, Shares, Restarted, Unsure, StillDown, Refused}
 use Rattle.field_bounds.specs.declared.entry.Refusal.TheVariants.{Short}
 use Rattle.field_bounds.specs.declared.entry.Entry.{Entry}
 use Rattle.field_bounds.specs.declared.effect.Effect.{Effect}
 use Rattle.field_bounds.specs.Kind.{same_kind, kind_of}
 use Rattle.field_bounds.specs.Schema.{SchemaValue}
 use Rattle.field_bounds.specs.Parts.{field_at, sum_below}
-use Rattle.field_bounds.specs.Effects.{fresh, is_committed, is_open, given, accepted, share, effects}
+use Rattle.field_bounds.specs.Effects.{fresh, is_committed, is_open, given, cut, accepted, share, effects}
 use Rattle.field_bounds.specs.Owed.{IsRun}
 use Rattle.field_bounds.specs.Statements.{IsIssued}
 
@@ -44,6 +44,7 @@ doubtful Aborted = None
 doubtful (Given total) = None
 doubtful (Stated total) = None
 doubtful (Spared amount total) = None
+doubtful (Tightened total) = None
 doubtful (Accepted gain) = None
 doubtful (Between lo hi) = None
 doubtful (Shares lower raise) = None
@@ -61,6 +62,7 @@ chosen_by (Abort txn) reply = doubtful reply
 chosen_by (Give to field kind amount) reply = doubtful reply
 chosen_by (Restate to field kind) reply = doubtful reply
 chosen_by (Spare to field kind want) reply = doubtful reply
+chosen_by (Tighten field kind amount) reply = doubtful reply
 chosen_by (Accept told) reply = doubtful reply
 chosen_by (Read field) reply = doubtful reply
 chosen_by (Share field) reply = doubtful reply
@@ -95,6 +97,7 @@ size_of p f k s (Abort txn) reply = 0
 size_of p f k s (Give to field kind amount) reply = 0
 size_of p f k s (Restate to field kind) reply = 0
 size_of p f k s (Spare to field kind want) reply = 0
+size_of p f k s (Tighten field kind amount) reply = 0
 size_of p f k s (Accept told) reply = 0
 size_of p f k s (Read field) reply = 0
 size_of p f k s (Share field) reply = 0
@@ -115,6 +118,7 @@ change_of p f s (Abort txn) reply = pos 0
 change_of p f s (Give to field kind amount) reply = pos 0
 change_of p f s (Restate to field kind) reply = pos 0
 change_of p f s (Spare to field kind want) reply = pos 0
+change_of p f s (Tighten field kind amount) reply = pos 0
 change_of p f s (Accept told) reply = pos 0
 change_of p f s (Read field) reply = pos 0
 change_of p f s (Share field) reply = pos 0
@@ -153,12 +157,17 @@ outcome schema t f chosen = (field_at schema f).value +ℤ changes (is_committed
 
 -- ---- the bounds of a field in a trace
 
--- The floor of a field after a trace, and its ceiling: those of the schema, as no command moves a bound yet (this project).
-abbrev pub floor_in : SchemaValue → List Entry → ℕ → ℤ
-floor_in schema t f = (field_at schema f).floor
+-- What all sites have given up for good, of a kind on a field, added up (this project).
+abbrev pub cuts : SchemaValue → List Entry → ℕ → Kind → ℕ
+cuts schema t f k = sum_below schema.sites (λ s. cut (fresh schema s) f k (at_site schema t s))
 
+-- The floor of a field after a trace: that of the schema, raised by all rights to lower that were given up (this project).
+abbrev pub floor_in : SchemaValue → List Entry → ℕ → ℤ
+floor_in schema t f = (field_at schema f).floor +ℤ pos (cuts schema t f Lower)
+
+-- The ceiling of a field after a trace: that of the schema, lowered by all rights to raise that were given up (this project).
 abbrev pub ceiling_in : SchemaValue → List Entry → ℕ → ℤ
-ceiling_in schema t f = (field_at schema f).ceiling
+ceiling_in schema t f = (field_at schema f).ceiling -ℤ pos (cuts schema t f Raise)
 
 -- Whichever open transactions are committed and whichever aborted, each field's value is left within its bounds: no
 -- outcome lies below the floor or above the ceiling (O'Neil 1986).
@@ -175,7 +184,8 @@ abbrev pub MayBeGranted : SchemaValue → List Entry → ℕ → Kind → ℕ �
 MayBeGranted schema t f Lower n = floor_in schema t f ≤ℤ (inf schema t f -ℤ pos n)
 MayBeGranted schema t f Raise n = (sup schema t f +ℤ pos n) ≤ℤ ceiling_in schema t f
 
--- An escrow on a field of the schema is granted only where one central store may grant it (this project).
+-- An escrow on a field of the schema is granted, and rights on one are given up, only where one central store may grant a
+-- change of that size (this project).
 abbrev pub GrantRule : SchemaValue → List Entry → Command → Reply → Type 0
 GrantRule schema t Begin reply = Unit {0}
 GrantRule schema t (Escrow txn field change) Granted =
@@ -186,6 +196,9 @@ GrantRule schema t (Abort txn) reply = Unit {0}
 GrantRule schema t (Give to field kind amount) reply = Unit {0}
 GrantRule schema t (Restate to field kind) reply = Unit {0}
 GrantRule schema t (Spare to field kind want) reply = Unit {0}
+GrantRule schema t (Tighten field kind amount) (Tightened total) =
+    field.0 < length schema.fields → MayBeGranted schema t field.0 kind amount
+GrantRule schema t (Tighten field kind amount) reply = Unit {0}
 GrantRule schema t (Accept told) reply = Unit {0}
 GrantRule schema t (Read field) reply = Unit {0}
 GrantRule schema t (Share field) reply = Unit {0}
@@ -196,7 +209,7 @@ abbrev pub IsShortage : SchemaValue → List Entry → ℕ → ℕ → Kind → 
 IsShortage schema t s f k asked told =
     f < length schema.fields → (told ≡ share (fresh schema s) f k (at_site schema t s)) × (told < asked)
 
--- An escrow, a gift or a spare that is refused as short is told such a shortage (this project).
+-- An escrow, a gift, a spare or a tightening that is refused as short is told such a shortage (this project).
 abbrev pub ShortageRule : SchemaValue → List Entry → ℕ → Command → Reply → Type 0
 ShortageRule schema t s Begin reply = Unit {0}
 ShortageRule schema t s (Escrow txn field change) (Refused (Short told)) =
@@ -209,6 +222,8 @@ ShortageRule schema t s (Give to field kind amount) reply = Unit {0}
 ShortageRule schema t s (Restate to field kind) reply = Unit {0}
 ShortageRule schema t s (Spare to field kind want) (Refused (Short told)) = IsShortage schema t s field.0 kind want told
 ShortageRule schema t s (Spare to field kind want) reply = Unit {0}
+ShortageRule schema t s (Tighten field kind amount) (Refused (Short told)) = IsShortage schema t s field.0 kind amount told
+ShortageRule schema t s (Tighten field kind amount) reply = Unit {0}
 ShortageRule schema t s (Accept told) reply = Unit {0}
 ShortageRule schema t s (Read field) reply = Unit {0}
 ShortageRule schema t s (Share field) reply = Unit {0}
@@ -223,6 +238,7 @@ IntervalRule schema t (Abort txn) reply = Unit {0}
 IntervalRule schema t (Give to field kind amount) reply = Unit {0}
 IntervalRule schema t (Restate to field kind) reply = Unit {0}
 IntervalRule schema t (Spare to field kind want) reply = Unit {0}
+IntervalRule schema t (Tighten field kind amount) reply = Unit {0}
 IntervalRule schema t (Accept told) reply = Unit {0}
 IntervalRule schema t (Read field) (Between lo hi) =
     field.0 < length schema.fields → (lo ≤ℤ committed schema t field.0) × (committed schema t field.0 ≤ℤ hi)
@@ -239,6 +255,7 @@ StatementRule t (Abort txn) reply = Unit {0}
 StatementRule t (Give to field kind amount) reply = Unit {0}
 StatementRule t (Restate to field kind) reply = Unit {0}
 StatementRule t (Spare to field kind want) reply = Unit {0}
+StatementRule t (Tighten field kind amount) reply = Unit {0}
 StatementRule t (Accept told) (Accepted gain) = IsIssued told t
 StatementRule t (Accept told) Unsure = IsIssued told t
 StatementRule t (Accept told) reply = Unit {0}
@@ -299,7 +316,7 @@ in_flight schema t f k =
 abbrev pub shares : SchemaValue → List Entry → ℕ → Kind → ℕ
 shares schema t f k = sum_below schema.sites (λ s. share (fresh schema s) f k (at_site schema t s))
 
--- Rights are conserved: the infimum lies above the floor, and the supremum below the ceiling, by exactly the shares
+-- Rights are conserved: the infimum lies above the trace's floor, and the supremum below its ceiling, by exactly the shares
 -- of all sites and the rights in flight; and no site has accepted more from another than that gave it (Balegas and
 -- others 2015 for the floor, this project for both, for open escrows and for what is in flight).
 pub record IsConserved (schema : SchemaValue) (t : List Entry) : Type 0 where

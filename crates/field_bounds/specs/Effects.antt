@@ -8,9 +8,9 @@ use Rattle.field_bounds.specs.declared.effect.Effect.{Effect}
 use Rattle.field_bounds.specs.declared.effect.Effect.TheVariants.{Begins, Grants, Commits, Aborts, Gives, Accepts, Stops}
 use Rattle.field_bounds.specs.declared.entry.Escrow.{Escrow as EscrowOf}
 use Rattle.field_bounds.specs.declared.entry.Command.{Command}
-use Rattle.field_bounds.specs.declared.entry.Command.TheVariants.{Begin, Escrow, Commit, Abort, Give, Restate, Spare, Accept, Read, Share, Restart}
+use Rattle.field_bounds.specs.declared.entry.Command.TheVariants.{Begin, Escrow, Commit, Abort, Give, Restate, Spare, Tighten, Accept, Read, Share, Restart}
 use Rattle.field_bounds.specs.declared.entry.Reply.{Reply}
-use Rattle.field_bounds.specs.declared.entry.Reply.TheVariants.{Begun, Granted, Committed, Aborted, Given, Stated, Spared, Accepted, Between, Shares, Restarted, Unsure, StillDown, Refused}
+use Rattle.field_bounds.specs.declared.entry.Reply.TheVariants.{Begun, Granted, Committed, Aborted, Given, Stated, Spared, Tightened, Accepted, Between, Shares, Restarted, Unsure, StillDown, Refused}
 use Rattle.field_bounds.specs.declared.entry.Last.{Last}
 use Rattle.field_bounds.specs.declared.entry.Last.TheVariants.{Nothing, Kept, Lost}
 use Rattle.field_bounds.specs.declared.entry.Entry.{Entry}
@@ -18,18 +18,20 @@ use Rattle.field_bounds.specs.Kind.{other, same_kind, kind_of}
 use Rattle.field_bounds.specs.Schema.{SchemaValue}
 use Rattle.field_bounds.specs.Parts.{part_of}
 
--- What a site's history stands on: whether it is up, its epoch, its rights by field and kind, and the totals that it
--- has given to and accepted from each site, by site, field and kind (this project).
+-- What a site's history stands on: whether it is up, its epoch, its rights by field and kind, the cut, which is what it has
+-- given up for good, by field and kind, and the totals that it has given to and accepted from each site, by site, field and
+-- kind (this project).
 pub record Base : Type 0 where
   pub up : Bool
   pub epoch : ℕ
   pub rights : ℕ → Kind → ℕ
+  pub cut : ℕ → Kind → ℕ
   pub given : ℕ → ℕ → Kind → ℕ
   pub accepted : ℕ → ℕ → Kind → ℕ
 
--- The base of a site that has answered nothing yet: up, at epoch 0, with its parts, and nothing given or accepted.
+-- The base of a site that has answered nothing yet: up, at epoch 0, with its parts, and nothing given up, given or accepted.
 abbrev pub fresh : SchemaValue → ℕ → Base
-fresh schema s = record { up = true; epoch = 0; rights = part_of schema s; given = λ _ _ _. 0; accepted = λ _ _ _. 0 }
+fresh schema s = record { up = true; epoch = 0; rights = part_of schema s; cut = λ _ _. 0; given = λ _ _ _. 0; accepted = λ _ _ _. 0 }
 
 -- Whether two ids name one transaction.
 abbrev pub same_txn : TxnId → TxnId → Bool
@@ -95,6 +97,11 @@ abbrev pub is_to : ℕ → Option SiteNo → Bool
 is_to s None = false
 is_to s (Some site) = site.0 == s
 
+-- Whether what left was given up for good.
+abbrev pub is_for_good : Option SiteNo → Bool
+is_for_good None = true
+is_for_good (Some site) = false
+
 -- The amounts of a kind on field f that left, to the receivers that pass.
 abbrev pub gifts : (Option SiteNo → Bool) → ℕ → Kind → List Effect → ℕ
 gifts p f k [] = 0
@@ -123,6 +130,10 @@ gains base f k [] = 0
 gains base f k (Accepts site field kind total ∷ es) =
     (if (field.0 == f) && same_kind kind k then total - accepted base site.0 f k es else 0) + gains base f k es
 gains base f k (_ ∷ es) = gains base f k es
+
+-- The cut: what the site has given up for good (this project).
+abbrev pub cut : Base → ℕ → Kind → List Effect → ℕ
+cut base f k es = base.cut f k + gifts is_for_good f k es
 
 -- ---- the rights of a site (Balegas and others 2015: what was gained less what was spent; this project for the two kinds)
 
@@ -175,6 +186,9 @@ effect_of base es (Restate to field kind) reply = None
 effect_of base es (Spare to field kind want) (Spared amount total) = Some (Gives (Some to) field kind amount)
 effect_of base es (Spare to field kind want) Unsure = Some (Gives (Some to) field kind (spared (share base field.0 kind es) want))
 effect_of base es (Spare to field kind want) reply = None
+effect_of base es (Tighten field kind amount) (Tightened total) = Some (Gives None field kind amount)
+effect_of base es (Tighten field kind amount) Unsure = Some (Gives None field kind amount)
+effect_of base es (Tighten field kind amount) reply = None
 effect_of base es (Accept told) (Accepted gain) = Some (Accepts told.from told.field told.kind told.total)
 effect_of base es (Accept told) Unsure = Some (Accepts told.from told.field told.kind told.total)
 effect_of base es (Accept told) reply = None
@@ -192,6 +206,7 @@ counts kept Aborted = true
 counts kept (Given total) = true
 counts kept (Stated total) = true
 counts kept (Spared amount total) = true
+counts kept (Tightened total) = true
 counts kept (Accepted gain) = true
 counts kept (Between lo hi) = true
 counts kept (Shares lower raise) = true
@@ -224,6 +239,7 @@ kept_before kept Aborted = kept
 kept_before kept (Given total) = kept
 kept_before kept (Stated total) = kept
 kept_before kept (Spared amount total) = kept
+kept_before kept (Tightened total) = kept
 kept_before kept (Accepted gain) = kept
 kept_before kept (Between lo hi) = kept
 kept_before kept (Shares lower raise) = kept

@@ -12,3 +12,4 @@ pub mod Central
 pub mod Worked
 pub mod WorkedGifts
 pub mod WorkedRestarts
+pub mod WorkedTightenings

@@ -11,10 +11,10 @@ abbrev pub max_header : ℕ
 max_header = 65536
 
 abbrev pub max_sites : ℕ
-max_sites = 16
+max_sites = 64
 
 abbrev pub max_fields : ℕ
-max_fields = 64
+max_fields = 256
 
 abbrev pub max_name : ℕ
 max_name = 32

@@ -6,9 +6,9 @@ use Rattle.field_bounds.specs.declared.id.TxnId.{TxnId}
 use Rattle.field_bounds.specs.declared.id.FieldNo.{FieldNo}
 use Rattle.field_bounds.specs.declared.id.SiteNo.{SiteNo}
 use Rattle.field_bounds.specs.declared.entry.Command.{Command}
-use Rattle.field_bounds.specs.declared.entry.Command.TheVariants.{Begin, Escrow, Commit, Abort, Give, Restate, Spare, Accept, Read, Share, Restart}
+use Rattle.field_bounds.specs.declared.entry.Command.TheVariants.{Begin, Escrow, Commit, Abort, Give, Restate, Spare, Tighten, Accept, Read, Share, Restart}
 use Rattle.field_bounds.specs.declared.entry.Reply.{Reply}
-use Rattle.field_bounds.specs.declared.entry.Reply.TheVariants.{Begun, Granted, Committed, Aborted, Given, Stated, Spared, Accepted, Between, Shares, Restarted, Unsure, StillDown, Refused}
+use Rattle.field_bounds.specs.declared.entry.Reply.TheVariants.{Begun, Granted, Committed, Aborted, Given, Stated, Spared, Tightened, Accepted, Between, Shares, Restarted, Unsure, StillDown, Refused}
 use Rattle.field_bounds.specs.declared.entry.Last.{Last}
 use Rattle.field_bounds.specs.declared.entry.Last.TheVariants.{Nothing}
 use Rattle.field_bounds.specs.declared.entry.Refusal.{Refusal}
@@ -19,7 +19,7 @@ use Rattle.field_bounds.specs.declared.effect.Effect.{Effect}
 use Rattle.field_bounds.specs.Kind.{kind_of}
 use Rattle.field_bounds.specs.Schema.{SchemaValue}
 use Rattle.field_bounds.specs.Parts.{field_at, width_of}
-use Rattle.field_bounds.specs.Effects.{Base, is_begun, is_open, open_txns, escrows_of, given, accepted, share, own_rights, spared, effects}
+use Rattle.field_bounds.specs.Effects.{Base, is_begun, is_open, open_txns, escrows_of, given, cut, accepted, share, own_rights, spared, effects}
 
 -- ---- up or down, epochs and counts
 
@@ -31,6 +31,7 @@ up_after up Aborted = up
 up_after up (Given total) = up
 up_after up (Stated total) = up
 up_after up (Spared amount total) = up
+up_after up (Tightened total) = up
 up_after up (Accepted gain) = up
 up_after up (Between lo hi) = up
 up_after up (Shares lower raise) = up
@@ -52,6 +53,7 @@ epoch_after epoch Aborted = epoch
 epoch_after epoch (Given total) = epoch
 epoch_after epoch (Stated total) = epoch
 epoch_after epoch (Spared amount total) = epoch
+epoch_after epoch (Tightened total) = epoch
 epoch_after epoch (Accepted gain) = epoch
 epoch_after epoch (Between lo hi) = epoch
 epoch_after epoch (Shares lower raise) = epoch
@@ -73,6 +75,7 @@ count_after p n Aborted = (if p Aborted then 1 else 0) + n
 count_after p n (Given total) = (if p (Given total) then 1 else 0) + n
 count_after p n (Stated total) = (if p (Stated total) then 1 else 0) + n
 count_after p n (Spared amount total) = (if p (Spared amount total) then 1 else 0) + n
+count_after p n (Tightened total) = (if p (Tightened total) then 1 else 0) + n
 count_after p n (Accepted gain) = (if p (Accepted gain) then 1 else 0) + n
 count_after p n (Between lo hi) = (if p (Between lo hi) then 1 else 0) + n
 count_after p n (Shares lower raise) = (if p (Shares lower raise) then 1 else 0) + n
@@ -94,6 +97,7 @@ is_begun_reply Aborted = false
 is_begun_reply (Given total) = false
 is_begun_reply (Stated total) = false
 is_begun_reply (Spared amount total) = false
+is_begun_reply (Tightened total) = false
 is_begun_reply (Accepted gain) = false
 is_begun_reply (Between lo hi) = false
 is_begun_reply (Shares lower raise) = false
@@ -110,6 +114,7 @@ is_unsure Aborted = false
 is_unsure (Given total) = false
 is_unsure (Stated total) = false
 is_unsure (Spared amount total) = false
+is_unsure (Tightened total) = false
 is_unsure (Accepted gain) = false
 is_unsure (Between lo hi) = false
 is_unsure (Shares lower raise) = false
@@ -126,6 +131,7 @@ is_still_down Aborted = false
 is_still_down (Given total) = false
 is_still_down (Stated total) = false
 is_still_down (Spared amount total) = false
+is_still_down (Tightened total) = false
 is_still_down (Accepted gain) = false
 is_still_down (Between lo hi) = false
 is_still_down (Shares lower raise) = false
@@ -195,6 +201,14 @@ free at field kind = share at.base field.0 kind at.effects
 abbrev pub owned : Place → FieldNo → Kind → ℕ
 owned at field kind = own_rights at.base field.0 kind at.effects
 
+-- What the site has given up for good so far, of a kind on a field.
+abbrev pub cut_so_far : Place → FieldNo → Kind → ℕ
+cut_so_far at field kind = cut at.base field.0 kind at.effects
+
+-- What the site guards of a field's width: the rights of a kind that it owns, and those that it has given up for good.
+abbrev pub guarded : Place → FieldNo → Kind → ℕ
+guarded at field kind = cut_so_far at field kind + owned at field kind
+
 -- The total given so far to a site, of a kind on a field.
 abbrev pub told_so_far : Place → SiteNo → FieldNo → Kind → ℕ
 told_so_far at to field kind = given at.base to.0 field.0 kind at.effects
@@ -207,9 +221,9 @@ spared_of at field kind want = spared (free at field kind) want
 abbrev pub gain_of : Place → SiteNo → FieldNo → Kind → ℕ → ℕ
 gain_of at from field kind total = total - accepted at.base from.0 field.0 kind at.effects
 
--- The room: what the site's own rights of both kinds leave of the field's width.
+-- The room: what the site's own rights of both kinds, and those that it has given up, leave of the field's width.
 abbrev pub room : Place → FieldNo → ℕ
-room at field = width_of (field_at at.schema field.0) - (owned at field Lower + owned at field Raise)
+room at field = width_of (field_at at.schema field.0) - (guarded at field Lower + guarded at field Raise)
 
 -- The tests, each with its refusal.
 abbrev pub down : Place → Test
@@ -278,6 +292,8 @@ refusals at (Restate to field kind) =
 refusals at (Spare to field kind want) =
     down at ∷ no_site at to ∷ no_field at field ∷ zero_asked want ∷ too_large max_change want
     ∷ no_share at field kind ∷ self_gift at to ∷ ledger_full at to field kind (spared_of at field kind want) ∷ []
+refusals at (Tighten field kind amount) =
+    down at ∷ no_field at field ∷ zero_asked amount ∷ too_large max_change amount ∷ short at field kind amount ∷ []
 refusals at (Accept told) =
     down at ∷ no_site at told.from ∷ no_site at told.to ∷ no_field at told.field ∷ zero_asked told.total
     ∷ too_large max_total told.total ∷ self_gift at told.from ∷ not_yours at told.to ∷ forged at told ∷ []
@@ -287,11 +303,11 @@ refusals at Restart = []
 
 -- ---- the answer where no refusal holds
 
--- Between which values the committed value of a field lies: as far above the floor as the site has lowering rights,
--- and as far below the ceiling as it has raising rights.
+-- Between which values the committed value of a field lies: as far above the schema's floor as the site has rights to lower
+-- and has given such up, and as far below the schema's ceiling as it has rights to raise and has given such up.
 abbrev pub interval_at : Place → FieldNo → ℤ × ℤ
 interval_at at field =
-    ((field_at at.schema field.0).floor +ℤ pos (owned at field Lower), (field_at at.schema field.0).ceiling -ℤ pos (owned at field Raise))
+    ((field_at at.schema field.0).floor +ℤ pos (guarded at field Lower), (field_at at.schema field.0).ceiling -ℤ pos (guarded at field Raise))
 
 -- The free rights of a field, to lower and to raise it.
 abbrev pub shares_at : Place → FieldNo → ℕ × ℕ
@@ -307,6 +323,7 @@ answer at (Give to field kind amount) = Given (told_so_far at to field kind + am
 answer at (Restate to field kind) = Stated (told_so_far at to field kind)
 answer at (Spare to field kind want) =
     Spared (spared_of at field kind want) (told_so_far at to field kind + spared_of at field kind want)
+answer at (Tighten field kind amount) = Tightened (cut_so_far at field kind + amount)
 answer at (Accept told) = Accepted (gain_of at told.from told.field told.kind told.total)
 answer at (Read field) = Between (interval_at at field).0 (interval_at at field).1
 answer at (Share field) = Shares (shares_at at field).0 (shares_at at field).1
@@ -329,6 +346,7 @@ is_quiet Aborted = false
 is_quiet (Given total) = false
 is_quiet (Stated total) = true
 is_quiet (Spared amount total) = false
+is_quiet (Tightened total) = false
 is_quiet (Accepted gain) = false
 is_quiet (Between lo hi) = true
 is_quiet (Shares lower raise) = true
@@ -346,6 +364,7 @@ writes at (Abort txn) = false
 writes at (Give to field kind amount) = true
 writes at (Restate to field kind) = false
 writes at (Spare to field kind want) = true
+writes at (Tighten field kind amount) = true
 writes at (Accept told) = nat_lt 0 (gain_of at told.from told.field told.kind told.total)
 writes at (Read field) = false
 writes at (Share field) = false
@@ -387,6 +406,7 @@ RestartFits at Aborted = ⊥
 RestartFits at (Given total) = ⊥
 RestartFits at (Stated total) = ⊥
 RestartFits at (Spared amount total) = ⊥
+RestartFits at (Tightened total) = ⊥
 RestartFits at (Accepted gain) = ⊥
 RestartFits at (Between lo hi) = ⊥
 RestartFits at (Shares lower raise) = ⊥
@@ -404,6 +424,7 @@ Fits at (Abort txn) reply = AnswerFits at (Abort txn) reply
 Fits at (Give to field kind amount) reply = AnswerFits at (Give to field kind amount) reply
 Fits at (Restate to field kind) reply = AnswerFits at (Restate to field kind) reply
 Fits at (Spare to field kind want) reply = AnswerFits at (Spare to field kind want) reply
+Fits at (Tighten field kind amount) reply = AnswerFits at (Tighten field kind amount) reply
 Fits at (Accept told) reply = AnswerFits at (Accept told) reply
 Fits at (Read field) reply = AnswerFits at (Read field) reply
 Fits at (Share field) reply = AnswerFits at (Share field) reply

@@ -4,7 +4,7 @@ use Rattle.std.specs.Prelude.{◌≡◌, ◌⊎◌, List, [], ◌∷◌, Option,
 use Rattle.field_bounds.specs.declared.id.SiteNo.{SiteNo}
 use Rattle.field_bounds.specs.declared.entry.Statement.{Statement}
 use Rattle.field_bounds.specs.declared.entry.Command.{Command}
-use Rattle.field_bounds.specs.declared.entry.Command.TheVariants.{Begin, Escrow, Commit, Abort, Give, Restate, Spare, Accept, Read, Share, Restart}
+use Rattle.field_bounds.specs.declared.entry.Command.TheVariants.{Begin, Escrow, Commit, Abort, Give, Restate, Spare, Tighten, Accept, Read, Share, Restart}
 use Rattle.field_bounds.specs.declared.entry.Reply.{Reply}
 use Rattle.field_bounds.specs.declared.entry.Reply.TheVariants.{Given, Stated, Spared}
 use Rattle.field_bounds.specs.declared.entry.Entry.{Entry}
@@ -22,6 +22,7 @@ told_by from (Restate to field kind) (Stated total) = Some (record { from = from
 told_by from (Restate to field kind) reply = None
 told_by from (Spare to field kind want) (Spared amount total) = Some (record { from = from; to = to; field = field; kind = kind; total = total })
 told_by from (Spare to field kind want) reply = None
+told_by from (Tighten field kind amount) reply = None
 told_by from (Accept told) reply = None
 told_by from (Read field) reply = None
 told_by from (Share field) reply = None

@@ -115,6 +115,7 @@ nearly_full =
       up = true;
       epoch = 0;
       rights = λ _ _. 10;
+      cut = λ _ _. 0;
       given = λ _ _ _. 999_999_999_999_999_999;
       accepted = λ _ _ _. 0;
     }

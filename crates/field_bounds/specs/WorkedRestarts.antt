@@ -90,7 +90,7 @@ spare_lost = take 1 spare_kept ++ restarted 1 Lost ∷ asked (Share stock) (Shar
 
 -- A base that is down, in the last epoch, with 10 rights of each kind.
 abbrev pub spent : Base
-spent = record { up = false; epoch = 1_000_000_000; rights = λ _ _. 10; given = λ _ _ _. 0; accepted = λ _ _ _. 0 }
+spent = record { up = false; epoch = 1_000_000_000; rights = λ _ _. 10; cut = λ _ _. 0; given = λ _ _ _. 0; accepted = λ _ _ _. 0 }
 
 -- Nothing but a restart is answered, and none is left.
 abbrev pub no_epoch_left : List Entry

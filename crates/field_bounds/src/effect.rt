@@ -27,7 +27,7 @@ pub enum Effect {
         txn: TxnId,
     },
     /// Free rights of a kind on a field left the site, so many: to another site, or for good where
-    /// `to` is None. No command gives rights up for good yet.
+    /// `to` is None.
     Gives {
         to: Option<SiteNo>,
         field: FieldNo,

@@ -69,6 +69,13 @@ pub enum Command {
         kind: Kind,
         want: u64,
     },
+    /// Gives free rights of a kind on a field up for good, so many: rights to lower raise the field's
+    /// floor, and rights to raise lower its ceiling.
+    Tighten {
+        field: FieldNo,
+        kind: Kind,
+        amount: u64,
+    },
     /// Takes in a statement of another site: what it tells beyond the statements taken in before
     /// becomes free rights here.
     Accept(Statement),
@@ -113,7 +120,7 @@ pub enum Refusal {
     /// The statement is for another site.
     NotYours,
     /// The gain is above the room, which is told: the field's width less the rights of both kinds
-    /// that the site has.
+    /// that the site has, and less those that it has given up for good.
     Forged { room: u64 },
     /// 64 transactions are open.
     TooManyOpen,
@@ -152,6 +159,9 @@ pub enum Reply {
     Stated { total: u64 },
     /// So many were given, in rights, and this is the total given so far.
     Spared { amount: u64, total: u64 },
+    /// The amount was given up for good, and this is all that the site has given up so far of the
+    /// kind on the field, in rights, 1 to 2,000,000,000,000,000.
+    Tightened { total: u64 },
     /// The statement was taken in, and so many rights became free by it: 0 where nothing in it was
     /// new.
     Accepted { gain: u64 },
@@ -164,8 +174,8 @@ pub enum Reply {
     /// aborted, and `last` settles what was in doubt.
     Restarted { epoch: u32, last: Last },
     /// The command may be kept or not, and the site is down: the next restart tells which. Only a
-    /// commit of a transaction with an escrow, a give, a spare, and an accept that brings a gain are
-    /// answered so.
+    /// commit of a transaction with an escrow, a give, a spare, a tighten, and an accept that brings a
+    /// gain are answered so.
     Unsure,
     /// The restart failed, and the site is down.
     StillDown,

@@ -46,6 +46,7 @@ pub fn statement_of(entry: &Entry) -> Option<Statement>
             | Command::Escrow { .. }
             | Command::Commit { .. }
             | Command::Abort { .. }
+            | Command::Tighten { .. }
             | Command::Accept(_)
             | Command::Read { .. }
             | Command::Share { .. }

@@ -1,6 +1,6 @@
 //! Laws of the definitions, each as the contract of a function that does nothing.
 
-ghost use Rattle.std.specs.Prelude.{◌≡◌, ℕ, ◌≤◌, ◌≤ℤ◌, List, [], ◌∷◌, Bool, true, false, map};
+ghost use Rattle.std.specs.Prelude.{◌≡◌, ℕ, ◌≤◌, ◌≤ℤ◌, List, [], ◌∷◌, ◌++◌, Bool, true, false, map};
 ghost use Rattle.field_bounds.specs.declared.id.TxnId.{TxnId};
 ghost use Rattle.field_bounds.specs.declared.kind.Kind.{Kind};
 ghost use Rattle.field_bounds.specs.declared.entry.Command.{Command};
@@ -62,14 +62,16 @@ pub fn restarts_settle()
 /// Every sound trace is a run of one central store. If each site gave the replies that it owes
 /// after its own entries alone, and took in only statements that were issued before, then, over the
 /// entries of all sites in one order: an escrow was granted only where the infimum and supremum of
-/// one central store allow it, an escrow or a gift refused as short was told the site's share, which
-/// is less than was asked, and an interval that was read holds the committed value (`central`). At
-/// every moment the infimum lies above the floor, and the supremum below the ceiling, by exactly the
-/// rights that the sites have free and those in flight, which were given and aren't accepted yet;
-/// and no site has accepted more than it was given (`conserved`). So the infimum is never below the
-/// floor, and the supremum never above the ceiling (`bounded`), and no field can be taken past a
-/// bound, however the open transactions end, and whichever statements come late, twice or never
-/// (`outcomes`). A trace has the newest entry first.
+/// one central store allow it, rights were given up only where they allow that, an escrow, a gift or
+/// a tightening refused as short was told the site's share, which is less than was asked, and an
+/// interval that was read holds the committed value (`central`). At every moment the infimum lies
+/// above the floor, and the supremum below the ceiling, by exactly the rights that the sites have
+/// free and those in flight, which were given and aren't accepted yet; and no site has accepted more
+/// than it was given (`conserved`). So the infimum is never below the floor, and the supremum never
+/// above the ceiling (`bounded`), and no field can be taken past a bound, however the open
+/// transactions end, and whichever statements come late, twice or never (`outcomes`). The floor and
+/// the ceiling are those of the trace so far: the schema's, as far inwards as the sites have given
+/// rights up. A trace has the newest entry first.
 ///
 /// Source: O'Neil 1986 for infimum, supremum and the test of a grant, Balegas and others 2015 for
 /// rights that are divided among sites and transferred, this project for the rules and the theorem.
@@ -84,6 +86,16 @@ pub fn one_central_store()
         × (sup schema trace f ≤ℤ ceiling_in schema trace f) }
     ensures outcomes { (schema : SchemaValue) (trace : List Entry) →
         IsSchema schema → IsSound schema trace → OutcomesAreBounded schema trace }
+{}
+
+/// A bound is never loosened: behind more entries a field's floor is at least, and its ceiling at
+/// most, what it was before them, whatever they are.
+///
+/// Source: this project.
+pub fn bounds_never_loosen()
+    ensures tighter { (schema : SchemaValue) (later before : List Entry) (f : ℕ) →
+        (floor_in schema before f ≤ℤ floor_in schema (later ++ before) f)
+        × (ceiling_in schema (later ++ before) f ≤ℤ ceiling_in schema before f) }
 {}
 
 /// Whichever of the open transactions of a trace are committed and whichever aborted, the value

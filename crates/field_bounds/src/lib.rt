@@ -16,6 +16,7 @@ mod limits;
 mod macros;
 mod restart_rows;
 mod schema;
+mod tighten_rows;
 mod worked;
 
 pub use effect::Effect;
@@ -27,11 +28,12 @@ pub use id::{FieldNo, SiteNo, TxnId};
 pub use issued::statement_of;
 pub use kind::Kind;
 pub use laws::{
-    one_central_store, one_reply, outcomes_lie_between, restarts_settle, share_is_exact,
+    bounds_never_loosen, one_central_store, one_reply, outcomes_lie_between, restarts_settle, share_is_exact,
 };
 pub use limits::{MAX_CHANGE, MAX_EPOCH, MAX_ESCROWS, MAX_HEADER, MAX_NUMBER, MAX_OPEN, MAX_TOTAL};
 pub use restart_rows::{worked_doubt, worked_restarts, wrong_restarts};
 pub use schema::Schema;
+pub use tighten_rows::{worked_bounds, worked_tightenings, wrong_tightenings, wrong_traces};
 pub use worked::{worked_runs, worked_sites, worked_values, wrong_replies, wrong_shares};
 
 #[cfg(test)]

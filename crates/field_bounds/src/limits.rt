@@ -4,10 +4,10 @@
 pub const MAX_HEADER: usize = 65_536;
 
 /// The most sites of a schema.
-pub(crate) const MAX_SITES: i64 = 16;
+pub(crate) const MAX_SITES: i64 = 64;
 
 /// The most fields of a schema.
-pub(crate) const MAX_FIELDS: usize = 64;
+pub(crate) const MAX_FIELDS: usize = 256;
 
 /// The most bytes of a field's name.
 pub(crate) const MAX_NAME: usize = 32;

@@ -219,7 +219,7 @@ impl Schema {
         })
     }
 
-    /// How many sites there are, 1 to 16. Costs no memory.
+    /// How many sites there are, 1 to 64. Costs no memory.
     pub fn sites(&self) -> u16
         ensures value { result ≡ self.now.sites }
         ensures limits { IsSchema self.now }
@@ -227,7 +227,7 @@ impl Schema {
         self.sites
     }
 
-    /// How many fields there are, 1 to 64. Costs no memory.
+    /// How many fields there are, 1 to 256. Costs no memory.
     pub fn fields(&self) -> u16
         ensures value { result ≡ length self.now.fields }
         ensures limits { IsSchema self.now }

@@ -103,11 +103,11 @@ fn faults_of_new(rt: HostRuntime) {
     let alloc = rt.alloc();
     for (sites, first, second, value, fault) in [
         (0, "a", "b", 0, Some(SchemaFault::SiteCount)),
-        (17, "a", "b", 0, Some(SchemaFault::SiteCount)),
-        (16, "A", "b", 0, Some(SchemaFault::Name)),
-        (16, "a", "a", 0, Some(SchemaFault::NameUsed)),
-        (16, "a", "b", 101, Some(SchemaFault::Bounds)),
-        (16, "a", "b", 100, None),
+        (65, "a", "b", 0, Some(SchemaFault::SiteCount)),
+        (64, "A", "b", 0, Some(SchemaFault::Name)),
+        (64, "a", "a", 0, Some(SchemaFault::NameUsed)),
+        (64, "a", "b", 101, Some(SchemaFault::Bounds)),
+        (64, "a", "b", 100, None),
     ] {
         let found = made(alloc, sites, first, second, value).err();
         assert_eq!(rt; found, fault, "{sites} {first} {second} {value}");
@@ -163,6 +163,13 @@ fn equality(rt: HostRuntime) {
         Command::Abort { txn },
         GIVE,
         RESTATE,
+        SPARE,
+        TIGHTEN,
+        Command::Tighten {
+            field,
+            kind: Kind::Raise,
+            amount: 5,
+        },
         Command::Accept(told(5)),
         Command::Accept(told(6)),
         Command::Read { field },
@@ -180,6 +187,7 @@ fn equality(rt: HostRuntime) {
         Reply::Aborted,
         Reply::Given { total: 5 },
         Reply::Stated { total: 5 },
+        Reply::Tightened { total: 5 },
         Reply::Accepted { gain: 5 },
         Reply::Accepted { gain: 0 },
         Reply::Between { lo: 0, hi: 1 },
@@ -246,6 +254,13 @@ const SPARE: Command = Command::Spare {
     want: 9,
 };
 
+/// Of the lowering rights on the first field, 5 are given up for good.
+const TIGHTEN: Command = Command::Tighten {
+    field: FieldNo(0),
+    kind: Kind::Lower,
+    amount: 5,
+};
+
 /// What site 0 tells site 1 of its gifts.
 fn told(total: u64) -> Statement {
     Statement {
@@ -282,6 +297,7 @@ fn statements(rt: HostRuntime) {
     assert_eq!(rt; stated(GIVE, spared), None);
     assert_eq!(rt; stated(GIVE, restated), None);
     assert_eq!(rt; stated(RESTATE, given), None);
+    assert_eq!(rt; stated(TIGHTEN, Reply::Tightened { total: 8 }), None);
     assert_eq!(rt; stated(Command::Accept(told(8)), gained), None);
     assert_eq!(rt; stated(GIVE, Reply::Refused(Refusal::NoSite)), None);
     assert_eq!(rt; stated(GIVE, Reply::Unsure), None);
@@ -298,6 +314,7 @@ fn amount_of(command: Command) -> u64 {
         Give { to, field, kind, amount } => amount,
         Restate { to, field, kind } => 0,
         Spare { to, field, kind, want } => want,
+        Tighten { field, kind, amount } => amount,
         Accept(told) => told.total,
         Read { field } => 0,
         Share { field } => 0,
@@ -310,5 +327,6 @@ fn arms(rt: HostRuntime) {
     assert_eq!(rt; amount_of(GIVE), 5);
     assert_eq!(rt; amount_of(Command::Accept(told(6))), 6);
     assert_eq!(rt; amount_of(SPARE), 9);
+    assert_eq!(rt; amount_of(TIGHTEN), 5);
     assert_eq!(rt; amount_of(Command::Begin), 0);
 }

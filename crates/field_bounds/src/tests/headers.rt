@@ -90,7 +90,7 @@ fn site_count(rt: HostRuntime) {
         SchemaFault::SiteCount,
         &[
             r#"{"sites":0,"fields":[{"name":"a","floor":0,"ceiling":1,"value":0}]}"#,
-            r#"{"sites":17,"fields":[{"name":"a","floor":0,"ceiling":1,"value":0}]}"#,
+            r#"{"sites":65,"fields":[{"name":"a","floor":0,"ceiling":1,"value":0}]}"#,
             r#"{"sites":-1,"fields":[{"name":"a","floor":0,"ceiling":1,"value":0}]}"#,
             r#"{"sites":9223372036854775807,"fields":[{"name":"a","floor":0,"ceiling":1,"value":0}]}"#,
         ],
@@ -148,16 +148,16 @@ fn prints(alloc: Global, fault: SchemaFault, text: &str) -> bool {
 fn order(rt: HostRuntime) {
     for (header, fault, text) in [
         (
-            r#"{"sites":17,"fields":[{"name":"a"}"#,
+            r#"{"sites":65,"fields":[{"name":"a"}"#,
             SchemaFault::NotJson,
             "S1",
         ),
         (
-            r#"{"sites":17,"fields":[{"name":"a"}]}"#,
+            r#"{"sites":65,"fields":[{"name":"a"}]}"#,
             SchemaFault::Shape,
             "S2",
         ),
-        (r#"{"sites":17,"fields":[]}"#, SchemaFault::SiteCount, "S3"),
+        (r#"{"sites":65,"fields":[]}"#, SchemaFault::SiteCount, "S3"),
         (r#"{"sites":1,"fields":[]}"#, SchemaFault::FieldCount, "S4"),
         (
             r#"{"sites":1,"fields":[{"name":"A","floor":1,"ceiling":0,"value":0}]}"#,
@@ -208,7 +208,7 @@ fn length_and_depth(rt: HostRuntime) {
 
 /// A header of so many fields, named f0, f1 and so on.
 fn many(alloc: Global, fields: u16) -> Result<String, AllocError> {
-    let mut header = String::from_str(alloc, r#"{"sites":16,"fields":["#)?;
+    let mut header = String::from_str(alloc, r#"{"sites":64,"fields":["#)?;
     for i in 0..fields {
         let comma = if i == 0 { "" } else { "," };
         let field = format!(in alloc;
@@ -223,13 +223,13 @@ fn many(alloc: Global, fields: u16) -> Result<String, AllocError> {
 #[test]
 fn field_count(rt: HostRuntime) -> Result<(), Fail> {
     let alloc = rt.alloc();
-    let most = Schema::from_header(alloc, many(alloc, 64)?.as_bytes())?;
-    assert_eq!(rt; most.sites(), 16);
-    assert_eq!(rt; most.fields(), 64);
-    assert_eq!(rt; most.bounds(FieldNo(63)), (0, 63, 63));
-    assert_eq!(rt; most.field_no("f63"), Some(FieldNo(63)));
-    assert_eq!(rt; most.field_no("f64"), None);
-    let more = many(alloc, 65)?;
+    let most = Schema::from_header(alloc, many(alloc, 256)?.as_bytes())?;
+    assert_eq!(rt; most.sites(), 64);
+    assert_eq!(rt; most.fields(), 256);
+    assert_eq!(rt; most.bounds(FieldNo(255)), (0, 255, 255));
+    assert_eq!(rt; most.field_no("f255"), Some(FieldNo(255)));
+    assert_eq!(rt; most.field_no("f256"), None);
+    let more = many(alloc, 257)?;
     assert_eq!(rt;
         header_fault(alloc, more.as_bytes()),
         Some(SchemaFault::FieldCount)
@@ -255,7 +255,7 @@ fn good(rt: HostRuntime) {
             (-MOST, MOST, -MOST),
         ),
         (
-            r#"{"fields":[{"value":5,"name":"abcdefghijklmnopqrstuvwxyz_01234","ceiling":5,"floor":5}],"sites":16}"#,
+            r#"{"fields":[{"value":5,"name":"abcdefghijklmnopqrstuvwxyz_01234","ceiling":5,"floor":5}],"sites":64}"#,
             (5, 5, 5),
         ),
         (
