@@ -14,7 +14,7 @@ use Rattle.site_rights.specs.declared.field_rights.Amounts.{Amounts}
 use Rattle.site_rights.specs.declared.field_rights.FieldRights.{FieldRights}
 use Rattle.site_rights.specs.declared.field_rights.Outcome.{Outcome}
 use Rattle.site_rights.specs.declared.field_rights.Outcome.TheVariants.{Committed, Aborted}
-use Rattle.site_rights.specs.Rights.{amounts_of, with_amounts, no_rights, row_at, free_at, held_at, width_at, at_field, taken, dropped, added, ending, by_escrow, by_escrows, AreInRange, AreHeld, CanEnd}
+use Rattle.site_rights.specs.Rights.{amounts_of, with_amounts, no_rights, row_at, free_at, held_at, cut_at, width_at, at_field, taken, dropped, tightened, added, ending, by_escrow, by_escrows, AreInRange, AreHeld, CanEnd}
 
 -- by how much a change lowers, or raises
 abbrev pub size : Kind → ℤ → ℕ
@@ -218,6 +218,82 @@ free_at-added rows f g kind k q h = read-at_field (λ r. (amounts_of r k).free) 
 pub held_at-added : (rows : List FieldRights) (f g : ℕ) (kind k : Kind) (q : ℕ) → f < length rows → held_at (at_field added rows f kind q) g k ≡ held_at rows g k
 held_at-added rows f g kind k q h = read-at_field (λ r. (amounts_of r k).held) added (λ b n. n) rows f g kind q h (λ r. added_held r kind k q) (λ n. refl)
 
+-- ---- rights that are given up
+
+tightened_free : (r : FieldRights) (kind k : Kind) (q : ℕ) → (amounts_of (tightened r kind q) k).free ≡ (amounts_of r k).free - cond (same_kind kind k) q 0
+tightened_free r Lower Lower q = refl
+tightened_free r Lower Raise q = omega arith
+tightened_free r Raise Lower q = omega arith
+tightened_free r Raise Raise q = refl
+
+tightened_held : (r : FieldRights) (kind k : Kind) (q : ℕ) → (amounts_of (tightened r kind q) k).held ≡ (amounts_of r k).held
+tightened_held r Lower Lower q = refl
+tightened_held r Lower Raise q = refl
+tightened_held r Raise Lower q = refl
+tightened_held r Raise Raise q = refl
+
+tightened_cut : (r : FieldRights) (kind k : Kind) (q : ℕ) → (amounts_of (tightened r kind q) k).cut ≡ (amounts_of r k).cut + cond (same_kind kind k) q 0
+tightened_cut r Lower Lower q = refl
+tightened_cut r Lower Raise q = omega arith
+tightened_cut r Raise Lower q = omega arith
+tightened_cut r Raise Raise q = refl
+
+-- rights that are given up leave the free ones of their kind
+pub free_at-tightened : (rows : List FieldRights) (f g : ℕ) (kind k : Kind) (q : ℕ) → f < length rows → free_at (at_field tightened rows f kind q) g k ≡ free_at rows g k - cond ((f == g) && same_kind kind k) q 0
+free_at-tightened rows f g kind k q h = read-at_field (λ r. (amounts_of r k).free) tightened (λ b n. n - cond (b && same_kind kind k) q 0) rows f g kind q h (λ r. tightened_free r kind k q) (λ n. omega arith)
+
+pub held_at-tightened : (rows : List FieldRights) (f g : ℕ) (kind k : Kind) (q : ℕ) → f < length rows → held_at (at_field tightened rows f kind q) g k ≡ held_at rows g k
+held_at-tightened rows f g kind k q h = read-at_field (λ r. (amounts_of r k).held) tightened (λ b n. n) rows f g kind q h (λ r. tightened_held r kind k q) (λ n. refl)
+
+-- and come to what was given up of it
+pub cut_at-tightened : (rows : List FieldRights) (f g : ℕ) (kind k : Kind) (q : ℕ) → f < length rows → cut_at (at_field tightened rows f kind q) g k ≡ cut_at rows g k + cond ((f == g) && same_kind kind k) q 0
+cut_at-tightened rows f g kind k q h = read-at_field (λ r. (amounts_of r k).cut) tightened (λ b n. n + cond (b && same_kind kind k) q 0) rows f g kind q h (λ r. tightened_cut r kind k q) (λ n. omega arith)
+
+-- ---- no other change gives rights up
+
+abbrev pub KeepsCut : (FieldRights → Kind → ℕ → FieldRights) → Type 0
+KeepsCut change = (r : FieldRights) (kind k : Kind) (q : ℕ) → (amounts_of (change r kind q) k).cut ≡ (amounts_of r k).cut
+
+pub taken_keeps_cut : KeepsCut taken
+taken_keeps_cut r Lower Lower q = refl
+taken_keeps_cut r Lower Raise q = refl
+taken_keeps_cut r Raise Lower q = refl
+taken_keeps_cut r Raise Raise q = refl
+
+pub dropped_keeps_cut : KeepsCut dropped
+dropped_keeps_cut r Lower Lower q = refl
+dropped_keeps_cut r Lower Raise q = refl
+dropped_keeps_cut r Raise Lower q = refl
+dropped_keeps_cut r Raise Raise q = refl
+
+pub added_keeps_cut : KeepsCut added
+added_keeps_cut r Lower Lower q = refl
+added_keeps_cut r Lower Raise q = refl
+added_keeps_cut r Raise Lower q = refl
+added_keeps_cut r Raise Raise q = refl
+
+pub ending_keeps_cut : (o : Outcome) → KeepsCut (ending o)
+ending_keeps_cut Committed r Lower Lower q = refl
+ending_keeps_cut Committed r Lower Raise q = refl
+ending_keeps_cut Committed r Raise Lower q = refl
+ending_keeps_cut Committed r Raise Raise q = refl
+ending_keeps_cut Aborted r Lower Lower q = refl
+ending_keeps_cut Aborted r Lower Raise q = refl
+ending_keeps_cut Aborted r Raise Lower q = refl
+ending_keeps_cut Aborted r Raise Raise q = refl
+
+pub cut_at-field : (change : FieldRights → Kind → ℕ → FieldRights) → KeepsCut change → (rows : List FieldRights) (f g : ℕ) (kind k : Kind) (q : ℕ) → f < length rows
+    → cut_at (at_field change rows f kind q) g k ≡ cut_at rows g k
+cut_at-field change keeps rows f g kind k q h = read-at_field (λ r. (amounts_of r k).cut) change (λ b n. n) rows f g kind q h (λ r. keeps r kind k q) (λ n. refl)
+
+pub cut_at-by_escrows : (change : FieldRights → Kind → ℕ → FieldRights) → KeepsCut change → (rows : List FieldRights) (es : List Escrow) → AreInRange rows es → (g : ℕ) (k : Kind)
+    → cut_at (by_escrows change rows es) g k ≡ cut_at rows g k
+cut_at-by_escrows change keeps rows [] range g k = refl
+cut_at-by_escrows change keeps rows (e ∷ es) range g k =
+    let lt : e.field.0 < length rows = All-head (λ (e : Escrow). e.field.0 < length rows) e es range in
+    let rest = AreInRange-same rows (by_escrow change rows e) es (length-by_escrow change rows e) (All-tail (λ (e : Escrow). e.field.0 < length rows) e es range) in
+    cut_at-by_escrows change keeps (by_escrow change rows e) es rest g k ∙ cut_at-field change keeps rows e.field.0 g (kind_of e.change) k (unsigned_abs e.change) lt
+
 -- ---- no change of rights changes a width
 
 abbrev pub KeepsWidth : (FieldRights → Kind → ℕ → FieldRights) → Type 0
@@ -236,6 +312,9 @@ ending_keeps Aborted r k q = with_amounts_keeps r k _
 
 pub dropped_keeps : KeepsWidth dropped
 dropped_keeps r k q = with_amounts_keeps r k _
+
+pub tightened_keeps : KeepsWidth tightened
+tightened_keeps r k q = with_amounts_keeps r k _
 
 pub added_keeps : KeepsWidth added
 added_keeps r k q = with_amounts_keeps r k _

@@ -1,5 +1,5 @@
--- The rights of a site: for each field, by number, the free and the held ones of both kinds
--- (Balegas and others 2015; this project for the two kinds).
+-- The rights of a site: for each field, by number, the free and the held ones of both kinds, and those that were given up
+-- (Balegas and others 2015; this project for the two kinds and for what is given up).
 use Rattle.std.specs.Prelude.{◌≡◌, ℕ, ◌+◌, ◌-◌, ◌<◌, ◌≤◌, List, All, length, sum_by, slice_index_or, slice_set, unsigned_abs, fold}
 use Rattle.field_bounds.specs.declared.kind.Kind.{Kind}
 use Rattle.field_bounds.specs.declared.kind.Kind.TheVariants.{Lower, Raise}
@@ -24,14 +24,14 @@ abbrev pub with_amounts : FieldRights → Kind → Amounts → FieldRights
 with_amounts r Lower a = record r { lower = a }
 with_amounts r Raise a = record r { raise = a }
 
--- The four amounts together are at most the width, and the width is within the greatest change.
+-- The amounts of both kinds together are at most the width, and the width is within the greatest change.
 abbrev pub IsWithinWidth : FieldRights → Type 0
 IsWithinWidth r =
-    (r.lower.free + r.lower.held + r.raise.free + r.raise.held ≤ r.width) × (r.width ≤ max_change)
+    (r.lower.free + r.lower.held + r.lower.cut + r.raise.free + r.raise.held + r.raise.cut ≤ r.width) × (r.width ≤ max_change)
 
 -- What stands in for the rights on a field that isn't there.
 abbrev pub no_rights : FieldRights
-no_rights = record { width = 0; lower = record { free = 0; held = 0 }; raise = record { free = 0; held = 0 } }
+no_rights = record { width = 0; lower = record { free = 0; held = 0; cut = 0 }; raise = record { free = 0; held = 0; cut = 0 } }
 
 -- The rights on a field.
 abbrev pub row_at : List FieldRights → ℕ → FieldRights
@@ -47,14 +47,21 @@ held_at rows f k = (amounts_of (row_at rows f) k).held
 abbrev pub own_at : List FieldRights → ℕ → Kind → ℕ
 own_at rows f k = free_at rows f k + held_at rows f k
 
--- The width of a field, and the room on it: what the own rights of both kinds leave of the width.
+-- What was given up of a kind on a field, and what is guarded of its width: that and the own rights.
+abbrev pub cut_at : List FieldRights → ℕ → Kind → ℕ
+cut_at rows f k = (amounts_of (row_at rows f) k).cut
+
+abbrev pub guarded_at : List FieldRights → ℕ → Kind → ℕ
+guarded_at rows f k = cut_at rows f k + own_at rows f k
+
+-- The width of a field, and the room on it: what is guarded of both kinds leaves of the width.
 abbrev pub width_at : List FieldRights → ℕ → ℕ
 width_at rows f = (row_at rows f).width
 
 abbrev pub room_at : List FieldRights → ℕ → ℕ
-room_at rows f = width_at rows f - (own_at rows f Lower + own_at rows f Raise)
+room_at rows f = width_at rows f - (guarded_at rows f Lower + guarded_at rows f Raise)
 
--- Amounts with q more, or q fewer, free or held ones.
+-- Amounts with q more, or q fewer, free or held ones, or q more given up.
 abbrev pub more_free : ℕ → Amounts → Amounts
 more_free q a = record a { free = a.free + q }
 
@@ -66,6 +73,9 @@ more_held q a = record a { held = a.held + q }
 
 abbrev pub fewer_held : ℕ → Amounts → Amounts
 fewer_held q a = record a { held = a.held - q }
+
+abbrev pub more_cut : ℕ → Amounts → Amounts
+more_cut q a = record a { cut = a.cut + q }
 
 -- q free rights of a kind set aside.
 abbrev pub taken : FieldRights → Kind → ℕ → FieldRights
@@ -80,10 +90,15 @@ abbrev pub turned : FieldRights → Kind → ℕ → FieldRights
 turned r k q =
     with_amounts (with_amounts r k (fewer_held q (amounts_of r k))) (other k) (more_free q (amounts_of r (other k)))
 
--- q free rights of a kind gone, and q more of them.
+-- q free rights of a kind gone.
 abbrev pub dropped : FieldRights → Kind → ℕ → FieldRights
 dropped r k q = with_amounts r k (fewer_free q (amounts_of r k))
 
+-- q free rights of a kind given up.
+abbrev pub tightened : FieldRights → Kind → ℕ → FieldRights
+tightened r k q = with_amounts r k (more_cut q (fewer_free q (amounts_of r k)))
+
+-- q free rights of a kind more.
 abbrev pub added : FieldRights → Kind → ℕ → FieldRights
 added r k q = with_amounts r k (more_free q (amounts_of r k))
 
@@ -116,11 +131,12 @@ pub record CanEnd (rows : List FieldRights) (e : Escrow) : Type 0 where
 abbrev pub AreHeld : List FieldRights → List Escrow → Type 0
 AreHeld rows es = (f : ℕ) (k : Kind) → f < length rows → sum_by (takes f k) es ≤ held_at rows f k
 
--- The rights on a field that a site begins with: its parts are free, and none are held.
+-- The rights on a field that a site begins with: its parts are free, none are held and none given up.
 pub record IsFresh (schema : SchemaValue) (site field : ℕ) (r : FieldRights) : Type 0 where
   pub width : r.width ≡ width_of (field_at schema field)
   pub free : (k : Kind) → (amounts_of r k).free ≡ part_of schema site field k
   pub held : (k : Kind) → (amounts_of r k).held ≡ 0
+  pub cut : (k : Kind) → (amounts_of r k).cut ≡ 0
 
 -- The rights that a site begins with, on every field of the schema.
 pub record AreFresh (schema : SchemaValue) (site : ℕ) (rows : List FieldRights) : Type 0 where

@@ -7,10 +7,13 @@ pub struct Amounts {
     pub free: u64,
     /// Set aside by open transactions.
     pub held: u64,
+    /// Given up for good: by so much the field's bound of the kind is tighter.
+    pub cut: u64,
 }
 
-/// The rights of both kinds on a field, and the field's width, which is ceiling less floor. The
-/// four amounts together never exceed the width, and the width is at most 2,000,000,000,000,000.
+/// The rights of both kinds on a field, and the field's width, which is the schema's ceiling less its
+/// floor. The six amounts together never exceed the width, and the width is at most
+/// 2,000,000,000,000,000.
 #[derive(Clone, Copy, Debug, PartialEq, Eq)]
 pub struct FieldRights {
     pub width: u64,

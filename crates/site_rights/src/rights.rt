@@ -2,15 +2,15 @@
 
 ghost use Rattle.std.specs.Prelude.{◌≡◌, ◌+◌, ◌<◌, ◌≤◌, ◌↔◌, length, OnOk, IfErr, OnErr, IsOk, IfOk, All};
 ghost use Rattle.field_bounds.specs.Owed.{max_change};
-ghost use Rattle.site_rights.specs.Rights.{IsFresh, IsWithinWidth, free_at, held_at, own_at, room_at, at_field, taken, given_back, turned, dropped, added, by_escrow, by_escrows, ending, CanEnd, AreFresh, AreHeld, AreInRange};
+ghost use Rattle.site_rights.specs.Rights.{IsFresh, IsWithinWidth, free_at, held_at, own_at, cut_at, guarded_at, room_at, at_field, taken, given_back, turned, dropped, tightened, added, by_escrow, by_escrows, ending, CanEnd, AreFresh, AreHeld, AreInRange};
 
 use crate::field_rights::{Amounts, FieldRights, Outcome, Short};
 use field_bounds::{Escrow, FieldNo, Kind, Schema, SiteNo, both_kinds};
 use std::alloc::{AllocError, Global};
 use std::marker::Model;
 
-/// The rights of one site. Contracts see, by number of field, the width of the field and the free
-/// and held rights of both kinds.
+/// The rights of one site. Contracts see, by number of field, the width of the field, the free and
+/// held rights of both kinds, and what was given up of both.
 #[derive(Drop)]
 pub struct Rights {
     rows: Vec<FieldRights>,
@@ -29,8 +29,8 @@ impl Model for Rights {
 }
 
 impl Rights {
-    /// The rights that a site begins with: its parts are free, and none are held. The error is want
-    /// of memory. Costs one row for each field; no later call takes memory.
+    /// The rights that a site begins with: its parts are free, none are held and none given up. The
+    /// error is want of memory. Costs one row for each field; no later call takes memory.
     pub fn new(alloc: Global, schema: &Schema, site: SiteNo) -> Result<Rights, AllocError>
         requires site_in { site.0 < schema.now.sites }
         ensures fresh { IfOk result (λ rights. AreFresh schema.now site.0 rights) }
@@ -71,8 +71,28 @@ impl Rights {
         amounts.free + amounts.held
     }
 
-    /// What the site's own rights of both kinds leave of the field's width: so many rights more it may
-    /// come to hold on the field, at most 2,000,000,000,000,000.
+    /// What the site has given up for good of a kind on a field, at most 2,000,000,000,000,000.
+    pub fn tightened(&self, field: FieldNo, kind: Kind) -> u64
+        requires in_schema { field.0 < length self.now }
+        ensures value { result ≡ cut_at self.now field.0 kind }
+        ensures most { result ≤ max_change }
+    {
+        self.amounts(field, kind).cut
+    }
+
+    /// What the site guards of a field's width: its free and held rights of a kind, and those that it
+    /// has given up, together at most 2,000,000,000,000,000.
+    pub fn guarded(&self, field: FieldNo, kind: Kind) -> u64
+        requires in_schema { field.0 < length self.now }
+        ensures value { result ≡ guarded_at self.now field.0 kind }
+        ensures most { result ≤ max_change }
+    {
+        let amounts = self.amounts(field, kind);
+        amounts.cut + (amounts.free + amounts.held)
+    }
+
+    /// What the site guards of both kinds leaves of the field's width: so many rights more it may come
+    /// to hold on the field, at most 2,000,000,000,000,000.
     pub fn room(&self, field: FieldNo) -> u64
         requires in_schema { field.0 < length self.now }
         ensures value { result ≡ room_at self.now field.0 }
@@ -80,7 +100,7 @@ impl Rights {
     {
         let row = self.rows[usize::from(field.0)];
         let own = row.lower.free + row.lower.held + row.raise.free + row.raise.held;
-        row.width - own
+        row.width - (row.lower.cut + row.raise.cut + own)
     }
 
     /// Sets free rights aside, or answers the share and changes nothing where fewer are free than
@@ -145,6 +165,26 @@ impl Rights {
         Ok(())
     }
 
+    /// Gives free rights up for good, and answers all that was given up so far of the kind on the
+    /// field; or answers the share and changes nothing where fewer are free than are asked.
+    pub fn tighten(&mut self, field: FieldNo, kind: Kind, amount: u64) -> Result<u64, Short>
+        requires in_schema { field.0 < length self.old }
+        ensures enough { IsOk result ↔ (amount ≤ free_at self.old field.0 kind) }
+        ensures total { IfOk result (λ total. total ≡ cut_at self.old field.0 kind + amount) }
+        ensures ok { OnOk result (self.new ≡ at_field tightened self.old field.0 kind amount) }
+        ensures short { IfErr result (λ short. short.share ≡ free_at self.old field.0 kind) }
+        ensures err { OnErr result (self.new ≡ self.old) }
+    {
+        self.check_free(field, kind, amount)?;
+        let total = self.tightened(field, kind) + amount;
+        let row = &mut self.rows[usize::from(field.0)];
+        both_kinds!(kind, row, |own| {
+            own.free -= amount;
+            own.cut += amount;
+        });
+        Ok(total)
+    }
+
     /// Lets free rights come to the site, as those that it was given do. There has to be room for
     /// them, which `room` tells.
     pub fn add(&mut self, field: FieldNo, kind: Kind, amount: u64)
@@ -199,7 +239,8 @@ impl Rights {
         requires in_schema { field.0 < length self.now }
         ensures free { result.free ≡ free_at self.now field.0 kind }
         ensures held { result.held ≡ held_at self.now field.0 kind }
-        ensures most { result.free + result.held ≤ max_change }
+        ensures cut { result.cut ≡ cut_at self.now field.0 kind }
+        ensures most { result.free + result.held + result.cut ≤ max_change }
     {
         let row = self.rows[usize::from(field.0)];
         match kind {
@@ -222,10 +263,12 @@ fn first_rights(schema: &Schema, site: SiteNo, field: FieldNo) -> FieldRights
         lower: Amounts {
             free: schema.part(site, field, Kind::Lower),
             held: 0,
+            cut: 0,
         },
         raise: Amounts {
             free: schema.part(site, field, Kind::Raise),
             held: 0,
+            cut: 0,
         },
     }
 }

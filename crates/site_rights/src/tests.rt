@@ -79,3 +79,36 @@ fn rights_leave_and_come(rt: HostRuntime) -> Result<(), Fail> {
     assert_eq!(rt; filled_up(&mut rights), (70, 100));
     Ok(())
 }
+
+/// What is answered where 21 of 20 free lowering rights are to be given up, and then 5, and 2 more.
+fn given_up(rights: &mut Rights) -> (Result<u64, Short>, Result<u64, Short>, Result<u64, Short>)
+    requires in_schema { 0 < length rights.old }
+    ensures in_schema { 0 < length rights.new }
+{
+    let many = rights.tighten(STOCK, Kind::Lower, 21);
+    let some = rights.tighten(STOCK, Kind::Lower, 5);
+    let more = rights.tighten(STOCK, Kind::Lower, 2);
+    (many, some, more)
+}
+
+/// What is given up of both kinds, the share left of the kind, what is guarded, and the room.
+fn left(rights: &Rights) -> [u64; 5]
+    requires in_schema { 0 < length rights.now }
+{
+    [
+        rights.tightened(STOCK, Kind::Lower),
+        rights.tightened(STOCK, Kind::Raise),
+        rights.free(STOCK, Kind::Lower),
+        rights.guarded(STOCK, Kind::Lower),
+        rights.room(STOCK),
+    ]
+}
+
+#[test]
+fn rights_are_given_up(rt: HostRuntime) -> Result<(), Fail> {
+    let mut rights = half(&rt, rt.alloc())?;
+    let short = Short { share: 20 };
+    assert_eq!(rt; given_up(&mut rights), (Err(short), Ok(5), Ok(7)));
+    assert_eq!(rt; left(&rights), [7, 0, 13, 20, 50]);
+    Ok(())
+}
