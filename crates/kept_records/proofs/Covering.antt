@@ -1,7 +1,7 @@
 -- Lawful records spend no more than there is, and own no more than a field is wide.
-use Rattle.std.proofs.Common.{◌≡◌, ◌≢◌, ◌⊎◌, ℕ, ◌+◌, ◌-◌, ◌≤◌, ◌<◌, ◌==◌, max, Bool, true, false, not, ◌&&◌, cond, List, [], ◌∷◌, ◌++◌, append_assoc, refl, sym, ◌∙◌, ap, subst, inl, inr, arith, eqb}
-use Rattle.std.specs.Prelude.{nat_lt, sum_by}
-use Rattle.std.specs.List.{list_all}
+use Rattle.std.proofs.Common.{◌≡◌, ◌≢◌, ◌⊎◌, ℕ, zero, suc, ◌+◌, ◌-◌, ◌≤◌, ◌<◌, ◌==◌, max, Bool, true, false, not, ◌&&◌, cond, List, [], ◌∷◌, ◌++◌, append_assoc, refl, sym, ◌∙◌, ap, subst, inl, inr, arith, eqb}
+use Rattle.std.specs.Prelude.{nat_lt, sum_by, slice_index_or}
+use Rattle.std.specs.List.{list_all, AllByRecursion}
 use Rattle.std.proofs.lemmas.Bool.{and_parts, cases_eq, eq-eqb, ne_eqb, eqb-true, ltb-true, leb-true}
 use Rattle.std.proofs.lemmas.Int.{ints}
 use Rattle.std.proofs.lemmas.List.{append-nil}
@@ -13,18 +13,19 @@ use Rattle.field_bounds.specs.declared.id.SiteNo.{SiteNo}
 use Rattle.field_bounds.specs.declared.id.FieldNo.{FieldNo}
 use Rattle.field_bounds.specs.declared.entry.Escrow.{Escrow}
 use Rattle.field_bounds.specs.Kind.{other, same_kind}
-use Rattle.field_bounds.specs.Schema.{SchemaValue}
-use Rattle.field_bounds.specs.Limits.{IsSchema}
-use Rattle.field_bounds.specs.Parts.{field_at, width_of, total_of, share_of, part_of, sum_below}
+use Rattle.field_bounds.specs.Schema.{FieldValue, SchemaValue}
+use Rattle.field_bounds.specs.Limits.{IsField, IsSchema}
+use Rattle.field_bounds.specs.Owed.{max_change}
+use Rattle.field_bounds.specs.Parts.{no_field, field_at, width_of, total_of, share_of, part_of, sum_below}
 use Rattle.field_bounds.specs.Effects.{takes}
 use Rattle.field_bounds.proofs.Conserved.{is_ordered}
 use Rattle.field_bounds.proofs.Lawful.{same_kind-true}
 use Rattle.field_bounds.proofs.Parts.{shares_add_up}
 use Rattle.field_bounds.proofs.Sums.{sum_below-same, sum_below-zero, sum_below_bump, term_below}
 use Rattle.kept_records.specs.declared.record.Record.{Record}
-use Rattle.kept_records.specs.declared.record.Record.TheVariants.{Commit, Gift, Accept, Restart}
-use Rattle.kept_records.specs.Stands.{greatest, given_in, accepted_in, gained_in, spent_in, own_in, is_field, may_commit, room_in, may_stand, LawfulBehind, Lawful}
-use Rattle.kept_records.proofs.Pushes.{given_none, accepted_none, committed_none, given_push, accepted_push, committed_push, lawful_push}
+use Rattle.kept_records.specs.declared.record.Record.TheVariants.{Commit, Gift, Accept, Tighten, Restart}
+use Rattle.kept_records.specs.Stands.{greatest, given_in, accepted_in, cut_in, gained_in, spent_in, own_in, guarded_in, is_field, may_commit, room_in, may_stand, LawfulBehind, Lawful}
+use Rattle.kept_records.proofs.Pushes.{given_none, accepted_none, cut_none, committed_none, given_push, accepted_push, cut_push, committed_push, lawful_push}
 
 -- ---- what a true test says
 
@@ -66,6 +67,10 @@ grow_here : (on : Bool) (site at total before : ℕ) → at ≢ site → cond (o
 grow_here true site at total before apart = rw (ne_eqb site at (λ e. apart (sym e))) refl
 grow_here false site at total before apart = refl
 
+grown : (on : Bool) (total before : ℕ) → (on ≡ true → before < total) → cond on (max total before) before ≡ before + cond on (total - before) 0
+grown true total before h = omega (arith, h refl)
+grown false total before h = omega arith
+
 pub on_field : (of : ℕ → Kind → ℕ) (field f : ℕ) (kind k : Kind) → (eqb field f && same_kind kind k) ≡ true → of field kind ≡ of f k
 on_field of field f kind k h =
     let parts = and_parts (eqb field f) (same_kind kind k) h in
@@ -106,7 +111,7 @@ module _ (schema : SchemaValue) (s : ℕ) (rs : List Record) where
   -- ---- what was spent and gained
 
   pub spent_commit : (txn : TxnId) (es : List Escrow) (f : ℕ) (k : Kind) → spent_in schema (rs ++ Commit txn es ∷ []) f k ≡ spent_in schema rs f k + sum_by (takes f k) es
-  spent_commit txn es f k = let r : Record = Commit txn es in omega (arith, committed_push f k rs r, given_still r f k (λ to. given_push to f k rs r))
+  spent_commit txn es f k = let r : Record = Commit txn es in omega (arith, committed_push f k rs r, cut_push f k rs r, given_still r f k (λ to. given_push to f k rs r))
 
   pub gained_commit : (txn : TxnId) (es : List Escrow) (f : ℕ) (k : Kind) → gained_in schema s (rs ++ Commit txn es ∷ []) f k ≡ gained_in schema s rs f k + sum_by (takes f (other k)) es
   gained_commit txn es f k = let r : Record = Commit txn es in omega (arith, committed_push f (other k) rs r, accepted_still r f k (λ from. accepted_push from f k rs r))
@@ -119,6 +124,7 @@ module _ (schema : SchemaValue) (s : ℕ) (rs : List Record) where
       omega (
         arith,
         committed_push f k rs r,
+        cut_push f k rs r,
         growth_at (λ x y. given_in rs to.0 x y) total field.0 f kind k,
         sum_below_bump schema.sites (λ j. given_in rs j f k) (λ j. given_in (rs ++ r ∷ []) j f k) to.0 (cond on (total - given_in rs to.0 f k) 0) site_in
             (given_push to.0 f k rs r ∙ grow_there on to.0 total (given_in rs to.0 f k) (λ is. omega (arith, more, on_field (λ x y. given_in rs to.0 x y) field.0 f kind k is)))
@@ -133,7 +139,7 @@ module _ (schema : SchemaValue) (s : ℕ) (rs : List Record) where
   pub spent_accept : (from : SiteNo) (field : FieldNo) (kind : Kind) (total f : ℕ) (k : Kind) → spent_in schema (rs ++ Accept from field kind total ∷ []) f k ≡ spent_in schema rs f k
   spent_accept from field kind total f k =
       let r : Record = Accept from field kind total in
-      omega (arith, committed_push f k rs r, given_still r f k (λ to. given_push to f k rs r))
+      omega (arith, committed_push f k rs r, cut_push f k rs r, given_still r f k (λ to. given_push to f k rs r))
 
   pub gained_accept : (from : SiteNo) (field : FieldNo) (kind : Kind) (total f : ℕ) (k : Kind) → from.0 < schema.sites → accepted_in rs from.0 field.0 kind < total
       → gained_in schema s (rs ++ Accept from field kind total ∷ []) f k ≡ gained_in schema s rs f k + cond ((field.0 == f) && same_kind kind k) (total - accepted_in rs from.0 field.0 kind) 0
@@ -149,8 +155,27 @@ module _ (schema : SchemaValue) (s : ℕ) (rs : List Record) where
             (λ j apart. accepted_push j f k rs r ∙ grow_here on from.0 j total (accepted_in rs j f k) apart),
       )
 
+  pub spent_tighten : (field : FieldNo) (kind : Kind) (total f : ℕ) (k : Kind) → cut_in rs field.0 kind < total
+      → spent_in schema (rs ++ Tighten field kind total ∷ []) f k ≡ spent_in schema rs f k + cond ((field.0 == f) && same_kind kind k) (total - cut_in rs field.0 kind) 0
+  spent_tighten field kind total f k more =
+      let r : Record = Tighten field kind total in
+      let on = eqb field.0 f && same_kind kind k in
+      omega (
+        arith,
+        committed_push f k rs r,
+        cut_push f k rs r,
+        growth_at (λ x y. cut_in rs x y) total field.0 f kind k,
+        grown on total (cut_in rs f k) (λ is. omega (arith, more, on_field (λ x y. cut_in rs x y) field.0 f kind k is)),
+        given_still r f k (λ to. given_push to f k rs r),
+      )
+
+  pub gained_tighten : (field : FieldNo) (kind : Kind) (total f : ℕ) (k : Kind) → gained_in schema s (rs ++ Tighten field kind total ∷ []) f k ≡ gained_in schema s rs f k
+  gained_tighten field kind total f k =
+      let r : Record = Tighten field kind total in
+      omega (arith, committed_push f (other k) rs r, accepted_still r f k (λ from. accepted_push from f k rs r))
+
   pub spent_restart : (epoch f : ℕ) (k : Kind) → spent_in schema (rs ++ Restart epoch ∷ []) f k ≡ spent_in schema rs f k
-  spent_restart epoch f k = let r : Record = Restart epoch in omega (arith, committed_push f k rs r, given_still r f k (λ to. given_push to f k rs r))
+  spent_restart epoch f k = let r : Record = Restart epoch in omega (arith, committed_push f k rs r, cut_push f k rs r, given_still r f k (λ to. given_push to f k rs r))
 
   pub gained_restart : (epoch f : ℕ) (k : Kind) → gained_in schema s (rs ++ Restart epoch ∷ []) f k ≡ gained_in schema s rs f k
   gained_restart epoch f k = let r : Record = Restart epoch in omega (arith, committed_push f (other k) rs r, accepted_still r f k (λ from. accepted_push from f k rs r))
@@ -172,7 +197,7 @@ module _ (schema : SchemaValue) (s : ℕ) (rs : List Record) where
         | inr bounded ↦ bounded
       ]
 
-  -- ---- what gifts and acceptances may be
+  -- ---- what gifts, acceptances and tightenings may be
 
   pub gift_parts : (to : SiteNo) (field : FieldNo) (kind : Kind) (total : ℕ) → may_stand schema s rs (Gift to field kind total) ≡ true
       → (to.0 < schema.sites) × (given_in rs to.0 field.0 kind < total) × (total - given_in rs to.0 field.0 kind ≤ own_in schema s rs field.0 kind)
@@ -185,6 +210,12 @@ module _ (schema : SchemaValue) (s : ℕ) (rs : List Record) where
   accept_parts from field kind total may =
       let parts = five_parts (nat_lt from.0 schema.sites) (not (eqb from.0 s)) (is_field schema field.0) _ _ may in
       (ltb-true _ _ parts.0, ltb-true _ _ parts.3, leb-true _ _ parts.4)
+
+  pub tighten_parts : (field : FieldNo) (kind : Kind) (total : ℕ) → may_stand schema s rs (Tighten field kind total) ≡ true
+      → (cut_in rs field.0 kind < total) × (total - cut_in rs field.0 kind ≤ own_in schema s rs field.0 kind)
+  tighten_parts field kind total may =
+      let parts = three_parts (is_field schema field.0) _ _ may in
+      (ltb-true _ _ parts.1, leb-true _ _ parts.2)
 
 -- ---- lawful records spend no more than there is
 
@@ -218,6 +249,15 @@ module _ (schema : SchemaValue) (s : ℕ) (rs : List Record) (before : IsCovered
   covered_push (Accept from field kind total) may f k =
       let parts = accept_parts schema s rs from field kind total may in
       omega (arith, before f k, spent_accept schema s rs from field kind total f k, gained_accept schema s rs from field kind total f k parts.0 parts.1)
+  covered_push (Tighten field kind total) may f k =
+      let parts = tighten_parts schema s rs field kind total may in
+      omega (
+        arith,
+        spent_within (eqb field.0 f && same_kind kind k) (total - cut_in rs field.0 kind) (own_in schema s rs f k) (spent_in schema rs f k) (gained_in schema s rs f k)
+            (λ is. omega (arith, parts.1, on_field (λ x y. own_in schema s rs x y) field.0 f kind k is)) (λ is. own_here schema s rs f k) (before f k),
+        spent_tighten schema s rs field kind total f k parts.0,
+        gained_tighten schema s rs field kind total f k,
+      )
   covered_push (Restart epoch) may f k = omega (arith, before f k, spent_restart schema s rs epoch f k, gained_restart schema s rs epoch f k)
 
 covered_behind : (schema : SchemaValue) (s : ℕ) (front rs : List Record) → IsCovered schema s front → LawfulBehind schema s front rs → IsCovered schema s (front ++ rs)
@@ -228,7 +268,7 @@ covered_behind schema s front (r ∷ rs) before lawful =
 
 pub spent_none : (schema : SchemaValue) (f : ℕ) (k : Kind) → spent_in schema [] f k ≡ 0
 spent_none schema f k =
-    omega (arith, committed_none f k, sum_below-same schema.sites (λ to. given_in [] to f k) (λ to. 0) (λ to below. given_none to f k), sum_below-zero schema.sites)
+    omega (arith, committed_none f k, cut_none f k, sum_below-same schema.sites (λ to. given_in [] to f k) (λ to. 0) (λ to below. given_none to f k), sum_below-zero schema.sites)
 
 pub gained_none : (schema : SchemaValue) (s f : ℕ) (k : Kind) → gained_in schema s [] f k ≡ part_of schema s f k
 gained_none schema s f k =
@@ -269,11 +309,30 @@ module _ (schema : SchemaValue) (s : ℕ) (rs : List Record) (lawful : Lawful sc
       let parts = accept_parts schema s rs from field kind total may in
       omega (arith, own_whole f k, pushed (Accept from field kind total) may f k, spent_accept schema s rs from field kind total f k, gained_accept schema s rs from field kind total f k parts.0 parts.1)
 
+  -- a tightening takes what its total has above the one before, and adds it to what was given up
+  pub own_tighten : (field : FieldNo) (kind : Kind) (total : ℕ) → may_stand schema s rs (Tighten field kind total) ≡ true → (f : ℕ) (k : Kind)
+      → own_in schema s (rs ++ Tighten field kind total ∷ []) f k + cond ((field.0 == f) && same_kind kind k) (total - cut_in rs field.0 kind) 0 ≡ own_in schema s rs f k
+  own_tighten field kind total may f k =
+      let parts = tighten_parts schema s rs field kind total may in
+      omega (arith, own_whole f k, pushed (Tighten field kind total) may f k, spent_tighten schema s rs field kind total f k parts.0, gained_tighten schema s rs field kind total f k)
+
+  pub cut_tighten : (field : FieldNo) (kind : Kind) (total : ℕ) → may_stand schema s rs (Tighten field kind total) ≡ true → (f : ℕ) (k : Kind)
+      → cut_in (rs ++ Tighten field kind total ∷ []) f k ≡ cut_in rs f k + cond ((field.0 == f) && same_kind kind k) (total - cut_in rs field.0 kind) 0
+  cut_tighten field kind total may f k =
+      let parts = tighten_parts schema s rs field kind total may in
+      let on = eqb field.0 f && same_kind kind k in
+      omega (
+        arith,
+        cut_push f k rs (Tighten field kind total),
+        growth_at (λ x y. cut_in rs x y) total field.0 f kind k,
+        grown on total (cut_in rs f k) (λ is. omega (arith, parts.0, on_field (λ x y. cut_in rs x y) field.0 f kind k is)),
+      )
+
   -- a restart changes none
   pub own_restart : (epoch : ℕ) → may_stand schema s rs (Restart epoch) ≡ true → (f : ℕ) (k : Kind) → own_in schema s (rs ++ Restart epoch ∷ []) f k ≡ own_in schema s rs f k
   own_restart epoch may f k = omega (arith, own_whole f k, pushed (Restart epoch) may f k, spent_restart schema s rs epoch f k, gained_restart schema s rs epoch f k)
 
--- ---- the own rights of both kinds are within the width
+-- ---- what is guarded of both kinds is within the width
 
 parts_within : (schema : SchemaValue) → IsSchema schema → (s f : ℕ) → s < schema.sites → part_of schema s f Lower + part_of schema s f Raise ≤ width_of (field_at schema f)
 parts_within schema good s f below =
@@ -291,31 +350,46 @@ parts_within schema good s f below =
       shares_add_up high schema.sites good.some_site,
     )
 
--- of each field, the own rights of both kinds are no more than its width
+-- of each field, what is guarded of both kinds is no more than its width
 abbrev pub IsWithin : SchemaValue → ℕ → List Record → Type 0
-IsWithin schema s rs = (f : ℕ) → own_in schema s rs f Lower + own_in schema s rs f Raise ≤ width_of (field_at schema f)
+IsWithin schema s rs = (f : ℕ) → guarded_in schema s rs f Lower + guarded_in schema s rs f Raise ≤ width_of (field_at schema f)
 
-gain_within : (on : Bool) (kind : Kind) (gain l r l' r' width : ℕ) → l' ≡ l + cond (on && same_kind kind Lower) gain 0 → r' ≡ r + cond (on && same_kind kind Raise) gain 0
-    → l + r ≤ width → (on ≡ true → gain ≤ width - (l + r)) → l' + r' ≤ width
-gain_within true Lower gain l r l' r' width a b le room = omega (arith, a, b, le, room refl)
-gain_within true Raise gain l r l' r' width a b le room = omega (arith, a, b, le, room refl)
-gain_within false kind gain l r l' r' width a b le room = omega (arith, a, b, le)
+gain_within : (on : Bool) (kind : Kind) (gain l r l' r' cut_l cut_r width : ℕ) → l' ≡ l + cond (on && same_kind kind Lower) gain 0 → r' ≡ r + cond (on && same_kind kind Raise) gain 0
+    → (cut_l + l) + (cut_r + r) ≤ width → (on ≡ true → gain ≤ width - ((cut_l + l) + (cut_r + r))) → (cut_l + l') + (cut_r + r') ≤ width
+gain_within true Lower gain l r l' r' cut_l cut_r width a b le room = omega (arith, a, b, le, room refl)
+gain_within true Raise gain l r l' r' cut_l cut_r width a b le room = omega (arith, a, b, le, room refl)
+gain_within false kind gain l r l' r' cut_l cut_r width a b le room = omega (arith, a, b, le)
 
 within_push : (schema : SchemaValue) (s : ℕ) (rs : List Record) → Lawful schema s rs → IsWithin schema s rs → (r : Record) → may_stand schema s rs r ≡ true → IsWithin schema s (rs ++ r ∷ [])
 within_push schema s rs lawful before (Commit txn es) may f =
-    omega (arith, before f, own_commit schema s rs lawful txn es may f Lower, own_commit schema s rs lawful txn es may f Raise)
+    let r : Record = Commit txn es in
+    omega (arith, before f, own_commit schema s rs lawful txn es may f Lower, own_commit schema s rs lawful txn es may f Raise, cut_push f Lower rs r, cut_push f Raise rs r)
 within_push schema s rs lawful before (Gift to field kind total) may f =
-    omega (arith, before f, own_gift schema s rs lawful to field kind total may f Lower, own_gift schema s rs lawful to field kind total may f Raise)
+    let r : Record = Gift to field kind total in
+    omega (arith, before f, own_gift schema s rs lawful to field kind total may f Lower, own_gift schema s rs lawful to field kind total may f Raise, cut_push f Lower rs r, cut_push f Raise rs r)
 within_push schema s rs lawful before (Accept from field kind total) may f =
+    let r : Record = Accept from field kind total in
     let parts = accept_parts schema s rs from field kind total may in
     let gain = total - accepted_in rs from.0 field.0 kind in
-    gain_within (field.0 == f) kind gain (own_in schema s rs f Lower) (own_in schema s rs f Raise) _ _ (width_of (field_at schema f))
+    let whole = gain_within (field.0 == f) kind gain (own_in schema s rs f Lower) (own_in schema s rs f Raise) (own_in schema s (rs ++ r ∷ []) f Lower) (own_in schema s (rs ++ r ∷ []) f Raise)
+    (cut_in rs f Lower) (cut_in rs f Raise) (width_of (field_at schema f))
     (own_accept schema s rs lawful from field kind total may f Lower)
     (own_accept schema s rs lawful from field kind total may f Raise)
     (before f)
-    (λ on. let same = eqb-true field.0 f on in subst (λ (x : ℕ). gain ≤ room_in schema s rs x) same parts.2)
+    (λ on. let same = eqb-true field.0 f on in subst (λ (x : ℕ). gain ≤ room_in schema s rs x) same parts.2) in
+    omega (arith, whole, cut_push f Lower rs r, cut_push f Raise rs r)
+within_push schema s rs lawful before (Tighten field kind total) may f =
+    omega (
+      arith,
+      before f,
+      own_tighten schema s rs lawful field kind total may f Lower,
+      own_tighten schema s rs lawful field kind total may f Raise,
+      cut_tighten schema s rs lawful field kind total may f Lower,
+      cut_tighten schema s rs lawful field kind total may f Raise,
+    )
 within_push schema s rs lawful before (Restart epoch) may f =
-    omega (arith, before f, own_restart schema s rs lawful epoch may f Lower, own_restart schema s rs lawful epoch may f Raise)
+    let r : Record = Restart epoch in
+    omega (arith, before f, own_restart schema s rs lawful epoch may f Lower, own_restart schema s rs lawful epoch may f Raise, cut_push f Lower rs r, cut_push f Raise rs r)
 
 within_behind : (schema : SchemaValue) (s : ℕ) (front rs : List Record) → Lawful schema s front → IsWithin schema s front → LawfulBehind schema s front rs → IsWithin schema s (front ++ rs)
 within_behind schema s front [] lawful before more = subst (λ (all : List Record). IsWithin schema s all) (sym (append-nil front)) before
@@ -325,4 +399,27 @@ within_behind schema s front (r ∷ rs) lawful before more =
 
 pub own_within : (schema : SchemaValue) → IsSchema schema → (s : ℕ) → s < schema.sites → (rs : List Record) → Lawful schema s rs → IsWithin schema s rs
 own_within schema good s below rs lawful =
-    within_behind schema s [] rs tt (λ f. omega (arith, parts_within schema good s f below, own_none schema s f Lower, own_none schema s f Raise)) lawful
+    within_behind schema s [] rs tt (λ f. omega (arith, parts_within schema good s f below, own_none schema s f Lower, own_none schema s f Raise, cut_none f Lower, cut_none f Raise)) lawful
+
+same_kind-refl : (k : Kind) → same_kind k k ≡ true
+same_kind-refl Lower = refl
+same_kind-refl Raise = refl
+
+width_few : (fs : List FieldValue) → AllByRecursion IsField fs → (f : ℕ) → width_of (slice_index_or fs f no_field) ≤ max_change
+width_few [] each f = omega (arith, ints)
+width_few (x ∷ fs) each zero = omega (arith, ints, each.0.least, each.0.floor, each.0.ceiling, each.0.most)
+width_few (x ∷ fs) each (suc f) = width_few fs each.1 f
+
+cut_few : (schema : SchemaValue) → IsSchema schema → (s : ℕ) → s < schema.sites → (rs : List Record) → Lawful schema s rs → (f : ℕ) (k : Kind) → cut_in rs f k ≤ max_change
+cut_few schema good s below rs lawful f Lower = omega (arith, own_within schema good s below rs lawful f, width_few schema.fields good.each f)
+cut_few schema good s below rs lawful f Raise = omega (arith, own_within schema good s below rs lawful f, width_few schema.fields good.each f)
+
+-- so the total of a tightening that may stand is within the range of its record
+pub tighten_few : (schema : SchemaValue) → IsSchema schema → (s : ℕ) → s < schema.sites → (rs : List Record) → Lawful schema s rs → (field : FieldNo) (kind : Kind) (total : ℕ)
+    → may_stand schema s rs (Tighten field kind total) ≡ true → total ≤ max_change
+tighten_few schema good s below rs lawful field kind total may =
+    let r : Record = Tighten field kind total in
+    let on : (eqb field.0 field.0 && same_kind kind kind) ≡ true = rw (eq-eqb field.0 field.0 refl, same_kind-refl kind) refl in
+    let more : cut_in (rs ++ r ∷ []) field.0 kind ≡ cut_in rs field.0 kind + (total - cut_in rs field.0 kind) =
+    cut_tighten schema s rs lawful field kind total may field.0 kind ∙ ap (λ (b : Bool). cut_in rs field.0 kind + cond b (total - cut_in rs field.0 kind) 0) on in
+    omega (arith, more, (tighten_parts schema s rs field kind total may).0, cut_few schema good s below (rs ++ r ∷ []) (lawful_push schema s rs r lawful may) field.0 kind)

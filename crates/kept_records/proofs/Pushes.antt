@@ -5,7 +5,7 @@ use Rattle.std.proofs.lemmas.List.Sums.{fold_push, sum_by_push}
 use Rattle.field_bounds.specs.declared.kind.Kind.{Kind}
 use Rattle.field_bounds.specs.Schema.{SchemaValue}
 use Rattle.kept_records.specs.declared.record.Record.{Record}
-use Rattle.kept_records.specs.Stands.{later, greatest, given_more, given_in, accepted_more, accepted_in, commits, committed_in, may_stand, LawfulBehind, Lawful}
+use Rattle.kept_records.specs.Stands.{later, greatest, given_more, given_in, accepted_more, accepted_in, cut_more, cut_in, commits, committed_in, may_stand, LawfulBehind, Lawful}
 
 -- ---- no records
 
@@ -20,6 +20,10 @@ given_none to f k = refl
 pub accepted_none : (from f : ℕ) (k : Kind) → accepted_in [] from f k ≡ 0
 unfolding accepted_in
 accepted_none from f k = refl
+
+pub cut_none : (f : ℕ) (k : Kind) → cut_in [] f k ≡ 0
+unfolding cut_in
+cut_none f k = refl
 
 pub committed_none : (f : ℕ) (k : Kind) → committed_in f k [] ≡ 0
 unfolding committed_in
@@ -38,6 +42,10 @@ given_push to f k rs r = fold_push (given_more to f k) 0 rs r
 pub accepted_push : (from f : ℕ) (k : Kind) (rs : List Record) (r : Record) → accepted_in (rs ++ r ∷ []) from f k ≡ accepted_more from f k (accepted_in rs from f k) r
 unfolding accepted_in
 accepted_push from f k rs r = fold_push (accepted_more from f k) 0 rs r
+
+pub cut_push : (f : ℕ) (k : Kind) (rs : List Record) (r : Record) → cut_in (rs ++ r ∷ []) f k ≡ cut_more f k (cut_in rs f k) r
+unfolding cut_in
+cut_push f k rs r = fold_push (cut_more f k) 0 rs r
 
 pub committed_push : (f : ℕ) (k : Kind) (rs : List Record) (r : Record) → committed_in f k (rs ++ r ∷ []) ≡ committed_in f k rs + commits f k r
 unfolding committed_in

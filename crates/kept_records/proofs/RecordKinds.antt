@@ -6,17 +6,18 @@ use Rattle.std.proofs.lemmas.Bool.{and_parts, leb-true, le-leb, eqb-true, cases_
 use Rattle.std.proofs.lemmas.Option.{cond_some, same_Some}
 use Rattle.field_bounds.specs.declared.kind.Kind.{Kind}
 use Rattle.field_bounds.specs.declared.id.TxnId.{TxnId}
+use Rattle.field_bounds.specs.declared.id.FieldNo.{FieldNo}
 use Rattle.field_bounds.specs.declared.entry.Escrow.{Escrow}
-use Rattle.field_bounds.specs.Owed.{max_total, max_escrows, max_number, max_epoch}
+use Rattle.field_bounds.specs.Owed.{max_change, max_total, max_escrows, max_number, max_epoch}
 use Rattle.line_words.specs.Reading.{◌>>=◌, word_at, ended}
 use Rattle.line_words.proofs.Numbers.{bind_some}
 use Rattle.line_words.proofs.WordLemmas.{IsWord}
 use Rattle.line_words.proofs.Forms.{taking, word_again}
 use Rattle.kept_records.specs.declared.record.Record.{Record}
-use Rattle.kept_records.specs.declared.record.Record.TheVariants.{Commit, Gift, Accept, Restart}
+use Rattle.kept_records.specs.declared.record.Record.TheVariants.{Commit, Gift, Accept, Tighten, Restart}
 use Rattle.kept_records.specs.declared.reading.Total.{Total}
-use Rattle.kept_records.specs.Text.{letter_of, words_of, kind_word, escrow_words, total_words, max_place, IsChange, IsEscrow, IsTotal, IsRecord}
-use Rattle.kept_records.specs.Reading.{number_within, change_of, kind_of, total_from, gift_from, accept_from, restart_from, escrows_from, commit_from, letter_at, record_from, record_of}
+use Rattle.kept_records.specs.Text.{letter_of, words_of, kind_word, escrow_words, total_words, cut_words, max_place, IsChange, IsEscrow, IsTotal, IsRecord}
+use Rattle.kept_records.specs.Reading.{number_within, change_of, kind_of, total_from, gift_from, accept_from, tighten_from, restart_from, escrows_from, commit_from, letter_at, record_from, record_of}
 use Rattle.kept_records.proofs.OneWord.{number_law, change_law, kind_law, letter_word}
 
 ended_is : {A : Type 0} (x : A) (ws : List (List ℕ)) (y : A) → ended (x, ws) ≡ Some y → (ws ≡ []) × (x ≡ y)
@@ -82,6 +83,28 @@ accept_takes ws r e = told_takes 65 (λ t. Accept t.other t.field t.kind t.total
 accept_again : (t : Total) → Fits t → accept_from (words_in t) ≡ Some (Accept t.other t.field t.kind t.total)
 unfolding accept_from
 accept_again t fits = rw (total_again t fits) refl
+
+-- ---- tightenings
+
+abbrev tightened : ℕ → Kind → ℕ → Record
+tightened field kind total = Tighten (record { 0 = field }) kind total
+
+tighten_takes : (ws : List (List ℕ)) (r : Record) → tighten_from ws ≡ Some r → Spells 84 ws r
+unfolding tighten_from
+tighten_takes ws r e =
+    taking (number_law 0 max_place (omega arith)) (λ field. word_at kind_of field.1 >>= λ kind. word_at (number_within 1 max_change) kind.1 >>= λ total. ended (tightened field.0 kind.0 total.0, total.1)) ws r e (λ field bs b-fits b-is b-on.
+    taking kind_law (λ kind. word_at (number_within 1 max_change) kind.1 >>= λ total. ended (tightened field kind.0 total.0, total.1)) bs r b-on (λ kind cs c-fits c-is c-on.
+    taking (number_law 1 max_change (omega arith)) (λ total. ended (tightened field kind total.0, total.1)) cs r c-on (λ total ds d-fits d-is d-on.
+    let end = ended_is (tightened field kind total) ds r d-on in
+    let is : ws ≡ cut_words (record { 0 = field }) kind total = b-is ∙ ap (λ (l : List (List ℕ)). decimal field ∷ l) (c-is ∙ ap (λ (l : List (List ℕ)). kind_word kind ∷ l) (d-is ∙ ap (λ (l : List (List ℕ)). decimal total ∷ l) end.0)) in
+    subst (Spells 84 ws) end.1 (refl, sym is, (b-fits.1, (omega (arith, d-fits.0), d-fits.1))))))
+
+tighten_again : (field : FieldNo) (kind : Kind) (total : ℕ) → IsRecord (Tighten field kind total) → tighten_from (cut_words field kind total) ≡ Some (Tighten field kind total)
+unfolding tighten_from
+tighten_again field kind total fits =
+    word_again (number_law 0 max_place (omega arith)) _ field.0 _ (omega arith, fits.0)
+    ∙ word_again kind_law _ kind _ tt
+    ∙ word_again (number_law 1 max_change (omega arith)) _ total [] (omega (arith, fits.1.0), fits.1.1)
 
 -- ---- restarts
 
@@ -161,7 +184,10 @@ from_letter c ws r e = elim (cases_Bool (eqb c 67)) [
       | inl is ↦ subst (λ (x : ℕ). Spells x ws r) (sym (eqb-true c 65 is)) (accept_takes ws r (sym (rw (a, b, is) refl) ∙ e))
       | inr d ↦ elim (cases_Bool (eqb c 82)) [
         | inl is ↦ subst (λ (x : ℕ). Spells x ws r) (sym (eqb-true c 82 is)) (restart_takes ws r (sym (rw (a, b, d, is) refl) ∙ e))
-        | inr f ↦ let h : None ≡ Some r = sym (rw (a, b, d, f) refl) ∙ e in absurd cc
+        | inr f ↦ elim (cases_Bool (eqb c 84)) [
+          | inl is ↦ subst (λ (x : ℕ). Spells x ws r) (sym (eqb-true c 84 is)) (tighten_takes ws r (sym (rw (a, b, d, f, is) refl) ∙ e))
+          | inr g ↦ let h : None ≡ Some r = sym (rw (a, b, d, f, g) refl) ∙ e in absurd cc
+        ]
       ]
     ]
   ]
@@ -180,6 +206,7 @@ unfolding record_of
 record_again (Commit txn es) fits = commit_again txn es fits
 record_again (Gift to f k n) fits = gift_again (record { other = to; field = f; kind = k; total = n }) fits
 record_again (Accept from f k n) fits = accept_again (record { other = from; field = f; kind = k; total = n }) fits
+record_again (Tighten field kind total) fits = tighten_again field kind total fits
 record_again (Restart epoch) fits = restart_again epoch fits
 
 -- ---- the words of a record can be seen
@@ -197,4 +224,6 @@ words_plain (Commit txn es) fits =
     (letter_word 67 (omega arith) (omega arith), ((number_law 0 max_epoch (omega arith)).plain txn.epoch (omega arith, fits.0), ((number_law 1 max_number (omega arith)).plain txn.number (omega (arith, fits.1), fits.2), escrows_plain es fits.5)))
 words_plain (Gift to f k n) fits = (letter_word 71 (omega arith) (omega arith), total_plain (record { other = to; field = f; kind = k; total = n }) fits)
 words_plain (Accept from f k n) fits = (letter_word 65 (omega arith) (omega arith), total_plain (record { other = from; field = f; kind = k; total = n }) fits)
+words_plain (Tighten field kind total) fits =
+    (letter_word 84 (omega arith) (omega arith), ((number_law 0 max_place (omega arith)).plain field.0 (omega arith, fits.0), (kind_law.plain kind tt, ((number_law 1 max_change (omega arith)).plain total (omega (arith, fits.1.0), fits.1.1), tt))))
 words_plain (Restart epoch) fits = (letter_word 82 (omega arith) (omega arith), ((number_law 1 max_epoch (omega arith)).plain epoch (omega (arith, fits.0), fits.1), tt))

@@ -3,7 +3,7 @@ use Rattle.std.specs.Prelude.{◌≡◌, ◌⊎◌, ℕ, ◌+◌, ◌<◌, Bool,
 use Rattle.kept_records.specs.declared.medium.Mishap.{Mishap}
 use Rattle.kept_records.specs.declared.medium.Mishap.TheVariants.{Never, Append, Cut, Read}
 use Rattle.kept_records.specs.declared.record.Record.{Record}
-use Rattle.kept_records.specs.declared.record.Record.TheVariants.{Commit, Gift, Accept, Restart}
+use Rattle.kept_records.specs.declared.record.Record.TheVariants.{Commit, Gift, Accept, Tighten, Restart}
 use Rattle.kept_records.specs.Medium.{IsCutShort}
 use Rattle.kept_records.specs.Logs.{IsLog}
 
@@ -48,6 +48,7 @@ abbrev pub is_restart : Record → Bool
 is_restart (Commit txn escrows) = false
 is_restart (Gift to field kind total) = false
 is_restart (Accept from field kind total) = false
+is_restart (Tighten field kind total) = false
 is_restart (Restart epoch) = true
 
 abbrev pub starts_with_no_restart : List Record → Bool

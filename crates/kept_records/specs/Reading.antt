@@ -6,7 +6,7 @@ use Rattle.field_bounds.specs.declared.kind.Kind.TheVariants.{Lower, Raise}
 use Rattle.field_bounds.specs.declared.entry.Escrow.{Escrow}
 use Rattle.line_words.specs.Reading.{◌>>=◌, number_of, signed_of, word_at, ended}
 use Rattle.kept_records.specs.declared.record.Record.{Record}
-use Rattle.kept_records.specs.declared.record.Record.TheVariants.{Commit, Gift, Accept, Restart}
+use Rattle.kept_records.specs.declared.record.Record.TheVariants.{Commit, Gift, Accept, Tighten, Restart}
 use Rattle.kept_records.specs.declared.reading.Total.{Total}
 use Rattle.kept_records.specs.declared.reading.LineFault.{LineFault}
 use Rattle.kept_records.specs.declared.reading.LineFault.TheVariants as faults
@@ -55,6 +55,14 @@ accept_from ws = do
   t ← total_from ws
   Some (Accept t.other t.field t.kind t.total)
 
+-- A field, a kind and a total that was given up, and no word more.
+unfoldable pub tighten_from : List (List ℕ) → Option Record
+tighten_from ws = do
+  field ← word_at (number_within 0 max_place) ws
+  kind ← word_at kind_of field.1
+  total ← word_at (number_within 1 max_change) kind.1
+  ended (Tighten (record { 0 = field.0 }) kind.0 total.0, total.1)
+
 -- An epoch, and no word more.
 unfoldable pub restart_from : List (List ℕ) → Option Record
 restart_from ws = do
@@ -87,9 +95,9 @@ letter_at [] = None
 letter_at (c ∷ []) = Some c
 letter_at (c ∷ d ∷ ds) = None
 
--- The record of a letter, C (67), G (71), A (65) or R (82), and the words behind it.
+-- The record of a letter, C (67), G (71), A (65), R (82) or T (84), and the words behind it.
 abbrev pub record_from : ℕ → List (List ℕ) → Option Record
-record_from letter ws = if letter == 67 then commit_from ws else (if letter == 71 then gift_from ws else (if letter == 65 then accept_from ws else (if letter == 82 then restart_from ws else None)))
+record_from letter ws = if letter == 67 then commit_from ws else (if letter == 71 then gift_from ws else (if letter == 65 then accept_from ws else (if letter == 82 then restart_from ws else (if letter == 84 then tighten_from ws else None))))
 
 -- The record that the words of a line spell.
 unfoldable pub record_of : List (List ℕ) → Option Record

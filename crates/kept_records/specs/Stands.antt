@@ -9,7 +9,7 @@ use Rattle.field_bounds.specs.Schema.{SchemaValue}
 use Rattle.field_bounds.specs.Parts.{field_at, width_of, part_of, sum_below}
 use Rattle.field_bounds.specs.Effects.{Base, takes}
 use Rattle.kept_records.specs.declared.record.Record.{Record}
-use Rattle.kept_records.specs.declared.record.Record.TheVariants.{Commit, Gift, Accept, Restart}
+use Rattle.kept_records.specs.declared.record.Record.TheVariants.{Commit, Gift, Accept, Tighten, Restart}
 
 -- ---- what records stand for
 
@@ -18,6 +18,7 @@ abbrev pub later : ℕ → Record → ℕ
 later epoch (Commit txn escrows) = epoch
 later epoch (Gift to field kind total) = epoch
 later epoch (Accept from field kind total) = epoch
+later epoch (Tighten field kind total) = epoch
 later epoch (Restart new) = max epoch new
 
 unfoldable pub greatest : List Record → ℕ
@@ -29,6 +30,7 @@ given_more to f k n (Commit txn escrows) = n
 given_more to f k n (Gift site field kind total) =
     if (field.0 == f) && same_kind kind k && (site.0 == to) then max total n else n
 given_more to f k n (Accept site field kind total) = n
+given_more to f k n (Tighten field kind total) = n
 given_more to f k n (Restart epoch) = n
 
 unfoldable pub given_in : List Record → ℕ → ℕ → Kind → ℕ
@@ -40,16 +42,29 @@ accepted_more from f k n (Commit txn escrows) = n
 accepted_more from f k n (Gift site field kind total) = n
 accepted_more from f k n (Accept site field kind total) =
     if (field.0 == f) && same_kind kind k && (site.0 == from) then max total n else n
+accepted_more from f k n (Tighten field kind total) = n
 accepted_more from f k n (Restart epoch) = n
 
 unfoldable pub accepted_in : List Record → ℕ → ℕ → Kind → ℕ
 accepted_in rs from f k = fold (accepted_more from f k) 0 rs
+
+-- The greatest total given up for good, of a kind on a field (this project).
+abbrev pub cut_more : ℕ → Kind → ℕ → Record → ℕ
+cut_more f k n (Commit txn escrows) = n
+cut_more f k n (Gift to field kind total) = n
+cut_more f k n (Accept from field kind total) = n
+cut_more f k n (Tighten field kind total) = if (field.0 == f) && same_kind kind k then max total n else n
+cut_more f k n (Restart epoch) = n
+
+unfoldable pub cut_in : List Record → ℕ → Kind → ℕ
+cut_in rs f k = fold (cut_more f k) 0 rs
 
 -- The sizes of the committed escrows of a kind on a field, added up (O'Neil 1986).
 abbrev pub commits : ℕ → Kind → Record → ℕ
 commits f k (Commit txn escrows) = sum_by (takes f k) escrows
 commits f k (Gift to field kind total) = 0
 commits f k (Accept from field kind total) = 0
+commits f k (Tighten field kind total) = 0
 commits f k (Restart epoch) = 0
 
 unfoldable pub committed_in : ℕ → Kind → List Record → ℕ
@@ -60,18 +75,29 @@ abbrev pub gained_in : SchemaValue → ℕ → List Record → ℕ → Kind → 
 gained_in schema s rs f k =
     part_of schema s f k + committed_in f (other k) rs + sum_below schema.sites (λ from. accepted_in rs from f k)
 
--- What took rights of a site: what was spent of the kind, and what it gave.
+-- What took rights of a site: what was spent of the kind, what it gave, and what it gave up.
 abbrev pub spent_in : SchemaValue → List Record → ℕ → Kind → ℕ
-spent_in schema rs f k = committed_in f k rs + sum_below schema.sites (λ to. given_in rs to f k)
+spent_in schema rs f k = committed_in f k rs + sum_below schema.sites (λ to. given_in rs to f k) + cut_in rs f k
 
 -- The own rights that records stand for (Balegas and others 2015; this project for the two kinds).
 unfoldable pub own_in : SchemaValue → ℕ → List Record → ℕ → Kind → ℕ
 own_in schema s rs f k = gained_in schema s rs f k - spent_in schema rs f k
 
+-- What is guarded of a field's width: the own rights of a kind, and what was given up of it.
+abbrev pub guarded_in : SchemaValue → ℕ → List Record → ℕ → Kind → ℕ
+guarded_in schema s rs f k = cut_in rs f k + own_in schema s rs f k
+
 -- What a site stands on that has read these records (this project).
 abbrev pub stands : SchemaValue → ℕ → Bool → List Record → Base
 stands schema s up rs =
-    record { up = up; epoch = greatest rs; rights = own_in schema s rs; given = given_in rs; accepted = accepted_in rs }
+    record {
+      up = up;
+      epoch = greatest rs;
+      rights = own_in schema s rs;
+      cut = cut_in rs;
+      given = given_in rs;
+      accepted = accepted_in rs;
+    }
 
 -- ---- which records a site may have kept behind others (this project)
 
@@ -88,12 +114,13 @@ may_commit schema s rs escrows e =
     && nat_le (sum_by (takes e.field.0 Lower) escrows) (own_in schema s rs e.field.0 Lower)
     && nat_le (sum_by (takes e.field.0 Raise) escrows) (own_in schema s rs e.field.0 Raise)
 
--- What the own rights of both kinds on a field leave of its width.
+-- What is guarded of both kinds on a field leaves of its width.
 abbrev pub room_in : SchemaValue → ℕ → List Record → ℕ → ℕ
-room_in schema s rs f = width_of (field_at schema f) - (own_in schema s rs f Lower + own_in schema s rs f Raise)
+room_in schema s rs f = width_of (field_at schema f) - (guarded_in schema s rs f Lower + guarded_in schema s rs f Raise)
 
 -- A commit is of the epoch of the last restart and spends what is owned; a gift's total is above the one before by
--- what is owned, an acceptance's by what there is room for; a restart's epoch is above every one before.
+-- what is owned, and so is a tightening's, an acceptance's by what there is room for; a restart's epoch is above every
+-- one before.
 abbrev pub may_stand : SchemaValue → ℕ → List Record → Record → Bool
 may_stand schema s rs (Commit txn escrows) =
     (txn.epoch == greatest rs) && list_all (may_commit schema s rs escrows) escrows
@@ -105,6 +132,10 @@ may_stand schema s rs (Accept from field kind total) =
     is_other_site schema s from.0 && is_field schema field.0
     && nat_lt (accepted_in rs from.0 field.0 kind) total
     && nat_le (total - accepted_in rs from.0 field.0 kind) (room_in schema s rs field.0)
+may_stand schema s rs (Tighten field kind total) =
+    is_field schema field.0
+    && nat_lt (cut_in rs field.0 kind) total
+    && nat_le (total - cut_in rs field.0 kind) (own_in schema s rs field.0 kind)
 may_stand schema s rs (Restart epoch) = nat_lt (greatest rs) epoch
 
 -- Each of these records may stand behind those before it.

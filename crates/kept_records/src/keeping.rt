@@ -141,6 +141,11 @@ pub fn stands_behind(records: &[Record], place: usize) -> bool
     match records.get(place) {
         None => false,
         Some(Record::Restart { .. }) => false,
-        Some(Record::Commit { .. } | Record::Gift { .. } | Record::Accept { .. }) => true,
+        Some(
+            Record::Commit { .. }
+            | Record::Gift { .. }
+            | Record::Accept { .. }
+            | Record::Tighten { .. },
+        ) => true,
     }
 }

@@ -4,7 +4,7 @@ ghost use Rattle.std.specs.Prelude.{◌≡◌, ◌≤◌, ◌==◌, IfSome, posi
 ghost use Rattle.line_words.specs.Words.{words};
 ghost use Rattle.line_words.specs.Reading.{word_at, Gives};
 ghost use Rattle.kept_records.specs.declared.reading.LineFault.TheVariants.{NoMemory};
-ghost use Rattle.kept_records.specs.Reading.{number_within, change_of, kind_of, total_from, escrows_from, commit_from, gift_from, accept_from, restart_from, record_of, Tells};
+ghost use Rattle.kept_records.specs.Reading.{number_within, change_of, kind_of, total_from, escrows_from, commit_from, gift_from, accept_from, tighten_from, restart_from, record_of, Tells};
 
 use crate::record::{Escrows, Record};
 use field_bounds::{
@@ -136,6 +136,23 @@ fn take_accept(words: Words) -> Option<Record>
     })
 }
 
+#[tactic(auto, unfolding(crate::specs::Reading::tighten_from))]
+fn take_tighten(mut words: Words) -> Option<Record>
+    ensures { result ≡ tighten_from words.entry }
+{
+    let field = take_number(&mut words, 0, MAX_PLACE)?;
+    let kind = take_kind(&mut words)?;
+    let total = take_number(&mut words, 1, MAX_CHANGE)?;
+    match words.next() {
+        Some(_) => None,
+        None => Some(Record::Tighten {
+            field: FieldNo(field as u16),
+            kind,
+            total,
+        }),
+    }
+}
+
 #[tactic(auto, unfolding(crate::specs::Reading::restart_from))]
 fn take_restart(mut words: Words) -> Option<Record>
     ensures { result ≡ restart_from words.entry }
@@ -201,6 +218,7 @@ pub(crate) fn read_line(alloc: Global, line: &[u8]) -> Result<Record, LineFault>
         Some([b'C']) => take_commit(alloc, words),
         Some([b'G']) => take_gift(words).ok_or(LineFault::NoRecord),
         Some([b'A']) => take_accept(words).ok_or(LineFault::NoRecord),
+        Some([b'T']) => take_tighten(words).ok_or(LineFault::NoRecord),
         Some([b'R']) => take_restart(words).ok_or(LineFault::NoRecord),
         _ => Err(LineFault::NoRecord),
     }

@@ -71,6 +71,13 @@ pub enum Record {
         kind: Kind,
         total: u64,
     },
+    /// Rights of a kind on a field were given up for good. `total` is all that was given up of them so
+    /// far, 1 to 2,000,000,000,000,000 rights.
+    Tighten {
+        field: FieldNo,
+        kind: Kind,
+        total: u64,
+    },
     /// The site restarted in this epoch, 1 to 1,000,000,000.
     Restart {
         epoch: u32,

@@ -9,7 +9,7 @@ use std::alloc::Global;
 use std::process::Abort;
 
 /// Lines that are no records, each for one reason.
-const NO_RECORDS: [&str; 40] = [
+const NO_RECORDS: [&str; 50] = [
     "\n",
     " \n",
     "r 1\n",
@@ -50,14 +50,26 @@ const NO_RECORDS: [&str; 40] = [
     "G 1 0 x 5\n",
     "A 1 0 l\n",
     "A 1 0 l 5 6\n",
+    "T\n",
+    "T 0 l\n",
+    "T 0 l 0\n",
+    "T 0 l 05\n",
+    "T 0 l -5\n",
+    "T 0 l 2000000000000001\n",
+    "T 65536 l 5\n",
+    "T 0 x 5\n",
+    "T 0 l 5 6\n",
+    "T 1 0 l 5\n",
 ];
 
 /// Lines at the ends of the ranges.
-const RECORDS: [&str; 6] = [
+const RECORDS: [&str; 8] = [
     "C 1000000000 1000000000 65535 2000000000000000\n",
     "C 0 1 0 1 0 1 0 1 0 1 0 1 0 1 0 1 0 1 0 1 0 1 0 1 0 1 0 1 0 1 0 1 0 1\n",
     "G 0 0 l 1\n",
     "A 65535 65535 r 1000000000000000000\n",
+    "T 0 l 1\n",
+    "T 65535 r 2000000000000000\n",
     "R 1\n",
     "R 1000000000\n",
 ];
@@ -102,6 +114,15 @@ fn accept_text(alloc: Global) -> Option<Vec<u8>> {
     write_record(alloc, &accept).ok()
 }
 
+fn tighten_text(alloc: Global) -> Option<Vec<u8>> {
+    let tighten = Record::Tighten {
+        field: FieldNo(0),
+        kind: Kind::Lower,
+        total: 5,
+    };
+    write_record(alloc, &tighten).ok()
+}
+
 fn restart_text(alloc: Global) -> Option<Vec<u8>> {
     write_record(alloc, &Record::Restart { epoch: 1 }).ok()
 }
@@ -112,6 +133,7 @@ fn texts(rt: HostRuntime) {
     assert!(rt; is_text(commit_text(alloc), "C 0 1 0 -20\n"));
     assert!(rt; is_text(gift_text(alloc), "G 1 0 l 5\n"));
     assert!(rt; is_text(accept_text(alloc), "A 15 63 r 1000000000000000000\n"));
+    assert!(rt; is_text(tighten_text(alloc), "T 0 l 5\n"));
     assert!(rt; is_text(restart_text(alloc), "R 1\n"));
 }
 
@@ -198,6 +220,11 @@ fn each_length_of_a_torn_record(rt: HostRuntime) {
         assert_eq!(rt; read_lengths(rt.alloc(), &whole[..length]), Some((0, 0)));
     }
     assert_eq!(rt; read_lengths(rt.alloc(), whole), Some((1, 12)));
+    let cut = b"T 0 l 5\n";
+    for length in 0..8 {
+        assert_eq!(rt; read_lengths(rt.alloc(), &cut[..length]), Some((0, 0)));
+    }
+    assert_eq!(rt; read_lengths(rt.alloc(), cut), Some((1, 8)));
 }
 
 /// Whether the device took the piece, or None where memory was refused.
@@ -308,6 +335,10 @@ fn records_behind_others(rt: HostRuntime) {
     assert_eq!(rt;
         standing(rt.alloc(), "C 0 1 0 -20\nR 1\nG 1 0 l 5\n"),
         Some([true, false, true, false])
+    );
+    assert_eq!(rt;
+        standing(rt.alloc(), "T 0 l 5\nR 1\n"),
+        Some([true, false, false, false])
     );
 }
 

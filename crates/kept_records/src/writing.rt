@@ -2,7 +2,7 @@
 
 ghost use Rattle.std.specs.Prelude.{◌≡◌, ◌++◌, ◌∷◌, OnOk, IfOk};
 ghost use Rattle.std.specs.Fmt.{decimal, signed_decimal};
-ghost use Rattle.kept_records.specs.Text.{text, letter_of, words_of, spaced, kind_word, escrow_words, total_words, IsRecord};
+ghost use Rattle.kept_records.specs.Text.{text, letter_of, words_of, spaced, kind_word, escrow_words, total_words, cut_words, IsRecord};
 ghost use Rattle.kept_records.specs.Logs.{TearsClean};
 
 use crate::record::Record;
@@ -74,6 +74,15 @@ fn push_total(
     push_number(line, total)
 }
 
+// Adds the words of a tightening, a space before each.
+fn push_cut(line: &mut Vec<u8>, field: FieldNo, kind: Kind, total: u64) -> Result<(), AllocError>
+    ensures { OnOk result (line.new.items ≡ line.old.items ++ spaced (cut_words field kind total)) }
+{
+    push_number(line, u64::from(field.0))?;
+    push_word(line, kind_letter(kind))?;
+    push_number(line, total)
+}
+
 fn letter(kept: &Record) -> u8
     ensures { result ≡ letter_of kept.now }
 {
@@ -81,6 +90,7 @@ fn letter(kept: &Record) -> u8
         Record::Commit { .. } => b'C',
         Record::Gift { .. } => b'G',
         Record::Accept { .. } => b'A',
+        Record::Tighten { .. } => b'T',
         Record::Restart { .. } => b'R',
     }
 }
@@ -107,6 +117,7 @@ fn push_words(line: &mut Vec<u8>, kept: &Record) -> Result<(), AllocError>
             kind,
             total,
         } => push_total(line, *from, *field, *kind, *total),
+        Record::Tighten { field, kind, total } => push_cut(line, *field, *kind, *total),
         Record::Restart { epoch } => push_number(line, u64::from(*epoch)),
     }
 }
