@@ -2,7 +2,7 @@
 use Rattle.std.proofs.Common.{◌≡◌, ℕ, ◌+◌, ◌≤◌, Bool, true, false, cond, List, [], ◌∷◌, length, refl, ap, arith}
 use Rattle.std.proofs.lemmas.List.{length-append}
 use Rattle.field_bounds.specs.declared.entry.Command.{Command}
-use Rattle.field_bounds.specs.declared.entry.Command.TheVariants.{Begin, Escrow, Commit, Abort, Give, Restate, Spare, Accept, Read, Share, Restart}
+use Rattle.field_bounds.specs.declared.entry.Command.TheVariants.{Begin, Escrow, Commit, Abort, Give, Restate, Spare, Tighten, Accept, Read, Share, Restart}
 use Rattle.field_bounds.specs.declared.entry.Reply.{Reply}
 use Rattle.field_bounds.specs.declared.entry.Reply.TheVariants.{Restarted, Unsure, StillDown, Refused}
 use Rattle.field_bounds.specs.declared.entry.Entry.{Entry}
@@ -22,6 +22,7 @@ adds_answer at (Abort txn) stood rs n = refl
 adds_answer at (Give to field kind amount) stood rs n = refl
 adds_answer at (Restate to field kind) stood rs n = refl
 adds_answer at (Spare to field kind want) stood rs n = refl
+adds_answer at (Tighten field kind amount) stood rs n = refl
 adds_answer at (Accept told) stood rs n = refl
 adds_answer at (Read field) stood rs n = refl
 adds_answer at (Share field) stood rs n = refl

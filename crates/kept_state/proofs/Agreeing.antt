@@ -1,5 +1,5 @@
 -- Records that agree with what took effect: the same totals, and the same sizes committed.
-use Rattle.std.proofs.Common.{◌≡◌, ℕ, ◌+◌, ◌≤◌, max, Bool, true, false, cond, List, [], ◌∷◌, ◌++◌, length, reverse, refl, sym, ◌∙◌, ap, arith, Some}
+use Rattle.std.proofs.Common.{◌≡◌, ℕ, ◌+◌, ◌≤◌, max, Bool, true, false, ◌&&◌, cond, List, [], ◌∷◌, ◌++◌, length, reverse, refl, sym, ◌∙◌, ap, arith, eqb, Some, None}
 use Rattle.std.proofs.lemmas.Grind.{reverse_onto}
 use Rattle.std.proofs.lemmas.List.Sums.{sum_by_push, sum_by-cons}
 use Rattle.std.specs.Prelude.{ℤ, sum_by}
@@ -9,22 +9,22 @@ use Rattle.field_bounds.specs.declared.id.SiteNo.{SiteNo}
 use Rattle.field_bounds.specs.declared.id.FieldNo.{FieldNo}
 use Rattle.field_bounds.specs.declared.entry.Escrow.{Escrow}
 use Rattle.kept_records.specs.declared.record.Record.{Record}
-use Rattle.kept_records.specs.declared.record.Record.TheVariants.{Commit, Gift, Accept, Restart}
+use Rattle.kept_records.specs.declared.record.Record.TheVariants.{Commit, Gift, Accept, Tighten, Restart}
 use Rattle.field_bounds.specs.Schema.{SchemaValue}
-use Rattle.field_bounds.specs.Kind.{other}
+use Rattle.field_bounds.specs.Kind.{other, same_kind}
 use Rattle.field_bounds.specs.declared.effect.Effect.{Effect}
 use Rattle.field_bounds.specs.declared.effect.Effect.TheVariants.{Begins, Grants, Commits, Aborts, Gives, Accepts, Stops}
-use Rattle.field_bounds.specs.Effects.{Base, escrows_of, takes, is_to, gifts, given, accepted, own_rights}
+use Rattle.field_bounds.specs.Effects.{Base, escrows_of, takes, is_to, is_for_good, gifts, given, cut, accepted, own_rights}
 use Rattle.field_bounds.specs.Owed.{count_escrows}
-use Rattle.kept_records.specs.Stands.{given_in, accepted_in, committed_in, own_in, gained_in, spent_in}
+use Rattle.kept_records.specs.Stands.{given_in, accepted_in, cut_in, committed_in, own_in, gained_in, spent_in}
 use Rattle.kept_state.specs.Keeps.{IsBase}
 use Rattle.field_bounds.proofs.Lawful.{IsLawful}
 use Rattle.field_bounds.proofs.Sums.{sum_below-same, sum_below-add}
 use Rattle.field_bounds.proofs.Shares.{balance, gifts_split, gains_split}
 use Rattle.field_bounds.proofs.Steps.{of_txn, of_txn_is}
 use Rattle.field_bounds.proofs.Stops.{kept_sizes, kept_is_committed}
-use Rattle.kept_records.proofs.Pushes.{given_push, accepted_push, committed_push}
-use Rattle.kept_records.proofs.Covering.{key, at_key}
+use Rattle.kept_records.proofs.Pushes.{given_push, accepted_push, cut_push, committed_push}
+use Rattle.kept_records.proofs.Covering.{on_field, key, at_key}
 
 -- ---- the escrows of one transaction
 
@@ -51,6 +51,7 @@ of_txn-none txn f k es h = of_txn_is txn f k es ∙ sum_of_none f k (escrows_of 
 pub record Agree (base : Base) (bs : List Record) (es : List Effect) (rs : List Record) : Type 0 where
   pub gives : (to f : ℕ) (k : Kind) → given base to f k es ≡ given_in rs to f k
   pub accepts : (from f : ℕ) (k : Kind) → accepted base from f k es ≡ accepted_in rs from f k
+  pub cuts : (f : ℕ) (k : Kind) → cut base f k es ≡ cut_in rs f k
   pub commits : (f : ℕ) (k : Kind) → committed_in f k bs + kept_sizes f k es ≡ committed_in f k rs
 
 pub agree_start : (schema : SchemaValue) (s : ℕ) (base : Base) (bs : List Record) → IsBase schema s base bs → Agree base bs [] bs
@@ -58,6 +59,7 @@ agree_start schema s base bs is =
     record {
       gives = λ to f k. omega (arith, is.given to f k);
       accepts = λ from f k. is.accepted from f k;
+      cuts = λ f k. omega (arith, is.cut f k);
       commits = λ f k. omega arith;
     }
 
@@ -65,6 +67,14 @@ give_step : (on : Bool) (amount before total inside start : ℕ) → (on ≡ tru
     → start + (cond on amount 0 + inside) ≡ cond on (max total before) before
 give_step true amount before total inside start h is = omega (arith, h refl, is)
 give_step false amount before total inside start h is = omega (arith, is)
+
+no_weight : (on : Bool) (n : ℕ) → cond (on && false) n 0 ≡ 0
+no_weight true n = refl
+no_weight false n = refl
+
+whole_weight : (on : Bool) (n : ℕ) → cond (on && true) n 0 ≡ cond on n 0
+whole_weight true n = refl
+whole_weight false n = refl
 
 accept_step : (on : Bool) (total before : ℕ) → (on ≡ true → total ≤ before) → cond on (max total before) before ≡ before
 accept_step true total before h = omega (arith, h refl)
@@ -77,6 +87,7 @@ module _ (base : Base) (bs : List Record) (es : List Effect) (rs : List Record) 
       record {
         gives = λ to f k. agree.gives to f k ∙ sym (given_push to f k rs r);
         accepts = λ from f k. agree.accepts from f k ∙ sym (accepted_push from f k rs r);
+        cuts = λ f k. agree.cuts f k ∙ sym (cut_push f k rs r);
         commits = λ f k. omega (arith, agree.commits f k, committed_push f k rs r, of_txn_kept txn f k es);
       }
 
@@ -85,6 +96,7 @@ module _ (base : Base) (bs : List Record) (es : List Effect) (rs : List Record) 
       record {
         gives = λ to f k. agree.gives to f k;
         accepts = λ from f k. agree.accepts from f k;
+        cuts = λ f k. agree.cuts f k;
         commits = λ f k. omega (arith, agree.commits f k, of_txn-none txn f k es none);
       }
 
@@ -97,6 +109,26 @@ module _ (base : Base) (bs : List Record) (es : List Effect) (rs : List Record) 
             (λ on. omega (arith, is, at_key (λ x y z. given base x y z es) field.0 kind to.0 f k site on, agree.gives site f k)) (agree.gives site f k)
             ∙ sym (given_push site f k rs r);
         accepts = λ from f k. agree.accepts from f k ∙ sym (accepted_push from f k rs r);
+        cuts = λ f k. omega (arith, agree.cuts f k, cut_push f k rs r, no_weight (eqb field.0 f && same_kind kind k) amount);
+        commits = λ f k. omega (arith, agree.commits f k, committed_push f k rs r);
+      }
+
+  pub agree_cut : (field : FieldNo) (kind : Kind) (amount total : ℕ) → total ≡ cut base field.0 kind es + amount
+      → Agree base bs (Gives None field kind amount ∷ es) (rs ++ Tighten field kind total ∷ [])
+  agree_cut field kind amount total is =
+      let r : Record = Tighten field kind total in
+      record {
+        gives = λ site f k. omega (arith, agree.gives site f k, given_push site f k rs r, no_weight (eqb field.0 f && same_kind kind k) amount);
+        accepts = λ from f k. agree.accepts from f k ∙ sym (accepted_push from f k rs r);
+        cuts = λ f k.
+            let on = eqb field.0 f && same_kind kind k in
+            omega (
+              arith,
+              give_step on amount (cut_in rs f k) total (gifts is_for_good f k es) (base.cut f k)
+                  (λ here. omega (arith, is, on_field (λ x y. cut base x y es) field.0 f kind k here, agree.cuts f k)) (agree.cuts f k),
+              whole_weight on amount,
+              cut_push f k rs r,
+            );
         commits = λ f k. omega (arith, agree.commits f k, committed_push f k rs r);
       }
 
@@ -107,6 +139,7 @@ module _ (base : Base) (bs : List Record) (es : List Effect) (rs : List Record) 
       record {
         gives = λ to f k. agree.gives to f k ∙ sym (given_push to f k rs r);
         accepts = λ site f k. ap (λ (n : ℕ). cond (key field.0 kind from.0 f k site) (max total n) n) (agree.accepts site f k) ∙ sym (accepted_push site f k rs r);
+        cuts = λ f k. agree.cuts f k ∙ sym (cut_push f k rs r);
         commits = λ f k. omega (arith, agree.commits f k, committed_push f k rs r);
       }
 
@@ -117,6 +150,7 @@ module _ (base : Base) (bs : List Record) (es : List Effect) (rs : List Record) 
         gives = λ to f k. agree.gives to f k;
         accepts = λ site f k. accept_step (key field.0 kind from.0 f k site) total (accepted base site f k es)
             (λ on. omega (arith, old, at_key (λ x y z. accepted base x y z es) field.0 kind from.0 f k site on)) ∙ agree.accepts site f k;
+        cuts = λ f k. agree.cuts f k;
         commits = λ f k. agree.commits f k;
       }
 
@@ -126,21 +160,22 @@ module _ (base : Base) (bs : List Record) (es : List Effect) (rs : List Record) 
       record {
         gives = λ to f k. agree.gives to f k ∙ sym (given_push to f k rs r);
         accepts = λ from f k. agree.accepts from f k ∙ sym (accepted_push from f k rs r);
+        cuts = λ f k. agree.cuts f k ∙ sym (cut_push f k rs r);
         commits = λ f k. omega (arith, agree.commits f k, committed_push f k rs r);
       }
 
   -- nothing but gifts, gains and commits counts
   pub agree_begin : (txn : TxnId) → Agree base bs (Begins txn ∷ es) rs
-  agree_begin txn = record { gives = agree.gives; accepts = agree.accepts; commits = agree.commits }
+  agree_begin txn = record { gives = agree.gives; accepts = agree.accepts; cuts = agree.cuts; commits = agree.commits }
 
   pub agree_grant : (txn : TxnId) (field : FieldNo) (change : ℤ) → Agree base bs (Grants txn field change ∷ es) rs
-  agree_grant txn field change = record { gives = agree.gives; accepts = agree.accepts; commits = agree.commits }
+  agree_grant txn field change = record { gives = agree.gives; accepts = agree.accepts; cuts = agree.cuts; commits = agree.commits }
 
   pub agree_abort : (txn : TxnId) → Agree base bs (Aborts txn ∷ es) rs
-  agree_abort txn = record { gives = agree.gives; accepts = agree.accepts; commits = agree.commits }
+  agree_abort txn = record { gives = agree.gives; accepts = agree.accepts; cuts = agree.cuts; commits = agree.commits }
 
   pub agree_stop : Agree base bs (Stops ∷ es) rs
-  agree_stop = record { gives = agree.gives; accepts = agree.accepts; commits = agree.commits }
+  agree_stop = record { gives = agree.gives; accepts = agree.accepts; cuts = agree.cuts; commits = agree.commits }
 
   -- the own rights are what the records stand for
   pub rights_agree : (schema : SchemaValue) (s : ℕ) → IsBase schema s base bs → IsLawful schema base es → (f : ℕ) (k : Kind)
@@ -156,6 +191,8 @@ module _ (base : Base) (bs : List Record) (es : List Effect) (rs : List Record) 
         agree.commits f k,
         agree.commits f (other k),
         is.rights f k,
+        agree.cuts f k,
+        is.cut f k,
         sum_below-same schema.sites (λ to. given base to f k es) (λ to. given_in rs to f k) (λ to below. agree.gives to f k),
         sum_below-same schema.sites (λ to. base.given to f k) (λ to. given_in bs to f k) (λ to below. is.given to f k),
         sum_below-add schema.sites (λ to. base.given to f k) (λ to. gifts (is_to to) f k es),

@@ -4,7 +4,7 @@ use Rattle.field_bounds.specs.Schema.{SchemaValue}
 use Rattle.field_bounds.specs.Effects.{fresh}
 use Rattle.kept_records.specs.declared.record.Record.{Record}
 use Rattle.kept_records.specs.Stands.{Lawful, stands}
-use Rattle.kept_records.proofs.Pushes.{greatest_none, given_none, accepted_none}
+use Rattle.kept_records.proofs.Pushes.{greatest_none, given_none, accepted_none, cut_none}
 use Rattle.kept_records.proofs.Covering.{spent_none, gained_none, own_whole}
 use Rattle.kept_state.specs.Keeps.{IsBase}
 
@@ -13,6 +13,7 @@ stands_is_base schema s up rs lawful =
     record {
       epoch = refl;
       rights = λ f k. own_whole schema s rs lawful f k;
+      cut = λ f k. refl;
       given = λ to f k. refl;
       accepted = λ from f k. refl;
     }
@@ -22,6 +23,7 @@ fresh_is_base schema s =
     record {
       epoch = sym greatest_none;
       rights = λ f k. omega (arith, spent_none schema f k, gained_none schema s f k);
+      cut = λ f k. sym (cut_none f k);
       given = λ to f k. sym (given_none to f k);
       accepted = λ from f k. sym (accepted_none from f k);
     }

@@ -7,7 +7,7 @@ use Rattle.std.proofs.lemmas.List.Folds.{list_all-append}
 use Rattle.std.specs.Prelude.{◌⊎◌}
 use Rattle.std.specs.List.{list_all}
 use Rattle.field_bounds.specs.declared.entry.Command.{Command}
-use Rattle.field_bounds.specs.declared.entry.Command.TheVariants.{Begin, Escrow, Commit, Abort, Give, Restate, Spare, Accept, Read, Share, Restart}
+use Rattle.field_bounds.specs.declared.entry.Command.TheVariants.{Begin, Escrow, Commit, Abort, Give, Restate, Spare, Tighten, Accept, Read, Share, Restart}
 use Rattle.field_bounds.specs.declared.entry.Reply.{Reply}
 use Rattle.field_bounds.specs.declared.entry.Reply.TheVariants.{Restarted, Unsure, StillDown, Refused}
 use Rattle.field_bounds.specs.declared.entry.Entry.{Entry}
@@ -30,6 +30,7 @@ pub record_is_note : (at : Place) (c : Command) → writes at c ≡ true → is_
 record_is_note at (Commit txn) w = refl
 record_is_note at (Give to field kind amount) w = refl
 record_is_note at (Spare to field kind want) w = refl
+record_is_note at (Tighten field kind amount) w = refl
 record_is_note at (Accept told) w = refl
 record_is_note at Begin w = cc
 record_is_note at (Escrow txn field change) w = cc

@@ -3,7 +3,7 @@ use Rattle.std.proofs.Common.{◌≡◌, ℕ, ◌+◌, ◌<◌, ◌≤◌, Bool,
 use Rattle.std.proofs.lemmas.List.{append-nil}
 use Rattle.std.specs.Prelude.{nat_lt}
 use Rattle.field_bounds.specs.declared.entry.Command.{Command}
-use Rattle.field_bounds.specs.declared.entry.Command.TheVariants.{Begin, Escrow, Commit, Abort, Give, Restate, Spare, Accept, Read, Share, Restart}
+use Rattle.field_bounds.specs.declared.entry.Command.TheVariants.{Begin, Escrow, Commit, Abort, Give, Restate, Spare, Tighten, Accept, Read, Share, Restart}
 use Rattle.field_bounds.specs.declared.entry.Reply.{Reply}
 use Rattle.field_bounds.specs.declared.entry.Reply.TheVariants.{Restarted, Unsure, StillDown, Refused}
 use Rattle.field_bounds.specs.declared.entry.Refusal.TheVariants.{NumbersFull}
@@ -31,6 +31,7 @@ greatest_noted at (Abort txn) rs = ap greatest (append-nil rs)
 greatest_noted at (Give to field kind amount) rs = greatest_push rs _
 greatest_noted at (Restate to field kind) rs = ap greatest (append-nil rs)
 greatest_noted at (Spare to field kind want) rs = greatest_push rs _
+greatest_noted at (Tighten field kind amount) rs = greatest_push rs _
 greatest_noted at (Accept told) rs = greatest_cond (nat_lt 0 (gain_of at told.from told.field told.kind told.total)) rs _ refl
 greatest_noted at (Read field) rs = ap greatest (append-nil rs)
 greatest_noted at (Share field) rs = ap greatest (append-nil rs)

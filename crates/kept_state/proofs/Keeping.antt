@@ -7,7 +7,7 @@ use Rattle.field_bounds.specs.declared.kind.Kind.{Kind}
 use Rattle.field_bounds.specs.declared.id.TxnId.{TxnId}
 use Rattle.field_bounds.specs.declared.entry.Statement.{Statement}
 use Rattle.field_bounds.specs.declared.entry.Command.{Command}
-use Rattle.field_bounds.specs.declared.entry.Command.TheVariants.{Begin, Escrow, Commit, Abort, Give, Restate, Spare, Accept, Read, Share, Restart}
+use Rattle.field_bounds.specs.declared.entry.Command.TheVariants.{Begin, Escrow, Commit, Abort, Give, Restate, Spare, Tighten, Accept, Read, Share, Restart}
 use Rattle.field_bounds.specs.declared.entry.Reply.{Reply}
 use Rattle.field_bounds.specs.declared.entry.Reply.TheVariants.{Restarted, Unsure, StillDown, Refused}
 use Rattle.field_bounds.specs.declared.entry.Last.{Last}
@@ -17,15 +17,15 @@ use Rattle.kept_records.specs.declared.record.Record.TheVariants as records
 use Rattle.field_bounds.specs.Schema.{SchemaValue}
 use Rattle.field_bounds.specs.declared.effect.Effect.{Effect}
 use Rattle.field_bounds.specs.declared.effect.Effect.TheVariants.{Commits, Accepts, Stops}
-use Rattle.field_bounds.specs.Effects.{Base, after, effects, kept_before, escrows_of, share, held, own_rights, given, accepted}
+use Rattle.field_bounds.specs.Effects.{Base, after, effects, kept_before, escrows_of, share, held, own_rights, given, cut, accepted}
 use Rattle.field_bounds.specs.Owed.{Place, place, first, refusals, answer, count_escrows, spared_of, gain_of, Fits, RestartFits, AnswerFits, IsRun}
-use Rattle.kept_records.specs.Stands.{greatest, given_in, accepted_in, own_in}
+use Rattle.kept_records.specs.Stands.{greatest, given_in, accepted_in, cut_in, own_in}
 use Rattle.kept_state.specs.Keeps.{IsBase, noted, adds, Tells, Keeps}
 use Rattle.field_bounds.proofs.Refused.{match_cases, is_restart, up_there}
 use Rattle.field_bounds.proofs.Doubt.{after_refused, kept_before_answer, nothing_in_doubt}
 use Rattle.field_bounds.proofs.Runs.{run_is_lawful}
 use Rattle.field_bounds.proofs.Stops.{share_stop}
-use Rattle.kept_state.proofs.Agreeing.{Agree, agree_start, agree_commit, agree_empty, agree_give, agree_accept, agree_repeat, agree_restart, agree_begin, agree_grant, agree_abort, agree_stop, own_is_kept}
+use Rattle.kept_state.proofs.Agreeing.{Agree, agree_start, agree_commit, agree_empty, agree_give, agree_cut, agree_accept, agree_repeat, agree_restart, agree_begin, agree_grant, agree_abort, agree_stop, own_is_kept}
 use Rattle.kept_state.proofs.Adding.{adds_answer}
 
 -- ---- the record of a command that is carried out agrees with its effect
@@ -54,6 +54,7 @@ module _ (at : Place) (bs rs : List Record) (agree : Agree at.base bs at.effects
   agree_answer (Give to field kind amount) kept = agree_give at.base bs at.effects rs agree to field kind amount _ refl
   agree_answer (Restate to field kind) kept = no_more _ agree
   agree_answer (Spare to field kind want) kept = agree_give at.base bs at.effects rs agree to field kind (spared_of at field kind want) _ refl
+  agree_answer (Tighten field kind amount) kept = agree_cut at.base bs at.effects rs agree field kind amount _ refl
   agree_answer (Accept told) kept = accept_noted told (nat_lt 0 (gain_of at told.from told.field told.kind told.total)) refl
   agree_answer (Read field) kept = no_more _ agree
   agree_answer (Share field) kept = no_more _ agree
@@ -63,10 +64,12 @@ module _ (at : Place) (bs rs : List Record) (agree : Agree at.base bs at.effects
   agree_unsure (Commit txn) true = commit_noted txn (nat_lt 0 (count_escrows txn at.effects)) refl
   agree_unsure (Give to field kind amount) true = agree_give at.base bs at.effects rs agree to field kind amount _ refl
   agree_unsure (Spare to field kind want) true = agree_give at.base bs at.effects rs agree to field kind (spared_of at field kind want) _ refl
+  agree_unsure (Tighten field kind amount) true = agree_cut at.base bs at.effects rs agree field kind amount _ refl
   agree_unsure (Accept told) true = accept_noted told (nat_lt 0 (gain_of at told.from told.field told.kind told.total)) refl
   agree_unsure (Commit txn) false = no_more _ agree
   agree_unsure (Give to field kind amount) false = no_more _ agree
   agree_unsure (Spare to field kind want) false = no_more _ agree
+  agree_unsure (Tighten field kind amount) false = no_more _ agree
   agree_unsure (Accept told) false = no_more _ agree
   agree_unsure Begin true = no_more _ agree
   agree_unsure (Escrow txn field change) true = no_more _ agree
@@ -152,6 +155,10 @@ run_owns schema s base bs kept o rs is run keeps f k =
 pub run_gives : (schema : SchemaValue) (s : ℕ) (base : Base) (bs : List Record) (kept : Bool) (o : List Entry) (rs : List Record)
     → IsBase schema s base bs → IsRun schema s base o → Keeps schema s base bs kept o rs → (to f : ℕ) (k : Kind) → given base to f k (effects base kept o) ≡ given_in rs to f k
 run_gives schema s base bs kept o rs is run keeps to f k = (run_agrees schema s base bs is kept o rs run keeps).gives to f k
+
+pub run_cuts : (schema : SchemaValue) (s : ℕ) (base : Base) (bs : List Record) (kept : Bool) (o : List Entry) (rs : List Record)
+    → IsBase schema s base bs → IsRun schema s base o → Keeps schema s base bs kept o rs → (f : ℕ) (k : Kind) → cut base f k (effects base kept o) ≡ cut_in rs f k
+run_cuts schema s base bs kept o rs is run keeps f k = (run_agrees schema s base bs is kept o rs run keeps).cuts f k
 
 pub run_accepts : (schema : SchemaValue) (s : ℕ) (base : Base) (bs : List Record) (kept : Bool) (o : List Entry) (rs : List Record)
     → IsBase schema s base bs → IsRun schema s base o → Keeps schema s base bs kept o rs → (from f : ℕ) (k : Kind) → accepted base from f k (effects base kept o) ≡ accepted_in rs from f k

@@ -4,6 +4,7 @@ pub mod Keeping
 pub mod Epochs
 pub mod Staying
 pub mod Lasting
+pub mod Written
 pub mod Covering
 pub mod Sure
 pub mod Doubt

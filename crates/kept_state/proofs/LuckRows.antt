@@ -5,7 +5,7 @@ use Rattle.field_bounds.specs.declared.entry.Command.TheVariants as commands
 use Rattle.field_bounds.specs.declared.entry.Reply.TheVariants.{Restarted}
 use Rattle.field_bounds.specs.declared.entry.Last.TheVariants.{Kept, Lost}
 use Rattle.kept_state.specs.declared.luck.Luck.TheVariants.{Fine}
-use Rattle.kept_state.specs.Worked.{replies, torn, torn_twice, torn_gift}
+use Rattle.kept_state.specs.Worked.{replies, torn, torn_twice, torn_gift, torn_cut}
 
 pub lost : replies (torn 11) commands.Restart Fine ≡ Restarted 1 Lost
 unfolding digits
@@ -30,3 +30,11 @@ gift_lost = refl
 pub gift_kept : replies (torn_gift 10) commands.Restart Fine ≡ Restarted 1 Kept
 unfolding digits
 gift_kept = refl
+
+pub cut_lost : replies (torn_cut 7) commands.Restart Fine ≡ Restarted 1 Lost
+unfolding digits
+cut_lost = refl
+
+pub cut_kept : replies (torn_cut 8) commands.Restart Fine ≡ Restarted 1 Kept
+unfolding digits
+cut_kept = refl

@@ -1,5 +1,5 @@
 -- The numbers of a record that a command writes lie in the ranges of its text.
-use Rattle.std.proofs.Common.{◌≡◌, ℕ, ◌<◌, ◌≤◌, Bool, true, false, cond, List, [], ◌∷◌, ◌++◌, reverse, length, refl, sym, subst, inl, inr, arith, Some, None}
+use Rattle.std.proofs.Common.{◌≡◌, ℕ, ◌+◌, ◌<◌, ◌≤◌, Bool, true, false, cond, List, [], ◌∷◌, ◌++◌, reverse, length, refl, sym, subst, inl, inr, arith, Some, None}
 use Rattle.std.proofs.lemmas.Bool.{or_cases, ltb-true}
 use Rattle.std.proofs.lemmas.Grind.{reverse_onto}
 use Rattle.std.proofs.lemmas.List.{length-reverse}
@@ -8,7 +8,7 @@ use Rattle.std.specs.List.{AllByRecursion}
 use Rattle.field_bounds.specs.declared.id.FieldNo.{FieldNo}
 use Rattle.field_bounds.specs.declared.id.TxnId.{TxnId}
 use Rattle.field_bounds.specs.declared.entry.Command.{Command}
-use Rattle.field_bounds.specs.declared.entry.Command.TheVariants.{Begin, Escrow, Commit, Abort, Give, Restate, Spare, Accept, Read, Share, Restart}
+use Rattle.field_bounds.specs.declared.entry.Command.TheVariants.{Begin, Escrow, Commit, Abort, Give, Restate, Spare, Tighten, Accept, Read, Share, Restart}
 use Rattle.field_bounds.specs.declared.entry.Reply.{Reply}
 use Rattle.field_bounds.specs.declared.entry.Reply.TheVariants.{Restarted, Unsure, StillDown, Refused}
 use Rattle.field_bounds.specs.declared.entry.Escrow.{Escrow as EscrowOf}
@@ -18,7 +18,7 @@ use Rattle.field_bounds.specs.Limits.{IsSchema}
 use Rattle.field_bounds.specs.declared.effect.Effect.{Effect}
 use Rattle.field_bounds.specs.declared.effect.Effect.TheVariants.{Begins, Grants, Commits, Gives, Accepts}
 use Rattle.field_bounds.specs.Effects.{Base, after, effects, same_txn, is_begun, escrows_of}
-use Rattle.field_bounds.specs.Owed.{Place, place, first, refusals, answer, writes, epoch_of, epoch_after, count_escrows, free, spared_of, max_number, max_epoch, max_escrows, Fits, IsRun}
+use Rattle.field_bounds.specs.Owed.{Place, place, first, refusals, answer, writes, epoch_of, epoch_after, count_escrows, free, spared_of, cut_so_far, max_change, max_number, max_epoch, max_escrows, Fits, IsRun}
 use Rattle.kept_records.specs.Text.{IsChange, IsEscrow, IsRecord}
 use Rattle.kept_records.specs.declared.record.Record.{Record}
 use Rattle.kept_records.specs.declared.record.Record.TheVariants as records
@@ -26,7 +26,7 @@ use Rattle.kept_records.specs.Stands.{later, greatest}
 use Rattle.kept_state.specs.Keeps.{record_at, opened}
 use Rattle.field_bounds.proofs.Lawful.{same_txn-true}
 use Rattle.field_bounds.proofs.Sparing.{spared_is_some}
-use Rattle.field_bounds.proofs.Refused.{none_holds, match_cases, begin_has_a_number, escrow_is_in_schema, escrow_is_some, escrow_is_small, escrow_is_one_of_few, commit_is_opened, give_is_to_a_site, give_is_in_schema, give_is_some, give_has_room, spare_is_to_a_site, spare_is_in_schema, spare_is_some, spare_has_a_share, spare_has_room, accept_is_from_a_site, accept_is_in_schema, accept_is_some, accept_is_small}
+use Rattle.field_bounds.proofs.Refused.{none_holds, match_cases, begin_has_a_number, escrow_is_in_schema, escrow_is_some, escrow_is_small, escrow_is_one_of_few, commit_is_opened, give_is_to_a_site, give_is_in_schema, give_is_some, give_has_room, spare_is_to_a_site, spare_is_in_schema, spare_is_some, spare_has_a_share, spare_has_room, tighten_is_in_schema, tighten_is_some, accept_is_from_a_site, accept_is_in_schema, accept_is_some, accept_is_small}
 use Rattle.field_bounds.proofs.Doubt.{run_holds, epoch_answer}
 use Rattle.field_bounds.proofs.Runs.{open_is_current}
 
@@ -115,6 +115,9 @@ carried at n is (Restate to field kind) h kept l = (l, l)
 carried at n is (Spare to field kind want) h kept l =
     let made : IsRanged n (Gives (Some to) field kind (spared_of at field kind want) ∷ at.effects) = record { numbers = l.numbers; few = l.few; each = l.each } in
     (made, either n kept _ _ made l)
+carried at n is (Tighten field kind amount) h kept l =
+    let made : IsRanged n (Gives None field kind amount ∷ at.effects) = record { numbers = l.numbers; few = l.few; each = l.each } in
+    (made, either n kept _ _ made l)
 carried at n is (Accept told) h kept l =
     let made : IsRanged n (Accepts told.from told.field told.kind told.total ∷ at.effects) = record { numbers = l.numbers; few = l.few; each = l.each } in
     (made, either n kept _ _ made l)
@@ -174,10 +177,15 @@ opened_in_range schema s false bs is = greatest_in_range bs is
 
 -- ---- records
 
--- the record of a command that writes one is in the ranges of its text
+-- what a tightening comes to in all is in the range of its record
+abbrev pub IsCutWithin : Place → Command → Type 0
+IsCutWithin at (Tighten field kind amount) = cut_so_far at field kind + amount ≤ max_change
+IsCutWithin at command = Unit {0}
+
+-- then the record of a command that writes one is in the ranges of its text
 pub record_in_range : (schema : SchemaValue) (s : ℕ) (base : Base) (o : List Entry) → IsSchema schema → IsRun schema s base o → base.epoch ≤ max_epoch → (c : Command)
-    → first (refusals (place schema s base o) c) ≡ None → writes (place schema s base o) c ≡ true → IsRecord (record_at (place schema s base o) c)
-record_in_range schema s base o limits run small (Commit txn) h w =
+    → IsCutWithin (place schema s base o) c → first (refusals (place schema s base o) c) ≡ None → writes (place schema s base o) c ≡ true → IsRecord (record_at (place schema s base o) c)
+record_in_range schema s base o limits run small (Commit txn) few h w =
     let at = place schema s base o in
     let none = none_holds (refusals at (Commit txn)) h in
     let both = commit_is_opened at txn none in
@@ -192,14 +200,14 @@ record_in_range schema s base o limits run small (Commit txn) h w =
       each_reversed IsEscrow (escrows_of txn at.effects)
           (each_weaker (IsGrantable (length schema.fields)) IsEscrow (λ e p. (omega (arith, p.0, limits.few_fields), p.1)) (escrows_of txn at.effects) (ranged.each txn)),
     )
-record_in_range schema s base o limits run small (Give to field kind amount) h w =
+record_in_range schema s base o limits run small (Give to field kind amount) few h w =
     let at = place schema s base o in
     let none = none_holds (refusals at (Give to field kind amount)) h in (
       omega (arith, limits.few_sites, give_is_to_a_site at to field kind amount none),
       omega (arith, limits.few_fields, give_is_in_schema at to field kind amount none),
       (omega (arith, give_is_some at to field kind amount none), give_has_room at to field kind amount none),
     )
-record_in_range schema s base o limits run small (Spare to field kind want) h w =
+record_in_range schema s base o limits run small (Spare to field kind want) few h w =
     let at = place schema s base o in
     let none = none_holds (refusals at (Spare to field kind want)) h in
     let some = spared_is_some (free at field kind) want (spare_has_a_share at to field kind want none) (spare_is_some at to field kind want none) in (
@@ -207,17 +215,23 @@ record_in_range schema s base o limits run small (Spare to field kind want) h w 
       omega (arith, limits.few_fields, spare_is_in_schema at to field kind want none),
       (omega (arith, some), spare_has_room at to field kind want none),
     )
-record_in_range schema s base o limits run small (Accept told) h w =
+record_in_range schema s base o limits run small (Tighten field kind amount) few h w =
+    let at = place schema s base o in
+    let none = none_holds (refusals at (Tighten field kind amount)) h in (
+      omega (arith, limits.few_fields, tighten_is_in_schema at field kind amount none),
+      (omega (arith, tighten_is_some at field kind amount none), few),
+    )
+record_in_range schema s base o limits run small (Accept told) few h w =
     let at = place schema s base o in
     let none = none_holds (refusals at (Accept told)) h in (
       omega (arith, limits.few_sites, accept_is_from_a_site at told none),
       omega (arith, limits.few_fields, accept_is_in_schema at told none),
       (omega (arith, accept_is_some at told none), accept_is_small at told none),
     )
-record_in_range schema s base o limits run small Begin h w = cc
-record_in_range schema s base o limits run small (Escrow txn field change) h w = cc
-record_in_range schema s base o limits run small (Abort txn) h w = cc
-record_in_range schema s base o limits run small (Restate to field kind) h w = cc
-record_in_range schema s base o limits run small (Read field) h w = cc
-record_in_range schema s base o limits run small (Share field) h w = cc
-record_in_range schema s base o limits run small Restart h w = cc
+record_in_range schema s base o limits run small Begin few h w = cc
+record_in_range schema s base o limits run small (Escrow txn field change) few h w = cc
+record_in_range schema s base o limits run small (Abort txn) few h w = cc
+record_in_range schema s base o limits run small (Restate to field kind) few h w = cc
+record_in_range schema s base o limits run small (Read field) few h w = cc
+record_in_range schema s base o limits run small (Share field) few h w = cc
+record_in_range schema s base o limits run small Restart few h w = cc

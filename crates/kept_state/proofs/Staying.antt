@@ -11,7 +11,7 @@ use Rattle.field_bounds.specs.declared.id.TxnId.{TxnId}
 use Rattle.field_bounds.specs.declared.id.SiteNo.{SiteNo}
 use Rattle.field_bounds.specs.declared.id.FieldNo.{FieldNo}
 use Rattle.field_bounds.specs.declared.entry.Command.{Command}
-use Rattle.field_bounds.specs.declared.entry.Command.TheVariants.{Begin, Escrow, Commit, Abort, Give, Restate, Spare, Accept, Read, Share, Restart}
+use Rattle.field_bounds.specs.declared.entry.Command.TheVariants.{Begin, Escrow, Commit, Abort, Give, Restate, Spare, Tighten, Accept, Read, Share, Restart}
 use Rattle.field_bounds.specs.declared.entry.Escrow.{Escrow as EscrowOf}
 use Rattle.field_bounds.specs.declared.entry.Entry.{Entry}
 use Rattle.kept_records.specs.declared.record.Record.{Record}
@@ -19,17 +19,17 @@ use Rattle.kept_records.specs.declared.record.Record.TheVariants as records
 use Rattle.field_bounds.specs.Schema.{SchemaValue}
 use Rattle.field_bounds.specs.declared.effect.Effect.{Effect}
 use Rattle.field_bounds.specs.declared.effect.Effect.TheVariants.{Begins, Grants, Commits, Aborts, Gives, Accepts, Stops}
-use Rattle.field_bounds.specs.Effects.{Base, same_txn, is_begun, is_open, escrows_of, takes, share, own_rights, given, accepted}
-use Rattle.field_bounds.specs.Owed.{Place, place, first, refusals, writes, epoch_of, free, spared_of, gain_of, told_so_far, IsRun}
-use Rattle.kept_records.specs.Stands.{greatest, given_in, accepted_in, own_in, is_other_site, may_commit, room_in, may_stand}
+use Rattle.field_bounds.specs.Effects.{Base, same_txn, is_begun, is_open, escrows_of, takes, share, own_rights, given, cut, accepted}
+use Rattle.field_bounds.specs.Owed.{Place, place, first, refusals, writes, epoch_of, free, spared_of, gain_of, told_so_far, cut_so_far, IsRun}
+use Rattle.kept_records.specs.Stands.{greatest, given_in, accepted_in, cut_in, own_in, is_other_site, may_commit, room_in, may_stand}
 use Rattle.kept_state.specs.Keeps.{IsBase, record_at, Keeps}
 use Rattle.field_bounds.proofs.Lawful.{IsLawful, granted-mono, same_txn-true}
 use Rattle.field_bounds.proofs.Sparing.{spared_is_there, spared_is_some}
-use Rattle.field_bounds.proofs.Refused.{none_holds, is_restart, up_there, commit_is_opened, give_is_to_a_site, give_is_in_schema, give_is_some, give_is_enough, give_is_to_another, spare_is_to_a_site, spare_is_in_schema, spare_is_some, spare_has_a_share, spare_is_to_another, accept_is_from_a_site, accept_is_in_schema, accept_is_from_another, accept_has_room}
+use Rattle.field_bounds.proofs.Refused.{none_holds, is_restart, up_there, commit_is_opened, give_is_to_a_site, give_is_in_schema, give_is_some, give_is_enough, give_is_to_another, spare_is_to_a_site, spare_is_in_schema, spare_is_some, spare_has_a_share, spare_is_to_another, tighten_is_in_schema, tighten_is_some, tighten_is_enough, accept_is_from_a_site, accept_is_in_schema, accept_is_from_another, accept_has_room}
 use Rattle.field_bounds.proofs.Doubt.{nothing_in_doubt}
 use Rattle.field_bounds.proofs.Runs.{run_is_lawful, open_is_current}
 use Rattle.kept_state.proofs.Agreeing.{of_txn_kept}
-use Rattle.kept_state.proofs.Keeping.{run_owns, run_gives, run_accepts}
+use Rattle.kept_state.proofs.Keeping.{run_owns, run_gives, run_cuts, run_accepts}
 use Rattle.kept_state.proofs.Epochs.{up_epoch}
 
 -- ---- the escrows of a transaction
@@ -64,6 +64,7 @@ module _ (at : Place) (rs : List Record)
     (greatest_is : epoch_of at.base at.entries ≡ greatest rs)
     (own_is : (f : ℕ) (k : Kind) → own_rights at.base f k at.effects ≡ own_in at.schema at.site rs f k)
     (given_is : (to f : ℕ) (k : Kind) → given at.base to f k at.effects ≡ given_in rs to f k)
+    (cut_is : (f : ℕ) (k : Kind) → cut at.base f k at.effects ≡ cut_in rs f k)
     (accepted_is : (from f : ℕ) (k : Kind) → accepted at.base from f k at.effects ≡ accepted_in rs from f k)
     (lawful : IsLawful at.schema at.base at.effects)
     (current : (id : TxnId) → is_begun id at.effects ≡ true → is_open id at.effects ≡ true → id.epoch ≡ epoch_of at.base at.entries)
@@ -123,6 +124,14 @@ module _ (at : Place) (rs : List Record)
         (spare_is_to_another at to field kind want none)
         (spared_is_some (free at field kind) want (spare_has_a_share at to field kind want none) (spare_is_some at to field kind want none))
         (spared_is_there (free at field kind) want)
+    stands_there (Tighten field kind amount) h w =
+        let none = none_holds (refusals at (Tighten field kind amount)) h in
+        let total = cut_so_far at field kind + amount in
+        rw (
+          lt-ltb field.0 (length at.schema.fields) (tighten_is_in_schema at field kind amount none),
+          lt-ltb (cut_in rs field.0 kind) total (omega (arith, cut_is field.0 kind, tighten_is_some at field kind amount none)),
+          le-leb (total - cut_in rs field.0 kind) (own_in at.schema at.site rs field.0 kind) (omega (arith, cut_is field.0 kind, own_is field.0 kind, tighten_is_enough at field kind amount none)),
+        ) refl
     stands_there (Accept told) h w =
         let none = none_holds (refusals at (Accept told)) h in
         let f = told.field.0 in
@@ -132,7 +141,7 @@ module _ (at : Place) (rs : List Record)
           lt-ltb f (length at.schema.fields) (accept_is_in_schema at told none),
           lt-ltb (accepted_in rs told.from.0 f told.kind) told.total (omega (arith, old, ltb-true 0 (gain_of at told.from told.field told.kind told.total) w)),
           le-leb (told.total - accepted_in rs told.from.0 f told.kind) (room_in at.schema at.site rs f)
-              (omega (arith, old, own_is f Lower, own_is f Raise, accept_has_room at told none)),
+              (omega (arith, old, own_is f Lower, own_is f Raise, cut_is f Lower, cut_is f Raise, accept_has_room at told none)),
         ) refl
     stands_there Begin h w = cc
     stands_there (Escrow txn field change) h w = cc
@@ -159,6 +168,7 @@ run_lawful_more schema s base bs is kept o rs run keeps c h w =
     (up_epoch schema s base bs is kept o rs keeps up)
     (λ f k. subst (λ (es : List Effect). own_rights base f k es ≡ own_in schema s rs f k) same (run_owns schema s base bs kept o rs is run keeps f k))
     (λ to f k. subst (λ (es : List Effect). given base to f k es ≡ given_in rs to f k) same (run_gives schema s base bs kept o rs is run keeps to f k))
+    (λ f k. subst (λ (es : List Effect). cut base f k es ≡ cut_in rs f k) same (run_cuts schema s base bs kept o rs is run keeps f k))
     (λ from f k. subst (λ (es : List Effect). accepted base from f k es ≡ accepted_in rs from f k) same (run_accepts schema s base bs kept o rs is run keeps from f k))
     (run_is_lawful schema s base o run false)
     (λ id. open_is_current schema s base o run false id)

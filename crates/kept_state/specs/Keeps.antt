@@ -6,21 +6,23 @@ use Rattle.field_bounds.specs.declared.id.SiteNo.{SiteNo}
 use Rattle.field_bounds.specs.declared.entry.Command.{Command}
 use Rattle.field_bounds.specs.declared.entry.Command.TheVariants as commands
 use Rattle.field_bounds.specs.declared.entry.Reply.{Reply}
-use Rattle.field_bounds.specs.declared.entry.Reply.TheVariants.{Begun, Granted, Committed, Aborted, Given, Stated, Spared, Accepted, Between, Shares, Restarted, Unsure, StillDown, Refused}
+use Rattle.field_bounds.specs.declared.entry.Reply.TheVariants.{Begun, Granted, Committed, Aborted, Given, Stated, Spared, Tightened, Accepted, Between, Shares, Restarted, Unsure, StillDown, Refused}
 use Rattle.field_bounds.specs.declared.entry.Entry.{Entry}
 use Rattle.field_bounds.specs.Schema.{SchemaValue}
 use Rattle.field_bounds.specs.Effects.{Base, fresh, escrows_of, kept_before}
-use Rattle.field_bounds.specs.Owed.{Place, place, told_so_far, spared_of, writes}
+use Rattle.field_bounds.specs.Owed.{Place, place, told_so_far, cut_so_far, spared_of, writes}
 use Rattle.kept_records.specs.declared.record.Record.{Record}
-use Rattle.kept_records.specs.declared.record.Record.TheVariants.{Commit, Gift, Accept, Restart}
-use Rattle.kept_records.specs.Stands.{greatest, stands, gained_in, spent_in, given_in, accepted_in}
+use Rattle.kept_records.specs.declared.record.Record.TheVariants.{Commit, Gift, Accept, Tighten, Restart}
+use Rattle.kept_records.specs.Stands.{greatest, stands, gained_in, spent_in, given_in, cut_in, accepted_in}
 
 -- The record of a command that is carried out where a site stands: a transaction's escrows in order of grant, the new
--- total of a gift or of a spare, the total of a statement. For a command that writes none there stands a restart's that no site keeps.
+-- total of a gift, of a spare or of a tightening, the total of a statement. For a command that writes none there stands
+-- a restart's that no site keeps.
 abbrev pub record_at : Place → Command → Record
 record_at at (commands.Commit txn) = Commit txn (reverse (escrows_of txn at.effects))
 record_at at (commands.Give to field kind amount) = Gift to field kind (told_so_far at to field kind + amount)
 record_at at (commands.Spare to field kind want) = Gift to field kind (told_so_far at to field kind + spared_of at field kind want)
+record_at at (commands.Tighten field kind amount) = Tighten field kind (cut_so_far at field kind + amount)
 record_at at (commands.Accept told) = Accept told.from told.field told.kind told.total
 record_at at commands.Begin = Restart 0
 record_at at (commands.Escrow txn field change) = Restart 0
@@ -47,6 +49,7 @@ adds at command Aborted stood rs = noted at command
 adds at command (Given total) stood rs = noted at command
 adds at command (Stated total) stood rs = noted at command
 adds at command (Spared amount total) stood rs = noted at command
+adds at command (Tightened total) stood rs = noted at command
 adds at command (Accepted gain) stood rs = noted at command
 adds at command (Between lo hi) stood rs = noted at command
 adds at command (Shares lower raise) stood rs = noted at command
@@ -65,6 +68,7 @@ Tells kept stood rs Aborted = Unit {0}
 Tells kept stood rs (Given total) = Unit {0}
 Tells kept stood rs (Stated total) = Unit {0}
 Tells kept stood rs (Spared amount total) = Unit {0}
+Tells kept stood rs (Tightened total) = Unit {0}
 Tells kept stood rs (Accepted gain) = Unit {0}
 Tells kept stood rs (Between lo hi) = Unit {0}
 Tells kept stood rs (Shares lower raise) = Unit {0}
@@ -84,6 +88,7 @@ Keeps schema s base bs kept (e ∷ o) rs =
 pub record IsBase (schema : SchemaValue) (s : ℕ) (base : Base) (bs : List Record) : Type 0 where
   pub epoch : base.epoch ≡ greatest bs
   pub rights : (f : ℕ) (k : Kind) → base.rights f k + spent_in schema bs f k ≡ gained_in schema s bs f k
+  pub cut : (f : ℕ) (k : Kind) → base.cut f k ≡ cut_in bs f k
   pub given : (to f : ℕ) (k : Kind) → base.given to f k ≡ given_in bs to f k
   pub accepted : (from f : ℕ) (k : Kind) → base.accepted from f k ≡ accepted_in bs from f k
 

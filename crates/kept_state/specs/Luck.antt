@@ -3,7 +3,7 @@ use Rattle.std.specs.Prelude.{ℕ, suc, ◌+◌, ◌==◌, nat_le, Bool, true, f
 use Rattle.field_bounds.specs.declared.entry.Command.{Command}
 use Rattle.field_bounds.specs.declared.entry.Command.TheVariants as commands
 use Rattle.field_bounds.specs.declared.entry.Reply.{Reply}
-use Rattle.field_bounds.specs.declared.entry.Reply.TheVariants.{Begun, Granted, Committed, Aborted, Given, Stated, Spared, Accepted, Between, Shares, Restarted, Unsure, StillDown, Refused}
+use Rattle.field_bounds.specs.declared.entry.Reply.TheVariants.{Begun, Granted, Committed, Aborted, Given, Stated, Spared, Tightened, Accepted, Between, Shares, Restarted, Unsure, StillDown, Refused}
 use Rattle.field_bounds.specs.declared.entry.Refusal.{Refusal}
 use Rattle.field_bounds.specs.declared.entry.Refusal.TheVariants.{NumbersFull}
 use Rattle.field_bounds.specs.declared.entry.Last.{Last}
@@ -53,6 +53,7 @@ covered_after Aborted luck size n = n
 covered_after (Given total) luck size n = n
 covered_after (Stated total) luck size n = n
 covered_after (Spared amount total) luck size n = n
+covered_after (Tightened total) luck size n = n
 covered_after (Accepted gain) luck size n = n
 covered_after (Between lo hi) luck size n = n
 covered_after (Shares lower raise) luck size n = n
@@ -77,6 +78,7 @@ doubt_after Aborted luck size before = before
 doubt_after (Given total) luck size before = before
 doubt_after (Stated total) luck size before = before
 doubt_after (Spared amount total) luck size before = before
+doubt_after (Tightened total) luck size before = before
 doubt_after (Accepted gain) luck size before = before
 doubt_after (Between lo hi) luck size before = before
 doubt_after (Shares lower raise) luck size before = before
@@ -116,6 +118,7 @@ owed_with at epoch found (commands.Abort txn) luck = answer_reply at (commands.A
 owed_with at epoch found (commands.Give to field kind amount) luck = answer_reply at (commands.Give to field kind amount) luck
 owed_with at epoch found (commands.Restate to field kind) luck = answer_reply at (commands.Restate to field kind) luck
 owed_with at epoch found (commands.Spare to field kind want) luck = answer_reply at (commands.Spare to field kind want) luck
+owed_with at epoch found (commands.Tighten field kind amount) luck = answer_reply at (commands.Tighten field kind amount) luck
 owed_with at epoch found (commands.Accept told) luck = answer_reply at (commands.Accept told) luck
 owed_with at epoch found (commands.Read field) luck = answer_reply at (commands.Read field) luck
 owed_with at epoch found (commands.Share field) luck = answer_reply at (commands.Share field) luck
@@ -134,6 +137,7 @@ kept_after Aborted luck kept = kept
 kept_after (Given total) luck kept = kept
 kept_after (Stated total) luck kept = kept
 kept_after (Spared amount total) luck kept = kept
+kept_after (Tightened total) luck kept = kept
 kept_after (Accepted gain) luck kept = kept
 kept_after (Between lo hi) luck kept = kept
 kept_after (Shares lower raise) luck kept = kept

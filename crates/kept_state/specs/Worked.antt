@@ -1,19 +1,20 @@
 -- Worked rows of records and of luck (this project). Each is of site 0 of two, of a field from 0 to 100 at 40: it has 20
 -- rights to lower it and 30 to raise it.
 use Rattle.std.specs.Prelude.{ℕ, pos, neg_ℤ, false, List, [], ◌∷◌, ◌++◌, reverse}
-use Rattle.field_bounds.specs.declared.kind.Kind.TheVariants.{Lower}
+use Rattle.field_bounds.specs.declared.kind.Kind.TheVariants.{Lower, Raise}
 use Rattle.field_bounds.specs.declared.entry.Command.{Command}
 use Rattle.field_bounds.specs.declared.entry.Command.TheVariants as commands
 use Rattle.field_bounds.specs.declared.entry.Reply.{Reply}
-use Rattle.field_bounds.specs.declared.entry.Reply.TheVariants.{Begun, Granted, Committed, Given, Spared, Unsure}
+use Rattle.field_bounds.specs.declared.entry.Reply.TheVariants.{Begun, Granted, Committed, Given, Spared, Tightened, Unsure}
 use Rattle.field_bounds.specs.declared.entry.Last.TheVariants.{Kept, Lost}
 use Rattle.field_bounds.specs.declared.entry.Entry.{Entry}
 use Rattle.field_bounds.specs.Effects.{fresh}
 use Rattle.field_bounds.specs.Worked.{halved, stock, txn, lower_by, raise_by, asked}
 use Rattle.field_bounds.specs.WorkedGifts.{site, give_lower, spare_lower}
 use Rattle.field_bounds.specs.WorkedRestarts.{restarted, still_down}
+use Rattle.field_bounds.specs.WorkedTightenings.{raise_floor, lower_ceiling}
 use Rattle.kept_records.specs.declared.record.Record.{Record}
-use Rattle.kept_records.specs.declared.record.Record.TheVariants.{Commit, Gift}
+use Rattle.kept_records.specs.declared.record.Record.TheVariants.{Commit, Gift, Tighten}
 use Rattle.kept_records.specs.Stands.{Lawful}
 use Rattle.kept_state.specs.declared.luck.Luck.{Luck}
 use Rattle.kept_state.specs.declared.luck.Luck.TheVariants.{Fine, Torn}
@@ -47,6 +48,13 @@ commit = Commit (txn 1) (record { field = stock; change = neg_ℤ (pos 20) } ∷
 -- The gift of 5 to site 1.
 abbrev pub gift : ℕ → Record
 gift total = Gift (site 1) stock Lower total
+
+-- So many rights to lower, or to raise, given up in all: of 5 the text is 8 bytes.
+abbrev pub cut_lower : ℕ → Record
+cut_lower total = Tighten stock Lower total
+
+abbrev pub cut_raise : ℕ → Record
+cut_raise total = Tighten stock Raise total
 
 -- ---- histories
 
@@ -88,6 +96,15 @@ gifts_kept = asked (give_lower 1 3) (Given 3) ∷ asked (give_lower 1 2) Unsure 
 abbrev pub spares_kept : List Entry
 spares_kept = asked (spare_lower 1 100) (Spared 10 10) ∷ asked (spare_lower 1 3) Unsure ∷ restarted 1 Kept ∷ []
 
+-- Three tightenings, of 3 and 2 to lower and between them of 4 to raise, and a restart behind the last, which was in doubt.
+abbrev pub cuts_kept : List Entry
+cuts_kept =
+    asked (raise_floor 3) (Tightened 3)
+    ∷ asked (lower_ceiling 4) (Tightened 4)
+    ∷ asked (raise_floor 2) Unsure
+    ∷ restarted 1 Kept
+    ∷ []
+
 -- ---- histories with luck
 
 -- An escrow of 20 is granted, and its commit torn behind so many bytes.
@@ -105,3 +122,7 @@ torn_twice bytes more = torn bytes ++ (still_down, Torn more) ∷ []
 -- A gift of 5 is torn behind so many bytes: its text is 10.
 abbrev pub torn_gift : ℕ → List Lucky
 torn_gift bytes = (asked (give_lower 1 5) Unsure, Torn bytes) ∷ []
+
+-- 5 rights to lower are given up, torn behind so many bytes: the text is 8.
+abbrev pub torn_cut : ℕ → List Lucky
+torn_cut bytes = (asked (raise_floor 5) Unsure, Torn bytes) ∷ []

@@ -10,10 +10,10 @@ ghost use Rattle.field_bounds.specs.declared.entry.Command.TheVariants.{Restart}
 ghost use Rattle.field_bounds.specs.declared.entry.Reply.TheVariants.{Restarted, Refused};
 ghost use Rattle.field_bounds.specs.declared.entry.Refusal.TheVariants.{NumbersFull};
 ghost use Rattle.field_bounds.specs.Schema.{SchemaValue};
-ghost use Rattle.field_bounds.specs.Effects.{Base, fresh, effects, share, held, own_rights, given, accepted};
+ghost use Rattle.field_bounds.specs.Effects.{Base, fresh, effects, share, held, own_rights, given, cut, accepted};
 ghost use Rattle.field_bounds.specs.Owed.{place, is_up, epoch_of, count_since, is_unsure, max_epoch, Fits, RestartFits, IsRun};
 ghost use Rattle.kept_records.specs.declared.record.Record.{Record};
-ghost use Rattle.kept_records.specs.Stands.{greatest, given_in, accepted_in, own_in, stands, Lawful};
+ghost use Rattle.kept_records.specs.Stands.{greatest, given_in, cut_in, accepted_in, own_in, stands, Lawful};
 ghost use Rattle.kept_state.specs.declared.luck.Luck.{Luck};
 ghost use Rattle.kept_state.specs.Keeps.{Keeps, IsBase};
 ghost use Rattle.kept_records.specs.Keeping.{stands_behind};
@@ -26,9 +26,9 @@ ghost use Rattle.kept_state.specs.Luck.{Lucky, entries, lucky_reply};
 /// record that is in doubt is kept.
 ///
 /// At every time, not only after a restart, its own rights (`owned`) and the totals of what it gave
-/// (`gives`) and accepted (`accepts`) are those of its records, in rights. After a restart its share
-/// is what the records own, and nothing is held (`restarts`). While it is up its epoch is the
-/// greatest that is kept (`epoch`), and no reply is in doubt (`counts`).
+/// (`gives`), gave up (`cuts`) and accepted (`accepts`) are those of its records, in rights. After a
+/// restart its share is what the records own, and nothing is held (`restarts`). While it is up its
+/// epoch is the greatest that is kept (`epoch`), and no reply is in doubt (`counts`).
 ///
 /// Each record that it adds may stand behind those before it (`lawful`). A record that is in doubt
 /// stands behind some of the records, if it is kept, and only records of restarts behind it
@@ -49,6 +49,10 @@ pub fn records_stand()
         (o : List Entry) (rs : List Record) →
         IsBase schema s base bs → IsRun schema s base o → Keeps schema s base bs kept o rs →
         (to f : ℕ) (k : Kind) → given base to f k (effects base kept o) ≡ given_in rs to f k }
+    ensures cuts { (schema : SchemaValue) (s : ℕ) (base : Base) (bs : List Record) (kept : Bool)
+        (o : List Entry) (rs : List Record) →
+        IsBase schema s base bs → IsRun schema s base o → Keeps schema s base bs kept o rs →
+        (f : ℕ) (k : Kind) → cut base f k (effects base kept o) ≡ cut_in rs f k }
     ensures accepts { (schema : SchemaValue) (s : ℕ) (base : Base) (bs : List Record) (kept : Bool)
         (o : List Entry) (rs : List Record) →
         IsBase schema s base bs → IsRun schema s base o → Keeps schema s base bs kept o rs →

@@ -1,7 +1,7 @@
 //! Laws of one more entry: what its reply leaves on the medium, where the record in doubt stands
 //! then, and that the record may be written. Each is the contract of a function that does nothing.
 
-ghost use Rattle.std.specs.Prelude.{◌≡◌, ◌≢◌, ℕ, ◌+◌, ◌≤◌, if◌then◌else◌, List, [], ◌∷◌, ◌++◌, length, Bool, true, false, Option, Some, None};
+ghost use Rattle.std.specs.Prelude.{◌≡◌, ◌≢◌, ℕ, ◌+◌, ◌<◌, ◌≤◌, if◌then◌else◌, List, [], ◌∷◌, ◌++◌, length, Bool, true, false, Option, Some, None};
 ghost use Rattle.field_bounds.specs.declared.id.SiteNo.{SiteNo};
 ghost use Rattle.field_bounds.specs.declared.entry.Last.{Last};
 ghost use Rattle.field_bounds.specs.declared.entry.Last.TheVariants.{Kept, Lost};
@@ -18,7 +18,7 @@ ghost use Rattle.field_bounds.specs.Owed.{Place, place, first, refusals, answer,
 ghost use Rattle.kept_records.specs.declared.record.Record.{Record};
 ghost use Rattle.kept_records.specs.declared.record.Record.TheVariants as records;
 ghost use Rattle.kept_records.specs.Text.{IsRecord};
-ghost use Rattle.kept_records.specs.Stands.{greatest, may_stand};
+ghost use Rattle.kept_records.specs.Stands.{greatest, may_stand, Lawful};
 ghost use Rattle.kept_state.specs.Keeps.{record_at, noted, adds, entry_at, Keeps, IsBase};
 ghost use Rattle.kept_state.specs.Doubt.{found_of, IsDoubt};
 
@@ -93,7 +93,8 @@ pub fn doubt_is_settled()
 
 /// The record of a command that isn't refused, and that writes one, may be written: it may stand
 /// behind the records that the site's entries have left (`lawful`), and its numbers lie in the
-/// ranges of its text (`in_range`), as the site's epoch does (`epoch`), if its base's does.
+/// ranges of its text (`in_range`), as the site's epoch does (`epoch`), if its base's does. That what
+/// was given up in all lies in its range rests on the records that the site opened over being lawful.
 ///
 /// Source: this project.
 pub fn records_may_be_written()
@@ -103,8 +104,10 @@ pub fn records_may_be_written()
         first (refusals (place schema s base o) command) ≡ None →
         writes (place schema s base o) command ≡ true →
         may_stand schema s rs (record_at (place schema s base o) command) ≡ true }
-    ensures in_range { (schema : SchemaValue) (s : ℕ) (base : Base) (o : List Entry)
-        (command : Command) → IsSchema schema → IsRun schema s base o → base.epoch ≤ max_epoch →
+    ensures in_range { (schema : SchemaValue) (s : ℕ) (base : Base) (bs : List Record) (kept : Bool)
+        (o : List Entry) (rs : List Record) (command : Command) →
+        IsSchema schema → s < schema.sites → IsBase schema s base bs → Lawful schema s bs →
+        IsRun schema s base o → Keeps schema s base bs kept o rs → base.epoch ≤ max_epoch →
         first (refusals (place schema s base o) command) ≡ None →
         writes (place schema s base o) command ≡ true →
         IsRecord (record_at (place schema s base o) command) }

@@ -7,19 +7,21 @@ ghost use Rattle.field_bounds.specs.declared.kind.Kind.TheVariants.{Lower, Raise
 ghost use Rattle.field_bounds.specs.declared.entry.Command.TheVariants as commands;
 ghost use Rattle.field_bounds.specs.declared.entry.Last.TheVariants.{Nothing, Kept, Lost};
 ghost use Rattle.field_bounds.specs.declared.entry.Reply.TheVariants.{Restarted, Unsure, StillDown, Committed};
-ghost use Rattle.field_bounds.specs.Worked.{halved, txn};
-ghost use Rattle.field_bounds.specs.WorkedGifts.{IsOwedAt};
+ghost use Rattle.field_bounds.specs.Worked.{halved, stock, txn};
+ghost use Rattle.field_bounds.specs.WorkedGifts.{site, IsOwedAt};
 ghost use Rattle.kept_records.specs.declared.record.Record.TheVariants as records;
 ghost use Rattle.kept_records.specs.Stands.{own_in};
 ghost use Rattle.kept_state.specs.declared.luck.Luck.TheVariants.{Fine, Torn};
-ghost use Rattle.kept_state.specs.Worked.{Leaves, IsLawfulAtZero, replies, commit, commit_of_two, gift, committed, found_kept, found_lost, gifts_kept, spares_kept, torn, torn_twice, torn_gift};
+ghost use Rattle.kept_state.specs.Worked.{Leaves, IsLawfulAtZero, replies, commit, commit_of_two, gift, cut_lower, cut_raise, committed, found_kept, found_lost, gifts_kept, spares_kept, cuts_kept, torn, torn_twice, torn_gift, torn_cut};
 
 /// What these histories leave. A commit of 20 in doubt that is kept stands in front of the records
 /// of both restarts, the one that failed too (`kept`), and leaves 0 rights to lower and 50 to raise
 /// (`rights`); where it is lost, the record of the restart stands alone (`lost`). A gift is kept with
-/// all that was given before (`gifts`), a spare likewise (`spares`), and a commit with its escrows in the order in which they were
-/// granted (`in_order`). Each of these records may stand (`lawful`), and each reply of
-/// these histories is owed (`owed`): the premises of the laws are met.
+/// all that was given before (`gifts`), a spare likewise (`spares`), a tightening with all that was
+/// given up before of its kind (`cuts`), and a commit with its escrows in the order in which they
+/// were granted (`in_order`). What was given up is owned no more (`given_up`). Each of these records
+/// may stand (`lawful`, `lawful_cuts`), and each reply of these histories is owed (`owed`): the
+/// premises of the laws are met.
 ///
 /// Source: this project.
 pub fn worked_records()
@@ -27,17 +29,22 @@ pub fn worked_records()
     ensures lost { Leaves found_lost (records.Restart 1 ∷ []) }
     ensures gifts { Leaves gifts_kept (gift 3 ∷ gift 5 ∷ records.Restart 1 ∷ []) }
     ensures spares { Leaves spares_kept (gift 10 ∷ gift 13 ∷ records.Restart 1 ∷ []) }
+    ensures cuts { Leaves cuts_kept (cut_lower 3 ∷ cut_raise 4 ∷ cut_lower 5 ∷ records.Restart 1 ∷ []) }
     ensures in_order { Leaves committed (commit_of_two ∷ []) }
     ensures rights { let rs = commit ∷ records.Restart 1 ∷ records.Restart 2 ∷ [] in
         (own_in halved 0 rs 0 Lower ≡ 0) × (own_in halved 0 rs 0 Raise ≡ 50) }
+    ensures given_up { let rs = cut_lower 3 ∷ cut_raise 4 ∷ cut_lower 5 ∷ records.Restart 1 ∷ [] in
+        (own_in halved 0 rs 0 Lower ≡ 15) × (own_in halved 0 rs 0 Raise ≡ 26) }
     ensures lawful { IsLawfulAtZero (commit ∷ records.Restart 1 ∷ records.Restart 2 ∷ []) }
-    ensures owed { IsOwedAt 0 found_kept × IsOwedAt 0 found_lost × IsOwedAt 0 gifts_kept × IsOwedAt 0 spares_kept × IsOwedAt 0 committed }
+    ensures lawful_cuts { IsLawfulAtZero (cut_lower 3 ∷ cut_raise 4 ∷ cut_lower 20 ∷ cut_raise 30 ∷ []) }
+    ensures owed { IsOwedAt 0 found_kept × IsOwedAt 0 found_lost × IsOwedAt 0 gifts_kept × IsOwedAt 0 spares_kept × IsOwedAt 0 cuts_kept × IsOwedAt 0 committed }
 {}
 
 /// What these histories don't leave: neither a commit that was kept without its record, nor one that
 /// was lost with it, nor a restart of another epoch. And what no site has kept: the commit of all its
-/// rights twice, a gift of more than it has, a total that doesn't grow, an epoch twice, and a commit
-/// of another epoch than the last restart's.
+/// rights twice, a gift of more than it has, a total that doesn't grow, an epoch twice, a commit of
+/// another epoch than the last restart's, more given up than it has, the same total given up twice,
+/// and an acceptance beyond the room that is left where some was given up.
 ///
 /// Source: this project.
 pub fn wrong_records()
@@ -49,12 +56,16 @@ pub fn wrong_records()
     ensures same_total { IsLawfulAtZero (gift 5 ∷ gift 5 ∷ []) → ⊥ }
     ensures same_epoch { IsLawfulAtZero (records.Restart 1 ∷ records.Restart 1 ∷ []) → ⊥ }
     ensures old_commit { IsLawfulAtZero (records.Restart 1 ∷ commit ∷ []) → ⊥ }
+    ensures cut_too_far { IsLawfulAtZero (cut_lower 21 ∷ []) → ⊥ }
+    ensures cut_twice { IsLawfulAtZero (cut_lower 5 ∷ cut_lower 5 ∷ []) → ⊥ }
+    ensures no_room { IsLawfulAtZero (cut_lower 20 ∷ records.Accept (site 1) stock Lower 51 ∷ []) → ⊥ }
 {}
 
 /// Replies that luck leaves. A commit whose append is torn is in doubt; its text is 12 bytes, so torn
 /// behind 11 it is lost (`lost`), and behind 12 kept (`kept`). A restart that is torn fails
 /// (`fails`): its text is 4 bytes, so behind 4 it uses up its epoch (`used`), and behind 3 it doesn't
-/// (`unused`). A gift of 5 is 10 bytes (`gift_lost`, `gift_kept`).
+/// (`unused`). A gift of 5 is 10 bytes (`gift_lost`, `gift_kept`), a tightening of 5 is 8 (`cut_lost`,
+/// `cut_kept`).
 ///
 /// Source: this project.
 pub fn worked_luck()
@@ -67,5 +78,7 @@ pub fn worked_luck()
     ensures unused { replies (torn_twice 12 3) commands.Restart Fine ≡ Restarted 1 Kept }
     ensures gift_lost { replies (torn_gift 9) commands.Restart Fine ≡ Restarted 1 Lost }
     ensures gift_kept { replies (torn_gift 10) commands.Restart Fine ≡ Restarted 1 Kept }
+    ensures cut_lost { replies (torn_cut 7) commands.Restart Fine ≡ Restarted 1 Lost }
+    ensures cut_kept { replies (torn_cut 8) commands.Restart Fine ≡ Restarted 1 Kept }
     ensures nothing { replies [] commands.Restart Fine ≡ Restarted 1 Nothing }
 {}

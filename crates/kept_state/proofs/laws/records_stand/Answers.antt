@@ -1,5 +1,5 @@
 use Rattle.kept_state.proofs.laws.records_stand.Goals as goal
-use Rattle.kept_state.proofs.Keeping.{run_owns, run_gives, run_accepts, run_restarts}
+use Rattle.kept_state.proofs.Keeping.{run_owns, run_gives, run_cuts, run_accepts, run_restarts}
 use Rattle.kept_state.proofs.Epochs.{up_epoch, restart_fits, refused_fits}
 use Rattle.kept_state.proofs.Adding.{keeps_length}
 use Rattle.kept_state.proofs.Lasting.{run_stays_lawful}
@@ -12,6 +12,9 @@ returns-clause-owned c = λ schema s base bs kept o rs is run keeps f k. run_own
 
 pub returns-clause-gives : goal.returns-clause-gives
 returns-clause-gives c = λ schema s base bs kept o rs is run keeps to f k. run_gives schema s base bs kept o rs is run keeps to f k
+
+pub returns-clause-cuts : goal.returns-clause-cuts
+returns-clause-cuts c = λ schema s base bs kept o rs is run keeps f k. run_cuts schema s base bs kept o rs is run keeps f k
 
 pub returns-clause-accepts : goal.returns-clause-accepts
 returns-clause-accepts c = λ schema s base bs kept o rs is run keeps from f k. run_accepts schema s base bs kept o rs is run keeps from f k

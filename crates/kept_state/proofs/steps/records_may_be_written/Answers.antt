@@ -1,12 +1,14 @@
-use Rattle.kept_state.proofs.Ranges.{record_in_range, epoch_in_range}
+use Rattle.kept_state.proofs.Ranges.{epoch_in_range}
 use Rattle.kept_state.proofs.Staying.{run_lawful_more}
+use Rattle.kept_state.proofs.Written.{written_in_range}
 use Rattle.kept_state.proofs.steps.records_may_be_written.Goals as goal
 
 pub returns-clause-lawful : goal.returns-clause-lawful
 returns-clause-lawful c = λ schema s base bs kept o rs command is run keeps h w. run_lawful_more schema s base bs is kept o rs run keeps command h w
 
 pub returns-clause-in_range : goal.returns-clause-in_range
-returns-clause-in_range c = λ schema s base o command limits run small h w. record_in_range schema s base o limits run small command h w
+returns-clause-in_range c = λ schema s base bs kept o rs command good below is lawful run keeps small h w.
+    written_in_range schema s base bs is lawful kept o rs good below run keeps command small h w
 
 pub returns-clause-epoch : goal.returns-clause-epoch
 returns-clause-epoch c = λ schema s base o run small. epoch_in_range schema s base o run small

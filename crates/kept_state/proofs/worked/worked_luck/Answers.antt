@@ -18,3 +18,9 @@ returns-clause-gift_lost c = rows.gift_lost
 
 pub returns-clause-gift_kept : goal.returns-clause-gift_kept
 returns-clause-gift_kept c = rows.gift_kept
+
+pub returns-clause-cut_lost : goal.returns-clause-cut_lost
+returns-clause-cut_lost c = rows.cut_lost
+
+pub returns-clause-cut_kept : goal.returns-clause-cut_kept
+returns-clause-cut_kept c = rows.cut_kept

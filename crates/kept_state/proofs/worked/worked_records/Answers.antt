@@ -1,4 +1,4 @@
-use Rattle.kept_state.proofs.LogRows.{commit_kept, commit_lost, gift_kept, spare_kept, in_order, kept_rights, kept_lawful}
+use Rattle.kept_state.proofs.LogRows.{commit_kept, commit_lost, gift_kept, spare_kept, cut_kept, in_order, kept_rights, cut_rights, kept_lawful, cut_lawful}
 use Rattle.kept_state.proofs.worked.worked_records.Goals as goal
 
 pub returns-clause-kept : goal.returns-clause-kept
@@ -21,3 +21,12 @@ returns-clause-rights c = kept_rights
 
 pub returns-clause-lawful : goal.returns-clause-lawful
 returns-clause-lawful c = kept_lawful
+
+pub returns-clause-cuts : goal.returns-clause-cuts
+returns-clause-cuts c = cut_kept
+
+pub returns-clause-given_up : goal.returns-clause-given_up
+returns-clause-given_up c = cut_rights
+
+pub returns-clause-lawful_cuts : goal.returns-clause-lawful_cuts
+returns-clause-lawful_cuts c = cut_lawful
