@@ -16,14 +16,14 @@ use Rattle.field_bounds.specs.Kind.{same_kind, kind_of}
 use Rattle.field_bounds.specs.Schema.{SchemaValue}
 use Rattle.field_bounds.specs.Effects.{takes}
 use Rattle.kept_records.specs.declared.record.Record.{Record}
-use Rattle.kept_records.specs.declared.record.Record.TheVariants.{Commit, Gift, Accept, Restart}
-use Rattle.kept_records.specs.Stands.{greatest, given_in, accepted_in, own_in, room_in, is_field, is_other_site, may_commit, may_stand, Lawful}
-use Rattle.kept_records.proofs.Pushes.{greatest_none, given_none, accepted_none, greatest_push, given_push, accepted_push}
-use Rattle.kept_records.proofs.Covering.{key, at_key, on_field, own_none, commit_within, own_commit, own_gift, own_accept, own_restart, accept_parts}
+use Rattle.kept_records.specs.declared.record.Record.TheVariants.{Commit, Gift, Accept, Tighten, Restart}
+use Rattle.kept_records.specs.Stands.{greatest, given_in, accepted_in, cut_in, own_in, room_in, is_field, is_other_site, may_commit, may_stand, Lawful}
+use Rattle.kept_records.proofs.Pushes.{greatest_none, given_none, accepted_none, cut_none, greatest_push, given_push, accepted_push, cut_push}
+use Rattle.kept_records.proofs.Covering.{key, at_key, on_field, own_none, commit_within, own_commit, own_gift, own_accept, own_tighten, cut_tighten, own_restart, accept_parts, tighten_parts}
 use Rattle.site_rights.specs.declared.field_rights.FieldRights.{FieldRights}
 use Rattle.site_rights.specs.declared.field_rights.Outcome.TheVariants.{Committed}
-use Rattle.site_rights.specs.Rights.{free_at, held_at, room_at, at_field, taken, dropped, added, ending, by_escrow, by_escrows, AreInRange, AreHeld, AreFresh}
-use Rattle.site_rights.proofs.RightsLaws.{length-by_escrow, length-by_escrows, free_at-taken, held_at-taken, free_at-by_escrows, held_at-by_escrows, free_at-dropped, held_at-dropped, free_at-added, held_at-added, taken_keeps, ending_keeps, dropped_keeps, added_keeps, width_at-field, width_at-by_escrows}
+use Rattle.site_rights.specs.Rights.{free_at, held_at, cut_at, room_at, at_field, taken, dropped, tightened, added, ending, by_escrow, by_escrows, AreInRange, AreHeld, AreFresh}
+use Rattle.site_rights.proofs.RightsLaws.{length-by_escrow, length-by_escrows, free_at-taken, held_at-taken, free_at-by_escrows, held_at-by_escrows, free_at-dropped, held_at-dropped, free_at-tightened, held_at-tightened, cut_at-tightened, free_at-added, held_at-added, taken_keeps_cut, ending_keeps_cut, dropped_keeps_cut, added_keeps_cut, cut_at-field, cut_at-by_escrows, taken_keeps, ending_keeps, dropped_keeps, tightened_keeps, added_keeps, width_at-field, width_at-by_escrows}
 use Rattle.gift_ledger.specs.declared.account.Account.{Account}
 use Rattle.gift_ledger.specs.Ledger.{LedgerValue, total_at, accepted_at, with_total, with_accepted, fresh_ledger}
 use Rattle.gift_ledger.proofs.LedgerLaws.{place_stays, fresh_place, fresh_account, total_at-with_total, accepted_at-with_total, total_at-with_accepted, accepted_at-with_accepted}
@@ -73,6 +73,7 @@ stands_none schema s rows fresh =
       count = fresh.count;
       width = λ f l. (fresh.each f l).width;
       own = λ f k l. omega (arith, (fresh.each f l).free k, (fresh.each f l).held k, own_none schema s f k);
+      cut = λ f k l. (fresh.each f l).cut k ∙ sym (cut_none f k);
       place = λ r f o. fresh_place schema s r f o.other o.site_in o.field_in;
       given = λ r f k o. ap (λ (x : Account). x.given) (fresh_account schema s r f k) ∙ sym (given_none r f k);
       accepted = λ r f k o. ap (λ (x : Account). x.accepted) (fresh_account schema s r f k) ∙ sym (accepted_none r f k);
@@ -227,6 +228,9 @@ module _ (schema : SchemaValue) (s : ℕ) (rs : List Record) (rows : List FieldR
               held_committed rows es range f k (omega (arith, l, same)),
               own_commit schema s rs lawful txn es may f k,
             );
+        cut = λ f k l.
+            cut_at-by_escrows (ending Committed) (ending_keeps_cut Committed) mid es within f k ∙ cut_at-by_escrows taken taken_keeps_cut rows es range f k
+            ∙ was.cut f k (omega (arith, l, same)) ∙ sym (cut_push f k rs r);
         place = was.place;
         given = λ r' f k o. was.given r' f k o ∙ sym (given_push r' f k rs r);
         accepted = λ r' f k o. was.accepted r' f k o ∙ sym (accepted_push r' f k rs r);
@@ -280,6 +284,7 @@ module _ (schema : SchemaValue) (s : ℕ) (rs : List Record) (rows : List FieldR
                 was.own f k (omega (arith, l, same)),
                 own_gift schema s rs lawful at field kind total may f k,
               );
+          cut = λ f k l. cut_at-field dropped dropped_keeps_cut rows field.0 f kind k amount in_rows ∙ was.cut f k (omega (arith, l, same)) ∙ sym (cut_push f k rs r);
           place = λ r' f o. place_stays ledger at.0 field.0 r' f kind (record { given = new; accepted = accepted_at ledger at.0 field.0 kind }) here (was.place r' f o);
           given = λ r' f k o.
               total_at-with_total ledger at.0 field.0 r' f kind k new here
@@ -311,6 +316,7 @@ module _ (schema : SchemaValue) (s : ℕ) (rs : List Record) (rows : List FieldR
                 was.own f k (omega (arith, l, same)),
                 own_accept schema s rs lawful at field kind total may f k,
               );
+          cut = λ f k l. cut_at-field added added_keeps_cut rows field.0 f kind k gain in_rows ∙ was.cut f k (omega (arith, l, same)) ∙ sym (cut_push f k rs r);
           place = λ r' f o. place_stays ledger at.0 field.0 r' f kind (record { given = total_at ledger at.0 field.0 kind; accepted = new }) here (was.place r' f o);
           given = λ r' f k o. total_at-with_accepted ledger at.0 field.0 r' f kind k new here ∙ was.given r' f k o ∙ sym (given_push r' f k rs r);
           accepted = λ r' f k o.
@@ -323,7 +329,44 @@ module _ (schema : SchemaValue) (s : ℕ) (rs : List Record) (rows : List FieldR
 
   -- what the rights leave of the width is the room that the records leave
   pub room_is : (f : ℕ) → f < length rows → room_at rows f ≡ room_in schema s rs f
-  room_is f l = omega (arith, was.width f l, was.own f Lower l, was.own f Raise l)
+  room_is f l = omega (arith, was.width f l, was.own f Lower l, was.own f Raise l, was.cut f Lower l, was.cut f Raise l)
+
+  -- ---- a tightening
+
+  pub stands_tighten : (field : FieldNo) (kind : Kind) (total : ℕ) → field.0 < length rows → may_stand schema s rs (Tighten field kind total) ≡ true
+      → (amount : ℕ) → amount ≡ total - cut_at rows field.0 kind → amount ≤ free_at rows field.0 kind
+      → StandsFor schema s (rs ++ Tighten field kind total ∷ []) (at_field tightened rows field.0 kind amount) ledger epoch
+  stands_tighten field kind total in_rows may amount is enough =
+      let r : Record = Tighten field kind total in
+      let same : length (at_field tightened rows field.0 kind amount) ≡ length rows = length-set rows field.0 _ in
+      let amount_is : amount ≡ total - cut_in rs field.0 kind = is ∙ ap (λ n. total - n) (was.cut field.0 kind in_rows) in
+      record {
+        count = same ∙ was.count;
+        width = λ f l. width_at-field tightened tightened_keeps rows field.0 f kind amount in_rows ∙ was.width f (omega (arith, l, same));
+        own = λ f k l.
+            omega (
+              arith,
+              free_at-tightened rows field.0 f kind k amount in_rows,
+              held_at-tightened rows field.0 f kind k amount in_rows,
+              here_only (λ x y. free_at rows x y) field.0 f kind k amount enough,
+              ap (λ (n : ℕ). cond ((field.0 == f) && same_kind kind k) n 0) amount_is,
+              was.own f k (omega (arith, l, same)),
+              own_tighten schema s rs lawful field kind total may f k,
+            );
+        cut = λ f k l.
+            omega (
+              arith,
+              cut_at-tightened rows field.0 f kind k amount in_rows,
+              ap (λ (n : ℕ). cond ((field.0 == f) && same_kind kind k) n 0) amount_is,
+              was.cut f k (omega (arith, l, same)),
+              cut_tighten schema s rs lawful field kind total may f k,
+            );
+        place = was.place;
+        given = λ r' f k o. was.given r' f k o ∙ sym (given_push r' f k rs r);
+        accepted = λ r' f k o. was.accepted r' f k o ∙ sym (accepted_push r' f k rs r);
+        site = was.site;
+        epoch = was.epoch ∙ sym (greatest_push rs r);
+      }
 
   -- ---- a restart
 
@@ -334,6 +377,7 @@ module _ (schema : SchemaValue) (s : ℕ) (rs : List Record) (rows : List FieldR
         count = was.count;
         width = was.width;
         own = λ f k l. was.own f k l ∙ sym (own_restart schema s rs lawful new may f k);
+        cut = λ f k l. was.cut f k l ∙ sym (cut_push f k rs r);
         place = was.place;
         given = λ r' f k o. was.given r' f k o ∙ sym (given_push r' f k rs r);
         accepted = λ r' f k o. was.accepted r' f k o ∙ sym (accepted_push r' f k rs r);
@@ -458,6 +502,43 @@ accept_taken schema old at field kind total gain places here more is enough =
     stands_accept schema s rs old.rights old.ledger old.epoch lawful was at field kind (is_other schema s at.0 field.0 there) total may gain is)
     (λ f k l. held_at-added old.rights field.0 f kind k gain (omega (arith, places.count, (is_other schema old.ledger.site at.0 field.0 here).field_in)))
 
+-- a tightening that may not stand
+tighten_none : (schema : SchemaValue) (old : Standing) (field : FieldNo) (kind : Kind) (total : ℕ) (new : Standing)
+    → (cut_at old.rights field.0 kind < total → total - cut_at old.rights field.0 kind ≤ free_at old.rights field.0 kind → ⊥)
+    → TakesIn schema old (Tighten field kind total) false new
+tighten_none schema old field kind total new cannot =
+    takes_none schema old (Tighten field kind total) new
+    (λ s rs lawful was.
+    is_false (may_stand schema s rs (Tighten field kind total))
+    (λ may.
+    let on = three_first (is_field schema field.0) _ _ may in
+    let l : field.0 < length old.rights = omega (arith, was.for_.count, ltb-true field.0 (length schema.fields) on) in
+    let parts = tighten_parts schema s rs field kind total may in
+    let before = was.for_.cut field.0 kind l in
+    cannot (omega (arith, before, parts.0)) (omega (arith, before, parts.1, was.for_.own field.0 kind l, was.none field.0 kind l))))
+    (λ can. cannot can.1 can.2)
+  where
+    three_first : (a b c : Bool) → (a && b && c) ≡ true → a ≡ true
+    three_first true b c h = refl
+    three_first false b c h = cc
+
+-- a tightening that may stand
+tighten_taken : (schema : SchemaValue) (old : Standing) (field : FieldNo) (kind : Kind) (total amount : ℕ) → HasPlaces schema old.rights old.ledger
+    → field.0 < length schema.fields → cut_at old.rights field.0 kind < total → amount ≡ total - cut_at old.rights field.0 kind → amount ≤ free_at old.rights field.0 kind
+    → TakesIn schema old (Tighten field kind total) true (record { rights = at_field tightened old.rights field.0 kind amount; ledger = old.ledger; epoch = old.epoch })
+tighten_taken schema old field kind total amount places field_in more is enough =
+    let l : field.0 < length old.rights = omega (arith, places.count, field_in) in
+    takes_one schema old (Tighten field kind total) _
+    (λ s rs lawful was.
+    let before = was.cut field.0 kind l in
+    rw (
+      lt-ltb field.0 (length schema.fields) field_in,
+      lt-ltb (cut_in rs field.0 kind) total (omega (arith, before, more)),
+      le-leb (total - cut_in rs field.0 kind) (own_in schema s rs field.0 kind) (omega (arith, before, is, enough, was.own field.0 kind l)),
+    ) refl)
+    (λ s rs lawful was may. stands_tighten schema s rs old.rights old.ledger old.epoch lawful was field kind total l may amount is enough)
+    (λ f k k_. held_at-tightened old.rights field.0 f kind k amount l)
+
 -- a restart that may stand
 pub restart_taken : (schema : SchemaValue) (old : Standing) (new : ℕ) → old.epoch < new → TakesIn schema old (Restart new) true (record { rights = old.rights; ledger = old.ledger; epoch = new })
 restart_taken schema old new later =
@@ -473,6 +554,19 @@ takes_as schema old r answer rows rows' ledger ledger' epoch answered rights tot
     subst (λ (b : Bool). TakesIn schema old r b (record { rights = rows; ledger = ledger; epoch = epoch })) (sym answered)
     (subst (λ (x : List FieldRights). TakesIn schema old r true (record { rights = x; ledger = ledger; epoch = epoch })) (sym rights)
     (subst (λ (x : LedgerValue). TakesIn schema old r true (record { rights = rows'; ledger = x; epoch = epoch })) (sym totals) taken_in))
+
+-- a tightening, as the rights answer it
+pub tighten_as : (schema : SchemaValue) (old : Standing) (field : FieldNo) (kind : Kind) (total amount : ℕ) → HasPlaces schema old.rights old.ledger
+    → field.0 < length schema.fields → cut_at old.rights field.0 kind < total → amount ≡ total - cut_at old.rights field.0 kind
+    → (answer : Bool) (rows : List FieldRights) → (answer ≡ true → amount ≤ free_at old.rights field.0 kind) → (amount ≤ free_at old.rights field.0 kind → answer ≡ true)
+    → (answer ≡ true → rows ≡ at_field tightened old.rights field.0 kind amount)
+    → TakesIn schema old (Tighten field kind total) answer (record { rights = rows; ledger = old.ledger; epoch = old.epoch })
+tighten_as schema old field kind total amount places field_in more is true rows enough can changed =
+    takes_as schema old (Tighten field kind total) true rows (at_field tightened old.rights field.0 kind amount) old.ledger old.ledger old.epoch refl (changed refl) refl
+    (tighten_taken schema old field kind total amount places field_in more is (enough refl))
+tighten_as schema old field kind total amount places field_in more is false rows enough can changed =
+    tighten_none schema old field kind total (record { rights = rows; ledger = old.ledger; epoch = old.epoch })
+    (λ above within. let off : false ≡ true = can (omega (arith, is, within)) in absurd cc)
 
 -- one record more of a log that is read
 pub after_one : (schema : SchemaValue) (s : ℕ) (rs : List Record) (r : Record) (old new : Standing) → Lawful schema s rs → IsStandingFor schema s rs old → TakesIn schema old r true new → IsStandingFor schema s (rs ++ r ∷ []) new

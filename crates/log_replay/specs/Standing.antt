@@ -7,10 +7,10 @@ use Rattle.field_bounds.specs.Schema.{SchemaValue}
 use Rattle.field_bounds.specs.Parts.{field_at, width_of}
 use Rattle.field_bounds.specs.Effects.{takes}
 use Rattle.kept_records.specs.declared.record.Record.{Record}
-use Rattle.kept_records.specs.declared.record.Record.TheVariants.{Commit, Gift, Accept, Restart}
-use Rattle.kept_records.specs.Stands.{greatest, given_in, accepted_in, own_in, is_field, is_other_site, may_stand, Lawful}
+use Rattle.kept_records.specs.declared.record.Record.TheVariants.{Commit, Gift, Accept, Tighten, Restart}
+use Rattle.kept_records.specs.Stands.{greatest, given_in, accepted_in, cut_in, own_in, is_field, is_other_site, may_stand, Lawful}
 use Rattle.site_rights.specs.declared.field_rights.FieldRights.{FieldRights}
-use Rattle.site_rights.specs.Rights.{row_at, free_at, held_at, own_at, room_at}
+use Rattle.site_rights.specs.Rights.{row_at, free_at, held_at, own_at, cut_at, room_at}
 use Rattle.gift_ledger.specs.Ledger.{LedgerValue, total_at, accepted_at, IsPlace}
 use Rattle.log_replay.specs.declared.standing.Standing.{Standing}
 
@@ -26,11 +26,13 @@ pub record HasPlaces (schema : SchemaValue) (rows : List FieldRights) (ledger : 
   pub place : (r f : ℕ) → IsOther schema ledger.site r f → IsPlace ledger r f
 
 -- The rights, the ledger and the epoch are what the records of a site stand for: on each field of the schema its own
--- rights, free and held together, and for each other site the ledger has the greatest totals given and accepted.
+-- rights, free and held together, and the greatest totals given up; and for each other site the ledger has the greatest
+-- totals given and accepted.
 pub record StandsFor (schema : SchemaValue) (s : ℕ) (rs : List Record) (rows : List FieldRights) (ledger : LedgerValue) (latest : ℕ) : Type 0 where
   pub count : length rows ≡ length schema.fields
   pub width : (f : ℕ) → f < length rows → (row_at rows f).width ≡ width_of (field_at schema f)
   pub own : (f : ℕ) (k : Kind) → f < length rows → own_at rows f k ≡ own_in schema s rs f k
+  pub cut : (f : ℕ) (k : Kind) → f < length rows → cut_at rows f k ≡ cut_in rs f k
   pub place : (r f : ℕ) → IsOther schema s r f → IsPlace ledger r f
   pub given : (r f : ℕ) (k : Kind) → IsOther schema s r f → total_at ledger r f k ≡ given_in rs r f k
   pub accepted : (r f : ℕ) (k : Kind) → IsOther schema s r f → accepted_at ledger r f k ≡ accepted_in rs r f k
@@ -67,6 +69,9 @@ CanTakeIn schema old (Gift to field kind total) =
 CanTakeIn schema old (Accept from field kind total) =
     ((is_other_site schema old.ledger.site from.0 && is_field schema field.0) ≡ true) × (accepted_at old.ledger from.0 field.0 kind < total)
     × (total - accepted_at old.ledger from.0 field.0 kind ≤ room_at old.rights field.0)
+CanTakeIn schema old (Tighten field kind total) =
+    (is_field schema field.0 ≡ true) × (cut_at old.rights field.0 kind < total)
+    × (total - cut_at old.rights field.0 kind ≤ free_at old.rights field.0 kind)
 CanTakeIn schema old (Restart epoch) = old.epoch < epoch
 
 -- Whether a record is taken in, and what that leaves. Where nothing is held, it is taken in exactly where it may stand

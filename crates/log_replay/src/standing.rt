@@ -5,7 +5,7 @@ ghost use Rattle.std.specs.List.{list_all};
 ghost use Rattle.field_bounds.specs.Schema.{SchemaValue};
 ghost use Rattle.field_bounds.specs.Owed.{max_total};
 ghost use Rattle.kept_records.specs.declared.record.Record.{Record};
-ghost use Rattle.kept_records.specs.declared.record.Record.TheVariants.{Commit, Gift, Accept, Restart};
+ghost use Rattle.kept_records.specs.declared.record.Record.TheVariants.{Commit, Gift, Accept, Tighten, Restart};
 ghost use Rattle.kept_records.specs.Text.{IsRecord};
 ghost use Rattle.kept_records.specs.Stands.{is_field, is_other_site, may_stand, Lawful};
 ghost use Rattle.site_rights.specs.Rights.{AreInRange, by_escrows, taken};
@@ -24,7 +24,8 @@ use std::alloc::{AllocError, Global};
 /// Source: Balegas and others 2015 for the rights and the totals; this project for the epoch.
 #[derive(Drop)]
 pub struct Standing {
-    /// The own rights of the site on each field, those that are free and those that are held.
+    /// The own rights of the site on each field, those that are free and those that are held, and what
+    /// it has given up for good.
     pub rights: Rights,
     /// The totals that it gave to and accepted from each other site, in rights.
     pub ledger: Ledger,
@@ -33,7 +34,7 @@ pub struct Standing {
 }
 
 impl Standing {
-    /// What no records stand for: the site's parts with none of them held, nothing given or
+    /// What no records stand for: the site's parts with none of them held, nothing given up, given or
     /// accepted, and epoch 0. The error is want of memory. Costs memory for a row of each field, and
     /// for one of each site and field; no later call takes memory.
     pub fn new(alloc: Global, schema: &Schema, site: SiteNo) -> Result<Standing, AllocError>
@@ -56,7 +57,7 @@ impl Standing {
     /// ranges that `Record` tells. Costs one step for each escrow of the record, and no memory.
     ///
     /// Source: O'Neil 1986 for the commit; Balegas and others 2015 for the gift and the acceptance;
-    /// this project for the restart and for what each of them has to meet.
+    /// this project for the tightening, the restart and for what each of them has to meet.
     pub fn take_in(&mut self, schema: &Schema, next: &Record) -> bool
         requires places { HasPlaces schema.now self.old.rights self.old.ledger }
         requires in_range { IsRecord next.now }
@@ -76,6 +77,7 @@ impl Standing {
                 kind,
                 total,
             } => self.accept(schema, *from, *field, *kind, *total),
+            Record::Tighten { field, kind, total } => self.tighten(schema, *field, *kind, *total),
             Record::Restart { epoch } => self.restart(*epoch),
         }
     }
@@ -138,6 +140,21 @@ impl Standing {
         let gain = self.ledger.accept(from, field, kind, total);
         self.rights.add(field, kind, gain);
         true
+    }
+
+    /// Takes in a tightening: its total is above the one before by what is owned, which is given up.
+    fn tighten(&mut self, schema: &Schema, field: FieldNo, kind: Kind, total: u64) -> bool
+        requires places { HasPlaces schema.now self.old.rights self.old.ledger }
+        ensures takes_in { TakesIn schema.now self.old (Tighten field kind total) result self.new }
+    {
+        if field.0 >= schema.fields() {
+            return false;
+        }
+        let so_far = self.rights.tightened(field, kind);
+        if total <= so_far {
+            return false;
+        }
+        self.rights.tighten(field, kind, total - so_far).is_ok()
     }
 
     /// Takes in a restart: its epoch is above every one before.

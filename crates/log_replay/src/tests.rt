@@ -15,12 +15,14 @@ const HERE: SiteNo = SiteNo(0);
 
 const OTHER: SiteNo = SiteNo(1);
 
-/// What is read off a standing: the rights of both kinds, the totals of lowering rights with the
-/// other site, and the epoch.
+/// What is read off a standing: the rights of both kinds, what was given up of each, the totals of
+/// lowering rights with the other site, and the epoch.
 #[derive(Clone, Copy, Debug, PartialEq, Eq)]
 struct Stands {
     lower: u64,
     raise: u64,
+    cut_lower: u64,
+    cut_raise: u64,
     given: u64,
     accepted: u64,
     epoch: u32,
@@ -29,13 +31,15 @@ struct Stands {
 const PARTS: Stands = Stands {
     lower: 20,
     raise: 30,
+    cut_lower: 0,
+    cut_raise: 0,
     given: 0,
     accepted: 0,
     epoch: 0,
 };
 
 /// Logs that break no rule, and what they stand for.
-const LAWFUL: [(&str, Stands); 10] = [
+const LAWFUL: [(&str, Stands); 14] = [
     ("", PARTS),
     (
         "C 0 1 0 -20\n",
@@ -103,12 +107,51 @@ const LAWFUL: [(&str, Stands); 10] = [
             given: 4,
             accepted: 4,
             epoch: 3,
+            ..PARTS
+        },
+    ),
+    (
+        "T 0 l 5\n",
+        Stands {
+            lower: 15,
+            cut_lower: 5,
+            ..PARTS
+        },
+    ),
+    (
+        "T 0 l 5\nT 0 r 30\nT 0 l 20\n",
+        Stands {
+            lower: 0,
+            raise: 0,
+            cut_lower: 20,
+            cut_raise: 30,
+            ..PARTS
+        },
+    ),
+    (
+        "T 0 l 5\nR 1\nC 1 1 0 -15\nT 0 r 45\n",
+        Stands {
+            lower: 0,
+            raise: 0,
+            cut_lower: 5,
+            cut_raise: 45,
+            epoch: 1,
+            ..PARTS
+        },
+    ),
+    (
+        "T 0 l 20\nA 1 0 l 50\n",
+        Stands {
+            lower: 50,
+            cut_lower: 20,
+            accepted: 50,
+            ..PARTS
         },
     ),
 ];
 
 /// Logs that break a rule, and the first record that does.
-const BROKEN: [(&str, u64); 18] = [
+const BROKEN: [(&str, u64); 24] = [
     ("C 0 1 0 -20\nC 0 2 0 -20\n", 2),
     ("C 0 1 0 -20 0 -1\n", 1),
     ("C 0 1 0 31\n", 1),
@@ -127,6 +170,12 @@ const BROKEN: [(&str, u64); 18] = [
     ("C 0 1 1 -1\n", 1),
     ("G 1 1 l 5\n", 1),
     ("A 1 1 l 5\n", 1),
+    ("T 0 l 5\nT 0 l 5\n", 2),
+    ("T 0 l 5\nT 0 l 4\n", 2),
+    ("T 0 l 21\n", 1),
+    ("T 1 l 5\n", 1),
+    ("T 0 l 20\nA 1 0 l 51\n", 2),
+    ("T 0 l 5\nC 0 1 0 -16\n", 2),
 ];
 
 fn stock_of_two(alloc: Global) -> Option<Schema> {
@@ -146,6 +195,8 @@ fn read_off(standing: &Standing) -> Stands
     Stands {
         lower: standing.rights.free(STOCK, Kind::Lower),
         raise: standing.rights.free(STOCK, Kind::Raise),
+        cut_lower: standing.rights.tightened(STOCK, Kind::Lower),
+        cut_raise: standing.rights.tightened(STOCK, Kind::Raise),
         given: standing.ledger.total(OTHER, STOCK, Kind::Lower),
         accepted: standing.ledger.accepted(OTHER, STOCK, Kind::Lower),
         epoch: standing.epoch,
