@@ -18,11 +18,11 @@ use Rattle.field_bounds.specs.declared.entry.Refusal.{Refusal}
 use Rattle.field_bounds.specs.declared.entry.Refusal.TheVariants.{NumbersFull}
 use Rattle.field_bounds.specs.Kind.{kind_of}
 use Rattle.field_bounds.specs.Effects.{is_begun, is_open, escrows_of}
-use Rattle.field_bounds.specs.Owed.{first, refusals, answer, writes, is_up, count_escrows, max_open, max_escrows, free, owned, room, told_so_far, gain_of}
+use Rattle.field_bounds.specs.Owed.{first, refusals, answer, writes, is_up, count_escrows, max_open, max_escrows, free, guarded, room, cut_so_far, told_so_far, gain_of}
 use Rattle.field_bounds.proofs.Refused.{up_there}
 use Rattle.site_rights.specs.declared.field_rights.FieldRights.{FieldRights}
 use Rattle.site_rights.specs.declared.field_rights.Outcome.TheVariants.{Committed}
-use Rattle.site_rights.specs.Rights.{free_at, own_at, room_at, by_escrow, taken}
+use Rattle.site_rights.specs.Rights.{free_at, cut_at, guarded_at, room_at, by_escrow, taken}
 use Rattle.escrow_journal.specs.Journal.{Row, stands, escrows_at, added}
 use Rattle.gift_ledger.specs.Ledger.{total_at, accepted_at, IsPlace}
 use Rattle.kept_records.specs.declared.medium.Device.{Device}
@@ -34,7 +34,7 @@ use Rattle.kept_records.specs.Keeping.{Appends}
 use Rattle.kept_records.specs.Stands.{Lawful}
 use Rattle.kept_state.specs.Keeps.{record_at}
 use Rattle.kept_state.specs.Doubt.{found_of}
-use Rattle.kept_state.proofs.Ranges.{record_in_range}
+use Rattle.kept_state.proofs.Written.{written_in_range}
 use Rattle.kept_state.proofs.Lasting.{run_stays_lawful}
 use Rattle.log_replay.specs.declared.standing.Standing.{Standing}
 use Rattle.log_replay.specs.Standing.{IsStandingFor}
@@ -100,17 +100,20 @@ module _ {v w : SiteValue} {up : Bool} {count : ℕ} {a : Accounts} (was : IsSou
   pub tells_free : is_up (base_of w) w.history ≡ true → (f : FieldNo) (k : Kind) → f.0 < length w.schema.fields → free_at a.standing.rights f.0 k ≡ free (here w) f k
   tells_free there f k l = let m = (stands_now there).matches in m.free f.0 k (omega (arith, l, m.count))
 
-  pub tells_own : is_up (base_of w) w.history ≡ true → (f : FieldNo) (k : Kind) → f.0 < length w.schema.fields → own_at a.standing.rights f.0 k ≡ owned (here w) f k
-  tells_own there f k l =
+  pub tells_cut : is_up (base_of w) w.history ≡ true → (f : FieldNo) (k : Kind) → f.0 < length w.schema.fields → cut_at a.standing.rights f.0 k ≡ cut_so_far (here w) f k
+  tells_cut there f k l = let m = (stands_now there).matches in m.cut f.0 k (omega (arith, l, m.count))
+
+  pub tells_guarded : is_up (base_of w) w.history ≡ true → (f : FieldNo) (k : Kind) → f.0 < length w.schema.fields → guarded_at a.standing.rights f.0 k ≡ guarded (here w) f k
+  tells_guarded there f k l =
       let m = (stands_now there).matches in
       let l' : f.0 < length a.standing.rights = omega (arith, l, m.count) in
-      omega (arith, m.free f.0 k l', m.held f.0 k l')
+      omega (arith, m.free f.0 k l', m.held f.0 k l', m.cut f.0 k l')
 
   pub tells_room : is_up (base_of w) w.history ≡ true → (f : FieldNo) → f.0 < length w.schema.fields → room_at a.standing.rights f.0 ≡ room (here w) f
   tells_room there f l =
       let m = (stands_now there).matches in
       let l' : f.0 < length a.standing.rights = omega (arith, l, m.count) in
-      omega (arith, m.width f.0 l', m.free f.0 Lower l', m.held f.0 Lower l', m.free f.0 Raise l', m.held f.0 Raise l')
+      omega (arith, m.width f.0 l', tells_guarded there f Lower l, tells_guarded there f Raise l)
 
   pub tells_given : is_up (base_of w) w.history ≡ true → (to : SiteNo) (f : FieldNo) (k : Kind) → to.0 ≢ w.site.0 → to.0 < w.schema.sites → f.0 < length w.schema.fields
       → total_at a.standing.ledger to.0 f.0 k ≡ told_so_far (here w) to f k
@@ -169,7 +172,9 @@ module _ {v w : SiteValue} {up : Bool} {count : ℕ} {a : Accounts} (was : IsSou
     writing = told_of c told
 
     fits : IsRecord (record_at (here v) c)
-    fits = record_in_range v.schema v.site.0 (base_of v) v.history was.ground.limits was.run was.ground.epoch_in c unrefused writing
+    fits =
+        written_in_range v.schema v.site.0 (base_of v) v.based was.ground.is_base was.ground.based_on was.kept v.history was.records was.ground.limits was.ground.site_in was.run was.keeps c
+        was.ground.epoch_in unrefused writing
 
     pub record_fits : {kept : Record} → kept ≡ record_at (here w) c → IsRecord kept
     record_fits kept_is = subst (λ (r : Record). IsRecord r) (sym kept_is) (subst (λ (x : SiteValue). IsRecord (record_at (here x) c)) is fits)

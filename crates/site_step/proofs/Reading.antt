@@ -5,13 +5,13 @@ use Rattle.field_bounds.specs.declared.entry.Entry.{Entry}
 use Rattle.field_bounds.specs.Schema.{SchemaValue}
 use Rattle.field_bounds.specs.Parts.{field_at, width_of}
 use Rattle.field_bounds.specs.declared.effect.Effect.{Effect}
-use Rattle.field_bounds.specs.Effects.{Base, given, accepted, share, held, effects}
+use Rattle.field_bounds.specs.Effects.{Base, given, cut, accepted, share, held, effects}
 use Rattle.field_bounds.specs.Owed.{epoch_of, count_since, is_begun_reply, is_up}
 use Rattle.site_rights.specs.declared.field_rights.FieldRights.{FieldRights}
-use Rattle.site_rights.specs.Rights.{row_at, free_at, held_at}
+use Rattle.site_rights.specs.Rights.{row_at, free_at, held_at, cut_at}
 use Rattle.escrow_journal.specs.Journal.{Row}
 use Rattle.gift_ledger.specs.Ledger.{LedgerValue, total_at, accepted_at, IsPlace}
-use Rattle.kept_state.proofs.Keeping.{run_owns, run_gives, run_accepts}
+use Rattle.kept_state.proofs.Keeping.{run_owns, run_gives, run_cuts, run_accepts}
 use Rattle.kept_state.proofs.Epochs.{up_epoch}
 use Rattle.kept_state.proofs.Sure.{keeps_up}
 use Rattle.log_replay.specs.Standing.{IsOther}
@@ -25,6 +25,7 @@ pub record Matches (schema : SchemaValue) (base : Base) (es : List Effect) (rows
   pub width : (f : ℕ) → f < length rows → (row_at rows f).width ≡ width_of (field_at schema f)
   pub free : (f : ℕ) (k : Kind) → f < length rows → free_at rows f k ≡ share base f k es
   pub held : (f : ℕ) (k : Kind) → f < length rows → held_at rows f k ≡ held f k es
+  pub cut : (f : ℕ) (k : Kind) → f < length rows → cut_at rows f k ≡ cut base f k es
   pub journal : open_rows ≡ journal_of es
 
 -- the ledger is the site's, and holds the totals of what took effect
@@ -53,6 +54,7 @@ reads v up count a was there =
         width = st.standing.width;
         free = λ f k l. omega (arith, st.standing.own f k l, st.aside.held f k l, owns f k);
         held = st.aside.held;
+        cut = λ f k l. st.standing.cut f k l ∙ sym (run_cuts v.schema v.site.0 base v.based false v.history was.records was.ground.is_base was.run keeps f k);
         journal = st.aside.journal;
       };
       holds = record {

@@ -2,7 +2,7 @@
 use Rattle.std.proofs.Common.{◌≡◌, ℕ, ◌+◌, ◌<◌, ◌≤◌, Bool, true, false, ◌&&◌, List, [], ◌∷◌, ◌++◌, length, reverse, refl, sym, ap, subst, ◌∙◌, arith, None}
 use Rattle.std.specs.Prelude.{◌==◌, unsigned_abs, sum_by}
 use Rattle.std.specs.List.{list_all}
-use Rattle.std.proofs.lemmas.Bool.{eqb-true, and_parts, false≢true}
+use Rattle.std.proofs.lemmas.Bool.{eqb-true, and_parts, lt-ltb, false≢true}
 use Rattle.std.proofs.lemmas.List.{length-reverse}
 use Rattle.field_bounds.specs.declared.id.SiteNo.{SiteNo}
 use Rattle.field_bounds.specs.declared.id.FieldNo.{FieldNo}
@@ -11,15 +11,15 @@ use Rattle.field_bounds.specs.declared.kind.Kind.{Kind}
 use Rattle.field_bounds.specs.declared.entry.Escrow.{Escrow}
 use Rattle.field_bounds.specs.declared.entry.Entry.{Entry}
 use Rattle.field_bounds.specs.declared.entry.Command.{Command}
-use Rattle.field_bounds.specs.declared.entry.Command.TheVariants.{Begin, Escrow as Ask, Commit, Abort, Give, Restate, Spare, Accept, Read, Share, Restart}
+use Rattle.field_bounds.specs.declared.entry.Command.TheVariants.{Begin, Escrow as Ask, Commit, Abort, Give, Restate, Spare, Tighten, Accept, Read, Share, Restart}
 use Rattle.field_bounds.specs.declared.entry.Reply.TheVariants.{Begun, Granted, Refused}
 use Rattle.field_bounds.specs.declared.entry.Refusal.{Refusal}
 use Rattle.field_bounds.specs.Kind.{kind_of}
 use Rattle.field_bounds.specs.Schema.{SchemaValue}
 use Rattle.field_bounds.specs.declared.effect.Effect.{Effect}
 use Rattle.field_bounds.specs.Effects.{Base, effects, is_begun, is_open, escrows_of, takes}
-use Rattle.field_bounds.specs.Owed.{Place, place, refusals, first, answer, epoch_of, count_since, is_begun_reply, max_open, max_escrows, writes, free, told_so_far, spared_of, IsRun}
-use Rattle.field_bounds.proofs.Refused.{none_holds, begin_is_one_of_few, escrow_is_in_schema, escrow_is_opened, escrow_is_enough, escrow_is_one_of_few, commit_is_opened, abort_is_opened, give_is_in_schema, give_is_enough, spare_is_in_schema}
+use Rattle.field_bounds.specs.Owed.{Place, place, refusals, first, answer, epoch_of, count_since, is_begun_reply, max_open, max_escrows, writes, free, told_so_far, spared_of, cut_so_far, IsRun}
+use Rattle.field_bounds.proofs.Refused.{none_holds, begin_is_one_of_few, escrow_is_in_schema, escrow_is_opened, escrow_is_enough, escrow_is_one_of_few, commit_is_opened, abort_is_opened, give_is_in_schema, give_is_enough, spare_is_in_schema, tighten_is_in_schema, tighten_is_enough}
 use Rattle.field_bounds.proofs.Sparing.{spared_is_there}
 use Rattle.field_bounds.proofs.Doubt.{after_refused}
 use Rattle.field_bounds.proofs.Runs.{Ran, run_leaves, next_is_new}
@@ -27,14 +27,14 @@ use Rattle.site_rights.specs.declared.field_rights.FieldRights.{FieldRights}
 use Rattle.site_rights.specs.declared.field_rights.Outcome.{Outcome}
 use Rattle.site_rights.specs.declared.field_rights.Outcome.TheVariants.{Committed, Aborted}
 use Rattle.site_rights.specs.Rights.{free_at, taken, ending, by_escrow, by_escrows, AreInRange, AreHeld}
-use Rattle.site_rights.proofs.RightsLaws.{length-by_escrow, length-by_escrows, free_at-taken, held_at-taken, free_at-by_escrows, held_at-by_escrows, taken_keeps, ending_keeps, width_at-field, width_at-by_escrows}
+use Rattle.site_rights.proofs.RightsLaws.{length-by_escrow, length-by_escrows, free_at-taken, held_at-taken, free_at-by_escrows, held_at-by_escrows, taken_keeps_cut, ending_keeps_cut, cut_at-field, cut_at-by_escrows, taken_keeps, ending_keeps, width_at-field, width_at-by_escrows}
 use Rattle.escrow_journal.specs.Journal.{Row, stands, escrows_at, added as add_escrow, without}
 use Rattle.gift_ledger.specs.Ledger.{LedgerValue}
 use Rattle.kept_records.specs.declared.record.Record.{Record}
 use Rattle.kept_records.specs.Stands.{greatest, is_field, is_other_site, may_commit, may_stand, Lawful}
 use Rattle.kept_state.specs.Keeps.{record_at}
 use Rattle.log_replay.specs.Standing.{Stands, TakesIn}
-use Rattle.kept_records.proofs.Covering.{gift_parts, accept_parts}
+use Rattle.kept_records.proofs.Covering.{gift_parts, accept_parts, tighten_parts}
 use Rattle.log_replay.proofs.StandingLaws.{has_places, here_only, four_first, is_other, commit_on_fields, room_is}
 use Rattle.site_step.specs.declared.accounts.Accounts.{Accounts}
 use Rattle.site_step.specs.Site.{end_command}
@@ -140,6 +140,12 @@ module _ (schema : SchemaValue) (s : ℕ) (base : Base) (o : List Entry) (a : Ac
       let none = none_holds (refusals at (Spare to field kind want)) refused in
       omega (arith, was.matches.free field.0 kind (omega (arith, spare_is_in_schema at to field kind want none, was.matches.count)), spared_is_there (free at field kind) want)
 
+  -- and of a tightening
+  tighten_enough : (field : FieldNo) (kind : Kind) (amount : ℕ) → first (refusals at (Tighten field kind amount)) ≡ None → amount ≤ free_at rows field.0 kind
+  tighten_enough field kind amount refused =
+      let none = none_holds (refusals at (Tighten field kind amount)) refused in
+      omega (arith, was.matches.free field.0 kind (omega (arith, tighten_is_in_schema at field kind amount none, was.matches.count)), tighten_is_enough at field kind amount none)
+
   -- ---- what is kept and what is set aside
 
   module _ (rs : List Record) (st : StandsOn schema s base o rs a) where
@@ -167,6 +173,7 @@ module _ (schema : SchemaValue) (s : ℕ) (base : Base) (o : List Entry) (a : Ac
                   here_only (λ x y. free_at rows x y) e.field.0 f (kind_of e.change) k (unsigned_abs e.change) (enough_by txn e none),
                   st.standing.own f k (omega (arith, l, same)),
                 );
+            cut = λ f k l. cut_at-field taken taken_keeps_cut rows e.field.0 f (kind_of e.change) k (unsigned_abs e.change) range ∙ st.standing.cut f k (omega (arith, l, same));
             place = st.standing.place;
             given = st.standing.given;
             accepted = st.standing.accepted;
@@ -189,6 +196,7 @@ module _ (schema : SchemaValue) (s : ℕ) (base : Base) (o : List Entry) (a : Ac
           own = λ f k l.
               let l' : f < length rows = omega (arith, l, same) in
               omega (arith, free_at-by_escrows Aborted rows gone can.in_range f k, held_at-by_escrows Aborted rows gone can.in_range can.are_held f k l', can.are_held f k l', st.standing.own f k l');
+          cut = λ f k l. cut_at-by_escrows (ending Aborted) (ending_keeps_cut Aborted) rows gone can.in_range f k ∙ st.standing.cut f k (omega (arith, l, same));
           place = st.standing.place;
           given = st.standing.given;
           accepted = st.standing.accepted;
@@ -212,6 +220,7 @@ module _ (schema : SchemaValue) (s : ℕ) (base : Base) (o : List Entry) (a : Ac
         let both = end_opened Aborted txn none in record { standing = stands_released txn both; aside = aside_released Aborted txn both; last = omega (arith, st.last) }
     stands_settled n (Give to field kind amount) is w none = cc
     stands_settled n (Spare to field kind want) is w none = cc
+    stands_settled n (Tighten field kind amount) is w none = cc
     stands_settled n (Accept told) is w none = record { standing = st.standing; aside = record { held = st.aside.held; journal = st.aside.journal }; last = omega (arith, st.last) }
     stands_settled n (Restate to field kind) is w none = record { standing = st.standing; aside = st.aside; last = omega (arith, st.last) }
     stands_settled n (Read field) is w none = record { standing = st.standing; aside = st.aside; last = omega (arith, st.last) }
@@ -271,6 +280,19 @@ module _ (schema : SchemaValue) (s : ℕ) (base : Base) (o : List Entry) (a : Ac
               omega (arith, was.holds.given to.0 field.0 kind other, spare_enough to field kind want none),
             );
           }
+      can_carry (Tighten field kind amount) none w may =
+          let parts = tighten_parts schema s rs field kind (cut_so_far at field kind + amount) may in
+          let known = tighten_is_in_schema at field kind amount (none_holds (refusals at (Tighten field kind amount)) none) in
+          let l : field.0 < length rows = omega (arith, st.standing.count, known) in
+          record {
+            ready = tt;
+            places = has_places schema s rs rows ledger a.standing.epoch st.standing;
+            takes_ = (
+              lt-ltb field.0 (length schema.fields) known,
+              omega (arith, st.standing.cut field.0 kind l, parts.0),
+              omega (arith, was.matches.cut field.0 kind l, tighten_enough field kind amount none),
+            );
+          }
       can_carry (Accept told) none w may =
           let parts = accept_parts schema s rs told.from told.field told.kind told.total may in
           let here = four_first (is_other_site schema s told.from.0) (is_field schema told.field.0) _ _ may in
@@ -311,6 +333,9 @@ module _ (schema : SchemaValue) (s : ℕ) (base : Base) (o : List Entry) (a : Ac
           record { standing = did.0; aside = record { held = did.1.held; journal = did.1.journal }; last = omega (arith, st.last, last_is) }
       stands_carried n (Spare to field kind want) none w b took same last_is =
           let did = taken_stands es a b (record_at at (Spare to field kind want)) st.standing st.aside took same in
+          record { standing = did.0; aside = record { held = did.1.held; journal = did.1.journal }; last = omega (arith, st.last, last_is) }
+      stands_carried n (Tighten field kind amount) none w b took same last_is =
+          let did = taken_stands es a b (record_at at (Tighten field kind amount)) st.standing st.aside took same in
           record { standing = did.0; aside = record { held = did.1.held; journal = did.1.journal }; last = omega (arith, st.last, last_is) }
       stands_carried n (Accept told) none w b took same last_is =
           let did = taken_stands es a b (record_at at (Accept told)) st.standing st.aside took same in

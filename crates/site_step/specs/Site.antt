@@ -3,9 +3,9 @@ use Rattle.std.specs.Prelude.{◌≡◌, ◌⊎◌, ℕ, ◌+◌, ◌-◌, ◌^�
 use Rattle.field_bounds.specs.declared.id.SiteNo.{SiteNo}
 use Rattle.field_bounds.specs.declared.id.TxnId.{TxnId}
 use Rattle.field_bounds.specs.declared.entry.Command.{Command}
-use Rattle.field_bounds.specs.declared.entry.Command.TheVariants.{Begin, Escrow as Ask, Commit, Abort, Give, Restate, Spare, Accept, Read, Share, Restart}
+use Rattle.field_bounds.specs.declared.entry.Command.TheVariants.{Begin, Escrow as Ask, Commit, Abort, Give, Restate, Spare, Tighten, Accept, Read, Share, Restart}
 use Rattle.field_bounds.specs.declared.entry.Reply.{Reply}
-use Rattle.field_bounds.specs.declared.entry.Reply.TheVariants.{Begun, Granted, Committed as SaysCommitted, Aborted as SaysAborted, Given, Stated, Spared, Accepted, Between, Shares, Restarted, Unsure, StillDown, Refused}
+use Rattle.field_bounds.specs.declared.entry.Reply.TheVariants.{Begun, Granted, Committed as SaysCommitted, Aborted as SaysAborted, Given, Stated, Spared, Tightened, Accepted, Between, Shares, Restarted, Unsure, StillDown, Refused}
 use Rattle.field_bounds.specs.declared.entry.Last.{Last}
 use Rattle.field_bounds.specs.declared.entry.Entry.{Entry}
 use Rattle.field_bounds.specs.Schema.{SchemaValue}
@@ -83,6 +83,7 @@ failed_after SaysAborted n = n
 failed_after (Given total) n = n
 failed_after (Stated total) n = n
 failed_after (Spared amount total) n = n
+failed_after (Tightened total) n = n
 failed_after (Accepted gain) n = n
 failed_after (Between lo hi) n = n
 failed_after (Shares lower raise) n = n
@@ -100,6 +101,7 @@ doubt_from SaysAborted rs doubt = doubt
 doubt_from (Given total) rs doubt = doubt
 doubt_from (Stated total) rs doubt = doubt
 doubt_from (Spared amount total) rs doubt = doubt
+doubt_from (Tightened total) rs doubt = doubt
 doubt_from (Accepted gain) rs doubt = doubt
 doubt_from (Between lo hi) rs doubt = doubt
 doubt_from (Shares lower raise) rs doubt = doubt
@@ -119,6 +121,7 @@ RestartsOver SaysAborted rs doubt rest = Unit {0}
 RestartsOver (Given total) rs doubt rest = Unit {0}
 RestartsOver (Stated total) rs doubt rest = Unit {0}
 RestartsOver (Spared amount total) rs doubt rest = Unit {0}
+RestartsOver (Tightened total) rs doubt rest = Unit {0}
 RestartsOver (Accepted gain) rs doubt rest = Unit {0}
 RestartsOver (Between lo hi) rs doubt rest = Unit {0}
 RestartsOver (Shares lower raise) rs doubt rest = Unit {0}
@@ -136,6 +139,7 @@ RefusesOver Restart SaysAborted rs = Unit {0}
 RefusesOver Restart (Given total) rs = Unit {0}
 RefusesOver Restart (Stated total) rs = Unit {0}
 RefusesOver Restart (Spared amount total) rs = Unit {0}
+RefusesOver Restart (Tightened total) rs = Unit {0}
 RefusesOver Restart (Accepted gain) rs = Unit {0}
 RefusesOver Restart (Between lo hi) rs = Unit {0}
 RefusesOver Restart (Shares lower raise) rs = Unit {0}
@@ -146,6 +150,7 @@ RefusesOver (Abort txn) reply rs = Unit {0}
 RefusesOver (Give to field kind amount) reply rs = Unit {0}
 RefusesOver (Restate to field kind) reply rs = Unit {0}
 RefusesOver (Spare to field kind want) reply rs = Unit {0}
+RefusesOver (Tighten field kind amount) reply rs = Unit {0}
 RefusesOver (Accept told) reply rs = Unit {0}
 RefusesOver (Read field) reply rs = Unit {0}
 RefusesOver (Share field) reply rs = Unit {0}
@@ -183,6 +188,7 @@ Writes at command SaysAborted old new = new ≡ old ++ line_of at command
 Writes at command (Given total) old new = new ≡ old ++ line_of at command
 Writes at command (Stated total) old new = new ≡ old ++ line_of at command
 Writes at command (Spared amount total) old new = new ≡ old ++ line_of at command
+Writes at command (Tightened total) old new = new ≡ old ++ line_of at command
 Writes at command (Accepted gain) old new = new ≡ old ++ line_of at command
 Writes at command (Between lo hi) old new = new ≡ old ++ line_of at command
 Writes at command (Shares lower raise) old new = new ≡ old ++ line_of at command
@@ -206,6 +212,7 @@ foretold_after SaysAborted foretold = foretold
 foretold_after (Given total) foretold = foretold
 foretold_after (Stated total) foretold = foretold
 foretold_after (Spared amount total) foretold = foretold
+foretold_after (Tightened total) foretold = foretold
 foretold_after (Accepted gain) foretold = foretold
 foretold_after (Between lo hi) foretold = foretold
 foretold_after (Shares lower raise) foretold = foretold
@@ -234,6 +241,7 @@ reads_medium (Abort txn) = false
 reads_medium (Give to field kind amount) = false
 reads_medium (Restate to field kind) = false
 reads_medium (Spare to field kind want) = false
+reads_medium (Tighten field kind amount) = false
 reads_medium (Accept told) = false
 reads_medium (Read field) = false
 reads_medium (Share field) = false

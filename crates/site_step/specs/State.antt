@@ -4,7 +4,7 @@ use Rattle.field_bounds.specs.declared.kind.Kind.{Kind}
 use Rattle.field_bounds.specs.declared.id.TxnId.{TxnId}
 use Rattle.field_bounds.specs.declared.id.SiteNo.{SiteNo}
 use Rattle.field_bounds.specs.declared.entry.Command.{Command}
-use Rattle.field_bounds.specs.declared.entry.Command.TheVariants.{Begin, Escrow, Commit, Abort, Give, Restate, Spare, Accept, Read, Share, Restart}
+use Rattle.field_bounds.specs.declared.entry.Command.TheVariants.{Begin, Escrow, Commit, Abort, Give, Restate, Spare, Tighten, Accept, Read, Share, Restart}
 use Rattle.field_bounds.specs.declared.entry.Entry.{Entry}
 use Rattle.field_bounds.specs.Schema.{SchemaValue}
 use Rattle.field_bounds.specs.Limits.{IsSchema}
@@ -67,6 +67,7 @@ settled a (Escrow txn field change) = a
 settled a (Give to field kind amount) = a
 settled a (Restate to field kind) = a
 settled a (Spare to field kind want) = a
+settled a (Tighten field kind amount) = a
 settled a (Accept told) = a
 settled a (Read field) = a
 settled a (Share field) = a
@@ -77,6 +78,7 @@ abbrev pub readied : Accounts → Record → Accounts
 readied a (records.Commit txn escrows) = released txn a
 readied a (records.Gift to field kind total) = a
 readied a (records.Accept from field kind total) = a
+readied a (records.Tighten field kind total) = a
 readied a (records.Restart epoch) = a
 
 -- The transaction is open, and its escrows are held.
@@ -93,6 +95,7 @@ CanSettle a (Escrow txn field change) = Unit {0}
 CanSettle a (Give to field kind amount) = Unit {0}
 CanSettle a (Restate to field kind) = Unit {0}
 CanSettle a (Spare to field kind want) = Unit {0}
+CanSettle a (Tighten field kind amount) = Unit {0}
 CanSettle a (Accept told) = Unit {0}
 CanSettle a (Read field) = Unit {0}
 CanSettle a (Share field) = Unit {0}
@@ -102,6 +105,7 @@ abbrev pub CanReady : Accounts → Record → Type 0
 CanReady a (records.Commit txn escrows) = CanClose a txn
 CanReady a (records.Gift to field kind total) = Unit {0}
 CanReady a (records.Accept from field kind total) = Unit {0}
+CanReady a (records.Tighten field kind total) = Unit {0}
 CanReady a (records.Restart epoch) = Unit {0}
 
 -- The record can be taken in, once its transaction is released.
@@ -120,6 +124,7 @@ is_carried (Abort txn) = true
 is_carried (Give to field kind amount) = true
 is_carried (Restate to field kind) = true
 is_carried (Spare to field kind want) = true
+is_carried (Tighten field kind amount) = true
 is_carried (Accept told) = true
 is_carried (Read field) = true
 is_carried (Share field) = true

@@ -57,6 +57,7 @@ impl Accounts {
             | Command::Give { .. }
             | Command::Restate { .. }
             | Command::Spare { .. }
+            | Command::Tighten { .. }
             | Command::Accept(_)
             | Command::Read { .. }
             | Command::Share { .. }

@@ -13,6 +13,7 @@ mod keeping;
 mod ladder;
 mod opening;
 mod restart;
+mod tightening;
 
 use crate::accounts::Accounts;
 use escrow_journal::Journal;
@@ -171,14 +172,14 @@ impl<M: Medium> Site<M> {
     /// after its own entries. A refusal changes nothing but the history; after want of memory
     /// nothing has changed.
     ///
-    /// A Commit of a transaction with escrows, a Give, a Spare, and an Accept with a gain are answered
-    /// once their record stands whole on the medium. Where the device fails they are answered Unsure, and
-    /// a Restart that isn't answered StillDown: the site is then down. A Restart tells what became of
+    /// A Commit of a transaction with escrows, a Give, a Spare, a Tighten, and an Accept with a gain are
+    /// answered once their record stands whole on the medium. Where the device fails they are answered
+    /// Unsure, and a Restart that isn't answered StillDown: the site is then down. A Restart tells what became of
     /// the record in doubt.
     ///
     /// Costs a look through the open transactions, at most 64, for a command that names one, and
     /// one step for each escrow of a transaction that ends. A Give, a Restate, a Spare and an Accept look at
-    /// one total and at the rights on one field. What is written has the length of one record; its
+    /// one total and at the rights on one field, a Tighten at the rights on one field. What is written has the length of one record; its
     /// text is made in a buffer of the site, whose memory is used again. Nothing of that grows with
     /// the history, the number of fields or the number of sites. A Restart reads the whole medium, and
     /// takes in each record there.
@@ -197,6 +198,7 @@ impl<M: Medium> Site<M> {
             Give { to, field, kind, amount } => self.give(to, field, kind, amount),
             Restate { to, field, kind } => self.restate(to, field, kind),
             Spare { to, field, kind, want } => self.spare(to, field, kind, want),
+            Tighten { field, kind, amount } => self.tighten(field, kind, amount),
             Accept(told) => self.accept(told),
             Read { field } => self.read(field),
             Share { field } => self.tell_shares(field),

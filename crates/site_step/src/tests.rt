@@ -70,6 +70,14 @@ fn spare_raise(to: u16, want: u64) -> Command {
     }
 }
 
+fn tighten(kind: Kind, amount: u64) -> Command {
+    Command::Tighten {
+        field: STOCK,
+        kind,
+        amount,
+    }
+}
+
 fn restate_lower(to: u16) -> Command {
     Command::Restate {
         to: SiteNo(to),
@@ -153,6 +161,52 @@ fn spares_half_at_most(rt: HostRuntime) -> Result<(), Fail> {
     }
     assert_eq!(rt; answer(alloc, &mut site, spare_raise(0, 1)), Some(itself));
     assert_eq!(rt; site.share(STOCK), Some((20, 2)));
+    Ok(())
+}
+
+#[test]
+fn tightens(rt: HostRuntime) -> Result<(), Fail> {
+    let alloc = rt.alloc();
+    let mut site = site_of_two(&rt, alloc, 0)?;
+    let between = Reply::Between { lo: 20, hi: 70 };
+    let shares = Reply::Shares {
+        lower: 15,
+        raise: 30,
+    };
+    let short = Reply::Refused(Refusal::Short { share: 15 });
+    let share = Command::Share { field: STOCK };
+    let read = Command::Read { field: STOCK };
+    for (command, reply) in [
+        (tighten(Kind::Lower, 5), Reply::Tightened { total: 5 }),
+        (share, shares),
+        (read, between),
+        (tighten(Kind::Lower, 16), short),
+        (tighten(Kind::Raise, 30), Reply::Tightened { total: 30 }),
+        (read, between),
+        (tighten(Kind::Lower, 15), Reply::Tightened { total: 20 }),
+        (read, between),
+        (tighten(Kind::Lower, 0), Reply::Refused(Refusal::Zero)),
+    ] {
+        assert_eq!(rt; answer(alloc, &mut site, command), Some(reply));
+    }
+    assert_eq!(rt; site.share(STOCK), Some((0, 0)));
+    Ok(())
+}
+
+#[test]
+fn room_is_less_what_was_given_up(rt: HostRuntime) -> Result<(), Fail> {
+    let alloc = rt.alloc();
+    let mut site = site_of_two(&rt, alloc, 1)?;
+    let cut = Reply::Tightened { total: 20 };
+    let forged = Reply::Refused(Refusal::Forged { room: 50 });
+    let all = Reply::Accepted { gain: 50 };
+    assert_eq!(rt; answer(alloc, &mut site, tighten(Kind::Lower, 20)), Some(cut));
+    assert_eq!(rt;
+        answer(alloc, &mut site, accept_lower(0, 1, 51)),
+        Some(forged)
+    );
+    assert_eq!(rt; answer(alloc, &mut site, accept_lower(0, 1, 50)), Some(all));
+    assert_eq!(rt; site.interval(STOCK), Some((70, 70)));
     Ok(())
 }
 

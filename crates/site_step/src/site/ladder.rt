@@ -3,7 +3,7 @@
 ghost use Rattle.std.specs.Prelude.{◌≡◌, ◌&&◌, ◌∷◌, [], ◌<◌, ◌≤◌, nat_lt, true, None, length, pos, neg_ℤ, ◌+ℤ◌, ◌-ℤ◌, ◌≤ℤ◌};
 ghost use Rattle.field_bounds.specs.Effects.{is_begun, is_open};
 ghost use Rattle.field_bounds.specs.Limits.{max_quantity};
-ghost use Rattle.field_bounds.specs.Owed.{max_change, count_open, count_escrows, count_since, is_begun_reply, free, owned, down, no_field, no_transaction, interval_at, first, refusals, is_up};
+ghost use Rattle.field_bounds.specs.Owed.{max_change, count_open, count_escrows, count_since, is_begun_reply, free, guarded, down, no_field, no_transaction, interval_at, first, refusals, is_up};
 ghost use Rattle.site_step.specs.Site.{here, base_of};
 
 use super::Site;
@@ -76,13 +76,14 @@ impl<M: Medium> Site<M> {
         self.accounts.standing.rights.free(field, kind)
     }
 
-    pub(super) fn own(&self, field: FieldNo, kind: Kind) -> u64
+    /// What the site owns of a kind on the field, and what it has given up of it.
+    fn guarded(&self, field: FieldNo, kind: Kind) -> u64
         requires up { is_up (base_of self.now) self.now.history ≡ true }
         requires field_in { field.0 < length self.now.schema.fields }
-        ensures value { result ≡ owned (here self.now) field kind }
+        ensures value { result ≡ guarded (here self.now) field kind }
         ensures most { result ≤ max_change }
     {
-        self.accounts.standing.rights.own(field, kind)
+        self.accounts.standing.rights.guarded(field, kind)
     }
 
     /// The first refusal of a command's ladder that holds.
@@ -97,6 +98,7 @@ impl<M: Medium> Site<M> {
             Give { to, field, kind, amount } => self.give_refusal(to, field, kind, amount),
             Restate { to, field, kind } => self.restate_refusal(to, field, kind),
             Spare { to, field, kind, want } => self.spare_refusal(to, field, kind, want),
+            Tighten { field, kind, amount } => self.tighten_refusal(field, kind, amount),
             Accept(told) => self.accept_refusal(told),
             Read { field } => self.field_refusal(field),
             Share { field } => self.field_refusal(field),
@@ -148,8 +150,8 @@ impl<M: Medium> Site<M> {
         }
     }
 
-    /// The floor raised by the lowering rights that are left, and the ceiling lowered by the raising
-    /// rights that are left.
+    /// The schema's floor raised by what the site guards of its width below, and the schema's ceiling
+    /// lowered by what it guards above.
     pub(super) fn bounds_known(&self, field: FieldNo) -> (i64, i64)
         requires up { is_up (base_of self.now) self.now.history ≡ true }
         requires field_in { field.0 < length self.now.schema.fields }
@@ -157,8 +159,8 @@ impl<M: Medium> Site<M> {
     {
         let (floor, ceiling, _) = self.schema.bounds(field);
         (
-            raised(floor, self.own(field, Kind::Lower)),
-            lowered(ceiling, self.own(field, Kind::Raise)),
+            raised(floor, self.guarded(field, Kind::Lower)),
+            lowered(ceiling, self.guarded(field, Kind::Raise)),
         )
     }
 }

@@ -30,6 +30,12 @@ const GIVE_TWO: Command = Command::Give {
     amount: 2,
 };
 
+const TIGHTEN_TWO: Command = Command::Tighten {
+    field: STOCK,
+    kind: Kind::Lower,
+    amount: 2,
+};
+
 /// An open transaction is aborted by a restart, and numbers start anew in the new epoch.
 const OPEN_AT_A_RESTART: [Step; 5] = [
     (Mishap::Never, Command::Begin, Reply::Begun(FIRST)),
@@ -250,6 +256,40 @@ const OVER_KEPT_RECORDS: [Step; 11] = [
     ),
 ];
 
+/// Of 20 rights to lower 5 were given up, and 30 to raise; a restart knows them, and they go on from
+/// there.
+const KEPT_TIGHTENINGS: &str = "T 0 l 5\nT 0 r 30\n";
+
+const OVER_KEPT_TIGHTENINGS: [Step; 6] = [
+    (
+        Mishap::Never,
+        Command::Restart,
+        Reply::Restarted {
+            epoch: 1,
+            last: Last::Nothing,
+        },
+    ),
+    (
+        Mishap::Never,
+        SHARE,
+        Reply::Shares {
+            lower: 15,
+            raise: 0,
+        },
+    ),
+    (Mishap::Never, READ, Reply::Between { lo: 20, hi: 70 }),
+    (Mishap::Never, TIGHTEN_TWO, Reply::Tightened { total: 7 }),
+    (
+        Mishap::Never,
+        Command::Restart,
+        Reply::Restarted {
+            epoch: 2,
+            last: Last::Nothing,
+        },
+    ),
+    (Mishap::Never, READ, Reply::Between { lo: 20, hi: 70 }),
+];
+
 /// Under a mishap for reads a restart fails also where no epoch is left, and else it is refused,
 /// which leaves a torn end and a mishap for cuts.
 const LAST_EPOCH_UNDER_MISHAPS: [Step; 2] = [
@@ -315,6 +355,10 @@ fn opens_over_what_is_kept(rt: HostRuntime) {
         Some(11)
     );
     assert_eq!(rt;
+        count_told_over(alloc, KEPT_TIGHTENINGS, &OVER_KEPT_TIGHTENINGS),
+        Some(6)
+    );
+    assert_eq!(rt;
         count_told_over(alloc, "R 1000000000\nR 1", &LAST_EPOCH_UNDER_MISHAPS),
         Some(2)
     );
@@ -322,13 +366,16 @@ fn opens_over_what_is_kept(rt: HostRuntime) {
 }
 
 /// Logs of site 0, and the first line that is no record or breaks a rule.
-const BAD_LOGS: [(&str, u64); 6] = [
+const BAD_LOGS: [(&str, u64); 9] = [
     ("R 01\n", 1),
     ("R 1\nR 1\n", 2),
     ("C 0 1 0 -21\n", 1),
     ("G 1 0 l 5\nR 1\nhello\n", 3),
     ("G 0 0 l 5\nhello\n", 1),
     ("hello\nG 0 0 l 5\n", 1),
+    ("T 0 l 5\nT 0 l 5\n", 2),
+    ("T 0 l 21\n", 1),
+    ("T 0 l 20\nA 1 0 l 51\n", 2),
 ];
 
 /// The fault of an open over these bytes under a mishap, and whether the medium comes back with as
@@ -368,7 +415,7 @@ fn faults_of_open(rt: HostRuntime) {
     );
 }
 
-/// The share of lowering rights after a torn commit or gift and a restart, and what the restart says.
+/// The share of lowering rights after a torn command and a restart, and what the restart says.
 fn after_torn(
     alloc: Global,
     before: &[Command],
@@ -445,5 +492,25 @@ fn each_length_of_a_torn_spare(rt: HostRuntime) {
     for bytes in 11..13 {
         let after = after_torn(rt.alloc(), &[], spare_raise(1, 100), bytes);
         assert_eq!(rt; after, Some((kept, Some((20, 15)))));
+    }
+}
+
+#[test]
+fn each_length_of_a_torn_tightening(rt: HostRuntime) {
+    let lost = Reply::Restarted {
+        epoch: 1,
+        last: Last::Lost,
+    };
+    let kept = Reply::Restarted {
+        epoch: 1,
+        last: Last::Kept,
+    };
+    for bytes in 0..8 {
+        let after = after_torn(rt.alloc(), &[], tighten(Kind::Lower, 5), bytes);
+        assert_eq!(rt; after, Some((lost, Some((20, 30)))));
+    }
+    for bytes in 8..10 {
+        let after = after_torn(rt.alloc(), &[], tighten(Kind::Lower, 5), bytes);
+        assert_eq!(rt; after, Some((kept, Some((15, 30)))));
     }
 }

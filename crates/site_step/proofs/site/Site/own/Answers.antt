@@ -1,6 +1,0 @@
-use Rattle.std.proofs.Common.{◌∙◌}
-use Rattle.site_step.proofs.Calls.{tells_own}
-use Rattle.site_step.proofs.site.Site.own.Goals as goal
-
-pub returns-clause-value : goal.returns-clause-value
-returns-clause-value g c = c.own.ensures.value ∙ tells_own c.self.invariant c.self.view_is c.requires.up c.args.field c.args.kind c.requires.field_in
