@@ -9,10 +9,10 @@ use Rattle.field_bounds.specs.declared.entry.Entry.{Entry}
 use Rattle.field_bounds.specs.Schema.{SchemaValue}
 use Rattle.field_bounds.specs.Limits.{IsSchema}
 use Rattle.field_bounds.specs.Parts.{field_at, width_of, sum_below}
-use Rattle.field_bounds.specs.Effects.{fresh, own_rights}
+use Rattle.field_bounds.specs.Effects.{fresh, cut, own_rights}
 use Rattle.field_bounds.specs.Owed.{place, gain_of, room}
 use Rattle.field_bounds.specs.Statements.{IsIssued}
-use Rattle.field_bounds.specs.Central.{own, at_site, is_open_in, open_sizes, shares, in_flight, given_between, accepted_between, IsSound}
+use Rattle.field_bounds.specs.Central.{own, at_site, is_open_in, open_sizes, shares, cuts, in_flight, given_between, accepted_between, IsSound}
 use Rattle.field_bounds.proofs.Sums.{term_below}
 use Rattle.field_bounds.proofs.Ledgers.{issued_is_covered}
 use Rattle.field_bounds.proofs.Conserved.{is_ordered, conserved, traced, free_of, open_of}
@@ -32,9 +32,13 @@ module _ (schema : SchemaValue) (good : IsSchema schema) (t : List Entry) (sound
         term_below schema.sites (open_of schema good t sound f k) s below,
       )
 
-  -- what a site has, with what is in flight to anyone, is within the width
+  cut_within : (s : ℕ) → s < schema.sites → (f : ℕ) (k : Kind) → cut (fresh schema s) f k (at_site schema t s) ≤ cuts schema t f k
+  cut_within s below f k = term_below schema.sites (λ i. cut (fresh schema i) f k (at_site schema t i)) s below
+
+  -- what a site has and has given up, with what is in flight to anyone, is within the width
   within_width : (s : ℕ) → s < schema.sites → (f : ℕ)
-      → own_rights (fresh schema s) f Lower (at_site schema t s) + own_rights (fresh schema s) f Raise (at_site schema t s) + in_flight schema t f Lower + in_flight schema t f Raise ≤ width_of (field_at schema f)
+      → own_rights (fresh schema s) f Lower (at_site schema t s) + own_rights (fresh schema s) f Raise (at_site schema t s) + in_flight schema t f Lower + in_flight schema t f Raise
+      + cut (fresh schema s) f Lower (at_site schema t s) + cut (fresh schema s) f Raise (at_site schema t s) ≤ width_of (field_at schema f)
   within_width s below f =
       let ordered = is_ordered schema good f in
       omega (
@@ -43,6 +47,8 @@ module _ (schema : SchemaValue) (good : IsSchema schema) (t : List Entry) (sound
         conserved schema good t sound f Raise,
         own_within s below f Lower,
         own_within s below f Raise,
+        cut_within s below f Lower,
+        cut_within s below f Raise,
         width_is (field_at schema f).floor (field_at schema f).value (field_at schema f).ceiling ordered.floor ordered.ceiling,
       )
 

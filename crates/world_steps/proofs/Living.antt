@@ -24,7 +24,7 @@ use Rattle.world_steps.specs.Promises.{IsOneStore}
 use Rattle.world_steps.specs.Standing.{AllStand}
 use Rattle.world_steps.specs.Kept.{steps_kept, SameKept}
 use Rattle.world_steps.specs.View.{WorldValue, trace_of, IsWorld}
-use Rattle.world_steps.proofs.Sound.{StepsFit, step_allows, world_is_sound, bounded_throughout, outcomes_throughout, none_strange}
+use Rattle.world_steps.proofs.Sound.{StepsFit, step_allows, world_is_sound, bounded_throughout, outcomes_throughout, only_tighten, none_strange}
 
 -- ---- what is kept of the steps
 
@@ -144,6 +144,7 @@ one_store schema good steps fit =
       conserved = conserved_throughout schema good _ sound;
       bounded = bounded;
       outcomes = outcomes_throughout schema good _ sound;
+      tighter = only_tighten schema _;
       none_strange = none_strange schema good steps fit;
     }
 

@@ -1,7 +1,9 @@
 -- The trace of a world is sound, and what follows from that.
-use Rattle.std.proofs.Common.{◌≡◌, ℕ, ◌<◌, false, List, [], ◌∷◌, refl, subst, Option, Some, None}
+use Rattle.std.proofs.Common.{◌≡◌, ℕ, ◌<◌, false, List, [], ◌∷◌, refl, subst, arith, Option, Some, None}
+use Rattle.std.proofs.lemmas.Int.{ints}
 use Rattle.std.proofs.lemmas.Option.{same_Some}
 use Rattle.field_bounds.specs.declared.id.SiteNo.{SiteNo}
+use Rattle.field_bounds.specs.declared.kind.Kind.TheVariants.{Lower, Raise}
 use Rattle.field_bounds.specs.declared.entry.Statement.{Statement}
 use Rattle.field_bounds.specs.declared.entry.Command.{Command}
 use Rattle.field_bounds.specs.declared.entry.Command.TheVariants.{Accept}
@@ -16,6 +18,7 @@ use Rattle.field_bounds.specs.Statements.{IsIssued}
 use Rattle.field_bounds.specs.Central.{own, StatementRule, IsSound}
 use Rattle.field_bounds.proofs.Traces.{sound_front}
 use Rattle.field_bounds.proofs.Headline.{within_bounds, outcomes_are_bounded}
+use Rattle.field_bounds.proofs.Ledgers.{cuts_grow}
 use Rattle.field_bounds.proofs.Sound.{sound_empty, sound_more}
 use Rattle.kept_state.specs.declared.luck.Luck.{Luck}
 use Rattle.kept_state.specs.Luck.{Lucky, entries, own_lucky, lucky_reply}
@@ -23,7 +26,7 @@ use Rattle.kept_state.proofs.Lucky.{lucky_fits, own_entries}
 use Rattle.world_steps.specs.declared.step.WorldStep.{WorldStep}
 use Rattle.world_steps.specs.declared.step.WorldStep.TheVariants.{Do, Deliver}
 use Rattle.world_steps.specs.World.{issued, numbered, delivered, asked, luck_of, is_accept, StepFits, with_entry, world_of}
-use Rattle.world_steps.specs.Promises.{IsBoundedThroughout, OutcomesAreBoundedThroughout, NoneStrange}
+use Rattle.world_steps.specs.Promises.{IsBoundedThroughout, OutcomesAreBoundedThroughout, BoundsOnlyTighten, NoneStrange}
 use Rattle.world_steps.proofs.Issued.{issued_to, numbered_is_issued}
 use Rattle.world_steps.proofs.Strange.{familiar_step}
 
@@ -98,6 +101,12 @@ module _ (schema : SchemaValue) where
   outcomes_throughout good [] sound = outcomes_are_bounded schema good [] sound
   outcomes_throughout good (e ∷ t) sound =
       (outcomes_throughout good t (sound_front schema e t sound), outcomes_are_bounded schema good (e ∷ t) sound)
+
+  -- and no bound is loosened from one front to the next
+  pub only_tighten : (t : List Entry) → BoundsOnlyTighten schema t
+  only_tighten [] = tt
+  only_tighten (e ∷ t) =
+      (only_tighten t, λ f. (omega (arith, ints, cuts_grow schema (e ∷ []) t f Lower), omega (arith, ints, cuts_grow schema (e ∷ []) t f Raise)))
 
   strange_more : IsSchema schema → (past : List Lucky) → IsSound schema (entries past) → NoneStrange (entries past) → (step : WorldStep) → StepFits schema step
       → (found : Option (SiteNo × Command)) → asked (entries past) step ≡ found → NoneStrange (entries (with_entry schema found (luck_of step) past))

@@ -1,7 +1,7 @@
 -- What is promised of every trace of a world, beside what makes it a run of one central store (this project).
 use Rattle.std.specs.Prelude.{◌≡◌, ℕ, ◌≤ℤ◌, Bool, true, false, List, [], ◌∷◌}
 use Rattle.field_bounds.specs.declared.entry.Reply.{Reply}
-use Rattle.field_bounds.specs.declared.entry.Reply.TheVariants.{Begun, Granted, Committed, Aborted, Given, Stated, Spared, Accepted, Between, Shares, Restarted, Unsure, StillDown, Refused}
+use Rattle.field_bounds.specs.declared.entry.Reply.TheVariants.{Begun, Granted, Committed, Aborted, Given, Stated, Spared, Tightened, Accepted, Between, Shares, Restarted, Unsure, StillDown, Refused}
 use Rattle.field_bounds.specs.declared.entry.Refusal.{Refusal}
 use Rattle.field_bounds.specs.declared.entry.Refusal.TheVariants.{Down, NoSite, NoField, NoTransaction, Zero, TooLarge, Short, SelfGift, LedgerFull, NotYours, Forged, TooManyOpen, TooManyEscrows, NumbersFull, NothingGiven}
 use Rattle.field_bounds.specs.declared.entry.Entry.{Entry}
@@ -24,6 +24,14 @@ IsBoundedThroughout schema (e ∷ t) = IsBoundedThroughout schema t × IsBounded
 abbrev pub OutcomesAreBoundedThroughout : SchemaValue → List Entry → Type 0
 OutcomesAreBoundedThroughout schema [] = OutcomesAreBounded schema []
 OutcomesAreBoundedThroughout schema (e ∷ t) = OutcomesAreBoundedThroughout schema t × OutcomesAreBounded schema (e ∷ t)
+
+-- In every front of a trace each field's floor is at least, and its ceiling at most, what it was in the front before: no
+-- bound is ever loosened (this project).
+abbrev pub BoundsOnlyTighten : SchemaValue → List Entry → Type 0
+BoundsOnlyTighten schema [] = Unit {0}
+BoundsOnlyTighten schema (e ∷ t) =
+    BoundsOnlyTighten schema t
+    × ((f : ℕ) → (floor_in schema t f ≤ℤ floor_in schema (e ∷ t) f) × (ceiling_in schema (e ∷ t) f ≤ℤ ceiling_in schema t f))
 
 -- The refusals of a statement that is another site's, and of one that tells of more rights than there is room for.
 abbrev pub is_strange : Refusal → Bool
@@ -53,6 +61,7 @@ IsFamiliar Aborted = Unit {0}
 IsFamiliar (Given total) = Unit {0}
 IsFamiliar (Stated total) = Unit {0}
 IsFamiliar (Spared amount total) = Unit {0}
+IsFamiliar (Tightened total) = Unit {0}
 IsFamiliar (Accepted gain) = Unit {0}
 IsFamiliar (Between lo hi) = Unit {0}
 IsFamiliar (Shares lower raise) = Unit {0}
@@ -67,12 +76,13 @@ NoneStrange (e ∷ t) = NoneStrange t × IsFamiliar e.reply
 
 -- A trace is one of a world: each site gave the replies that it owes after its own entries and took in only statements
 -- that were issued before, the trace is a run of one central store, in every front rights are conserved, each field is
--- bounded, and however the open transactions end it is left within its bounds, and no statement is refused as another
--- site's or as forged.
+-- bounded, and however the open transactions end it is left within its bounds, no bound is ever loosened, and no statement
+-- is refused as another site's or as forged.
 pub record IsOneStore (schema : SchemaValue) (t : List Entry) : Type 0 where
   pub sound : IsSound schema t
   pub central : IsCentral schema t
   pub conserved : IsConservedThroughout schema t
   pub bounded : IsBoundedThroughout schema t
   pub outcomes : OutcomesAreBoundedThroughout schema t
+  pub tighter : BoundsOnlyTighten schema t
   pub none_strange : NoneStrange t

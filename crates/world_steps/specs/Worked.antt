@@ -7,11 +7,12 @@ use Rattle.field_bounds.specs.declared.entry.Command.{Command}
 use Rattle.field_bounds.specs.declared.entry.Command.TheVariants.{Begin, Commit, Restate, Read, Share, Restart}
 use Rattle.field_bounds.specs.declared.entry.Last.TheVariants.{Nothing, Kept, Lost}
 use Rattle.field_bounds.specs.declared.entry.Reply.{Reply}
-use Rattle.field_bounds.specs.declared.entry.Reply.TheVariants.{Begun, Granted, Given, Stated, Accepted, Between, Shares, Restarted, Unsure, StillDown, Refused}
+use Rattle.field_bounds.specs.declared.entry.Reply.TheVariants.{Begun, Granted, Given, Stated, Tightened, Accepted, Between, Shares, Restarted, Unsure, StillDown, Refused}
 use Rattle.field_bounds.specs.declared.entry.Refusal.TheVariants.{Down, NoTransaction, NoField, Zero, Short, SelfGift, NothingGiven}
 use Rattle.field_bounds.specs.declared.entry.Entry.{Entry}
 use Rattle.field_bounds.specs.Worked.{halved, stock, unknown, txn, lower_by, asked}
 use Rattle.field_bounds.specs.WorkedGifts.{site, give_lower}
+use Rattle.field_bounds.specs.WorkedTightenings.{raise_floor, lower_ceiling}
 use Rattle.kept_state.specs.declared.luck.Luck.TheVariants.{Fine, Torn}
 use Rattle.world_steps.specs.declared.step.WorldStep.{WorldStep}
 use Rattle.world_steps.specs.declared.step.WorldStep.TheVariants.{Do, Deliver}
@@ -170,6 +171,44 @@ read_elsewhere =
     ∷ fine 1 (Read stock) (Between (pos 20) (pos 70))
     ∷ fine 0 Restart (Restarted 1 Kept)
     ∷ fine 1 (Read stock) (Between (pos 20) (pos 70))
+    ∷ []
+
+-- ---- bounds that are tightened
+
+-- Both bounds are tightened at site 0: its share is less by that, and what it reads stays as it was.
+abbrev pub tightened : Row
+tightened =
+    fine 0 (raise_floor 5) (Tightened 5)
+    ∷ fine 0 (Share stock) (Shares 15 30)
+    ∷ fine 0 (Read stock) (Between (pos 20) (pos 70))
+    ∷ fine 0 (raise_floor 16) (Refused (Short 15))
+    ∷ fine 0 (lower_ceiling 30) (Tightened 30)
+    ∷ fine 0 (Read stock) (Between (pos 20) (pos 70))
+    ∷ []
+
+-- Both sites give up all their rights to lower: at neither can the field be lowered any more.
+abbrev pub none_left : Row
+none_left =
+    fine 0 (raise_floor 20) (Tightened 20)
+    ∷ fine 1 (raise_floor 20) (Tightened 20)
+    ∷ fine 0 Begin (Begun (txn 1))
+    ∷ fine 0 (lower_by 1 1) (Refused (Short 0))
+    ∷ []
+
+-- The record of a tightening, `T 0 l 5`, has 8 bytes: all are kept, and the rights are gone.
+abbrev pub cut_kept : Row
+cut_kept =
+    torn 0 (raise_floor 5) 8 Unsure
+    ∷ fine 0 Restart (Restarted 1 Kept)
+    ∷ fine 0 (Share stock) (Shares 15 30)
+    ∷ []
+
+-- 7 of them are kept, and the rights are free.
+abbrev pub cut_lost : Row
+cut_lost =
+    torn 0 (raise_floor 5) 7 Unsure
+    ∷ fine 0 Restart (Restarted 1 Lost)
+    ∷ fine 0 (Share stock) (Shares 20 30)
     ∷ []
 
 -- ---- refusals

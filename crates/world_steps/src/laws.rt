@@ -6,7 +6,7 @@ ghost use Rattle.field_bounds.specs.Limits.{IsSchema};
 ghost use Rattle.field_bounds.specs.Central.{IsSound, IsCentral, IsConservedThroughout};
 ghost use Rattle.world_steps.specs.declared.step.WorldStep.{WorldStep};
 ghost use Rattle.world_steps.specs.World.{StepFits, trace_by};
-ghost use Rattle.world_steps.specs.Promises.{IsBoundedThroughout, OutcomesAreBoundedThroughout, NoneStrange};
+ghost use Rattle.world_steps.specs.Promises.{IsBoundedThroughout, OutcomesAreBoundedThroughout, BoundsOnlyTighten, NoneStrange};
 
 /// The trace of every list of steps that a world takes is a run of one central store, whatever the
 /// luck of each step: for callers that hold steps and traces as definitions alone. The clauses are
@@ -25,6 +25,8 @@ pub fn every_world_is_one_store()
         IsSchema schema → All (StepFits schema) steps → IsBoundedThroughout schema (trace_by schema steps) }
     ensures outcomes { (schema : SchemaValue) (steps : List WorldStep) →
         IsSchema schema → All (StepFits schema) steps → OutcomesAreBoundedThroughout schema (trace_by schema steps) }
+    ensures tighter { (schema : SchemaValue) (steps : List WorldStep) →
+        IsSchema schema → All (StepFits schema) steps → BoundsOnlyTighten schema (trace_by schema steps) }
     ensures none_strange { (schema : SchemaValue) (steps : List WorldStep) →
         IsSchema schema → All (StepFits schema) steps → NoneStrange (trace_by schema steps) }
 {}

@@ -1,17 +1,18 @@
 //! Worked rows of a world, computed against the definitions, each as a clause of a function that does
 //! nothing. Of a field from 0 to 100 at 40, each of two sites has 20 rights to lower and 30 to raise it.
 
-ghost use Rattle.std.specs.Prelude.{◌∷◌, take, None};
+ghost use Rattle.std.specs.Prelude.{◌∷◌, reverse, take, None};
 ghost use Rattle.field_bounds.specs.declared.entry.Command.TheVariants.{Abort, Restart, Share};
 ghost use Rattle.field_bounds.specs.declared.entry.Last.TheVariants.{Nothing, Kept, Lost};
 ghost use Rattle.field_bounds.specs.declared.entry.Refusal.TheVariants.{NotYours};
-ghost use Rattle.field_bounds.specs.declared.entry.Reply.TheVariants.{Aborted, Accepted, Restarted, Shares, Refused, StillDown};
+ghost use Rattle.field_bounds.specs.declared.entry.Reply.TheVariants.{Granted, Aborted, Accepted, Restarted, Shares, Refused, StillDown};
 ghost use Rattle.field_bounds.specs.Worked.{halved, stock, txn, lower_by, raise_by, asked};
+ghost use Rattle.field_bounds.specs.WorkedTightenings.{over_cut};
 ghost use Rattle.kept_state.specs.declared.luck.Luck.TheVariants.{Fine};
 ghost use Rattle.world_steps.specs.declared.step.WorldStep.TheVariants.{Deliver};
 ghost use Rattle.field_bounds.specs.Central.{OutcomesAreBounded};
 ghost use Rattle.world_steps.specs.Promises.{OutcomesAreBoundedThroughout};
-ghost use Rattle.world_steps.specs.Worked.{fine, delivered, Comes, NeverComes, passed_on, out_of_order, aborted, lost, kept, kept_late, epoch_used, gift_kept, taken_in, taken_in_late, read_elsewhere, refused, granted};
+ghost use Rattle.world_steps.specs.Worked.{fine, delivered, Comes, NeverComes, passed_on, out_of_order, aborted, lost, kept, kept_late, epoch_used, gift_kept, taken_in, taken_in_late, read_elsewhere, tightened, none_left, cut_kept, cut_lost, refused, granted};
 
 /// The steps of these rows make a trace of these replies.
 ///
@@ -28,6 +29,10 @@ pub fn worked_worlds()
     ensures taken_in { Comes taken_in }
     ensures taken_in_late { Comes taken_in_late }
     ensures read_elsewhere { Comes read_elsewhere }
+    ensures tightened { Comes tightened }
+    ensures none_left { Comes none_left }
+    ensures cut_kept { Comes cut_kept }
+    ensures cut_lost { Comes cut_lost }
     ensures refused { Comes refused }
 {}
 
@@ -35,8 +40,9 @@ pub fn worked_worlds()
 /// a statement used up by its first delivery, one refused as another site's, the total of the later
 /// statement counted again, a commit of which a byte was lost told as kept, one that is whole told as
 /// lost, an epoch that no restart kept, the epoch that a failed restart kept, a restart that fails
-/// though its append is whole, an acceptance that was kept counted again, and rights that two
-/// deliveries told counted twice.
+/// though its append is whole, an acceptance that was kept counted again, rights that two deliveries
+/// told counted twice, an escrow granted past a floor that both sites raised, and a tightening of
+/// which a byte was lost told as kept.
 ///
 /// Source: this project.
 pub fn wrong_worlds()
@@ -50,17 +56,21 @@ pub fn wrong_worlds()
     ensures epoch_again { NeverComes (take 1 epoch_used) (fine 0 Restart (Restarted 1 Nothing)) }
     ensures fails { NeverComes (take 4 kept) (fine 0 Restart StillDown) }
     ensures accepted_again { NeverComes (take 4 taken_in) (delivered (Accepted 5)) }
+    ensures past_the_floor { NeverComes (take 3 none_left) (fine 0 (lower_by 1 1) Granted) }
+    ensures torn_cut_kept { NeverComes (take 1 cut_lost) (fine 0 Restart (Restarted 1 Kept)) }
     ensures counted_twice { NeverComes (take 5 taken_in_late) (fine 1 (Share stock) (Shares 30 30)) }
 {}
 
 /// What keeps no promise of `outcomes`: one right to lower too many was granted, so that the field
 /// would end below its floor were the transaction committed (`below`); the same with a right to
-/// raise (`above`); and a trace in which that transaction was aborted since, as its fronts are held
-/// to the promise too (`before`).
+/// raise (`above`); an escrow granted below a floor that tightenings raised (`tightened`); and a trace
+/// in which the first transaction was aborted since, as its fronts are held to the promise too
+/// (`before`).
 ///
 /// Source: this project.
 pub fn wrong_outcomes()
     ensures below { ¬ OutcomesAreBounded halved (granted (lower_by 1 41)) }
     ensures above { ¬ OutcomesAreBounded halved (granted (raise_by 1 61)) }
+    ensures tightened { ¬ OutcomesAreBounded halved (reverse over_cut) }
     ensures before { ¬ OutcomesAreBoundedThroughout halved (asked (Abort (txn 1)) Aborted ∷ granted (lower_by 1 41)) }
 {}

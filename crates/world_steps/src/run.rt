@@ -3,7 +3,7 @@
 ghost use Rattle.std.specs.Prelude.{◌≡◌, All, IfOk, reverse};
 ghost use Rattle.field_bounds.specs.Central.{IsSound, IsCentral, IsConservedThroughout};
 ghost use Rattle.world_steps.specs.World.{StepFits, trace_by};
-ghost use Rattle.world_steps.specs.Promises.{IsBoundedThroughout, OutcomesAreBoundedThroughout, NoneStrange};
+ghost use Rattle.world_steps.specs.Promises.{IsBoundedThroughout, OutcomesAreBoundedThroughout, BoundsOnlyTighten, NoneStrange};
 
 use crate::step::WorldStep;
 use crate::world::World;
@@ -22,6 +22,9 @@ use std::alloc::{AllocError, Global};
 /// every field lies within its floor and ceiling (`outcomes`). No statement is refused as another
 /// site's or as forged (`none_strange`).
 ///
+/// A tightening that was answered is held to the same test as an escrow, and the bounds are those of
+/// the trace so far: no later front loosens one (`tighter`).
+///
 /// The error is want of memory. Costs what each step costs.
 ///
 /// Source: O'Neil 1986 for infimum, supremum and the test of a grant, Balegas and others 2015 for
@@ -38,6 +41,7 @@ pub fn run_world(
     ensures conserved { IfOk result (λ trace. IsConservedThroughout schema (reverse trace.items)) }
     ensures bounded { IfOk result (λ trace. IsBoundedThroughout schema (reverse trace.items)) }
     ensures outcomes { IfOk result (λ trace. OutcomesAreBoundedThroughout schema (reverse trace.items)) }
+    ensures tighter { IfOk result (λ trace. BoundsOnlyTighten schema (reverse trace.items)) }
     ensures none_strange { IfOk result (λ trace. NoneStrange (reverse trace.items)) }
 {
     let mut world = World::new(alloc, schema)?;

@@ -7,7 +7,7 @@ ghost use Rattle.field_bounds.specs.Owed.{place, shares_of};
 ghost use Rattle.field_bounds.specs.Central.{own, IsSound, IsCentral, IsConservedThroughout};
 ghost use Rattle.world_steps.specs.World.{issued, StepFits};
 ghost use Rattle.world_steps.specs.Standing.{Stands, AllStand};
-ghost use Rattle.world_steps.specs.Promises.{IsBoundedThroughout, OutcomesAreBoundedThroughout, NoneStrange, IsOneStore};
+ghost use Rattle.world_steps.specs.Promises.{IsBoundedThroughout, OutcomesAreBoundedThroughout, BoundsOnlyTighten, NoneStrange, IsOneStore};
 ghost use Rattle.world_steps.specs.View.{trace_of, Answers};
 
 use crate::kept::KeptSteps;
@@ -142,8 +142,10 @@ impl World {
     /// ceiling, by exactly the free rights of all sites and those in flight, and no site has accepted
     /// more than it was given (`conserved`); so the infimum is never below the floor, nor the supremum
     /// above the ceiling (`bounded`): whichever of the open transactions are committed and whichever
-    /// aborted, the value of every field lies within its floor and ceiling (`outcomes`). And no
-    /// statement is refused as another site's, or as forged (`none_strange`). Costs no memory.
+    /// aborted, the value of every field lies within its floor and ceiling (`outcomes`). Floor and
+    /// ceiling are those of the trace so far, which tightenings move inwards, and nothing moves
+    /// outwards (`tighter`). And no statement is refused as another site's, or as forged
+    /// (`none_strange`). Costs no memory.
     ///
     /// Source: O'Neil 1986 for infimum, supremum and the test of a grant, Balegas and others 2015 for
     /// rights that are divided among sites and transferred, this project for the theorem.
@@ -154,6 +156,7 @@ impl World {
         ensures conserved { IsConservedThroughout self.now.schema (trace_of self.now) }
         ensures bounded { IsBoundedThroughout self.now.schema (trace_of self.now) }
         ensures outcomes { OutcomesAreBoundedThroughout self.now.schema (trace_of self.now) }
+        ensures tighter { BoundsOnlyTighten self.now.schema (trace_of self.now) }
         ensures none_strange { NoneStrange (trace_of self.now) }
     {
         &self.trace

@@ -99,3 +99,85 @@ fn worked_gifts(rt: HostRuntime) -> Result<(), Fail> {
     assert_eq!(rt; comes(alloc, &REFUSED), Some(true));
     Ok(())
 }
+
+const TIGHTEN_FIVE: Command = Command::Tighten {
+    field: STOCK,
+    kind: Kind::Lower,
+    amount: 5,
+};
+
+const TIGHTEN_SIXTEEN: Command = Command::Tighten {
+    field: STOCK,
+    kind: Kind::Lower,
+    amount: 16,
+};
+
+const TIGHTEN_TWENTY: Command = Command::Tighten {
+    field: STOCK,
+    kind: Kind::Lower,
+    amount: 20,
+};
+
+const TIGHTEN_RAISE: Command = Command::Tighten {
+    field: STOCK,
+    kind: Kind::Raise,
+    amount: 30,
+};
+
+const BETWEEN: Reply = Reply::Between { lo: 20, hi: 70 };
+
+const LESS: Reply = Reply::Shares {
+    lower: 15,
+    raise: 30,
+};
+
+/// Both bounds are tightened at site 0; what it reads stays as it was.
+const TIGHTENED: [Told; 6] = [
+    Asked(0, TIGHTEN_FIVE, Luck::Fine, Reply::Tightened { total: 5 }),
+    Asked(0, SHARE, Luck::Fine, LESS),
+    Asked(0, READ, Luck::Fine, BETWEEN),
+    Asked(
+        0,
+        TIGHTEN_SIXTEEN,
+        Luck::Fine,
+        Reply::Refused(Refusal::Short { share: 15 }),
+    ),
+    Asked(
+        0,
+        TIGHTEN_RAISE,
+        Luck::Fine,
+        Reply::Tightened { total: 30 },
+    ),
+    Asked(0, READ, Luck::Fine, BETWEEN),
+];
+
+/// What was given up at one site leaves the other's share and interval as they were.
+const TIGHTENED_ELSEWHERE: [Told; 4] = [
+    Asked(
+        0,
+        TIGHTEN_TWENTY,
+        Luck::Fine,
+        Reply::Tightened { total: 20 },
+    ),
+    Asked(1, READ, Luck::Fine, BETWEEN),
+    Asked(
+        1,
+        TIGHTEN_TWENTY,
+        Luck::Fine,
+        Reply::Tightened { total: 20 },
+    ),
+    Asked(
+        1,
+        TIGHTEN_FIVE,
+        Luck::Fine,
+        Reply::Refused(Refusal::Short { share: 0 }),
+    ),
+];
+
+#[test]
+fn worked_tightenings(rt: HostRuntime) -> Result<(), Fail> {
+    let alloc = rt.alloc();
+    assert_eq!(rt; comes(alloc, &TIGHTENED), Some(true));
+    assert_eq!(rt; comes(alloc, &TIGHTENED_ELSEWHERE), Some(true));
+    Ok(())
+}

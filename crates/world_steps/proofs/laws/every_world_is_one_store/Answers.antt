@@ -8,5 +8,6 @@ returns c = record {
   conserved = λ schema steps good fit. (one_store_of schema good steps fit).conserved;
   bounded = λ schema steps good fit. (one_store_of schema good steps fit).bounded;
   outcomes = λ schema steps good fit. (one_store_of schema good steps fit).outcomes;
+  tighter = λ schema steps good fit. (one_store_of schema good steps fit).tighter;
   none_strange = λ schema steps good fit. (one_store_of schema good steps fit).none_strange;
 }

@@ -16,5 +16,9 @@ returns c = record {
   taken_in = refl;
   taken_in_late = refl;
   read_elsewhere = refl;
+  tightened = refl;
+  none_left = refl;
+  cut_kept = refl;
+  cut_lost = refl;
   refused = refl;
 }

@@ -12,3 +12,7 @@ returns-clause-whole_lost c = λ e. cc
 pub returns-clause-epoch_again : goal.returns-clause-epoch_again
 unfolding digits
 returns-clause-epoch_again c = λ e. cc
+
+pub returns-clause-torn_cut_kept : goal.returns-clause-torn_cut_kept
+unfolding digits
+returns-clause-torn_cut_kept c = λ e. cc

@@ -16,5 +16,8 @@ returns-clause-bounded c = (one_store_seen _ _ _ _ _ _ c.self.invariant c.self.v
 pub returns-clause-outcomes : goal.returns-clause-outcomes
 returns-clause-outcomes c = (one_store_seen _ _ _ _ _ _ c.self.invariant c.self.view_is).outcomes
 
+pub returns-clause-tighter : goal.returns-clause-tighter
+returns-clause-tighter c = (one_store_seen _ _ _ _ _ _ c.self.invariant c.self.view_is).tighter
+
 pub returns-clause-none_strange : goal.returns-clause-none_strange
 returns-clause-none_strange c = (one_store_seen _ _ _ _ _ _ c.self.invariant c.self.view_is).none_strange
