@@ -1,6 +1,9 @@
 pub mod LineLemmas
 pub mod StepLemmas
 pub mod LuckLemmas
+pub mod LevelLines
+pub mod LevelLemmas
+pub mod AnswerLemmas
 pub mod TextLemmas
 pub mod RunLemmas
 pub mod PieceLemmas

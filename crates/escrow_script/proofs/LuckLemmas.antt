@@ -27,14 +27,14 @@ use Rattle.escrow_script.proofs.StepLemmas.{head_is, tail_is, decimal_one}
 
 -- ---- the last space of a line
 
-abbrev IsUnspaced : List ℕ → Type 0
+abbrev pub IsUnspaced : List ℕ → Type 0
 IsUnspaced w = All (λ b. b ≢ 32) w
 
-has_space : (w front back : List ℕ) → IsUnspaced w → w ≡ front ++ 32 ∷ back → ⊥
+pub has_space : (w front back : List ℕ) → IsUnspaced w → w ≡ front ++ 32 ∷ back → ⊥
 has_space w front back h e =
     h (length front) 0 (omega (arith, ap length e, length-append front (32 ∷ back))) (ap (λ (l : List ℕ). get_or l (length front) 0) e ∙ get_or-append_seam front 32 back 0)
 
-last_word : (a w b v : List ℕ) → IsUnspaced w → IsUnspaced v → a ++ 32 ∷ w ≡ b ++ 32 ∷ v → (a ≡ b) × (w ≡ v)
+pub last_word : (a w b v : List ℕ) → IsUnspaced w → IsUnspaced v → a ++ 32 ∷ w ≡ b ++ 32 ∷ v → (a ≡ b) × (w ≡ v)
 last_word [] w [] v hw hv e = (refl, tail_is 32 32 w v e)
 last_word [] w (c ∷ b) v hw hv e = absurd (has_space w b v hw (tail_is 32 c w (b ++ 32 ∷ v) e))
 last_word (c ∷ a) w [] v hw hv e = absurd (has_space v a w hv (sym (tail_is c 32 (a ++ 32 ∷ w) v e)))
@@ -42,7 +42,7 @@ last_word (c ∷ a) w (d ∷ b) v hw hv e =
     let rest = last_word a w b v hw hv (tail_is c d _ _ e) in
     (ap (λ (x : ℕ). x ∷ a) (head_is c d _ _ e) ∙ ap (λ (l : List ℕ). d ∷ l) rest.0, rest.1)
 
-word_unspaced : (w : List ℕ) → IsWord w → AllByRecursion (λ b. b ≢ 32) w
+pub word_unspaced : (w : List ℕ) → IsWord w → AllByRecursion (λ b. b ≢ 32) w
 word_unspaced [] h = tt
 word_unspaced (b ∷ w) h = ((λ e. omega (arith, h.0)), word_unspaced w h.1)
 
@@ -78,16 +78,16 @@ if_none (Some x) P h = tt
 
 -- ---- what a line without luck asks
 
-no_digit : (w : List ℕ) (ws : List (List ℕ)) (rest : List ℕ) → AllDigits 10 w → 0 < length w → line (w ∷ ws) ≡ 100 ∷ rest → ⊥
-no_digit [] ws rest all some e = omega arith
-no_digit (b ∷ w) [] rest all some e = omega (arith, (digit_from_value b all.0).1, head_is b 100 w rest e)
-no_digit (b ∷ w) (v ∷ ws) rest all some e = omega (arith, (digit_from_value b all.0).1, head_is b 100 (w ++ (32 ∷ line (v ∷ ws))) rest e)
+pub no_digit : (letter : ℕ) → 57 < letter → (w : List ℕ) (ws : List (List ℕ)) (rest : List ℕ) → AllDigits 10 w → 0 < length w → line (w ∷ ws) ≡ letter ∷ rest → ⊥
+no_digit letter high [] ws rest all some e = omega arith
+no_digit letter high (b ∷ w) [] rest all some e = omega (arith, (digit_from_value b all.0).1, head_is b letter w rest e)
+no_digit letter high (b ∷ w) (v ∷ ws) rest all some e = omega (arith, (digit_from_value b all.0).1, head_is b letter (w ++ (32 ∷ line (v ∷ ws))) rest e)
 
 -- a command's line is no delivery's
 no_delivery : (schema : SchemaValue) (site : SiteNo) (command : Command) (rest : List ℕ) → SiteFits site → command_text schema site command ≡ 100 ∷ rest → ⊥
 no_delivery schema site command rest fits e =
     let small : site.0 < 2 ^ 64 = omega (arith, fits) in
-    no_digit (site_text site) (command_words schema command) rest (decimal_is_IsNumeral site.0 small).0.1 (decimal_nonempty site.0 small) e
+    no_digit 100 (omega arith) (site_text site) (command_words schema command) rest (decimal_is_IsNumeral site.0 small).0.1 (decimal_nonempty site.0 small) e
 
 -- the step of a line that is a command's
 pub only_command : (schema : SchemaValue) (bytes : List ℕ) (site : SiteNo) (command : Command) (luck : Luck) → SiteFits site → bytes ≡ command_text schema site command

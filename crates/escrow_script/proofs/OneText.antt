@@ -1,8 +1,10 @@
 -- The text of lines is the only one.
-use Rattle.std.proofs.Common.{◌≡◌, ℕ, List, [], ◌∷◌, ◌++◌, Result, Ok, Option, None, reverse, length, sym, ap, ◌∙◌, subst, arith, inl, inr}
+use Rattle.std.proofs.Common.{◌≡◌, ℕ, List, [], ◌∷◌, ◌++◌, Result, Ok, Option, None, reverse, length, refl, sym, ap, ◌∙◌, subst, arith, inl, inr}
 use Rattle.field_bounds.specs.Schema.{SchemaValue}
 use Rattle.field_bounds.specs.Header.{schema_of}
 use Rattle.field_bounds.specs.Limits.{IsSchema}
+use Rattle.field_bounds.specs.declared.kind.Kind.{Kind}
+use Rattle.field_bounds.specs.declared.id.FieldNo.{FieldNo}
 use Rattle.field_bounds.specs.declared.id.SiteNo.{SiteNo}
 use Rattle.field_bounds.specs.declared.entry.Command.{Command}
 use Rattle.field_bounds.specs.declared.entry.Entry.{Entry}
@@ -12,8 +14,10 @@ use Rattle.entry_text.specs.Spelling.{entry_text}
 use Rattle.kept_state.specs.Luck.{entries}
 use Rattle.world_steps.specs.declared.step.WorldStep.{WorldStep}
 use Rattle.world_steps.specs.World.{asked, luck_of, with_entry, world_of}
-use Rattle.escrow_script.specs.Text.{line_text, trace, Asks, IsReply, IsAnswer, AreAnswers, HasText}
+use Rattle.escrow_script.specs.Text.{line_text, trace, moves_text, Asks, IsReply, AreReplies, IsLevelled, IsAnswer, AreAnswers, HasText}
+use Rattle.escrow_script.specs.Level.{level_gifts}
 use Rattle.escrow_script.proofs.StepLemmas.{head_is, tail_is, one_step}
+use Rattle.escrow_script.proofs.LevelLines.{no_both, one_level}
 
 ok_is : (r : Result SchemaValue SchemaFault) (s t : SchemaValue) → r ≡ Ok s → r ≡ Ok t → s ≡ t
 ok_is r s t h g = cc
@@ -22,14 +26,29 @@ ok_is r s t h g = cc
 only_asked : (schema : SchemaValue) → IsSchema schema → (line : List ℕ) (step other : WorldStep) → Asks schema line step → Asks schema line other → step ≡ other
 only_asked schema is line step other a b = one_step schema is step other a.numbers b.numbers (sym a.text ∙ b.text)
 
+-- a line that levels a field has one list of gifts
+only_gifts : (schema : SchemaValue) → IsSchema schema → (line : List ℕ) (old new was now : List WorldStep) (text again : List ℕ)
+    → old ≡ was → (a : IsLevelled schema line old new text) (b : IsLevelled schema line was now again) → a.gifts ≡ b.gifts
+only_gifts schema is line old new was now text again same a b =
+    let one = one_level schema is line a.field b.field a.kind b.kind a.levels b.levels in
+    a.gifts_are ∙ ap (λ (l : List WorldStep). level_gifts schema (trace schema l) a.field a.kind) same
+    ∙ ap (λ (f : FieldNo). level_gifts schema (trace schema was) f a.kind) one.0 ∙ ap (λ (k : Kind). level_gifts schema (trace schema was) b.field k) one.1 ∙ sym b.gifts_are
+
 -- lines ask one list of steps
 next_steps : (schema : SchemaValue) → IsSchema schema → (line : List ℕ) (old new was now : List WorldStep) (text again : List ℕ)
     → old ≡ was → IsAnswer schema line old new text → IsAnswer schema line was now again → new ≡ now
 next_steps schema is line old new was now text again same (inl a) (inl b) = a.1 ∙ same ∙ sym b.1
-next_steps schema is line old new was now text again same (inl a) (inr b) = absurd (a.0 b.0 b.1)
-next_steps schema is line old new was now text again same (inr a) (inl b) = absurd (b.0 a.0 a.1)
-next_steps schema is line old new was now text again same (inr a) (inr b) =
+next_steps schema is line old new was now text again same (inl a) (inr (inl b)) = absurd (a.0.0 b.0 b.1)
+next_steps schema is line old new was now text again same (inl a) (inr (inr b)) = absurd (a.0.1 b.field b.kind b.levels)
+next_steps schema is line old new was now text again same (inr (inl a)) (inl b) = absurd (b.0.0 a.0 a.1)
+next_steps schema is line old new was now text again same (inr (inl a)) (inr (inl b)) =
     a.2 ∙ ap (λ (x : WorldStep). x ∷ old) (only_asked schema is line a.0 b.0 a.1 b.1) ∙ ap (λ (l : List WorldStep). b.0 ∷ l) same ∙ sym b.2
+next_steps schema is line old new was now text again same (inr (inl a)) (inr (inr b)) = absurd (no_both schema line a.0 b.field b.kind a.1 b.levels)
+next_steps schema is line old new was now text again same (inr (inr a)) (inl b) = absurd (b.0.1 a.field a.kind a.levels)
+next_steps schema is line old new was now text again same (inr (inr a)) (inr (inl b)) = absurd (no_both schema line b.0 a.field a.kind b.1 a.levels)
+next_steps schema is line old new was now text again same (inr (inr a)) (inr (inr b)) =
+    a.taken ∙ ap (λ (l : List WorldStep). reverse l ++ old) (only_gifts schema is line old new was now text again same a b)
+    ∙ ap (λ (l : List WorldStep). reverse b.gifts ++ l) same ∙ sym b.taken
 
 all_steps : (schema : SchemaValue) → IsSchema schema → (lines : List (List ℕ)) (steps others : List WorldStep) (text again : List ℕ)
     → AreAnswers schema lines steps text → AreAnswers schema lines others again → steps ≡ others
@@ -56,14 +75,37 @@ one_reply schema earlier step text again (inl a) (inr b) = absurd (no_growth sch
 one_reply schema earlier step text again (inr a) (inl b) = absurd (no_growth schema earlier step b.0 a.0 b.1)
 one_reply schema earlier step text again (inr a) (inr b) = a.1 ∙ sym b.1
 
+one_replies : (schema : SchemaValue) (earlier steps : List WorldStep) (text again : List ℕ) → AreReplies schema earlier steps text → AreReplies schema earlier steps again → text ≡ again
+one_replies schema earlier [] text again a b = a ∙ sym b
+one_replies schema earlier (step ∷ before) text again (front, last, fronts, is, all) (fore, end, fores, was, whole) =
+    all ∙ ap (λ (l : List ℕ). l ++ last) (one_replies schema earlier before front fore fronts fores)
+    ∙ ap (λ (l : List ℕ). fore ++ l) (one_reply schema (before ++ earlier) step last end is was) ∙ sym whole
+
 -- so that with one list of steps they have one text
+level_text_same : (schema : SchemaValue) → IsSchema schema → (line : List ℕ) (old new now : List WorldStep) (text again : List ℕ)
+    → IsLevelled schema line old new text → IsLevelled schema line old now again → text ≡ again
+level_text_same schema is line old new now text again a b =
+    let one = one_level schema is line a.field b.field a.kind b.kind a.levels b.levels in
+    let gifts : a.gifts ≡ b.gifts = only_gifts schema is line old new old now text again refl a b in
+    let replies : a.replies ≡ b.replies =
+    one_replies schema old (reverse b.gifts) a.replies b.replies (subst (λ (l : List WorldStep). AreReplies schema old (reverse l) a.replies) gifts a.answered) b.answered in
+    let head : line_text (moves_text schema a.field a.kind (length a.gifts)) ≡ line_text (moves_text schema b.field b.kind (length b.gifts)) =
+    ap (λ (f : FieldNo). line_text (moves_text schema f a.kind (length a.gifts))) one.0
+    ∙ ap (λ (k : Kind). line_text (moves_text schema b.field k (length a.gifts))) one.1 ∙ ap (λ (l : List WorldStep). line_text (moves_text schema b.field b.kind (length l))) gifts in
+    a.written ∙ ap (λ (l : List ℕ). l ++ a.replies) head ∙ ap (λ (l : List ℕ). line_text (moves_text schema b.field b.kind (length b.gifts)) ++ l) replies ∙ sym b.written
+
 next_text : (schema : SchemaValue) → IsSchema schema → (line : List ℕ) (old new now : List WorldStep) (text again : List ℕ)
     → IsAnswer schema line old new text → IsAnswer schema line old now again → text ≡ again
 next_text schema is line old new now text again (inl a) (inl b) = a.2 ∙ sym b.2
-next_text schema is line old new now text again (inl a) (inr b) = absurd (a.0 b.0 b.1)
-next_text schema is line old new now text again (inr a) (inl b) = absurd (b.0 a.0 a.1)
-next_text schema is line old new now text again (inr a) (inr b) =
+next_text schema is line old new now text again (inl a) (inr (inl b)) = absurd (a.0.0 b.0 b.1)
+next_text schema is line old new now text again (inl a) (inr (inr b)) = absurd (a.0.1 b.field b.kind b.levels)
+next_text schema is line old new now text again (inr (inl a)) (inl b) = absurd (b.0.0 a.0 a.1)
+next_text schema is line old new now text again (inr (inl a)) (inr (inl b)) =
     one_reply schema old b.0 text again (subst (λ (x : WorldStep). IsReply schema old x text) (only_asked schema is line a.0 b.0 a.1 b.1) a.3) b.3
+next_text schema is line old new now text again (inr (inl a)) (inr (inr b)) = absurd (no_both schema line a.0 b.field b.kind a.1 b.levels)
+next_text schema is line old new now text again (inr (inr a)) (inl b) = absurd (b.0.1 a.field a.kind a.levels)
+next_text schema is line old new now text again (inr (inr a)) (inr (inl b)) = absurd (no_both schema line b.0 a.field a.kind b.1 a.levels)
+next_text schema is line old new now text again (inr (inr a)) (inr (inr b)) = level_text_same schema is line old new now text again a b
 
 all_text : (schema : SchemaValue) → IsSchema schema → (lines : List (List ℕ)) (steps others : List WorldStep) (text again : List ℕ)
     → AreAnswers schema lines steps text → AreAnswers schema lines others again → text ≡ again

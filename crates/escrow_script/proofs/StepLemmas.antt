@@ -47,18 +47,18 @@ parts_same xs ys us vs ends e =
 
 -- ---- the words of a step's line
 
-abbrev luck_words : Luck → List (List ℕ)
+abbrev pub luck_words : Luck → List (List ℕ)
 luck_words Fine = []
 luck_words (Torn bytes) = codes "torn" ∷ decimal bytes ∷ []
 
-abbrev plain_words : SchemaValue → WorldStep → List (List ℕ)
+abbrev pub plain_words : SchemaValue → WorldStep → List (List ℕ)
 plain_words schema (Do site command luck) = site_text site ∷ command_words schema command
 plain_words schema (Deliver k luck) = codes "deliver" ∷ decimal k ∷ []
 
-abbrev step_words : SchemaValue → WorldStep → List (List ℕ)
+abbrev pub step_words : SchemaValue → WorldStep → List (List ℕ)
 step_words schema step = plain_words schema step ++ luck_words (luck_of step)
 
-spelled : (schema : SchemaValue) (step : WorldStep) → step_text schema step ≡ line (step_words schema step)
+pub spelled : (schema : SchemaValue) (step : WorldStep) → step_text schema step ≡ line (step_words schema step)
 spelled schema (Do site command Fine) = append-nil (command_text schema site command) ∙ ap line (sym (append-nil (site_text site ∷ command_words schema command)))
 spelled schema (Do site command (Torn bytes)) = sym (line-append (site_text site) (command_words schema command) (codes "torn") (decimal bytes ∷ []))
 spelled schema (Deliver k Fine) = append-nil (codes "deliver " ++ decimal k)

@@ -1,5 +1,5 @@
 -- What is written for lines, one after another.
-use Rattle.std.proofs.Common.{◌≡◌, ℕ, ◌<◌, ◌-◌, List, [], ◌∷◌, ◌++◌, Option, None, Some, Ok, length, take, reverse, ◌+◌, ◌⊎◌, inl, inr, refl, sym, ap, ◌∙◌, subst, append_assoc, append-nil, arith, codes}
+use Rattle.std.proofs.Common.{◌≡◌, ℕ, ◌<◌, ◌-◌, List, [], ◌∷◌, ◌++◌, Option, None, Some, Ok, length, take, reverse, ◌+◌, ◌⊎◌, inl, inr, refl, sym, ap, ◌∙◌, subst, append_assoc, append-nil, arith}
 use Rattle.std.proofs.lemmas.List.{length-take, take-append-le, take_all, reverse-append}
 use Rattle.std.proofs.Math.Seq.{take-append-add}
 use Rattle.std.proofs.lemmas.Bool.{cases_lt}
@@ -12,8 +12,9 @@ use Rattle.world_steps.specs.View.{WorldValue}
 use Rattle.world_steps.proofs.Sound.{StepsFit}
 use Rattle.world_steps.proofs.Living.{one_store}
 use Rattle.entry_text.specs.Lines.{max_line}
-use Rattle.escrow_script.specs.Text.{line_text, IsAnswer, AreAnswers, HasText}
-use Rattle.escrow_script.specs.Run.{with_piece, kept, one_more, Answered, Moves, StandsFor}
+use Rattle.escrow_script.specs.Text.{line_text, trace, IsAnswer, AreAnswers, HasText}
+use Rattle.escrow_script.specs.Run.{with_piece, kept, Answered, Moves, StandsFor}
+use Rattle.escrow_script.proofs.LevelLemmas.{level_fits}
 
 -- ---- as much of a line as is kept
 
@@ -24,14 +25,25 @@ kept_cases line = elim (cases_lt max_line (length line)) [
 ]
 
 -- a world that is given as much of a line as is kept answers as to the whole line
-Answered-kept : (line : List ℕ) (old new : WorldValue) (out grown : List ℕ) → Answered (take (max_line + 1) line) old new out grown → Answered line old new out grown
-Answered-kept line old new out grown answered = elim (kept_cases line) [
-  | inl e ↦ subst (λ l. Answered l old new out grown) e answered
-  | inr long ↦ elim answered [
-    | inl bad ↦ inl (λ step asks. omega (arith, asks.short, long.0), bad.1, bad.2)
-    | inr asked ↦ absurd (omega (arith, asked.1.short, long.1))
+IsAnswer-kept : (schema : SchemaValue) (line : List ℕ) (old new : List WorldStep) (text : List ℕ) → IsAnswer schema (take (max_line + 1) line) old new text → IsAnswer schema line old new text
+IsAnswer-kept schema line old new text answer = elim (kept_cases line) [
+  | inl e ↦ subst (λ l. IsAnswer schema l old new text) e answer
+  | inr long ↦ elim answer [
+    | inl bad ↦ inl (((λ step asks. omega (arith, asks.short, long.0)), (λ field kind levels. omega (arith, levels.short, long.0))), bad.1, bad.2)
+    | inr good ↦ elim good [
+      | inl asked ↦ absurd (omega (arith, asked.1.short, long.1))
+      | inr levelled ↦ absurd (omega (arith, levelled.levels.short, long.1))
+    ]
   ]
 ]
+
+Answered-kept : (line : List ℕ) (old new : WorldValue) (out grown : List ℕ) → Answered (take (max_line + 1) line) old new out grown → Answered line old new out grown
+Answered-kept line old new out grown answered = record {
+  text = answered.text;
+  schema = answered.schema;
+  answer = IsAnswer-kept old.schema line (reverse old.steps) (reverse new.steps) answered.text answered.answer;
+  written = answered.written;
+}
 
 take_of_append : (n : ℕ) (xs ys : List ℕ) → take n xs ++ take (n - length (take n xs)) ys ≡ take n (xs ++ ys)
 take_of_append n xs ys = elim (cases_lt n (length xs)) [
@@ -58,7 +70,12 @@ answers_fit schema (line ∷ before) steps text answers =
     let earlier = answers_fit schema before answers.0 answers.1.0 answers.1.2 in
     elim answers.1.3 [
       | inl bad ↦ subst (λ (l : List WorldStep). StepsFit schema l) (sym bad.1) earlier
-      | inr asked ↦ subst (λ (l : List WorldStep). StepsFit schema l) (sym asked.2) (earlier, asked.1.fits)
+      | inr good ↦ elim good [
+        | inl asked ↦ subst (λ (l : List WorldStep). StepsFit schema l) (sym asked.2) (earlier, asked.1.fits)
+        | inr levelled ↦
+            subst (λ (l : List WorldStep). StepsFit schema l) (sym (levelled.taken ∙ ap (λ (l : List WorldStep). reverse l ++ answers.0) levelled.gifts_are))
+            (level_fits schema (trace schema answers.0) levelled.field levelled.kind answers.0 earlier)
+      ]
     ]
 
 -- the text with an answer to one more line
@@ -91,31 +108,6 @@ HasText-start schema line start = record {
   written = sym (append-nil (line_text line));
 }
 
--- the steps of a world that has taken one more
-newest : (old : WorldValue) (step : WorldStep) → reverse (one_more old step).steps ≡ step ∷ reverse old.steps
-newest old step = reverse-append old.steps (step ∷ [])
-
--- the answer once a world has taken what a line asks
-pub record Grows (line : List ℕ) (old new : WorldValue) (out grown : List ℕ) : Type 0 where
-  pub reply : List ℕ
-  pub same : new.schema ≡ old.schema
-  pub answer : IsAnswer old.schema line (reverse old.steps) (reverse new.steps) reply
-  pub text : grown ≡ out ++ reply
-
-answered-grows : (line : List ℕ) (old new : WorldValue) (out grown : List ℕ) → Answered line old new out grown → Grows line old new out grown
-answered-grows line old new out grown (inl bad) = record {
-  reply = line_text (codes "bad line");
-  same = ap (λ (w : WorldValue). w.schema) bad.1;
-  answer = inl (bad.0, ap (λ (w : WorldValue). reverse w.steps) bad.1, refl);
-  text = bad.2;
-}
-answered-grows line old new out grown (inr asked) = record {
-  reply = asked.3.0;
-  same = ap (λ (w : WorldValue). w.schema) asked.2;
-  answer = inr (asked.0, asked.1, ap (λ (w : WorldValue). reverse w.steps) asked.2 ∙ newest old asked.0, asked.3.1);
-  text = asked.3.2;
-}
-
 -- the machine after one more line
 pub StandsFor-next : (m n : Option Machine) (lines : List (List ℕ)) (line written out grown : List ℕ)
     → StandsFor m lines (written ++ out) → Moves m line n out grown → StandsFor n (lines ++ line ∷ []) (written ++ grown)
@@ -128,12 +120,11 @@ StandsFor-next None (Some n) lines line written out grown stands moves =
     rw (first, only, empty) (HasText-start n.world.schema line start)
 StandsFor-next (Some m) None lines line written out grown stands moves = absurd moves
 StandsFor-next (Some m) (Some n) lines line written out grown stands moves =
-    let grows = answered-grows line m.world n.world out grown moves in
-    let text : (written ++ out) ++ grows.reply ≡ written ++ grown =
-    append_assoc written out grows.reply ∙ ap (λ t. written ++ t) (sym grows.text) in
-    subst (λ (s : SchemaValue). HasText s (reverse n.world.steps) (lines ++ line ∷ []) (written ++ grown)) (sym grows.same)
+    let text : (written ++ out) ++ moves.text ≡ written ++ grown =
+    append_assoc written out moves.text ∙ ap (λ t. written ++ t) (sym moves.written) in
+    subst (λ (s : SchemaValue). HasText s (reverse n.world.steps) (lines ++ line ∷ []) (written ++ grown)) (sym moves.schema)
     (subst (HasText m.world.schema (reverse n.world.steps) (lines ++ line ∷ [])) text
-    (HasText-more m.world.schema (reverse m.world.steps) (reverse n.world.steps) lines line (written ++ out) grows.reply stands grows.answer))
+    (HasText-more m.world.schema (reverse m.world.steps) (reverse n.world.steps) lines line (written ++ out) moves.text stands moves.answer))
 
 Moves-kept : (m n : Option Machine) (line out grown : List ℕ) → Moves m (kept m line) n out grown → Moves m line n out grown
 Moves-kept None None line out grown moves = moves

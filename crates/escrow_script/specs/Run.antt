@@ -1,5 +1,5 @@
 -- What the parts of a run do to its state, and what a run reads and writes (this project).
-use Rattle.std.specs.Prelude.{◌≡◌, ◌≢◌, ℕ, ◌+◌, ◌-◌, ◌<◌, ◌≤◌, List, [], ◌∷◌, ◌++◌, length, take, ◌⊎◌, Option, None, Some, IsNone, Ok, Err, reverse, codes}
+use Rattle.std.specs.Prelude.{◌≡◌, ◌≢◌, ℕ, ◌+◌, ◌-◌, ◌<◌, ◌≤◌, List, [], ◌∷◌, ◌++◌, length, take, ◌⊎◌, Option, None, Some, IsNone, Ok, Err, reverse}
 use Rattle.std.specs.Io.KnownBytes.{Appends, Consumes, IsAtEnd}
 use Rattle.field_bounds.specs.Schema.{SchemaValue}
 use Rattle.field_bounds.specs.Header.{schema_of}
@@ -11,7 +11,7 @@ use Rattle.escrow_script.specs.declared.fault.ScriptFault.TheVariants.{Read, Too
 use Rattle.escrow_script.specs.declared.watched.End.{End}
 use Rattle.escrow_script.specs.declared.watched.End.TheVariants.{Nothing}
 use Rattle.entry_text.specs.Lines.{max_line}
-use Rattle.escrow_script.specs.Text.{line_text, Asks, IsBad, IsReply, HasText, IsTextOf}
+use Rattle.escrow_script.specs.Text.{line_text, AreReplies, IsAnswer, HasText, IsTextOf}
 use Rattle.world_steps.specs.declared.step.WorldStep.{WorldStep}
 use Rattle.world_steps.specs.declared.step.WorldStep.TheVariants.{Do, Deliver}
 use Rattle.field_bounds.specs.declared.entry.Entry.{Entry}
@@ -48,17 +48,20 @@ abbrev pub IsMadeBy : WorldStep → Entry → Type 0
 IsMadeBy (Do site command luck) entry = (entry.site ≡ site) × (entry.command ≡ command)
 IsMadeBy (Deliver k luck) entry = Unit {0}
 
--- The world has taken one more step.
-abbrev pub one_more : WorldValue → WorldStep → WorldValue
-one_more world step = record world { steps = world.steps ++ step ∷ [] }
+-- What a world does with a line, and what is to be written before and after it: its schema stays, and what is written
+-- grows by what answers the line, by the steps before and after it.
+pub record Answered (line : List ℕ) (old new : WorldValue) (out grown : List ℕ) : Type 0 where
+  pub text : List ℕ
+  pub schema : new.schema ≡ old.schema
+  pub answer : IsAnswer old.schema line (reverse old.steps) (reverse new.steps) text
+  pub written : grown ≡ out ++ text
 
--- What a world does with a line, and what is to be written before and after it: a bad line changes nothing, and the step
--- that any other line asks is taken and answered.
-abbrev pub Answered : List ℕ → WorldValue → WorldValue → List ℕ → List ℕ → Type 0
-Answered line old new out grown =
-    (IsBad old.schema line × (new ≡ old) × (grown ≡ out ++ line_text (codes "bad line")))
-    ⊎ ((step : WorldStep) × Asks old.schema line step × (new ≡ one_more old step)
-    × ((reply : List ℕ) × IsReply old.schema (reverse old.steps) step reply × (grown ≡ out ++ reply)))
+-- A world has taken steps, and what is to be written has grown by what answers them.
+pub record HasTaken (steps : List WorldStep) (old new : WorldValue) (out grown : List ℕ) : Type 0 where
+  pub replies : List ℕ
+  pub taken : new ≡ record old { steps = old.steps ++ steps }
+  pub answered : AreReplies old.schema (reverse old.steps) (reverse steps) replies
+  pub written : grown ≡ out ++ replies
 
 -- What a line does to the machine, and to what is to be written: a header line starts a world of its schema and is
 -- written as it is, and any other line is answered.

@@ -5,6 +5,8 @@ use Rattle.std.specs.Fmt.{decimal}
 use Rattle.field_bounds.specs.Schema.{SchemaValue}
 use Rattle.field_bounds.specs.Header.{schema_of}
 use Rattle.field_bounds.specs.declared.entry.Entry.{Entry}
+use Rattle.field_bounds.specs.declared.kind.Kind.{Kind}
+use Rattle.field_bounds.specs.declared.id.FieldNo.{FieldNo}
 use Rattle.entry_text.specs.Spelling.{command_text, entry_text}
 use Rattle.entry_text.specs.Ranges.{SiteFits, CommandFits}
 use Rattle.entry_text.specs.Lines.{max_line}
@@ -15,6 +17,7 @@ use Rattle.world_steps.specs.declared.step.WorldStep.{WorldStep}
 use Rattle.world_steps.specs.declared.step.WorldStep.TheVariants.{Do, Deliver}
 use Rattle.world_steps.specs.World.{asked, luck_of, StepFits, world_of}
 use Rattle.world_steps.specs.Promises.{IsOneStore}
+use Rattle.escrow_script.specs.Level.{level_text, Levels, level_gifts}
 
 -- A line and its LF (10).
 abbrev pub line_text : List ℕ → List ℕ
@@ -54,9 +57,17 @@ pub record Asks (schema : SchemaValue) (line : List ℕ) (step : WorldStep) : Ty
   pub short : length line ≤ max_line
   pub fits : StepFits schema step
 
--- A bad line asks nothing.
+-- A line asks no step.
+abbrev pub AsksNone : SchemaValue → List ℕ → Type 0
+AsksNone schema line = (step : WorldStep) → Asks schema line step → ⊥
+
+-- A line levels no field.
+abbrev pub LevelsNone : SchemaValue → List ℕ → Type 0
+LevelsNone schema line = (field : FieldNo) (kind : Kind) → Levels schema line field kind → ⊥
+
+-- A bad line does neither.
 abbrev pub IsBad : SchemaValue → List ℕ → Type 0
-IsBad schema line = (step : WorldStep) → Asks schema line step → ⊥
+IsBad schema line = AsksNone schema line × LevelsNone schema line
 
 -- ---- what answers it
 
@@ -75,12 +86,36 @@ IsReply schema earlier step text =
     ((entry : Entry) × (trace schema (step ∷ earlier) ≡ entry ∷ trace schema earlier) × (text ≡ line_text (entry_text schema entry)))
     ⊎ ((asked (trace schema earlier) step ≡ None) × (text ≡ line_text (remark_text schema step)))
 
--- What answers a line, and the steps before and after it: a bad line is answered by `bad line`, and any other by what
--- answers the one more step that it asks.
+-- What answers steps that come after earlier ones, one after another.
+abbrev pub AreReplies : SchemaValue → List WorldStep → List WorldStep → List ℕ → Type 0
+AreReplies schema earlier [] text = text ≡ []
+AreReplies schema earlier (step ∷ before) text =
+    (front last : List ℕ) × AreReplies schema earlier before front × IsReply schema (before ++ earlier) step last × (text ≡ front ++ last)
+
+-- What says how many gifts level a field.
+abbrev pub moves_text : SchemaValue → FieldNo → Kind → ℕ → List ℕ
+moves_text schema field kind count = level_text schema field kind ++ codes " -> moves " ++ decimal count
+
+-- What answers a line that levels a field, and the steps before and after it: the count of the gifts, and then what
+-- answers each gift.
+pub record IsLevelled (schema : SchemaValue) (line : List ℕ) (old new : List WorldStep) (text : List ℕ) : Type 0 where
+  pub field : FieldNo
+  pub kind : Kind
+  pub gifts : List WorldStep
+  pub replies : List ℕ
+  pub levels : Levels schema line field kind
+  pub gifts_are : gifts ≡ level_gifts schema (trace schema old) field kind
+  pub taken : new ≡ reverse gifts ++ old
+  pub answered : AreReplies schema old (reverse gifts) replies
+  pub written : text ≡ line_text (moves_text schema field kind (length gifts)) ++ replies
+
+-- What answers a line, and the steps before and after it: a bad line is answered by `bad line`, a line that asks a step by
+-- what answers that one more step, and a line that levels a field by the count of the gifts and what answers them.
 abbrev pub IsAnswer : SchemaValue → List ℕ → List WorldStep → List WorldStep → List ℕ → Type 0
 IsAnswer schema line old new text =
     (IsBad schema line × (new ≡ old) × (text ≡ line_text (codes "bad line")))
-    ⊎ ((step : WorldStep) × Asks schema line step × (new ≡ step ∷ old) × IsReply schema old step text)
+    ⊎ (((step : WorldStep) × Asks schema line step × (new ≡ step ∷ old) × IsReply schema old step text)
+    ⊎ IsLevelled schema line old new text)
 
 -- What answers lines, one after another.
 abbrev pub AreAnswers : SchemaValue → List (List ℕ) → List WorldStep → List ℕ → Type 0

@@ -4,6 +4,7 @@
 
 mod fault;
 mod laws;
+mod level;
 mod line;
 mod machine;
 mod script;

@@ -2,13 +2,16 @@
 
 ghost use Rattle.std.specs.Prelude.{◌≡◌, ◌≢◌, ◌^◌, ◌<◌, ◌++◌, ◌∷◌, All, IfNone, IfSome, MatchOption, Some, ℕ, List, codes};
 ghost use Rattle.std.specs.Fmt.{decimal};
+ghost use Rattle.field_bounds.specs.declared.kind.Kind.{Kind as KindType};
+ghost use Rattle.field_bounds.specs.declared.id.FieldNo.{FieldNo as FieldNumber};
 ghost use Rattle.kept_state.specs.declared.luck.Luck.TheVariants.{Torn};
 ghost use Rattle.world_steps.specs.declared.step.WorldStep.{WorldStep as StepType};
 ghost use Rattle.world_steps.specs.World.{luck_of};
-ghost use Rattle.escrow_script.specs.Text.{plain_text, luck_text, step_text, LuckFits, NumbersFit, Asks, IsBad};
+ghost use Rattle.escrow_script.specs.Text.{plain_text, luck_text, step_text, LuckFits, NumbersFit, Asks, AsksNone, LevelsNone};
+ghost use Rattle.escrow_script.specs.Level.{level_text, Levels};
 
-use entry_text::{MAX_LINE, read_command, read_number};
-use field_bounds::Schema;
+use entry_text::{MAX_LINE, read_command, read_field, read_kind, read_number};
+use field_bounds::{FieldNo, Kind, Schema};
 use world_steps::{Luck, World, WorldStep, step_fits};
 
 /// The step that a line asks, and the line without its luck.
@@ -92,12 +95,12 @@ fn any_step<'a>(schema: &Schema, line: &'a [u8]) -> Option<Asked<'a>>
     Some(Asked { step, plain })
 }
 
-/// The step that a line behind the header, without its LF, asks of a world, or None where it is a
-/// bad line. Costs no memory.
+/// The step that a line behind the header, without its LF, asks of a world, or None where it asks
+/// none. Costs no memory.
 pub(crate) fn line_step<'a>(world: &World, line: &'a [u8]) -> Option<Asked<'a>>
     ensures asks { IfSome result (λ asked. Asks world.now.schema line.now asked.step) }
     ensures plain { IfSome result (λ asked. asked.plain.now ≡ plain_text world.now.schema asked.step) }
-    ensures bad { IfNone result (IsBad world.now.schema line.now) }
+    ensures none { IfNone result (AsksNone world.now.schema line.now) }
 {
     if line.len() > MAX_LINE {
         return None;
@@ -106,6 +109,52 @@ pub(crate) fn line_step<'a>(world: &World, line: &'a [u8]) -> Option<Asked<'a>>
     let asked = any_step(schema, line)?;
     if step_fits(schema, &asked.step) {
         Some(asked)
+    } else {
+        None
+    }
+}
+
+/// The field that a line levels, and the kind of its rights.
+#[derive(Clone, Copy, Debug)]
+pub(crate) struct Level {
+    pub(crate) field: FieldNo,
+    pub(crate) kind: Kind,
+}
+
+// The bytes behind the word of a levelling, where they begin with it.
+fn after_level(bytes: &[u8]) -> Option<&[u8]>
+    ensures { MatchOption result ((rest : List ℕ) → bytes.now ≢ codes "level " ++ rest)
+        (λ rest. bytes.now ≡ codes "level " ++ rest.now) }
+{
+    bytes.strip_prefix(b"level ")
+}
+
+// The field and the kind whose line this is, whatever field it names.
+fn any_level(schema: &Schema, line: &[u8]) -> Option<Level>
+    ensures found { IfSome result (λ level. line.now ≡ level_text schema.now level.field level.kind) }
+    ensures only { (field : FieldNumber) (kind : KindType) → field.0 < 2 ^ 16 → line.now ≡ level_text schema.now field kind
+        → result ≡ Some (record { field = field; kind = kind }) }
+{
+    let rest = after_level(line)?;
+    let (name, word) = split_last_word(rest)?;
+    let kind = read_kind(word)?;
+    let field = read_field(schema, name)?;
+    Some(Level { field, kind })
+}
+
+/// The field that a line behind the header, without its LF, levels in a world, and the kind, or
+/// None where it levels none. Costs no memory.
+pub(crate) fn line_level(world: &World, line: &[u8]) -> Option<Level>
+    ensures levels { IfSome result (λ level. Levels world.now.schema line.now level.field level.kind) }
+    ensures none { IfNone result (LevelsNone world.now.schema line.now) }
+{
+    if line.len() > MAX_LINE {
+        return None;
+    }
+    let schema = world.schema();
+    let level = any_level(schema, line)?;
+    if level.field.0 < schema.fields() {
+        Some(level)
     } else {
         None
     }

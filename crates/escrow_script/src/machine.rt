@@ -1,6 +1,7 @@
 //! The world that a header line starts, and its answers to the lines behind it.
 
-ghost use Rattle.std.specs.Prelude.{◌≡◌, [], ◌∷◌, ◌++◌, ◌≤◌, length, take, codes, Ok, OnOk, OnErr, IfOk, IfErr};
+ghost use Rattle.std.specs.Prelude.{◌≡◌, ℕ, [], ◌∷◌, ◌++◌, ◌<◌, ◌≤◌, length, take, map, All, codes, Ok, OnOk, OnErr, IfOk, IfErr};
+ghost use Rattle.std.specs.Fmt.{decimal};
 ghost use Rattle.field_bounds.specs.Header.{schema_of};
 ghost use Rattle.escrow_script.specs.Faults.{TellsHeader};
 ghost use Rattle.entry_text.specs.Spelling.{reply_text, entry_text};
@@ -8,11 +9,14 @@ ghost use Rattle.escrow_script.specs.Text.{line_text, plain_text};
 ghost use Rattle.escrow_script.specs.Run.{IsMadeBy};
 
 use crate::fault::ScriptFault;
-use crate::line::{Asked, line_step};
+use crate::level::{gift, sites_up};
+use crate::line::{Asked, Level, line_level, line_step};
 use entry_text::{append_entry, append_reply};
-use field_bounds::{Entry, Reply, Schema};
+use field_bounds::{Command, Entry, Reply, Schema, SiteNo};
+use itoa::Buffer;
+use rebalance::{Move, plan_even};
 use std::alloc::{AllocError, Global};
-use world_steps::{StepReply, World, WorldStep};
+use world_steps::{Luck, StepReply, World, WorldStep};
 
 // Adds a piece, or, where memory is refused, cuts back to the first `kept` bytes.
 #[inline]
@@ -112,6 +116,20 @@ fn add_made(
     }
 }
 
+// Adds how many gifts a line levels a field by, or changes nothing where memory is refused.
+fn add_moves(out: &mut Vec<u8>, line: &[u8], moves: usize) -> Result<(), AllocError>
+    ensures ok { OnOk result (out.new.items
+        ≡ out.old.items ++ line_text (line.now ++ codes " -> moves " ++ decimal moves)) }
+    ensures err { OnErr result (out.new.items ≡ out.old.items) }
+{
+    let kept = out.len();
+    let mut buffer = Buffer::new();
+    add(out, kept, line)?;
+    add(out, kept, b" -> moves ")?;
+    add(out, kept, buffer.format(moves as u64).as_bytes())?;
+    add(out, kept, b"\n")
+}
+
 /// The world under the schema of a header line.
 #[derive(Drop)]
 pub(crate) struct Machine {
@@ -121,7 +139,12 @@ pub(crate) struct Machine {
 }
 
 impl Machine {
-    ghost use Rattle.escrow_script.specs.Run.{Answered};
+    ghost use Rattle.kept_state.specs.declared.luck.Luck.TheVariants.{Fine};
+    ghost use Rattle.rebalance.specs.declared.even_plan.Move.{Move as MoveType};
+    ghost use Rattle.world_steps.specs.declared.step.WorldStep.TheVariants.{Do};
+    ghost use Rattle.world_steps.specs.World.{StepFits};
+    ghost use Rattle.escrow_script.specs.Level.{Levels, gift_of};
+    ghost use Rattle.escrow_script.specs.Run.{Answered, HasTaken};
 
     /// The world that a header line, without its LF, starts.
     pub(crate) fn from_header(alloc: Global, header: &[u8]) -> Result<Machine, ScriptFault>
@@ -136,8 +159,118 @@ impl Machine {
         })
     }
 
-    /// Answers a line, without its LF: adds the text of the entry, a remark, or `bad line`. Where
-    /// memory is refused nothing is added.
+    // Takes the step that a line asks, and adds the text of its entry, or a remark.
+    fn take(
+        &mut self,
+        alloc: Global,
+        asked: &Asked<'_>,
+        out: &mut Vec<u8>,
+    ) -> Result<(), AllocError>
+        requires fits { StepFits self.old.world.schema asked.now.step }
+        requires plain { asked.now.plain.now ≡ plain_text self.old.world.schema asked.now.step }
+        ensures ok { OnOk result (HasTaken (asked.now.step ∷ []) self.old.world self.new.world
+            out.old.items out.new.items) }
+        ensures err { OnErr result (out.new.items ≡ out.old.items) }
+    {
+        match self.world.step(alloc, &asked.step)? {
+            StepReply::NoStatement => add_remark(out, asked.plain),
+            StepReply::Made(entry) => {
+                add_made(out, &mut self.text, self.world.schema(), asked, entry)
+            }
+        }
+    }
+
+    // Asks a site a command, with its append whole, and adds the text of the entry.
+    fn ask(
+        &mut self,
+        alloc: Global,
+        site: SiteNo,
+        command: Command,
+        out: &mut Vec<u8>,
+    ) -> Result<(), AllocError>
+        requires fits { StepFits self.old.world.schema (Do site command Fine) }
+        ensures ok { OnOk result (HasTaken (Do site command Fine ∷ []) self.old.world self.new.world
+            out.old.items out.new.items) }
+        ensures err { OnErr result (out.new.items ≡ out.old.items) }
+    {
+        let step = WorldStep::Do {
+            site,
+            command,
+            luck: Luck::Fine,
+        };
+        match self.world.step(alloc, &step)? {
+            StepReply::NoStatement => unreachable!(),
+            StepReply::Made(entry) => add_whole(out, &mut self.text, self.world.schema(), entry),
+        }
+    }
+
+    // Takes the gifts of a plan one after another, and adds the text of the entry of each.
+    fn take_gifts(
+        &mut self,
+        alloc: Global,
+        sites: &[SiteNo],
+        level: Level,
+        plan: &[Move],
+        out: &mut Vec<u8>,
+    ) -> Result<(), AllocError>
+        requires there { All (λ site. site.0 < self.old.world.schema.sites) sites.now }
+        requires within { All (λ planned. (planned.from < length sites.now) × (planned.to < length sites.now)) plan.now }
+        ensures ok { OnOk result (HasTaken (map (gift_of sites.now level.field level.kind) plan.now)
+            self.old.world self.new.world out.old.items out.new.items) }
+        ensures err { OnErr result (take (length out.old.items) out.new.items ≡ out.old.items) }
+    {
+        for planned in plan {
+            let (site, command) = gift(sites, level, planned);
+            self.ask(alloc, site, command, out)?;
+        }
+        Ok(())
+    }
+
+    // Adds how many gifts a line levels a field by, then takes them.
+    fn carry_out(
+        &mut self,
+        alloc: Global,
+        line: &[u8],
+        level: Level,
+        out: &mut Vec<u8>,
+    ) -> Result<(), AllocError>
+        requires levels { Levels self.old.world.schema line.now level.field level.kind }
+        ensures ok { OnOk result (Answered line.now self.old.world self.new.world
+            out.old.items out.new.items) }
+        ensures err { OnErr result (take (length out.old.items) out.new.items ≡ out.old.items) }
+    {
+        let up = sites_up(alloc, &self.world, level)?;
+        let plan = plan_even(alloc, up.shares.as_slice())?;
+        let moves = plan.as_slice();
+        add_moves(out, line, moves.len())?;
+        self.take_gifts(alloc, up.sites.as_slice(), level, moves, out)
+    }
+
+    // Levels a field: adds how many gifts that takes, and the text of the entry of each. Where memory
+    // is refused nothing is added.
+    fn level(
+        &mut self,
+        alloc: Global,
+        line: &[u8],
+        level: Level,
+        out: &mut Vec<u8>,
+    ) -> Result<(), AllocError>
+        requires levels { Levels self.old.world.schema line.now level.field level.kind }
+        ensures ok { OnOk result (Answered line.now self.old.world self.new.world
+            out.old.items out.new.items) }
+        ensures err { OnErr result (out.new.items ≡ out.old.items) }
+    {
+        let kept = out.len();
+        if self.carry_out(alloc, line, level, out).is_err() {
+            out.truncate(kept);
+            return Err(AllocError);
+        }
+        Ok(())
+    }
+
+    /// Answers a line, without its LF: adds the text of the entry, a remark, the count of the gifts
+    /// that level a field with the texts of their entries, or `bad line`. Where memory is refused
+    /// nothing is added.
     pub(crate) fn answer(
         &mut self,
         alloc: Global,
@@ -148,14 +281,12 @@ impl Machine {
             out.old.items out.new.items) }
         ensures err { OnErr result (out.new.items ≡ out.old.items) }
     {
-        let Some(asked) = line_step(&self.world, line) else {
-            return add_line(out, b"bad line");
-        };
-        match self.world.step(alloc, &asked.step)? {
-            StepReply::NoStatement => add_remark(out, asked.plain),
-            StepReply::Made(entry) => {
-                add_made(out, &mut self.text, self.world.schema(), &asked, entry)
-            }
+        if let Some(asked) = line_step(&self.world, line) {
+            return self.take(alloc, &asked, out);
+        }
+        match line_level(&self.world, line) {
+            Some(level) => self.level(alloc, line, level, out),
+            None => add_line(out, b"bad line"),
         }
     }
 }

@@ -1,5 +1,7 @@
 //! What no clause says: the texts, whole runs, and readers and writers that fail.
 
+mod levels;
+
 use crate::{End, ScriptFault, Watched, run_script};
 use field_bounds::SchemaFault;
 use std::alloc::{AllocError, Global};
@@ -609,6 +611,19 @@ fn answers_bad_lines(rt: HostRuntime) -> Result<(), Fail> {
         "deliver 1 torn",
         "deliver 1 torn 18446744073709551616",
         "1 deliver 1",
+        "level",
+        "level stock",
+        "level stock ",
+        "level stock up",
+        "level stock lower ",
+        "level  stock lower",
+        "level sock lower",
+        "level #0 lower",
+        "level #1 lower",
+        "level stock lower 1",
+        "level stock lower torn 3",
+        "0 level stock lower",
+        "Level stock lower",
     ] {
         talk.bad(line)?;
     }

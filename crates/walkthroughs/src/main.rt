@@ -5,13 +5,14 @@ use escrow_script::{Watched, run_script};
 use std::alloc::{AllocError, Global};
 use std::{fs, io};
 
-const WALKTHROUGHS: [&str; 7] = [
+const WALKTHROUGHS: [&str; 8] = [
     "one_gift",
     "two_warehouses",
     "three_desks",
     "two_branches",
     "shop_stock",
     "two_shops",
+    "three_shops",
     "flight_seats",
 ];
 

@@ -1,4 +1,4 @@
--- A statement that was issued never exceeds the receiver's room.
+-- A statement that was issued never exceeds the receiver's room, nor what a site has a field's width.
 use Rattle.std.proofs.Common.{◌≡◌, ℕ, ◌+◌, ◌-◌, ◌<◌, ◌≤◌, List, arith}
 use Rattle.std.proofs.lemmas.Int.{ints}
 use Rattle.std.specs.Prelude.{ℤ, ◌-ℤ◌, ◌≤ℤ◌, unsigned_abs}
@@ -36,7 +36,7 @@ module _ (schema : SchemaValue) (good : IsSchema schema) (t : List Entry) (sound
   cut_within s below f k = term_below schema.sites (λ i. cut (fresh schema i) f k (at_site schema t i)) s below
 
   -- what a site has and has given up, with what is in flight to anyone, is within the width
-  within_width : (s : ℕ) → s < schema.sites → (f : ℕ)
+  pub within_width : (s : ℕ) → s < schema.sites → (f : ℕ)
       → own_rights (fresh schema s) f Lower (at_site schema t s) + own_rights (fresh schema s) f Raise (at_site schema t s) + in_flight schema t f Lower + in_flight schema t f Raise
       + cut (fresh schema s) f Lower (at_site schema t s) + cut (fresh schema s) f Raise (at_site schema t s) ≤ width_of (field_at schema f)
   within_width s below f =

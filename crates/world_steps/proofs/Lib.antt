@@ -5,3 +5,4 @@ pub mod Sound
 pub mod Numbered
 pub mod Stand
 pub mod Living
+pub mod Shares

@@ -1,7 +1,8 @@
 //! The world.
 
-ghost use Rattle.std.specs.Prelude.{◌≡◌, ◌<◌, ◌++◌, [], ◌∷◌, IfOk, OnOk, OnErr, length, reverse};
+ghost use Rattle.std.specs.Prelude.{◌≡◌, ◌<◌, ◌≤◌, ◌+◌, ◌++◌, [], ◌∷◌, IfOk, IfSome, OnOk, OnErr, length, reverse};
 ghost use Rattle.field_bounds.specs.Limits.{IsSchema};
+ghost use Rattle.field_bounds.specs.Parts.{field_at, width_of};
 ghost use Rattle.field_bounds.specs.Effects.{fresh};
 ghost use Rattle.field_bounds.specs.Owed.{place, shares_of};
 ghost use Rattle.field_bounds.specs.Central.{own, IsSound, IsCentral, IsConservedThroughout};
@@ -180,15 +181,17 @@ impl World {
         &self.issued
     }
 
-    /// The free rights of a site on a field, to lower and to raise it, each 0 to
-    /// 2,000,000,000,000,000: what its own entries of the trace leave it. None where the site is
-    /// down, or the field isn't in the schema. Costs no memory.
+    /// The free rights of a site on a field, to lower and to raise it: what its own entries of the
+    /// trace leave it (`value`), both together at most the field's width, which is at most
+    /// 2,000,000,000,000,000 (`within`). None where the site is down, or the field isn't in the
+    /// schema. Costs no memory.
     ///
     /// Source: Balegas and others 2015 for shares as sums, this project for the two kinds.
     pub fn share(&self, site: SiteNo, field: FieldNo) -> Option<(u64, u64)>
         requires in_schema { site.0 < self.now.schema.sites }
         ensures value { result ≡ shares_of
             (place self.now.schema site.0 (fresh self.now.schema site.0) (own site.0 (trace_of self.now))) field }
+        ensures within { IfSome result (λ shares. shares.0 + shares.1 ≤ width_of (field_at self.now.schema field.0)) }
     {
         self.sites[usize::from(site.0)].share(field)
     }

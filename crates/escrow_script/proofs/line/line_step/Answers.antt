@@ -8,8 +8,8 @@ use Rattle.escrow_script.specs.Text.{Asks}
 use Rattle.escrow_script.proofs.StepLemmas.{one_step}
 use Rattle.escrow_script.proofs.line.line_step.Goals as goal
 
-pub returns-else-step_fits-clause-bad : goal.returns-else-step_fits-clause-bad
-returns-else-step_fits-clause-bad c = λ step asks.
+pub returns-else-step_fits-clause-none : goal.returns-else-step_fits-clause-none
+returns-else-step_fits-clause-none c = λ step asks.
     let is = sym c.schema-schema.ensures.value in
     let limits = subst (λ (s : SchemaValue). IsSchema s) is c.schema-schema.ensures.limits in
     let there = subst (λ (s : SchemaValue). Asks s c.args.line.now step) is asks in
