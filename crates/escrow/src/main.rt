@@ -40,6 +40,7 @@ divided evenly among the sites. Each other line is a command at a site:
   SITE restart                  the site stops, and stands anew on what it kept
   deliver K                     the K-th statement that was issued reaches its
                                 receiver, which accepts it
+  level FIELD KIND              evens out free rights among the sites that are up
 
 ` torn N` behind a line tears what it appends after N bytes. Each line is
 answered by its command, an arrow and the reply. Any other line is answered by

@@ -309,15 +309,19 @@ impl Script {
     }
 }
 
-/// Runs a script: a header line, and then the lines of steps, each answered by a line.
+/// Runs a script: a header line, and then the lines of steps, each answered by a line, or by more where
+/// a field is levelled.
 ///
 /// Line 1 is a header, and is written as it was read. Every other line asks a step of a world of
 /// the header's sites: a command, answered by `COMMAND -> REPLY` at the site that it names, or
 /// `deliver K`, by which the statement of that number, counted from 1 as they were issued, is taken
 /// in by the site that it is for, answered by that site's entry, or by
-/// `deliver K -> refused 16 no statement`. A line may end in ` torn N`: then the append of its step
-/// keeps the first N bytes. Any other line is answered by `bad line` and changes nothing. A line
-/// ends with LF; a last line without LF counts where it has at least one byte.
+/// `deliver K -> refused 16 no statement`. Such a line may end in ` torn N`: then the append of its
+/// step keeps the first N bytes. `level FIELD KIND` evens out the free rights of a field of the schema
+/// among the sites that are up: it is answered by ` -> moves M` behind the line, and then by the
+/// entries of M gifts, those of the even plan of the sites' shares, one after another. Any other line
+/// is answered by `bad line` and changes nothing. A line ends with LF; a last line without LF counts
+/// where it has at least one byte.
 ///
 /// So what is written at Ok is the text of the one trace that the steps make, and that trace is a
 /// run of one central escrow store, with all that `World::trace` says of it: rights are conserved,
