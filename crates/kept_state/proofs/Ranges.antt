@@ -1,5 +1,5 @@
 -- The numbers of a record that a command writes lie in the ranges of its text.
-use Rattle.std.proofs.Common.{◌≡◌, ℕ, ◌+◌, ◌<◌, ◌≤◌, Bool, true, false, cond, List, [], ◌∷◌, ◌++◌, reverse, length, refl, sym, subst, inl, inr, arith, Some, None}
+use Rattle.std.proofs.Common.{◌≡◌, ℕ, ◌<◌, ◌≤◌, Bool, true, false, cond, List, [], ◌∷◌, ◌++◌, reverse, length, refl, sym, subst, inl, inr, arith, Some, None}
 use Rattle.std.proofs.lemmas.Bool.{or_cases, ltb-true}
 use Rattle.std.proofs.lemmas.Grind.{reverse_onto}
 use Rattle.std.proofs.lemmas.List.{length-reverse}
@@ -18,12 +18,12 @@ use Rattle.field_bounds.specs.Limits.{IsSchema}
 use Rattle.field_bounds.specs.declared.effect.Effect.{Effect}
 use Rattle.field_bounds.specs.declared.effect.Effect.TheVariants.{Begins, Grants, Commits, Gives, Accepts}
 use Rattle.field_bounds.specs.Effects.{Base, after, effects, same_txn, is_begun, escrows_of}
-use Rattle.field_bounds.specs.Owed.{Place, place, first, refusals, answer, writes, epoch_of, epoch_after, count_escrows, free, spared_of, cut_so_far, max_change, max_number, max_epoch, max_escrows, Fits, IsRun}
+use Rattle.field_bounds.specs.Owed.{Place, place, first, refusals, answer, writes, epoch_of, epoch_after, count_escrows, free, spared_of, max_number, max_epoch, max_escrows, Fits, IsRun}
 use Rattle.kept_records.specs.Text.{IsChange, IsEscrow, IsRecord}
 use Rattle.kept_records.specs.declared.record.Record.{Record}
 use Rattle.kept_records.specs.declared.record.Record.TheVariants as records
 use Rattle.kept_records.specs.Stands.{later, greatest}
-use Rattle.kept_state.specs.Keeps.{record_at, opened}
+use Rattle.kept_state.specs.Keeps.{record_at, opened, IsCutWithin}
 use Rattle.field_bounds.proofs.Lawful.{same_txn-true}
 use Rattle.field_bounds.proofs.Sparing.{spared_is_some}
 use Rattle.field_bounds.proofs.Refused.{none_holds, match_cases, begin_has_a_number, escrow_is_in_schema, escrow_is_some, escrow_is_small, escrow_is_one_of_few, commit_is_opened, give_is_to_a_site, give_is_in_schema, give_is_some, give_has_room, spare_is_to_a_site, spare_is_in_schema, spare_is_some, spare_has_a_share, spare_has_room, tighten_is_in_schema, tighten_is_some, accept_is_from_a_site, accept_is_in_schema, accept_is_some, accept_is_small}
@@ -177,12 +177,7 @@ opened_in_range schema s false bs is = greatest_in_range bs is
 
 -- ---- records
 
--- what a tightening comes to in all is in the range of its record
-abbrev pub IsCutWithin : Place → Command → Type 0
-IsCutWithin at (Tighten field kind amount) = cut_so_far at field kind + amount ≤ max_change
-IsCutWithin at command = Unit {0}
-
--- then the record of a command that writes one is in the ranges of its text
+-- the record of a command that writes one is in the ranges of its text
 pub record_in_range : (schema : SchemaValue) (s : ℕ) (base : Base) (o : List Entry) → IsSchema schema → IsRun schema s base o → base.epoch ≤ max_epoch → (c : Command)
     → IsCutWithin (place schema s base o) c → first (refusals (place schema s base o) c) ≡ None → writes (place schema s base o) c ≡ true → IsRecord (record_at (place schema s base o) c)
 record_in_range schema s base o limits run small (Commit txn) few h w =

@@ -1,6 +1,6 @@
 -- Which records a site's entries leave on its medium (this project). Records stand in order, the oldest first; entries
 -- have the newest first.
-use Rattle.std.specs.Prelude.{◌≡◌, ℕ, ◌+◌, Bool, true, false, if◌then◌else◌, List, [], ◌∷◌, ◌++◌, reverse}
+use Rattle.std.specs.Prelude.{◌≡◌, ℕ, ◌+◌, ◌≤◌, Bool, true, false, if◌then◌else◌, List, [], ◌∷◌, ◌++◌, reverse}
 use Rattle.field_bounds.specs.declared.kind.Kind.{Kind}
 use Rattle.field_bounds.specs.declared.id.SiteNo.{SiteNo}
 use Rattle.field_bounds.specs.declared.entry.Command.{Command}
@@ -10,7 +10,7 @@ use Rattle.field_bounds.specs.declared.entry.Reply.TheVariants.{Begun, Granted, 
 use Rattle.field_bounds.specs.declared.entry.Entry.{Entry}
 use Rattle.field_bounds.specs.Schema.{SchemaValue}
 use Rattle.field_bounds.specs.Effects.{Base, fresh, escrows_of, kept_before}
-use Rattle.field_bounds.specs.Owed.{Place, place, told_so_far, cut_so_far, spared_of, writes}
+use Rattle.field_bounds.specs.Owed.{Place, place, told_so_far, cut_so_far, spared_of, writes, max_change}
 use Rattle.kept_records.specs.declared.record.Record.{Record}
 use Rattle.kept_records.specs.declared.record.Record.TheVariants.{Commit, Gift, Accept, Tighten, Restart}
 use Rattle.kept_records.specs.Stands.{greatest, stands, gained_in, spent_in, given_in, cut_in, accepted_in}
@@ -31,6 +31,21 @@ record_at at (commands.Restate to field kind) = Restart 0
 record_at at (commands.Read field) = Restart 0
 record_at at (commands.Share field) = Restart 0
 record_at at commands.Restart = Restart 0
+
+-- What a tightening would bring what was given up to lies in the range of its record. Of another command nothing is asked.
+abbrev pub IsCutWithin : Place → Command → Type 0
+IsCutWithin at (commands.Tighten field kind amount) = cut_so_far at field kind + amount ≤ max_change
+IsCutWithin at commands.Begin = Unit {0}
+IsCutWithin at (commands.Escrow txn field change) = Unit {0}
+IsCutWithin at (commands.Commit txn) = Unit {0}
+IsCutWithin at (commands.Abort txn) = Unit {0}
+IsCutWithin at (commands.Give to field kind amount) = Unit {0}
+IsCutWithin at (commands.Restate to field kind) = Unit {0}
+IsCutWithin at (commands.Spare to field kind want) = Unit {0}
+IsCutWithin at (commands.Accept told) = Unit {0}
+IsCutWithin at (commands.Read field) = Unit {0}
+IsCutWithin at (commands.Share field) = Unit {0}
+IsCutWithin at commands.Restart = Unit {0}
 
 -- That record, where the command writes one.
 abbrev pub noted : Place → Command → List Record

@@ -19,7 +19,7 @@ ghost use Rattle.kept_records.specs.declared.record.Record.{Record};
 ghost use Rattle.kept_records.specs.declared.record.Record.TheVariants as records;
 ghost use Rattle.kept_records.specs.Text.{IsRecord};
 ghost use Rattle.kept_records.specs.Stands.{greatest, may_stand, Lawful};
-ghost use Rattle.kept_state.specs.Keeps.{record_at, noted, adds, entry_at, Keeps, IsBase};
+ghost use Rattle.kept_state.specs.Keeps.{record_at, IsCutWithin, noted, adds, entry_at, Keeps, IsBase};
 ghost use Rattle.kept_state.specs.Doubt.{found_of, IsDoubt};
 
 /// What each reply leaves behind the records `rs` that a site's entries `o` have left. An answer
@@ -93,8 +93,9 @@ pub fn doubt_is_settled()
 
 /// The record of a command that isn't refused, and that writes one, may be written: it may stand
 /// behind the records that the site's entries have left (`lawful`), and its numbers lie in the
-/// ranges of its text (`in_range`), as the site's epoch does (`epoch`), if its base's does. That what
-/// was given up in all lies in its range rests on the records that the site opened over being lawful.
+/// ranges of its text (`in_range`), as the site's epoch does (`epoch`), if its base's does. Of a
+/// tightening that asks that what it comes to in all lies in range, as it does over lawful records
+/// (`cut`).
 ///
 /// Source: this project.
 pub fn records_may_be_written()
@@ -104,13 +105,19 @@ pub fn records_may_be_written()
         first (refusals (place schema s base o) command) ≡ None →
         writes (place schema s base o) command ≡ true →
         may_stand schema s rs (record_at (place schema s base o) command) ≡ true }
-    ensures in_range { (schema : SchemaValue) (s : ℕ) (base : Base) (bs : List Record) (kept : Bool)
-        (o : List Entry) (rs : List Record) (command : Command) →
-        IsSchema schema → s < schema.sites → IsBase schema s base bs → Lawful schema s bs →
-        IsRun schema s base o → Keeps schema s base bs kept o rs → base.epoch ≤ max_epoch →
+    ensures in_range { (schema : SchemaValue) (s : ℕ) (base : Base) (o : List Entry)
+        (command : Command) → IsSchema schema → IsRun schema s base o → base.epoch ≤ max_epoch →
+        IsCutWithin (place schema s base o) command →
         first (refusals (place schema s base o) command) ≡ None →
         writes (place schema s base o) command ≡ true →
         IsRecord (record_at (place schema s base o) command) }
+    ensures cut { (schema : SchemaValue) (s : ℕ) (base : Base) (bs : List Record) (kept : Bool)
+        (o : List Entry) (rs : List Record) (command : Command) →
+        IsSchema schema → s < schema.sites → IsBase schema s base bs → Lawful schema s bs →
+        IsRun schema s base o → Keeps schema s base bs kept o rs →
+        first (refusals (place schema s base o) command) ≡ None →
+        writes (place schema s base o) command ≡ true →
+        IsCutWithin (place schema s base o) command }
     ensures epoch { (schema : SchemaValue) (s : ℕ) (base : Base) (o : List Entry) →
         IsRun schema s base o → base.epoch ≤ max_epoch → epoch_of base o ≤ max_epoch }
 {}
