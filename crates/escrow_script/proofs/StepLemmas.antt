@@ -13,7 +13,7 @@ use Rattle.field_bounds.specs.Schema.{SchemaValue}
 use Rattle.field_bounds.specs.Limits.{IsSchema}
 use Rattle.field_bounds.specs.declared.id.SiteNo.{SiteNo}
 use Rattle.field_bounds.specs.declared.entry.Command.{Command}
-use Rattle.field_bounds.specs.declared.entry.Command.TheVariants.{Begin, Escrow, Commit, Abort, Give, Restate, Spare, Accept, Read, Share, Restart}
+use Rattle.field_bounds.specs.declared.entry.Command.TheVariants.{Begin, Escrow, Commit, Abort, Give, Restate, Spare, Tighten, Accept, Read, Share, Restart}
 use Rattle.line_words.specs.Words.{words, line}
 use Rattle.line_words.specs.Reading.{number_of, beside}
 use Rattle.line_words.proofs.Numbers.{number_again}
@@ -90,7 +90,7 @@ first (w ∷ ws) = w
 
 abbrev counts : List (List ℕ × ℕ)
 counts = (codes "begin", 1) ∷ (codes "escrow", 4) ∷ (codes "commit", 2) ∷ (codes "abort", 2) ∷ (codes "give", 5)
-    ∷ (codes "restate", 4) ∷ (codes "spare", 5) ∷ (codes "accept", 6) ∷ (codes "read", 2) ∷ (codes "share", 2) ∷ (codes "restart", 1) ∷ []
+    ∷ (codes "restate", 4) ∷ (codes "spare", 5) ∷ (codes "tighten", 4) ∷ (codes "accept", 6) ∷ (codes "read", 2) ∷ (codes "share", 2) ∷ (codes "restart", 1) ∷ []
 
 counted : (schema : SchemaValue) (c : Command) → beside counts (first (command_words schema c)) ≡ Some (length (command_words schema c))
 counted schema Begin = refl
@@ -100,6 +100,7 @@ counted schema (Abort txn) = refl
 counted schema (Give to field kind amount) = refl
 counted schema (Restate to field kind) = refl
 counted schema (Spare to field kind want) = refl
+counted schema (Tighten field kind amount) = refl
 counted schema (Accept told) = refl
 counted schema (Read field) = refl
 counted schema (Share field) = refl
@@ -113,6 +114,7 @@ first_of schema (Abort txn) more = refl
 first_of schema (Give to field kind amount) more = refl
 first_of schema (Restate to field kind) more = refl
 first_of schema (Spare to field kind want) more = refl
+first_of schema (Tighten field kind amount) more = refl
 first_of schema (Accept told) more = refl
 first_of schema (Read field) more = refl
 first_of schema (Share field) more = refl

@@ -127,7 +127,7 @@ const WIDEST: &str =
     "{\"sites\":1,\"fields\":[{\"name\":\"stock\",\"floor\":-1000000000000000,\"ceiling\":1000000000000000,\"value\":1000000000000000}]}";
 
 /// Headers, each with command lines and what is replied to them.
-const WORKED: [(&str, &[(&str, &str)]); 13] = [
+const WORKED: [(&str, &[(&str, &str)]); 14] = [
     (
         HEADER,
         &[
@@ -283,6 +283,17 @@ const WORKED: [(&str, &[(&str, &str)]); 13] = [
         ],
     ),
     (
+        HALVED,
+        &[
+            ("0 tighten stock lower 5", "tightened 5"),
+            ("0 share stock", "share 15 30"),
+            ("0 read stock", "between 20 70"),
+            ("0 tighten stock lower 16", "refused 7 short 15"),
+            ("0 tighten stock raise 30", "tightened 30"),
+            ("0 read stock", "between 20 70"),
+        ],
+    ),
+    (
         TWINS,
         &[
             ("0 begin", "begun 0.1"),
@@ -297,7 +308,7 @@ const WORKED: [(&str, &[(&str, &str)]); 13] = [
 ];
 
 /// Lines over two sites, with deliveries and torn appends, each beside what answers it.
-const SAID: [&[(&str, &str)]; 13] = [
+const SAID: [&[(&str, &str)]; 15] = [
     // A gift is delivered, and again.
     &[
         (
@@ -373,6 +384,17 @@ const SAID: [&[(&str, &str)]; 13] = [
         ("deliver 2", "1 accept 0 1 stock raise 23 -> accepted 23"),
         ("deliver 1", "1 accept 0 1 stock raise 15 -> accepted 0"),
         ("1 share stock", "1 share stock -> share 20 53"),
+    ],
+    // A tightening in doubt that was kept, and one that lacked a byte.
+    &[
+        ("0 tighten stock lower 5 torn 8", "0 tighten stock lower 5 -> unsure"),
+        ("0 restart", "0 restart -> restarted 1 kept"),
+        ("0 share stock", "0 share stock -> share 15 30"),
+    ],
+    &[
+        ("0 tighten stock lower 5 torn 7", "0 tighten stock lower 5 -> unsure"),
+        ("0 restart", "0 restart -> restarted 1 lost"),
+        ("0 share stock", "0 share stock -> share 20 30"),
     ],
     // A restart whose record is torn fails.
     &[
