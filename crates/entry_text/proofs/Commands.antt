@@ -5,7 +5,7 @@ use Rattle.std.specs.List.{AllByRecursion}
 use Rattle.std.proofs.lemmas.Option.{some_pair_parts}
 use Rattle.field_bounds.specs.declared.id.SiteNo.{SiteNo}
 use Rattle.field_bounds.specs.declared.entry.Command.{Command}
-use Rattle.field_bounds.specs.declared.entry.Command.TheVariants.{Begin, Escrow, Commit, Abort, Give, Restate, Spare, Accept, Read, Share, Restart}
+use Rattle.field_bounds.specs.declared.entry.Command.TheVariants.{Begin, Escrow, Commit, Abort, Give, Restate, Spare, Tighten, Accept, Read, Share, Restart}
 use Rattle.field_bounds.specs.Schema.{SchemaValue}
 use Rattle.field_bounds.specs.Limits.{IsSchema}
 use Rattle.line_words.specs.Reading.{◌>>=◌, word_at}
@@ -18,7 +18,7 @@ use Rattle.entry_text.specs.declared.verb.Verb.{Verb}
 use Rattle.entry_text.specs.declared.verb.Verb.TheVariants as verbs
 use Rattle.entry_text.specs.Spelling.{command_words, command_text, site_text}
 use Rattle.entry_text.specs.Ranges.{CommandFits, SiteFits}
-use Rattle.entry_text.specs.Commands.{verb_of, verb_table, escrow_at, give_at, restate_at, spare_at, accept_at, arguments_at, command_at, command_of}
+use Rattle.entry_text.specs.Commands.{verb_of, verb_table, escrow_at, give_at, restate_at, spare_at, tighten_at, accept_at, arguments_at, command_at, command_of}
 use Rattle.entry_text.proofs.WordKinds.{site_read, id_read, kind_read, field_read}
 
 -- ---- the first word
@@ -31,6 +31,7 @@ verb_text verbs.Abort = codes "abort"
 verb_text verbs.Give = codes "give"
 verb_text verbs.Restate = codes "restate"
 verb_text verbs.Spare = codes "spare"
+verb_text verbs.Tighten = codes "tighten"
 verb_text verbs.Accept = codes "accept"
 verb_text verbs.Read = codes "read"
 verb_text verbs.Share = codes "share"
@@ -45,6 +46,7 @@ verb_again verbs.Abort = refl
 verb_again verbs.Give = refl
 verb_again verbs.Restate = refl
 verb_again verbs.Spare = refl
+verb_again verbs.Tighten = refl
 verb_again verbs.Accept = refl
 verb_again verbs.Read = refl
 verb_again verbs.Share = refl
@@ -52,7 +54,7 @@ verb_again verbs.Restart = refl
 
 verb_read : IsRead (λ (v : Verb). Unit {0}) verb_text verb_of
 unfolding verb_of
-verb_read = table_read verb_text verb_table (refl, (refl, (refl, (refl, (refl, (refl, (refl, (refl, (refl, (refl, (refl, tt))))))))))) refl verb_again
+verb_read = table_read verb_text verb_table (refl, (refl, (refl, (refl, (refl, (refl, (refl, (refl, (refl, (refl, (refl, (refl, tt)))))))))))) refl verb_again
 
 verb_word : (v : Verb) → IsWord (verb_text v)
 verb_word v = verb_read.plain v tt
@@ -64,7 +66,7 @@ made : {ws : List (List ℕ)} (schema : SchemaValue) (b c : Command) (after rest
 made {ws} schema b c after rest e fits is = made_of CommandFits (command_words schema) ws b c after rest e fits is
 
 arguments_takes : (schema : SchemaValue) → IsSchema schema → (v : Verb) (ws : List (List ℕ)) (c : Command) (rest : List (List ℕ)) → arguments_at schema v ws ≡ found c rest → CommandFits c × (verb_text v ∷ ws ≡ command_words schema c ++ rest)
-unfolding arguments_at escrow_at give_at restate_at spare_at accept_at
+unfolding arguments_at escrow_at give_at restate_at spare_at tighten_at accept_at
 arguments_takes schema is verbs.Begin ws c rest e = made schema Begin c ws rest e tt refl
 arguments_takes schema is verbs.Escrow ws c rest e =
     taking id_read _ ws _ e (λ txn r1 f1 w1 e1.
@@ -94,6 +96,11 @@ arguments_takes schema is verbs.Spare ws c rest e =
     taking kind_read _ r2 _ e2 (λ kind r3 f3 w3 e3.
     taking number_read _ r3 _ e3 (λ want r4 f4 w4 e4.
     made schema (Spare to field kind want) c r4 rest e4 (f1, f2, f4) (cc (w1, w2, w3, w4))))))
+arguments_takes schema is verbs.Tighten ws c rest e =
+    taking (field_read schema is) _ ws _ e (λ field r1 f1 w1 e1.
+    taking kind_read _ r1 _ e1 (λ kind r2 f2 w2 e2.
+    taking number_read _ r2 _ e2 (λ amount r3 f3 w3 e3.
+    made schema (Tighten field kind amount) c r3 rest e3 (f1, f3) (cc (w1, w2, w3)))))
 arguments_takes schema is verbs.Accept ws c rest e =
     taking site_read _ ws _ e (λ from r1 f1 w1 e1.
     taking site_read _ r1 _ e1 (λ to r2 f2 w2 e2.
@@ -111,7 +118,7 @@ arguments_takes schema is verbs.Restart ws c rest e = made schema Restart c ws r
 
 -- after the first word, the arguments give the command again
 after_verb : (schema : SchemaValue) → IsSchema schema → (c : Command) (rest : List (List ℕ)) → CommandFits c → (word_at verb_of (command_words schema c ++ rest) >>= λ v. arguments_at schema v.0 v.1) ≡ found c rest
-unfolding arguments_at escrow_at give_at restate_at spare_at accept_at
+unfolding arguments_at escrow_at give_at restate_at spare_at tighten_at accept_at
 after_verb schema is Begin rest fits = word_again verb_read _ verbs.Begin rest tt
 after_verb schema is (Escrow txn field change) rest fits =
     word_again verb_read _ verbs.Escrow _ tt ∙ word_again id_read _ txn _ fits.0 ∙ word_again (field_read schema is) _ field _ fits.1 ∙ word_again signed_read _ change rest fits.2
@@ -125,6 +132,8 @@ after_verb schema is (Restate to field kind) rest fits =
     word_again verb_read _ verbs.Restate _ tt ∙ word_again site_read _ to _ fits.0 ∙ word_again (field_read schema is) _ field _ fits.1 ∙ word_again kind_read _ kind rest tt
 after_verb schema is (Spare to field kind want) rest fits =
     word_again verb_read _ verbs.Spare _ tt ∙ word_again site_read _ to _ fits.0 ∙ word_again (field_read schema is) _ field _ fits.1 ∙ word_again kind_read _ kind _ tt ∙ word_again number_read _ want rest fits.2
+after_verb schema is (Tighten field kind amount) rest fits =
+    word_again verb_read _ verbs.Tighten _ tt ∙ word_again (field_read schema is) _ field _ fits.0 ∙ word_again kind_read _ kind _ tt ∙ word_again number_read _ amount rest fits.1
 after_verb schema is (Accept s) rest fits =
     word_again verb_read _ verbs.Accept _ tt ∙ word_again site_read _ s.from _ fits.0 ∙ word_again site_read _ s.to _ fits.1 ∙ word_again (field_read schema is) _ s.field _ fits.2 ∙ word_again kind_read _ s.kind _ tt ∙ word_again number_read _ s.total rest fits.3
 after_verb schema is (Read field) rest fits =
@@ -141,6 +150,7 @@ command_plain schema is (Abort txn) fits = (verb_word verbs.Abort, (id_read.plai
 command_plain schema is (Give to field kind amount) fits = (verb_word verbs.Give, (site_read.plain to fits.0, ((field_read schema is).plain field fits.1, (kind_read.plain kind tt, (number_read.plain amount fits.2, tt)))))
 command_plain schema is (Restate to field kind) fits = (verb_word verbs.Restate, (site_read.plain to fits.0, ((field_read schema is).plain field fits.1, (kind_read.plain kind tt, tt))))
 command_plain schema is (Spare to field kind want) fits = (verb_word verbs.Spare, (site_read.plain to fits.0, ((field_read schema is).plain field fits.1, (kind_read.plain kind tt, (number_read.plain want fits.2, tt)))))
+command_plain schema is (Tighten field kind amount) fits = (verb_word verbs.Tighten, ((field_read schema is).plain field fits.0, (kind_read.plain kind tt, (number_read.plain amount fits.1, tt))))
 command_plain schema is (Accept s) fits = (verb_word verbs.Accept, (site_read.plain s.from fits.0, (site_read.plain s.to fits.1, ((field_read schema is).plain s.field fits.2, (kind_read.plain s.kind tt, (number_read.plain s.total fits.3, tt))))))
 command_plain schema is (Read field) fits = (verb_word verbs.Read, ((field_read schema is).plain field fits, tt))
 command_plain schema is (Share field) fits = (verb_word verbs.Share, ((field_read schema is).plain field fits, tt))

@@ -14,13 +14,13 @@ use Rattle.field_bounds.specs.declared.kind.Kind.TheVariants.{Lower, Raise}
 use Rattle.field_bounds.specs.declared.id.FieldNo.{FieldNo}
 use Rattle.field_bounds.specs.declared.id.TxnId.{TxnId}
 use Rattle.field_bounds.specs.declared.entry.Command.{Command}
-use Rattle.field_bounds.specs.declared.entry.Command.TheVariants.{Begin, Escrow, Commit, Abort, Give, Restate, Spare, Accept, Read, Share, Restart}
+use Rattle.field_bounds.specs.declared.entry.Command.TheVariants.{Begin, Escrow, Commit, Abort, Give, Restate, Spare, Tighten, Accept, Read, Share, Restart}
 use Rattle.field_bounds.specs.declared.entry.Last.{Last}
 use Rattle.field_bounds.specs.declared.entry.Last.TheVariants.{Nothing, Kept, Lost}
 use Rattle.field_bounds.specs.declared.entry.Refusal.{Refusal}
 use Rattle.field_bounds.specs.declared.entry.Refusal.TheVariants.{Down, NoSite, NoField, NoTransaction, Zero, TooLarge, Short, SelfGift, LedgerFull, NotYours, Forged, TooManyOpen, TooManyEscrows, NumbersFull, NothingGiven}
 use Rattle.field_bounds.specs.declared.entry.Reply.{Reply}
-use Rattle.field_bounds.specs.declared.entry.Reply.TheVariants.{Begun, Granted, Committed, Aborted, Given, Stated, Spared, Accepted, Between, Shares, Restarted, Unsure, StillDown, Refused}
+use Rattle.field_bounds.specs.declared.entry.Reply.TheVariants.{Begun, Granted, Committed, Aborted, Given, Stated, Spared, Tightened, Accepted, Between, Shares, Restarted, Unsure, StillDown, Refused}
 use Rattle.field_bounds.specs.Schema.{FieldValue, SchemaValue}
 use Rattle.field_bounds.specs.Limits.{is_name, is_name_length, is_name_byte, IsField, IsSchema}
 use Rattle.field_bounds.specs.Parts.{no_field}
@@ -118,6 +118,7 @@ command_room schema is (Abort txn) fits = omega (arith, id_width txn fits)
 command_room schema is (Give to field kind amount) fits = omega (arith, narrow to.0 fits.0, field_width schema is field fits.1, kind_width kind, wide amount fits.2)
 command_room schema is (Restate to field kind) fits = omega (arith, narrow to.0 fits.0, field_width schema is field fits.1, kind_width kind)
 command_room schema is (Spare to field kind want) fits = omega (arith, narrow to.0 fits.0, field_width schema is field fits.1, kind_width kind, wide want fits.2)
+command_room schema is (Tighten field kind amount) fits = omega (arith, field_width schema is field fits.0, kind_width kind, wide amount fits.1)
 command_room schema is (Accept s) fits = omega (arith, narrow s.from.0 fits.0, narrow s.to.0 fits.1, field_width schema is s.field fits.2, kind_width s.kind, wide s.total fits.3)
 command_room schema is (Read field) fits = omega (arith, field_width schema is field fits)
 command_room schema is (Share field) fits = omega (arith, field_width schema is field fits)
@@ -148,6 +149,7 @@ reply_room Aborted fits = omega arith
 reply_room (Given total) fits = omega (arith, wide total fits)
 reply_room (Stated total) fits = omega (arith, wide total fits)
 reply_room (Spared amount total) fits = omega (arith, wide amount fits.0, wide total fits.1)
+reply_room (Tightened total) fits = omega (arith, wide total fits)
 reply_room (Accepted gain) fits = omega (arith, wide gain fits)
 reply_room (Between lo hi) fits = omega (arith, signed_width lo fits.0, signed_width hi fits.1)
 reply_room (Shares lower raise) fits = omega (arith, wide lower fits.0, wide raise fits.1)

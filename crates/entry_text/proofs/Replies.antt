@@ -9,7 +9,7 @@ use Rattle.field_bounds.specs.declared.entry.Last.TheVariants.{Nothing, Kept, Lo
 use Rattle.field_bounds.specs.declared.entry.Refusal.{Refusal}
 use Rattle.field_bounds.specs.declared.entry.Refusal.TheVariants.{Down, NoSite, NoField, NoTransaction, Zero, TooLarge, Short, SelfGift, LedgerFull, NotYours, Forged, TooManyOpen, TooManyEscrows, NumbersFull, NothingGiven}
 use Rattle.field_bounds.specs.declared.entry.Reply.{Reply}
-use Rattle.field_bounds.specs.declared.entry.Reply.TheVariants.{Begun, Granted, Committed, Aborted, Given, Stated, Spared, Accepted, Between, Shares, Restarted, Unsure, StillDown, Refused}
+use Rattle.field_bounds.specs.declared.entry.Reply.TheVariants.{Begun, Granted, Committed, Aborted, Given, Stated, Spared, Tightened, Accepted, Between, Shares, Restarted, Unsure, StillDown, Refused}
 use Rattle.line_words.proofs.WordLemmas.{IsWord, is_word, word_from_test}
 use Rattle.line_words.proofs.Forms.{IsRead, IsForm, found, taking, word_again, taking_form, form_again, made_of}
 use Rattle.line_words.proofs.WordKinds.{number_read, signed_read, below_read, only_read, table_read}
@@ -173,6 +173,7 @@ label_text labels.Aborted = codes "aborted"
 label_text labels.Given = codes "given"
 label_text labels.Stated = codes "stated"
 label_text labels.Spared = codes "spared"
+label_text labels.Tightened = codes "tightened"
 label_text labels.Accepted = codes "accepted"
 label_text labels.Between = codes "between"
 label_text labels.Shares = codes "share"
@@ -190,6 +191,7 @@ label_again labels.Aborted = refl
 label_again labels.Given = refl
 label_again labels.Stated = refl
 label_again labels.Spared = refl
+label_again labels.Tightened = refl
 label_again labels.Accepted = refl
 label_again labels.Between = refl
 label_again labels.Shares = refl
@@ -200,7 +202,7 @@ label_again labels.Refused = refl
 
 label_read : IsRead (λ (l : Label). Unit {0}) label_text label_of
 unfolding label_of
-label_read = table_read label_text label_table (refl, (refl, (refl, (refl, (refl, (refl, (refl, (refl, (refl, (refl, (refl, (refl, (refl, (refl, tt)))))))))))))) refl label_again
+label_read = table_read label_text label_table (refl, (refl, (refl, (refl, (refl, (refl, (refl, (refl, (refl, (refl, (refl, (refl, (refl, (refl, (refl, tt))))))))))))))) refl label_again
 
 label_word : (l : Label) → IsWord (label_text l)
 label_word l = label_read.plain l tt
@@ -245,6 +247,9 @@ after_label labels.Spared ws v rest e =
     taking number_read _ ws _ e (λ amount r1 f1 w1 e1.
     taking number_read _ r1 _ e1 (λ total r2 f2 w2 e2.
     made_reply (Spared amount total) v r2 rest e2 (f1, f2) (cc (w1, w2))))
+after_label labels.Tightened ws v rest e =
+    taking number_read _ ws _ e (λ total r1 f1 w1 e1.
+    made_reply (Tightened total) v r1 rest e1 f1 (cc w1))
 after_label labels.Accepted ws v rest e =
     taking number_read _ ws _ e (λ gain r1 f1 w1 e1.
     made_reply (Accepted gain) v r1 rest e1 f1 (cc w1))
@@ -283,6 +288,7 @@ reply_again Aborted rest fits = word_again label_read _ labels.Aborted rest tt
 reply_again (Given total) rest fits = word_again label_read _ labels.Given _ tt ∙ word_again number_read _ total rest fits
 reply_again (Stated total) rest fits = word_again label_read _ labels.Stated _ tt ∙ word_again number_read _ total rest fits
 reply_again (Spared amount total) rest fits = word_again label_read _ labels.Spared _ tt ∙ word_again number_read _ amount _ fits.0 ∙ word_again number_read _ total rest fits.1
+reply_again (Tightened total) rest fits = word_again label_read _ labels.Tightened _ tt ∙ word_again number_read _ total rest fits
 reply_again (Accepted gain) rest fits = word_again label_read _ labels.Accepted _ tt ∙ word_again number_read _ gain rest fits
 reply_again (Between lo hi) rest fits = word_again label_read _ labels.Between _ tt ∙ word_again signed_read _ lo _ fits.0 ∙ word_again signed_read _ hi rest fits.1
 reply_again (Shares lower raise) rest fits = word_again label_read _ labels.Shares _ tt ∙ word_again number_read _ lower _ fits.0 ∙ word_again number_read _ raise rest fits.1
@@ -299,6 +305,7 @@ reply_plain Aborted fits = (label_word labels.Aborted, tt)
 reply_plain (Given total) fits = (label_word labels.Given, (number_read.plain total fits, tt))
 reply_plain (Stated total) fits = (label_word labels.Stated, (number_read.plain total fits, tt))
 reply_plain (Spared amount total) fits = (label_word labels.Spared, (number_read.plain amount fits.0, (number_read.plain total fits.1, tt)))
+reply_plain (Tightened total) fits = (label_word labels.Tightened, (number_read.plain total fits, tt))
 reply_plain (Accepted gain) fits = (label_word labels.Accepted, (number_read.plain gain fits, tt))
 reply_plain (Between lo hi) fits = (label_word labels.Between, (signed_read.plain lo fits.0, (signed_read.plain hi fits.1, tt)))
 reply_plain (Shares lower raise) fits = (label_word labels.Shares, (number_read.plain lower fits.0, (number_read.plain raise fits.1, tt)))

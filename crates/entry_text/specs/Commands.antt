@@ -13,7 +13,8 @@ use Rattle.entry_text.specs.Reading.{site_of, id_of, kind_of, field_of}
 -- The commands by their words.
 abbrev pub verb_table : List (List ℕ × Verb)
 verb_table = (codes "begin", verbs.Begin) ∷ (codes "escrow", verbs.Escrow) ∷ (codes "commit", verbs.Commit)
-    ∷ (codes "abort", verbs.Abort) ∷ (codes "give", verbs.Give) ∷ (codes "restate", verbs.Restate) ∷ (codes "spare", verbs.Spare) ∷ (codes "accept", verbs.Accept)
+    ∷ (codes "abort", verbs.Abort) ∷ (codes "give", verbs.Give) ∷ (codes "restate", verbs.Restate) ∷ (codes "spare", verbs.Spare)
+    ∷ (codes "tighten", verbs.Tighten) ∷ (codes "accept", verbs.Accept)
     ∷ (codes "read", verbs.Read) ∷ (codes "share", verbs.Share) ∷ (codes "restart", verbs.Restart) ∷ []
 
 -- The command that the word names.
@@ -54,6 +55,14 @@ spare_at schema ws = do
   want ← word_at (number_of (2 ^ 64)) kind.1
   Some (commands.Spare to.0 field.0 kind.0 want.0, want.1)
 
+-- A tightening's field, kind and amount, and the words after them.
+unfoldable pub tighten_at : SchemaValue → List (List ℕ) → Option (Command × List (List ℕ))
+tighten_at schema ws = do
+  field ← word_at (field_of schema) ws
+  kind ← word_at kind_of field.1
+  amount ← word_at (number_of (2 ^ 64)) kind.1
+  Some (commands.Tighten field.0 kind.0 amount.0, amount.1)
+
 -- A statement's giver, receiver, field, kind and total, and the words after them.
 unfoldable pub accept_at : SchemaValue → List (List ℕ) → Option (Command × List (List ℕ))
 accept_at schema ws = do
@@ -77,6 +86,7 @@ arguments_at schema verbs.Abort ws = do
 arguments_at schema verbs.Give ws = give_at schema ws
 arguments_at schema verbs.Restate ws = restate_at schema ws
 arguments_at schema verbs.Spare ws = spare_at schema ws
+arguments_at schema verbs.Tighten ws = tighten_at schema ws
 arguments_at schema verbs.Accept ws = accept_at schema ws
 arguments_at schema verbs.Read ws = do
   field ← word_at (field_of schema) ws

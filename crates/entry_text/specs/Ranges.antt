@@ -5,11 +5,11 @@ use Rattle.field_bounds.specs.declared.id.SiteNo.{SiteNo}
 use Rattle.field_bounds.specs.declared.id.FieldNo.{FieldNo}
 use Rattle.field_bounds.specs.declared.id.TxnId.{TxnId}
 use Rattle.field_bounds.specs.declared.entry.Command.{Command}
-use Rattle.field_bounds.specs.declared.entry.Command.TheVariants.{Begin, Escrow, Commit, Abort, Give, Restate, Spare, Accept, Read, Share, Restart}
+use Rattle.field_bounds.specs.declared.entry.Command.TheVariants.{Begin, Escrow, Commit, Abort, Give, Restate, Spare, Tighten, Accept, Read, Share, Restart}
 use Rattle.field_bounds.specs.declared.entry.Refusal.{Refusal}
 use Rattle.field_bounds.specs.declared.entry.Refusal.TheVariants.{Down, NoSite, NoField, NoTransaction, Zero, TooLarge, Short, SelfGift, LedgerFull, NotYours, Forged, TooManyOpen, TooManyEscrows, NumbersFull, NothingGiven}
 use Rattle.field_bounds.specs.declared.entry.Reply.{Reply}
-use Rattle.field_bounds.specs.declared.entry.Reply.TheVariants.{Begun, Granted, Committed, Aborted, Given, Stated, Spared, Accepted, Between, Shares, Restarted, Unsure, StillDown, Refused}
+use Rattle.field_bounds.specs.declared.entry.Reply.TheVariants.{Begun, Granted, Committed, Aborted, Given, Stated, Spared, Tightened, Accepted, Between, Shares, Restarted, Unsure, StillDown, Refused}
 use Rattle.field_bounds.specs.declared.entry.Entry.{Entry}
 
 -- A site's number is a u16.
@@ -33,6 +33,7 @@ CommandFits (Abort txn) = IdFits txn
 CommandFits (Give to field kind amount) = SiteFits to × FieldFits field × (amount < 2 ^ 64)
 CommandFits (Restate to field kind) = SiteFits to × FieldFits field
 CommandFits (Spare to field kind want) = SiteFits to × FieldFits field × (want < 2 ^ 64)
+CommandFits (Tighten field kind amount) = FieldFits field × (amount < 2 ^ 64)
 CommandFits (Accept statement) = SiteFits statement.from × SiteFits statement.to × FieldFits statement.field × (statement.total < 2 ^ 64)
 CommandFits (Read field) = FieldFits field
 CommandFits (Share field) = FieldFits field
@@ -65,6 +66,7 @@ ReplyFits Aborted = Unit {0}
 ReplyFits (Given total) = total < 2 ^ 64
 ReplyFits (Stated total) = total < 2 ^ 64
 ReplyFits (Spared amount total) = (amount < 2 ^ 64) × (total < 2 ^ 64)
+ReplyFits (Tightened total) = total < 2 ^ 64
 ReplyFits (Accepted gain) = gain < 2 ^ 64
 ReplyFits (Between lo hi) = FitsSigned w64 lo × FitsSigned w64 hi
 ReplyFits (Shares lower raise) = (lower < 2 ^ 64) × (raise < 2 ^ 64)

@@ -93,7 +93,7 @@ refusal_at ws = do
 -- The replies by their words.
 abbrev pub label_table : List (List ℕ × Label)
 label_table = (codes "begun", labels.Begun) ∷ (codes "granted", labels.Granted) ∷ (codes "committed", labels.Committed) ∷ (codes "aborted", labels.Aborted)
-    ∷ (codes "given", labels.Given) ∷ (codes "stated", labels.Stated) ∷ (codes "spared", labels.Spared) ∷ (codes "accepted", labels.Accepted)
+    ∷ (codes "given", labels.Given) ∷ (codes "stated", labels.Stated) ∷ (codes "spared", labels.Spared) ∷ (codes "tightened", labels.Tightened) ∷ (codes "accepted", labels.Accepted)
     ∷ (codes "between", labels.Between) ∷ (codes "share", labels.Shares) ∷ (codes "restarted", labels.Restarted)
     ∷ (codes "unsure", labels.Unsure) ∷ (codes "still", labels.Still) ∷ (codes "refused", labels.Refused) ∷ []
 
@@ -152,6 +152,9 @@ reply_after labels.Stated ws = do
   total ← word_at (number_of (2 ^ 64)) ws
   Some (replies.Stated total.0, total.1)
 reply_after labels.Spared ws = spared_at ws
+reply_after labels.Tightened ws = do
+  total ← word_at (number_of (2 ^ 64)) ws
+  Some (replies.Tightened total.0, total.1)
 reply_after labels.Accepted ws = do
   gain ← word_at (number_of (2 ^ 64)) ws
   Some (replies.Accepted gain.0, gain.1)

@@ -7,13 +7,13 @@ use Rattle.field_bounds.specs.declared.id.SiteNo.{SiteNo}
 use Rattle.field_bounds.specs.declared.id.FieldNo.{FieldNo}
 use Rattle.field_bounds.specs.declared.id.TxnId.{TxnId}
 use Rattle.field_bounds.specs.declared.entry.Command.{Command}
-use Rattle.field_bounds.specs.declared.entry.Command.TheVariants.{Begin, Escrow, Commit, Abort, Give, Restate, Spare, Accept, Read, Share, Restart}
+use Rattle.field_bounds.specs.declared.entry.Command.TheVariants.{Begin, Escrow, Commit, Abort, Give, Restate, Spare, Tighten, Accept, Read, Share, Restart}
 use Rattle.field_bounds.specs.declared.entry.Last.{Last}
 use Rattle.field_bounds.specs.declared.entry.Last.TheVariants.{Nothing, Kept, Lost}
 use Rattle.field_bounds.specs.declared.entry.Refusal.{Refusal}
 use Rattle.field_bounds.specs.declared.entry.Refusal.TheVariants.{Down, NoSite, NoField, NoTransaction, Zero, TooLarge, Short, SelfGift, LedgerFull, NotYours, Forged, TooManyOpen, TooManyEscrows, NumbersFull, NothingGiven}
 use Rattle.field_bounds.specs.declared.entry.Reply.{Reply}
-use Rattle.field_bounds.specs.declared.entry.Reply.TheVariants.{Begun, Granted, Committed, Aborted, Given, Stated, Spared, Accepted, Between, Shares, Restarted, Unsure, StillDown, Refused}
+use Rattle.field_bounds.specs.declared.entry.Reply.TheVariants.{Begun, Granted, Committed, Aborted, Given, Stated, Spared, Tightened, Accepted, Between, Shares, Restarted, Unsure, StillDown, Refused}
 use Rattle.field_bounds.specs.declared.entry.Entry.{Entry}
 use Rattle.field_bounds.specs.Schema.{SchemaValue}
 use Rattle.field_bounds.specs.Parts.{field_at}
@@ -55,6 +55,7 @@ command_words schema (Abort txn) = codes "abort" ∷ id_text txn ∷ []
 command_words schema (Give to field kind amount) = codes "give" ∷ site_text to ∷ field_text schema field ∷ kind_text kind ∷ decimal amount ∷ []
 command_words schema (Restate to field kind) = codes "restate" ∷ site_text to ∷ field_text schema field ∷ kind_text kind ∷ []
 command_words schema (Spare to field kind want) = codes "spare" ∷ site_text to ∷ field_text schema field ∷ kind_text kind ∷ decimal want ∷ []
+command_words schema (Tighten field kind amount) = codes "tighten" ∷ field_text schema field ∷ kind_text kind ∷ decimal amount ∷ []
 command_words schema (Accept statement) = codes "accept" ∷ site_text statement.from ∷ site_text statement.to ∷ field_text schema statement.field ∷ kind_text statement.kind ∷ decimal statement.total ∷ []
 command_words schema (Read field) = codes "read" ∷ field_text schema field ∷ []
 command_words schema (Share field) = codes "share" ∷ field_text schema field ∷ []
@@ -93,6 +94,7 @@ reply_words Aborted = codes "aborted" ∷ []
 reply_words (Given total) = codes "given" ∷ decimal total ∷ []
 reply_words (Stated total) = codes "stated" ∷ decimal total ∷ []
 reply_words (Spared amount total) = codes "spared" ∷ decimal amount ∷ decimal total ∷ []
+reply_words (Tightened total) = codes "tightened" ∷ decimal total ∷ []
 reply_words (Accepted gain) = codes "accepted" ∷ decimal gain ∷ []
 reply_words (Between lo hi) = codes "between" ∷ signed_decimal lo ∷ signed_decimal hi ∷ []
 reply_words (Shares lower raise) = codes "share" ∷ decimal lower ∷ decimal raise ∷ []

@@ -154,6 +154,7 @@ fn push_reply(out: &mut Vec<u8>, reply: Reply) -> Result<(), AllocError>
         Reply::Given { total } => push_counted(out, b"given ", total),
         Reply::Stated { total } => push_counted(out, b"stated ", total),
         Reply::Spared { amount, total } => push_spared(out, amount, total),
+        Reply::Tightened { total } => push_counted(out, b"tightened ", total),
         Reply::Accepted { gain } => push_counted(out, b"accepted ", gain),
         Reply::Between { lo, hi } => push_between(out, lo, hi),
         Reply::Shares { lower, raise } => push_shares(out, lower, raise),

@@ -6,7 +6,7 @@ ghost use Rattle.field_bounds.specs.declared.entry.Command.{Command as CommandTy
 ghost use Rattle.line_words.specs.Reading.{Gives};
 ghost use Rattle.entry_text.specs.Spelling.{command_text};
 ghost use Rattle.entry_text.specs.Ranges.{SiteFits, CommandFits};
-ghost use Rattle.entry_text.specs.Commands.{escrow_at, give_at, restate_at, spare_at, accept_at, arguments_at, command_at};
+ghost use Rattle.entry_text.specs.Commands.{escrow_at, give_at, restate_at, spare_at, tighten_at, accept_at, arguments_at, command_at};
 
 use crate::verb::{Verb, verb_at};
 use crate::word::{Fields, field_at, kind_at, number_at, signed_at, site_at, txn_at};
@@ -65,6 +65,20 @@ fn spare(line: &mut Words<'_>, fields: &Fields<'_>) -> Option<Command>
     })
 }
 
+#[tactic(auto, unfolding(crate::specs::Commands::tighten_at))]
+fn tighten(line: &mut Words<'_>, fields: &Fields<'_>) -> Option<Command>
+    ensures { Gives result line.new (tighten_at fields.now line.old) }
+{
+    let field = field_at(line, fields)?;
+    let kind = kind_at(line)?;
+    let amount = number_at(line)?;
+    Some(Command::Tighten {
+        field,
+        kind,
+        amount,
+    })
+}
+
 #[tactic(auto, unfolding(crate::specs::Commands::accept_at))]
 fn accept(line: &mut Words<'_>, fields: &Fields<'_>) -> Option<Command>
     ensures { Gives result line.new (accept_at fields.now line.old) }
@@ -101,6 +115,7 @@ fn arguments(line: &mut Words<'_>, fields: &Fields<'_>, verb: Verb) -> Option<Co
         Verb::Give => give(line, fields),
         Verb::Restate => restate(line, fields),
         Verb::Spare => spare(line, fields),
+        Verb::Tighten => tighten(line, fields),
         Verb::Accept => accept(line, fields),
         Verb::Read => {
             let field = field_at(line, fields)?;

@@ -114,6 +114,15 @@ impl fmt::Display for CommandText<'_> {
                 let kind = KindText(kind);
                 write!(f, "{site} spare {to} {field} {kind} {want}")
             }
+            Command::Tighten {
+                field,
+                kind,
+                amount,
+            } => {
+                let field = FieldText { schema, field };
+                let kind = KindText(kind);
+                write!(f, "{site} tighten {field} {kind} {amount}")
+            }
             Command::Accept(statement) => {
                 let from = statement.from.0;
                 let to = statement.to.0;
@@ -201,6 +210,7 @@ impl fmt::Display for ReplyText {
             Reply::Given { total } => write!(f, "given {total}"),
             Reply::Stated { total } => write!(f, "stated {total}"),
             Reply::Spared { amount, total } => write!(f, "spared {amount} {total}"),
+            Reply::Tightened { total } => write!(f, "tightened {total}"),
             Reply::Accepted { gain } => write!(f, "accepted {gain}"),
             Reply::Between { lo, hi } => write!(f, "between {lo} {hi}"),
             Reply::Shares { lower, raise } => write!(f, "share {lower} {raise}"),

@@ -19,6 +19,7 @@ pub(crate) enum Label {
     Given,
     Stated,
     Spared,
+    Tightened,
     Accepted,
     Between,
     Shares,
@@ -46,6 +47,8 @@ fn label_named(word: &[u8]) -> Option<Label>
         Some(Label::Stated)
     } else if is_text(word, "spared") {
         Some(Label::Spared)
+    } else if is_text(word, "tightened") {
+        Some(Label::Tightened)
     } else if is_text(word, "accepted") {
         Some(Label::Accepted)
     } else if is_text(word, "between") {
@@ -153,6 +156,10 @@ fn reply_for(line: &mut Words<'_>, label: Label) -> Option<Reply>
         Label::Accepted => {
             let gain = number_at(line)?;
             Some(Reply::Accepted { gain })
+        }
+        Label::Tightened => {
+            let total = number_at(line)?;
+            Some(Reply::Tightened { total })
         }
         Label::Spared => spared(line),
         Label::Between => between(line),

@@ -121,6 +121,11 @@ fn spells_gifts(rt: HostRuntime) -> Result<(), Fail> {
         kind: Kind::Raise,
         want: 100,
     };
+    let tighten = Command::Tighten {
+        field: STOCK,
+        kind: Kind::Lower,
+        amount: 5,
+    };
     let accept = Command::Accept(Statement {
         from: SiteNo(0),
         to: SiteNo(1),
@@ -139,6 +144,7 @@ fn spells_gifts(rt: HostRuntime) -> Result<(), Fail> {
     );
     assert!(rt; is_command(alloc, &schema, "0 restate 65535 #1 raise", 0, restate));
     assert!(rt; is_command(alloc, &schema, "0 spare 1 stock raise 100", 0, spare));
+    assert!(rt; is_command(alloc, &schema, "0 tighten stock lower 5", 0, tighten));
     assert!(rt; is_command(alloc, &schema, "1 accept 0 1 stock lower 30", 1, accept));
     Ok(())
 }
@@ -278,6 +284,10 @@ fn refuses_other_gifts(rt: HostRuntime) -> Result<(), Fail> {
     assert!(rt; is_no_command(&schema, "0 restate 1 stock"));
     assert!(rt; is_no_command(&schema, "0 spare 1 stock raise"));
     assert!(rt; is_no_command(&schema, "0 spare 1 stock raise 18446744073709551616"));
+    assert!(rt; is_no_command(&schema, "0 tighten stock lower"));
+    assert!(rt; is_no_command(&schema, "0 tighten 1 stock lower 5"));
+    assert!(rt; is_no_command(&schema, "0 tighten stock lower -5"));
+    assert!(rt; is_no_command(&schema, "0 tighten stock lower 18446744073709551616"));
     assert!(rt; is_no_command(&schema, "0 accept 0 1 stock rise 30"));
     Ok(())
 }
@@ -294,6 +304,8 @@ fn spells_gift_replies(rt: HostRuntime) -> Result<(), Fail> {
         total: 23,
     };
     assert!(rt; is_reply(alloc, &schema, "0 begin -> spared 8 23", spared));
+    let tightened = Reply::Tightened { total: 5 };
+    assert!(rt; is_reply(alloc, &schema, "0 begin -> tightened 5", tightened));
     assert!(rt;
         is_reply(
             alloc,

@@ -16,6 +16,7 @@ pub(crate) enum Verb {
     Give,
     Restate,
     Spare,
+    Tighten,
     Accept,
     Read,
     Share,
@@ -41,6 +42,8 @@ fn verb_named(word: &[u8]) -> Option<Verb>
         Some(Verb::Restate)
     } else if is_text(word, "spare") {
         Some(Verb::Spare)
+    } else if is_text(word, "tighten") {
+        Some(Verb::Tighten)
     } else if is_text(word, "accept") {
         Some(Verb::Accept)
     } else if is_text(word, "read") {
