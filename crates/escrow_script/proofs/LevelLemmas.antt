@@ -158,6 +158,10 @@ pub up_more : (schema : SchemaValue) (t : List Entry) (field : FieldNo) (s lower
     → sites_up schema t s ++ record { 0 = s } ∷ [] ≡ sites_up schema t (suc s)
 up_more schema t field s lower raise told = (some_more (is_up (fresh schema s) (own s t)) _ (lower, raise) s (sites_up schema t s) told).1
 
+-- the sites with one more
+pub up_pushed : (old new before after : List SiteNo) (site : SiteNo) → new ≡ old ++ site ∷ [] → old ≡ before → before ++ site ∷ [] ≡ after → new ≡ after
+up_pushed old new before after site push is more = push ∙ ap (λ (l : List SiteNo). l ++ site ∷ []) is ∙ more
+
 both_told : (schema : SchemaValue) (t : List Entry) (field : FieldNo) (s lower raise : ℕ) → IsTold schema t field s (Some (lower, raise))
     → ◌≡◌ {A = ℕ × ℕ} (lower, raise) (share (fresh schema s) field.0 Lower (at_site schema t s), share (fresh schema s) field.0 Raise (at_site schema t s))
 both_told schema t field s lower raise told = (some_more (is_up (fresh schema s) (own s t)) _ (lower, raise) s [] told).0

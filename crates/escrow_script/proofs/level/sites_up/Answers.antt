@@ -1,8 +1,8 @@
-use Rattle.std.proofs.Common.{ℕ, [], ◌∷◌, ◌++◌, List, map, sym, ap, ◌∙◌, add-one}
+use Rattle.std.proofs.Common.{ℕ, suc, [], ◌∷◌, ◌++◌, List, map, sym, ap, ◌∙◌, add-one}
 use Rattle.field_bounds.specs.declared.id.SiteNo.{SiteNo}
 use Rattle.world_steps.specs.View.{trace_of}
-use Rattle.escrow_script.specs.Level.{free_at}
-use Rattle.escrow_script.proofs.LevelLemmas.{is_told, up_more, share_told, shares_more, share_few, sum_within}
+use Rattle.escrow_script.specs.Level.{sites_up, free_at}
+use Rattle.escrow_script.proofs.LevelLemmas.{is_told, up_more, up_pushed, share_told, shares_more, share_few, sum_within}
 use Rattle.escrow_script.proofs.level.sites_up.Goals as goal
 
 pub loop-number-preserved : goal.loop-number-preserved
@@ -22,7 +22,7 @@ loop-number-preserved c =
     let sites = c.in_ok-push.ensures.items in
     let shares = c.in_ok-push-2.ensures.items in
     record {
-      sites = rw add-one (sites ∙ ap (λ (l : List SiteNo). l ++ site ∷ []) c.loop-number.invariant.sites ∙ more);
+      sites = rw add-one (up_pushed c.loop-number.up.sites.items c.push.new.self.items (sites_up schema t n) (sites_up schema t (suc n)) site sites c.loop-number.invariant.sites more);
       shares = shares ∙ held ∙ ap (map (free_at schema t field kind)) (sym sites);
       few = rw shares (sum_within c.loop-number.up.shares.items free n c.loop-number.invariant.few small);
     }
