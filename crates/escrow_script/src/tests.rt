@@ -387,12 +387,18 @@ const SAID: [&[(&str, &str)]; 15] = [
     ],
     // A tightening in doubt that was kept, and one that lacked a byte.
     &[
-        ("0 tighten stock lower 5 torn 8", "0 tighten stock lower 5 -> unsure"),
+        (
+            "0 tighten stock lower 5 torn 8",
+            "0 tighten stock lower 5 -> unsure",
+        ),
         ("0 restart", "0 restart -> restarted 1 kept"),
         ("0 share stock", "0 share stock -> share 15 30"),
     ],
     &[
-        ("0 tighten stock lower 5 torn 7", "0 tighten stock lower 5 -> unsure"),
+        (
+            "0 tighten stock lower 5 torn 7",
+            "0 tighten stock lower 5 -> unsure",
+        ),
         ("0 restart", "0 restart -> restarted 1 lost"),
         ("0 share stock", "0 share stock -> share 20 30"),
     ],

@@ -28,7 +28,8 @@ pub use id::{FieldNo, SiteNo, TxnId};
 pub use issued::statement_of;
 pub use kind::Kind;
 pub use laws::{
-    bounds_never_loosen, one_central_store, one_reply, outcomes_lie_between, restarts_settle, share_is_exact,
+    bounds_never_loosen, one_central_store, one_reply, outcomes_lie_between, restarts_settle,
+    share_is_exact,
 };
 pub use limits::{MAX_CHANGE, MAX_EPOCH, MAX_ESCROWS, MAX_HEADER, MAX_NUMBER, MAX_OPEN, MAX_TOTAL};
 pub use restart_rows::{worked_doubt, worked_restarts, wrong_restarts};

@@ -200,7 +200,10 @@ fn room_is_less_what_was_given_up(rt: HostRuntime) -> Result<(), Fail> {
     let cut = Reply::Tightened { total: 20 };
     let forged = Reply::Refused(Refusal::Forged { room: 50 });
     let all = Reply::Accepted { gain: 50 };
-    assert_eq!(rt; answer(alloc, &mut site, tighten(Kind::Lower, 20)), Some(cut));
+    assert_eq!(rt;
+        answer(alloc, &mut site, tighten(Kind::Lower, 20)),
+        Some(cut)
+    );
     assert_eq!(rt;
         answer(alloc, &mut site, accept_lower(0, 1, 51)),
         Some(forged)

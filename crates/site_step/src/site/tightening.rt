@@ -20,12 +20,7 @@ impl<M: Medium> Site<M> {
         self.accounts.standing.rights.tightened(field, kind)
     }
 
-    pub(super) fn tighten_refusal(
-        &self,
-        field: FieldNo,
-        kind: Kind,
-        amount: u64,
-    ) -> Option<Refusal>
+    pub(super) fn tighten_refusal(&self, field: FieldNo, kind: Kind, amount: u64) -> Option<Refusal>
         ensures { result ≡ first (refusals (here self.now) (Command.Tighten field kind amount)) }
     {
         refuse_first! {

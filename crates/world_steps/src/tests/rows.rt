@@ -142,12 +142,7 @@ const TIGHTENED: [Told; 6] = [
         Luck::Fine,
         Reply::Refused(Refusal::Short { share: 15 }),
     ),
-    Asked(
-        0,
-        TIGHTEN_RAISE,
-        Luck::Fine,
-        Reply::Tightened { total: 30 },
-    ),
+    Asked(0, TIGHTEN_RAISE, Luck::Fine, Reply::Tightened { total: 30 }),
     Asked(0, READ, Luck::Fine, BETWEEN),
 ];
 
