@@ -12,12 +12,13 @@ The scripts:
 
 - one site: a begin, an escrow, a commit and a read, over and over; the changes go down and up in
   turn, so every escrow is granted. It runs at a tenth of the length, at the whole length, and over
-  a schema of 64 fields, at the last of which all commands are: lines a second stay as they were,
+  a schema of 256 fields, at the last of which all commands are: lines a second stay as they were,
   since no command's cost grows with the history or with the number of fields.
-- mixed: 4 sites and 8 fields; begins, escrows, commits, aborts, gifts, deliveries, reads, shares,
-  and 20 restarts, some of them after a torn commit. It runs at a tenth of the length and at the
-  whole length. A restart reads the whole log of its site, so their number doesn't grow with the
-  length.
+- mixed: 4 sites and 8 fields; begins, escrows, commits, aborts, gifts, deliveries, tightenings,
+  reads, shares, and 20 restarts, some of them after a torn commit. It runs at a tenth of the length
+  and at the whole length, and then over 64 sites and 256 fields, each field at each site: the last
+  line tells the cost of a line there as a multiple of that over 4 sites and 8 fields. A restart
+  reads the whole log of its site, so their number doesn't grow with the length.
 - with --restarts: 1,000 commits and then 100,000 restarts (a tenth as many for LINES below
   100,000), each of which reads every record before it. That takes minutes.
 """
@@ -55,12 +56,14 @@ def one_site(lines, fields):
 
 
 class Mixed:
-    """The lines of four sites over eight fields, with the ids that the sites will give out."""
+    """The lines of so many sites over so many fields, with the ids that the sites will give out."""
 
-    def __init__(self, lines):
+    def __init__(self, lines, sites, fields):
         self.lines = lines
-        self.epochs = [0] * 4
-        self.numbers = [0] * 4
+        self.sites = sites
+        self.fields = fields
+        self.epochs = [0] * sites
+        self.numbers = [0] * sites
         self.issued = 0
         self.turn = 0
 
@@ -74,8 +77,9 @@ class Mixed:
         return f"{site} restart\n"
 
     def round(self):
-        site, field = self.turn % 4, f"stock{self.turn % 8 + 1}"
-        other, second = (site + 1) % 4, f"stock{(self.turn + 3) % 8 + 1}"
+        site, place = self.turn % self.sites, self.turn + self.turn // self.sites
+        field, second = (f"stock{number % self.fields + 1}" for number in (place, place + 3))
+        other = (site + 1) % self.sites
         self.turn += 1
         txn = self.begin(site)
         yield f"{site} begin\n"
@@ -89,11 +93,12 @@ class Mixed:
         yield f"{site} begin\n"
         yield f"{site} escrow {txn} {field} 5\n"
         yield f"{site} abort {txn}\n"
+        yield f"{site} tighten {second} raise 1\n"
         yield f"{site} read {second}\n"
         yield f"{site} share {field}\n"
 
     def stop(self):
-        site = self.turn % 4
+        site = self.turn % self.sites
         if self.turn % 2 == 0:
             txn = self.begin(site)
             yield f"{site} begin\n"
@@ -102,7 +107,8 @@ class Mixed:
         yield self.restart(site)
 
     def all(self):
-        yield header(4, [f"stock{place}" for place in range(1, 9)], 0, 10**12, 5 * 10**11)
+        names = [f"stock{place}" for place in range(1, self.fields + 1)]
+        yield header(self.sites, names, 0, 10**12, 5 * 10**11)
         count, stops = 1, 0
         while True:
             due = stops < RESTARTS and count * (RESTARTS + 1) > (stops + 1) * self.lines
@@ -161,6 +167,7 @@ def build(folder):
 
 
 def compare(name, script, folder, programs, turns):
+    """The seconds that `escrow run` takes."""
     source, proved, written = (os.path.join(folder, part) for part in ("script", "proved", "written"))
     with open(source, "w", encoding="ascii") as file:
         file.writelines(script)
@@ -170,11 +177,12 @@ def compare(name, script, folder, programs, turns):
     print(f"{name}: {lines:,} lines, {os.path.getsize(source):,} bytes, best of {turns}")
     ours = measure("escrow", [program, "run"], source, proved, lines, turns)
     if plain is None:
-        return
+        return ours
     theirs = measure("plain", [plain], source, written, lines, turns)
     if not filecmp.cmp(proved, written, shallow=False):
         sys.exit("the two programs wrote different bytes")
     print(f"         same output; escrow takes {ours / theirs:.2f} times the plain program's time")
+    return ours
 
 
 def main():
@@ -187,9 +195,11 @@ def main():
         programs = build(folder)
         compare("one site", one_site(lines // 10, 1), folder, programs, turns)
         compare("one site", one_site(lines, 1), folder, programs, turns)
-        compare("one site, 64 fields", one_site(lines, 64), folder, programs, turns)
-        compare("mixed", Mixed(lines // 10).all(), folder, programs, turns)
-        compare("mixed", Mixed(lines).all(), folder, programs, turns)
+        compare("one site, 256 fields", one_site(lines, 256), folder, programs, turns)
+        compare("mixed", Mixed(lines // 10, 4, 8).all(), folder, programs, turns)
+        few = compare("mixed", Mixed(lines, 4, 8).all(), folder, programs, turns)
+        many = compare("mixed, 64 sites and 256 fields", Mixed(lines, 64, 256).all(), folder, programs, turns)
+        print(f"a mixed line over 64 sites and 256 fields takes {many / few:.2f} times one over 4 and 8")
         if "--restarts" in sys.argv:
             count = 100_000 if lines >= 100_000 else 10_000
             compare("restarts after 1,000 commits", restarts(count), folder, programs, 1)

@@ -3,6 +3,7 @@
 //!
 //! Built by `rustc -O plain.rs`. The header is read only in the form in which bench.py writes it.
 
+use std::collections::HashMap;
 use std::fmt::{self, Write as _};
 use std::io::{self, BufRead, BufReader, BufWriter, Read, Write};
 
@@ -33,6 +34,7 @@ enum Command {
     Abort { txn: TxnId },
     Give { to: u16, field: u16, kind: usize, amount: u64 },
     Restate { to: u16, field: u16, kind: usize },
+    Tighten { field: u16, kind: usize, amount: u64 },
     Accept(Statement),
     Read { field: u16 },
     Share { field: u16 },
@@ -54,6 +56,7 @@ enum Reply {
     Aborted,
     Given { total: u64 },
     Stated { total: u64 },
+    Tightened { total: u64 },
     Accepted { gain: u64 },
     Between { lo: i64, hi: i64 },
     Shares { lower: u64, raise: u64 },
@@ -113,6 +116,7 @@ impl fmt::Display for Reply {
             Reply::Aborted => write!(f, "aborted"),
             Reply::Given { total } => write!(f, "given {total}"),
             Reply::Stated { total } => write!(f, "stated {total}"),
+            Reply::Tightened { total } => write!(f, "tightened {total}"),
             Reply::Accepted { gain } => write!(f, "accepted {gain}"),
             Reply::Between { lo, hi } => write!(f, "between {lo} {hi}"),
             Reply::Shares { lower, raise } => write!(f, "share {lower} {raise}"),
@@ -149,6 +153,7 @@ struct Field {
 struct Schema {
     sites: u16,
     fields: Vec<Field>,
+    places: HashMap<String, u16>,
 }
 
 impl Schema {
@@ -163,11 +168,18 @@ impl Schema {
     }
 }
 
-/// The free and held rights of the two kinds on a field, lowering first.
+/// The free and held rights of the two kinds on a field, lowering first, and those given up for good.
 #[derive(Clone, Copy, Default)]
 struct Rights {
     free: [u64; 2],
     held: [u64; 2],
+    cut: [u64; 2],
+}
+
+impl Rights {
+    fn guarded(&self, kind: usize) -> u64 {
+        self.cut[kind] + self.free[kind] + self.held[kind]
+    }
 }
 
 /// The totals given to and accepted from one other site, of the two kinds on a field.
@@ -216,7 +228,7 @@ impl Site {
         self.rights.clear();
         for field in &schema.fields {
             let free = [0, 1].map(|kind| schema.part(self.number, field, kind));
-            self.rights.push(Rights { free, held: [0, 0] });
+            self.rights.push(Rights { free, ..Rights::default() });
         }
         self.accounts.clear();
         for _ in 0..schema.sites {
@@ -301,13 +313,14 @@ impl Site {
                     total => Ok(Reply::Stated { total }),
                 }
             }
+            Command::Tighten { field, kind, amount } => self.tighten(field, kind, amount, torn),
             Command::Accept(told) => self.accept(schema, told, torn),
             Command::Read { field } => {
                 let rights = self.rights.get(usize::from(field)).ok_or(Refusal::NoField)?;
                 let bounds = &schema.fields[usize::from(field)];
                 Ok(Reply::Between {
-                    lo: bounds.floor + (rights.free[0] + rights.held[0]) as i64,
-                    hi: bounds.ceiling - (rights.free[1] + rights.held[1]) as i64,
+                    lo: bounds.floor + rights.guarded(0) as i64,
+                    hi: bounds.ceiling - rights.guarded(1) as i64,
                 })
             }
             Command::Share { field } => {
@@ -415,6 +428,29 @@ impl Site {
         Ok(Reply::Given { total })
     }
 
+    fn tighten(&mut self, field: u16, kind: usize, amount: u64, torn: Option<u64>) -> Result<Reply, Refusal> {
+        let rights = self.rights.get(usize::from(field)).ok_or(Refusal::NoField)?;
+        let share = rights.free[kind];
+        if amount == 0 {
+            return Err(Refusal::Zero);
+        } else if amount > MAX_CHANGE {
+            return Err(Refusal::TooLarge);
+        } else if amount > share {
+            return Err(Refusal::Short { share });
+        }
+        let total = rights.cut[kind] + amount;
+        self.line.clear();
+        let word = ['l', 'r'][kind];
+        let _ = writeln!(self.line, "T {field} {word} {total}");
+        if !self.append(torn) {
+            return Ok(self.unsure());
+        }
+        let rights = &mut self.rights[usize::from(field)];
+        rights.cut[kind] = total;
+        rights.free[kind] -= amount;
+        Ok(Reply::Tightened { total })
+    }
+
     fn accept(&mut self, schema: &Schema, told: Statement, torn: Option<u64>) -> Result<Reply, Refusal> {
         let account = self.account(told.from, told.field)?;
         if told.to >= schema.sites {
@@ -430,9 +466,8 @@ impl Site {
         }
         let gain = told.total.saturating_sub(account.accepted[told.kind]);
         let rights = self.rights[usize::from(told.field)];
-        let own: u64 = rights.free.iter().chain(&rights.held).sum();
         let bounds = &schema.fields[usize::from(told.field)];
-        let room = bounds.ceiling.abs_diff(bounds.floor) - own;
+        let room = bounds.ceiling.abs_diff(bounds.floor) - rights.guarded(0) - rights.guarded(1);
         if gain > room {
             return Err(Refusal::Forged { room });
         }
@@ -501,6 +536,14 @@ impl Site {
                 }
             }
             "R" => self.epoch = next().unwrap().parse().unwrap(),
+            "T" => {
+                let field: usize = next().unwrap().parse().unwrap();
+                let kind = usize::from(next() == Some("r"));
+                let total: u64 = next().unwrap().parse().unwrap();
+                let rights = &mut self.rights[field];
+                rights.free[kind] -= total - rights.cut[kind];
+                rights.cut[kind] = total;
+            }
             _ => {
                 let other: usize = next().unwrap().parse().unwrap();
                 let field: usize = next().unwrap().parse().unwrap();
@@ -556,10 +599,7 @@ fn kind(word: &str) -> Option<usize> {
 fn field(schema: &Schema, word: &str) -> Option<u16> {
     match word.strip_prefix('#') {
         Some(digits) => small(digits).filter(|place| usize::from(*place) >= schema.fields.len()),
-        None => {
-            let place = schema.fields.iter().position(|field| field.name == word)?;
-            u16::try_from(place).ok()
-        }
+        None => schema.places.get(word).copied(),
     }
 }
 
@@ -617,6 +657,11 @@ fn command<'a>(schema: &Schema, words: &mut impl Iterator<Item = &'a str>) -> Op
             field: field(schema, words.next()?)?,
             kind: kind(words.next()?)?,
         },
+        "tighten" => Command::Tighten {
+            field: field(schema, words.next()?)?,
+            kind: kind(words.next()?)?,
+            amount: number(words.next()?)?,
+        },
         "read" => Command::Read {
             field: field(schema, words.next()?)?,
         },
@@ -644,9 +689,11 @@ fn schema(header: &str) -> Option<Schema> {
             value: member(part, "value")?.parse().ok()?,
         });
     }
+    let places = fields.iter().zip(0..).map(|(field, place)| (field.name.clone(), place)).collect();
     Some(Schema {
         sites: member(header, "sites")?.parse().ok()?,
         fields,
+        places,
     })
 }
 

@@ -24,7 +24,7 @@ Statuses: 0 done; 1 a read or write failed, or the input is too long;
 const RUN_ABOUT: &str = "Answers the script on standard input, line by line";
 
 const RUN_EXAMPLE: &str = "\
-Line 1 is a JSON header: the number of sites, 1 to 16, and 1 to 64 fields, each
+Line 1 is a JSON header: the number of sites, 1 to 64, and 1 to 256 fields, each
 with its floor, ceiling and value. The rights to lower and to raise a field are
 divided evenly among the sites. Each other line is a command at a site:
 
@@ -35,6 +35,9 @@ divided evenly among the sites. Each other line is a command at a site:
   SITE give TO FIELD KIND N     gives N free rights to site TO; KIND is lower or
                                 raise
   SITE restate TO FIELD KIND    tells the total of such gifts again
+  SITE spare TO FIELD KIND N    gives at most N, and at most half of its share
+  SITE tighten FIELD KIND N     gives N free rights up for good: those to lower
+                                raise the floor, those to raise lower the ceiling
   SITE read FIELD               tells between which values the field lies
   SITE share FIELD              tells the site's free rights to lower and to raise
   SITE restart                  the site stops, and stands anew on what it kept

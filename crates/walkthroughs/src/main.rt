@@ -5,7 +5,7 @@ use escrow_script::{Watched, run_script};
 use std::alloc::{AllocError, Global};
 use std::{fs, io};
 
-const WALKTHROUGHS: [&str; 8] = [
+const WALKTHROUGHS: [&str; 9] = [
     "one_gift",
     "two_warehouses",
     "three_desks",
@@ -14,6 +14,7 @@ const WALKTHROUGHS: [&str; 8] = [
     "two_shops",
     "three_shops",
     "flight_seats",
+    "account_limit",
 ];
 
 /// What a script writes; a fault ends it early.
