@@ -148,7 +148,7 @@ pub(crate) fn line_level(world: &World, line: &[u8]) -> Option<Level>
     ensures levels { IfSome result (λ level. Levels world.now.schema line.now level.field level.kind) }
     ensures none { IfNone result (LevelsNone world.now.schema line.now) }
 {
-    if line.len() > MAX_LINE {
+    if MAX_LINE < line.len() {
         return None;
     }
     let schema = world.schema();
