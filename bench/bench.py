@@ -1,7 +1,7 @@
 #!/usr/bin/env python3
 """Measures `escrow run` on long scripts, beside a plain Rust program of the same shape.
 
-    bench/bench.py [LINES [TURNS]] [--restarts]
+    bench/bench.py [LINES [TURNS]]
 
 LINES is the length of the input, its header line included (1,000,000 if left out, which is the
 most that `run` takes), and TURNS how often each program runs (5). It prints, for the best turn of
@@ -17,10 +17,11 @@ The scripts:
 - mixed: 4 sites and 8 fields; begins, escrows, commits, aborts, gifts, deliveries, tightenings,
   reads, shares, and 20 restarts, some of them after a torn commit. It runs at a tenth of the length
   and at the whole length, and then over 64 sites and 256 fields, each field at each site: the last
-  line tells the cost of a line there as a multiple of that over 4 sites and 8 fields. A restart
-  reads the whole log of its site, so their number doesn't grow with the length.
-- with --restarts: 1,000 commits and then 100,000 restarts (a tenth as many for LINES below
-  100,000), each of which reads every record before it. That takes minutes.
+  line tells the cost of a line there as a multiple of that over 4 sites and 8 fields.
+- restarts: a quarter of all lines are restarts, at a tenth of the length and at the whole length;
+  the last line tells the cost of a line at the whole length as a multiple of that at a tenth. And
+  LINES / 100 restarts behind 1,000 gifts, and behind as many as fit: what one of them costs. The
+  plain program reads its whole log at each restart, so it doesn't run these.
 """
 
 import filecmp
@@ -120,14 +121,23 @@ class Mixed:
                     return
 
 
-def restarts(count):
+def quarter_restarts(lines):
     yield header(1, ["stock1"], 0, 100, 40)
-    for number in range(1, 1_001):
-        yield "0 begin\n"
-        yield f"0 escrow 0.{number} stock1 {-20 if number % 2 == 1 else 20}\n"
-        yield f"0 commit 0.{number}\n"
-    for _ in range(count):
-        yield "0 restart\n"
+    for place in range(lines - 1):
+        epoch = place // 4
+        change = "-20" if epoch % 2 == 0 else "20"
+        yield (
+            "0 begin\n",
+            f"0 escrow {epoch}.1 stock1 {change}\n",
+            f"0 commit {epoch}.1\n",
+            "0 restart\n",
+        )[place % 4]
+
+
+def gifts_and_restarts(gifts, restarts):
+    yield header(2, ["stock1"], 0, 10**12, 5 * 10**11)
+    yield from ["0 give 1 stock1 lower 1\n"] * gifts
+    yield from ["0 restart\n"] * restarts
 
 
 def run(words, source, target):
@@ -186,7 +196,7 @@ def compare(name, script, folder, programs, turns):
 
 
 def main():
-    words = [word for word in sys.argv[1:] if word != "--restarts"]
+    words = sys.argv[1:]
     lines = int(words[0]) if words else 1_000_000
     turns = int(words[1]) if len(words) > 1 else 5
     if lines < 1_000 or turns < 1:
@@ -200,9 +210,15 @@ def main():
         few = compare("mixed", Mixed(lines, 4, 8).all(), folder, programs, turns)
         many = compare("mixed, 64 sites and 256 fields", Mixed(lines, 64, 256).all(), folder, programs, turns)
         print(f"a mixed line over 64 sites and 256 fields takes {many / few:.2f} times one over 4 and 8")
-        if "--restarts" in sys.argv:
-            count = 100_000 if lines >= 100_000 else 10_000
-            compare("restarts after 1,000 commits", restarts(count), folder, programs, 1)
+        alone = (programs[0], None)
+        tenth = compare("a quarter restarts", quarter_restarts(lines // 10), folder, alone, turns)
+        whole = compare("a quarter restarts", quarter_restarts(lines), folder, alone, turns)
+        print(f"a line of {lines:,} takes {whole / tenth / 10:.2f} times one of {lines // 10:,}")
+        restarts = lines // 100
+        for gifts in (1_000, lines - restarts - 1):
+            without = compare("gifts", gifts_and_restarts(gifts, 0), folder, alone, turns)
+            with_them = compare("gifts, then restarts", gifts_and_restarts(gifts, restarts), folder, alone, turns)
+            print(f"a restart behind {gifts:,} gifts takes {(with_them - without) / restarts * 1e6:.0f} microseconds")
 
 
 if __name__ == "__main__":
