@@ -1,0 +1,5 @@
+pub mod Decided
+pub mod Verdicts
+pub mod Fronts
+pub mod Across
+pub mod Counts

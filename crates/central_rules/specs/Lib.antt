@@ -1,0 +1,6 @@
+pub mod Replies
+pub mod Verdict
+pub mod Fates
+pub mod Kept
+pub mod Ladder
+pub mod Here

@@ -1,0 +1,451 @@
+//! The ladder of refusals over what is told of a site, and whether a reply is owed there.
+
+ghost use Rattle.std.specs.Prelude.{◌≡◌, ◌<◌, ◌≤◌, ◌&&◌, ◌==◌, nat_lt, true, length};
+ghost use Rattle.field_bounds.specs.declared.entry.Command.TheVariants.{Begin, Escrow, Commit, Abort, Give, Restate, Spare, Tighten, Accept, Read, Share, Restart};
+ghost use Rattle.field_bounds.specs.Parts.{field_at};
+ghost use Rattle.field_bounds.specs.Owed.{Place, is_up, epoch_of, count_since, is_begun_reply, is_still_down, is_unsure, count_open, count_escrows, free, owned, cut_so_far, guarded, told_so_far, spared_of, gain_of, room};
+ghost use Rattle.central_rules.specs.Ladder.{is_open_at};
+ghost use Rattle.central_rules.specs.Replies.{reply_test};
+
+use crate::front::{Bounds, bounds_of, spared};
+use crate::same::{
+    is_aborted, is_accepted, is_begun, is_between, is_committed, is_forged, is_full, is_given,
+    is_granted, is_refused, is_shares, is_short, is_spared, is_stated, is_tightened, is_unsure,
+    same_last, same_refusal,
+};
+use crate::standing::Standing;
+use field_bounds::{
+    Command, FieldNo, Kind, Last, MAX_CHANGE, MAX_EPOCH, MAX_ESCROWS, MAX_NUMBER, MAX_OPEN,
+    MAX_TOTAL, Refusal, Reply, Schema, SiteNo, Statement, TxnId, by_command,
+};
+
+/// What is told of one site, where it stands after some entries of its own: what the ladder of
+/// refusals looks at. Each number is the one that the definitions sum over these entries, wherever
+/// the value is one of that place; over a place that isn't its own it may be any.
+///
+/// Source: this project.
+pub trait AtPlace {
+    /// The value tells of this place.
+    ghost is_at: { Self → Place → Type 0 };
+
+    /// The schema. Costs no memory.
+    fn schema(&self) -> &Schema
+        ensures value { (at : Place) → is_at self.now at → result.now ≡ at.schema };
+
+    /// The site. Costs no memory.
+    fn site(&self) -> SiteNo
+        ensures value { (at : Place) → is_at self.now at → result.0 ≡ at.site };
+
+    /// Where the site stands. Costs no memory.
+    fn standing(&self) -> Standing
+        ensures up { (at : Place) → is_at self.now at → result.up ≡ is_up at.base at.entries }
+        ensures epoch { (at : Place) → is_at self.now at → result.epoch ≡ epoch_of at.base at.entries }
+        ensures begun { (at : Place) → is_at self.now at → result.begun ≡ count_since is_begun_reply at.entries }
+        ensures still_down { (at : Place) → is_at self.now at → result.still_down ≡ count_since is_still_down at.entries }
+        ensures unsure { (at : Place) → is_at self.now at → result.unsure ≡ count_since is_unsure at.entries };
+
+    /// How many transactions are open.
+    fn open_count(&self) -> usize
+        ensures value { (at : Place) → is_at self.now at → result ≡ count_open at.effects };
+
+    /// Whether a transaction is open.
+    fn is_open(&self, txn: TxnId) -> bool
+        ensures value { (at : Place) → is_at self.now at → result ≡ is_open_at at txn };
+
+    /// How many escrows an open transaction has.
+    fn escrow_count(&self, txn: TxnId) -> usize
+        ensures value { (at : Place) → is_at self.now at → is_open_at at txn ≡ true → result ≡ count_escrows txn at.effects };
+
+    /// The free rights of a kind on a field of the schema.
+    fn free(&self, field: FieldNo, kind: Kind) -> u128
+        ensures value { (at : Place) → is_at self.now at → field.0 < length at.schema.fields → result ≡ free at field kind }
+        ensures small { result < 42535295865117307932921825928971026432 };
+
+    /// The rights of a kind on a field of the schema that the site owns, free and held.
+    fn owned(&self, field: FieldNo, kind: Kind) -> u128
+        ensures value { (at : Place) → is_at self.now at → field.0 < length at.schema.fields → result ≡ owned at field kind }
+        ensures small { result ≤ 63802943797675961899382738893456539648 };
+
+    /// The rights of a kind on a field of the schema that the site has given up for good.
+    fn cut(&self, field: FieldNo, kind: Kind) -> u128
+        ensures value { (at : Place) → is_at self.now at → field.0 < length at.schema.fields → result ≡ cut_so_far at field kind }
+        ensures small { result ≤ 5316911983139663491615228241121378304 };
+
+    /// The total given so far to a site, of a kind on a field, both of the schema.
+    fn told_so_far(&self, to: SiteNo, field: FieldNo, kind: Kind) -> u128
+        ensures value { (at : Place) → is_at self.now at → to.0 < at.schema.sites → field.0 < length at.schema.fields → result ≡ told_so_far at to field kind }
+        ensures small { result ≤ 5316911983139663491615228241121378304 };
+
+    /// What a statement has above those accepted before from its site, of a field and a site of the
+    /// schema.
+    fn gain(&self, told: Statement) -> u64
+        ensures value { (at : Place) → is_at self.now at → told.from.0 < at.schema.sites → told.field.0 < length at.schema.fields → result ≡ gain_of at told.from told.field told.kind told.total };
+}
+
+fn is_up<P: AtPlace>(here: &P) -> bool
+    ensures { (at : Place) → P.is_at here.now at → result ≡ is_up at.base at.entries }
+{
+    here.standing().up
+}
+
+fn has<P: AtPlace>(here: &P, field: FieldNo) -> bool
+    ensures { (at : Place) → P.is_at here.now at → result ≡ nat_lt field.0 (length at.schema.fields) }
+{
+    field.0 < here.schema().fields()
+}
+
+fn knows<P: AtPlace>(here: &P, site: SiteNo) -> bool
+    ensures { (at : Place) → P.is_at here.now at → result ≡ nat_lt site.0 at.schema.sites }
+{
+    site.0 < here.schema().sites()
+}
+
+fn is_here<P: AtPlace>(here: &P, site: SiteNo) -> bool
+    ensures { (at : Place) → P.is_at here.now at → result ≡ (site.0 == at.site) }
+{
+    site.0 == here.site().0
+}
+
+/// What the site guards of a field of the schema.
+fn guarded<P: AtPlace>(here: &P, field: FieldNo, kind: Kind) -> u128
+    ensures value { (at : Place) → P.is_at here.now at → field.0 < length at.schema.fields → result ≡ guarded at field kind }
+    ensures small { result ≤ 85070591730234615865843651857942052864 }
+{
+    here.cut(field, kind) + here.owned(field, kind)
+}
+
+/// The floor and the ceiling of a field of the schema.
+fn bounds<P: AtPlace>(here: &P, field: FieldNo) -> Bounds
+    ensures floor { (at : Place) → P.is_at here.now at → field.0 < length at.schema.fields → result.floor ≡ (field_at at.schema field.0).floor }
+    ensures ceiling { (at : Place) → P.is_at here.now at → field.0 < length at.schema.fields → result.ceiling ≡ (field_at at.schema field.0).ceiling }
+{
+    let schema = here.schema();
+    if field.0 < schema.fields() {
+        return bounds_of(schema, field);
+    }
+    Bounds {
+        floor: 0,
+        ceiling: 0,
+        value: 0,
+    }
+}
+
+/// What the rights that are guarded leave of the width of a field of the schema.
+fn room<P: AtPlace>(here: &P, field: FieldNo) -> u128
+    ensures { (at : Place) → P.is_at here.now at → field.0 < length at.schema.fields → result ≡ room at field }
+{
+    let bounds = bounds(here, field);
+    let own = guarded(here, field, Kind::Lower) + guarded(here, field, Kind::Raise);
+    u128::from(bounds.ceiling.abs_diff(bounds.floor)).saturating_sub(own)
+}
+
+fn fits_begin<P: AtPlace>(here: &P, reply: Reply) -> bool
+    ensures { (at : Place) → P.is_at here.now at → result ≡ reply_test at Begin reply }
+{
+    if !is_up(here) {
+        return is_refused(reply, Refusal::Down);
+    }
+    if here.open_count() >= MAX_OPEN {
+        return is_refused(reply, Refusal::TooManyOpen);
+    }
+    let standing = here.standing();
+    if standing.begun >= u64::from(MAX_NUMBER) {
+        return is_refused(reply, Refusal::NumbersFull);
+    }
+    is_begun(reply, standing.epoch, standing.begun + 1)
+}
+
+fn fits_escrow<P: AtPlace>(here: &P, txn: TxnId, field: FieldNo, change: i64, reply: Reply) -> bool
+    ensures { (at : Place) → P.is_at here.now at → result ≡ reply_test at (Escrow txn field change) reply }
+{
+    let kind = Kind::of(change);
+    let amount = change.unsigned_abs();
+    if !is_up(here) {
+        return is_refused(reply, Refusal::Down);
+    }
+    if !has(here, field) {
+        return is_refused(reply, Refusal::NoField);
+    }
+    if !here.is_open(txn) {
+        return is_refused(reply, Refusal::NoTransaction);
+    }
+    if amount == 0 {
+        return is_refused(reply, Refusal::Zero);
+    }
+    if amount > MAX_CHANGE {
+        return is_refused(reply, Refusal::TooLarge);
+    }
+    let free = here.free(field, kind);
+    if free < u128::from(amount) {
+        return is_short(reply, free);
+    }
+    if here.escrow_count(txn) >= MAX_ESCROWS {
+        return is_refused(reply, Refusal::TooManyEscrows);
+    }
+    is_granted(reply)
+}
+
+fn fits_commit<P: AtPlace>(here: &P, txn: TxnId, reply: Reply) -> bool
+    ensures { (at : Place) → P.is_at here.now at → result ≡ reply_test at (Commit txn) reply }
+{
+    if !is_up(here) {
+        return is_refused(reply, Refusal::Down);
+    }
+    if !here.is_open(txn) {
+        return is_refused(reply, Refusal::NoTransaction);
+    }
+    is_committed(reply) || is_unsure(reply) && here.escrow_count(txn) > 0
+}
+
+fn fits_abort<P: AtPlace>(here: &P, txn: TxnId, reply: Reply) -> bool
+    ensures { (at : Place) → P.is_at here.now at → result ≡ reply_test at (Abort txn) reply }
+{
+    if !is_up(here) {
+        return is_refused(reply, Refusal::Down);
+    }
+    if !here.is_open(txn) {
+        return is_refused(reply, Refusal::NoTransaction);
+    }
+    is_aborted(reply)
+}
+
+fn fits_give<P: AtPlace>(
+    here: &P,
+    to: SiteNo,
+    field: FieldNo,
+    kind: Kind,
+    amount: u64,
+    reply: Reply,
+) -> bool
+    ensures { (at : Place) → P.is_at here.now at → result ≡ reply_test at (Give to field kind amount) reply }
+{
+    if !is_up(here) {
+        return is_refused(reply, Refusal::Down);
+    }
+    if !knows(here, to) {
+        return is_refused(reply, Refusal::NoSite);
+    }
+    if !has(here, field) {
+        return is_refused(reply, Refusal::NoField);
+    }
+    if amount == 0 {
+        return is_refused(reply, Refusal::Zero);
+    }
+    if amount > MAX_CHANGE {
+        return is_refused(reply, Refusal::TooLarge);
+    }
+    let free = here.free(field, kind);
+    if free < u128::from(amount) {
+        return is_short(reply, free);
+    }
+    if is_here(here, to) {
+        return is_refused(reply, Refusal::SelfGift);
+    }
+    let so_far = here.told_so_far(to, field, kind);
+    let total = so_far + u128::from(amount);
+    if total > u128::from(MAX_TOTAL) {
+        return is_full(reply, so_far);
+    }
+    is_given(reply, total) || is_unsure(reply)
+}
+
+fn fits_restate<P: AtPlace>(here: &P, to: SiteNo, field: FieldNo, kind: Kind, reply: Reply) -> bool
+    ensures { (at : Place) → P.is_at here.now at → result ≡ reply_test at (Restate to field kind) reply }
+{
+    if !is_up(here) {
+        return is_refused(reply, Refusal::Down);
+    }
+    if !knows(here, to) {
+        return is_refused(reply, Refusal::NoSite);
+    }
+    if !has(here, field) {
+        return is_refused(reply, Refusal::NoField);
+    }
+    if is_here(here, to) {
+        return is_refused(reply, Refusal::SelfGift);
+    }
+    let so_far = here.told_so_far(to, field, kind);
+    if so_far == 0 {
+        return is_refused(reply, Refusal::NothingGiven);
+    }
+    is_stated(reply, so_far)
+}
+
+fn fits_spare<P: AtPlace>(
+    here: &P,
+    to: SiteNo,
+    field: FieldNo,
+    kind: Kind,
+    want: u64,
+    reply: Reply,
+) -> bool
+    ensures { (at : Place) → P.is_at here.now at → result ≡ reply_test at (Spare to field kind want) reply }
+{
+    if !is_up(here) {
+        return is_refused(reply, Refusal::Down);
+    }
+    if !knows(here, to) {
+        return is_refused(reply, Refusal::NoSite);
+    }
+    if !has(here, field) {
+        return is_refused(reply, Refusal::NoField);
+    }
+    if want == 0 {
+        return is_refused(reply, Refusal::Zero);
+    }
+    if want > MAX_CHANGE {
+        return is_refused(reply, Refusal::TooLarge);
+    }
+    let free = here.free(field, kind);
+    if free == 0 {
+        return is_short(reply, free);
+    }
+    if is_here(here, to) {
+        return is_refused(reply, Refusal::SelfGift);
+    }
+    let amount = spared(free, want);
+    let so_far = here.told_so_far(to, field, kind);
+    let total = so_far + u128::from(amount);
+    if total > u128::from(MAX_TOTAL) {
+        return is_full(reply, so_far);
+    }
+    is_spared(reply, amount, total) || is_unsure(reply)
+}
+
+fn fits_tighten<P: AtPlace>(here: &P, field: FieldNo, kind: Kind, amount: u64, reply: Reply) -> bool
+    ensures { (at : Place) → P.is_at here.now at → result ≡ reply_test at (Tighten field kind amount) reply }
+{
+    if !is_up(here) {
+        return is_refused(reply, Refusal::Down);
+    }
+    if !has(here, field) {
+        return is_refused(reply, Refusal::NoField);
+    }
+    if amount == 0 {
+        return is_refused(reply, Refusal::Zero);
+    }
+    if amount > MAX_CHANGE {
+        return is_refused(reply, Refusal::TooLarge);
+    }
+    let free = here.free(field, kind);
+    if free < u128::from(amount) {
+        return is_short(reply, free);
+    }
+    is_tightened(reply, here.cut(field, kind) + u128::from(amount)) || is_unsure(reply)
+}
+
+fn fits_accept<P: AtPlace>(here: &P, told: Statement, reply: Reply) -> bool
+    ensures { (at : Place) → P.is_at here.now at → result ≡ reply_test at (Accept told) reply }
+{
+    if !is_up(here) {
+        return is_refused(reply, Refusal::Down);
+    }
+    if !knows(here, told.from) {
+        return is_refused(reply, Refusal::NoSite);
+    }
+    if !knows(here, told.to) {
+        return is_refused(reply, Refusal::NoSite);
+    }
+    if !has(here, told.field) {
+        return is_refused(reply, Refusal::NoField);
+    }
+    if told.total == 0 {
+        return is_refused(reply, Refusal::Zero);
+    }
+    if told.total > MAX_TOTAL {
+        return is_refused(reply, Refusal::TooLarge);
+    }
+    if is_here(here, told.from) {
+        return is_refused(reply, Refusal::SelfGift);
+    }
+    if !is_here(here, told.to) {
+        return is_refused(reply, Refusal::NotYours);
+    }
+    let gain = here.gain(told);
+    let room = room(here, told.field);
+    if u128::from(gain) > room {
+        return is_forged(reply, room);
+    }
+    is_accepted(reply, gain) || is_unsure(reply) && gain > 0
+}
+
+fn fits_read<P: AtPlace>(here: &P, field: FieldNo, reply: Reply) -> bool
+    ensures { (at : Place) → P.is_at here.now at → result ≡ reply_test at (Read field) reply }
+{
+    if !is_up(here) {
+        return is_refused(reply, Refusal::Down);
+    }
+    if !has(here, field) {
+        return is_refused(reply, Refusal::NoField);
+    }
+    let bounds = bounds(here, field);
+    let lower = guarded(here, field, Kind::Lower);
+    let raise = guarded(here, field, Kind::Raise);
+    is_between(reply, bounds.floor, bounds.ceiling, lower, raise)
+}
+
+fn fits_share<P: AtPlace>(here: &P, field: FieldNo, reply: Reply) -> bool
+    ensures { (at : Place) → P.is_at here.now at → result ≡ reply_test at (Share field) reply }
+{
+    if !is_up(here) {
+        return is_refused(reply, Refusal::Down);
+    }
+    if !has(here, field) {
+        return is_refused(reply, Refusal::NoField);
+    }
+    is_shares(
+        reply,
+        here.free(field, Kind::Lower),
+        here.free(field, Kind::Raise),
+    )
+}
+
+fn fits_restart<P: AtPlace>(here: &P, reply: Reply) -> bool
+    ensures { (at : Place) → P.is_at here.now at → result ≡ reply_test at Restart reply }
+{
+    let standing = here.standing();
+    let epoch = u64::from(standing.epoch);
+    let last_epoch = epoch.saturating_add(standing.still_down);
+    match reply {
+        Reply::StillDown => true,
+        Reply::Refused(refusal) => {
+            same_refusal(refusal, Refusal::NumbersFull) && u64::from(MAX_EPOCH) <= last_epoch
+        }
+        Reply::Restarted { epoch: next, last } => {
+            let next = u64::from(next);
+            let nothing = same_last(last, Last::Nothing);
+            epoch < next
+                && next <= last_epoch.saturating_add(1)
+                && next <= u64::from(MAX_EPOCH)
+                && if standing.unsure == 0 {
+                    nothing
+                } else {
+                    !nothing
+                }
+        }
+        _ => false,
+    }
+}
+
+/// Whether the reply is one that the site owes to the command, at the place of which the value
+/// tells. Costs no memory, and a few of the calls of the value.
+///
+/// Source: this project.
+pub fn fits<P: AtPlace>(here: &P, command: Command, reply: Reply) -> bool
+    ensures { (at : Place) → P.is_at here.now at → result ≡ reply_test at command reply }
+{
+    by_command! { command;
+        Begin => fits_begin(here, reply),
+        Escrow { txn, field, change } => fits_escrow(here, txn, field, change, reply),
+        Commit { txn } => fits_commit(here, txn, reply),
+        Abort { txn } => fits_abort(here, txn, reply),
+        Give { to, field, kind, amount } => fits_give(here, to, field, kind, amount, reply),
+        Restate { to, field, kind } => fits_restate(here, to, field, kind, reply),
+        Spare { to, field, kind, want } => fits_spare(here, to, field, kind, want, reply),
+        Tighten { field, kind, amount } => fits_tighten(here, field, kind, amount, reply),
+        Accept(told) => fits_accept(here, told, reply),
+        Read { field } => fits_read(here, field, reply),
+        Share { field } => fits_share(here, field, reply),
+        Restart => fits_restart(here, reply),
+    }
+}

@@ -1,0 +1,28 @@
+//! Laws of the definitions, each as the contract of a function that does nothing.
+
+ghost use Rattle.std.specs.Prelude.{◌≡◌, ℕ, List, reverse, ◌↔◌};
+ghost use Rattle.field_bounds.specs.declared.entry.Entry.{Entry};
+ghost use Rattle.field_bounds.specs.Schema.{SchemaValue};
+ghost use Rattle.field_bounds.specs.Limits.{IsSchema};
+ghost use Rattle.field_bounds.specs.Central.{IsSound, IsCentral};
+ghost use Rattle.central_rules.specs.declared.verdict.Rule.{Rule};
+ghost use Rattle.central_rules.specs.declared.verdict.Verdict.TheVariants.{Legal, Illegal};
+ghost use Rattle.central_rules.specs.Verdict.{verdict_of, IsFirstBad};
+
+/// The verdict is what it says it is. It is Legal exactly where the trace is sound, so that each
+/// reply is one that its site owes after its own entries alone, and central, so that one central
+/// store could have made it (`legal`). Else `at` is the first bad entry, counted from 1: the front
+/// before it is sound and central, and `rule` is the first rule that it breaks over that front
+/// (`illegal`). Over every sound trace the verdict is Legal (`sound`). Entries stand in order, the
+/// oldest first; a trace has the newest first.
+///
+/// Source: this project.
+pub fn verdict_is_exact()
+    ensures legal { (schema : SchemaValue) (entries : List Entry) →
+        verdict_of schema entries ≡ Legal
+        ↔ (IsSound schema (reverse entries) × IsCentral schema (reverse entries)) }
+    ensures illegal { (schema : SchemaValue) (entries : List Entry) (at : ℕ) (rule : Rule) →
+        verdict_of schema entries ≡ Illegal at rule → IsFirstBad schema (reverse entries) at rule }
+    ensures sound { (schema : SchemaValue) (entries : List Entry) →
+        IsSchema schema → IsSound schema (reverse entries) → verdict_of schema entries ≡ Legal }
+{}

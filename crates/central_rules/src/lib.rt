@@ -1,0 +1,23 @@
+//! The rules of one central store over any trace, and the verdict by them: whether entries are a run
+//! of one store in which each reply was owed, else the first bad entry and the first rule that it
+//! breaks. Nothing here shares a sum or a state with the sites.
+//!
+//! Source: O'Neil 1986 for the central store, Balegas and others 2015 for rights that are divided
+//! among sites and transferred, this project for the rules and the verdict.
+#![tactic(auto)]
+
+mod afresh;
+mod front;
+mod here;
+mod ladder;
+mod laws;
+mod plain;
+mod same;
+mod standing;
+mod verdict;
+
+pub use ladder::{AtPlace, fits};
+pub use laws::verdict_is_exact;
+pub use plain::judge_plain;
+pub use standing::Standing;
+pub use verdict::{Rule, Verdict};

@@ -1,0 +1,242 @@
+//! The judge that sums afresh over each front.
+ghost use Rattle.std.specs.Prelude.{◌≡◌, ◌≤◌, ◌<◌, IfOk, reverse, length, Option, Some, None};
+ghost use Rattle.central_rules.specs.Verdict.{verdict_of, broken, statement_test, is_issued, is_told_by, same_statement, verdict_back, grant_test, shortage_test, interval_test, test_of};
+ghost use Rattle.central_rules.specs.declared.verdict.Verdict.TheVariants.{Legal};
+ghost use Rattle.field_bounds.specs.Statements.{statement_of};
+ghost use Rattle.field_bounds.specs.Central.{IsSound};
+ghost use Rattle.central_rules.specs.declared.verdict.Rule.TheVariants.{Reply as Owed};
+
+use crate::afresh::same_kind;
+use crate::front::{between, has, true_share, within_bound};
+use crate::here::Here;
+use crate::ladder::fits;
+use crate::verdict::{Rule, Verdict};
+use field_bounds::{Command, Entry, Kind, Refusal, Reply, Schema, Statement, statement_of};
+use std::alloc::{AllocError, Global};
+
+/// The verdict on entries, the oldest first: Legal where they are a run of one central store in which
+/// each reply was owed, else the first bad entry, counted from 1, and the first rule that it breaks.
+/// Each front is summed afresh, as the definitions read.
+///
+/// The error is want of memory. Takes time in proportion to the cube of the number of entries, and
+/// memory for what took effect at one site at a time.
+///
+/// Source: this project.
+pub fn judge_plain(alloc: Global, schema: &Schema, entries: &[Entry]) -> Result<Verdict, AllocError>
+    ensures verdict { IfOk result (λ verdict. verdict ≡ verdict_of schema.now entries.now) }
+{
+    let _few = length_of(entries);
+    for (i, entry) in entries.iter().enumerate() {
+        if let Some(rule) = broken(alloc, schema, &entries[..i], *entry)? {
+            return Ok(Verdict::Illegal {
+                at: (i + 1) as u64,
+                rule,
+            });
+        }
+    }
+    Ok(Verdict::Legal)
+}
+
+/// How many entries there are: fewer than would fill the memory.
+fn length_of(entries: &[Entry]) -> usize
+    ensures few { length entries.now ≤ 230584300921369395 }
+{
+    entries.len()
+}
+
+/// Whether two statements are the same.
+fn is_same(a: Statement, b: Statement) -> bool
+    ensures { result ≡ same_statement a b }
+{
+    a.from.0 == b.from.0
+        && a.to.0 == b.to.0
+        && a.field.0 == b.field.0
+        && same_kind(a.kind, b.kind)
+        && a.total == b.total
+}
+
+/// Whether an entry of the front issues the statement.
+fn is_issued(front: &[Entry], statement: Statement) -> bool
+    ensures { result ≡ is_issued statement (reverse front.now) }
+{
+    for entry in front {
+        if let Some(told) = statement_of(entry) {
+            if is_same(told, statement) {
+                return true;
+            }
+        }
+    }
+    false
+}
+
+fn statement_holds(front: &[Entry], entry: Entry) -> bool
+    ensures { result ≡ statement_test (reverse front.now) entry.command entry.reply }
+{
+    match (entry.command, entry.reply) {
+        (Command::Accept(statement), Reply::Accepted { .. } | Reply::Unsure) => is_issued(
+            front, statement,
+        ),
+        _ => true,
+    }
+}
+
+fn grant_holds(
+    alloc: Global,
+    schema: &Schema,
+    front: &[Entry],
+    entry: Entry,
+) -> Result<bool, AllocError>
+    requires few { length front.now ≤ 230584300921369395 }
+    requires sound { IsSound schema.now (reverse front.now) }
+    ensures { IfOk result (λ holds. holds ≡ grant_test schema.now (reverse front.now) entry.command entry.reply) }
+{
+    match (entry.command, entry.reply) {
+        (Command::Escrow { field, change, .. }, Reply::Granted) => {
+            if !has(schema, field) {
+                return Ok(true);
+            }
+            within_bound(
+                alloc,
+                schema,
+                front,
+                field,
+                change.unsigned_abs(),
+                Kind::of(change),
+            )
+        }
+        (
+            Command::Tighten {
+                field,
+                kind,
+                amount,
+            },
+            Reply::Tightened { .. },
+        ) => {
+            if !has(schema, field) {
+                return Ok(true);
+            }
+            within_bound(alloc, schema, front, field, amount, kind)
+        }
+        _ => Ok(true),
+    }
+}
+
+fn interval_holds(
+    alloc: Global,
+    schema: &Schema,
+    front: &[Entry],
+    entry: Entry,
+) -> Result<bool, AllocError>
+    requires few { length front.now ≤ 230584300921369395 }
+    requires sound { IsSound schema.now (reverse front.now) }
+    ensures { IfOk result (λ holds. holds ≡ interval_test schema.now (reverse front.now) entry.command entry.reply) }
+{
+    match (entry.command, entry.reply) {
+        (Command::Read { field }, Reply::Between { lo, hi }) => {
+            if !has(schema, field) {
+                return Ok(true);
+            }
+            between(alloc, schema, front, field, lo, hi)
+        }
+        _ => Ok(true),
+    }
+}
+
+fn shortage_holds(
+    alloc: Global,
+    schema: &Schema,
+    front: &[Entry],
+    entry: Entry,
+) -> Result<bool, AllocError>
+    requires few { length front.now ≤ 230584300921369395 }
+    requires site_in { entry.site.0 < schema.now.sites }
+    ensures { IfOk result (λ holds. holds ≡ shortage_test schema.now (reverse front.now) entry.site.0 entry.command entry.reply) }
+{
+    match (entry.command, entry.reply) {
+        (Command::Escrow { field, change, .. }, Reply::Refused(Refusal::Short { share })) => {
+            true_share(
+                alloc,
+                schema,
+                front,
+                entry.site,
+                field,
+                Kind::of(change),
+                change.unsigned_abs(),
+                share,
+            )
+        }
+        (
+            Command::Give {
+                field,
+                kind,
+                amount,
+                ..
+            },
+            Reply::Refused(Refusal::Short { share }),
+        ) => { true_share(alloc, schema, front, entry.site, field, kind, amount, share) }
+        (
+            Command::Spare {
+                field,
+                kind,
+                want,
+                ..
+            },
+            Reply::Refused(Refusal::Short { share }),
+        ) => { true_share(alloc, schema, front, entry.site, field, kind, want, share) }
+        (
+            Command::Tighten {
+                field,
+                kind,
+                amount,
+            },
+            Reply::Refused(Refusal::Short { share }),
+        ) => { true_share(alloc, schema, front, entry.site, field, kind, amount, share) }
+        _ => Ok(true),
+    }
+}
+
+fn reply_holds(
+    alloc: Global,
+    schema: &Schema,
+    front: &[Entry],
+    entry: Entry,
+) -> Result<bool, AllocError>
+    requires few { length front.now ≤ 230584300921369395 }
+    requires site_in { entry.site.0 < schema.now.sites }
+    ensures { IfOk result (λ holds. holds ≡ test_of schema.now (reverse front.now) entry Owed) }
+{
+    let here = Here::new(alloc, schema, front, entry.site)?;
+    Ok(fits(&here, entry.command, entry.reply))
+}
+
+/// The first rule that the entry breaks over the front before it.
+fn broken(
+    alloc: Global,
+    schema: &Schema,
+    front: &[Entry],
+    entry: Entry,
+) -> Result<Option<Rule>, AllocError>
+    requires few { length front.now ≤ 230584300921369395 }
+    requires legal { verdict_back schema.now (reverse front.now) ≡ Legal }
+    ensures { IfOk result (λ rule. rule ≡ broken schema.now (reverse front.now) entry) }
+{
+    if entry.site.0 >= schema.sites() {
+        return Ok(Some(Rule::Site));
+    }
+    if !grant_holds(alloc, schema, front, entry)? {
+        return Ok(Some(Rule::Grant));
+    }
+    if !shortage_holds(alloc, schema, front, entry)? {
+        return Ok(Some(Rule::Shortage));
+    }
+    if !interval_holds(alloc, schema, front, entry)? {
+        return Ok(Some(Rule::Interval));
+    }
+    if !statement_holds(front, entry) {
+        return Ok(Some(Rule::Statement));
+    }
+    if !reply_holds(alloc, schema, front, entry)? {
+        return Ok(Some(Rule::Reply));
+    }
+    Ok(None)
+}
