@@ -23,7 +23,9 @@ pub use command::read_command;
 pub use entry::read_entry;
 pub use laws::texts_are_lines;
 pub use line_words::{read_number, read_signed};
-pub use word::{read_field, read_kind};
+pub use word::{
+    Fields, expect, field_at, kind_at, number_at, read_field, read_kind, signed_at, site_at,
+};
 pub use writing::{append_entry, write_command, write_entry};
 
 /// The most bytes of a line, without its line feed.

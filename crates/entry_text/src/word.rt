@@ -63,7 +63,7 @@ fn txn(word: &[u8]) -> Option<TxnId>
 
 /// The fields of a schema, with their number at hand. Contracts see the schema.
 #[derive(Drop)]
-pub(crate) struct Fields<'a> {
+pub struct Fields<'a> {
     schema: &'a Schema,
     count: u16,
 }
@@ -80,8 +80,8 @@ impl<'a> Model for Fields<'a> {
 }
 
 impl<'a> Fields<'a> {
-    /// The fields of the schema.
-    pub(crate) fn new(schema: &'a Schema) -> Fields<'a>
+    /// The fields of the schema. Costs no memory.
+    pub fn new(schema: &'a Schema) -> Fields<'a>
         ensures schema { result ≡ schema.now }
         ensures limits { IsSchema schema.now }
     {
@@ -143,11 +143,12 @@ pub fn read_field(schema: &Schema, word: &[u8]) -> Option<FieldNo>
     Fields::new(schema).read(word)
 }
 
-/// Takes a number.
+/// Takes the next word as a number, 0 to 18,446,744,073,709,551,615, or tells None where it is no such
+/// number or no word is left. Costs a pass over the word, and no memory.
 #[inline]
 #[tactic(auto, unfolding(line_words::specs::Reading::word_at))]
-pub(crate) fn number_at(line: &mut Words<'_>) -> Option<u64>
-    ensures { Gives result line.new (word_at (number_of (2 ^ 64)) line.old) }
+pub fn number_at(line: &mut Words<'_>) -> Option<u64>
+    ensures word { Gives result line.new (word_at (number_of (2 ^ 64)) line.old) }
 {
     read_number(line.next()?)
 }
@@ -160,20 +161,23 @@ pub(crate) fn epoch_at(line: &mut Words<'_>) -> Option<u32>
     medium(line.next()?)
 }
 
-/// Takes a number with a sign.
+/// Takes the next word as a number with a sign, -9,223,372,036,854,775,808 to
+/// 9,223,372,036,854,775,807, or tells None where it is no such number or no word is left. Costs a
+/// pass over the word, and no memory.
 #[inline]
 #[tactic(auto, unfolding(line_words::specs::Reading::word_at))]
-pub(crate) fn signed_at(line: &mut Words<'_>) -> Option<i64>
-    ensures { Gives result line.new (word_at signed_of line.old) }
+pub fn signed_at(line: &mut Words<'_>) -> Option<i64>
+    ensures word { Gives result line.new (word_at signed_of line.old) }
 {
     read_signed(line.next()?)
 }
 
-/// Takes a site: a number up to 65535.
+/// Takes the next word as a site, a number up to 65535, or tells None where it is no site or no word
+/// is left. Costs a pass over the word, and no memory.
 #[inline(always)]
 #[tactic(auto, unfolding(line_words::specs::Reading::word_at))]
-pub(crate) fn site_at(line: &mut Words<'_>) -> Option<SiteNo>
-    ensures { Gives result line.new (word_at site_of line.old) }
+pub fn site_at(line: &mut Words<'_>) -> Option<SiteNo>
+    ensures word { Gives result line.new (word_at site_of line.old) }
 {
     site(line.next()?)
 }
@@ -187,27 +191,30 @@ pub(crate) fn txn_at(line: &mut Words<'_>) -> Option<TxnId>
     txn(line.next()?)
 }
 
-/// Takes a kind.
+/// Takes the next word as a kind, `lower` or `raise`, or tells None where it is no kind or no word is
+/// left. Costs no memory.
 #[tactic(auto, unfolding(line_words::specs::Reading::word_at))]
-pub(crate) fn kind_at(line: &mut Words<'_>) -> Option<Kind>
-    ensures { Gives result line.new (word_at kind_of line.old) }
+pub fn kind_at(line: &mut Words<'_>) -> Option<Kind>
+    ensures word { Gives result line.new (word_at kind_of line.old) }
 {
     read_kind(line.next()?)
 }
 
-/// Takes a field.
+/// Takes the next word as a field, or tells None where it spells none or no word is left. Costs one
+/// look-up in a map, and no memory.
 #[inline(always)]
 #[tactic(auto, unfolding(line_words::specs::Reading::word_at))]
-pub(crate) fn field_at(line: &mut Words<'_>, fields: &Fields<'_>) -> Option<FieldNo>
-    ensures { Gives result line.new (word_at (field_of fields.now) line.old) }
+pub fn field_at(line: &mut Words<'_>, fields: &Fields<'_>) -> Option<FieldNo>
+    ensures word { Gives result line.new (word_at (field_of fields.now) line.old) }
 {
     fields.read(line.next()?)
 }
 
-/// Takes a word that has to be this text.
+/// Takes the next word where it is this text, or tells None where it is another or no word is left.
+/// Costs a pass over the word, and no memory.
 #[tactic(auto, unfolding(line_words::specs::Reading::word_at))]
-pub(crate) fn expect(line: &mut Words<'_>, text: &str) -> Option<()>
-    ensures { Gives result line.new (word_at (only_of text.now) line.old) }
+pub fn expect(line: &mut Words<'_>, text: &str) -> Option<()>
+    ensures word { Gives result line.new (word_at (only_of text.now) line.old) }
 {
     only(line.next()?, text)
 }

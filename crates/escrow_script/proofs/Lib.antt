@@ -1,4 +1,3 @@
-pub mod LineLemmas
 pub mod StepLemmas
 pub mod LuckLemmas
 pub mod LevelLines

@@ -5,13 +5,15 @@ use Rattle.std.proofs.Math.Seq.{take-append-add}
 use Rattle.std.specs.Io.KnownBytes.{Appends, Consumes, IsAtEnd}
 use Rattle.std.proofs.KnownBytes.{Appends-trans, Appends-nil, Consumes-trans, Consumes-nil}
 use Rattle.escrow_script.specs.declared.script.Script.{Script}
-use Rattle.escrow_script.specs.declared.fault.ScriptFault.{ScriptFault}
-use Rattle.escrow_script.specs.declared.fault.ScriptFault.TheVariants.{Read, TooLong, Write, Header, NoMemory}
-use Rattle.escrow_script.specs.declared.watched.End.{End}
-use Rattle.escrow_script.specs.declared.watched.End.TheVariants.{Nothing}
-use Rattle.escrow_script.specs.Lines.{whole_lines}
-use Rattle.escrow_script.specs.Watched.{AppendsFront}
-use Rattle.escrow_script.specs.Run.{At, HasWritten, Stops, Stands, StopsAfter, HasEndedAt, IsFresh, RunsThrough, Answers, Fails, Leaves, LeavesAll, WritesText, WritesFor}
+use Rattle.script_input.specs.declared.fault.ScriptFault.{ScriptFault}
+use Rattle.script_input.specs.declared.fault.ScriptFault.TheVariants.{Read, TooLong, Write, Header, NoMemory}
+use Rattle.script_input.specs.declared.watched.End.{End}
+use Rattle.script_input.specs.declared.watched.End.TheVariants.{Nothing}
+use Rattle.script_input.specs.Lines.{whole_lines}
+use Rattle.script_input.specs.Faults.{HasEndedAt}
+use Rattle.script_input.specs.Watched.{AppendsFront}
+use Rattle.script_input.proofs.LineLemmas.{split_piece, rest_some}
+use Rattle.escrow_script.specs.Run.{At, HasWritten, Stops, Stands, StopsAfter, IsFresh, RunsThrough, Answers, Fails, Leaves, LeavesAll, WritesText, WritesFor}
 use Rattle.escrow_script.proofs.RunLemmas.{At-written, Stops-along, kept-nil, IsTextOf-stands}
 
 -- a fault that tells less of the end
@@ -94,10 +96,6 @@ module _ (from middle to before written after : Option (List ℕ)) (old new : Sc
     within = within;
   }
 
-  split_piece : (n k : ℕ) (buf piece : List ℕ) → piece ≡ take k buf → k ≤ n → piece ++ drop k (take n buf) ≡ take n buf
-  split_piece n k buf piece e h =
-      ap (λ l. l ++ drop k (take n buf)) (e ∙ sym (take-take k n buf h)) ∙ take-append-drop k (take n buf)
-
   -- the fault came in the piece
   pub Stops-more : (wrote : Script) (wrote_to : Option (List ℕ)) (fault : ScriptFault) (n k : ℕ) (buf piece : List ℕ) (ended : End)
       → piece ≡ take k buf → k ≤ n → Consumes middle to (take n buf)
@@ -114,12 +112,6 @@ module _ (from middle to before written after : Option (List ℕ)) (old new : Sc
             (Stops-weaker fault _ new before after ⊥ (HasEndedAt to ended) (λ x. absurd x)
             (stops stands.read rest before (At-written stands.read old wrote before written wrote_to stands.at step appended))),
       )
-
-  rest_some : (n k : ℕ) (buf : List ℕ) → k < n → n ≤ length buf → drop k (take n buf) ≢ []
-  rest_some n k buf h fits = λ none.
-      let l : length (drop k (take n buf)) ≡ n - k = length-drop k (take n buf) ∙ ap (λ m. m - k) (length-take-le n buf fits) in
-      let z : length (drop k (take n buf)) ≡ 0 = ap length none in
-      absurd (omega arith)
 
   -- the piece went past the limit
   pub Stops-over : (wrote : Script) (wrote_to : Option (List ℕ)) (n k : ℕ) (buf piece : List ℕ) (ended : End)

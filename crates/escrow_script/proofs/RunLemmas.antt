@@ -8,15 +8,16 @@ use Rattle.std.specs.Io.KnownBytes.{Appends}
 use Rattle.std.proofs.KnownBytes.{Appends-trans}
 use Rattle.escrow_script.specs.declared.machine.Machine.{Machine}
 use Rattle.escrow_script.specs.declared.script.Script.{Script}
-use Rattle.escrow_script.specs.declared.fault.ScriptFault.{ScriptFault}
-use Rattle.escrow_script.specs.declared.fault.ScriptFault.TheVariants.{Read, TooLong, Write, Header, NoMemory}
+use Rattle.script_input.specs.declared.fault.ScriptFault.{ScriptFault}
+use Rattle.script_input.specs.declared.fault.ScriptFault.TheVariants.{Read, TooLong, Write, Header, NoMemory}
 use Rattle.field_bounds.specs.declared.fault.SchemaFault.TheVariants as schema_faults
 use Rattle.field_bounds.specs.Header.{schema_of}
-use Rattle.escrow_script.specs.Lines.{whole_lines, last_part, last_line, with_header, script_lines}
+use Rattle.script_input.specs.Lines.{whole_lines, last_part, last_line, with_header, script_lines}
 use Rattle.escrow_script.specs.Text.{IsTextOf}
-use Rattle.escrow_script.specs.Watched.{AppendsFront}
-use Rattle.escrow_script.specs.Run.{At, HasKept, CannotKeep, HasEnded, CannotEnd, HasAnswered, HasWritten, Stops, kept, with_piece, BeginsWithBreak, Leaves, LeavesFront, StandsFor, Moves, Completes}
-use Rattle.escrow_script.proofs.LineLemmas.{whole_lines-unbroken, last_part-unbroken, whole_lines-broken, last_part-broken, last_part_after-none}
+use Rattle.script_input.specs.Faults.{BeginsWithBreak}
+use Rattle.script_input.specs.Watched.{AppendsFront}
+use Rattle.escrow_script.specs.Run.{At, HasKept, CannotKeep, HasEnded, CannotEnd, HasAnswered, HasWritten, Stops, kept, with_piece, Leaves, LeavesFront, StandsFor, Moves, Completes}
+use Rattle.script_input.proofs.LineLemmas.{whole_lines-unbroken, last_part-unbroken, whole_lines-broken, last_part-broken, last_part_after-none, last_line-some, with_header-last, with_header-some}
 use Rattle.escrow_script.proofs.TextLemmas.{StandsFor-next, StandsFor-more, with_piece-kept}
 
 StandsFor-along : (m n : Option Machine) (ks ls : List (List ℕ)) (s t : List ℕ) → m ≡ n → ks ≡ ls → s ≡ t → StandsFor m ks s → StandsFor n ls t
@@ -196,18 +197,6 @@ kept-empty None line = λ e. e
 kept-empty (Some m) [] = λ e. refl
 kept-empty (Some m) (b ∷ bs) = λ e. cc
 
-last_line-some : (line : List ℕ) → (line ≡ [] → ⊥) → last_line line ≡ line ∷ []
-last_line-some [] h = absurd (h refl)
-last_line-some (b ∷ bs) h = refl
-
-with_header-last : (line : List ℕ) → with_header (last_line line) ≡ line ∷ []
-with_header-last [] = refl
-with_header-last (b ∷ bs) = refl
-
-with_header-some : (lines more : List (List ℕ)) (header : List ℕ) (behind : List (List ℕ)) → lines ≡ header ∷ behind → with_header (lines ++ more) ≡ lines ++ more
-with_header-some [] more header behind = λ e. cc
-with_header-some (line ∷ lines) more header behind = λ e. refl
-
 -- the lines of a script whose last line isn't ended by LF, or is the empty header line
 last_lines : (m : Option Machine) (wl : List (List ℕ)) (lp text : List ℕ) → StandsFor m wl text → (IsSome m → lp ≡ [] → ⊥)
     → with_header (wl ++ last_line lp) ≡ wl ++ lp ∷ []
@@ -282,18 +271,3 @@ Finishes-ended read old new before after not_both at step =
     subst (Completes before after new.out.items) (sym same)
     (Completes-stands new.machine (wl ++ lp ∷ []) before after at.written new.out.items
     (moved_some old.machine new.machine old.line.items old.out.items new.out.items step.machine) at.appended (Ended-stands read old new before after at step))
-
--- ---- bytes that are some
-
-pub some_after_line : (rest line after more : List ℕ) → rest ≡ line ++ 10 ∷ after → rest ++ more ≢ []
-some_after_line rest [] after more e = λ h. let none : (10 ∷ after) ++ more ≡ [] = ap (λ l. l ++ more) (sym e) ∙ h in cc
-some_after_line rest (b ∷ line) after more e =
-    λ h. let none : (b ∷ (line ++ 10 ∷ after)) ++ more ≡ [] = ap (λ l. l ++ more) (sym e) ∙ h in cc
-
-pub some_after_some : (rest more : List ℕ) → rest ≢ [] → rest ++ more ≢ []
-some_after_some [] more some = absurd (some refl)
-some_after_some (b ∷ rest) more some = λ h. cc
-
-pub not_empty_some : (rest : List ℕ) (is_empty : Bool) → is_empty ≡ eqb (length rest) 0 → is_empty ≡ false → rest ≢ []
-not_empty_some [] is_empty e none = λ h. cc
-not_empty_some (b ∷ rest) is_empty e none = λ h. cc

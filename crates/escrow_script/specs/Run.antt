@@ -6,18 +6,19 @@ use Rattle.field_bounds.specs.Header.{schema_of}
 use Rattle.field_bounds.specs.declared.fault.SchemaFault.TheVariants as schema_faults
 use Rattle.escrow_script.specs.declared.machine.Machine.{Machine}
 use Rattle.escrow_script.specs.declared.script.Script.{Script}
-use Rattle.escrow_script.specs.declared.fault.ScriptFault.{ScriptFault}
-use Rattle.escrow_script.specs.declared.fault.ScriptFault.TheVariants.{Read, TooLong, Write, Header, NoMemory}
-use Rattle.escrow_script.specs.declared.watched.End.{End}
-use Rattle.escrow_script.specs.declared.watched.End.TheVariants.{Nothing}
+use Rattle.script_input.specs.declared.fault.ScriptFault.{ScriptFault}
+use Rattle.script_input.specs.declared.fault.ScriptFault.TheVariants.{Read, TooLong, Write, Header, NoMemory}
+use Rattle.script_input.specs.declared.watched.End.{End}
+use Rattle.script_input.specs.declared.watched.End.TheVariants.{Nothing}
 use Rattle.entry_text.specs.Lines.{max_line}
 use Rattle.escrow_script.specs.Text.{line_text, AreReplies, IsAnswer, HasText, IsTextOf}
 use Rattle.world_steps.specs.declared.step.WorldStep.{WorldStep}
 use Rattle.world_steps.specs.declared.step.WorldStep.TheVariants.{Do, Deliver}
 use Rattle.field_bounds.specs.declared.entry.Entry.{Entry}
 use Rattle.world_steps.specs.View.{WorldValue}
-use Rattle.escrow_script.specs.Lines.{whole_lines, last_part, script_lines}
-use Rattle.escrow_script.specs.Watched.{AppendsFront}
+use Rattle.script_input.specs.Lines.{whole_lines, last_part, script_lines}
+use Rattle.script_input.specs.Faults.{HasEndedAt, Explains}
+use Rattle.script_input.specs.Watched.{AppendsFront}
 
 -- A line with the next bytes: all of them in a header line, and else as many as tell that the line is too long.
 abbrev pub with_piece : Option Machine → List ℕ → List ℕ → List ℕ
@@ -120,20 +121,6 @@ pub record HasWritten (old new : Script) : Type 0 where
   pub lines : new.lines ≡ old.lines
   pub out : new.out.items ≡ []
 
--- The bytes begin with LF (10).
-abbrev pub BeginsWithBreak : List ℕ → Type 0
-BeginsWithBreak bs = (rest : List ℕ) × (bs ≡ 10 ∷ rest)
-
--- What a fault says of the bytes in front of it and of those that were read after them.
-abbrev pub Explains : ScriptFault → List ℕ → List ℕ → Type 0 → Type 0
-Explains Read front back ended = back ≡ []
-Explains TooLong front back ended = (back ≢ []) × ((1000000 ≤ length (whole_lines front)) ⊎ (268435456 ≤ length front))
-Explains Write front back ended = Unit {0}
-Explains (Header fault) front back ended = (whole_lines front ≡ [])
-    × (((schema_of front ≡ Err fault) × (BeginsWithBreak back ⊎ ((back ≡ []) × ended)))
-    ⊎ ((fault ≡ schema_faults.TooLong) × (65536 < length front)))
-Explains NoMemory front back ended = Unit {0}
-
 -- The known bytes grow by bytes that, with those in the buffer, are the text of the lines.
 abbrev pub Leaves : Option (List ℕ) → Option (List ℕ) → List ℕ → List (List ℕ) → Type 0
 Leaves before after out lines = (written : List ℕ) × Appends before after written × IsTextOf lines (written ++ out)
@@ -214,10 +201,6 @@ pub record IsFresh (s : Script) : Type 0 where
 abbrev pub RunsThrough : Option (List ℕ) → Option (List ℕ) → Option (List ℕ) → Option (List ℕ) → Script → Type 0
 RunsThrough from to before after s =
     (read : List ℕ) × Consumes from to read × IsAtEnd to × Completes before after s.out.items (script_lines read)
-
--- The input has ended: no known byte is left, and the last read gave nothing.
-abbrev pub HasEndedAt : Option (List ℕ) → End → Type 0
-HasEndedAt to last = IsAtEnd to × (last ≡ Nothing)
 
 -- The fault came in what was read.
 abbrev pub StopsAfter : Option (List ℕ) → Option (List ℕ) → Option (List ℕ) → Option (List ℕ) → Script → End → ScriptFault → Type 0

@@ -2,18 +2,15 @@
 //! writer.
 #![tactic(auto)]
 
-mod fault;
 mod laws;
 mod level;
 mod line;
 mod machine;
 mod script;
-mod watched;
 
-pub use fault::ScriptFault;
 pub use laws::one_text;
 pub use script::run_script;
-pub use watched::{End, Watched};
+pub use script_input::{End, ScriptFault, Watched};
 
 #[cfg(test)]
 mod tests;

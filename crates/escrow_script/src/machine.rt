@@ -3,18 +3,18 @@
 ghost use Rattle.std.specs.Prelude.{◌≡◌, ℕ, [], ◌∷◌, ◌++◌, ◌<◌, ◌≤◌, length, take, map, All, codes, Ok, OnOk, OnErr, IfOk, IfErr};
 ghost use Rattle.std.specs.Fmt.{decimal};
 ghost use Rattle.field_bounds.specs.Header.{schema_of};
-ghost use Rattle.escrow_script.specs.Faults.{TellsHeader};
+ghost use Rattle.script_input.specs.Faults.{TellsHeader};
 ghost use Rattle.entry_text.specs.Spelling.{reply_text, entry_text};
 ghost use Rattle.escrow_script.specs.Text.{line_text, plain_text};
 ghost use Rattle.escrow_script.specs.Run.{IsMadeBy};
 
-use crate::fault::ScriptFault;
 use crate::level::{gift, sites_up};
 use crate::line::{Asked, Level, line_level, line_step};
 use entry_text::{append_entry, append_reply};
 use field_bounds::{Command, Entry, Reply, Schema, SiteNo};
 use itoa::Buffer;
 use rebalance::{Move, plan_even};
+use script_input::ScriptFault;
 use std::alloc::{AllocError, Global};
 use world_steps::{Luck, StepReply, World, WorldStep};
 

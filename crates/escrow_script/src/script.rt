@@ -2,49 +2,16 @@
 
 ghost use Rattle.std.specs.Prelude.{◌≡◌, ◌≢◌, ℕ, ◌+◌, ◌-◌, ◌^◌, ◌<◌, ◌≤◌, [], ◌∷◌, ◌++◌, length, take, All, OnOk, OnErr, IfOk, IfErr, MatchOption, vec_len, ◌↔◌, IsTrue, IsSome};
 ghost use Rattle.escrow_script.specs.Run.{Answers, Fails};
-ghost use Rattle.escrow_script.specs.Watched.{known, last_of, HasFailed, GaveNothing, HasRefused};
+ghost use Rattle.script_input.specs.Watched.{known, last_of, HasFailed, GaveNothing, HasRefused};
 
-use crate::fault::ScriptFault;
 use crate::machine::{Machine, add_line};
-use crate::watched::Watched;
 use entry_text::MAX_LINE;
 use field_bounds::{MAX_HEADER, SchemaFault};
+use script_input::{
+    MOST_BYTES, MOST_LINES, PIECE, ScriptFault, Watched, front, new_buffer, split_line,
+};
 use std::alloc::{AllocError, Global};
 use std::io::{Read, Write};
-
-// The most lines of an input, the header line included.
-const MOST_LINES: u32 = 1_000_000;
-
-// The most bytes of an input.
-const MOST_BYTES: u64 = 268_435_456;
-
-// How much is read in one call, and how much output is gathered before a write.
-const PIECE: usize = 65_536;
-
-// The bytes before the first LF, and those after it.
-fn split_line(bytes: &[u8]) -> Option<(&[u8], &[u8])>
-    ensures { MatchOption result (All (λ b. b ≢ 10) bytes.now)
-        (λ parts. All (λ b. b ≢ 10) parts.0.now × (bytes.now ≡ parts.0.now ++ 10 ∷ parts.1.now)) }
-{
-    match bytes.iter().position(|byte| *byte == b'\n') {
-        Some(at) => Some((&bytes[..at], &bytes[at + 1..])),
-        None => None,
-    }
-}
-
-// The first bytes.
-fn front(bytes: &[u8], count: usize) -> &[u8]
-    requires { count ≤ length bytes.now }
-    ensures { result.now ≡ take count bytes.now }
-{
-    &bytes[..count]
-}
-
-fn new_buffer(alloc: Global) -> Result<Vec<u8>, AllocError>
-    ensures { IfOk result (λ buffer. vec_len buffer ≡ 65536) }
-{
-    vec![in alloc; 0u8; PIECE]
-}
 
 // The machine once the header line came, the bytes of the line that is being read, the whole lines
 // so far, and what is to be written.
@@ -60,7 +27,7 @@ struct Script {
 impl Script {
     ghost use Rattle.std.specs.Io.KnownBytes.{Appends};
     ghost use Rattle.escrow_script.specs.Run.{HasKept, CannotKeep, HasEnded, CannotEnd, HasAnswered, EndsWith, CannotEndWith, HasWritten, GoesOn, StopsIn, Finishes, StopsAtEnd, IsFresh, RunsThrough, StopsAfter, StandsNext, StopsNext};
-    ghost use Rattle.escrow_script.specs.Watched.{AppendsFront};
+    ghost use Rattle.script_input.specs.Watched.{AppendsFront};
 
     fn new(alloc: Global) -> Script
         ensures { IsFresh result }

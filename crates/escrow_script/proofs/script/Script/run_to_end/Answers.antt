@@ -10,7 +10,7 @@ returns-in_err-buffer-clause-err g c =
 
 pub pieces-init : goal.pieces-init
 pieces-init g c = record {
-  size = c.in_ok-buffer.ensures;
+  size = c.in_ok-buffer.ensures.length;
   bound = omega arith;
   within = rw c.requires.lines (omega arith);
   stands = Stands-start _ _ _ c.requires;

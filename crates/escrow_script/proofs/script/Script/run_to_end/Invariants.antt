@@ -1,6 +1,6 @@
 use Rattle.std.proofs.Common.{◌≡◌, ◌-◌, ◌≤◌, vec_len}
 use Rattle.escrow_script.specs.Run.{Stands}
-use Rattle.escrow_script.specs.Watched.{known}
+use Rattle.script_input.specs.Watched.{known}
 use Rattle.escrow_script.proofs.script.Script.run_to_end.Given as goal
 
 abbrev pub invariant-pieces : goal.invariant-pieces

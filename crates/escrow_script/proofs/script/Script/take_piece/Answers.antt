@@ -1,22 +1,15 @@
 use Rattle.std.proofs.Common.{◌≡◌, ℕ, List, [], ◌∷◌, ◌++◌, sym, ap, ◌∙◌, append_assoc, arith}
 use Rattle.std.proofs.lemmas.Result.{err_from_is_err_and, IfErr-weaker, on_ok_weaker}
-use Rattle.escrow_script.proofs.RunLemmas.{At-kept, At-along, Stops-keep, Stops-full, Stops-along, some_after_line, some_after_some, not_empty_some}
+use Rattle.escrow_script.proofs.RunLemmas.{At-kept, At-along, Stops-keep, Stops-full, Stops-along}
+use Rattle.script_input.proofs.LineLemmas.{some_after_line, some_after_some, not_empty_some, piece_parts, line_parts}
 use Rattle.escrow_script.proofs.script.Script.take_piece.Goals as goal
-
-piece_parts : (read done rest piece more : List ℕ) → piece ≡ done ++ rest → (read ++ done) ++ (rest ++ more) ≡ read ++ (piece ++ more)
-piece_parts read done rest piece more e =
-    append_assoc read done (rest ++ more) ∙ ap (λ l. read ++ l) (sym (append_assoc done rest more) ∙ ap (λ l. l ++ more) (sym e))
-
-line_parts : (line after more rest : List ℕ) → rest ≡ line ++ 10 ∷ after → (line ++ 10 ∷ []) ++ (after ++ more) ≡ rest ++ more
-line_parts line after more rest e =
-    append_assoc line (10 ∷ []) (after ++ more) ∙ sym (append_assoc line (10 ∷ after) more) ∙ ap (λ l. l ++ more) (sym e)
 
 pub returns-then-self-ge-MOST_LINES-clause-err : goal.returns-then-self-ge-MOST_LINES-clause-err
 returns-then-self-ge-MOST_LINES-clause-err g c = λ read more before at.
     let inv = c.lines.invariant in
     Stops-along _ _ _ _ _ _ _ (piece_parts read inv.done c.lines.rest.now c.args.piece.now more inv.split)
     (Stops-full (read ++ inv.done) (c.lines.rest.now ++ more) _ _ _ _ c.if-self-ge-MOST_LINES.true
-    (some_after_line c.lines.rest.now _ _ more c.in-Some.ensures.1) (inv.goes read before at))
+    (some_after_line c.lines.rest.now _ _ more c.in-Some.ensures.parts.1) (inv.goes read before at))
 
 pub returns-in_err-take_line-clause-err : goal.returns-in_err-take_line-clause-err
 returns-in_err-take_line-clause-err g c =
@@ -24,7 +17,7 @@ returns-in_err-take_line-clause-err g c =
     let p = err_from_is_err_and c.from_residual.result c.from_residual.ensures.1 in
     rw (p.1, p.2) (λ read more before at.
     Stops-along _ _ _ _ _ _ _
-    (ap (λ l. (read ++ inv.done) ++ l) (line_parts c.in-Some.line.now c.in-Some.after.now more c.lines.rest.now c.in-Some.ensures.1)
+    (ap (λ l. (read ++ inv.done) ++ l) (line_parts c.in-Some.line.now c.in-Some.after.now more c.lines.rest.now c.in-Some.ensures.parts.1)
     ∙ piece_parts read inv.done c.lines.rest.now c.args.piece.now more inv.split)
     (c.in_err-take_line.ensures.err (read ++ inv.done) (c.in-Some.after.now ++ more) before (inv.goes read before at)))
 
@@ -35,7 +28,7 @@ lines-preserved g c =
     let after = c.in-Some.after.now in record {
       within = omega (arith, c.in_ok-take_line.ensures.lines);
       done = inv.done ++ (line ++ 10 ∷ []);
-      split = inv.split ∙ ap (λ l. inv.done ++ l) (c.in-Some.ensures.1 ∙ sym (append_assoc line (10 ∷ []) after))
+      split = inv.split ∙ ap (λ l. inv.done ++ l) (c.in-Some.ensures.parts.1 ∙ sym (append_assoc line (10 ∷ []) after))
           ∙ sym (append_assoc inv.done (line ++ 10 ∷ []) after);
       goes = λ read before at. At-along _ _ _ _ _ (append_assoc read inv.done (line ++ 10 ∷ []))
           (c.in_ok-take_line.ensures.ok (read ++ inv.done) before (inv.goes read before at));
@@ -55,11 +48,11 @@ returns-clause-err g c =
     let inv = c.lines.invariant in
     IfErr-weaker c.keep.result _ _ (λ fault cannot read more before at.
     Stops-along _ _ _ _ _ _ _ (piece_parts read inv.done c.lines.rest.now c.args.piece.now more inv.split)
-    (Stops-keep fault (read ++ inv.done) c.lines.rest.now more _ _ _ _ _ c.in_default.ensures (inv.goes read before at) cannot)) c.keep.ensures.err
+    (Stops-keep fault (read ++ inv.done) c.lines.rest.now more _ _ _ _ _ c.in_default.ensures.parts (inv.goes read before at) cannot)) c.keep.ensures.err
 
 pub returns-clause-ok : goal.returns-clause-ok
 returns-clause-ok g c =
     let inv = c.lines.invariant in
     on_ok_weaker c.keep.result (λ kept read before at.
     At-along _ _ _ _ _ (append_assoc read inv.done c.lines.rest.now ∙ ap (λ l. read ++ l) (sym inv.split))
-    (At-kept _ _ _ _ _ _ c.in_default.ensures (inv.goes read before at) kept)) c.keep.ensures.ok
+    (At-kept _ _ _ _ _ _ c.in_default.ensures.parts (inv.goes read before at) kept)) c.keep.ensures.ok

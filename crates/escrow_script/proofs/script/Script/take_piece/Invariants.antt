@@ -1,6 +1,6 @@
 use Rattle.std.proofs.Common.{◌≡◌, ℕ, List, ◌≤◌, ◌++◌, length}
 use Rattle.escrow_script.specs.Run.{GoesOn}
-use Rattle.escrow_script.specs.Watched.{known}
+use Rattle.script_input.specs.Watched.{known}
 use Rattle.escrow_script.proofs.script.Script.take_piece.Given as goal
 
 abbrev pub invariant-lines : goal.invariant-lines

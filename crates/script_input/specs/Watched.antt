@@ -1,9 +1,9 @@
 -- How a call of a reader or a writer ended, and the bytes that are known of one (this project).
 use Rattle.std.specs.Prelude.{◌≡◌, ℕ, List, take, Option}
 use Rattle.std.specs.Io.KnownBytes.{Appends}
-use Rattle.escrow_script.specs.declared.watched.Watched.{Watched}
-use Rattle.escrow_script.specs.declared.watched.End.{End}
-use Rattle.escrow_script.specs.declared.watched.End.TheVariants.{NotCalled, Moved, Nothing, Failed}
+use Rattle.script_input.specs.declared.watched.Watched.{Watched}
+use Rattle.script_input.specs.declared.watched.End.{End}
+use Rattle.script_input.specs.declared.watched.End.TheVariants.{NotCalled, Moved, Nothing, Failed}
 
 -- The reader or the writer that is watched.
 abbrev pub inner_of : {T : Type 0} → Watched T → T

@@ -27,7 +27,7 @@ pub enum ScriptFault {
 }
 
 impl From<AllocError> for ScriptFault {
-    ghost use Rattle.escrow_script.specs.declared.fault.ScriptFault.TheVariants.{NoMemory};
+    ghost use Rattle.script_input.specs.declared.fault.ScriptFault.TheVariants.{NoMemory};
 
     ghost from_gives = { λ _ fault. fault ≡ NoMemory };
 
@@ -37,7 +37,7 @@ impl From<AllocError> for ScriptFault {
 }
 
 impl From<SchemaFault> for ScriptFault {
-    ghost use Rattle.escrow_script.specs.Faults.{header_fault};
+    ghost use Rattle.script_input.specs.Faults.{header_fault};
 
     ghost from_gives = { λ told fault. fault ≡ header_fault told };
 

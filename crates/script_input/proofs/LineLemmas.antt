@@ -1,9 +1,10 @@
 -- The lines of a text that goes on.
-use Rattle.std.proofs.Common.{◌≡◌, ◌≢◌, ℕ, List, [], ◌∷◌, ◌++◌, true, false, cond, eqb, refl, sym, ap, ◌∙◌, append_assoc, append-nil, arith}
+use Rattle.std.proofs.Common.{◌≡◌, ◌≢◌, ℕ, ◌-◌, ◌<◌, ◌≤◌, List, [], ◌∷◌, ◌++◌, Bool, true, false, cond, eqb, length, take, drop, refl, sym, ap, ◌∙◌, append_assoc, append-nil, take-append-drop, arith}
 use Rattle.std.specs.List.{All}
+use Rattle.std.proofs.lemmas.List.{length-take-le, length-drop, take-take}
 use Rattle.std.proofs.lemmas.Bool.{ne_eqb}
 use Rattle.std.proofs.lemmas.List.Elements.{All-tail}
-use Rattle.escrow_script.specs.Lines.{whole_lines_after, last_part_after, whole_lines, last_part}
+use Rattle.script_input.specs.Lines.{whole_lines_after, last_part_after, whole_lines, last_part, last_line, with_header}
 
 pub whole_lines_after-append : (front bs cs : List ℕ)
     → whole_lines_after front (bs ++ cs) ≡ whole_lines_after front bs ++ whole_lines_after (last_part_after front bs) cs
@@ -65,3 +66,52 @@ whole_lines-broken read = whole_lines_after-append [] read (10 ∷ [])
 
 pub last_part-broken : (read : List ℕ) → last_part (read ++ 10 ∷ []) ≡ []
 last_part-broken read = last_part_after-append [] read (10 ∷ [])
+
+-- ---- a last line without LF, and the header line
+
+pub last_line-some : (line : List ℕ) → (line ≡ [] → ⊥) → last_line line ≡ line ∷ []
+last_line-some [] h = absurd (h refl)
+last_line-some (b ∷ bs) h = refl
+
+pub with_header-last : (line : List ℕ) → with_header (last_line line) ≡ line ∷ []
+with_header-last [] = refl
+with_header-last (b ∷ bs) = refl
+
+pub with_header-some : (lines more : List (List ℕ)) (header : List ℕ) (behind : List (List ℕ)) → lines ≡ header ∷ behind → with_header (lines ++ more) ≡ lines ++ more
+with_header-some [] more header behind = λ e. cc
+with_header-some (line ∷ lines) more header behind = λ e. refl
+
+-- ---- bytes that are some
+
+pub some_after_line : (rest line after more : List ℕ) → rest ≡ line ++ 10 ∷ after → rest ++ more ≢ []
+some_after_line rest [] after more e = λ h. let none : (10 ∷ after) ++ more ≡ [] = ap (λ l. l ++ more) (sym e) ∙ h in cc
+some_after_line rest (b ∷ line) after more e =
+    λ h. let none : (b ∷ (line ++ 10 ∷ after)) ++ more ≡ [] = ap (λ l. l ++ more) (sym e) ∙ h in cc
+
+pub some_after_some : (rest more : List ℕ) → rest ≢ [] → rest ++ more ≢ []
+some_after_some [] more some = absurd (some refl)
+some_after_some (b ∷ rest) more some = λ h. cc
+
+pub not_empty_some : (rest : List ℕ) (is_empty : Bool) → is_empty ≡ eqb (length rest) 0 → is_empty ≡ false → rest ≢ []
+not_empty_some [] is_empty e none = λ h. cc
+not_empty_some (b ∷ rest) is_empty e none = λ h. cc
+
+-- ---- parts of a piece
+
+pub split_piece : (n k : ℕ) (buf piece : List ℕ) → piece ≡ take k buf → k ≤ n → piece ++ drop k (take n buf) ≡ take n buf
+split_piece n k buf piece e h =
+    ap (λ l. l ++ drop k (take n buf)) (e ∙ sym (take-take k n buf h)) ∙ take-append-drop k (take n buf)
+
+pub rest_some : (n k : ℕ) (buf : List ℕ) → k < n → n ≤ length buf → drop k (take n buf) ≢ []
+rest_some n k buf h fits = λ none.
+    let l : length (drop k (take n buf)) ≡ n - k = length-drop k (take n buf) ∙ ap (λ m. m - k) (length-take-le n buf fits) in
+    let z : length (drop k (take n buf)) ≡ 0 = ap length none in
+    absurd (omega arith)
+
+pub piece_parts : (read done rest piece more : List ℕ) → piece ≡ done ++ rest → (read ++ done) ++ (rest ++ more) ≡ read ++ (piece ++ more)
+piece_parts read done rest piece more e =
+    append_assoc read done (rest ++ more) ∙ ap (λ l. read ++ l) (sym (append_assoc done rest more) ∙ ap (λ l. l ++ more) (sym e))
+
+pub line_parts : (line after more rest : List ℕ) → rest ≡ line ++ 10 ∷ after → (line ++ 10 ∷ []) ++ (after ++ more) ≡ rest ++ more
+line_parts line after more rest e =
+    append_assoc line (10 ∷ []) (after ++ more) ∙ sym (append_assoc line (10 ∷ after) more) ∙ ap (λ l. l ++ more) (sym e)

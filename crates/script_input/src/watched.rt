@@ -3,7 +3,7 @@
 ghost use Rattle.std.specs.Prelude.{◌≡◌, ◌<◌, length, IfOk, OnOk, OnErr};
 ghost use Rattle.std.specs.Io.{ReadsAtMost};
 ghost use Rattle.std.specs.Io.KnownBytes.{Appends, ReadConsumes};
-ghost use Rattle.escrow_script.specs.Watched.{inner_of, last_of, known, GaveNothing, HasFailed, HasRefused, AppendsFront};
+ghost use Rattle.script_input.specs.Watched.{inner_of, last_of, known, GaveNothing, HasFailed, HasRefused, AppendsFront};
 
 use std::io::{Read, Write};
 
@@ -30,9 +30,9 @@ pub struct Watched<T> {
     last: End,
 }
 
-/// The call failed.
+/// A call of a reader or a writer failed, or a writer took none of its bytes.
 #[derive(Clone, Copy, Debug)]
-pub(crate) struct CallFailed;
+pub struct CallFailed;
 
 impl<T> Watched<T> {
     /// A reader or a writer before its first call. Costs no memory.
@@ -63,7 +63,7 @@ impl<T> Watched<T> {
 
 impl<R: Read> Watched<R> {
     /// One read. An error of any kind is answered at once, and nothing is tried again.
-    pub(crate) fn read(&mut self, buffer: &mut [u8]) -> Result<usize, CallFailed>
+    pub fn read(&mut self, buffer: &mut [u8]) -> Result<usize, CallFailed>
         ensures bound { ReadsAtMost result buffer.new }
         ensures bytes { ReadConsumes (known R.remaining self.old) (known R.remaining self.new)
             result buffer.new }
@@ -94,7 +94,7 @@ impl<R: Read> Watched<R> {
 impl<W: Write> Watched<W> {
     /// Writes the bytes in as many calls as it takes. An error of any kind, and a call that takes
     /// none of the bytes, ends it, and nothing is tried again.
-    pub(crate) fn write_all(&mut self, bytes: &[u8]) -> Result<(), CallFailed>
+    pub fn write_all(&mut self, bytes: &[u8]) -> Result<(), CallFailed>
         ensures ok { OnOk result (Appends (known W.contents self.old) (known W.contents self.new)
             bytes.now) }
         ensures front { OnErr result (AppendsFront (known W.contents self.old)

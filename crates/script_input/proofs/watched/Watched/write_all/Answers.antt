@@ -2,7 +2,7 @@ use Rattle.std.proofs.Common.{◌-◌, ◌++◌, length, take, drop, sym, ap, su
 use lib.Seq.{take-add, take-take}
 use Rattle.std.specs.Io.KnownBytes.{Appends}
 use Rattle.std.proofs.KnownBytes.{Appends-trans}
-use Rattle.escrow_script.proofs.watched.Watched.write_all.Goals as goal
+use Rattle.script_input.proofs.watched.Watched.write_all.Goals as goal
 
 pub loop-written-preserved : goal.loop-written-preserved
 loop-written-preserved g c =

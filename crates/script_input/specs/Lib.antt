@@ -1,0 +1,3 @@
+pub mod Watched
+pub mod Lines
+pub mod Faults

@@ -1,0 +1,41 @@
+//! Pieces of an input, its lines, and its limits.
+
+ghost use Rattle.std.specs.Prelude.{◌≡◌, ◌≢◌, ◌≤◌, ◌∷◌, ◌++◌, length, take, All, IfOk, MatchOption, vec_len};
+
+use std::alloc::{AllocError, Global};
+
+/// The most lines of an input, the header line included.
+pub const MOST_LINES: u32 = 1_000_000;
+
+/// The most bytes of an input.
+pub const MOST_BYTES: u64 = 268_435_456;
+
+/// How many bytes are read in one call, and how many are gathered before a write.
+pub const PIECE: usize = 65_536;
+
+/// The bytes before the first LF, and those after it, or None where there is no LF. Costs a look at
+/// each byte before the LF, and no memory.
+pub fn split_line(bytes: &[u8]) -> Option<(&[u8], &[u8])>
+    ensures parts { MatchOption result (All (λ b. b ≢ 10) bytes.now)
+        (λ parts. All (λ b. b ≢ 10) parts.0.now × (bytes.now ≡ parts.0.now ++ 10 ∷ parts.1.now)) }
+{
+    match bytes.iter().position(|byte| *byte == b'\n') {
+        Some(at) => Some((&bytes[..at], &bytes[at + 1..])),
+        None => None,
+    }
+}
+
+/// The first bytes. Costs no memory.
+pub fn front(bytes: &[u8], count: usize) -> &[u8]
+    requires there { count ≤ length bytes.now }
+    ensures bytes { result.now ≡ take count bytes.now }
+{
+    &bytes[..count]
+}
+
+/// A buffer for what a read gives: 65,536 bytes. The error is want of memory.
+pub fn new_buffer(alloc: Global) -> Result<Vec<u8>, AllocError>
+    ensures length { IfOk result (λ buffer. vec_len buffer ≡ 65536) }
+{
+    vec![in alloc; 0u8; PIECE]
+}
