@@ -1,0 +1,5 @@
+pub mod Remarks
+pub mod Entries
+pub mod States
+pub mod Pieces
+pub mod Told

@@ -1,0 +1,171 @@
+//! What an audit answers, and its text.
+
+ghost use Rattle.std.specs.Prelude.{◌≡◌, ◌≢◌, ◌++◌, ◌∷◌, [], codes, string_bytes, length, IfOk, IfErr, Some, IsSome};
+ghost use Rattle.std.specs.Fmt.{decimal};
+ghost use Rattle.field_bounds.specs.Schema.{SchemaValue};
+ghost use Rattle.central_rules.specs.Verdict.{verdict_of};
+ghost use Rattle.script_input.specs.Watched.{known, last_of, HasFailed, GaveNothing, HasRefused};
+ghost use Rattle.escrow_audit.specs.Reading.{Tells, FaultsIn};
+ghost use Rattle.escrow_audit.specs.Audit.{rule_text, verdict_text, end_of, bad_entry_text, Audits, Fails};
+
+use crate::reading::{Reading, Stop};
+use central_rules::{Rule, Verdict, judge_plain};
+use script_input::{ScriptFault, Watched};
+use std::alloc::{AllocError, Global};
+use std::io::{Read, Write};
+
+/// What an audit found.
+#[derive(Clone, Copy, Debug, PartialEq, Eq)]
+pub enum AuditEnd {
+    /// The entries are a run of one central store, in which each reply was owed.
+    Legal,
+    /// Some entry breaks a rule.
+    Illegal,
+    /// Some line is neither an entry nor a remark.
+    BadEntry,
+}
+
+// A rule in lower case.
+fn rule_word(rule: Rule) -> &'static str
+    ensures { result.now ≡ rule_text rule }
+{
+    match rule {
+        Rule::Site => "site",
+        Rule::Grant => "grant",
+        Rule::Shortage => "shortage",
+        Rule::Interval => "interval",
+        Rule::Statement => "statement",
+        Rule::Reply => "reply",
+    }
+}
+
+// The line that tells that an entry breaks a rule.
+fn illegal_line(alloc: Global, at: u64, word: &str) -> Result<String, AllocError>
+    ensures { IfOk result (λ text. string_bytes text
+        ≡ codes "illegal " ++ (decimal at ++ (codes " " ++ (word.now ++ 10 ∷ [])))) }
+{
+    format!(in alloc; "illegal {at} {word}\n")
+}
+
+// The line that tells a verdict over so many entries.
+fn verdict_line(alloc: Global, verdict: Verdict, count: usize) -> Result<String, AllocError>
+    ensures { IfOk result (λ text. string_bytes text ≡ verdict_text verdict count) }
+{
+    match verdict {
+        Verdict::Legal => format!(in alloc; "legal {count}\n"),
+        Verdict::Illegal { at, rule } => illegal_line(alloc, at, rule_word(rule)),
+    }
+}
+
+// The line that tells the first bad entry.
+fn bad_entry_line(alloc: Global, number: u64) -> Result<String, AllocError>
+    ensures { IfOk result (λ text. string_bytes text ≡ bad_entry_text number) }
+{
+    format!(in alloc; "bad entry {number}\n")
+}
+
+// How an audit ends by a verdict.
+fn end_of(verdict: Verdict) -> AuditEnd
+    ensures { result ≡ end_of verdict }
+{
+    match verdict {
+        Verdict::Legal => AuditEnd::Legal,
+        Verdict::Illegal { .. } => AuditEnd::Illegal,
+    }
+}
+
+// Judges the entries that were read.
+fn judged(alloc: Global, reading: &Reading) -> Result<(AuditEnd, String), AllocError>
+    requires { IsSome reading.now.schema }
+    ensures end { IfOk result (λ told. (schema : SchemaValue) → reading.now.schema ≡ Some schema
+        → told.0 ≡ end_of (verdict_of schema reading.now.entries.items)) }
+    ensures text { IfOk result (λ told. (schema : SchemaValue) → reading.now.schema ≡ Some schema
+        → string_bytes told.1 ≡ verdict_text (verdict_of schema reading.now.entries.items) (length reading.now.entries.items)) }
+{
+    let Some(schema) = &reading.schema else {
+        unreachable!()
+    };
+    let verdict = judge_plain(alloc, schema, reading.entries.as_slice())?;
+    let text = verdict_line(alloc, verdict, reading.entries.len())?;
+    Ok((end_of(verdict), text))
+}
+
+// Reads the input, and tells what is answered.
+fn answer<R: Read>(
+    alloc: Global,
+    reader: &mut Watched<R>,
+) -> Result<(AuditEnd, String), ScriptFault>
+    ensures ok { IfOk result (λ told. Tells (known R.remaining reader.old) (known R.remaining reader.new)
+        (last_of reader.new) told.0 (string_bytes told.1)) }
+    ensures fault { IfErr result (FaultsIn (known R.remaining reader.old) (known R.remaining reader.new)
+        (last_of reader.new)) }
+    ensures read { IfErr result (λ fault. fault ≡ ScriptFault.Read → HasFailed reader.new) }
+{
+    let mut reading = Reading::new(alloc);
+    match reading.read_all(reader) {
+        Ok(()) => Ok(judged(alloc, &reading)?),
+        Err(Stop::BadEntry) => {
+            let line = bad_entry_line(alloc, reading.next_line())?;
+            Ok((AuditEnd::BadEntry, line))
+        }
+        Err(Stop::Fault(fault)) => Err(fault),
+    }
+}
+
+/// Audits what a run wrote: whether its entries are a run of one central escrow store in which each
+/// reply was owed.
+///
+/// Line 1 is a header. Every other line is an entry under it, `COMMAND -> REPLY`, or one of the
+/// remarks that a run writes, which are skipped: `bad line`; `deliver K -> refused 16 no statement`;
+/// `level FIELD KIND -> moves M`; `reach SITE FIELD TARGET -> steps M`; and
+/// `reach SITE FIELD TARGET -> no REASON`, where REASON is `site`, `field`, `down`, `flight`,
+/// `unstated`, `tightened`, `numbers` or `outside`. A line ends with LF; a last line without LF counts
+/// where it has at least one byte.
+///
+/// What is written at Ok is one line. `legal N` says that the N entries are legal, `illegal AT RULE`
+/// that the entry AT, counted from 1, is the first that breaks a rule, and RULE the first rule that it
+/// breaks: `site`, `grant`, `shortage`, `interval`, `statement` or `reply`. `bad entry L` says that
+/// line L, counted from 1 with the header, is the first that is neither an entry nor a remark, as any
+/// line of more than 256 bytes; then nothing behind it is read and nothing is judged.
+///
+/// The faults are those of the input, line by line: `Header` and `NoMemory`; `TooLong` where a byte
+/// follows the 1,000,000th line or the 268,435,456th byte; `Read` where a read answers an error of any
+/// kind, which isn't tried again. At each of them nothing is written. `Write` comes where a write
+/// answers an error of any kind or takes no byte; then a front of the answer was written.
+///
+/// Reader and writer are handed in watched, so that the contract can tell how their last calls ended;
+/// make each anew for an audit, by `Watched::new`.
+///
+/// Costs 64 KiB for input and memory for the entries and for the judge, and time in proportion to the
+/// input.
+///
+/// Source: O'Neil 1986 for the central store, Balegas and others 2015 for rights that are divided among
+/// sites and given, this project for the audit.
+pub fn audit_text<R: Read, W: Write>(
+    alloc: Global,
+    reader: &mut Watched<R>,
+    writer: &mut Watched<W>,
+) -> Result<AuditEnd, ScriptFault>
+    // The answer to what was read is written.
+    ensures ok { IfOk result (Audits (known R.remaining reader.old) (known R.remaining reader.new)
+        (known W.contents writer.old) (known W.contents writer.new) (last_of reader.new)) }
+
+    // A verdict comes only after a read that had room and gave nothing.
+    ensures end { IfOk result (λ end. end ≢ AuditEnd.BadEntry → GaveNothing reader.new) }
+
+    // A fault comes for a reason, and nothing but a front of the answer is written.
+    ensures fault { IfErr result (Fails (known R.remaining reader.old) (known R.remaining reader.new)
+        (known W.contents writer.old) (known W.contents writer.new) (last_of reader.new)) }
+
+    // A read fault comes only where a read failed.
+    ensures read { IfErr result (λ fault. fault ≡ ScriptFault.Read → HasFailed reader.new) }
+
+    // A write fault comes only where a write failed, or took none of its bytes.
+    ensures write { IfErr result (λ fault. fault ≡ ScriptFault.Write → HasRefused writer.new) }
+{
+    let (end, text) = answer(alloc, reader)?;
+    if writer.write_all(text.as_bytes()).is_err() {
+        return Err(ScriptFault::Write);
+    }
+    Ok(end)
+}

@@ -1,0 +1,13 @@
+//! The audit of a run's output, over any reader and writer: whether its entries are a run of one
+//! central store.
+#![tactic(auto)]
+
+mod answer;
+mod reading;
+mod remark;
+
+pub use answer::{AuditEnd, audit_text};
+pub use script_input::{End, ScriptFault, Watched};
+
+#[cfg(test)]
+mod tests;
