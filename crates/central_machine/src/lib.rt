@@ -5,8 +5,15 @@
 //! among sites and transferred, this project for the rules and the verdict.
 #![tactic(auto)]
 
+mod amounts;
 mod counted;
+mod issued;
+mod journal;
+mod numbers;
+mod owed;
 mod parts;
+mod site_totals;
+mod totals;
 
 pub use central_rules::{Rule, Verdict, judge_plain, verdict_is_exact};
 pub use counted::{judge, judge_counted};

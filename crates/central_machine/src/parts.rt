@@ -3,7 +3,8 @@
 ghost use Rattle.std.specs.Prelude.{◌≡◌, IfOk};
 ghost use Rattle.central_rules.specs.Verdict.{verdict_of};
 
-use central_rules::{Verdict, judge_plain};
+use crate::counted::judge;
+use central_rules::Verdict;
 use field_bounds::{Entry, Schema};
 use std::alloc::{AllocError, Global};
 use std::thread::Threads;
@@ -21,5 +22,5 @@ pub fn judge_fields(
 ) -> Result<Verdict, AllocError>
     ensures verdict { IfOk result (λ verdict. verdict ≡ verdict_of schema.now entries.now) }
 {
-    judge_plain(alloc, schema, entries)
+    judge(alloc, schema, entries)
 }

@@ -36,8 +36,9 @@ pub struct Fate {
     pub dropped: bool,
 }
 
+/// Whether two ids name one transaction. Costs no memory.
 pub fn same_txn(a: TxnId, b: TxnId) -> bool
-    ensures { result ≡ same_txn a b }
+    ensures value { result ≡ same_txn a b }
 {
     a.epoch == b.epoch && a.number == b.number
 }

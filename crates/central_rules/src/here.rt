@@ -81,13 +81,13 @@ impl<'a> AtPlace for Here<'a> {
         count_open(&self.made)
     }
 
-    fn is_open(&self, txn: TxnId) -> bool {
+    fn open_escrows(&self, txn: TxnId) -> Option<usize> {
         let fate = fate_of(&self.made, txn);
-        fate.begun && !fate.committed && !fate.dropped
-    }
-
-    fn escrow_count(&self, txn: TxnId) -> usize {
-        count_escrows(&self.made, txn)
+        if fate.begun && !fate.committed && !fate.dropped {
+            Some(count_escrows(&self.made, txn))
+        } else {
+            None
+        }
     }
 
     fn free(&self, field: FieldNo, kind: Kind) -> u128 {

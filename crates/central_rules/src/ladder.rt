@@ -1,6 +1,6 @@
 //! The ladder of refusals over what is told of a site, and whether a reply is owed there.
 
-ghost use Rattle.std.specs.Prelude.{◌≡◌, ◌<◌, ◌≤◌, ◌&&◌, ◌==◌, nat_lt, true, length};
+ghost use Rattle.std.specs.Prelude.{◌≡◌, ◌<◌, ◌≤◌, ◌&&◌, ◌==◌, nat_lt, length, is_some, IfSome};
 ghost use Rattle.field_bounds.specs.declared.entry.Command.TheVariants.{Begin, Escrow, Commit, Abort, Give, Restate, Spare, Tighten, Accept, Read, Share, Restart};
 ghost use Rattle.field_bounds.specs.Parts.{field_at};
 ghost use Rattle.field_bounds.specs.Owed.{Place, is_up, epoch_of, count_since, is_begun_reply, is_still_down, is_unsure, count_open, count_escrows, free, owned, cut_so_far, guarded, told_so_far, spared_of, gain_of, room};
@@ -48,13 +48,10 @@ pub trait AtPlace {
     fn open_count(&self) -> usize
         ensures value { (at : Place) → is_at self.now at → result ≡ count_open at.effects };
 
-    /// Whether a transaction is open.
-    fn is_open(&self, txn: TxnId) -> bool
-        ensures value { (at : Place) → is_at self.now at → result ≡ is_open_at at txn };
-
-    /// How many escrows an open transaction has.
-    fn escrow_count(&self, txn: TxnId) -> usize
-        ensures value { (at : Place) → is_at self.now at → is_open_at at txn ≡ true → result ≡ count_escrows txn at.effects };
+    /// How many escrows a transaction has, or None where it isn't open.
+    fn open_escrows(&self, txn: TxnId) -> Option<usize>
+        ensures open { (at : Place) → is_at self.now at → is_some result ≡ is_open_at at txn }
+        ensures count { (at : Place) → is_at self.now at → IfSome result (λ n. n ≡ count_escrows txn at.effects) };
 
     /// The free rights of a kind on a field of the schema.
     fn free(&self, field: FieldNo, kind: Kind) -> u128
@@ -166,9 +163,9 @@ fn fits_escrow<P: AtPlace>(here: &P, txn: TxnId, field: FieldNo, change: i64, re
     if !has(here, field) {
         return is_refused(reply, Refusal::NoField);
     }
-    if !here.is_open(txn) {
+    let Some(escrows) = here.open_escrows(txn) else {
         return is_refused(reply, Refusal::NoTransaction);
-    }
+    };
     if amount == 0 {
         return is_refused(reply, Refusal::Zero);
     }
@@ -179,7 +176,7 @@ fn fits_escrow<P: AtPlace>(here: &P, txn: TxnId, field: FieldNo, change: i64, re
     if free < u128::from(amount) {
         return is_short(reply, free);
     }
-    if here.escrow_count(txn) >= MAX_ESCROWS {
+    if escrows >= MAX_ESCROWS {
         return is_refused(reply, Refusal::TooManyEscrows);
     }
     is_granted(reply)
@@ -191,10 +188,10 @@ fn fits_commit<P: AtPlace>(here: &P, txn: TxnId, reply: Reply) -> bool
     if !is_up(here) {
         return is_refused(reply, Refusal::Down);
     }
-    if !here.is_open(txn) {
+    let Some(escrows) = here.open_escrows(txn) else {
         return is_refused(reply, Refusal::NoTransaction);
-    }
-    is_committed(reply) || is_unsure(reply) && here.escrow_count(txn) > 0
+    };
+    is_committed(reply) || is_unsure(reply) && escrows > 0
 }
 
 fn fits_abort<P: AtPlace>(here: &P, txn: TxnId, reply: Reply) -> bool
@@ -203,7 +200,7 @@ fn fits_abort<P: AtPlace>(here: &P, txn: TxnId, reply: Reply) -> bool
     if !is_up(here) {
         return is_refused(reply, Refusal::Down);
     }
-    if !here.is_open(txn) {
+    if here.open_escrows(txn).is_none() {
         return is_refused(reply, Refusal::NoTransaction);
     }
     is_aborted(reply)

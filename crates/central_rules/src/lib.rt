@@ -16,6 +16,8 @@ mod same;
 mod standing;
 mod verdict;
 
+pub use afresh::same_txn;
+pub use front::{Bounds, bounds_of, has, lies_between, spared};
 pub use ladder::{AtPlace, fits};
 pub use laws::verdict_is_exact;
 pub use plain::judge_plain;

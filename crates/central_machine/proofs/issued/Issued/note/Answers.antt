@@ -1,0 +1,12 @@
+use Rattle.std.proofs.Common.{◌≡◌, ℕ, Bool, true, cond, List, sym, ap, ◌∙◌, refl}
+use Rattle.std.specs.Prelude.{Option, Some, ◌||◌}
+use Rattle.field_bounds.specs.declared.entry.Statement.{Statement}
+use Rattle.central_rules.specs.Verdict.{same_statement, is_told_by, is_issued}
+use Rattle.central_machine.specs.Issued.{key_of, same_key}
+use Rattle.central_machine.proofs.Keys.{keys_compare, one_more}
+use Rattle.central_machine.proofs.issued.Issued.note.Goals as goal
+
+pub returns-in_ok-insert : goal.returns-in_ok-insert
+returns-in_ok-insert c = λ t was told.
+    one_more told c.in-Some.told t c.args.entry.now (sym c.statement_of.ensures.value ∙ c.in-Some.is)
+    _ _ c.key_of.ensures (c.in_ok-insert.ensures.updates.0 (key_of told)) (was told)

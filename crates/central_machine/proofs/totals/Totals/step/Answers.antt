@@ -1,0 +1,22 @@
+use Rattle.std.proofs.Common.{◌≡◌, ◌<◌, ◌≤◌, ℕ, ap, set, refl, rules, Some, None, arith}
+use Rattle.std.specs.Prelude.{slice_get}
+use Rattle.std.proofs.lemmas.Bool.{ltb-true}
+use Rattle.central_rules.specs.Verdict.{rules as all_rules}
+use Rattle.central_rules.proofs.Verdicts.{all_hold}
+use Rattle.central_machine.proofs.Sites.{ok_then}
+use Rattle.central_machine.proofs.Totals_more.{goes_on, totals_more}
+use Rattle.central_machine.proofs.Row.{found_at}
+use Rattle.central_machine.proofs.totals.Totals.step.Goals as goal
+
+pub returns-in-Some : goal.returns-in-Some
+returns-in-Some c =
+    let told = c.take_in.ensures in
+    let took = goes_on c.take_in.result c.args.entry c.in-Some.site.now c.take_in.new.self told.numbers told.doubt told.up told.epoch told.begun told.still_down told.unsure in
+    let item = c.in-Some.ensures.item in
+    let at = found_at c.args.self.now.sites.items c.args.self.now.sites.items c.from.result c.args.entry.site.0 c.in-Some.site.now refl c.from.ensures item.0 item.1 in
+    ok_then c.take_in.result (λ took t few is legal good. totals_more c.args.schema.now c.sites-sites.ensures.limits c.args.entry t few legal good c.args.self.now _ c.in-Some.site.now c.take_in.new.self at (ap (λ (i : ℕ). set c.args.self.now.sites.items i c.take_in.new.self) c.from.ensures) (c.in_ok-note.ensures t is.issued) is took) took
+
+pub returns-in-None : goal.returns-in-None
+returns-in-None c = λ t few is legal good.
+    let below : c.args.entry.site.0 < c.args.schema.now.sites = ltb-true c.args.entry.site.0 c.args.schema.now.sites (all_hold (all_rules c.args.schema.now t c.args.entry) good).0 in
+    absurd (let long : c.args.schema.now.sites ≤ c.args.entry.site.0 = search rules in omega (arith, long, below))

@@ -1,0 +1,5 @@
+pub mod Issued
+pub mod Amounts
+pub mod Open
+pub mod Running
+pub mod Parts

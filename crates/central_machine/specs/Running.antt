@@ -1,0 +1,243 @@
+-- The running totals of a judge, and what they are over a front of a trace, the newest entry first (this project).
+use Rattle.std.specs.Prelude.{◌≡◌, ℕ, ◌+◌, ◌-◌, ◌*◌, ◌<◌, ◌≤◌, max, ℤ, unsigned_abs, sum_by, Bool, true, false, [], List, ◌∷◌, length, reverse, slice_get, Option, Some, None}
+use Rattle.field_bounds.specs.declared.kind.Kind.{Kind}
+use Rattle.field_bounds.specs.declared.id.SiteNo.{SiteNo}
+use Rattle.field_bounds.specs.declared.id.FieldNo.{FieldNo}
+use Rattle.field_bounds.specs.declared.id.TxnId.{TxnId}
+use Rattle.field_bounds.specs.declared.effect.Effect.{Effect}
+use Rattle.field_bounds.specs.declared.effect.Effect.TheVariants.{Begins, Grants, Commits, Aborts, Gives, Accepts, Stops}
+use Rattle.field_bounds.specs.declared.entry.Escrow.{Escrow as EscrowOf}
+use Rattle.field_bounds.specs.declared.entry.Command.{Command}
+use Rattle.field_bounds.specs.declared.entry.Command.TheVariants.{Begin, Escrow, Commit, Abort, Give, Restate, Spare, Tighten, Accept, Read, Share, Restart}
+use Rattle.field_bounds.specs.declared.entry.Reply.{Reply}
+use Rattle.field_bounds.specs.declared.entry.Reply.TheVariants.{Begun, Granted, Committed, Aborted, Given, Stated, Spared, Tightened, Accepted, Between, Shares, Restarted, Unsure, StillDown, Refused}
+use Rattle.field_bounds.specs.declared.entry.Entry.{Entry}
+use Rattle.field_bounds.specs.Kind.{other, kind_of}
+use Rattle.field_bounds.specs.Schema.{SchemaValue}
+use Rattle.field_bounds.specs.Effects.{Base, fresh, is_begun, is_open, open_txns, escrows_of, takes, given, accepted, cut, share, held, spared, says_kept, effect_of, effects}
+use Rattle.field_bounds.specs.Owed.{Place, place, is_up, epoch_of, count_since, is_begun_reply, is_still_down, is_unsure}
+use Rattle.field_bounds.specs.Central.{own}
+use Rattle.central_machine.specs.declared.numbers.Numbers.{Numbers}
+use Rattle.central_machine.specs.declared.site_totals.SiteTotals.{SiteTotals}
+use Rattle.central_machine.specs.declared.totals.Totals.{Totals}
+use Rattle.central_machine.specs.Amounts.{amount, has_place, IsPut, capped}
+use Rattle.central_machine.specs.Issued.{AreIssued}
+use Rattle.central_machine.specs.Open.{txns_of, has_row, escrows_at, IsOpened, IsAdded, IsClosed}
+
+-- ---- the numbers of one site
+
+-- To which kind rights go when a transaction ends.
+abbrev pub turned : Bool → Kind → Kind
+turned true k = other k
+turned false k = k
+
+-- What escrows take of the rights of a kind on a field.
+abbrev pub taken : ℕ → Kind → List EscrowOf → ℕ
+taken f k escrows = sum_by (takes f k) escrows
+
+-- The place of a site and a field in a ledger.
+abbrev pub place_at : ℕ → ℕ → ℕ → ℕ
+place_at stride r f = r * stride + f
+
+-- The numbers are those of what took effect.
+pub record Describes (schema : SchemaValue) (base : Base) (es : List Effect) (n : Numbers) : Type 0 where
+  pub stride : n.stride ≡ length schema.fields
+  pub free_in : (f : ℕ) → f < length schema.fields → has_place n.free f ≡ true
+  pub held_in : (f : ℕ) → f < length schema.fields → has_place n.held f ≡ true
+  pub cut_in : (f : ℕ) → f < length schema.fields → has_place n.cut f ≡ true
+  pub given_in : (r f : ℕ) → r < schema.sites → f < length schema.fields → has_place n.given (place_at n.stride r f) ≡ true
+  pub accepted_in : (r f : ℕ) → r < schema.sites → f < length schema.fields → has_place n.accepted (place_at n.stride r f) ≡ true
+  pub free : (f : ℕ) (k : Kind) → f < length schema.fields → amount n.free f k ≡ share base f k es
+  pub held : (f : ℕ) (k : Kind) → f < length schema.fields → amount n.held f k ≡ held f k es
+  pub cut : (f : ℕ) (k : Kind) → f < length schema.fields → amount n.cut f k ≡ cut base f k es
+  pub given : (r f : ℕ) (k : Kind) → r < schema.sites → f < length schema.fields → amount n.given (place_at n.stride r f) k ≡ given base r f k es
+  pub accepted : (r f : ℕ) (k : Kind) → r < schema.sites → f < length schema.fields → amount n.accepted (place_at n.stride r f) k ≡ accepted base r f k es
+  pub txns : txns_of n.journal.rows.items ≡ reverse (open_txns es)
+  pub escrows : (t : TxnId) → is_begun t es ≡ true → is_open t es ≡ true → escrows_at t n.journal.rows.items ≡ reverse (escrows_of t es)
+
+-- The numbers fit.
+pub record IsSmall (base : Base) (es : List Effect) : Type 0 where
+  pub free : (f : ℕ) (k : Kind) → share base f k es ≤ 18446744073709551615
+  pub held : (f : ℕ) (k : Kind) → held f k es ≤ 18446744073709551615
+  pub cut : (f : ℕ) (k : Kind) → cut base f k es ≤ 18446744073709551615
+  pub given : (r f : ℕ) (k : Kind) → given base r f k es ≤ 18446744073709551615
+
+-- ---- what one more effect does to the numbers
+
+-- Nothing changed but the free and the held rights and the open transactions.
+pub record KeepsLedgers (n m : Numbers) : Type 0 where
+  pub stride : m.stride ≡ n.stride
+  pub cut : m.cut ≡ n.cut
+  pub given : m.given ≡ n.given
+  pub accepted : m.accepted ≡ n.accepted
+
+pub record Opens (n m : Numbers) (txn : TxnId) : Type 0 where
+  pub open_rows : IsOpened n.journal.rows.items m.journal.rows.items txn
+  pub free : m.free ≡ n.free
+  pub held : m.held ≡ n.held
+  pub rest : KeepsLedgers n m
+
+pub record SetsAside (n m : Numbers) (txn : TxnId) (escrow : EscrowOf) : Type 0 where
+  pub free : IsPut n.free m.free escrow.field.0 (kind_of escrow.change) (amount n.free escrow.field.0 (kind_of escrow.change) - unsigned_abs escrow.change)
+  pub held : IsPut n.held m.held escrow.field.0 (kind_of escrow.change) (capped (amount n.held escrow.field.0 (kind_of escrow.change) + unsigned_abs escrow.change))
+  pub open_rows : IsAdded n.journal.rows.items m.journal.rows.items txn escrow
+  pub rest : KeepsLedgers n m
+
+pub record Ends (n m : Numbers) (txn : TxnId) (committed : Bool) : Type 0 where
+  pub held : (f : ℕ) (k : Kind) → has_place n.held f ≡ true → amount m.held f k ≡ amount n.held f k - taken f k (escrows_at txn n.journal.rows.items)
+  pub free : (f : ℕ) (k : Kind) → has_place n.free f ≡ true → amount n.free f k ≤ 18446744073709551615 → amount m.free f k ≡ capped (amount n.free f k + taken f (turned committed k) (escrows_at txn n.journal.rows.items))
+  pub held_places : (g : ℕ) → has_place m.held g ≡ has_place n.held g
+  pub free_places : (g : ℕ) → has_place m.free g ≡ has_place n.free g
+  pub open_rows : IsClosed n.journal.rows.items m.journal.rows.items txn
+  pub rest : KeepsLedgers n m
+
+-- All that is held goes free, and nothing is open.
+pub record StopsAll (n m : Numbers) : Type 0 where
+  pub held : (f : ℕ) (k : Kind) → f < n.stride → has_place n.held f ≡ true → amount m.held f k ≡ 0
+  pub free : (f : ℕ) (k : Kind) → f < n.stride → has_place n.free f ≡ true → has_place n.held f ≡ true → amount m.free f k ≡ capped (amount n.free f k + amount n.held f k)
+  pub held_places : (g : ℕ) → has_place m.held g ≡ has_place n.held g
+  pub free_places : (g : ℕ) → has_place m.free g ≡ has_place n.free g
+  pub open_rows : m.journal.rows.items ≡ []
+  pub rest : KeepsLedgers n m
+
+-- Rights left: to a site, or for good.
+pub record Leaves (n m : Numbers) (field : ℕ) (kind : Kind) (size : ℕ) : Type 0 where
+  pub free : IsPut n.free m.free field kind (amount n.free field kind - size)
+  pub stride : m.stride ≡ n.stride
+  pub held : m.held ≡ n.held
+  pub accepted : m.accepted ≡ n.accepted
+  pub open_rows : m.journal ≡ n.journal
+
+pub record GoesTo (n m : Numbers) (to field : ℕ) (kind : Kind) (size : ℕ) : Type 0 where
+  pub left : Leaves n m field kind size
+  pub given : IsPut n.given m.given (place_at n.stride to field) kind (capped (amount n.given (place_at n.stride to field) kind + size))
+  pub cut : m.cut ≡ n.cut
+
+pub record GoesForGood (n m : Numbers) (field : ℕ) (kind : Kind) (size : ℕ) : Type 0 where
+  pub left : Leaves n m field kind size
+  pub cut : IsPut n.cut m.cut field kind (capped (amount n.cut field kind + size))
+  pub given : m.given ≡ n.given
+
+pub record TakesIn (n m : Numbers) (from field : ℕ) (kind : Kind) (total : ℕ) : Type 0 where
+  pub free : IsPut n.free m.free field kind (capped (amount n.free field kind + (total - amount n.accepted (place_at n.stride from field) kind)))
+  pub accepted : IsPut n.accepted m.accepted (place_at n.stride from field) kind (max total (amount n.accepted (place_at n.stride from field) kind))
+  pub stride : m.stride ≡ n.stride
+  pub held : m.held ≡ n.held
+  pub cut : m.cut ≡ n.cut
+  pub given : m.given ≡ n.given
+  pub open_rows : m.journal ≡ n.journal
+
+-- The numbers with one more effect.
+abbrev pub Takes : Effect → Numbers → Numbers → Type 0
+Takes (Begins txn) n m = Opens n m txn
+Takes (Grants txn field change) n m = SetsAside n m txn (record { field = field; change = change })
+Takes (Commits txn) n m = Ends n m txn true
+Takes (Aborts txn) n m = Ends n m txn false
+Takes (Gives None field kind size) n m = GoesForGood n m field.0 kind size
+Takes (Gives (Some to) field kind size) n m = GoesTo n m to.0 field.0 kind size
+Takes (Accepts from field kind total) n m = TakesIn n m from.0 field.0 kind total
+Takes Stops n m = StopsAll n m
+
+-- ---- what is in doubt at a site
+
+-- What a command does where it takes effect, at shares: a spare that is in doubt has the amount that it would have been
+-- answered.
+abbrev pub effect_by : (ℕ → Kind → ℕ) → Command → Reply → Option Effect
+effect_by shares Begin (Begun txn) = Some (Begins txn)
+effect_by shares Begin reply = None
+effect_by shares (Escrow txn field change) Granted = Some (Grants txn field change)
+effect_by shares (Escrow txn field change) reply = None
+effect_by shares (Commit txn) Committed = Some (Commits txn)
+effect_by shares (Commit txn) Unsure = Some (Commits txn)
+effect_by shares (Commit txn) reply = None
+effect_by shares (Abort txn) Aborted = Some (Aborts txn)
+effect_by shares (Abort txn) reply = None
+effect_by shares (Give to field kind amount) (Given total) = Some (Gives (Some to) field kind amount)
+effect_by shares (Give to field kind amount) Unsure = Some (Gives (Some to) field kind amount)
+effect_by shares (Give to field kind amount) reply = None
+effect_by shares (Restate to field kind) reply = None
+effect_by shares (Spare to field kind want) (Spared amount total) = Some (Gives (Some to) field kind amount)
+effect_by shares (Spare to field kind want) Unsure = Some (Gives (Some to) field kind (spared (shares field.0 kind) want))
+effect_by shares (Spare to field kind want) reply = None
+effect_by shares (Tighten field kind amount) (Tightened total) = Some (Gives None field kind amount)
+effect_by shares (Tighten field kind amount) Unsure = Some (Gives None field kind amount)
+effect_by shares (Tighten field kind amount) reply = None
+effect_by shares (Accept told) (Accepted gain) = Some (Accepts told.from told.field told.kind told.total)
+effect_by shares (Accept told) Unsure = Some (Accepts told.from told.field told.kind told.total)
+effect_by shares (Accept told) reply = None
+effect_by shares (Read field) reply = None
+effect_by shares (Share field) reply = None
+effect_by shares Restart (Restarted epoch found) = Some Stops
+effect_by shares Restart reply = None
+
+-- What is in doubt after one more reply: nothing after a restart, and after a reply in doubt what its command would do.
+abbrev pub doubt_after : Option Effect → Reply → Option Effect → Option Effect
+doubt_after effect (Begun txn) before = before
+doubt_after effect Granted before = before
+doubt_after effect Committed before = before
+doubt_after effect Aborted before = before
+doubt_after effect (Given total) before = before
+doubt_after effect (Stated total) before = before
+doubt_after effect (Spared amount total) before = before
+doubt_after effect (Tightened total) before = before
+doubt_after effect (Accepted gain) before = before
+doubt_after effect (Between lo hi) before = before
+doubt_after effect (Shares lower raise) before = before
+doubt_after effect (Restarted epoch found) before = None
+doubt_after effect Unsure before = effect
+doubt_after effect StillDown before = before
+doubt_after effect (Refused refusal) before = before
+
+-- What the next restart of a site settles.
+abbrev pub doubt : Base → List Entry → Option Effect
+doubt base [] = None
+doubt base (e ∷ o) = doubt_after (effect_of base (effects base false o) e.command e.reply) e.reply (doubt base o)
+
+-- What a restart puts into effect before it stops the site.
+abbrev pub settled : Bool → Option Effect → Option Effect
+settled true d = d
+settled false d = None
+
+abbrev pub MayTake : Option Effect → Numbers → Numbers → Type 0
+MayTake None n m = m ≡ n
+MayTake (Some e) n m = Takes e n m
+
+-- The numbers after one more reply, with this effect where it isn't in doubt.
+abbrev pub NumbersAfter : Option Effect → Reply → Option Effect → Numbers → Numbers → Type 0
+NumbersAfter effect (Begun txn) d n m = MayTake effect n m
+NumbersAfter effect Granted d n m = MayTake effect n m
+NumbersAfter effect Committed d n m = MayTake effect n m
+NumbersAfter effect Aborted d n m = MayTake effect n m
+NumbersAfter effect (Given total) d n m = MayTake effect n m
+NumbersAfter effect (Stated total) d n m = MayTake effect n m
+NumbersAfter effect (Spared amount total) d n m = MayTake effect n m
+NumbersAfter effect (Tightened total) d n m = MayTake effect n m
+NumbersAfter effect (Accepted gain) d n m = MayTake effect n m
+NumbersAfter effect (Between lo hi) d n m = MayTake effect n m
+NumbersAfter effect (Shares lower raise) d n m = MayTake effect n m
+NumbersAfter effect (Restarted epoch found) d n m = (mid : Numbers) × MayTake (settled (says_kept found) d) n mid × MayTake effect mid m
+NumbersAfter effect Unsure d n m = m ≡ n
+NumbersAfter effect StillDown d n m = MayTake effect n m
+NumbersAfter effect (Refused refusal) d n m = MayTake effect n m
+
+-- ---- the totals
+
+-- A site's totals are those of its entries.
+pub record IsSite (schema : SchemaValue) (s : ℕ) (o : List Entry) (x : SiteTotals) : Type 0 where
+  pub up : x.standing.up ≡ is_up (fresh schema s) o
+  pub epoch : x.standing.epoch ≡ epoch_of (fresh schema s) o
+  pub begun : x.standing.begun ≡ count_since is_begun_reply o
+  pub still_down : x.standing.still_down ≡ count_since is_still_down o
+  pub unsure : x.standing.unsure ≡ count_since is_unsure o
+  pub numbers : Describes schema (fresh schema s) (effects (fresh schema s) false o) x.numbers
+  pub doubt : x.doubt ≡ doubt (fresh schema s) o
+
+-- The totals tell of a place: they are those of its entries.
+abbrev pub TellsOf : SchemaValue → ℕ → SiteTotals → Place → Type 0
+TellsOf schema s x at = (o : List Entry) × IsSite schema s o x × (at ≡ place schema s (fresh schema s) o)
+
+-- The totals are those of a front.
+pub record AreTotals (schema : SchemaValue) (t : List Entry) (x : Totals) : Type 0 where
+  pub count : length x.sites.items ≡ schema.sites
+  pub sites : (s : ℕ) (y : SiteTotals) → slice_get x.sites.items s ≡ Some y → IsSite schema s (own s t) y
+  pub issued : AreIssued t x.issued.keys.keys

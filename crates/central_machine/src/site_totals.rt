@@ -1,0 +1,190 @@
+//! The running totals of one site.
+
+ghost use Rattle.std.specs.Prelude.{◌≡◌, ◌<◌, ◌∷◌, [], IfOk, OnOk, List, length, if◌then◌else◌, Option, Some, None};
+ghost use Rattle.field_bounds.specs.declared.effect.Effect.TheVariants.{Gives};
+ghost use Rattle.field_bounds.specs.declared.entry.Command.TheVariants.{Spare};
+ghost use Rattle.field_bounds.specs.declared.entry.Entry.{Entry};
+ghost use Rattle.field_bounds.specs.Effects.{Base, says_kept};
+ghost use Rattle.field_bounds.specs.Owed.{is_up, epoch_of, count_since, is_begun_reply, is_still_down, is_unsure};
+ghost use Rattle.central_machine.specs.Amounts.{amount};
+ghost use Rattle.central_machine.specs.Running.{NumbersAfter, effect_by, doubt_after, settled, IsSite};
+
+use crate::amounts::Amounts;
+use crate::journal::Journal;
+use crate::numbers::Numbers;
+use central_rules::{Standing, spared};
+use field_bounds::{
+    Command, Effect, Entry, FieldNo, Kind, Last, Reply, Schema, SiteNo, by_command,
+};
+use std::alloc::{AllocError, Global};
+
+/// A site's numbers, with where it stands and what is in doubt.
+#[derive(Drop)]
+pub struct SiteTotals {
+    pub standing: Standing,
+    pub numbers: Numbers,
+    pub doubt: Option<Effect>,
+}
+
+/// So much of a kind on a field leaves, where it is answered so.
+fn left(
+    answered: bool,
+    to: Option<SiteNo>,
+    field: FieldNo,
+    kind: Kind,
+    amount: u64,
+) -> Option<Effect>
+    ensures { result ≡ (if answered then Some (Gives to field kind amount) else None) }
+{
+    if answered {
+        Some(Effect::Gives {
+            to,
+            field,
+            kind,
+            amount,
+        })
+    } else {
+        None
+    }
+}
+
+/// What a spare puts into effect at shares, by its reply.
+fn spare_by(
+    shares: &Amounts,
+    to: SiteNo,
+    field: FieldNo,
+    kind: Kind,
+    want: u64,
+    reply: Reply,
+) -> Option<Effect>
+    ensures { result ≡ effect_by (amount shares.now) (Spare to field kind want) reply }
+{
+    match reply {
+        Reply::Spared { amount, .. } => left(true, Some(to), field, kind, amount),
+        Reply::Unsure => {
+            let share = shares.at(usize::from(field.0), kind);
+            left(true, Some(to), field, kind, spared(u128::from(share), want))
+        }
+        _ => None,
+    }
+}
+
+/// What a command puts into effect at shares, by its reply.
+fn effect_by(shares: &Amounts, command: Command, reply: Reply) -> Option<Effect>
+    ensures { result ≡ effect_by (amount shares.now) command reply }
+{
+    let unsure = matches!(reply, Reply::Unsure);
+    by_command! { command;
+        Begin => match reply {
+            Reply::Begun(txn) => Some(Effect::Begins { txn }),
+            _ => None,
+        },
+        Escrow { txn, field, change } => match reply {
+            Reply::Granted => Some(Effect::Grants { txn, field, change }),
+            _ => None,
+        },
+        Commit { txn } => if matches!(reply, Reply::Committed) || unsure { Some(Effect::Commits { txn }) } else { None },
+        Abort { txn } => if matches!(reply, Reply::Aborted) { Some(Effect::Aborts { txn }) } else { None },
+        Give { to, field, kind, amount } => left(matches!(reply, Reply::Given { .. }) || unsure, Some(to), field, kind, amount),
+        Restate { to, field, kind } => { let _nothing = (to, field, kind); None },
+        Spare { to, field, kind, want } => spare_by(shares, to, field, kind, want, reply),
+        Tighten { field, kind, amount } => left(matches!(reply, Reply::Tightened { .. }) || unsure, None, field, kind, amount),
+        Accept(told) => if matches!(reply, Reply::Accepted { .. }) || unsure {
+            Some(Effect::Accepts { from: told.from, field: told.field, kind: told.kind, total: told.total })
+        } else {
+            None
+        },
+        Read { field } => { let _nothing = field; None },
+        Share { field } => { let _nothing = field; None },
+        Restart => if matches!(reply, Reply::Restarted { .. }) { Some(Effect::Stops) } else { None },
+    }
+}
+
+fn doubt_after(effect: Option<Effect>, reply: Reply, before: Option<Effect>) -> Option<Effect>
+    ensures { result ≡ doubt_after effect reply before }
+{
+    match reply {
+        Reply::Restarted { .. } => None,
+        Reply::Unsure => effect,
+        _ => before,
+    }
+}
+
+fn settled(last: Last, doubt: Option<Effect>) -> Option<Effect>
+    ensures { result ≡ settled (says_kept last) doubt }
+{
+    match last {
+        Last::Kept => doubt,
+        Last::Nothing | Last::Lost => None,
+    }
+}
+
+impl Numbers {
+    /// Takes in what a reply puts into effect.
+    fn after(
+        &mut self,
+        alloc: Global,
+        effect: Option<Effect>,
+        reply: Reply,
+        doubt: Option<Effect>,
+    ) -> Result<(), AllocError>
+        ensures { OnOk result (NumbersAfter effect reply doubt self.old self.new) }
+    {
+        match reply {
+            Reply::Restarted { last, .. } => {
+                self.may_take(alloc, settled(last, doubt))?;
+                self.may_take(alloc, effect)
+            }
+            Reply::Unsure => Ok(()),
+            _ => self.may_take(alloc, effect),
+        }
+    }
+}
+
+impl SiteTotals {
+    /// The totals of a site of no entries. Takes memory for 3 numbers of each kind for each field,
+    /// and 2 for each field and site.
+    pub fn new(alloc: Global, schema: &Schema, site: SiteNo) -> Result<SiteTotals, AllocError>
+        requires site_in { site.0 < schema.now.sites }
+        ensures { IfOk result (λ made. IsSite schema.now site.0 [] made) }
+    {
+        let fields = schema.fields();
+        let size = usize::from(schema.sites()) * usize::from(fields);
+        let free = Amounts::parts(alloc, schema, site)?;
+        let held = Amounts::zeros(alloc, usize::from(fields))?;
+        let cut = Amounts::zeros(alloc, usize::from(fields))?;
+        let given = Amounts::zeros(alloc, size)?;
+        let accepted = Amounts::zeros(alloc, size)?;
+        let numbers = Numbers {
+            stride: fields,
+            free,
+            held,
+            cut,
+            journal: Journal::new(alloc),
+            given,
+            accepted,
+        };
+        Ok(SiteTotals {
+            standing: Standing::new(),
+            numbers,
+            doubt: None,
+        })
+    }
+
+    /// Takes in the next entry of the site.
+    pub fn take_in(&mut self, alloc: Global, entry: Entry) -> Result<(), AllocError>
+        ensures numbers { OnOk result (NumbersAfter (effect_by (amount self.old.numbers.free) entry.command entry.reply) entry.reply self.old.doubt self.old.numbers self.new.numbers) }
+        ensures doubt { OnOk result (self.new.doubt ≡ doubt_after (effect_by (amount self.old.numbers.free) entry.command entry.reply) entry.reply self.old.doubt) }
+        ensures up { OnOk result ((base : Base) (o : List Entry) → self.old.standing.up ≡ is_up base o → self.new.standing.up ≡ is_up base (entry ∷ o)) }
+        ensures epoch { OnOk result ((base : Base) (o : List Entry) → self.old.standing.epoch ≡ epoch_of base o → self.new.standing.epoch ≡ epoch_of base (entry ∷ o)) }
+        ensures begun { OnOk result ((o : List Entry) → length o < 18446744073709551615 → self.old.standing.begun ≡ count_since is_begun_reply o → self.new.standing.begun ≡ count_since is_begun_reply (entry ∷ o)) }
+        ensures still_down { OnOk result ((o : List Entry) → length o < 18446744073709551615 → self.old.standing.still_down ≡ count_since is_still_down o → self.new.standing.still_down ≡ count_since is_still_down (entry ∷ o)) }
+        ensures unsure { OnOk result ((o : List Entry) → length o < 18446744073709551615 → self.old.standing.unsure ≡ count_since is_unsure o → self.new.standing.unsure ≡ count_since is_unsure (entry ∷ o)) }
+    {
+        let effect = effect_by(&self.numbers.free, entry.command, entry.reply);
+        self.numbers.after(alloc, effect, entry.reply, self.doubt)?;
+        self.doubt = doubt_after(effect, entry.reply, self.doubt);
+        self.standing = self.standing.after(entry);
+        Ok(())
+    }
+}
