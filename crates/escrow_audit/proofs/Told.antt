@@ -1,21 +1,23 @@
 -- What is answered of a reading.
-use Rattle.std.proofs.Common.{◌≡◌, ℕ, ◌+◌, List, Option, None, Some, length, refl, sym, ap, ◌∙◌, subst}
+use Rattle.std.proofs.Common.{◌≡◌, ℕ, ◌+◌, List, [], Option, None, Some, length, refl, sym, ap, ◌∙◌, subst, append-nil}
 use Rattle.std.specs.Option.{IsSome}
+use Rattle.std.specs.Io.KnownBytes.{Consumes}
 use Rattle.field_bounds.specs.Schema.{SchemaValue}
 use Rattle.field_bounds.specs.declared.entry.Entry.{Entry}
 use Rattle.central_rules.specs.declared.verdict.Verdict.{Verdict}
 use Rattle.central_rules.specs.declared.verdict.Verdict.TheVariants as verdicts
 use Rattle.central_rules.specs.Verdict.{verdict_of}
-use Rattle.script_input.specs.declared.fault.ScriptFault.TheVariants.{NoMemory}
+use Rattle.script_input.specs.declared.fault.ScriptFault.TheVariants.{Write, NoMemory}
 use Rattle.script_input.specs.declared.watched.End.{End}
 use Rattle.script_input.specs.Lines.{script_lines}
 use Rattle.script_input.specs.Faults.{HasEndedAt}
+use Rattle.script_input.specs.Watched.{AppendsFront}
 use Rattle.escrow_audit.specs.declared.answer.AuditEnd.{AuditEnd}
 use Rattle.escrow_audit.specs.declared.answer.AuditEnd.TheVariants as ends
 use Rattle.escrow_audit.specs.declared.reading.Reading.{Reading}
 use Rattle.escrow_audit.specs.declared.reading.Stop.{Stop}
 use Rattle.escrow_audit.specs.declared.reading.Stop.TheVariants.{BadEntry}
-use Rattle.escrow_audit.specs.Audit.{verdict_text, end_of, bad_entry_text, IsJudged, IsAudit}
+use Rattle.escrow_audit.specs.Audit.{verdict_text, end_of, bad_entry_text, IsJudged, IsAudit, Fails}
 use Rattle.escrow_audit.specs.Reading.{StandsFor, ReadsThrough, StopsAfter, Tells, FaultsIn}
 use Rattle.escrow_audit.proofs.States.{Stops-memory}
 
@@ -51,3 +53,15 @@ FaultsIn-through from to last r through = (through.0, (through.1.0, Stops-memory
 
 pub FaultsIn-bad : (from to : Option (List ℕ)) (last : End) (r : Reading) (stop : Stop) → StopsAfter from to last r stop → FaultsIn from to last NoMemory
 FaultsIn-bad from to last r stop stops = (stops.0, (stops.1.0, Stops-memory stops.0 0 (HasEndedAt to last)))
+
+-- the answer wasn't written whole
+pub Fails-write : (from to before after : Option (List ℕ)) (last : End) (end : AuditEnd) (text bytes : List ℕ) → Tells from to last end text → bytes ≡ text
+    → AppendsFront before after bytes → Fails from to before after last Write
+Fails-write from to before after last end text bytes tells same front =
+    let (read, (consumed, audit)) = tells in record {
+      front = read;
+      back = [];
+      consumed = subst (Consumes from to) (sym (append-nil read)) consumed;
+      why = tt;
+      written = (end, (text, (refl, (audit, subst (AppendsFront before after) same front))));
+    }

@@ -1,18 +1,22 @@
 //! What an audit answers, and its text.
 
-ghost use Rattle.std.specs.Prelude.{◌≡◌, ◌≢◌, ◌++◌, ◌∷◌, [], codes, string_bytes, length, IfOk, IfErr, Some, IsSome};
+ghost use Rattle.std.specs.Prelude.{◌≡◌, ◌≢◌, ◌++◌, ◌∷◌, [], codes, string_bytes, length, IfOk, IfErr, OnOk, OnErr, Some, IsSome};
+ghost use Rattle.std.specs.Io.KnownBytes.{Appends};
 ghost use Rattle.std.specs.Fmt.{decimal};
 ghost use Rattle.field_bounds.specs.Schema.{SchemaValue};
 ghost use Rattle.central_rules.specs.Verdict.{verdict_of};
-ghost use Rattle.script_input.specs.Watched.{known, last_of, HasFailed, GaveNothing, HasRefused};
+ghost use Rattle.script_input.specs.Watched.{known, last_of, HasFailed, GaveNothing, HasRefused, AppendsFront};
 ghost use Rattle.escrow_audit.specs.Reading.{Tells, FaultsIn};
 ghost use Rattle.escrow_audit.specs.Audit.{rule_text, verdict_text, end_of, bad_entry_text, Audits, Fails};
 
 use crate::reading::{Reading, Stop};
-use central_rules::{Rule, Verdict, judge_plain};
+use central_machine::{judge, judge_fields};
+use central_rules::{Rule, Verdict};
+use field_bounds::{Entry, Schema};
 use script_input::{ScriptFault, Watched};
 use std::alloc::{AllocError, Global};
 use std::io::{Read, Write};
+use std::thread::Threads;
 
 /// What an audit found.
 #[derive(Clone, Copy, Debug, PartialEq, Eq)]
@@ -74,8 +78,30 @@ fn end_of(verdict: Verdict) -> AuditEnd
     }
 }
 
+// The verdict on entries, field by field or in one pass.
+fn verdict(
+    rt: &(impl Threads + Sync),
+    alloc: Global,
+    fields: bool,
+    schema: &Schema,
+    entries: &[Entry],
+) -> Result<Verdict, AllocError>
+    ensures { IfOk result (λ verdict. verdict ≡ verdict_of schema.now entries.now) }
+{
+    if fields {
+        judge_fields(rt, alloc, schema, entries)
+    } else {
+        judge(alloc, schema, entries)
+    }
+}
+
 // Judges the entries that were read.
-fn judged(alloc: Global, reading: &Reading) -> Result<(AuditEnd, String), AllocError>
+fn judged(
+    rt: &(impl Threads + Sync),
+    alloc: Global,
+    fields: bool,
+    reading: &Reading,
+) -> Result<(AuditEnd, String), AllocError>
     requires { IsSome reading.now.schema }
     ensures end { IfOk result (λ told. (schema : SchemaValue) → reading.now.schema ≡ Some schema
         → told.0 ≡ end_of (verdict_of schema reading.now.entries.items)) }
@@ -85,14 +111,16 @@ fn judged(alloc: Global, reading: &Reading) -> Result<(AuditEnd, String), AllocE
     let Some(schema) = &reading.schema else {
         unreachable!()
     };
-    let verdict = judge_plain(alloc, schema, reading.entries.as_slice())?;
+    let verdict = verdict(rt, alloc, fields, schema, reading.entries.as_slice())?;
     let text = verdict_line(alloc, verdict, reading.entries.len())?;
     Ok((end_of(verdict), text))
 }
 
 // Reads the input, and tells what is answered.
 fn answer<R: Read>(
+    rt: &(impl Threads + Sync),
     alloc: Global,
+    fields: bool,
     reader: &mut Watched<R>,
 ) -> Result<(AuditEnd, String), ScriptFault>
     ensures ok { IfOk result (λ told. Tells (known R.remaining reader.old) (known R.remaining reader.new)
@@ -103,13 +131,27 @@ fn answer<R: Read>(
 {
     let mut reading = Reading::new(alloc);
     match reading.read_all(reader) {
-        Ok(()) => Ok(judged(alloc, &reading)?),
+        Ok(()) => Ok(judged(rt, alloc, fields, &reading)?),
         Err(Stop::BadEntry) => {
             let line = bad_entry_line(alloc, reading.next_line())?;
             Ok((AuditEnd::BadEntry, line))
         }
         Err(Stop::Fault(fault)) => Err(fault),
     }
+}
+
+// Writes what is answered.
+fn write_out<W: Write>(writer: &mut Watched<W>, bytes: &[u8]) -> Result<(), ScriptFault>
+    ensures ok { OnOk result (Appends (known W.contents writer.old) (known W.contents writer.new) bytes.now) }
+    ensures front { OnErr result (AppendsFront (known W.contents writer.old) (known W.contents writer.new)
+        bytes.now) }
+    ensures fault { IfErr result (λ fault. fault ≡ ScriptFault.Write) }
+    ensures refused { OnErr result (HasRefused writer.new) }
+{
+    if writer.write_all(bytes).is_err() {
+        return Err(ScriptFault::Write);
+    }
+    Ok(())
 }
 
 /// Audits what a run wrote: whether its entries are a run of one central escrow store in which each
@@ -136,13 +178,18 @@ fn answer<R: Read>(
 /// Reader and writer are handed in watched, so that the contract can tell how their last calls ended;
 /// make each anew for an audit, by `Watched::new`.
 ///
+/// With `fields` the entries are judged field by field, by threads, and else in one pass: the answer is
+/// the same.
+///
 /// Costs 64 KiB for input and memory for the entries and for the judge, and time in proportion to the
 /// input.
 ///
 /// Source: O'Neil 1986 for the central store, Balegas and others 2015 for rights that are divided among
 /// sites and given, this project for the audit.
 pub fn audit_text<R: Read, W: Write>(
+    rt: &(impl Threads + Sync),
     alloc: Global,
+    fields: bool,
     reader: &mut Watched<R>,
     writer: &mut Watched<W>,
 ) -> Result<AuditEnd, ScriptFault>
@@ -163,9 +210,7 @@ pub fn audit_text<R: Read, W: Write>(
     // A write fault comes only where a write failed, or took none of its bytes.
     ensures write { IfErr result (λ fault. fault ≡ ScriptFault.Write → HasRefused writer.new) }
 {
-    let (end, text) = answer(alloc, reader)?;
-    if writer.write_all(text.as_bytes()).is_err() {
-        return Err(ScriptFault::Write);
-    }
+    let (end, text) = answer(rt, alloc, fields, reader)?;
+    write_out(writer, text.as_bytes())?;
     Ok(end)
 }

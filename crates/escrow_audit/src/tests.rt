@@ -7,15 +7,21 @@ use std::io;
 use std::io::{ErrorKind, Read, Write};
 use std::process::Abort;
 use std::test::Fail;
+use std::thread::Threads;
 
 /// Two sites, which have half of the rights each: lower 20, raise 30.
 const HALVED: &str =
     "{\"sites\":2,\"fields\":[{\"name\":\"stock\",\"floor\":0,\"ceiling\":100,\"value\":40}]}";
 
 /// How an audit over a reader ended, and what it wrote.
-fn audit<R: Read + Drop>(alloc: Global, reader: R) -> (Result<AuditEnd, ScriptFault>, Vec<u8>) {
+fn audit<R: Read + Drop>(
+    rt: &(impl Threads + Sync),
+    alloc: Global,
+    fields: bool,
+    reader: R,
+) -> (Result<AuditEnd, ScriptFault>, Vec<u8>) {
     let mut writer = Watched::new(Vec::new(alloc));
-    let end = audit_text(alloc, &mut Watched::new(reader), &mut writer);
+    let end = audit_text(rt, alloc, fields, &mut Watched::new(reader), &mut writer);
     (end, writer.into_inner())
 }
 
@@ -29,16 +35,18 @@ fn text_of(alloc: Global, lines: &[&str]) -> Result<String, AllocError> {
 }
 
 fn check(
-    rt: &impl Abort,
+    rt: &(impl Abort + Threads + Sync),
     alloc: Global,
     lines: &[&str],
     end: AuditEnd,
     answer: &str,
 ) -> Result<(), AllocError> {
     let text = text_of(alloc, lines)?;
-    let (ended, out) = audit(alloc, text.as_bytes());
-    assert_eq!(rt; ended, Ok(end), "at {answer}");
-    assert_eq!(rt; str::from_utf8(out.as_slice()), Ok(answer));
+    for fields in [false, true] {
+        let (ended, out) = audit(rt, alloc, fields, text.as_bytes());
+        assert_eq!(rt; ended, Ok(end), "at {answer}");
+        assert_eq!(rt; str::from_utf8(out.as_slice()), Ok(answer));
+    }
     Ok(())
 }
 
@@ -265,10 +273,10 @@ fn takes_a_last_line_without_its_end(rt: HostRuntime) -> Result<(), Fail> {
         ("\r\n0 begin -> begun 0.1\r\n", "bad entry 2\n"),
     ] {
         let text = format!(in alloc; "{HALVED}{behind}")?;
-        let (end, out) = audit(alloc, text.as_bytes());
+        let (end, out) = audit(&rt, alloc, false, text.as_bytes());
         assert!(rt; end.is_ok());
         assert_eq!(rt; str::from_utf8(out.as_slice()), Ok(answer));
-        let (end, out) = audit(alloc, Trickle(text.as_bytes()));
+        let (end, out) = audit(&rt, alloc, false, Trickle(text.as_bytes()));
         assert!(rt; end.is_ok());
         assert_eq!(rt; str::from_utf8(out.as_slice()), Ok(answer));
     }
@@ -287,7 +295,7 @@ fn tells_bad_headers(rt: HostRuntime) -> Result<(), Fail> {
             SchemaFault::SiteCount,
         ),
     ] {
-        let (end, out) = audit(alloc, header.as_bytes());
+        let (end, out) = audit(&rt, alloc, false, header.as_bytes());
         assert_eq!(rt; end, Err(ScriptFault::Header(fault)), "at {header}");
         assert_eq!(rt; out.len(), 0);
     }
@@ -299,7 +307,7 @@ fn tells_bad_headers(rt: HostRuntime) -> Result<(), Fail> {
         let reader = io::repeat(b' ')
             .take(spaces)
             .chain(Broken(ErrorKind::Other));
-        let (end, out) = audit(alloc, reader);
+        let (end, out) = audit(&rt, alloc, false, reader);
         assert_eq!(rt; end, Err(wanted));
         assert_eq!(rt; out.len(), 0);
     }
@@ -320,7 +328,7 @@ fn ends_at_a_long_line(rt: HostRuntime) -> Result<(), Fail> {
             .as_bytes()
             .chain(io::repeat(b'x').take(bytes))
             .chain(Broken(ErrorKind::Other));
-        let (end, out) = audit(alloc, reader);
+        let (end, out) = audit(&rt, alloc, false, reader);
         assert_eq!(rt; end, wanted);
         assert_eq!(rt; str::from_utf8(out.as_slice()), Ok(answer));
     }
@@ -343,7 +351,7 @@ fn keeps_the_limit_of_lines(rt: HostRuntime) -> Result<(), Fail> {
             .as_bytes()
             .chain(lines.as_bytes())
             .chain(io::repeat(b'x').take(more));
-        let (end, out) = audit(alloc, reader);
+        let (end, out) = audit(&rt, alloc, false, reader);
         assert_eq!(rt; end, wanted);
         assert_eq!(rt; str::from_utf8(out.as_slice()), Ok(answer));
     }
@@ -361,7 +369,7 @@ fn ends_where_a_read_fails(rt: HostRuntime) -> Result<(), Fail> {
             ErrorKind::Other
         };
         let reader = Trickle(&text.as_bytes()[..count]).chain(Broken(kind));
-        let (end, out) = audit(alloc, reader);
+        let (end, out) = audit(&rt, alloc, false, reader);
         assert_eq!(rt; end, Err(ScriptFault::Read));
         assert_eq!(rt; out.len(), 0);
     }
@@ -379,7 +387,13 @@ fn ends_where_a_write_fails(rt: HostRuntime) -> Result<(), Fail> {
             room,
             fails: room % 2 == 0,
         });
-        let end = audit_text(alloc, &mut Watched::new(text.as_bytes()), &mut writer);
+        let end = audit_text(
+            &rt,
+            alloc,
+            false,
+            &mut Watched::new(text.as_bytes()),
+            &mut writer,
+        );
         if room < wanted.len() {
             assert_eq!(rt; end, Err(ScriptFault::Write));
         } else {
