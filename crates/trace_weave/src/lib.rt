@@ -1,0 +1,13 @@
+//! One trace out of the histories of many sites.
+#![tactic(auto)]
+
+mod fault;
+mod laws;
+mod weaving;
+
+pub use fault::WeaveFault;
+pub use laws::weaves_are_sound;
+pub use weaving::weave;
+
+#[cfg(test)]
+mod tests;
