@@ -1,5 +1,5 @@
 -- Where the lowest picks stop, no trace weaves the histories.
-use Rattle.std.proofs.Common.{◌≡◌, ◌≢◌, ℕ, ◌+◌, ◌<◌, ◌≤◌, Bool, cond, List, [], ◌∷◌, length, get_or, refl, sym, ap, subst, ◌∙◌, inl, inr, ⊎_elim, arith, Some, None, Option}
+use Rattle.std.proofs.Common.{◌≡◌, ◌≢◌, ℕ, ◌+◌, ◌<◌, ◌≤◌, Bool, cond, List, [], ◌∷◌, length, sym, ap, subst, ◌∙◌, inl, inr, ⊎_elim, arith, Some}
 use Rattle.std.proofs.lemmas.Bool.{eq-eqb, ne_eqb}
 use Rattle.std.proofs.lemmas.Option.{slice_get_within, same_Some}
 use Rattle.std.specs.List.{slice_get}
@@ -13,7 +13,7 @@ use Rattle.field_bounds.specs.declared.entry.Entry.{Entry}
 use Rattle.field_bounds.specs.declared.entry.Statement.{Statement}
 use Rattle.field_bounds.specs.Statements.{statement_of, IsIssued}
 use Rattle.field_bounds.specs.Central.{StatementRule}
-use Rattle.trace_weave.specs.Weave.{history_at, placed, next_of, MayStand, IsPicked, AreWhole, Weaves, Waits, NoneWeaves}
+use Rattle.trace_weave.specs.Weave.{history_at, placed, next_of, IsPicked, Waits, NoneWeaves}
 
 pub placed_here : (s p : ℕ) (ps : List ℕ) → p ≡ s → placed s (p ∷ ps) ≡ placed s ps + 1
 placed_here s p ps h = ap (λ (b : Bool). cond b (placed s ps + 1) (placed s ps)) (eq-eqb p s h)
@@ -21,7 +21,7 @@ placed_here s p ps h = ap (λ (b : Bool). cond b (placed s ps + 1) (placed s ps)
 pub placed_there : (s p : ℕ) (ps : List ℕ) → p ≢ s → placed s (p ∷ ps) ≡ placed s ps
 placed_there s p ps h = ap (λ (b : Bool). cond b (placed s ps + 1) (placed s ps)) (ne_eqb p s h)
 
-rule_grows : (t u : List Entry) (c : Command) (r : Reply) → ((st : Statement) → IsIssued st u → IsIssued st t) → StatementRule u c r → StatementRule t c r
+pub rule_grows : (t u : List Entry) (c : Command) (r : Reply) → ((st : Statement) → IsIssued st u → IsIssued st t) → StatementRule u c r → StatementRule t c r
 rule_grows t u (Accept told) (Accepted gain) g h = g told h
 rule_grows t u (Accept told) Unsure g h = g told h
 rule_grows t u c r g h = tt

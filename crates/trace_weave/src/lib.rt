@@ -2,6 +2,7 @@
 #![tactic(auto)]
 
 mod fault;
+mod issued;
 mod laws;
 mod weaving;
 

@@ -1,104 +1,124 @@
-ghost use Rattle.std.specs.Prelude.{◌≡◌};
-
-use crate::{WeaveFault, weave};
+use super::*;
 use field_bounds::{Command, Entry, FieldNo, Kind, Reply, SiteNo, Statement, TxnId};
 use std::alloc::{AllocError, Global};
 
-fn told(from: u16, to: u16) -> Command {
-    Command::Accept(Statement {
-        from: SiteNo(from),
-        to: SiteNo(to),
-        field: FieldNo(0),
-        kind: Kind::Lower,
-        total: 5,
-    })
-}
-
-fn gives(to: u16) -> Command {
-    Command::Give {
-        to: SiteNo(to),
-        field: FieldNo(0),
-        kind: Kind::Lower,
-        amount: 5,
-    }
-}
-
-fn entry(site: u16, command: Command, reply: Reply) -> Entry {
+/// An entry of a site that accepts 5 rights to lower of another.
+fn accepts(site: u16, from: u16, reply: Reply) -> Entry {
     Entry {
         site: SiteNo(site),
-        command,
+        command: Command::Accept(Statement {
+            from: SiteNo(from),
+            to: SiteNo(site),
+            field: FieldNo(0),
+            kind: Kind::Lower,
+            total: 5,
+        }),
         reply,
     }
 }
 
-#[test]
-fn taken_after_given(rt: HostRuntime) -> Result<(), AllocError> {
-    let alloc = rt.alloc();
-    let mut zero = Vec::new(alloc);
-    zero.push(entry(0, told(1, 0), Reply::Accepted { gain: 5 }))?;
-    let mut one = Vec::new(alloc);
-    one.push(entry(1, gives(0), Reply::Given { total: 5 }))?;
-    let mut all = Vec::new(alloc);
-    all.push(zero)?;
-    all.push(one)?;
-    let woven = weave(alloc, all.as_slice());
-    let right = match woven {
-        Ok(trace) => trace.len() == 2 && trace[0].site == SiteNo(1),
+const ACCEPTED: Reply = Reply::Accepted { gain: 5 };
+
+/// An entry of a site that gives 5 rights to lower to another.
+fn gives(site: u16, to: u16) -> Entry {
+    Entry {
+        site: SiteNo(site),
+        command: Command::Give {
+            to: SiteNo(to),
+            field: FieldNo(0),
+            kind: Kind::Lower,
+            amount: 5,
+        },
+        reply: Reply::Given { total: 5 },
+    }
+}
+
+/// An entry of a site that begins its first transaction.
+fn begins(site: u16) -> Entry {
+    Entry {
+        site: SiteNo(site),
+        command: Command::Begin,
+        reply: Reply::Begun(TxnId {
+            epoch: 0,
+            number: 1,
+        }),
+    }
+}
+
+fn woven_of_two(alloc: Global, zero: &[Entry], one: &[Entry]) -> Result<Vec<Entry>, WeaveFault> {
+    let mut histories = Vec::new(alloc);
+    for history in [zero, one] {
+        let mut own = Vec::new(alloc);
+        for entry in history {
+            own.push(*entry)?;
+        }
+        histories.push(own)?;
+    }
+    weave(alloc, &histories)
+}
+
+/// Whether weaving gave exactly these entries, in this order.
+fn is_woven(woven: Result<Vec<Entry>, WeaveFault>, entries: &[Entry]) -> bool {
+    match woven {
+        Ok(trace) => trace.as_slice() == entries,
         Err(_) => false,
-    };
-    assert!(&rt; right);
-    Ok(())
+    }
 }
 
 #[test]
-fn each_waits_for_the_other(rt: HostRuntime) -> Result<(), AllocError> {
-    let alloc = rt.alloc();
-    let mut zero = Vec::new(alloc);
-    zero.push(entry(0, told(1, 0), Reply::Accepted { gain: 5 }))?;
-    zero.push(entry(0, gives(1), Reply::Given { total: 5 }))?;
-    let mut one = Vec::new(alloc);
-    one.push(entry(1, told(0, 1), Reply::Accepted { gain: 5 }))?;
-    one.push(entry(1, gives(0), Reply::Given { total: 5 }))?;
-    let mut all = Vec::new(alloc);
-    all.push(zero)?;
-    all.push(one)?;
-    let woven = weave(alloc, all.as_slice());
-    let right = match woven {
-        Ok(_) => false,
-        Err(fault) => fault
-            == WeaveFault::Stuck {
-                site: SiteNo(0),
-                number: 1,
-            },
-    };
-    assert!(&rt; right);
-    Ok(())
+fn the_lowest_site_comes_first(rt: HostRuntime) {
+    let woven = woven_of_two(rt.alloc(), &[begins(0)], &[begins(1)]);
+    assert!(&rt; is_woven(woven, &[begins(0), begins(1)]));
 }
 
 #[test]
-fn lowest_first(rt: HostRuntime) -> Result<(), AllocError> {
-    let alloc = rt.alloc();
-    let begun = Reply::Begun(TxnId {
-        epoch: 0,
+fn an_acceptance_waits_for_its_gift(rt: HostRuntime) {
+    let taken = accepts(0, 1, ACCEPTED);
+    let woven = woven_of_two(rt.alloc(), &[taken], &[gives(1, 0)]);
+    assert!(&rt; is_woven(woven, &[gives(1, 0), taken]));
+}
+
+#[test]
+fn one_in_doubt_waits_too(rt: HostRuntime) {
+    let taken = accepts(0, 1, Reply::Unsure);
+    let woven = woven_of_two(rt.alloc(), &[taken], &[begins(1), gives(1, 0), begins(1)]);
+    assert!(&rt; is_woven(woven, &[begins(1), gives(1, 0), taken, begins(1)]));
+}
+
+#[test]
+fn nothing_is_woven_of_nothing(rt: HostRuntime) {
+    let histories: Vec<Vec<Entry>> = Vec::new(rt.alloc());
+    assert!(&rt; is_woven(weave(rt.alloc(), &histories), &[]));
+}
+
+#[test]
+fn two_that_wait_for_each_other_are_stuck(rt: HostRuntime) {
+    let woven = woven_of_two(
+        rt.alloc(),
+        &[accepts(0, 1, ACCEPTED), gives(0, 1)],
+        &[accepts(1, 0, ACCEPTED), gives(1, 0)],
+    );
+    let stuck = WeaveFault::Stuck {
+        site: SiteNo(0),
         number: 1,
-    });
-    let mut zero = Vec::new(alloc);
-    zero.push(entry(0, Command::Begin, begun))?;
-    let mut one = Vec::new(alloc);
-    one.push(entry(1, Command::Begin, begun))?;
-    let mut all = Vec::new(alloc);
-    all.push(zero)?;
-    all.push(one)?;
-    let right = match weave(alloc, all.as_slice()) {
-        Ok(trace) => trace.len() == 2 && trace[0].site == SiteNo(0) && trace[1].site == SiteNo(1),
-        Err(_) => false,
     };
-    assert!(&rt; right);
-    let none: Vec<Vec<Entry>> = Vec::new(alloc);
-    let empty = match weave(alloc, none.as_slice()) {
-        Ok(trace) => trace.is_empty(),
-        Err(_) => false,
+    assert_eq!(&rt; woven.err(), Some(stuck));
+}
+
+#[test]
+fn a_circle_of_three_is_stuck(rt: HostRuntime) -> Result<(), AllocError> {
+    let alloc = rt.alloc();
+    let mut histories = Vec::new(alloc);
+    for (site, from, to) in [(0, 2, 1), (1, 0, 2), (2, 1, 0)] {
+        let mut history = Vec::new(alloc);
+        history.push(accepts(site, from, ACCEPTED))?;
+        history.push(gives(site, to))?;
+        histories.push(history)?;
+    }
+    let stuck = WeaveFault::Stuck {
+        site: SiteNo(0),
+        number: 1,
     };
-    assert!(&rt; empty);
+    assert_eq!(&rt; weave(alloc, &histories).err(), Some(stuck));
     Ok(())
 }
