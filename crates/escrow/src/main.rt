@@ -1,8 +1,10 @@
-//! The program `escrow`: a script of commands on standard input, its answers on standard output.
+//! The program `escrow`: a script of commands on standard input and its answers on standard output, or
+//! such answers and their audit.
 #![tactic(auto)]
 
 use clap::error::ErrorKind;
-use clap::{Command, Error};
+use clap::{Arg, ArgAction, Command, Error};
+use escrow_audit::{AuditEnd, audit_text};
 use escrow_script::{ScriptFault, Watched, run_script};
 use std::alloc::{AllocError, Global};
 use std::process::ExitCode;
@@ -16,10 +18,12 @@ A field keeps a value between a floor and a ceiling. A transaction sets
 quantities aside before it commits, so no outcome can pass either bound.
 
 Example:
-  escrow run < script.txt
+  escrow run < script.txt > answers.txt
+  escrow audit < answers.txt
 
 Statuses: 0 done; 1 a read or write failed, or the input is too long;
-2 the command line or the header is refused; 4 out of memory.";
+2 the command line or the header is refused; 3 the audit found an entry that
+is illegal, or a line that is no entry; 4 out of memory.";
 
 const RUN_ABOUT: &str = "Answers the script on standard input, line by line";
 
@@ -62,22 +66,58 @@ Its output, behind the header line:
   0 commit 0.1 -> committed
   0 read stock -> between 20 20";
 
+const AUDIT_ABOUT: &str = "Judges the answers of a run on standard input";
+
+const AUDIT_EXAMPLE: &str = "\
+The input is what `escrow run` wrote, or a trace from elsewhere in that form:
+line 1 is the header, and each other line an entry, COMMAND -> REPLY. The remarks
+of a run are skipped: `bad line`, a delivery of no statement, and what stands
+ahead of the gifts of `level` and of the steps of `reach`.
+
+One line is written:
+
+  legal N           the N entries are a run of one store, each reply as owed
+  illegal AT RULE   entry AT is the first that breaks a rule, and RULE the first
+                    that it breaks: site, grant, shortage, interval, statement
+                    or reply
+  bad entry L       line L is the first that is neither an entry nor a remark
+
+Example input:
+  {\"sites\":1,\"fields\":[{\"name\":\"stock\",\"floor\":0,\"ceiling\":100,\"value\":40}]}
+  0 begin -> begun 0.1
+  0 escrow 0.1 stock -41 -> granted
+
+Its output:
+  illegal 2 grant";
+
+const FIELDS_HELP: &str = "Judges field by field, in threads; the answer is the same";
+
 /// What the command line asks for.
 #[derive(Clone, Copy)]
 enum Task {
     Run,
+    Audit { fields: bool },
 }
 
 fn program<'a>(alloc: Global) -> Result<Command<'a>, AllocError> {
     let run = Command::new(alloc, "run")
         .about(RUN_ABOUT)
         .after_help(RUN_EXAMPLE);
+    let fields = Arg::new(alloc, "fields")
+        .long("fields")
+        .help(FIELDS_HELP)
+        .action(ArgAction::SetTrue);
+    let audit = Command::new(alloc, "audit")
+        .about(AUDIT_ABOUT)
+        .after_help(AUDIT_EXAMPLE)
+        .arg(fields)?;
     Command::new(alloc, "escrow")
         .about(ABOUT)
         .after_help(EXAMPLE)
         .subcommand_required(true)
         .arg_required_else_help(true)
-        .subcommand(run)
+        .subcommand(run)?
+        .subcommand(audit)
 }
 
 fn read_task(rt: &(impl Env + AllocGlobal)) -> Result<Task, Error> {
@@ -92,8 +132,11 @@ fn read_task(rt: &(impl Env + AllocGlobal)) -> Result<Task, Error> {
         }
     };
     let matches = command.try_get_matches_from(words.as_slice())?;
-    match matches.subcommand_name() {
-        Some("run") => Ok(Task::Run),
+    match matches.subcommand() {
+        Some(("run", _)) => Ok(Task::Run),
+        Some(("audit", asked)) => Ok(Task::Audit {
+            fields: asked.get_flag("fields"),
+        }),
         _ => Err(program(alloc)?.error(ErrorKind::MissingSubcommand, "no subcommand")?),
     }
 }
@@ -123,17 +166,30 @@ fn tell_refused(rt: &(impl Print + Eprint), error: &Error) -> u8 {
     if error.use_stderr() { 2 } else { 0 }
 }
 
+/// The status of an audit that ended.
+fn status_of_end(end: AuditEnd) -> u8 {
+    match end {
+        AuditEnd::Legal => 0,
+        AuditEnd::Illegal | AuditEnd::BadEntry => 3,
+    }
+}
+
 fn main(rt: HostRuntime) -> ExitCode {
-    let ended = match read_task(&rt) {
-        Ok(Task::Run) => run_script(
-            rt.alloc(),
-            &mut Watched::new(rt.stdin()),
-            &mut Watched::new(rt.stdout()),
-        ),
+    let task = match read_task(&rt) {
+        Ok(task) => task,
         Err(error) => return ExitCode::from(tell_refused(&rt, &error)),
     };
+    let alloc = rt.alloc();
+    let mut reader = Watched::new(rt.stdin());
+    let mut writer = Watched::new(rt.stdout());
+    let ended = match task {
+        Task::Run => run_script(alloc, &mut reader, &mut writer).map(|()| 0),
+        Task::Audit { fields } => {
+            audit_text(&rt, alloc, fields, &mut reader, &mut writer).map(status_of_end)
+        }
+    };
     match ended {
-        Ok(()) => ExitCode::SUCCESS,
+        Ok(status) => ExitCode::from(status),
         Err(fault) => ExitCode::from(tell(&rt, fault)),
     }
 }

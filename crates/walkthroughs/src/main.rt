@@ -1,8 +1,11 @@
-//! Runs each script of `examples/`, and tells whether it writes what stands beside it.
+//! Runs each script of `examples/`, and tells whether it writes what stands beside it, and how that is
+//! judged.
 #![tactic(auto)]
 
+use escrow_audit::audit_text;
 use escrow_script::{Watched, run_script};
 use std::alloc::{AllocError, Global};
+use std::thread::Threads;
 use std::{fs, io};
 
 const WALKTHROUGHS: [&str; 9] = [
@@ -24,6 +27,13 @@ fn written(alloc: Global, script: &str) -> Vec<u8> {
     writer.into_inner()
 }
 
+/// How an audit answers what a script writes; a fault ends it early.
+fn audited(rt: &(impl Threads + Sync), alloc: Global, fields: bool, answers: &[u8]) -> Vec<u8> {
+    let mut writer = Watched::new(Vec::new(alloc));
+    let _ = audit_text(rt, alloc, fields, &mut Watched::new(answers), &mut writer);
+    writer.into_inner()
+}
+
 fn path(alloc: Global, name: &str, ending: &str) -> Result<String, AllocError> {
     format!(in alloc; "{name}.{ending}")
 }
@@ -33,10 +43,18 @@ fn main(rt: HostRuntime) -> io::Result<()> {
     for name in WALKTHROUGHS {
         let script = fs::read_to_string(&rt, path(alloc, name, "txt")?.as_str())?;
         let told = fs::read_to_string(&rt, path(alloc, name, "out")?.as_str())?;
-        if written(alloc, script.as_str()).as_slice() == told.as_bytes() {
+        let answers = written(alloc, script.as_str());
+        if answers.as_slice() == told.as_bytes() {
             println!(rt; "{name}: as told")?;
         } else {
             println!(rt; "{name}: differs")?;
+        }
+        for fields in [false, true] {
+            let judged = audited(&rt, alloc, fields, answers.as_slice());
+            print!(rt;
+                "{name}: {}",
+                str::from_utf8(judged.as_slice()).unwrap_or("no text\n")
+            )?;
         }
     }
     Ok(())
