@@ -1,5 +1,5 @@
 -- What the parts of a run do to its state, and what a run reads and writes (this project).
-use Rattle.std.specs.Prelude.{◌≡◌, ◌≢◌, ℕ, ◌+◌, ◌-◌, ◌<◌, ◌≤◌, List, [], ◌∷◌, ◌++◌, length, take, ◌⊎◌, Option, None, Some, IsNone, Ok, Err, reverse}
+use Rattle.std.specs.Prelude.{◌≡◌, ℕ, ◌+◌, ◌-◌, ◌<◌, ◌≤◌, List, [], ◌∷◌, ◌++◌, length, take, ◌⊎◌, Option, None, Some, IsNone, Ok, Err, reverse}
 use Rattle.std.specs.Io.KnownBytes.{Appends, Consumes, IsAtEnd}
 use Rattle.field_bounds.specs.Schema.{SchemaValue}
 use Rattle.field_bounds.specs.Header.{schema_of}
@@ -7,9 +7,8 @@ use Rattle.field_bounds.specs.declared.fault.SchemaFault.TheVariants as schema_f
 use Rattle.escrow_script.specs.declared.machine.Machine.{Machine}
 use Rattle.escrow_script.specs.declared.script.Script.{Script}
 use Rattle.script_input.specs.declared.fault.ScriptFault.{ScriptFault}
-use Rattle.script_input.specs.declared.fault.ScriptFault.TheVariants.{Read, TooLong, Write, Header, NoMemory}
+use Rattle.script_input.specs.declared.fault.ScriptFault.TheVariants.{Write, Header, NoMemory}
 use Rattle.script_input.specs.declared.watched.End.{End}
-use Rattle.script_input.specs.declared.watched.End.TheVariants.{Nothing}
 use Rattle.entry_text.specs.Lines.{max_line}
 use Rattle.escrow_script.specs.Text.{line_text, AreReplies, IsAnswer, HasText, IsTextOf}
 use Rattle.world_steps.specs.declared.step.WorldStep.{WorldStep}

@@ -1,4 +1,4 @@
-use Rattle.std.proofs.Common.{ℕ, suc, [], ◌∷◌, ◌++◌, List, map, sym, ap, ◌∙◌, add-one}
+use Rattle.std.proofs.Common.{ℕ, suc, map, sym, ap, ◌∙◌, add-one}
 use Rattle.field_bounds.specs.declared.id.SiteNo.{SiteNo}
 use Rattle.world_steps.specs.View.{trace_of}
 use Rattle.escrow_script.specs.Level.{sites_up, free_at}

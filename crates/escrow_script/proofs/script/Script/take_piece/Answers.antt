@@ -1,4 +1,4 @@
-use Rattle.std.proofs.Common.{◌≡◌, ℕ, List, [], ◌∷◌, ◌++◌, sym, ap, ◌∙◌, append_assoc, arith}
+use Rattle.std.proofs.Common.{[], ◌∷◌, ◌++◌, sym, ap, ◌∙◌, append_assoc, arith}
 use Rattle.std.proofs.lemmas.Result.{err_from_is_err_and, IfErr-weaker, on_ok_weaker}
 use Rattle.escrow_script.proofs.RunLemmas.{At-kept, At-along, Stops-keep, Stops-full, Stops-along}
 use Rattle.script_input.proofs.LineLemmas.{some_after_line, some_after_some, not_empty_some, piece_parts, line_parts}
