@@ -1,0 +1,13 @@
+pub mod Sites
+pub mod Refusals
+pub mod Plans
+pub mod Going
+pub mod Numbers
+pub mod Ledger
+pub mod Aborting
+pub mod Passing
+pub mod Balance
+pub mod Changing
+pub mod Moving
+pub mod Faults
+pub mod Reaching

@@ -1,0 +1,95 @@
+-- Steps that look at the trace by then, one after another.
+use Rattle.std.proofs.Common.{◌≡◌, ℕ, zero, suc, ◌<◌, List, [], ◌∷◌, ◌++◌, refl, sym, ◌∙◌, ap, subst, arith, All}
+use Rattle.std.proofs.lemmas.List.{append_assoc, append-nil}
+use Rattle.std.proofs.lemmas.List.Elements.{All-append, All-nil, All-cons}
+use Rattle.field_bounds.specs.declared.entry.Entry.{Entry}
+use Rattle.field_bounds.specs.Schema.{SchemaValue}
+use Rattle.world_steps.specs.declared.step.WorldStep.{WorldStep}
+use Rattle.field_bounds.specs.Limits.{IsSchema}
+use Rattle.field_bounds.specs.Central.{IsSound}
+use Rattle.world_steps.specs.World.{StepFits, trace_by}
+use Rattle.world_steps.proofs.Living.{one_store_of}
+use Rattle.reaching_steps.specs.Reach.{Task, planned, over_sites, IsFine}
+
+-- the trace of steps that fit is sound
+pub sound_of : (schema : SchemaValue) → IsSchema schema → (steps : List WorldStep) → All (StepFits schema) steps → IsSound schema (trace_by schema steps)
+sound_of schema good steps fit = (one_store_of schema good steps fit).sound
+
+abbrev pub Claim : Type 1
+Claim = List Entry → Type 0
+
+module _ (schema : SchemaValue) where
+  -- after these steps, those may be taken, each append of theirs is whole, and then the claim holds of the trace
+  pub record Went (steps more : List WorldStep) (claim : Claim) : Type 0 where
+    pub fit : All (StepFits schema) more
+    pub fine : All IsFine more
+    pub then : claim (trace_by schema (steps ++ more))
+
+  pub went_none : (steps : List WorldStep) (Q : Claim) → Q (trace_by schema steps) → Went steps [] Q
+  went_none steps Q q =
+      record {
+        fit = All-nil (StepFits schema);
+        fine = All-nil IsFine;
+        then = subst (λ (l : List WorldStep). Q (trace_by schema l)) (sym (append-nil steps)) q;
+      }
+
+  pub went_one : (steps : List WorldStep) (step : WorldStep) (Q : Claim) → StepFits schema step → IsFine step → Q (trace_by schema (steps ++ step ∷ [])) → Went steps (step ∷ []) Q
+  went_one steps step Q fit fine q =
+      record { fit = All-cons (StepFits schema) step [] fit (All-nil (StepFits schema)); fine = All-cons IsFine step [] fine (All-nil IsFine); then = q }
+
+  -- one list of steps after another
+  pub went_on : (steps more rest : List WorldStep) (P Q : Claim) → All (StepFits schema) steps → Went steps more P
+      → (All (StepFits schema) (steps ++ more) → P (trace_by schema (steps ++ more)) → Went (steps ++ more) rest Q) → Went steps (more ++ rest) Q
+  went_on steps more rest P Q fit went next =
+      let later = next (All-append (StepFits schema) steps more fit went.fit) went.then in
+      record {
+        fit = All-append (StepFits schema) more rest went.fit later.fit;
+        fine = All-append IsFine more rest went.fine later.fine;
+        then = subst (λ (l : List WorldStep). Q (trace_by schema l)) (append_assoc steps more rest) later.then;
+      }
+
+  pub went_as : (steps more : List WorldStep) (P Q : Claim) → Went steps more P → (P (trace_by schema (steps ++ more)) → Q (trace_by schema (steps ++ more))) → Went steps more Q
+  went_as steps more P Q went weaker = record { fit = went.fit; fine = went.fine; then = weaker went.then }
+
+  pub went_same : (steps more others : List WorldStep) (Q : Claim) → more ≡ others → Went steps more Q → Went steps others Q
+  went_same steps more others Q same went = subst (λ (l : List WorldStep). Went steps l Q) same went
+
+  -- tasks that lead from one claim to another
+  abbrev pub Leads : Claim → Claim → List Task → Type 0
+  Leads P Q tasks = (steps : List WorldStep) → All (StepFits schema) steps → P (trace_by schema steps) → Went steps (planned schema steps tasks) Q
+
+  pub leads_none : (P : Claim) → Leads P P []
+  leads_none P steps fit p = went_none steps P p
+
+  pub leads_first : (P Q R : Claim) (task : Task) (tasks : List Task)
+      → ((steps : List WorldStep) → All (StepFits schema) steps → P (trace_by schema steps) → Went steps (task (trace_by schema steps)) Q)
+      → Leads Q R tasks → Leads P R (task ∷ tasks)
+  leads_first P Q R task tasks one rest steps fit p =
+      let more = task (trace_by schema steps) in
+      went_on steps more (planned schema (steps ++ more) tasks) Q R fit (one steps fit p) (λ fits q. rest (steps ++ more) fits q)
+
+  pub leads_task : (P Q : Claim) (task : Task)
+      → ((steps : List WorldStep) → All (StepFits schema) steps → P (trace_by schema steps) → Went steps (task (trace_by schema steps)) Q)
+      → Leads P Q (task ∷ [])
+  leads_task P Q task one = leads_first P Q Q task [] one (leads_none Q)
+
+  pub planned_append : (steps : List WorldStep) (a b : List Task) → planned schema steps (a ++ b) ≡ planned schema steps a ++ planned schema (steps ++ planned schema steps a) b
+  planned_append steps [] b = ap (λ (l : List WorldStep). planned schema l b) (sym (append-nil steps))
+  planned_append steps (task ∷ a) b =
+      let more = task (trace_by schema steps) in
+      let rest = planned schema (steps ++ more) a in
+      ap (λ (l : List WorldStep). more ++ l) (planned_append (steps ++ more) a b)
+      ∙ sym (append_assoc more rest (planned schema ((steps ++ more) ++ rest) b))
+      ∙ ap (λ (l : List WorldStep). (more ++ rest) ++ planned schema l b) (append_assoc steps more rest)
+
+  pub leads_on : (P Q R : Claim) (a b : List Task) → Leads P Q a → Leads Q R b → Leads P R (a ++ b)
+  leads_on P Q R a b first next steps fit p =
+      let done = planned schema steps a in
+      went_same steps (done ++ planned schema (steps ++ done) b) (planned schema steps (a ++ b)) R (sym (planned_append steps a b))
+      (went_on steps done (planned schema (steps ++ done) b) Q R fit (first steps fit p) (λ fits q. next (steps ++ done) fits q))
+
+  -- for each site in turn
+  pub leads_over : (I : ℕ → Claim) (n : ℕ) (f : ℕ → List Task) → ((i : ℕ) → i < n → Leads (I i) (I (suc i)) (f i)) → Leads (I 0) (I n) (over_sites n f)
+  leads_over I zero f each = leads_none (I 0)
+  leads_over I (suc n) f each =
+      leads_on (I 0) (I n) (I (suc n)) (over_sites n f) (f n) (leads_over I n f (λ i below. each i (omega (arith, below)))) (each n (omega arith))
