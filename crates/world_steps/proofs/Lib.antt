@@ -6,3 +6,4 @@ pub mod Numbered
 pub mod Stand
 pub mod Living
 pub mod Shares
+pub mod Told

@@ -1,5 +1,5 @@
 -- What a world keeps of its steps beside its trace, and the steps that both tell (this project).
-use Rattle.std.specs.Prelude.{◌≡◌, ℕ, ◌<◌, List, [], ◌∷◌, reverse, vec_len, vec_capacity}
+use Rattle.std.specs.Prelude.{◌≡◌, ℕ, ◌<◌, List, [], ◌∷◌, reverse, Option, Some, None, vec_len, vec_capacity}
 use Rattle.field_bounds.specs.declared.entry.Entry.{Entry}
 use Rattle.kept_state.specs.declared.luck.Luck.TheVariants.{Fine, Torn}
 use Rattle.world_steps.specs.declared.step.WorldStep.{WorldStep}
@@ -29,6 +29,11 @@ steps_told trace (Missed ∷ ways) numbers torn =
     with_first numbers (λ k more. Deliver k Fine ∷ steps_told trace ways more torn)
 steps_told trace (MissedTorn ∷ ways) numbers torn =
     with_first numbers (λ k more. with_first torn (λ bytes others. Deliver k (Torn bytes) ∷ steps_told trace ways more others))
+
+-- Steps, with one more where there is one; none where there isn't.
+abbrev pub with_step : Option WorldStep → List WorldStep → List WorldStep
+with_step None steps = []
+with_step (Some step) steps = step ∷ steps
 
 -- The same, of a trace and of what is kept beside it, which have the oldest first, as the steps then have.
 abbrev pub steps_kept : List Entry → KeptSteps → List WorldStep

@@ -1,11 +1,13 @@
 //! What a world keeps of its steps beside its trace.
 
-ghost use Rattle.std.specs.Prelude.{◌≡◌, ◌++◌, [], ◌∷◌, List, None, Some, OnOk};
+ghost use Rattle.std.specs.Prelude.{◌≡◌, ◌++◌, [], ◌∷◌, List, None, Some, OnOk, IfOk, reverse};
 ghost use Rattle.field_bounds.specs.declared.entry.Entry.{Entry};
+ghost use Rattle.world_steps.specs.declared.step.WorldStep.TheVariants as steps;
 ghost use Rattle.world_steps.specs.World.{asked};
-ghost use Rattle.world_steps.specs.Kept.{steps_kept, HasRoom, SameKept};
+ghost use Rattle.world_steps.specs.Kept.{steps_told, steps_kept, with_step, HasRoom, SameKept};
 
 use crate::step::WorldStep;
+use field_bounds::Entry;
 use kept_state::Luck;
 use std::alloc::{AllocError, Global};
 
@@ -147,5 +149,93 @@ impl KeptSteps {
                 self.torn.push_reserved(bytes);
             }
         }
+    }
+
+    /// The steps that a trace and this tell, the oldest first. The error is want of memory.
+    pub(crate) fn told(&self, alloc: Global, trace: &[Entry]) -> Result<Vec<WorldStep>, AllocError>
+        ensures steps { IfOk result (λ steps. steps.items ≡ steps_kept trace.now self.now) }
+    {
+        let mut entries = trace.to_vec(alloc)?;
+        let mut numbers = self.numbers.clone()?;
+        let mut torn = self.torn.clone()?;
+        let mut steps = Vec::new(alloc);
+        for i in 0..self.ways.len() {
+            let way = self.ways[self.ways.len() - 1 - i];
+            let Some(step) = newest(way, &mut entries, &mut numbers, &mut torn) else {
+                steps.reverse();
+                return Ok(steps);
+            };
+            steps.push(step)?;
+        }
+        steps.reverse();
+        Ok(steps)
+    }
+}
+
+/// The step that went a way: what tells it is taken from the end of each list. None where one is
+/// empty.
+fn newest(
+    way: Way,
+    entries: &mut Vec<Entry>,
+    numbers: &mut Vec<u64>,
+    torn: &mut Vec<u64>,
+) -> Option<WorldStep>
+    ensures step { (ways : List Way) →
+        steps_told (reverse entries.old.items) (way ∷ ways) (reverse numbers.old.items) (reverse torn.old.items)
+        ≡ with_step result (steps_told (reverse entries.new.items) ways (reverse numbers.new.items) (reverse torn.new.items)) }
+{
+    match way {
+        Way::Asked => {
+            let entry = entries.pop()?;
+            Some(asked(entry, Luck::Fine))
+        }
+        Way::AskedTorn => {
+            let entry = entries.pop()?;
+            let bytes = torn.pop()?;
+            Some(asked(entry, Luck::Torn(bytes)))
+        }
+        Way::Delivered => {
+            entries.pop()?;
+            let k = numbers.pop()?;
+            Some(WorldStep::Deliver {
+                k,
+                luck: Luck::Fine,
+            })
+        }
+        Way::DeliveredTorn => {
+            entries.pop()?;
+            let k = numbers.pop()?;
+            let bytes = torn.pop()?;
+            Some(WorldStep::Deliver {
+                k,
+                luck: Luck::Torn(bytes),
+            })
+        }
+        Way::Missed => {
+            let k = numbers.pop()?;
+            Some(WorldStep::Deliver {
+                k,
+                luck: Luck::Fine,
+            })
+        }
+        Way::MissedTorn => {
+            let k = numbers.pop()?;
+            let bytes = torn.pop()?;
+            Some(WorldStep::Deliver {
+                k,
+                luck: Luck::Torn(bytes),
+            })
+        }
+    }
+}
+
+/// The step that asked for an entry.
+fn asked(entry: Entry, luck: Luck) -> WorldStep
+    ensures value { result ≡ steps.Do entry.site entry.command luck }
+{
+    WorldStep::Do {
+        site: entry.site,
+        command: entry.command,
+        luck,
     }
 }

@@ -1,6 +1,6 @@
 //! The world.
 
-ghost use Rattle.std.specs.Prelude.{◌≡◌, ◌<◌, ◌≤◌, ◌+◌, ◌++◌, [], ◌∷◌, IfOk, IfSome, OnOk, OnErr, length, reverse};
+ghost use Rattle.std.specs.Prelude.{All, ◌≡◌, ◌<◌, ◌≤◌, ◌+◌, ◌++◌, [], ◌∷◌, IfOk, IfSome, OnOk, OnErr, length, reverse};
 ghost use Rattle.field_bounds.specs.Limits.{IsSchema};
 ghost use Rattle.field_bounds.specs.Parts.{field_at, width_of};
 ghost use Rattle.field_bounds.specs.Effects.{fresh};
@@ -161,6 +161,15 @@ impl World {
         ensures none_strange { NoneStrange (trace_of self.now) }
     {
         &self.trace
+    }
+
+    /// The steps taken, the oldest first: with the schema, all there is to a world. The error is want
+    /// of memory. Costs a copy of the trace, and a push for each step.
+    pub fn steps(&self, alloc: Global) -> Result<Vec<WorldStep>, AllocError>
+        ensures steps { IfOk result (λ steps. steps.items ≡ self.now.steps) }
+        ensures fit { All (StepFits self.now.schema) self.now.steps }
+    {
+        self.steps.told(alloc, &self.trace)
     }
 
     /// The trace alone.
