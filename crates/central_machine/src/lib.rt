@@ -18,3 +18,6 @@ mod totals;
 pub use central_rules::{Rule, Verdict, judge_plain, verdict_is_exact};
 pub use counted::{judge, judge_counted};
 pub use parts::judge_fields;
+
+#[cfg(test)]
+mod tests;
