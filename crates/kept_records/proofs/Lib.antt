@@ -7,3 +7,4 @@ pub mod Lines
 pub mod Appending
 pub mod Pushes
 pub mod Covering
+pub mod Places

@@ -6,3 +6,4 @@ pub mod Logs
 pub mod Faults
 pub mod Stands
 pub mod Keeping
+pub mod ReadingBack

@@ -1,9 +1,13 @@
 -- What the calls of a medium do, and when they fail.
-use Rattle.std.specs.Prelude.{◌≡◌, ℕ, ◌+◌, List, ◌++◌, take, Option, Some, None, Result, Ok, Err, IsOk, IsErr, IsOkUnless}
+use Rattle.std.specs.Prelude.{◌≡◌, ℕ, ◌+◌, ◌-◌, List, ◌++◌, length, take, drop, Option, Some, None, Result, Ok, Err, IsOk, IsErr, IsOkUnless}
 use Rattle.kept_records.specs.declared.medium.Mishap.{Mishap}
 use Rattle.kept_records.specs.declared.medium.Mishap.TheVariants.{Never, Append, Cut, Read}
 use Rattle.kept_records.specs.declared.medium.MediumFault.{MediumFault}
 use Rattle.kept_records.specs.declared.medium.MediumFault.TheVariants as faults
+
+-- The last so many bytes, or all where there are no more.
+abbrev pub last_bytes : ℕ → List ℕ → List ℕ
+last_bytes most bytes = drop (length bytes - most) bytes
 
 -- The old bytes and behind them some front of the piece, which may be none of it or all.
 abbrev pub IsCutShort : List ℕ → List ℕ → List ℕ → Type 0

@@ -13,7 +13,7 @@ ghost use Rattle.kept_records.specs.Keeping.{IsKept, Appends, CutsAndAppends, Cu
 use crate::log::{RecordFault, read_records};
 use crate::medium::{Device, Medium, MediumFault};
 use crate::record::Record;
-use crate::writing::{put_record, write_record};
+use crate::writing::put_record;
 use std::alloc::{AllocError, Global};
 
 /// What a medium was read as.
@@ -76,6 +76,7 @@ pub fn append_record<M: Medium>(
     ensures bytes { OnErr result (M.bytes medium.new ≡ M.bytes medium.old) }
     ensures failed { OnErr result (M.failed medium.new ≡ M.failed medium.old) }
     ensures foretold { OnErr result (M.foretold medium.new ≡ M.foretold medium.old) }
+    ensures line { IfOk result (λ added. line.new.items ≡ text kept.now) }
 {
     put_record(line, kept)?;
     medium.reserve(line.len())?;
@@ -105,12 +106,13 @@ fn cut_and_append<M: Medium>(
 /// length of the whole records, and `present` that of all bytes, as `read_log` answers them. The
 /// inner result tells how it went: Ok where the record stands behind the whole ones; its error is a
 /// fault of the device, which leaves the bytes as they were, or the whole records and some front of
-/// the record's text. The outer error is want of memory, which changes nothing. The epoch is 1 to
-/// 1,000,000,000. Costs memory for the text.
+/// the record's text. The outer error is want of memory, which leaves the medium as it was. The epoch
+/// is 1 to 1,000,000,000. The text is made in `line`, whatever that held, and its memory is used
+/// again.
 ///
 /// Source: this project.
 pub fn append_restart<M: Medium>(
-    alloc: Global,
+    line: &mut Vec<u8>,
     medium: &mut M,
     whole: usize,
     present: usize,
@@ -125,10 +127,11 @@ pub fn append_restart<M: Medium>(
     ensures bytes { OnErr result (M.bytes medium.new ≡ M.bytes medium.old) }
     ensures failed { OnErr result (M.failed medium.new ≡ M.failed medium.old) }
     ensures foretold { OnErr result (M.foretold medium.new ≡ M.foretold medium.old) }
+    ensures line { IfOk result (λ added. line.new.items ≡ text (Restart epoch)) }
 {
-    let line = write_record(alloc, &Record::Restart { epoch })?;
+    put_record(line, &Record::Restart { epoch })?;
     medium.reserve(line.len())?;
-    Ok(cut_and_append(medium, whole, present, &line))
+    Ok(cut_and_append(medium, whole, present, line))
 }
 
 /// Whether a record stands behind so many, and it is no restart: whether the record is there that

@@ -2,7 +2,7 @@
 
 ghost use Rattle.std.specs.Prelude.{◌≡◌, ◌≤◌, ◌++◌, List, ℕ, length, take, Option, IfOk, OnOk, OnErr};
 ghost use Rattle.kept_records.specs.declared.medium.Mishap.{Mishap};
-ghost use Rattle.kept_records.specs.Medium.{IsCutShort, Counts, CountsRead, AppendFate, CutFate, ReadFate};
+ghost use Rattle.kept_records.specs.Medium.{IsCutShort, Counts, CountsRead, AppendFate, CutFate, ReadFate, last_bytes};
 
 use std::alloc::{AllocError, Global};
 use thiserror::Error;
@@ -36,6 +36,15 @@ pub enum Mishap {
     Read,
 }
 
+/// The end of what a medium holds.
+#[derive(Drop)]
+pub struct End {
+    /// The last bytes.
+    pub bytes: Vec<u8>,
+    /// How many bytes the medium holds in all.
+    pub length: usize,
+}
+
 /// Bytes that outlast a stop of the site that keeps its records in them.
 ///
 /// A medium is seen by four things: its bytes; its room, which is how many bytes can be appended
@@ -65,6 +74,22 @@ pub trait Medium {
         ensures room { room self.old ≤ room self.new }
         ensures failed { CountsRead result (failed self.old) (failed self.new) }
         ensures foretold { ReadFate (foretold self.old) result (foretold self.new) };
+
+    /// The last `most` bytes, or all where there are no more, and how many bytes there are in all.
+    /// They stay as they are. The errors are a fault of the device and want of memory; a mishap for
+    /// reads strikes this call as it does `read_all`. Costs memory for the bytes that it answers
+    /// where a medium has a body of its own, as both media in memory do; else for all its bytes.
+    fn read_end(&mut self, alloc: Global, most: usize) -> Result<End, MediumFault>
+        ensures read { IfOk result (λ end. end.bytes.items ≡ last_bytes most (bytes self.old)) }
+        ensures length { IfOk result (λ end. end.length ≡ length (bytes self.old)) }
+        ensures bytes { bytes self.new ≡ bytes self.old }
+        ensures room { room self.old ≤ room self.new }
+        ensures failed { CountsRead result (failed self.old) (failed self.new) }
+        ensures foretold { ReadFate (foretold self.old) result (foretold self.new) }
+    {
+        let all = self.read_all(alloc)?;
+        end_of(alloc, &all, most).map_err(|_| MediumFault::NoMemory)
+    }
 
     /// Gets room for an append of so many bytes. The bytes stay as they are. The error is want of
     /// memory; it leaves the room that was there.
@@ -100,4 +125,16 @@ pub trait Medium {
     /// device whose count is at the greatest `u64` fails no more.
     fn failures(&self) -> u64
         ensures value { result ≡ failed self.now };
+}
+
+/// A copy of the last `most` bytes, or of all where there are no more.
+pub(crate) fn end_of(alloc: Global, all: &[u8], most: usize) -> Result<End, AllocError>
+    ensures read { IfOk result (λ end. end.bytes.items ≡ last_bytes most all.now) }
+    ensures length { IfOk result (λ end. end.length ≡ length all.now) }
+{
+    let start = all.len().saturating_sub(most);
+    Ok(End {
+        bytes: Vec::from_slice(alloc, &all[start..])?,
+        length: all.len(),
+    })
 }

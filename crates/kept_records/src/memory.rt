@@ -3,7 +3,7 @@
 ghost use Rattle.std.specs.Prelude.{◌≡◌, Some};
 ghost use Rattle.kept_records.specs.declared.medium.Mishap.TheVariants.{Never};
 
-use crate::medium::{Device, Medium, MediumFault};
+use crate::medium::{Device, End, Medium, MediumFault, end_of};
 use std::alloc::{AllocError, Global};
 use std::marker::Model;
 
@@ -44,6 +44,10 @@ impl Medium for MemoryMedium {
 
     fn read_all(&mut self, alloc: Global) -> Result<Vec<u8>, MediumFault> {
         Vec::from_slice(alloc, &self.held).map_err(|_| MediumFault::NoMemory)
+    }
+
+    fn read_end(&mut self, alloc: Global, most: usize) -> Result<End, MediumFault> {
+        end_of(alloc, &self.held, most).map_err(|_| MediumFault::NoMemory)
     }
 
     fn reserve(&mut self, additional: usize) -> Result<(), AllocError> {

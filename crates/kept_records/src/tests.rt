@@ -438,7 +438,7 @@ fn restarted<M: Medium>(alloc: Global, medium: &mut M, whole: usize, epoch: u32)
         return None;
     }
     Some(
-        append_restart(alloc, medium, whole, present, epoch)
+        append_restart(&mut Vec::new(alloc), medium, whole, present, epoch)
             .ok()?
             .is_ok(),
     )

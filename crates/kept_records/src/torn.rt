@@ -3,7 +3,7 @@
 ghost use Rattle.std.specs.Prelude.{◌≡◌, ◌<◌, ◌-◌, ◌+◌, ◌^◌};
 ghost use Rattle.kept_records.specs.declared.medium.Mishap.TheVariants.{Never};
 
-use crate::medium::{Device, Medium, MediumFault, Mishap};
+use crate::medium::{Device, End, Medium, MediumFault, Mishap, end_of};
 use std::alloc::{AllocError, Global};
 use std::marker::Model;
 
@@ -84,6 +84,16 @@ impl Medium for TornMedium {
             return Err(MediumFault::Device);
         }
         Vec::from_slice(alloc, &self.held).map_err(|_| MediumFault::NoMemory)
+    }
+
+    fn read_end(&mut self, alloc: Global, most: usize) -> Result<End, MediumFault> {
+        if let Mishap::Read = self.mishap
+            && self.failures < u64::MAX
+        {
+            self.strike();
+            return Err(MediumFault::Device);
+        }
+        end_of(alloc, &self.held, most).map_err(|_| MediumFault::NoMemory)
     }
 
     fn reserve(&mut self, additional: usize) -> Result<(), AllocError> {
