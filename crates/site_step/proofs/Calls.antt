@@ -33,32 +33,34 @@ use Rattle.kept_records.specs.Medium.{AppendFate}
 use Rattle.kept_records.specs.Keeping.{Appends}
 use Rattle.kept_records.specs.Stands.{Lawful}
 use Rattle.kept_state.specs.Keeps.{record_at}
-use Rattle.kept_state.specs.Doubt.{found_of}
+use Rattle.kept_records.specs.ReadingBack.{PartsAt, StandBehind}
 use Rattle.kept_state.proofs.Written.{written_in_range}
 use Rattle.kept_state.proofs.Lasting.{run_stays_lawful}
 use Rattle.log_replay.specs.declared.standing.Standing.{Standing}
 use Rattle.log_replay.specs.Standing.{IsStandingFor}
 use Rattle.site_step.specs.declared.accounts.Accounts.{Accounts}
+use Rattle.site_step.specs.declared.extent.Extent.{Extent}
 use Rattle.site_step.specs.Site.{SiteValue, base_of, here, entry_of, HoldsLog}
-use Rattle.site_step.specs.State.{StandsOn, IsSound, CanSettle, CanCarry, is_carried, settled, with_rights, readied}
+use Rattle.site_step.specs.State.{StandsOn, IsSound, CanSettle, CanCarry, is_carried, settled, with_rights, readied, extended}
 use Rattle.site_step.proofs.Reading.{Reads, reads}
 use Rattle.kept_records.specs.declared.record.Record.TheVariants as records
 use Rattle.kept_state.proofs.Staying.{run_lawful_more}
 use Rattle.log_replay.specs.Standing.{HasPlaces, CanTakeIn, TakesIn}
 use Rattle.log_replay.proofs.StandingLaws.{has_places}
-use Rattle.site_step.specs.Resuming.{IsLawfulLog, FailsOver, FullOver, StandsOver}
+use Rattle.site_step.specs.Resuming.{IsLawfulLog, last_by, FailsOver, FullOver, StandsOver}
 use Rattle.site_step.proofs.Matching.{stands-journal_of, escrows_at-journal_of}
 use Rattle.site_step.proofs.Settling.{carried_no_restart}
 use Rattle.site_step.proofs.Standing.{next_is, next_is_closed, room_by, opened_by, few_by, enough_by, end_opened, escrows_are, stands_open, stands_begin, stands_grant, can_settle, stands_settled, can_carry, stands_carried}
 use Rattle.site_step.proofs.Ends.{Ends, ends_refused, ends_answered, few_records}
 use Rattle.site_step.proofs.Writes.{count_is, is_there, ends_wrote, ends_unsure}
-use Rattle.site_step.proofs.Restarts.{ends_failed, ends_full, ends_restarted}
+use Rattle.site_step.proofs.Extents.{reach_seam}
+use Rattle.site_step.proofs.Restarts.{ends_failed, ends_full, few_behind, ends_restarted}
 
 -- one entry more, in a history that was made larger before
 pub grew : {new mid old : List Entry} {e : Entry} → new ≡ mid ++ e ∷ [] → mid ≡ old → reverse new ≡ e ∷ reverse old
 grew {mid = mid} {e = e} pushed same = ap reverse pushed ∙ reverse-append mid (e ∷ []) ∙ ap (λ (h : List Entry). e ∷ reverse h) same
 
-module _ {v w : SiteValue} {up : Bool} {count : ℕ} {a : Accounts} (was : IsSound v up count a) (is : v ≡ w) where
+module _ {v w : SiteValue} {up : Bool} {extent : Extent} {a : Accounts} (was : IsSound v up extent a) (is : v ≡ w) where
   -- what is known of the site as its callers see it, told of the site as it is kept
   none_of : (c : Command) → first (refusals (here w) c) ≡ None → first (refusals (here v) c) ≡ None
   none_of c none = subst (λ (x : SiteValue). first (refusals (here x) c) ≡ None) (sym is) none
@@ -67,7 +69,7 @@ module _ {v w : SiteValue} {up : Bool} {count : ℕ} {a : Accounts} (was : IsSou
   told_of c told = subst (λ (x : SiteValue). writes (here x) c ≡ true) (sym is) told
 
   -- what a call leaves, told of the site as its callers see it
-  returned : (c : Command) (r : Reply) (x : SiteValue) (u : Bool) (n : ℕ) (b : Accounts) → Ends v c r x u n b → Ends w c r x u n b
+  returned : (c : Command) (r : Reply) (x : SiteValue) (u : Bool) (n : Extent) (b : Accounts) → Ends v c r x u n b → Ends w c r x u n b
   returned c r x u n b ends = subst (λ (y : SiteValue). Ends y c r x u n b) is ends
 
   abbrev After : List Entry → SiteValue
@@ -79,10 +81,10 @@ module _ {v w : SiteValue} {up : Bool} {count : ℕ} {a : Accounts} (was : IsSou
   -- ---- what is read
 
   pub stands_now : is_up (base_of w) w.history ≡ true → Reads w.schema w.site.0 (base_of w) w.history a
-  stands_now there = reads w up count a (subst (λ (x : SiteValue). IsSound x up count a) is was) there
+  stands_now there = reads w up extent a (subst (λ (x : SiteValue). IsSound x up extent a) is was) there
 
   read : is_up (base_of v) v.history ≡ true → Reads v.schema v.site.0 (base_of v) v.history a
-  read there = reads v up count a was there
+  read there = reads v up extent a was there
 
   lawful : Lawful v.schema v.site.0 was.records
   lawful = run_stays_lawful v.schema v.site.0 (base_of v) v.based was.ground.is_base was.ground.based_on was.kept v.history was.records was.run was.keeps
@@ -140,10 +142,10 @@ module _ {v w : SiteValue} {up : Bool} {count : ℕ} {a : Accounts} (was : IsSou
   -- ---- a refusal
 
   pub refuses : (c : Command) (x : Refusal) {h : List Entry} → first (refusals (here w) c) ≡ Some x → h ≡ entry_of v c (Refused x) ∷ v.history
-      → Ends w c (Refused x) (After h) up count a
+      → Ends w c (Refused x) (After h) up extent a
   refuses c x {h = h} some past =
-      returned c (Refused x) (After h) up count a
-      (ends_refused v up count a was c x h past (subst (λ (y : SiteValue). first (refusals (here y) c) ≡ Some x) (sym is) some))
+      returned c (Refused x) (After h) up extent a
+      (ends_refused v up extent a was c x h past (subst (λ (y : SiteValue). first (refusals (here y) c) ≡ Some x) (sym is) some))
 
   -- ---- an answer that writes no record
 
@@ -152,14 +154,14 @@ module _ {v w : SiteValue} {up : Bool} {count : ℕ} {a : Accounts} (was : IsSou
       can_settle v.schema v.site.0 (base_of v) v.history a was.run (read (up_there (here v) c (carried_no_restart c plain) (none_of c none))) c (none_of c none)
 
   pub answers : (c : Command) (r : Reply) {h : List Entry} {b : Accounts} → first (refusals (here w) c) ≡ None → is_carried c ≡ true → writes (here w) c ≡ false → r ≡ answer (here w) c
-      → b ≡ settled a c → h ≡ entry_of v c r ∷ v.history → Ends w c r (After h) up count b
+      → b ≡ settled a c → h ≡ entry_of v c r ∷ v.history → Ends w c r (After h) up extent b
   answers c r {h = h} {b = b} none plain silent owed did past =
       let n = carried_no_restart c plain in
       let there = up_there (here v) c n (none_of c none) in
       let quiet = subst (λ (x : SiteValue). writes (here x) c ≡ false) (sym is) silent in
-      returned c r (After h) up count b
-      (subst (λ (x : Accounts). Ends v c r (After h) up count x) (sym did)
-      (ends_answered v up count a was c (settled a c) r h (subst (λ (x : SiteValue). r ≡ answer (here x) c) (sym is) owed) past n (none_of c none) quiet
+      returned c r (After h) up extent b
+      (subst (λ (x : Accounts). Ends v c r (After h) up extent x) (sym did)
+      (ends_answered v up extent a was c (settled a c) r h (subst (λ (x : SiteValue). r ≡ answer (here x) c) (sym is) owed) past n (none_of c none) quiet
       (stands_settled v.schema v.site.0 (base_of v) v.history a was.run (read there) was.records (was.stands there) v.site c plain quiet (none_of c none))))
 
   -- ---- an answer whose record is written
@@ -180,7 +182,7 @@ module _ {v w : SiteValue} {up : Bool} {count : ℕ} {a : Accounts} (was : IsSou
     record_fits kept_is = subst (λ (r : Record). IsRecord r) (sym kept_is) (subst (λ (x : SiteValue). IsRecord (record_at (here x) c)) is fits)
 
     there_now : is_up (base_of v) v.history ≡ true
-    there_now = is_there v up count a was c unrefused writing fits
+    there_now = is_there v up extent a was c unrefused writing fits
 
     pub can_write : {kept : Record} → kept ≡ record_at (here w) c → CanCarry v.schema a kept
     can_write kept_is =
@@ -188,30 +190,32 @@ module _ {v w : SiteValue} {up : Bool} {count : ℕ} {a : Accounts} (was : IsSou
         subst (λ (r : Record). CanCarry v.schema a r) (sym (kept_is ∙ sym (ap (λ (x : SiteValue). record_at (here x) c) is)))
         (can_carry v.schema v.site.0 (base_of v) v.history a was.run (read there_now) was.records (was.stands there_now) lawful c unrefused writing may)
 
-    pub few_written : count ≤ length v.based + length v.history
-    few_written = omega (arith, count_is v up count a was c unrefused writing fits, few_records v up count a was)
+    pub few_written : extent.count ≤ length v.based + length v.history
+    few_written = omega (arith, count_is v up extent a was c unrefused writing fits, few_records v up extent a was)
 
-    pub wrote : (r : Reply) (kept : Record) {h : List Entry} {b : Accounts} {bytes : List ℕ} {failed : ℕ} {left : Option Mishap} → kept ≡ record_at (here w) c → r ≡ answer (here w) c
+    pub wrote : (r : Reply) (kept : Record) {h : List Entry} {b : Accounts} {bytes : List ℕ} {failed : ℕ} {left : Option Mishap} {size : ℕ} {next : Extent} → kept ≡ record_at (here w) c → r ≡ answer (here w) c
         → TakesIn v.schema (readied a kept).standing kept true b.standing → b.journal ≡ (readied a kept).journal → b.last ≡ a.last
         → Appends {T = Unit {0}} {E = Device} (Ok tt) v.bytes (text kept) bytes v.failed failed → AppendFate {E = Device} v.foretold v.bytes (text kept) (Ok tt) bytes left
-        → h ≡ entry_of v c r ∷ v.history → Ends w c r (Then h bytes failed left v.doubt) up (count + 1) b
-    wrote r kept {h = h} {b = b} {bytes = bytes} {failed = failed} {left = left} kept_is owed took open_ last_is added fate past =
+        → h ≡ entry_of v c r ∷ v.history → size ≡ length (text kept) → next ≡ extended extent size → Ends w c r (Then h bytes failed left v.doubt) up next b
+    wrote r kept {h = h} {b = b} {bytes = bytes} {failed = failed} {left = left} {size = size} {next = next} kept_is owed took open_ last_is added fate past long more =
         let same : kept ≡ record_at (here v) c = subst (λ (x : SiteValue). kept ≡ record_at (here x) c) (sym is) kept_is in
         let line = subst (λ (x : Record). Appends {T = Unit {0}} {E = Device} (Ok tt) v.bytes (text x) bytes v.failed failed) same added in
-        returned c r (Then h bytes failed left v.doubt) up (count + 1) b
-        (ends_wrote v up count a was c unrefused writing fits b bytes failed left r h (subst (λ (x : SiteValue). r ≡ answer (here x) c) (sym is) owed) past
+        let size_is : size ≡ length (text (record_at (here v) c)) = long ∙ ap (λ (x : Record). length (text x)) same in
+        returned c r (Then h bytes failed left v.doubt) up next b
+        (subst (λ (e : Extent). Ends v c r (Then h bytes failed left v.doubt) up e b) (sym (more ∙ ap (extended extent) size_is))
+        (ends_wrote v up extent a was c unrefused writing fits b bytes failed left r h (subst (λ (x : SiteValue). r ≡ answer (here x) c) (sym is) owed) past
         (stands_carried v.schema v.site.0 (base_of v) v.history a was.run (read there_now) was.records (was.stands there_now) lawful v.site c unrefused writing b
         (subst (λ (x : Record). TakesIn v.schema (readied a x).standing x true b.standing) same took) (subst (λ (x : Record). b.journal ≡ (readied a x).journal) same open_) last_is) line.0 line.1
-        (subst (λ (x : Record). AppendFate {E = Device} v.foretold v.bytes (text x) (Ok tt) bytes left) same fate))
+        (subst (λ (x : Record). AppendFate {E = Device} v.foretold v.bytes (text x) (Ok tt) bytes left) same fate)))
 
     pub unsure : (kept : Record) (device : Device) {h : List Entry} {bytes : List ℕ} {failed : ℕ} {left : Option Mishap} → kept ≡ record_at (here w) c
         → Appends {T = Unit {0}} (Err device) v.bytes (text kept) bytes v.failed failed → AppendFate v.foretold v.bytes (text kept) (Err device) bytes left
-        → h ≡ entry_of v c Unsure ∷ v.history → Ends w c Unsure (Then h bytes failed left (Some count)) false count a
+        → h ≡ entry_of v c Unsure ∷ v.history → Ends w c Unsure (Then h bytes failed left (Some extent.count)) false extent a
     unsure kept device {h = h} {bytes = bytes} {failed = failed} {left = left} kept_is added fate past =
         let same : kept ≡ record_at (here v) c = subst (λ (x : SiteValue). kept ≡ record_at (here x) c) (sym is) kept_is in
         let line = subst (λ (x : Record). Appends {T = Unit {0}} (Err device) v.bytes (text x) bytes v.failed failed) same added in
-        returned c Unsure (Then h bytes failed left (Some count)) false count a
-        (ends_unsure v up count a was c unrefused writing fits a bytes failed left device Unsure h refl past line.0 line.1
+        returned c Unsure (Then h bytes failed left (Some extent.count)) false extent a
+        (ends_unsure v up extent a was c unrefused writing fits a bytes failed left device Unsure h refl past line.0 line.1
         (subst (λ (x : Record). AppendFate v.foretold v.bytes (text x) (Err device) bytes left) same fate))
 
   -- ---- a begin
@@ -230,14 +234,14 @@ module _ {v w : SiteValue} {up : Bool} {count : ℕ} {a : Accounts} (was : IsSou
     begin_has_room = room_by v.schema v.site.0 (base_of v) v.history a was.run (read stood) (none_of Begin none)
 
     pub begins : {h : List Entry} {j : List Row} → j ≡ a.journal ++ (t, []) ∷ [] → h ≡ entry_of v Begin (Begun t) ∷ v.history
-        → Ends w Begin (Begun t) (After h) up count (record a { journal = j; last = a.last + 1 })
+        → Ends w Begin (Begun t) (After h) up extent (record a { journal = j; last = a.last + 1 })
     begins {h = h} {j = j} row past =
         let begun : ◌≡◌ {A = Reply} (Begun t) (answer (here v) Begin) = ap (λ (x : TxnId). Begun x) (next_is v.schema v.site.0 (base_of v) v.history a was.run (read stood)) in
         let more : List Row → Accounts = λ j. record a { journal = j; last = a.last + 1 } in
         let b = more (a.journal ++ (t, []) ∷ []) in
-        returned Begin (Begun t) (After h) up count (more j)
-        (subst (λ (x : List Row). Ends v Begin (Begun t) (After h) up count (more x)) (sym row)
-        (ends_answered v up count a was Begin b (Begun t) h begun past refl (none_of Begin none) refl
+        returned Begin (Begun t) (After h) up extent (more j)
+        (subst (λ (x : List Row). Ends v Begin (Begun t) (After h) up extent (more x)) (sym row)
+        (ends_answered v up extent a was Begin b (Begun t) h begun past refl (none_of Begin none) refl
         (subst (λ (r : Reply). StandsOn v.schema v.site.0 (base_of v) (entry_of v Begin r ∷ v.history) was.records b) begun
         (stands_begin v.schema v.site.0 (base_of v) v.history a was.run (read stood) was.records (was.stands stood) v.site))))
 
@@ -261,13 +265,13 @@ module _ {v w : SiteValue} {up : Bool} {count : ℕ} {a : Accounts} (was : IsSou
     grant_has_rights = enough_by v.schema v.site.0 (base_of v) v.history a was.run (read held) txn e (none_of ask none)
 
     pub grants : {h : List Entry} {rows : List FieldRights} {j : List Row} → rows ≡ by_escrow taken a.standing.rights e → j ≡ added txn e a.journal → h ≡ entry_of v ask Granted ∷ v.history
-        → Ends w ask Granted (After h) up count (record (with_rights rows a) { journal = j })
+        → Ends w ask Granted (After h) up extent (record (with_rights rows a) { journal = j })
     grants {h = h} {rows = rows} {j = j} took row past =
         let more : List FieldRights → List Row → Accounts = λ x y. record (with_rights x a) { journal = y } in
-        returned ask Granted (After h) up count (more rows j)
-        (subst (λ (x : List FieldRights). Ends v ask Granted (After h) up count (more x j)) (sym took)
-        (subst (λ (y : List Row). Ends v ask Granted (After h) up count (more (by_escrow taken a.standing.rights e) y)) (sym row)
-        (ends_answered v up count a was ask (more (by_escrow taken a.standing.rights e) (added txn e a.journal)) Granted h refl past refl (none_of ask none) refl
+        returned ask Granted (After h) up extent (more rows j)
+        (subst (λ (x : List FieldRights). Ends v ask Granted (After h) up extent (more x j)) (sym took)
+        (subst (λ (y : List Row). Ends v ask Granted (After h) up extent (more (by_escrow taken a.standing.rights e) y)) (sym row)
+        (ends_answered v up extent a was ask (more (by_escrow taken a.standing.rights e) (added txn e a.journal)) Granted h refl past refl (none_of ask none) refl
         (stands_grant v.schema v.site.0 (base_of v) v.history a was.run (read held) was.records (was.stands held) v.site txn e (none_of ask none)))))
 
   -- ---- a commit
@@ -276,8 +280,8 @@ module _ {v w : SiteValue} {up : Bool} {count : ℕ} {a : Accounts} (was : IsSou
     there_ : Reads w.schema w.site.0 (base_of w) w.history a
     there_ = stands_now (up_there (here w) (Commit txn) refl none)
 
-    run_now : IsSound w up count a
-    run_now = subst (λ (x : SiteValue). IsSound x up count a) is was
+    run_now : IsSound w up extent a
+    run_now = subst (λ (x : SiteValue). IsSound x up extent a) is was
 
     opened : (is_begun txn (here w).effects ≡ true) × (is_open txn (here w).effects ≡ true)
     opened = end_opened w.schema w.site.0 (base_of w) w.history a run_now.run there_ Committed txn none
@@ -304,17 +308,20 @@ module _ {v w : SiteValue} {up : Bool} {count : ℕ} {a : Accounts} (was : IsSou
       }
 
   pub fails : {h : List Entry} {bytes : List ℕ} {failed : ℕ} {left : Option Mishap} → FailsOver was.records was.rest v.bytes bytes v.foretold left v.failed failed
-      → h ≡ entry_of v Restart StillDown ∷ v.history → Ends w Restart StillDown (Then h bytes failed left v.doubt) false count a
+      → h ≡ entry_of v Restart StillDown ∷ v.history → Ends w Restart StillDown (Then h bytes failed left v.doubt) false extent a
   fails {h = h} {bytes = bytes} {failed = failed} {left = left} did past =
-      returned Restart StillDown (Then h bytes failed left v.doubt) false count a (ends_failed v up count a was a bytes failed left h past did)
+      returned Restart StillDown (Then h bytes failed left v.doubt) false extent a (ends_failed v up extent a was a bytes failed left h past did)
 
   pub fills : {h : List Entry} {bytes : List ℕ} {failed : ℕ} {left : Option Mishap} → FullOver was.records v.bytes bytes v.foretold left v.failed failed
-      → h ≡ entry_of v Restart (Refused NumbersFull) ∷ v.history → Ends w Restart (Refused NumbersFull) (Then h bytes failed left v.doubt) up count a
+      → h ≡ entry_of v Restart (Refused NumbersFull) ∷ v.history → Ends w Restart (Refused NumbersFull) (Then h bytes failed left v.doubt) up extent a
   fills {h = h} {bytes = bytes} {failed = failed} {left = left} did past =
-      returned Restart (Refused NumbersFull) (Then h bytes failed left v.doubt) up count a (ends_full v up count a was bytes failed left h past did)
+      returned Restart (Refused NumbersFull) (Then h bytes failed left v.doubt) up extent a (ends_full v up extent a was bytes failed left h past did)
 
-  pub can_restart : (standing : Standing) (epoch : ℕ) {found : List Record} {rest bytes : List ℕ} {failed : ℕ} {left : Option Mishap}
-      → StandsOver v.schema v.site.0 was.records found epoch rest bytes v.foretold left v.failed failed × IsStandingFor v.schema v.site.0 was.records standing
+  pub seam : PartsAt v.bytes extent.length
+  seam = reach_seam extent v.bytes was.records was.rest was.log was.reaches
+
+  pub can_restart : (standing : Standing) (epoch : ℕ) {size : ℕ} {rest bytes : List ℕ} {failed : ℕ} {left : Option Mishap} {behind : List Record}
+      → StandsOver was.records epoch size rest bytes v.foretold left v.failed failed × IsStandingFor v.schema v.site.0 was.records standing × StandBehind v.bytes extent.length behind
       → HasPlaces v.schema standing.rights standing.ledger × CanTakeIn v.schema standing (records.Restart epoch) × IsRecord (records.Restart epoch)
   can_restart standing epoch did = (
     has_places v.schema v.site.0 was.records standing.rights standing.ledger standing.epoch did.1.for_,
@@ -322,11 +329,14 @@ module _ {v w : SiteValue} {up : Bool} {count : ℕ} {a : Accounts} (was : IsSou
     (omega (arith, did.0.epoch_is), omega (arith, did.0.epoch_is, did.0.some)),
   )
 
-  pub restarts : (standing : Standing) (found : List Record) (epoch : ℕ) (last : Last) {h : List Entry} {b : Accounts} {size : ℕ} {bytes : List ℕ} {failed : ℕ} {left : Option Mishap}
-      → StandsOver v.schema v.site.0 was.records found epoch was.rest bytes v.foretold left v.failed failed × IsStandingFor v.schema v.site.0 was.records standing
-      → TakesIn v.schema standing (records.Restart epoch) true b.standing → b.journal ≡ [] → b.last ≡ 0 → last ≡ found_of v.doubt found → size ≡ length found
-      → h ≡ entry_of v Restart (Restarted epoch last) ∷ v.history → Ends w Restart (Restarted epoch last) (Then h bytes failed left None) true (size + 1) b
-  restarts standing found epoch last {h = h} {b = b} {size = size} {bytes = bytes} {failed = failed} {left = left} did took open_ last_is found_is counted past =
+  pub few_more : (behind : List Record) → StandBehind v.bytes extent.length behind → extent.count + length behind ≤ length v.based + length v.history
+  few_more behind are = omega (arith, few_behind v up extent a was behind are, few_records v up extent a was)
+
+  pub restarts : (standing : Standing) (behind : List Record) (epoch size : ℕ) (last : Last) {h : List Entry} {b : Accounts} {more : ℕ} {bytes : List ℕ} {failed : ℕ} {left : Option Mishap}
+      → StandsOver was.records epoch size was.rest bytes v.foretold left v.failed failed × IsStandingFor v.schema v.site.0 was.records standing × StandBehind v.bytes extent.length behind
+      → TakesIn v.schema standing (records.Restart epoch) true b.standing → b.journal ≡ [] → b.last ≡ 0 → last ≡ last_by v.doubt behind → more ≡ length behind
+      → h ≡ entry_of v Restart (Restarted epoch last) ∷ v.history → Ends w Restart (Restarted epoch last) (Then h bytes failed left None) true (record { count = extent.count + more + 1; length = size }) b
+  restarts standing behind epoch size last {h = h} {b = b} {more = more} {bytes = bytes} {failed = failed} {left = left} did took open_ last_is last_by_ counted past =
       let r : Reply = Restarted epoch last in
-      returned Restart r (Then h bytes failed left None) true (size + 1) b
-      (ends_restarted v up count a was standing found epoch b bytes failed left r size h did.1 did.0 took open_ last_is (ap (λ (l : Last). Restarted epoch l) found_is) counted past)
+      returned Restart r (Then h bytes failed left None) true (record { count = extent.count + more + 1; length = size }) b
+      (ends_restarted v up extent a was standing behind epoch size b bytes failed left r more h did.1 did.0 did.2 took open_ last_is (ap (λ (l : Last). Restarted epoch l) last_by_) counted past)

@@ -19,14 +19,15 @@ use Rattle.kept_state.specs.Doubt.{IsDoubt, found_of}
 use Rattle.kept_state.specs.Luck.{doubt_after, record_length}
 use Rattle.kept_state.proofs.Adding.{adds_answer, keeps_length}
 use Rattle.site_step.specs.declared.accounts.Accounts.{Accounts}
+use Rattle.site_step.specs.declared.extent.Extent.{Extent}
 use Rattle.site_step.specs.Site.{SiteValue, base_of, here, entry_of, Finds, Applies}
 use Rattle.site_step.specs.State.{StandsOn, IsSound}
 use Rattle.site_step.proofs.Settling.{answer_settles, refused_no_restart, refuses_over, noted_none, refusal_fits, answer_fits, refusal_owed, answer_owed, refusal_under, answer_under, answer_writes, line_none}
 use Rattle.site_step.proofs.Standing.{stands_refused}
 
 -- a site is sound after an entry, which is what the call says
-pub record Ends (v : SiteValue) (c : Command) (r : Reply) (w : SiteValue) (up : Bool) (count : ℕ) (a : Accounts) : Type 0 where
-  pub sound : IsSound w up count a
+pub record Ends (v : SiteValue) (c : Command) (r : Reply) (w : SiteValue) (up : Bool) (extent : Extent) (a : Accounts) : Type 0 where
+  pub sound : IsSound w up extent a
   pub applies : Applies v c r w
 
 -- ---- what a restart would find
@@ -64,7 +65,7 @@ pub none_in_doubt : (kept : Bool) (o : List Entry) (rs : List Record) (doubt : O
 none_in_doubt kept o rs None none is = refl
 none_in_doubt kept o rs (Some n) none is = absurd (omega (arith, none, is.0))
 
-module _ (v : SiteValue) (up : Bool) (count : ℕ) (a : Accounts) (was : IsSound v up count a) where
+module _ (v : SiteValue) (up : Bool) (extent : Extent) (a : Accounts) (was : IsSound v up extent a) where
   abbrev base : Base
   base = base_of v
 
@@ -76,7 +77,7 @@ module _ (v : SiteValue) (up : Bool) (count : ℕ) (a : Accounts) (was : IsSound
 
   -- ---- a refusal
 
-  refused : (c : Command) (x : Refusal) → first (refusals at c) ≡ Some x → Ends v c (Refused x) (record v { history = entry_of v c (Refused x) ∷ v.history }) up count a
+  refused : (c : Command) (x : Refusal) → first (refusals at c) ≡ Some x → Ends v c (Refused x) (record v { history = entry_of v c (Refused x) ∷ v.history }) up extent a
   refused c x some =
       let n = refused_no_restart at c x some in
       record {
@@ -90,6 +91,8 @@ module _ (v : SiteValue) (up : Bool) (count : ℕ) (a : Accounts) (was : IsSound
           keeps = (was.records, false, was.keeps, tt, sym (append-nil was.records));
           up_is = was.up_is;
           clean = was.clean;
+          reaches = was.reaches;
+          place = was.place;
           in_doubt = quiet_doubt was.kept v.history (entry_of v c (Refused x)) was.records v.doubt (omega arith) was.in_doubt;
           stands = λ u. stands_refused v.schema v.site.0 base v.history was.records a (was.stands u) v.site c x;
         };
@@ -116,8 +119,8 @@ module _ (v : SiteValue) (up : Bool) (count : ℕ) (a : Accounts) (was : IsSound
         };
       }
 
-  pub ends_refused : (c : Command) (x : Refusal) (h : List Entry) → h ≡ entry_of v c (Refused x) ∷ v.history → first (refusals at c) ≡ Some x → Ends v c (Refused x) (record v { history = h }) up count a
-  ends_refused c x h past some = subst (λ (o : List Entry). Ends v c (Refused x) (record v { history = o }) up count a) (sym past) (refused c x some)
+  pub ends_refused : (c : Command) (x : Refusal) (h : List Entry) → h ≡ entry_of v c (Refused x) ∷ v.history → first (refusals at c) ≡ Some x → Ends v c (Refused x) (record v { history = h }) up extent a
+  ends_refused c x h past some = subst (λ (o : List Entry). Ends v c (Refused x) (record v { history = o }) up extent a) (sym past) (refused c x some)
 
   -- ---- an answer that writes no record
 
@@ -125,7 +128,7 @@ module _ (v : SiteValue) (up : Bool) (count : ℕ) (a : Accounts) (was : IsSound
   After c = entry_of v c (answer at c) ∷ v.history
 
   answered : (c : Command) (b : Accounts) → is_restart c ≡ false → first (refusals at c) ≡ None → writes at c ≡ false → StandsOn v.schema v.site.0 base (After c) was.records b
-      → Ends v c (answer at c) (record v { history = After c }) up count b
+      → Ends v c (answer at c) (record v { history = After c }) up extent b
   answered c b n none silent stands =
       let settles = answer_settles at c n in
       let empty : (rs : List Record) → rs ≡ rs ++ adds at c (answer at c) false rs =
@@ -147,6 +150,8 @@ module _ (v : SiteValue) (up : Bool) (count : ℕ) (a : Accounts) (was : IsSound
           );
           up_is = was.up_is ∙ sym (settles.up (is_up base v.history));
           clean = was.clean;
+          reaches = was.reaches;
+          place = was.place;
           in_doubt = quiet_doubt was.kept v.history (entry_of v c (answer at c)) was.records v.doubt (settles.counts (count_since is_unsure v.history)) was.in_doubt;
           stands = λ u. stands;
         };
@@ -177,8 +182,8 @@ module _ (v : SiteValue) (up : Bool) (count : ℕ) (a : Accounts) (was : IsSound
       }
 
   pub ends_answered : (c : Command) (b : Accounts) (r : Reply) (h : List Entry) → r ≡ answer at c → h ≡ entry_of v c r ∷ v.history → is_restart c ≡ false → first (refusals at c) ≡ None
-      → writes at c ≡ false → StandsOn v.schema v.site.0 base (After c) was.records b → Ends v c r (record v { history = h }) up count b
+      → writes at c ≡ false → StandsOn v.schema v.site.0 base (After c) was.records b → Ends v c r (record v { history = h }) up extent b
   ends_answered c b r h owed past n none silent stands =
       let after : h ≡ After c = past ∙ ap (λ (x : Reply). entry_of v c x ∷ v.history) owed in
-      subst (λ (x : Reply). Ends v c x (record v { history = h }) up count b) (sym owed)
-      (subst (λ (o : List Entry). Ends v c (answer at c) (record v { history = o }) up count b) (sym after) (answered c b n none silent stands))
+      subst (λ (x : Reply). Ends v c x (record v { history = h }) up extent b) (sym owed)
+      (subst (λ (o : List Entry). Ends v c (answer at c) (record v { history = o }) up extent b) (sym after) (answered c b n none silent stands))

@@ -3,6 +3,7 @@ pub mod Matching
 pub mod Standing
 pub mod Settling
 pub mod Ends
+pub mod Extents
 pub mod Writes
 pub mod Resumes
 pub mod Restarts

@@ -22,6 +22,7 @@ use Rattle.site_step.specs.State.{StandsOn, IsSound}
 use Rattle.site_step.specs.Opening.{BeginsWith, IsFound}
 use Rattle.site_step.proofs.Resumes.{no_breach}
 use Rattle.site_step.proofs.Ends.{finds_log}
+use Rattle.site_step.proofs.Extents.{reach_all}
 
 -- bytes that are none hold no record
 pub no_bytes : (bytes : List ℕ) (rs : List Record) (rest : List ℕ) → IsLog bytes rs rest → bytes ≡ [] → rs ≡ []
@@ -66,8 +67,8 @@ module _ (schema : SchemaValue) (site : SiteNo) (found : Found) {held bytes : Li
   rest_none : bytes ≡ [] → is.rest ≡ []
   rest_none none = (same_log [] bs [] is.rest [] (subst (λ (b : List ℕ). IsLog b bs is.rest) none log) (record { parts = refl; each = tt; no_lf = refl })).1
 
-  clean_by : (empty : Bool) → (empty ≡ true → bytes ≡ []) → empty ≡ true → (is.rest ≡ []) × (0 ≡ length bs)
-  clean_by empty none e = (rest_none (none e), sym (ap length (no_bytes bytes bs is.rest log (none e))))
+  clean_by : (empty : Bool) → (empty ≡ true → bytes ≡ []) → empty ≡ true → (is.rest ≡ []) × (found.extent.count ≡ length bs)
+  clean_by empty none e = (rest_none (none e), is.count)
 
   up_by : (empty : Bool) → empty ≡ (opened schema site.0 empty bs).up
   up_by true = refl
@@ -77,7 +78,7 @@ module _ (schema : SchemaValue) (site : SiteNo) (found : Found) {held bytes : Li
     abbrev made : Bool → List Entry → SiteValue
     made empty h = value_of schema site empty bs h bytes failed left None
 
-    sound : (empty : Bool) → (empty ≡ true → bytes ≡ []) → IsSound (made empty []) empty 0 (record { standing = found.standing; journal = []; last = 0 })
+    sound : (empty : Bool) → (empty ≡ true → bytes ≡ []) → IsSound (made empty []) empty found.extent (record { standing = found.standing; journal = []; last = 0 })
     sound empty none =
         let base = base_is empty (λ e. no_bytes bytes bs is.rest log (none e)) in
         record {
@@ -96,14 +97,16 @@ module _ (schema : SchemaValue) (site : SiteNo) (found : Found) {held bytes : Li
           keeps = refl;
           up_is = up_by empty;
           clean = clean_by empty none;
+          reaches = reach_all found.extent bs is.count is.length_is;
+          place = λ n e. let none : ◌≡◌ {A = Option ℕ} None (Some n) = e in absurd cc;
           in_doubt = refl;
           stands = λ u. stands_first (base_of (made empty []));
         }
 
-    pub opens_sound : (empty : Bool) {h : List Entry} {j : List Row} → h ≡ [] → j ≡ [] → (empty ≡ true → held ≡ []) → IsSound (made empty h) empty 0 (record { standing = found.standing; journal = j; last = 0 })
+    pub opens_sound : (empty : Bool) {h : List Entry} {j : List Row} → h ≡ [] → j ≡ [] → (empty ≡ true → held ≡ []) → IsSound (made empty h) empty found.extent (record { standing = found.standing; journal = j; last = 0 })
     opens_sound empty {h = h} {j = j} new closed none =
-        subst (λ (x : List Row). IsSound (made empty h) empty 0 (record { standing = found.standing; journal = x; last = 0 })) (sym closed)
-        (subst (λ (x : List Entry). IsSound (made empty x) empty 0 (record { standing = found.standing; journal = []; last = 0 })) (sym new) (sound empty (λ e. same ∙ none e)))
+        subst (λ (x : List Row). IsSound (made empty h) empty found.extent (record { standing = found.standing; journal = x; last = 0 })) (sym closed)
+        (subst (λ (x : List Entry). IsSound (made empty x) empty found.extent (record { standing = found.standing; journal = []; last = 0 })) (sym new) (sound empty (λ e. same ∙ none e)))
 
     pub opens_finds : (empty : Bool) {h : List Entry} → h ≡ [] → held ≡ [] → Finds (made empty h) 0 Nothing
     opens_finds empty new none =

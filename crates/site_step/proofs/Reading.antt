@@ -16,6 +16,7 @@ use Rattle.kept_state.proofs.Epochs.{up_epoch}
 use Rattle.kept_state.proofs.Sure.{keeps_up}
 use Rattle.log_replay.specs.Standing.{IsOther}
 use Rattle.site_step.specs.declared.accounts.Accounts.{Accounts}
+use Rattle.site_step.specs.declared.extent.Extent.{Extent}
 use Rattle.site_step.specs.Site.{SiteValue, base_of}
 use Rattle.site_step.specs.State.{journal_of, IsSound}
 
@@ -42,8 +43,8 @@ pub record Reads (schema : SchemaValue) (s : ℕ) (base : Base) (o : List Entry)
   pub last : a.last ≡ count_since is_begun_reply o
 
 -- what is kept is what was done
-pub reads : (v : SiteValue) (up : Bool) (count : ℕ) (a : Accounts) → IsSound v up count a → is_up (base_of v) v.history ≡ true → Reads v.schema v.site.0 (base_of v) v.history a
-reads v up count a was there =
+pub reads : (v : SiteValue) (up : Bool) (extent : Extent) (a : Accounts) → IsSound v up extent a → is_up (base_of v) v.history ≡ true → Reads v.schema v.site.0 (base_of v) v.history a
+reads v up extent a was there =
     let st = was.stands there in
     let base : Base = base_of v in
     let keeps = keeps_up v.schema v.site.0 base v.based was.kept false v.history was.records there was.keeps in

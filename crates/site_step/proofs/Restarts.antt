@@ -32,6 +32,7 @@ use Rattle.kept_state.specs.declared.luck.Luck.{Luck}
 use Rattle.kept_state.specs.declared.luck.Luck.TheVariants.{Fine, Torn}
 use Rattle.kept_state.specs.Keeps.{Keeps, adds}
 use Rattle.kept_records.specs.Keeping.{stands_behind}
+use Rattle.kept_records.specs.ReadingBack.{told_length, StandBehind}
 use Rattle.kept_state.specs.Doubt.{IsDoubt, found_of}
 use Rattle.kept_state.specs.Luck.{restart_length, owed_with}
 use Rattle.kept_records.proofs.Pushes.{greatest_push}
@@ -42,10 +43,12 @@ use Rattle.kept_state.proofs.Doubt.{doubt_restart, found_is_kept}
 use Rattle.log_replay.specs.declared.standing.Standing.{Standing}
 use Rattle.log_replay.specs.Standing.{IsStandingFor, TakesIn}
 use Rattle.site_step.specs.declared.accounts.Accounts.{Accounts}
+use Rattle.site_step.specs.declared.extent.Extent.{Extent}
 use Rattle.site_step.specs.Site.{SiteValue, base_of, here, entry_of, mishap_of, luck_under, owed_under, Finds, IsExact, Applies}
 use Rattle.site_step.specs.State.{row_of, StandsOn, IsSound}
-use Rattle.site_step.specs.Resuming.{next_restart, FailsOver, FullOver, StandsOver}
+use Rattle.site_step.specs.Resuming.{next_restart, last_by, FailsOver, FullOver, StandsOver}
 use Rattle.site_step.proofs.Standing.{stands_refused}
+use Rattle.site_step.proofs.Extents.{reach_all, reach_more, behind_is, count_behind, last_is}
 use Rattle.site_step.proofs.Ends.{Ends, finds_of, finds_log, finds_same, quiet_doubt}
 
 abbrev pub says : Bool → Last
@@ -103,7 +106,7 @@ length_push rs r = omega (arith, length-append rs (r ∷ []))
 greatest_next : (rs : List Record) → greatest (rs ++ next_restart rs ∷ []) ≡ greatest rs + 1
 greatest_next rs = greatest_push rs (next_restart rs) ∙ omega arith
 
-module _ (v : SiteValue) (up : Bool) (count : ℕ) (a : Accounts) (was : IsSound v up count a) where
+module _ (v : SiteValue) (up : Bool) (extent : Extent) (a : Accounts) (was : IsSound v up extent a) where
   abbrev base : Base
   base = base_of v
 
@@ -194,7 +197,7 @@ module _ (v : SiteValue) (up : Bool) (count : ℕ) (a : Accounts) (was : IsSound
           exact = exact_down;
         }
 
-    failed_torn : (rest : List ℕ) → IsLog bytes rs rest → Ends v Restart StillDown down false count b
+    failed_torn : (rest : List ℕ) → IsLog bytes rs rest → Ends v Restart StillDown down false extent b
     failed_torn rest log =
         let same = sym (append-nil rs) in
         record {
@@ -208,13 +211,15 @@ module _ (v : SiteValue) (up : Bool) (count : ℕ) (a : Accounts) (was : IsSound
             keeps = (rs, false, was.keeps, tt, same);
             up_is = refl;
             clean = λ u. absurd (false≢true u);
+            reaches = was.reaches;
+            place = was.place;
             in_doubt = quiet_doubt was.kept v.history (entry_of v Restart StillDown) rs v.doubt (omega arith) was.in_doubt;
             stands = λ u. absurd (false≢true u);
           };
           applies = applies_down false rest (subst (λ (all : List Record). IsLog bytes all rest) same log);
         }
 
-    failed_whole : IsLog bytes (rs ++ next_restart rs ∷ []) [] → Ends v Restart StillDown down false count b
+    failed_whole : IsLog bytes (rs ++ next_restart rs ∷ []) [] → Ends v Restart StillDown down false extent b
     failed_whole log =
         record {
           sound = record {
@@ -227,23 +232,25 @@ module _ (v : SiteValue) (up : Bool) (count : ℕ) (a : Accounts) (was : IsSound
             keeps = (rs, true, was.keeps, tt, refl);
             up_is = refl;
             clean = λ u. absurd (false≢true u);
+            reaches = reach_more extent rs (next_restart rs ∷ []) was.reaches;
+            place = was.place;
             in_doubt = still_doubt was.kept v.history (entry_of v Restart StillDown) rs (greatest rs + 1) v.doubt (omega arith) was.in_doubt;
             stands = λ u. absurd (false≢true u);
           };
           applies = applies_down true [] log;
         }
 
-    ends_down : Ends v Restart StillDown down false count b
+    ends_down : Ends v Restart StillDown down false extent b
     ends_down = elim failing.leaves [
       | inl torn ↦ failed_torn torn.0 torn.1
       | inr whole ↦ failed_whole whole
     ]
 
   pub ends_failed : (b : Accounts) (bytes : List ℕ) (failed : ℕ) (left : Option Mishap) (h : List Entry) → h ≡ Failing → FailsOver rs was.rest v.bytes bytes v.foretold left v.failed failed
-      → Ends v Restart StillDown (record v { history = h; bytes = bytes; failed = failed; foretold = left }) false count b
+      → Ends v Restart StillDown (record v { history = h; bytes = bytes; failed = failed; foretold = left }) false extent b
   ends_failed b bytes failed left h past failing =
-      subst (λ (o : List Entry). Ends v Restart StillDown (record v { history = o; bytes = bytes; failed = failed; foretold = left }) false count b) (sym past)
-      (subst (λ (n : ℕ). Ends v Restart StillDown (record v { history = Failing; bytes = bytes; failed = n; foretold = left }) false count b) (sym failing.counts)
+      subst (λ (o : List Entry). Ends v Restart StillDown (record v { history = o; bytes = bytes; failed = failed; foretold = left }) false extent b) (sym past)
+      (subst (λ (n : ℕ). Ends v Restart StillDown (record v { history = Failing; bytes = bytes; failed = n; foretold = left }) false extent b) (sym failing.counts)
       (ends_down b bytes left (subst (λ (n : ℕ). FailsOver rs was.rest v.bytes bytes v.foretold left v.failed n) failing.counts failing)))
 
   -- ---- no epoch is left
@@ -255,7 +262,7 @@ module _ (v : SiteValue) (up : Bool) (count : ℕ) (a : Accounts) (was : IsSound
   under_full most read Read known = absurd (read known)
   under_full most read m known = rw (le-leb max_epoch (greatest rs) most) refl
 
-  full : (left : Option Mishap) → max_epoch ≤ greatest rs → (v.foretold ≡ Some Read → ⊥) → left ≡ v.foretold → Ends v Restart Full (record v { history = entry_of v Restart Full ∷ v.history; foretold = left }) up count a
+  full : (left : Option Mishap) → max_epoch ≤ greatest rs → (v.foretold ≡ Some Read → ⊥) → left ≡ v.foretold → Ends v Restart Full (record v { history = entry_of v Restart Full ∷ v.history; foretold = left }) up extent a
   full left most read stays =
       let w : SiteValue = record v { history = entry_of v Restart Full ∷ v.history; foretold = left } in
       let fits = refused_fits schema s base v.based was.ground.is_base was.kept v.history rs was.keeps most in
@@ -270,6 +277,8 @@ module _ (v : SiteValue) (up : Bool) (count : ℕ) (a : Accounts) (was : IsSound
           keeps = (rs, false, was.keeps, tt, sym (append-nil rs));
           up_is = was.up_is;
           clean = was.clean;
+          reaches = was.reaches;
+          place = was.place;
           in_doubt = quiet_doubt was.kept v.history (entry_of v Restart Full) rs v.doubt (omega arith) was.in_doubt;
           stands = λ u. stands_refused schema s base v.history rs a (was.stands u) v.site Restart NumbersFull;
         };
@@ -298,12 +307,12 @@ module _ (v : SiteValue) (up : Bool) (count : ℕ) (a : Accounts) (was : IsSound
       }
 
   pub ends_full : (bytes : List ℕ) (failed : ℕ) (left : Option Mishap) (h : List Entry) → h ≡ entry_of v Restart Full ∷ v.history → FullOver rs v.bytes bytes v.foretold left v.failed failed
-      → Ends v Restart Full (record v { history = h; bytes = bytes; failed = failed; foretold = left }) up count a
+      → Ends v Restart Full (record v { history = h; bytes = bytes; failed = failed; foretold = left }) up extent a
   ends_full bytes failed left h past over =
       let After : List Entry = entry_of v Restart Full ∷ v.history in
-      subst (λ (o : List Entry). Ends v Restart Full (record v { history = o; bytes = bytes; failed = failed; foretold = left }) up count a) (sym past)
-      (subst (λ (x : List ℕ). Ends v Restart Full (record v { history = After; bytes = x; failed = failed; foretold = left }) up count a) (sym over.same)
-      (subst (λ (n : ℕ). Ends v Restart Full (record v { history = After; foretold = left; failed = n }) up count a) (sym over.counts) (full left over.full over.read over.stays)))
+      subst (λ (o : List Entry). Ends v Restart Full (record v { history = o; bytes = bytes; failed = failed; foretold = left }) up extent a) (sym past)
+      (subst (λ (x : List ℕ). Ends v Restart Full (record v { history = After; bytes = x; failed = failed; foretold = left }) up extent a) (sym over.same)
+      (subst (λ (n : ℕ). Ends v Restart Full (record v { history = After; foretold = left; failed = n }) up extent a) (sym over.counts) (full left over.full over.read over.stays)))
 
   -- ---- the site stands anew
 
@@ -333,7 +342,8 @@ module _ (v : SiteValue) (up : Bool) (count : ℕ) (a : Accounts) (was : IsSound
           last = last_is;
         }
 
-    module _ (bytes : List ℕ) (left : Option Mishap) (some : greatest rs < max_epoch) (log : IsLog bytes (rs ++ next_restart rs ∷ []) [])
+    module _ (anew_extent : Extent) (many : anew_extent.count ≡ length rs + 1) (long : anew_extent.length ≡ told_length (length (flat_map text (rs ++ next_restart rs ∷ []))))
+        (bytes : List ℕ) (left : Option Mishap) (some : greatest rs < max_epoch) (log : IsLog bytes (rs ++ next_restart rs ∷ []) [])
         (torn : (n : ℕ) → v.foretold ≡ Some (Append n) → ⊥) (read : v.foretold ≡ Some Read → ⊥) (cut : v.foretold ≡ Some Cut → was.rest ≡ []) (stays : left ≡ v.foretold) where
       abbrev epoch : ℕ
       epoch = greatest rs + 1
@@ -362,7 +372,7 @@ module _ (v : SiteValue) (up : Bool) (count : ℕ) (a : Accounts) (was : IsSound
       under_anew Cut known =
           subst (λ (x : List ℕ). Restarted epoch last ≡ owed_with at (greatest rs) last Restart (luck_under Restart x Cut)) (sym (cut known)) (rw (lt-leb max_epoch (greatest rs) some) refl)
 
-      restarted : Ends v Restart (Restarted epoch last) anew true (length rs + 1) b
+      restarted : Ends v Restart (Restarted epoch last) anew true anew_extent b
       restarted =
           record {
             sound = record {
@@ -374,7 +384,9 @@ module _ (v : SiteValue) (up : Bool) (count : ℕ) (a : Accounts) (was : IsSound
               run = (was.run, fits_anew);
               keeps = (rs, true, found.keeps, refl, refl);
               up_is = refl;
-              clean = λ u. (refl, sym (length_push rs (next_restart rs)));
+              clean = λ u. (refl, many ∙ sym (length_push rs (next_restart rs)));
+              reaches = reach_all anew_extent (rs ++ next_restart rs ∷ []) (many ∙ sym (length_push rs (next_restart rs))) long;
+              place = λ n is. let e : ◌≡◌ {A = Option ℕ} None (Some n) = is in absurd cc;
               in_doubt = refl;
               stands = λ u. stands_anew epoch;
             };
@@ -401,22 +413,29 @@ module _ (v : SiteValue) (up : Bool) (count : ℕ) (a : Accounts) (was : IsSound
             };
           }
 
-  pub ends_restarted : (standing : Standing) (found_ : List Record) (epoch : ℕ) (b : Accounts) (bytes : List ℕ) (failed : ℕ) (left : Option Mishap) (r : Reply) (size : ℕ) (h : List Entry)
-      → IsStandingFor schema s rs standing → StandsOver schema s rs found_ epoch was.rest bytes v.foretold left v.failed failed
+  abbrev next_extent : ℕ → ℕ → Extent
+  next_extent more size = record { count = extent.count + more + 1; length = size }
+
+  pub few_behind : (found_ : List Record) → StandBehind v.bytes extent.length found_ → extent.count + length found_ ≡ length rs
+  few_behind found_ behind = count_behind extent rs was.reaches found_ (behind_is extent v.bytes rs was.rest was.log was.reaches found_ behind)
+
+  pub ends_restarted : (standing : Standing) (found_ : List Record) (epoch size : ℕ) (b : Accounts) (bytes : List ℕ) (failed : ℕ) (left : Option Mishap) (r : Reply) (more : ℕ) (h : List Entry)
+      → IsStandingFor schema s rs standing → StandsOver rs epoch size was.rest bytes v.foretold left v.failed failed → StandBehind v.bytes extent.length found_
       → TakesIn schema standing (records.Restart epoch) true b.standing → b.journal ≡ [] → b.last ≡ 0
-      → r ≡ Restarted epoch (found_of v.doubt found_) → size ≡ length found_ → h ≡ entry_of v Restart r ∷ v.history
-      → Ends v Restart r (record v { history = h; bytes = bytes; failed = failed; foretold = left; doubt = None }) true (size + 1) b
-  ends_restarted standing found_ new b bytes failed left r size h for_ over took open_ last_is said counted past =
+      → r ≡ Restarted epoch (last_by v.doubt found_) → more ≡ length found_ → h ≡ entry_of v Restart r ∷ v.history
+      → Ends v Restart r (record v { history = h; bytes = bytes; failed = failed; foretold = left; doubt = None }) true (next_extent more size) b
+  ends_restarted standing found_ new size b bytes failed left r more h for_ over behind took open_ last_is_ said counted past =
       let next = greatest rs + 1 in
-      let reply : r ≡ Restarted next last = said ∙ ap (λ (n : ℕ). Restarted n (found_of v.doubt found_)) over.epoch_is ∙ ap (λ (all : List Record). Restarted next (found_of v.doubt all)) over.records in
+      let same = behind_is extent v.bytes rs was.rest was.log was.reaches found_ behind in
+      let lasts : last_by v.doubt found_ ≡ last = last_is v.doubt extent rs was.reaches found_ same was.place in
+      let reply : r ≡ Restarted next last = said ∙ ap (λ (n : ℕ). Restarted n (last_by v.doubt found_)) over.epoch_is ∙ ap (λ (l : Last). Restarted next l) lasts in
       let after : h ≡ entry_of v Restart (Restarted next last) ∷ v.history = past ∙ ap (λ (x : Reply). entry_of v Restart x ∷ v.history) reply in
-      let many : size ≡ length rs = counted ∙ ap length over.records in
-      let At : Reply → List Entry → ℕ → ℕ → Type 0 =
-      λ x o n m. Ends v Restart x (record v { history = o; bytes = bytes; failed = n; foretold = left; doubt = None }) true (m + 1) b in
+      let many : extent.count + more + 1 ≡ length rs + 1 = omega (arith, counted, few_behind found_ behind) in
+      let At : Reply → List Entry → ℕ → Type 0 =
+      λ x o n. Ends v Restart x (record v { history = o; bytes = bytes; failed = n; foretold = left; doubt = None }) true (next_extent more size) b in
       let After : List Entry = entry_of v Restart (Restarted next last) ∷ v.history in
-      subst (λ (x : Reply). At x h failed size) (sym reply)
-      (subst (λ (o : List Entry). At (Restarted next last) o failed size) (sym after)
-      (subst (λ (n : ℕ). At (Restarted next last) After n size) (sym over.counts)
-      (subst (λ (m : ℕ). At (Restarted next last) After v.failed m) (sym many)
-      (restarted standing for_ b (subst (λ (e : ℕ). TakesIn schema standing (records.Restart e) true b.standing) over.epoch_is took) open_ last_is
-      bytes left over.some over.log over.torn over.read over.cut over.stays))))
+      subst (λ (x : Reply). At x h failed) (sym reply)
+      (subst (λ (o : List Entry). At (Restarted next last) o failed) (sym after)
+      (subst (λ (n : ℕ). At (Restarted next last) After n) (sym over.counts)
+      (restarted standing for_ b (subst (λ (e : ℕ). TakesIn schema standing (records.Restart e) true b.standing) over.epoch_is took) open_ last_is_
+      (next_extent more size) many over.size_is bytes left over.some over.log over.torn over.read over.cut over.stays)))

@@ -13,7 +13,9 @@ use Rattle.kept_records.specs.declared.record.Record.{Record}
 use Rattle.kept_records.specs.declared.record.Record.TheVariants.{Restart}
 use Rattle.kept_records.specs.Text.{text, IsRecord}
 use Rattle.kept_records.specs.Medium.{IsCutShort}
-use Rattle.kept_records.specs.Logs.{IsLog, AreAll}
+use Rattle.kept_records.specs.Logs.{IsLog}
+use Rattle.kept_records.specs.ReadingBack.{told_length, IsWhole}
+use Rattle.kept_records.proofs.Lines.{flat_push}
 use Rattle.kept_records.specs.Keeping.{CutsAndAppends, StrikesCut, CutAndAppendGo, CutAndAppendFate}
 use Rattle.kept_records.specs.Stands.{greatest, may_stand, LawfulBehind, Lawful, BreaksRule}
 use Rattle.kept_records.proofs.Appending.{HoldsFront, cut_to_records, cut_added, cut_torn, cut_cut_short}
@@ -44,17 +46,14 @@ front_left : (n : ℕ) (bytes : List ℕ) (rs : List Record) (r : Record) → Ho
 front_left n bytes rs r (inl front) = inl (front.1, take n (text r), front.0)
 front_left n bytes rs r (inr whole) = inr (whole.1, whole.0)
 
-module _ (old new : List ℕ) (foretold left : Option Mishap) (before after whole : ℕ) (found : List Record) (standing : Standing)
-    (only : AreAll old found whole) (size : whole ≡ length (flat_map text found)) (below : standing.epoch < max_epoch) (unread : foretold ≡ Some Read → ⊥)
+module _ (old new : List ℕ) (foretold left : Option Mishap) (before after whole : ℕ) (standing : Standing)
+    (sized : IsWhole old whole) (below : standing.epoch < max_epoch) (unread : foretold ≡ Some Read → ⊥)
     (schema : SchemaValue) (s : ℕ) (rs : List Record) (rest : List ℕ) (log : IsLog old rs rest) (for_ : IsStandingFor schema s rs standing) where
   abbrev next : Record
   next = Restart (standing.epoch + 1)
 
-  same : found ≡ rs
-  same = (only rs rest log).0
-
   size_is : whole ≡ length (flat_map text rs)
-  size_is = size ∙ ap (λ (all : List Record). length (flat_map text all)) same
+  size_is = sized rs rest log
 
   epoch_is : standing.epoch ≡ greatest rs
   epoch_is = for_.for_.epoch
@@ -102,12 +101,19 @@ module _ (old new : List ℕ) (foretold left : Option Mishap) (before after whol
       cut_by (b ∷ more) is = (fate.0 (omega (arith, is))).2
   mishap_struck (Some Read) device past fate = absurd (past refl)
 
-  pub stands_over : CutsAndAppends {T = Unit {0}} {E = Device} (Ok tt) whole old (text next) new before after → CutAndAppendFate {E = Device} foretold whole old (text next) (Ok tt) new left
-      → StandsOver schema s rs found (standing.epoch + 1) rest new foretold left before after × IsStandingFor schema s rs standing
-  stands_over added fate = (
+  long_is : (line : List ℕ) → line ≡ text next → whole + length line ≡ length (flat_map text (rs ++ next_restart rs ∷ []))
+  long_is line is =
+      let more : length (flat_map text (rs ++ next_restart rs ∷ [])) ≡ length (flat_map text rs) + length (text next) =
+      ap length (flat_push rs (next_restart rs)) ∙ length-append (flat_map text rs) (text (next_restart rs)) ∙ ap (λ (r : Record). length (flat_map text rs) + length (text r)) (sym next_is) in
+      omega (arith, more, size_is, ap length is)
+
+  pub stands_over : (line : List ℕ) (size : ℕ) → line ≡ text next → size ≡ told_length (whole + length line)
+      → CutsAndAppends {T = Unit {0}} {E = Device} (Ok tt) whole old (text next) new before after → CutAndAppendFate {E = Device} foretold whole old (text next) (Ok tt) new left
+      → StandsOver rs (standing.epoch + 1) size rest new foretold left before after × IsStandingFor schema s rs standing
+  stands_over line size line_is size_ added fate = (
     record {
       counts = added.1;
-      records = same;
+      size_is = size_ ∙ ap told_length (long_is line line_is);
       epoch_is = ap (λ (n : ℕ). n + 1) epoch_is;
       some = some;
       log = subst (λ (r : Record). IsLog new (rs ++ r ∷ []) []) next_is

@@ -33,8 +33,10 @@ use Rattle.kept_state.proofs.Epochs.{greatest_noted}
 use Rattle.kept_state.proofs.Sure.{keeps_up}
 use Rattle.kept_state.proofs.Doubt.{record_is_note, doubt_new, found_is_kept}
 use Rattle.site_step.specs.declared.accounts.Accounts.{Accounts}
+use Rattle.site_step.specs.declared.extent.Extent.{Extent}
 use Rattle.site_step.specs.Site.{SiteValue, base_of, here, entry_of, mishap_of, struck, owed_under, Finds, IsExact}
-use Rattle.site_step.specs.State.{StandsOn, IsSound}
+use Rattle.site_step.specs.State.{StandsOn, IsSound, extended}
+use Rattle.site_step.proofs.Extents.{whole_reach, reach_grown, reach_more}
 use Rattle.site_step.proofs.Settling.{answer_settles, writes_no_restart, refuses_over, noted_one, answer_fits, unsure_fits, whole_owed, unsure_owed, whole_under, unsure_under, answer_writes, unsure_writes, line_one}
 use Rattle.site_step.proofs.Ends.{Ends, finds_of, finds_log, none_in_doubt}
 
@@ -73,7 +75,7 @@ stood_by n bytes rs r (inl front) =
 stood_by n bytes rs r (inr whole) =
     subst (λ (b : Bool). Stood b rs r bytes) (sym (le-leb (length (text r)) n whole.1)) (record { rest = []; log = whole.0 })
 
-module _ (v : SiteValue) (up : Bool) (count : ℕ) (a : Accounts) (was : IsSound v up count a) (c : Command) (none : first (refusals (here v) c) ≡ None) (told : writes (here v) c ≡ true)
+module _ (v : SiteValue) (up : Bool) (extent : Extent) (a : Accounts) (was : IsSound v up extent a) (c : Command) (none : first (refusals (here v) c) ≡ None) (told : writes (here v) c ≡ true)
     (fits : IsRecord (record_at (here v) c)) where
   abbrev base : Base
   base = base_of v
@@ -90,10 +92,10 @@ module _ (v : SiteValue) (up : Bool) (count : ℕ) (a : Accounts) (was : IsSound
   pub is_there : is_up base v.history ≡ true
   is_there = up_there at c plain none
 
-  tidy : (was.rest ≡ []) × (count ≡ length was.records)
+  tidy : (was.rest ≡ []) × (extent.count ≡ length was.records)
   tidy = was.clean (was.up_is ∙ is_there)
 
-  pub count_is : count ≡ length was.records
+  pub count_is : extent.count ≡ length was.records
   count_is = tidy.1
 
   whole_log : IsLog v.bytes was.records []
@@ -143,7 +145,7 @@ module _ (v : SiteValue) (up : Bool) (count : ℕ) (a : Accounts) (was : IsSound
         let goes = subst (λ (x : Option Mishap). AppendFate {E = Device} x v.bytes (text note) (Ok tt) bytes left) (known ∙ ap (λ (x : Mishap). Some x) is) fate in
         false≢true goes.0
 
-    wrote : Ends v c (answer at c) then_ up (count + 1) b
+    wrote : Ends v c (answer at c) then_ up (extended extent (length (text note))) b
     wrote =
         let settles = answer_settles at c plain in
         record {
@@ -163,6 +165,8 @@ module _ (v : SiteValue) (up : Bool) (count : ℕ) (a : Accounts) (was : IsSound
             );
             up_is = was.up_is ∙ sym (settles.up (is_up base v.history));
             clean = λ u. (refl, omega (arith, length_push was.records note, count_is));
+            reaches = reach_grown extent was.records note was.reaches count_is;
+            place = λ n is. let e : ◌≡◌ {A = Option ℕ} None (Some n) = sym nothing ∙ is in absurd cc;
             in_doubt = up_doubt was.kept was.kept v.history (entry_of v c (answer at c)) was.records (was.records ++ note ∷ []) v.doubt (settles.counts (count_since is_unsure v.history))
                 (up_none_unsure base v.history is_there) was.in_doubt;
             stands = λ u. stands;
@@ -191,12 +195,12 @@ module _ (v : SiteValue) (up : Bool) (count : ℕ) (a : Accounts) (was : IsSound
 
   pub ends_wrote : (b : Accounts) (bytes : List ℕ) (failed : ℕ) (left : Option Mishap) (r : Reply) (h : List Entry) → r ≡ answer at c → h ≡ entry_of v c r ∷ v.history
       → StandsOn v.schema v.site.0 base After (was.records ++ note ∷ []) b → (bytes ≡ v.bytes ++ text note) → failed ≡ v.failed → AppendFate {E = Device} v.foretold v.bytes (text note) (Ok tt) bytes left
-      → Ends v c r (record v { history = h; bytes = bytes; failed = failed; foretold = left }) up (count + 1) b
+      → Ends v c r (record v { history = h; bytes = bytes; failed = failed; foretold = left }) up (extended extent (length (text note))) b
   ends_wrote b bytes failed left r h owed past stands grown counts fate =
       let after : h ≡ After = past ∙ ap (λ (x : Reply). entry_of v c x ∷ v.history) owed in
-      subst (λ (x : Reply). Ends v c x (record v { history = h; bytes = bytes; failed = failed; foretold = left }) up (count + 1) b) (sym owed)
-      (subst (λ (o : List Entry). Ends v c (answer at c) (record v { history = o; bytes = bytes; failed = failed; foretold = left }) up (count + 1) b) (sym after)
-      (subst (λ (n : ℕ). Ends v c (answer at c) (record v { history = After; bytes = bytes; failed = n; foretold = left }) up (count + 1) b) (sym counts) (wrote b bytes left stands grown fate)))
+      subst (λ (x : Reply). Ends v c x (record v { history = h; bytes = bytes; failed = failed; foretold = left }) up (extended extent (length (text note))) b) (sym owed)
+      (subst (λ (o : List Entry). Ends v c (answer at c) (record v { history = o; bytes = bytes; failed = failed; foretold = left }) up (extended extent (length (text note))) b) (sym after)
+      (subst (λ (n : ℕ). Ends v c (answer at c) (record v { history = After; bytes = bytes; failed = n; foretold = left }) up (extended extent (length (text note))) b) (sym counts) (wrote b bytes left stands grown fate)))
 
   -- ---- the append failed
 
@@ -206,14 +210,14 @@ module _ (v : SiteValue) (up : Bool) (count : ℕ) (a : Accounts) (was : IsSound
   module _ (b : Accounts) (bytes : List ℕ) (left : Option Mishap) (device : Device) (cut : IsCutShort v.bytes (text note) bytes)
       (fate : AppendFate v.foretold v.bytes (text note) (Err device) bytes left) where
     abbrev torn_ : SiteValue
-    torn_ = record v { history = Doubtful; bytes = bytes; failed = v.failed + 1; foretold = left; doubt = Some count }
+    torn_ = record v { history = Doubtful; bytes = bytes; failed = v.failed + 1; foretold = left; doubt = Some extent.count }
 
     left_over : (rs : List Record) (stood : Bool) → rs ++ cond stood (note ∷ []) [] ≡ rs ++ adds at c Unsure stood rs
     left_over rs true = ap (λ (l : List Record). rs ++ l) (sym (noted_one at c told))
     left_over rs false = refl
 
     -- what a restart finds by the count
-    finds_it : (stood : Bool) → found_of (Some count) (was.records ++ cond stood (note ∷ []) []) ≡ (if stood then Kept else Lost)
+    finds_it : (stood : Bool) → found_of (Some extent.count) (was.records ++ cond stood (note ∷ []) []) ≡ (if stood then Kept else Lost)
     finds_it stood =
         ap (λ (n : ℕ). found_of (Some n) (was.records ++ cond stood (note ∷ []) [])) count_is
         ∙ ap (λ (s : Bool). if s then Kept else Lost)
@@ -240,7 +244,7 @@ module _ (v : SiteValue) (up : Bool) (count : ℕ) (a : Accounts) (was : IsSound
     under_torn rs rest Cut is known = let goes = subst (λ (x : Option Mishap). AppendFate x v.bytes (text note) (Err device) bytes left) known fate in absurd (false≢true goes.0)
     under_torn rs rest Read is known = let goes = subst (λ (x : Option Mishap). AppendFate x v.bytes (text note) (Err device) bytes left) known fate in absurd (false≢true goes.0)
 
-    doubted : (stood : Bool) → Stood stood was.records note bytes → Ends v c Unsure torn_ false count b
+    doubted : (stood : Bool) → Stood stood was.records note bytes → Ends v c Unsure torn_ false extent b
     doubted stood is =
         record {
           sound = record {
@@ -253,6 +257,8 @@ module _ (v : SiteValue) (up : Bool) (count : ℕ) (a : Accounts) (was : IsSound
             keeps = (was.records, stood, keeps_up v.schema v.site.0 base v.based was.kept stood v.history was.records is_there was.keeps, refl, left_over was.records stood);
             up_is = refl;
             clean = λ u. absurd (false≢true u);
+            reaches = reach_more extent was.records (cond stood (note ∷ []) []) was.reaches;
+            place = λ n is. let e : ◌≡◌ {A = Option ℕ} (Some extent.count) (Some n) = is in cc;
             in_doubt = (omega arith, was.records, note, count_is, doubt_new was.records note stood (record_is_note at c told));
             stands = λ u. absurd (false≢true u);
           };
@@ -278,15 +284,15 @@ module _ (v : SiteValue) (up : Bool) (count : ℕ) (a : Accounts) (was : IsSound
           };
         }
 
-    unsure : Ends v c Unsure torn_ false count b
+    unsure : Ends v c Unsure torn_ false extent b
     unsure = doubted (nat_le (length (text note)) cut.0) (stood_by cut.0 bytes was.records note (cut_short v.bytes bytes was.records note whole_log fits cut))
 
   pub ends_unsure : (b : Accounts) (bytes : List ℕ) (failed : ℕ) (left : Option Mishap) (device : Device) (r : Reply) (h : List Entry) → r ≡ Unsure → h ≡ entry_of v c r ∷ v.history
       → IsCutShort v.bytes (text note) bytes → failed ≡ v.failed + 1 → AppendFate v.foretold v.bytes (text note) (Err device) bytes left
-      → Ends v c r (record v { history = h; bytes = bytes; failed = failed; foretold = left; doubt = Some count }) false count b
+      → Ends v c r (record v { history = h; bytes = bytes; failed = failed; foretold = left; doubt = Some extent.count }) false extent b
   ends_unsure b bytes failed left device r h said past cut counts fate =
       let after : h ≡ Doubtful = past ∙ ap (λ (x : Reply). entry_of v c x ∷ v.history) said in
-      subst (λ (x : Reply). Ends v c x (record v { history = h; bytes = bytes; failed = failed; foretold = left; doubt = Some count }) false count b) (sym said)
-      (subst (λ (o : List Entry). Ends v c Unsure (record v { history = o; bytes = bytes; failed = failed; foretold = left; doubt = Some count }) false count b) (sym after)
-      (subst (λ (n : ℕ). Ends v c Unsure (record v { history = Doubtful; bytes = bytes; failed = n; foretold = left; doubt = Some count }) false count b) (sym counts)
+      subst (λ (x : Reply). Ends v c x (record v { history = h; bytes = bytes; failed = failed; foretold = left; doubt = Some extent.count }) false extent b) (sym said)
+      (subst (λ (o : List Entry). Ends v c Unsure (record v { history = o; bytes = bytes; failed = failed; foretold = left; doubt = Some extent.count }) false extent b) (sym after)
+      (subst (λ (n : ℕ). Ends v c Unsure (record v { history = Doubtful; bytes = bytes; failed = n; foretold = left; doubt = Some extent.count }) false extent b) (sym counts)
       (unsure b bytes left device cut fate)))

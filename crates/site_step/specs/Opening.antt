@@ -1,5 +1,5 @@
 -- What a medium holds over which no site is opened (this project).
-use Rattle.std.specs.Prelude.{◌≡◌, ◌⊎◌, ℕ, ◌+◌, List, ◌++◌, Option, Some, None}
+use Rattle.std.specs.Prelude.{◌≡◌, ◌⊎◌, ℕ, ◌+◌, List, ◌++◌, length, Option, Some, None}
 use Rattle.std.specs.List.{flat_map, AllByRecursion}
 use Rattle.field_bounds.specs.Schema.{SchemaValue}
 use Rattle.kept_records.specs.declared.medium.Mishap.{Mishap}
@@ -10,6 +10,7 @@ use Rattle.kept_records.specs.declared.record.Record.{Record}
 use Rattle.kept_records.specs.Text.{text, IsRecord}
 use Rattle.kept_records.specs.Logs.{IsLog, IsBadLine}
 use Rattle.kept_records.specs.Stands.{Lawful, BreaksRule}
+use Rattle.kept_records.specs.ReadingBack.{told_length}
 use Rattle.log_replay.specs.Standing.{IsStandingFor}
 use Rattle.site_step.specs.Site.{struck}
 use Rattle.site_step.specs.declared.site.opening.OpenFault.{OpenFault}
@@ -71,9 +72,11 @@ FailsUnder Device foretold = MayStrikeRead foretold
 FailsUnder (Line n) foretold = Unit {0}
 FailsUnder NoMemory foretold = Unit {0}
 
--- What was found is the bytes' log, which is lawful, and what its records stand for.
+-- What was found is the bytes' log, which is lawful, how far it reaches, and what its records stand for.
 pub record IsFound (schema : SchemaValue) (s : ℕ) (bytes : List ℕ) (found : Found) : Type 0 where
   pub rest : List ℕ
   pub log : IsLog bytes found.records.items rest
   pub lawful : Lawful schema s found.records.items
   pub stands : IsStandingFor schema s found.records.items found.standing
+  pub count : found.extent.count ≡ length found.records.items
+  pub length_is : found.extent.length ≡ told_length (length (flat_map text found.records.items))

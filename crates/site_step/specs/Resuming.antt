@@ -1,5 +1,7 @@
 -- What a restart does to a medium, and finds on it (this project).
-use Rattle.std.specs.Prelude.{◌≡◌, ◌≢◌, ◌⊎◌, ℕ, ◌+◌, ◌<◌, ◌≤◌, List, [], ◌∷◌, ◌++◌, length, Option, Some}
+use Rattle.std.specs.Prelude.{◌≡◌, ◌≢◌, ◌⊎◌, ℕ, ◌+◌, ◌<◌, ◌≤◌, if◌then◌else◌, List, [], ◌∷◌, ◌++◌, length, Option, None, Some}
+use Rattle.field_bounds.specs.declared.entry.Last.{Last}
+use Rattle.field_bounds.specs.declared.entry.Last.TheVariants.{Nothing, Kept, Lost}
 use Rattle.field_bounds.specs.Schema.{SchemaValue}
 use Rattle.field_bounds.specs.Owed.{max_epoch}
 use Rattle.kept_records.specs.declared.medium.Mishap.{Mishap}
@@ -10,6 +12,8 @@ use Rattle.std.specs.List.{flat_map}
 use Rattle.kept_records.specs.Text.{text}
 use Rattle.kept_records.specs.Medium.{IsCutShort}
 use Rattle.kept_records.specs.Logs.{IsLog}
+use Rattle.kept_records.specs.Keeping.{starts_with_no_restart}
+use Rattle.kept_records.specs.ReadingBack.{told_length, StandBehind}
 use Rattle.kept_records.specs.Stands.{greatest, Lawful}
 use Rattle.log_replay.specs.declared.standing.Standing.{Standing as StandingValue}
 use Rattle.log_replay.specs.Standing.{IsStandingFor}
@@ -55,10 +59,10 @@ pub record FullOver (rs : List Record) (old bytes : List ℕ) (foretold left : O
   pub read : foretold ≡ Some Read → ⊥
   pub stays : left ≡ foretold
 
--- A restart went well: its record stands behind those that there were.
-pub record StandsOver (schema : SchemaValue) (s : ℕ) (rs found : List Record) (epoch : ℕ) (rest bytes : List ℕ) (foretold left : Option Mishap) (before after : ℕ) : Type 0 where
+-- A restart went well: its record stands behind those that there were, and so long are all texts with it.
+pub record StandsOver (rs : List Record) (epoch size : ℕ) (rest bytes : List ℕ) (foretold left : Option Mishap) (before after : ℕ) : Type 0 where
   pub counts : after ≡ before
-  pub records : found ≡ rs
+  pub size_is : size ≡ told_length (length (flat_map text (rs ++ next_restart rs ∷ [])))
   pub epoch_is : epoch ≡ greatest rs + 1
   pub some : greatest rs < max_epoch
   pub log : IsLog bytes (rs ++ next_restart rs ∷ []) []
@@ -67,15 +71,23 @@ pub record StandsOver (schema : SchemaValue) (s : ℕ) (rs found : List Record) 
   pub cut : foretold ≡ Some Cut → rest ≡ []
   pub stays : left ≡ foretold
 
--- How a restart went over these records.
-abbrev pub ResumesOver : SchemaValue → ℕ → List Record → List ℕ → Resumed → List ℕ → List ℕ → Option Mishap → Option Mishap → ℕ → ℕ → Type 0
-ResumesOver schema s rs rest Failed old bytes foretold left before after = FailsOver rs rest old bytes foretold left before after
-ResumesOver schema s rs rest NumbersFull old bytes foretold left before after = FullOver rs old bytes foretold left before after
-ResumesOver schema s rs rest (Standing found standing epoch) old bytes foretold left before after =
-    StandsOver schema s rs found.items epoch rest bytes foretold left before after × IsStandingFor schema s rs standing
+-- How a restart went over these records, some of which stand behind the place that was looked at.
+abbrev pub ResumesOver : SchemaValue → ℕ → ℕ → List Record → List ℕ → Resumed → List ℕ → List ℕ → Option Mishap → Option Mishap → ℕ → ℕ → Type 0
+ResumesOver schema s place rs rest Failed old bytes foretold left before after = FailsOver rs rest old bytes foretold left before after
+ResumesOver schema s place rs rest NumbersFull old bytes foretold left before after = FullOver rs old bytes foretold left before after
+ResumesOver schema s place rs rest (Standing behind standing epoch size) old bytes foretold left before after =
+    StandsOver rs epoch size rest bytes foretold left before after × IsStandingFor schema s rs standing × StandBehind old place behind.items
 
--- How a restart went over any records that the bytes hold and that this standing is for.
-abbrev pub ResumesAs : StandingValue → Resumed → List ℕ → List ℕ → Option Mishap → Option Mishap → ℕ → ℕ → Type 0
-ResumesAs standing resumed old bytes foretold left before after =
-    (schema : SchemaValue) (s : ℕ) (rs : List Record) (rest : List ℕ) → IsLog old rs rest → IsStandingFor schema s rs standing
-    → ResumesOver schema s rs rest resumed old bytes foretold left before after
+-- How a restart went over any records that the bytes hold and that this standing is for, where these were behind the place.
+abbrev pub ResumesAs : StandingValue → List Record → Resumed → List ℕ → List ℕ → Option Mishap → Option Mishap → ℕ → ℕ → Type 0
+ResumesAs standing found resumed old bytes foretold left before after =
+    (schema : SchemaValue) (s place : ℕ) (rs : List Record) (rest : List ℕ) → IsLog old rs rest → IsStandingFor schema s rs standing → StandBehind old place found
+    → ResumesOver schema s place rs rest resumed old bytes foretold left before after
+
+-- ---- the record in doubt
+
+-- What became of the record in doubt, where one is, by the records behind its place: only a restart's stands there
+-- where it was lost.
+abbrev pub last_by : Option ℕ → List Record → Last
+last_by None behind = Nothing
+last_by (Some n) behind = if starts_with_no_restart behind then Kept else Lost

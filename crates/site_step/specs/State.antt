@@ -1,5 +1,6 @@
 -- What ties what a site holds, in memory and on its medium, to its history (this project).
-use Rattle.std.specs.Prelude.{◌≡◌, ℕ, ◌<◌, ◌≤◌, List, [], length, map, reverse, Bool, true, false}
+use Rattle.std.specs.Prelude.{◌≡◌, ℕ, ◌+◌, ◌<◌, ◌≤◌, List, [], ◌++◌, length, map, reverse, Bool, true, false, Some}
+use Rattle.std.specs.List.{flat_map}
 use Rattle.field_bounds.specs.declared.kind.Kind.{Kind}
 use Rattle.field_bounds.specs.declared.id.TxnId.{TxnId}
 use Rattle.field_bounds.specs.declared.id.SiteNo.{SiteNo}
@@ -18,11 +19,14 @@ use Rattle.escrow_journal.specs.Journal.{Row, stands, escrows_at, without}
 use Rattle.kept_records.specs.declared.record.Record.{Record}
 use Rattle.kept_records.specs.Logs.{IsLog}
 use Rattle.kept_records.specs.Stands.{Lawful}
+use Rattle.kept_records.specs.Text.{text}
+use Rattle.kept_records.specs.ReadingBack.{told_length}
 use Rattle.kept_state.specs.Keeps.{Keeps, IsBase}
 use Rattle.kept_state.specs.Doubt.{IsDoubt}
 use Rattle.kept_records.specs.declared.record.Record.TheVariants as records
 use Rattle.log_replay.specs.Standing.{HasPlaces, Stands, CanTakeIn}
 use Rattle.site_step.specs.declared.accounts.Accounts.{Accounts}
+use Rattle.site_step.specs.declared.extent.Extent.{Extent}
 use Rattle.site_step.specs.Site.{SiteValue, base_of}
 
 -- ---- in memory
@@ -140,10 +144,23 @@ pub record RestsOn (schema : SchemaValue) (site : SiteNo) (base : Base) (based :
   pub is_base : IsBase schema site.0 base based
   pub based_on : Lawful schema site.0 based
 
+-- One record more, with a text of this length.
+abbrev pub extended : Extent → ℕ → Extent
+extended e size = record { count = e.count + 1; length = told_length (e.length + size) }
+
+-- The first records are so many, and so long are their texts.
+pub record Reaches (e : Extent) (rs : List Record) : Type 0 where
+  pub before : List Record
+  pub behind : List Record
+  pub all : rs ≡ before ++ behind
+  pub count : e.count ≡ length before
+  pub length_is : e.length ≡ told_length (length (flat_map text before))
+
 -- The history is a run of owed replies on its base, and the medium holds the records that it leaves, all of which are
--- lawful; behind them stands nothing while the site is up, and so many they are then. Where an answer is in doubt, its
--- record stands where it is looked for, if it stands. While the site is up, it stands on its history in memory too.
-pub record IsSound (v : SiteValue) (up : Bool) (count : ℕ) (a : Accounts) : Type 0 where
+-- lawful; behind them stands nothing while the site is up. It is known how many stood when the site was last up, and where
+-- they end: these are all while it is up. Where an answer is in doubt, its record stands behind them, if it stands. While
+-- the site is up, it stands on its history in memory too.
+pub record IsSound (v : SiteValue) (up : Bool) (extent : Extent) (a : Accounts) : Type 0 where
   pub ground : RestsOn v.schema v.site (base_of v) v.based
   pub records : List Record
   pub rest : List ℕ
@@ -152,6 +169,8 @@ pub record IsSound (v : SiteValue) (up : Bool) (count : ℕ) (a : Accounts) : Ty
   pub run : IsRun v.schema v.site.0 (base_of v) v.history
   pub keeps : Keeps v.schema v.site.0 (base_of v) v.based kept v.history records
   pub up_is : up ≡ is_up (base_of v) v.history
-  pub clean : up ≡ true → (rest ≡ []) × (count ≡ length records)
+  pub clean : up ≡ true → (rest ≡ []) × (extent.count ≡ length records)
+  pub reaches : Reaches extent records
+  pub place : (n : ℕ) → v.doubt ≡ Some n → n ≡ extent.count
   pub in_doubt : IsDoubt kept v.history records v.doubt
   pub stands : is_up (base_of v) v.history ≡ true → StandsOn v.schema v.site.0 (base_of v) v.history records a

@@ -3,6 +3,7 @@
 #![tactic(auto)]
 
 mod accounts;
+mod extent;
 mod laws;
 mod site;
 

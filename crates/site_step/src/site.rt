@@ -16,6 +16,7 @@ mod restart;
 mod tightening;
 
 use crate::accounts::Accounts;
+use crate::extent::Extent;
 use escrow_journal::Journal;
 use field_bounds::{Command, Entry, FieldNo, Kind, Reply, Schema, SiteNo, by_command};
 use kept_records::{Medium, Mishap, Record, TornMedium};
@@ -40,7 +41,7 @@ pub struct Site<M: Medium> {
     based: Vec<Record>,
     history: Vec<Entry>,
     up: bool,
-    count: usize,
+    extent: Extent,
     doubt: Option<usize>,
     accounts: Accounts,
     // The text of the last record; its memory is used again.
@@ -55,7 +56,7 @@ impl<M: Medium> Model for Site<M> {
 
     ghost view = { λ s. value_of s.schema s.number s.fresh s.based.items s.history.items (M.bytes s.medium) (M.failed s.medium) (M.foretold s.medium) s.doubt };
 
-    ghost invariant = { λ s. IsSound (value_of s.schema s.number s.fresh s.based.items s.history.items (M.bytes s.medium) (M.failed s.medium) (M.foretold s.medium) s.doubt) s.up s.count s.accounts };
+    ghost invariant = { λ s. IsSound (value_of s.schema s.number s.fresh s.based.items s.history.items (M.bytes s.medium) (M.failed s.medium) (M.foretold s.medium) s.doubt) s.up s.extent s.accounts };
 }
 
 impl<M: Medium> Site<M> {
@@ -96,6 +97,7 @@ impl<M: Medium> Site<M> {
                 Found {
                     fresh,
                     records,
+                    extent,
                     standing,
                 },
             ) => Ok(Site {
@@ -106,7 +108,7 @@ impl<M: Medium> Site<M> {
                 based: records,
                 history: Vec::new(alloc),
                 up: fresh,
-                count: 0,
+                extent,
                 doubt: None,
                 accounts: Accounts {
                     standing,

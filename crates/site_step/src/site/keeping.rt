@@ -65,7 +65,7 @@ impl<M: Medium> Site<M> {
         match append_record(&mut self.line, &mut self.medium, kept)? {
             Ok(()) => {
                 self.accounts.carry_out(&self.schema, kept);
-                self.count += 1;
+                self.extent.extend(self.line.len());
                 self.history.push_reserved(Entry {
                     site: self.number,
                     command,
@@ -75,7 +75,7 @@ impl<M: Medium> Site<M> {
             }
             Err(_) => {
                 self.up = false;
-                self.doubt = Some(self.count);
+                self.doubt = Some(self.extent.count);
                 self.history.push_reserved(Entry {
                     site: self.number,
                     command,

@@ -6,6 +6,7 @@ ghost use Rattle.kept_records.specs.declared.medium.Mishap.TheVariants.{Read};
 ghost use Rattle.site_step.specs.declared.site.opening.OpenFault.TheVariants.{Device, NoMemory};
 ghost use Rattle.site_step.specs.Opening.{TellsLine, SparesLogs, FailsUnder, IsFound, failed_at, foretold_at, fault_of};
 
+use crate::extent::Extent;
 use field_bounds::{Schema, SiteNo};
 use kept_records::{Medium, MediumFault, Record, read_front};
 use log_replay::{Replayed, Standing, replay};
@@ -47,11 +48,12 @@ impl From<AllocError> for OpenFault {
     }
 }
 
-/// What a medium holds: whether it is empty, its records, and what they stand for.
+/// What a medium holds: whether it is empty, its records, how far they reach, and what they stand for.
 #[derive(Drop)]
 pub(super) struct Found {
     pub fresh: bool,
     pub records: Vec<Record>,
+    pub extent: Extent,
     pub standing: Standing,
 }
 
@@ -100,6 +102,10 @@ fn find(alloc: Global, schema: &Schema, site: SiteNo, bytes: &[u8]) -> Result<Fo
     }
     Ok(Found {
         fresh: bytes.is_empty(),
+        extent: Extent {
+            count: front.records.len(),
+            length: front.length,
+        },
         records: front.records,
         standing,
     })

@@ -1,5 +1,6 @@
-use Rattle.std.proofs.Common.{arith}
+use Rattle.std.proofs.Common.{◌≡◌, length, ap, arith}
 use Rattle.std.proofs.lemmas.List.{length-reverse}
+use Rattle.kept_records.specs.Text.{text}
 use Rattle.site_step.proofs.Calls.{grew, record_fits, can_write, few_written, wrote, unsure}
 use Rattle.site_step.proofs.site.Site.write.Goals as goal
 
@@ -13,28 +14,32 @@ carry_out-requires g c =
       ranges = record_fits c.self.invariant c.self.view_is c.args.command c.requires.unrefused c.requires.told c.requires.kept;
     }
 
-pub overflow_add-self : goal.overflow_add-self
-overflow_add-self g c =
+pub extend-requires : goal.extend-requires
+extend-requires g c =
     let i = c.self.inside in
-    omega (
-      arith,
-      few_written c.self.invariant c.self.view_is c.args.command c.requires.unrefused c.requires.told,
-      length-reverse i.history.items,
-      i.history.ok,
-      i.history.small,
-      i.based.ok,
-      i.based.small,
-    )
+    record {
+      few = omega (
+        arith,
+        few_written c.self.invariant c.self.view_is c.args.command c.requires.unrefused c.requires.told,
+        length-reverse i.history.items,
+        i.history.ok,
+        i.history.small,
+        i.based.ok,
+        i.based.small,
+      );
+    }
 
 pub invariant_of-self-in-Ok : goal.invariant_of-self-in-Ok
 invariant_of-self-in-Ok g c =
+    let long : c.len.result ≡ length (text c.args.kept.now) = omega (arith, c.len.ensures, c.append_record.new.line.ok, ap length c.in_ok-append_record.ensures.line) in
     (wrote c.self.invariant c.self.view_is c.args.command c.requires.unrefused c.requires.told c.args.reply c.args.kept.now c.requires.kept c.requires.owed c.carry_out.ensures.took c.carry_out.ensures.journal c.carry_out.ensures.last
-    (rw c.in-Ok.is at c.in_ok-append_record.ensures.added) (rw c.in-Ok.is at c.in_ok-append_record.ensures.fate) (grew c.push_reserved.ensures.items c.in_ok-reserve.ensures.items)).sound
+    (rw c.in-Ok.is at c.in_ok-append_record.ensures.added) (rw c.in-Ok.is at c.in_ok-append_record.ensures.fate) (grew c.push_reserved.ensures.items c.in_ok-reserve.ensures.items) long c.extend.ensures.extended).sound
 
 pub returns-in-Ok-clause-ok : goal.returns-in-Ok-clause-ok
 returns-in-Ok-clause-ok g c =
+    let long : c.len.result ≡ length (text c.args.kept.now) = omega (arith, c.len.ensures, c.append_record.new.line.ok, ap length c.in_ok-append_record.ensures.line) in
     (wrote c.self.invariant c.self.view_is c.args.command c.requires.unrefused c.requires.told c.args.reply c.args.kept.now c.requires.kept c.requires.owed c.carry_out.ensures.took c.carry_out.ensures.journal c.carry_out.ensures.last
-    (rw c.in-Ok.is at c.in_ok-append_record.ensures.added) (rw c.in-Ok.is at c.in_ok-append_record.ensures.fate) (grew c.push_reserved.ensures.items c.in_ok-reserve.ensures.items)).applies
+    (rw c.in-Ok.is at c.in_ok-append_record.ensures.added) (rw c.in-Ok.is at c.in_ok-append_record.ensures.fate) (grew c.push_reserved.ensures.items c.in_ok-reserve.ensures.items) long c.extend.ensures.extended).applies
 
 pub invariant_of-self-in-Err : goal.invariant_of-self-in-Err
 invariant_of-self-in-Err g c =
