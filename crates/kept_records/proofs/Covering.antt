@@ -23,7 +23,8 @@ use Rattle.field_bounds.proofs.Lawful.{same_kind-true}
 use Rattle.field_bounds.proofs.Parts.{shares_add_up}
 use Rattle.field_bounds.proofs.Sums.{sum_below-same, sum_below-zero, sum_below_bump, term_below}
 use Rattle.kept_records.specs.declared.record.Record.{Record}
-use Rattle.kept_records.specs.declared.record.Record.TheVariants.{Commit, Gift, Accept, Tighten, Restart}
+use Rattle.kept_records.specs.declared.record.Record.TheVariants.{Commit, Gift, Accept, Tighten, Restart, Summary}
+use Rattle.kept_records.specs.Summary.{SummaryValue}
 use Rattle.kept_records.specs.Stands.{greatest, given_in, accepted_in, cut_in, gained_in, spent_in, own_in, guarded_in, is_field, may_commit, room_in, may_stand, LawfulBehind, Lawful}
 use Rattle.kept_records.proofs.Pushes.{given_none, accepted_none, cut_none, committed_none, given_push, accepted_push, cut_push, committed_push, lawful_push}
 
@@ -180,6 +181,12 @@ module _ (schema : SchemaValue) (s : ℕ) (rs : List Record) where
   pub gained_restart : (epoch f : ℕ) (k : Kind) → gained_in schema s (rs ++ Restart epoch ∷ []) f k ≡ gained_in schema s rs f k
   gained_restart epoch f k = let r : Record = Restart epoch in omega (arith, committed_push f (other k) rs r, accepted_still r f k (λ from. accepted_push from f k rs r))
 
+  pub spent_summary : (v : SummaryValue) (f : ℕ) (k : Kind) → spent_in schema (rs ++ Summary v ∷ []) f k ≡ spent_in schema rs f k
+  spent_summary v f k = let r : Record = Summary v in omega (arith, committed_push f k rs r, cut_push f k rs r, given_still r f k (λ to. given_push to f k rs r))
+
+  pub gained_summary : (v : SummaryValue) (f : ℕ) (k : Kind) → gained_in schema s (rs ++ Summary v ∷ []) f k ≡ gained_in schema s rs f k
+  gained_summary v f k = let r : Record = Summary v in omega (arith, committed_push f (other k) rs r, accepted_still r f k (λ from. accepted_push from f k rs r))
+
   -- ---- what a commit spends
 
   -- where each escrow of a commit may stand, no field and kind is overspent
@@ -259,6 +266,7 @@ module _ (schema : SchemaValue) (s : ℕ) (rs : List Record) (before : IsCovered
         gained_tighten schema s rs field kind total f k,
       )
   covered_push (Restart epoch) may f k = omega (arith, before f k, spent_restart schema s rs epoch f k, gained_restart schema s rs epoch f k)
+  covered_push (Summary v) may f k = omega (arith, before f k, spent_summary schema s rs v f k, gained_summary schema s rs v f k)
 
 covered_behind : (schema : SchemaValue) (s : ℕ) (front rs : List Record) → IsCovered schema s front → LawfulBehind schema s front rs → IsCovered schema s (front ++ rs)
 covered_behind schema s front [] before lawful = subst (λ (all : List Record). IsCovered schema s all) (sym (append-nil front)) before
@@ -332,6 +340,10 @@ module _ (schema : SchemaValue) (s : ℕ) (rs : List Record) (lawful : Lawful sc
   pub own_restart : (epoch : ℕ) → may_stand schema s rs (Restart epoch) ≡ true → (f : ℕ) (k : Kind) → own_in schema s (rs ++ Restart epoch ∷ []) f k ≡ own_in schema s rs f k
   own_restart epoch may f k = omega (arith, own_whole f k, pushed (Restart epoch) may f k, spent_restart schema s rs epoch f k, gained_restart schema s rs epoch f k)
 
+  -- and a summary changes none
+  pub own_summary : (v : SummaryValue) → may_stand schema s rs (Summary v) ≡ true → (f : ℕ) (k : Kind) → own_in schema s (rs ++ Summary v ∷ []) f k ≡ own_in schema s rs f k
+  own_summary v may f k = omega (arith, own_whole f k, pushed (Summary v) may f k, spent_summary schema s rs v f k, gained_summary schema s rs v f k)
+
 -- ---- what is guarded of both kinds is within the width
 
 parts_within : (schema : SchemaValue) → IsSchema schema → (s f : ℕ) → s < schema.sites → part_of schema s f Lower + part_of schema s f Raise ≤ width_of (field_at schema f)
@@ -390,6 +402,9 @@ within_push schema s rs lawful before (Tighten field kind total) may f =
 within_push schema s rs lawful before (Restart epoch) may f =
     let r : Record = Restart epoch in
     omega (arith, before f, own_restart schema s rs lawful epoch may f Lower, own_restart schema s rs lawful epoch may f Raise, cut_push f Lower rs r, cut_push f Raise rs r)
+within_push schema s rs lawful before (Summary v) may f =
+    let r : Record = Summary v in
+    omega (arith, before f, own_summary schema s rs lawful v may f Lower, own_summary schema s rs lawful v may f Raise, cut_push f Lower rs r, cut_push f Raise rs r)
 
 within_behind : (schema : SchemaValue) (s : ℕ) (front rs : List Record) → Lawful schema s front → IsWithin schema s front → LawfulBehind schema s front rs → IsWithin schema s (front ++ rs)
 within_behind schema s front [] lawful before more = subst (λ (all : List Record). IsWithin schema s all) (sym (append-nil front)) before
@@ -405,12 +420,12 @@ same_kind-refl : (k : Kind) → same_kind k k ≡ true
 same_kind-refl Lower = refl
 same_kind-refl Raise = refl
 
-width_few : (fs : List FieldValue) → AllByRecursion IsField fs → (f : ℕ) → width_of (slice_index_or fs f no_field) ≤ max_change
+pub width_few : (fs : List FieldValue) → AllByRecursion IsField fs → (f : ℕ) → width_of (slice_index_or fs f no_field) ≤ max_change
 width_few [] each f = omega (arith, ints)
 width_few (x ∷ fs) each zero = omega (arith, ints, each.0.least, each.0.floor, each.0.ceiling, each.0.most)
 width_few (x ∷ fs) each (suc f) = width_few fs each.1 f
 
-cut_few : (schema : SchemaValue) → IsSchema schema → (s : ℕ) → s < schema.sites → (rs : List Record) → Lawful schema s rs → (f : ℕ) (k : Kind) → cut_in rs f k ≤ max_change
+pub cut_few : (schema : SchemaValue) → IsSchema schema → (s : ℕ) → s < schema.sites → (rs : List Record) → Lawful schema s rs → (f : ℕ) (k : Kind) → cut_in rs f k ≤ max_change
 cut_few schema good s below rs lawful f Lower = omega (arith, own_within schema good s below rs lawful f, width_few schema.fields good.each f)
 cut_few schema good s below rs lawful f Raise = omega (arith, own_within schema good s below rs lawful f, width_few schema.fields good.each f)
 

@@ -6,5 +6,9 @@ pub mod Pairs
 pub mod Lines
 pub mod Appending
 pub mod Pushes
+pub mod Summaries
 pub mod Covering
 pub mod Places
+pub mod Pieces
+pub mod Told
+pub mod SummaryLoops

@@ -59,3 +59,15 @@ behind_push schema s front (x ∷ rs) r lawful may =
 
 pub lawful_push : (schema : SchemaValue) (s : ℕ) (rs : List Record) (r : Record) → Lawful schema s rs → may_stand schema s rs r ≡ true → Lawful schema s (rs ++ r ∷ [])
 lawful_push schema s rs r lawful may = behind_push schema s [] rs r lawful may
+
+-- ---- one record of lawful ones
+
+behind_split : (schema : SchemaValue) (s : ℕ) (front as1 : List Record) (r : Record) (bs : List Record) → LawfulBehind schema s front (as1 ++ r ∷ bs) → LawfulBehind schema s front as1 × (may_stand schema s (front ++ as1) r ≡ true)
+behind_split schema s front [] r bs lawful = (tt, subst (λ (all : List Record). may_stand schema s all r ≡ true) (sym (append-nil front)) lawful.0)
+behind_split schema s front (x ∷ as1) r bs lawful =
+    let rest = behind_split schema s (front ++ x ∷ []) as1 r bs lawful.1 in
+    ((lawful.0, rest.0), subst (λ (all : List Record). may_stand schema s all r ≡ true) (append_assoc front (x ∷ []) as1) rest.1)
+
+-- those before it are lawful, and it may stand behind them
+pub lawful_at : (schema : SchemaValue) (s : ℕ) (as1 : List Record) (r : Record) (bs : List Record) → Lawful schema s (as1 ++ r ∷ bs) → Lawful schema s as1 × (may_stand schema s as1 r ≡ true)
+lawful_at schema s as1 r bs lawful = behind_split schema s [] as1 r bs lawful

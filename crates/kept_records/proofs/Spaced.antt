@@ -7,7 +7,9 @@ use Rattle.std.proofs.lemmas.List.Concat.{flat_map-append}
 use Rattle.field_bounds.specs.declared.entry.Escrow.{Escrow}
 use Rattle.line_words.specs.Words.{line}
 use Rattle.kept_records.specs.declared.record.Record.{Record}
-use Rattle.kept_records.specs.Text.{text, letter_of, words_of, spaced, escrow_words}
+use Rattle.kept_records.specs.Text.{text, letter_of, words_of, spaced, escrow_words, rights_words, group_words, cut_words, cuts_words, total_words}
+use Rattle.kept_records.specs.declared.total.Total.{Total}
+use Rattle.kept_records.specs.declared.total.Cut.{Cut}
 
 -- a line is its first word and the others with a space before each
 pub line_spaced : (w : List ℕ) (ws : List (List ℕ)) → join_with_byte 32 (w ∷ ws) ≡ w ++ spaced ws
@@ -45,3 +47,68 @@ text_behind r letter front first all whole l f a w =
     w ∙ ap (λ (x : List ℕ). x ++ 10 ∷ []) (a ∙ ap (λ (x : List ℕ). x ++ spaced (words_of r)) f ∙ append_assoc front (letter ∷ []) (spaced (words_of r)))
     ∙ append_assoc front words (10 ∷ [])
     ∙ ap (λ (x : List ℕ). front ++ (x ++ 10 ∷ [])) is
+
+-- ---- the words of a summary
+
+rights_words_push : (rs : List (ℕ × ℕ)) (r : ℕ × ℕ) → rights_words (rs ++ r ∷ []) ≡ rights_words rs ++ (decimal r.0 ∷ decimal r.1 ∷ [])
+rights_words_push [] r = refl
+rights_words_push (x ∷ rs) r = ap (λ (l : List (List ℕ)). decimal x.0 ∷ decimal x.1 ∷ l) (rights_words_push rs r)
+
+group_words_push : (letter : ℕ) (ts : List Total) (t : Total) → group_words letter (ts ++ t ∷ []) ≡ group_words letter ts ++ ((letter ∷ []) ∷ total_words t.site t.field t.kind t.total)
+group_words_push letter [] t = ap (λ (l : List (List ℕ)). (letter ∷ []) ∷ l) (append-nil (total_words t.site t.field t.kind t.total))
+group_words_push letter (x ∷ ts) t =
+    let head = total_words x.site x.field x.kind x.total in
+    ap (λ (l : List (List ℕ)). (letter ∷ []) ∷ (head ++ l)) (group_words_push letter ts t)
+    ∙ ap (λ (l : List (List ℕ)). (letter ∷ []) ∷ l) (sym (append_assoc head (group_words letter ts) ((letter ∷ []) ∷ total_words t.site t.field t.kind t.total)))
+
+-- words that were added to those of a front
+more_words : (start before after : List ℕ) (front more : List (List ℕ)) → before ≡ start ++ spaced front → after ≡ before ++ spaced more → after ≡ start ++ spaced (front ++ more)
+more_words start before after front more b a =
+    a ∙ ap (λ (l : List ℕ). l ++ spaced more) b ∙ append_assoc start (spaced front) (spaced more)
+    ∙ ap (λ (l : List ℕ). start ++ l) (sym (flat_map-append (λ w. 32 ∷ w) front more))
+
+-- the words of one more field's rights
+pub rights_pushed : (start before mid after : List ℕ) (rs : List (ℕ × ℕ)) (i : ℕ) (r d : ℕ × ℕ) → i < length rs → r ≡ get_or rs i d
+    → before ≡ start ++ spaced (rights_words (take i rs)) → mid ≡ before ++ 32 ∷ decimal r.0 → after ≡ mid ++ 32 ∷ decimal r.1
+    → after ≡ start ++ spaced (rights_words (take (i + 1) rs))
+rights_pushed start before mid after rs i r d lt is b m a =
+    let front = take i rs in
+    let more : take (i + 1) rs ≡ front ++ r ∷ [] = take_more rs i d lt ∙ ap (λ (x : ℕ × ℕ). front ++ x ∷ []) (sym is) in
+    let two : after ≡ before ++ spaced (decimal r.0 ∷ decimal r.1 ∷ []) =
+    a ∙ ap (λ (l : List ℕ). l ++ 32 ∷ decimal r.1) m ∙ append_assoc before (32 ∷ decimal r.0) (32 ∷ decimal r.1)
+    ∙ ap (λ (l : List ℕ). before ++ l) (sym (spaced_two (decimal r.0) (decimal r.1))) in
+    more_words start before after (rights_words front) (decimal r.0 ∷ decimal r.1 ∷ []) b two
+    ∙ ap (λ (l : List (List ℕ)). start ++ spaced l) (sym (rights_words_push front r))
+    ∙ ap (λ (l : List (ℕ × ℕ)). start ++ spaced (rights_words l)) (sym more)
+
+-- the words of one more total of a group
+pub group_pushed : (letter : ℕ) (start before mid after : List ℕ) (ts : List Total) (i : ℕ) (t d : Total) → i < length ts → t ≡ get_or ts i d
+    → before ≡ start ++ spaced (group_words letter (take i ts)) → mid ≡ before ++ 32 ∷ letter ∷ [] → after ≡ mid ++ spaced (total_words t.site t.field t.kind t.total)
+    → after ≡ start ++ spaced (group_words letter (take (i + 1) ts))
+group_pushed letter start before mid after ts i t d lt is b m a =
+    let front = take i ts in
+    let told = total_words t.site t.field t.kind t.total in
+    let more : take (i + 1) ts ≡ front ++ t ∷ [] = take_more ts i d lt ∙ ap (λ (x : Total). front ++ x ∷ []) (sym is) in
+    let two : after ≡ before ++ spaced ((letter ∷ []) ∷ told) =
+    a ∙ ap (λ (l : List ℕ). l ++ spaced told) m ∙ append_assoc before (32 ∷ letter ∷ []) (spaced told) in
+    more_words start before after (group_words letter front) ((letter ∷ []) ∷ told) b two
+    ∙ ap (λ (l : List (List ℕ)). start ++ spaced l) (sym (group_words_push letter front t))
+    ∙ ap (λ (l : List Total). start ++ spaced (group_words letter l)) (sym more)
+
+cuts_words_push : (ts : List Cut) (t : Cut) → cuts_words (ts ++ t ∷ []) ≡ cuts_words ts ++ ((116 ∷ []) ∷ cut_words t.field t.kind t.total)
+cuts_words_push [] t = refl
+cuts_words_push (x ∷ ts) t = ap (λ (l : List (List ℕ)). (116 ∷ []) ∷ (cut_words x.field x.kind x.total ++ l)) (cuts_words_push ts t)
+
+-- the words of one more total given up
+pub cut_pushed : (start before mid after : List ℕ) (ts : List Cut) (i : ℕ) (t d : Cut) → i < length ts → t ≡ get_or ts i d
+    → before ≡ start ++ spaced (cuts_words (take i ts)) → mid ≡ before ++ 32 ∷ 116 ∷ [] → after ≡ mid ++ spaced (cut_words t.field t.kind t.total)
+    → after ≡ start ++ spaced (cuts_words (take (i + 1) ts))
+cut_pushed start before mid after ts i t d lt is b m a =
+    let front = take i ts in
+    let told = cut_words t.field t.kind t.total in
+    let more : take (i + 1) ts ≡ front ++ t ∷ [] = take_more ts i d lt ∙ ap (λ (x : Cut). front ++ x ∷ []) (sym is) in
+    let two : after ≡ before ++ spaced ((116 ∷ []) ∷ told) =
+    a ∙ ap (λ (l : List ℕ). l ++ spaced told) m ∙ append_assoc before (32 ∷ 116 ∷ []) (spaced told) in
+    more_words start before after (cuts_words front) ((116 ∷ []) ∷ told) b two
+    ∙ ap (λ (l : List (List ℕ)). start ++ spaced l) (sym (cuts_words_push front t))
+    ∙ ap (λ (l : List Cut). start ++ spaced (cuts_words l)) (sym more)

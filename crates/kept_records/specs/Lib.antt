@@ -1,5 +1,6 @@
 pub mod Medium
 pub mod Media
+pub mod Summary
 pub mod Text
 pub mod Reading
 pub mod Logs
@@ -7,3 +8,4 @@ pub mod Faults
 pub mod Stands
 pub mod Keeping
 pub mod ReadingBack
+pub mod Summaries

@@ -1,5 +1,5 @@
 -- What a list of records stands for, and which lists a site may have kept. Records stand in order, the oldest first.
-use Rattle.std.specs.Prelude.{◌≡◌, ℕ, ◌+◌, ◌-◌, ◌==◌, nat_lt, nat_le, max, Bool, true, false, not, ◌&&◌, if◌then◌else◌, List, [], ◌∷◌, ◌++◌, length, fold, sum_by}
+use Rattle.std.specs.Prelude.{◌≡◌, ℕ, ◌+◌, ◌-◌, ◌==◌, nat_lt, nat_le, max, Bool, true, false, not, ◌&&◌, if◌then◌else◌, List, [], ◌∷◌, ◌++◌, length, filter, fold, sum_by}
 use Rattle.std.specs.List.{list_all}
 use Rattle.field_bounds.specs.declared.kind.Kind.{Kind}
 use Rattle.field_bounds.specs.declared.kind.Kind.TheVariants.{Lower, Raise}
@@ -9,7 +9,8 @@ use Rattle.field_bounds.specs.Schema.{SchemaValue}
 use Rattle.field_bounds.specs.Parts.{field_at, width_of, part_of, sum_below}
 use Rattle.field_bounds.specs.Effects.{Base, takes}
 use Rattle.kept_records.specs.declared.record.Record.{Record}
-use Rattle.kept_records.specs.declared.record.Record.TheVariants.{Commit, Gift, Accept, Tighten, Restart}
+use Rattle.kept_records.specs.declared.record.Record.TheVariants.{Commit, Gift, Accept, Tighten, Restart, Summary}
+use Rattle.kept_records.specs.Summary.{SummaryValue, totals_of, cuts_of, rights_of, same_summary}
 
 -- ---- what records stand for
 
@@ -20,6 +21,7 @@ later epoch (Gift to field kind total) = epoch
 later epoch (Accept from field kind total) = epoch
 later epoch (Tighten field kind total) = epoch
 later epoch (Restart new) = max epoch new
+later epoch (Summary v) = epoch
 
 unfoldable pub greatest : List Record → ℕ
 greatest rs = fold later 0 rs
@@ -32,6 +34,7 @@ given_more to f k n (Gift site field kind total) =
 given_more to f k n (Accept site field kind total) = n
 given_more to f k n (Tighten field kind total) = n
 given_more to f k n (Restart epoch) = n
+given_more to f k n (Summary v) = n
 
 unfoldable pub given_in : List Record → ℕ → ℕ → Kind → ℕ
 given_in rs to f k = fold (given_more to f k) 0 rs
@@ -44,6 +47,7 @@ accepted_more from f k n (Accept site field kind total) =
     if (field.0 == f) && same_kind kind k && (site.0 == from) then max total n else n
 accepted_more from f k n (Tighten field kind total) = n
 accepted_more from f k n (Restart epoch) = n
+accepted_more from f k n (Summary v) = n
 
 unfoldable pub accepted_in : List Record → ℕ → ℕ → Kind → ℕ
 accepted_in rs from f k = fold (accepted_more from f k) 0 rs
@@ -55,6 +59,7 @@ cut_more f k n (Gift to field kind total) = n
 cut_more f k n (Accept from field kind total) = n
 cut_more f k n (Tighten field kind total) = if (field.0 == f) && same_kind kind k then max total n else n
 cut_more f k n (Restart epoch) = n
+cut_more f k n (Summary v) = n
 
 unfoldable pub cut_in : List Record → ℕ → Kind → ℕ
 cut_in rs f k = fold (cut_more f k) 0 rs
@@ -66,6 +71,7 @@ commits f k (Gift to field kind total) = 0
 commits f k (Accept from field kind total) = 0
 commits f k (Tighten field kind total) = 0
 commits f k (Restart epoch) = 0
+commits f k (Summary v) = 0
 
 unfoldable pub committed_in : ℕ → Kind → List Record → ℕ
 committed_in f k rs = sum_by (commits f k) rs
@@ -118,9 +124,20 @@ may_commit schema s rs escrows e =
 abbrev pub room_in : SchemaValue → ℕ → List Record → ℕ → ℕ
 room_in schema s rs f = width_of (field_at schema f) - (guarded_in schema s rs f Lower + guarded_in schema s rs f Raise)
 
+-- The summary of records: what they stand for, field by field and, for each other site, total by total.
+unfoldable pub summary_of : SchemaValue → ℕ → List Record → SummaryValue
+summary_of schema s rs =
+    record {
+      epoch = greatest rs;
+      rights = rights_of (own_in schema s rs) (length schema.fields);
+      gifts = totals_of (given_in rs) s (length schema.fields) schema.sites;
+      accepts = totals_of (accepted_in rs) s (length schema.fields) schema.sites;
+      tightenings = cuts_of (cut_in rs) (length schema.fields);
+    }
+
 -- A commit is of the epoch of the last restart and spends what is owned; a gift's total is above the one before by
 -- what is owned, and so is a tightening's, an acceptance's by what there is room for; a restart's epoch is above every
--- one before.
+-- one before; a summary tells what the records before it stand for.
 abbrev pub may_stand : SchemaValue → ℕ → List Record → Record → Bool
 may_stand schema s rs (Commit txn escrows) =
     (txn.epoch == greatest rs) && list_all (may_commit schema s rs escrows) escrows
@@ -137,6 +154,7 @@ may_stand schema s rs (Tighten field kind total) =
     && nat_lt (cut_in rs field.0 kind) total
     && nat_le (total - cut_in rs field.0 kind) (own_in schema s rs field.0 kind)
 may_stand schema s rs (Restart epoch) = nat_lt (greatest rs) epoch
+may_stand schema s rs (Summary v) = same_summary v (summary_of schema s rs)
 
 -- Each of these records may stand behind those before it.
 abbrev pub LawfulBehind : SchemaValue → ℕ → List Record → List Record → Type 0
@@ -155,3 +173,33 @@ pub record BreaksRule (schema : SchemaValue) (s : ℕ) (rs : List Record) (n : �
   pub parts : rs ≡ before ++ (breaking ∷ behind)
   pub lawful : Lawful schema s before
   pub broken : may_stand schema s before breaking ≡ false
+
+-- ---- summaries among records (this project)
+
+abbrev pub is_summary : Record → Bool
+is_summary (Commit txn escrows) = false
+is_summary (Gift to field kind total) = false
+is_summary (Accept from field kind total) = false
+is_summary (Tighten field kind total) = false
+is_summary (Restart epoch) = false
+is_summary (Summary v) = true
+
+-- The records that are no summaries.
+abbrev pub plain : List Record → List Record
+plain rs = filter (λ r. not (is_summary r)) rs
+
+-- How many records stand behind the last summary, or how many there are where there is none.
+abbrev pub count_behind : ℕ → Record → ℕ
+count_behind n r = if is_summary r then 0 else n + 1
+
+unfoldable pub since_summary : List Record → ℕ
+since_summary rs = fold count_behind 0 rs
+
+-- The record that is, by count, this one after the last summary takes the next summary with it.
+abbrev pub max_behind : ℕ
+max_behind = 1000
+
+-- What is appended for a record: itself, and the summary behind it where one is due.
+abbrev pub piece : SchemaValue → ℕ → List Record → Record → List Record
+piece schema s rs r =
+    r ∷ (if nat_le max_behind (since_summary rs + 1) then Summary (summary_of schema s (rs ++ r ∷ [])) ∷ [] else [])

@@ -1,19 +1,20 @@
 //! What a site does with its medium.
 
 ghost use Rattle.std.specs.Prelude.{◌≡◌, ◌+◌, ◌<◌, ◌≤◌, List, ℕ, OnErr, IfOk, length};
-ghost use Rattle.std.specs.List.{flat_map};
+ghost use Rattle.std.specs.List.{flat_map, AllByRecursion};
 ghost use Rattle.field_bounds.specs.Owed.{max_epoch};
 ghost use Rattle.kept_records.specs.declared.record.Record.{Record};
 ghost use Rattle.kept_records.specs.declared.record.Record.TheVariants.{Restart};
 ghost use Rattle.kept_records.specs.Text.{text, IsRecord};
 ghost use Rattle.kept_records.specs.Logs.{IsLog, Reads, AreAll};
 ghost use Rattle.kept_records.specs.Medium.{CountsRead, AppendFate, ReadFate};
-ghost use Rattle.kept_records.specs.Keeping.{IsKept, Appends, CutsAndAppends, CutAndAppendFate, stands_behind};
+ghost use Rattle.kept_records.specs.Keeping.{with_due, IsKept, Appends, CutsAndAppends, CutAndAppendFate, stands_behind};
 
 use crate::log::{RecordFault, read_records};
 use crate::medium::{Device, Medium, MediumFault};
 use crate::record::Record;
-use crate::writing::put_record;
+use crate::summary::Summary;
+use crate::writing::{put_piece, put_record};
 use std::alloc::{AllocError, Global};
 
 /// What a medium was read as.
@@ -83,6 +84,34 @@ pub fn append_record<M: Medium>(
     Ok(medium.append(line))
 }
 
+/// Adds a record behind the bytes of a medium, and in the same piece, with one call of the medium, the
+/// summary that is due behind it. The inner result tells how it went: Ok where the whole text of the
+/// piece stands there; its error is a fault of the device, which leaves some front of that text: none
+/// of it, a part, or all. The outer error is want of memory, which leaves the medium as it was. The
+/// numbers of both have to lie in the ranges that `Record` tells. The text is made in `line`, whatever
+/// that held, and its memory is used again.
+///
+/// Source: this project.
+pub fn append_piece<M: Medium>(
+    line: &mut Vec<u8>,
+    medium: &mut M,
+    kept: &Record,
+    due: Option<Summary>,
+) -> Result<Result<(), Device>, AllocError>
+    requires ranges { AllByRecursion IsRecord (with_due kept.now due) }
+    ensures added { IfOk result (λ added. Appends added (M.bytes medium.old) (flat_map text (with_due kept.now due)) (M.bytes medium.new) (M.failed medium.old) (M.failed medium.new)) }
+    ensures fate { IfOk result (λ added. AppendFate (M.foretold medium.old) (M.bytes medium.old) (flat_map text (with_due kept.now due)) added (M.bytes medium.new) (M.foretold medium.new)) }
+    ensures line { IfOk result (λ _. line.new.items ≡ flat_map text (with_due kept.now due)) }
+    ensures bytes { OnErr result (M.bytes medium.new ≡ M.bytes medium.old) }
+    ensures failed { OnErr result (M.failed medium.new ≡ M.failed medium.old) }
+    ensures foretold { OnErr result (M.foretold medium.new ≡ M.foretold medium.old) }
+{
+    put_piece(line, kept, due)?;
+    medium.reserve(line.len())?;
+    let added = medium.append(line);
+    Ok(added)
+}
+
 // Cuts what stands behind the first bytes, where there is something, and adds a line.
 fn cut_and_append<M: Medium>(
     medium: &mut M,
@@ -134,6 +163,39 @@ pub fn append_restart<M: Medium>(
     Ok(cut_and_append(medium, whole, present, line))
 }
 
+/// Cuts the torn end of a medium, where it has one, and adds the record of a restart, and in the same
+/// piece, with one call of the medium, the summary that is due behind it. `whole` is the length of the
+/// whole records, and `present` that of all bytes, as `read_log` answers them. The inner result tells
+/// how it went: Ok where the piece stands behind the whole records; its error is a fault of the device,
+/// which leaves the bytes as they were, or the whole records and some front of the piece's text. The
+/// outer error is want of memory, which leaves the medium as it was. The epoch is 1 to
+/// 1,000,000,000, and the summary's numbers lie in the ranges that `Record` tells. The text is made in
+/// `line`, whatever that held, and its memory is used again.
+///
+/// Source: this project.
+pub fn append_restart_piece<M: Medium>(
+    line: &mut Vec<u8>,
+    medium: &mut M,
+    whole: usize,
+    present: usize,
+    epoch: u32,
+    due: Option<Summary>,
+) -> Result<Result<(), Device>, AllocError>
+    requires present { present ≡ length (M.bytes medium.old) }
+    requires within { whole ≤ present }
+    requires ranges { AllByRecursion IsRecord (with_due (Restart epoch) due) }
+    ensures added { IfOk result (λ added. CutsAndAppends added whole (M.bytes medium.old) (flat_map text (with_due (Restart epoch) due)) (M.bytes medium.new) (M.failed medium.old) (M.failed medium.new)) }
+    ensures fate { IfOk result (λ added. CutAndAppendFate (M.foretold medium.old) whole (M.bytes medium.old) (flat_map text (with_due (Restart epoch) due)) added (M.bytes medium.new) (M.foretold medium.new)) }
+    ensures line { IfOk result (λ _. line.new.items ≡ flat_map text (with_due (Restart epoch) due)) }
+    ensures bytes { OnErr result (M.bytes medium.new ≡ M.bytes medium.old) }
+    ensures failed { OnErr result (M.failed medium.new ≡ M.failed medium.old) }
+    ensures foretold { OnErr result (M.foretold medium.new ≡ M.foretold medium.old) }
+{
+    put_piece(line, &Record::Restart { epoch }, due)?;
+    medium.reserve(line.len())?;
+    Ok(cut_and_append(medium, whole, present, line))
+}
+
 /// Whether a record stands behind so many, and it is no restart: whether the record is there that
 /// was added behind them, since a restart adds only its own.
 ///
@@ -148,7 +210,8 @@ pub fn stands_behind(records: &[Record], place: usize) -> bool
             Record::Commit { .. }
             | Record::Gift { .. }
             | Record::Accept { .. }
-            | Record::Tighten { .. },
+            | Record::Tighten { .. }
+            | Record::Summary(_),
         ) => true,
     }
 }

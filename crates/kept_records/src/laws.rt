@@ -1,10 +1,16 @@
 //! Laws of the records' texts, each as the contract of a function that does nothing.
 
-ghost use Rattle.std.specs.Prelude.{◌≡◌, ◌<◌, ◌≤◌, ◌++◌, ◌∷◌, [], ◌⊎◌, List, ℕ, length, take};
-ghost use Rattle.std.specs.List.{flat_map};
+ghost use Rattle.std.specs.Prelude.{◌≡◌, ◌+◌, ◌<◌, ◌≤◌, ◌++◌, ◌∷◌, [], ◌⊎◌, List, ℕ, length, take, true};
+ghost use Rattle.std.specs.List.{flat_map, AllByRecursion};
 ghost use Rattle.kept_records.specs.declared.record.Record.{Record};
 ghost use Rattle.kept_records.specs.Text.{text, IsRecord};
+ghost use Rattle.field_bounds.specs.Schema.{SchemaValue};
 ghost use Rattle.kept_records.specs.Logs.{IsLog, Reads};
+ghost use Rattle.kept_records.specs.Stands.{may_stand, Lawful, plain, piece, since_summary, max_behind, own_in};
+ghost use Rattle.kept_records.specs.Summaries.{SameSums, LeavesFront, TellsOf};
+ghost use Rattle.kept_records.specs.Summary.{SummaryValue};
+ghost use Rattle.kept_records.specs.declared.record.Record.TheVariants.{Summary};
+ghost use Rattle.field_bounds.specs.declared.kind.Kind.{Kind};
 
 /// No record's text begins another record's text: where one does, the two records are the same one
 /// (`same`), and nothing is left behind it (`whole`). So what a log holds is told by its bytes alone.
@@ -42,4 +48,41 @@ pub fn kept_bytes_tell_what_stands()
     ensures whole { (bytes : List ℕ) (rs : List Record) (r : Record) (n : ℕ) → IsLog bytes rs [] → IsRecord r → length (text r) ≤ n →
         IsLog (bytes ++ take n (text r)) (rs ++ r ∷ []) [] }
     ensures cut { (bytes rest : List ℕ) (rs : List Record) (n : ℕ) → IsLog bytes rs rest → n ≡ length (flat_map text rs) → IsLog (take n bytes) rs [] }
+{}
+
+/// Summaries change nothing that records stand for: without them records stand for the same
+/// (`sums`, `owned`), and are lawful where all are (`lawful`). What is appended for a record, with the
+/// summary behind it where one is due, is lawful (`piece`), and once it stands whole fewer than 1,000
+/// records stand behind the last summary (`bound`); one record more is one more (`one`).
+///
+/// Source: this project.
+pub fn summaries_tell_nothing_new()
+    ensures sums { (rs : List Record) → SameSums (plain rs) rs }
+    ensures owned { (schema : SchemaValue) (s : ℕ) (rs : List Record) (f : ℕ) (k : Kind) →
+        own_in schema s (plain rs) f k ≡ own_in schema s rs f k }
+    ensures lawful { (schema : SchemaValue) (s : ℕ) (rs : List Record) → Lawful schema s rs → Lawful schema s (plain rs) }
+    ensures piece { (schema : SchemaValue) (s : ℕ) (rs : List Record) (r : Record) → Lawful schema s rs →
+        may_stand schema s rs r ≡ true → Lawful schema s (rs ++ piece schema s rs r) }
+    ensures bound { (schema : SchemaValue) (s : ℕ) (rs : List Record) (r : Record) →
+        since_summary (rs ++ piece schema s rs r) < max_behind }
+    ensures one { (rs : List Record) (r : Record) → since_summary (rs ++ r ∷ []) ≤ since_summary rs + 1 }
+{}
+
+/// What a piece of several lines leaves behind a log, where the medium kept so many of its bytes: a
+/// front of its records, and a rest in which no line ends, which a cut takes away. Its first record
+/// stands exactly where all bytes of that record's own text were kept, whatever stands behind it.
+///
+/// Source: this project.
+pub fn torn_piece_leaves_a_front()
+    ensures front { (bytes : List ℕ) (rs ps : List Record) (k : ℕ) → IsLog bytes rs [] → AllByRecursion IsRecord ps →
+        LeavesFront bytes rs ps k (bytes ++ take k (flat_map text ps)) }
+{}
+
+/// A summary that may stand behind some records tells what they stand for: its epoch, the own rights of
+/// each field, and the totals of each other site and field, so that nothing before it has to be read.
+///
+/// Source: this project.
+pub fn summary_tells_what_stands()
+    ensures tells { (schema : SchemaValue) (s : ℕ) (rs : List Record) (v : SummaryValue) →
+        may_stand schema s rs (Summary v) ≡ true → TellsOf schema s v (rs ++ Summary v ∷ []) }
 {}

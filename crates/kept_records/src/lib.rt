@@ -12,17 +12,24 @@ mod memory;
 mod reading;
 mod reading_back;
 mod record;
+mod summary;
+mod summary_reading;
 mod torn;
+mod total;
 mod writing;
 
-pub use keeping::{ReadLog, append_record, append_restart, read_log, stands_behind};
-pub use laws::{kept_bytes_tell_what_stands, no_text_begins_another, torn_end_keeps_records};
+pub use keeping::{
+    ReadLog, append_piece, append_record, append_restart, append_restart_piece, read_log, stands_behind,
+};
+pub use laws::{kept_bytes_tell_what_stands, no_text_begins_another, summaries_tell_nothing_new, summary_tells_what_stands, torn_end_keeps_records, torn_piece_leaves_a_front};
 pub use log::{Front, RecordFault, read_front, read_records};
 pub use medium::{Device, End, Medium, MediumFault, Mishap};
 pub use memory::MemoryMedium;
 pub use reading_back::{ReadBack, read_back};
 pub use record::{Escrows, Record};
+pub use summary::Summary;
 pub use torn::TornMedium;
+pub use total::{Cut, Total};
 pub use writing::write_record;
 
 #[cfg(test)]

@@ -4,9 +4,11 @@ ghost use Rattle.std.specs.Prelude.{◌≡◌, ◌≤◌, ◌==◌, IfSome, posi
 ghost use Rattle.line_words.specs.Words.{words};
 ghost use Rattle.line_words.specs.Reading.{word_at, Gives};
 ghost use Rattle.kept_records.specs.declared.reading.LineFault.TheVariants.{NoMemory};
-ghost use Rattle.kept_records.specs.Reading.{number_within, change_of, kind_of, total_from, escrows_from, commit_from, gift_from, accept_from, tighten_from, restart_from, record_of, Tells};
+ghost use Rattle.kept_records.specs.Reading.{number_within, change_of, kind_of, total_from, escrows_from, commit_from, gift_from, accept_from, cut_from, tighten_from, restart_from, record_of, Tells};
 
 use crate::record::{Escrows, Record};
+use crate::summary_reading::take_summary;
+use crate::total::{Cut, Total};
 use field_bounds::{
     Escrow, FieldNo, Kind, MAX_CHANGE, MAX_EPOCH, MAX_ESCROWS, MAX_NUMBER, MAX_TOTAL, SiteNo, TxnId,
 };
@@ -14,7 +16,7 @@ use line_words::{Words, read_number, read_signed};
 use std::alloc::{AllocFailed, Global};
 
 // The greatest number of a site or of a field that a record can name.
-const MAX_PLACE: u64 = u16::MAX as u64;
+pub(crate) const MAX_PLACE: u64 = u16::MAX as u64;
 
 /// Why a line isn't read.
 #[derive(Clone, Copy, Debug, PartialEq, Eq)]
@@ -31,17 +33,8 @@ impl<T: Drop> From<AllocFailed<T>> for LineFault {
     }
 }
 
-// What a gift and an acceptance tell, with the other site.
-#[derive(Drop)]
-struct Total {
-    other: SiteNo,
-    field: FieldNo,
-    kind: Kind,
-    total: u64,
-}
-
 #[tactic(auto, unfolding(crate::specs::Reading::number_within))]
-fn number(word: &[u8], least: u64, most: u64) -> Option<u64>
+pub(crate) fn number(word: &[u8], least: u64, most: u64) -> Option<u64>
     ensures value { result ≡ number_within least most word.now }
     ensures most { IfSome result (λ n. n ≤ most) }
 {
@@ -66,7 +59,7 @@ fn change(word: &[u8]) -> Option<i64>
     }
 }
 
-fn kind(word: &[u8]) -> Option<Kind>
+pub(crate) fn kind(word: &[u8]) -> Option<Kind>
     ensures { result ≡ kind_of word.now }
 {
     match word {
@@ -77,7 +70,7 @@ fn kind(word: &[u8]) -> Option<Kind>
 }
 
 #[tactic(auto, unfolding(line_words::specs::Reading::word_at))]
-fn take_number(words: &mut Words, least: u64, most: u64) -> Option<u64>
+pub(crate) fn take_number(words: &mut Words, least: u64, most: u64) -> Option<u64>
     ensures value { Gives result words.new (word_at (number_within least most) words.old) }
     ensures most { IfSome result (λ n. n ≤ most) }
 {
@@ -102,7 +95,7 @@ fn take_total(mut words: Words) -> Option<Total>
     match words.next() {
         Some(_) => None,
         None => Some(Total {
-            other: SiteNo(other as u16),
+            site: SiteNo(other as u16),
             field: FieldNo(field as u16),
             kind,
             total,
@@ -116,7 +109,7 @@ fn take_gift(words: Words) -> Option<Record>
 {
     let told = take_total(words)?;
     Some(Record::Gift {
-        to: told.other,
+        to: told.site,
         field: told.field,
         kind: told.kind,
         total: told.total,
@@ -129,28 +122,40 @@ fn take_accept(words: Words) -> Option<Record>
 {
     let told = take_total(words)?;
     Some(Record::Accept {
-        from: told.other,
+        from: told.site,
         field: told.field,
         kind: told.kind,
         total: told.total,
     })
 }
 
-#[tactic(auto, unfolding(crate::specs::Reading::tighten_from))]
-fn take_tighten(mut words: Words) -> Option<Record>
-    ensures { result ≡ tighten_from words.entry }
+#[tactic(auto, unfolding(crate::specs::Reading::cut_from))]
+fn take_cut(mut words: Words) -> Option<Cut>
+    ensures { result ≡ cut_from words.entry }
 {
     let field = take_number(&mut words, 0, MAX_PLACE)?;
     let kind = take_kind(&mut words)?;
     let total = take_number(&mut words, 1, MAX_CHANGE)?;
     match words.next() {
         Some(_) => None,
-        None => Some(Record::Tighten {
+        None => Some(Cut {
             field: FieldNo(field as u16),
             kind,
             total,
         }),
     }
+}
+
+#[tactic(auto, unfolding(crate::specs::Reading::tighten_from))]
+fn take_tighten(words: Words) -> Option<Record>
+    ensures { result ≡ tighten_from words.entry }
+{
+    let told = take_cut(words)?;
+    Some(Record::Tighten {
+        field: told.field,
+        kind: told.kind,
+        total: told.total,
+    })
 }
 
 #[tactic(auto, unfolding(crate::specs::Reading::restart_from))]
@@ -218,6 +223,7 @@ pub(crate) fn read_line(alloc: Global, line: &[u8]) -> Result<Record, LineFault>
         Some([b'C']) => take_commit(alloc, words),
         Some([b'G']) => take_gift(words).ok_or(LineFault::NoRecord),
         Some([b'A']) => take_accept(words).ok_or(LineFault::NoRecord),
+        Some([b'S']) => take_summary(alloc, words),
         Some([b'T']) => take_tighten(words).ok_or(LineFault::NoRecord),
         Some([b'R']) => take_restart(words).ok_or(LineFault::NoRecord),
         _ => Err(LineFault::NoRecord),

@@ -2,6 +2,7 @@
 
 ghost use Rattle.std.specs.Prelude.{◌≡◌};
 
+use crate::summary::Summary;
 use field_bounds::{Escrow, FieldNo, Kind, SiteNo, TxnId};
 use std::marker::Model;
 
@@ -82,4 +83,7 @@ pub enum Record {
     Restart {
         epoch: u32,
     },
+    /// What the records before it stand for. It tells nothing new: a log stands for the same with it
+    /// and without it, and what it tells needn't be read again.
+    Summary(Summary),
 }

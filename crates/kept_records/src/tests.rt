@@ -9,7 +9,7 @@ use std::alloc::Global;
 use std::process::Abort;
 
 /// Lines that are no records, each for one reason.
-const NO_RECORDS: [&str; 50] = [
+const NO_RECORDS: [&str; 78] = [
     "\n",
     " \n",
     "r 1\n",
@@ -60,10 +60,38 @@ const NO_RECORDS: [&str; 50] = [
     "T 0 x 5\n",
     "T 0 l 5 6\n",
     "T 1 0 l 5\n",
+    "S 0 0\n",
+    "S 0 1 20\n",
+    "S 1000000001 1 20 30\n",
+    "S 0 1 2000000000000000 1\n",
+    "S 0 2 20 30\n",
+    "S 0 257 20 30\n",
+    "S 0 1 20 30 \n",
+    "S 0 1 20 30 40\n",
+    "S 0 1 20 30 g 1 0 l 0\n",
+    "S 0 1 20 30 g 1 0 l 1000000000000000001\n",
+    "S 0 1 20 30 g 1 0 l\n",
+    "S 0 1 20 30 g 1 0 l 5 g 1 0 l 6\n",
+    "S 0 1 20 30 g 1 0 r 5 g 1 0 l 6\n",
+    "S 0 1 20 30 g 1 1 l 5 g 1 0 r 6\n",
+    "S 0 1 20 30 g 2 0 l 5 g 1 1 r 6\n",
+    "S 0 1 20 30 a 1 0 l 5 g 1 0 l 5\n",
+    "S 0 1 20 30 a 2 0 l 5 a 1 0 l 5\n",
+    "S 0 1 20 30 a 1 65536 l 5\n",
+    "S 0 1 20 30 a 65536 0 l 5\n",
+    "S 0 1 20 30 t 0 l 0\n",
+    "S 0 1 20 30 t 0 l 2000000000000001\n",
+    "S 0 1 20 30 t 0 l 5 g 1 0 l 5\n",
+    "S 0 1 20 30 t 0 l 5 a 1 0 l 5\n",
+    "S 0 1 20 30 t 0 l 5 t 0 l 6\n",
+    "S 0 1 20 30 t 0 r 5 t 0 l 6\n",
+    "S 0 1 20 30 t 1 0 l 5\n",
+    "S 0 1 20 30 t 0 l\n",
+    "S 0 1 20 30 u 0 l 5\n",
 ];
 
 /// Lines at the ends of the ranges.
-const RECORDS: [&str; 8] = [
+const RECORDS: [&str; 13] = [
     "C 1000000000 1000000000 65535 2000000000000000\n",
     "C 0 1 0 1 0 1 0 1 0 1 0 1 0 1 0 1 0 1 0 1 0 1 0 1 0 1 0 1 0 1 0 1 0 1\n",
     "G 0 0 l 1\n",
@@ -72,6 +100,11 @@ const RECORDS: [&str; 8] = [
     "T 65535 r 2000000000000000\n",
     "R 1\n",
     "R 1000000000\n",
+    "S 0 1 20 30\n",
+    "S 0 1 0 0\n",
+    "S 0 2 20 30 0 0 a 1 0 l 4 t 1 r 7\n",
+    "S 1000000000 1 0 2000000000000000 g 1 0 l 5 g 1 0 r 1 g 2 0 l 1 a 1 0 l 5 t 0 l 5 t 0 r 1 t 1 l 2000000000000000\n",
+    "S 0 1 20 30 g 65535 65535 r 1000000000000000000 a 65535 65535 r 1000000000000000000 t 65535 r 1\n",
 ];
 
 fn is_text(text: Option<Vec<u8>>, wanted: &str) -> bool {

@@ -2,10 +2,14 @@
 
 ghost use Rattle.std.specs.Prelude.{◌≡◌, ◌++◌, ◌∷◌, OnOk, IfOk};
 ghost use Rattle.std.specs.Fmt.{decimal, signed_decimal};
-ghost use Rattle.kept_records.specs.Text.{text, letter_of, words_of, spaced, kind_word, escrow_words, total_words, cut_words, IsRecord};
+ghost use Rattle.std.specs.List.{flat_map};
+ghost use Rattle.kept_records.specs.Keeping.{with_due};
+ghost use Rattle.kept_records.specs.Text.{text, letter_of, words_of, spaced, kind_word, escrow_words, total_words, cut_words, rights_words, group_words, cuts_words, summary_words, IsRecord};
 ghost use Rattle.kept_records.specs.Logs.{TearsClean};
 
 use crate::record::Record;
+use crate::summary::Summary;
+use crate::total::{Cut, Total};
 use field_bounds::{Escrow, FieldNo, Kind, SiteNo};
 use itoa::Buffer;
 use std::alloc::{AllocError, Global};
@@ -74,13 +78,65 @@ fn push_total(
     push_number(line, total)
 }
 
-// Adds the words of a tightening, a space before each.
+// Adds the rights of each field, a space before each.
+fn push_rights(line: &mut Vec<u8>, rights: &[(u64, u64)]) -> Result<(), AllocError>
+    ensures { OnOk result (line.new.items ≡ line.old.items ++ spaced (rights_words rights.now)) }
+{
+    for row in rights {
+        push_number(line, row.0)?;
+        push_number(line, row.1)?;
+    }
+    Ok(())
+}
+
+// Adds totals, each behind the letter of its group, a space before each word.
+fn push_group(line: &mut Vec<u8>, letter: u8, totals: &[Total]) -> Result<(), AllocError>
+    ensures { OnOk result (line.new.items ≡ line.old.items ++ spaced (group_words letter totals.now)) }
+{
+    for told in totals {
+        push_word(line, &[letter])?;
+        push_total(line, told.site, told.field, told.kind, told.total)?;
+    }
+    Ok(())
+}
+
+// Adds the words behind the letter of a tightening, a space before each.
 fn push_cut(line: &mut Vec<u8>, field: FieldNo, kind: Kind, total: u64) -> Result<(), AllocError>
     ensures { OnOk result (line.new.items ≡ line.old.items ++ spaced (cut_words field kind total)) }
 {
     push_number(line, u64::from(field.0))?;
     push_word(line, kind_letter(kind))?;
     push_number(line, total)
+}
+
+// Adds totals given up, each behind its letter, a space before each word.
+fn push_cuts(line: &mut Vec<u8>, totals: &[Cut]) -> Result<(), AllocError>
+    ensures { OnOk result (line.new.items ≡ line.old.items ++ spaced (cuts_words totals.now)) }
+{
+    for told in totals {
+        push_word(line, b"t")?;
+        push_cut(line, told.field, told.kind, told.total)?;
+    }
+    Ok(())
+}
+
+// Adds the totals of a summary, a space before each word.
+fn push_groups(line: &mut Vec<u8>, summary: &Summary) -> Result<(), AllocError>
+    ensures { OnOk result (line.new.items ≡ line.old.items ++ spaced (group_words 103 summary.now.gifts ++ (group_words 97 summary.now.accepts ++ cuts_words summary.now.tightenings))) }
+{
+    push_group(line, b'g', summary.gifts())?;
+    push_group(line, b'a', summary.accepts())?;
+    push_cuts(line, summary.tightenings())
+}
+
+// Adds the words of a summary, a space before each.
+fn push_summary(line: &mut Vec<u8>, summary: &Summary) -> Result<(), AllocError>
+    ensures { OnOk result (line.new.items ≡ line.old.items ++ spaced (summary_words summary.now)) }
+{
+    push_number(line, u64::from(summary.epoch()))?;
+    push_number(line, summary.rights().len() as u64)?;
+    push_rights(line, summary.rights())?;
+    push_groups(line, summary)
 }
 
 fn letter(kept: &Record) -> u8
@@ -92,6 +148,7 @@ fn letter(kept: &Record) -> u8
         Record::Accept { .. } => b'A',
         Record::Tighten { .. } => b'T',
         Record::Restart { .. } => b'R',
+        Record::Summary(_) => b'S',
     }
 }
 
@@ -119,6 +176,7 @@ fn push_words(line: &mut Vec<u8>, kept: &Record) -> Result<(), AllocError>
         } => push_total(line, *from, *field, *kind, *total),
         Record::Tighten { field, kind, total } => push_cut(line, *field, *kind, *total),
         Record::Restart { epoch } => push_number(line, u64::from(*epoch)),
+        Record::Summary(summary) => push_summary(line, summary),
     }
 }
 
@@ -139,6 +197,22 @@ pub(crate) fn put_record(line: &mut Vec<u8>, kept: &Record) -> Result<(), AllocE
 {
     line.clear();
     push_record(line, kept)
+}
+
+/// Writes the text of a record, and behind it that of the summary that is due, in place of what `line`
+/// holds. The error is want of memory; `line` then holds anything.
+pub(crate) fn put_piece(
+    line: &mut Vec<u8>,
+    kept: &Record,
+    due: Option<Summary>,
+) -> Result<(), AllocError>
+    ensures text { OnOk result (line.new.items ≡ flat_map text (with_due kept.now due)) }
+{
+    put_record(line, kept)?;
+    match due {
+        None => Ok(()),
+        Some(summary) => push_record(line, &Record::Summary(summary)),
+    }
 }
 
 /// The text of a record, its line feed included. Its numbers have to lie in the ranges that

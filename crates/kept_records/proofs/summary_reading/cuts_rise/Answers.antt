@@ -1,0 +1,8 @@
+use Rattle.std.proofs.Common.{◌∙◌, sym, arith, ◌≤◌, length}
+use Rattle.kept_records.proofs.SummaryLoops.{cuts_rise_few}
+use Rattle.kept_records.proofs.summary_reading.cuts_rise.Goals as goal
+
+pub returns : goal.returns
+returns c =
+    let few : length c.loop-rest.rest.now ≤ 1 = omega arith in
+    sym (cuts_rise_few c.loop-rest.rest.now few) ∙ c.loop-rest.invariant
