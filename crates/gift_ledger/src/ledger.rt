@@ -134,6 +134,35 @@ impl Ledger {
         gain
     }
 
+    /// Sets the total given so far to another site, whatever it was: at most
+    /// 1,000,000,000,000,000,000 rights. Nothing else changes.
+    pub fn set_total(&mut self, to: SiteNo, field: FieldNo, kind: Kind, total: u64)
+        requires place { IsPlace self.old to.0 field.0 }
+        requires small { total ≤ max_total }
+        ensures set { self.new ≡ with_total self.old to.0 field.0 kind total }
+    {
+        let account = self.account(to, field, kind);
+        let account = Account {
+            given: total,
+            ..account
+        };
+        self.put(to, field, kind, account);
+    }
+
+    /// Sets the greatest total accepted so far from another site, whatever it was. Nothing else
+    /// changes.
+    pub fn set_accepted(&mut self, from: SiteNo, field: FieldNo, kind: Kind, total: u64)
+        requires place { IsPlace self.old from.0 field.0 }
+        ensures set { self.new ≡ with_accepted self.old from.0 field.0 kind total }
+    {
+        let account = self.account(from, field, kind);
+        let account = Account {
+            accepted: total,
+            ..account
+        };
+        self.put(from, field, kind, account);
+    }
+
     fn account(&self, site: SiteNo, field: FieldNo, kind: Kind) -> Account
         requires place { IsPlace self.now site.0 field.0 }
         ensures value { result ≡ account_at self.now site.0 field.0 kind }

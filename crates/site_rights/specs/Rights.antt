@@ -142,3 +142,31 @@ pub record IsFresh (schema : SchemaValue) (site field : ℕ) (r : FieldRights) :
 pub record AreFresh (schema : SchemaValue) (site : ℕ) (rows : List FieldRights) : Type 0 where
   pub count : length rows ≡ length schema.fields
   pub each : (f : ℕ) → f < length rows → IsFresh schema site f (row_at rows f)
+
+-- ---- rights that were told, as a summary tells them
+
+-- Of two numbers the one of a kind, to lower and to raise.
+abbrev pub told_of : ℕ × ℕ → Kind → ℕ
+told_of pair Lower = pair.0
+told_of pair Raise = pair.1
+
+-- The pair of a field, and zeros for a field that isn't there.
+abbrev pub pair_at : List (ℕ × ℕ) → ℕ → ℕ × ℕ
+pair_at pairs f = slice_index_or pairs f (0, 0)
+
+-- The rights on a field of which so many are free and so many given up; none are held.
+pub record IsTold (schema : SchemaValue) (field : ℕ) (free_ cut_ : ℕ × ℕ) (r : FieldRights) : Type 0 where
+  pub width : r.width ≡ width_of (field_at schema field)
+  pub free : (k : Kind) → (amounts_of r k).free ≡ told_of free_ k
+  pub held : (k : Kind) → (amounts_of r k).held ≡ 0
+  pub cut : (k : Kind) → (amounts_of r k).cut ≡ told_of cut_ k
+
+-- The rights that were told, on every field of the schema.
+pub record AreTold (schema : SchemaValue) (free cuts : List (ℕ × ℕ)) (rows : List FieldRights) : Type 0 where
+  pub count : length rows ≡ length schema.fields
+  pub each : (f : ℕ) → f < length rows → IsTold schema f (pair_at free f) (pair_at cuts f) (row_at rows f)
+
+-- On each field, what was told of both kinds, free and given up, is no more than the field is wide.
+abbrev pub AreWithin : SchemaValue → List (ℕ × ℕ) → List (ℕ × ℕ) → Type 0
+AreWithin schema free cuts =
+    (f : ℕ) → f < length free → (pair_at free f).0 + (pair_at free f).1 + (pair_at cuts f).0 + (pair_at cuts f).1 ≤ width_of (field_at schema f)

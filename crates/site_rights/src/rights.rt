@@ -2,7 +2,8 @@
 
 ghost use Rattle.std.specs.Prelude.{◌≡◌, ◌+◌, ◌<◌, ◌≤◌, ◌↔◌, length, OnOk, IfErr, OnErr, IsOk, IfOk, All};
 ghost use Rattle.field_bounds.specs.Owed.{max_change};
-ghost use Rattle.site_rights.specs.Rights.{IsFresh, IsWithinWidth, free_at, held_at, own_at, cut_at, guarded_at, room_at, at_field, taken, given_back, turned, dropped, tightened, added, by_escrow, by_escrows, ending, CanEnd, AreFresh, AreHeld, AreInRange};
+ghost use Rattle.field_bounds.specs.Parts.{field_at, width_of};
+ghost use Rattle.site_rights.specs.Rights.{IsFresh, IsWithinWidth, free_at, held_at, own_at, cut_at, guarded_at, room_at, at_field, taken, given_back, turned, dropped, tightened, added, by_escrow, by_escrows, ending, CanEnd, AreFresh, AreTold, AreWithin, IsTold, AreHeld, AreInRange};
 
 use crate::field_rights::{Amounts, FieldRights, Outcome, Short};
 use field_bounds::{Escrow, FieldNo, Kind, Schema, SiteNo, both_kinds};
@@ -38,6 +39,29 @@ impl Rights {
         let mut rows = Vec::new(alloc);
         for number in 0..schema.fields() {
             rows.push(first_rights(schema, site, FieldNo(number)))?;
+        }
+        Ok(Rights { rows })
+    }
+
+    /// The rights of a site of which so many are free on each field, to lower and to raise it, and so
+    /// many were given up; none are held. On each field all of them together are no more than its width.
+    /// The error is want of memory. Costs one row for each field; no later call takes memory.
+    pub fn of(
+        alloc: Global,
+        schema: &Schema,
+        free: &[(u64, u64)],
+        cuts: &[(u64, u64)],
+    ) -> Result<Rights, AllocError>
+        requires count { length free.now ≡ length schema.now.fields }
+        requires cut_count { length cuts.now ≡ length schema.now.fields }
+        requires within { AreWithin schema.now free.now cuts.now }
+        ensures told { IfOk result (λ rights. AreTold schema.now free.now cuts.now rights) }
+    {
+        let mut rows = Vec::new(alloc);
+        for number in 0..schema.fields() {
+            let own = free[usize::from(number)];
+            let cut = cuts[usize::from(number)];
+            rows.push(told_rights(schema, FieldNo(number), own, cut))?;
         }
         Ok(Rights { rows })
     }
@@ -269,6 +293,34 @@ fn first_rights(schema: &Schema, site: SiteNo, field: FieldNo) -> FieldRights
             free: schema.part(site, field, Kind::Raise),
             held: 0,
             cut: 0,
+        },
+    }
+}
+
+/// The rights on a field of which so many are free and so many given up, to lower and to raise it.
+fn told_rights(
+    schema: &Schema,
+    field: FieldNo,
+    free: (u64, u64),
+    cut: (u64, u64),
+) -> FieldRights
+    requires field_in { field.0 < length schema.now.fields }
+    requires few { free.0 + free.1 + cut.0 + cut.1 ≤ width_of (field_at schema.now field.0) }
+    ensures told { IsTold schema.now field.0 free cut result }
+    ensures within { IsWithinWidth result }
+{
+    let (floor, ceiling, _) = schema.bounds(field);
+    FieldRights {
+        width: ceiling.abs_diff(floor),
+        lower: Amounts {
+            free: free.0,
+            held: 0,
+            cut: cut.0,
+        },
+        raise: Amounts {
+            free: free.1,
+            held: 0,
+            cut: cut.1,
         },
     }
 }
