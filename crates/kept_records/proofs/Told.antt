@@ -320,7 +320,7 @@ module _ (schema : SchemaValue) (s : ℕ) (F : ℕ → ℕ → Kind → ℕ) whe
 
 -- ---- what a lawful summary tells
 
-summary_tells : (schema : SchemaValue) (s : ℕ) (rs : List Record) → TellsOf schema s (summary_of schema s rs) rs
+pub summary_tells : (schema : SchemaValue) (s : ℕ) (rs : List Record) → TellsOf schema s (summary_of schema s rs) rs
 unfolding summary_of
 summary_tells schema s rs =
     let m = length schema.fields in

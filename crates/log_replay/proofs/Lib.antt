@@ -1,1 +1,4 @@
 pub mod StandingLaws
+pub mod FromSummary
+pub mod Told
+pub mod Rising

@@ -1,2 +1,4 @@
 pub mod Standing
 pub mod Replayed
+pub mod Resuming
+pub mod Telling

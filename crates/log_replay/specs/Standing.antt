@@ -7,7 +7,7 @@ use Rattle.field_bounds.specs.Schema.{SchemaValue}
 use Rattle.field_bounds.specs.Parts.{field_at, width_of}
 use Rattle.field_bounds.specs.Effects.{takes}
 use Rattle.kept_records.specs.declared.record.Record.{Record}
-use Rattle.kept_records.specs.declared.record.Record.TheVariants.{Commit, Gift, Accept, Tighten, Restart}
+use Rattle.kept_records.specs.declared.record.Record.TheVariants.{Commit, Gift, Accept, Tighten, Restart, Summary}
 use Rattle.kept_records.specs.Stands.{greatest, given_in, accepted_in, cut_in, own_in, is_field, is_other_site, may_stand, Lawful}
 use Rattle.site_rights.specs.declared.field_rights.FieldRights.{FieldRights}
 use Rattle.site_rights.specs.Rights.{row_at, free_at, held_at, own_at, cut_at, room_at}
@@ -60,7 +60,8 @@ is_on_field schema e = is_field schema e.field.0
 abbrev pub AreFree : List FieldRights → List Escrow → Type 0
 AreFree rows es = (f : ℕ) (k : Kind) → f < length rows → sum_by (takes f k) es ≤ free_at rows f k
 
--- The record can be taken in: what it spends is free, and what it adds has room.
+-- The record can be taken in: what it spends is free, and what it adds has room. A summary adds nothing to what records
+-- stand for, and isn't taken in.
 abbrev pub CanTakeIn : SchemaValue → Standing → Record → Type 0
 CanTakeIn schema old (Commit txn es) = (txn.epoch ≡ old.epoch) × (list_all (is_on_field schema) es ≡ true) × AreFree old.rights es
 CanTakeIn schema old (Gift to field kind total) =
@@ -73,6 +74,7 @@ CanTakeIn schema old (Tighten field kind total) =
     (is_field schema field.0 ≡ true) × (cut_at old.rights field.0 kind < total)
     × (total - cut_at old.rights field.0 kind ≤ free_at old.rights field.0 kind)
 CanTakeIn schema old (Restart epoch) = old.epoch < epoch
+CanTakeIn schema old (Summary v) = ⊥
 
 -- Whether a record is taken in, and what that leaves. Where nothing is held, it is taken in exactly where it may stand
 -- behind those before it (answered). Where it is, the new standing is for the old records and for it, whichever lawful

@@ -1,16 +1,23 @@
 //! What the records of a log stand for: a machine that takes them in one by one, from the parts of
 //! the site on, and names the first that breaks a rule. A site that is up takes in by the same call
-//! what it appends.
+//! what it appends. What it comes to is told in a summary, and a log is taken in from its last summary
+//! on as well as from its front.
 //!
 //! Source: O'Neil 1986 for the committed escrows, whose sizes turn; Balegas and others 2015 for
 //! totals given and accepted; this project for the rules of a log.
 #![tactic(auto)]
 
 mod log;
+mod ranges;
+mod resuming;
 mod standing;
+mod telling;
 
 pub use log::{Replayed, replay};
+pub use ranges::{summary_may_be_written, totals_rise};
+pub use resuming::{Resumed, behind_last, resume};
 pub use standing::Standing;
+pub use telling::{summary, summary_after};
 
 #[cfg(test)]
 mod tests;

@@ -3,9 +3,11 @@
 ghost use Rattle.std.specs.Prelude.{◌<◌, IfOk};
 ghost use Rattle.std.specs.List.{AllByRecursion};
 ghost use Rattle.kept_records.specs.Text.{IsRecord};
+ghost use Rattle.log_replay.specs.Standing.{HasPlaces, TakesIn};
 ghost use Rattle.log_replay.specs.Replayed.{TellsStanding, TellsBroken};
 
 use crate::standing::Standing;
+use crate::telling::tells;
 use field_bounds::{Schema, SiteNo};
 use kept_records::Record;
 use std::alloc::{AllocError, Global};
@@ -21,12 +23,35 @@ pub enum Replayed {
     BreaksRule { number: u64 },
 }
 
+/// Takes in the next record, and answers whether it did. A summary is taken in where it tells what the
+/// standing comes to, which it leaves as it was.
+fn take_next(
+    alloc: Global,
+    schema: &Schema,
+    standing: &mut Standing,
+    next: &Record,
+) -> Result<bool, AllocError>
+    requires places { HasPlaces schema.now standing.old.rights standing.old.ledger }
+    requires in_range { IsRecord next.now }
+    ensures takes_in { IfOk result (λ may. TakesIn schema.now standing.old next.now may standing.new) }
+{
+    match next {
+        Record::Summary(told) => tells(alloc, schema, standing, told),
+        Record::Commit { .. }
+        | Record::Gift { .. }
+        | Record::Accept { .. }
+        | Record::Tighten { .. }
+        | Record::Restart { .. } => Ok(standing.take_in(schema, next)),
+    }
+}
+
 /// Takes in all records of a site's log, in order, from the site's parts on. `BreaksRule` is
 /// answered exactly where some record may not stand behind those before it, and names the first.
 /// The error is want of memory.
 ///
-/// Costs one step for each record and escrow up to the first that breaks a rule. Memory is taken
-/// for the standing alone: a row for each field, and one for each site and field.
+/// Costs one step for each record and escrow up to the first that breaks a rule, and a pass over the
+/// standing for each summary. Memory is taken for the standing alone, a row for each field and one for
+/// each site and field, and at a summary for another one like it, which is let go.
 ///
 /// Source: this project.
 pub fn replay(
@@ -44,7 +69,7 @@ pub fn replay(
     let mut number: u64 = 0;
     for record in records {
         number += 1;
-        if !standing.take_in(schema, record) {
+        if !take_next(alloc, schema, &mut standing, record)? {
             return Ok(Replayed::BreaksRule { number });
         }
     }

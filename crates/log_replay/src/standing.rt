@@ -1,19 +1,23 @@
 //! What records stand for, and the step by which one more is taken in.
 
-ghost use Rattle.std.specs.Prelude.{◌≡◌, ◌<◌, ◌≤◌, ◌&&◌, ◌++◌, ◌∷◌, [], ℕ, List, true, IfOk, IsTrue, ◌↔◌};
-ghost use Rattle.std.specs.List.{list_all};
+ghost use Rattle.std.specs.Prelude.{◌≡◌, ◌<◌, ◌≤◌, ◌&&◌, ◌++◌, ◌∷◌, [], ℕ, List, true, false, IfOk, IsTrue, ◌↔◌};
+ghost use Rattle.std.specs.List.{list_all, AllByRecursion};
 ghost use Rattle.field_bounds.specs.Schema.{SchemaValue};
 ghost use Rattle.field_bounds.specs.Owed.{max_total};
 ghost use Rattle.kept_records.specs.declared.record.Record.{Record};
 ghost use Rattle.kept_records.specs.declared.record.Record.TheVariants.{Commit, Gift, Accept, Tighten, Restart};
-ghost use Rattle.kept_records.specs.Text.{IsRecord};
-ghost use Rattle.kept_records.specs.Stands.{is_field, is_other_site, may_stand, Lawful};
+ghost use Rattle.kept_records.specs.Text.{IsRecord, IsSummary};
+ghost use Rattle.kept_records.specs.Stands.{is_field, is_other_site, is_summary, Lawful};
+ghost use Rattle.kept_records.specs.Summary.{cut_told_more, cut_told, rights_of};
+ghost use Rattle.kept_records.specs.Summaries.{TellsOf};
 ghost use Rattle.site_rights.specs.Rights.{AreInRange, by_escrows, taken};
+ghost use Rattle.gift_ledger.specs.Ledger.{IsPlace};
 ghost use Rattle.log_replay.specs.Standing.{HasPlaces, IsStandingFor, AreFree, TakesIn, is_on_field};
+ghost use Rattle.log_replay.specs.Resuming.{NotesGifts, NotesAccepts};
 
 use field_bounds::{Escrow, FieldNo, Kind, Schema, SiteNo, TxnId};
 use gift_ledger::Ledger;
-use kept_records::Record;
+use kept_records::{Cut, Record, Summary, Total};
 use site_rights::{Outcome, Rights};
 use std::alloc::{AllocError, Global};
 
@@ -48,19 +52,51 @@ impl Standing {
         })
     }
 
+    /// What a summary tells, with no rights held. The summary tells what some lawful records of the
+    /// site stand for, and the standing is then for them. The error is want of memory. Costs memory for
+    /// a row of each field, and for one of each site and field, and a pass over the tightenings that the
+    /// summary tells for each field.
+    ///
+    /// Source: this project.
+    pub fn of_summary(
+        alloc: Global,
+        schema: &Schema,
+        site: SiteNo,
+        summary: &Summary,
+    ) -> Result<Standing, AllocError>
+        requires site_in { site.0 < schema.now.sites }
+        requires in_range { IsSummary summary.now }
+        requires tells { (rs : List Record) × Lawful schema.now site.0 rs × TellsOf schema.now site.0 summary.now rs }
+        ensures stands { IfOk result (λ standing. (rs : List Record) → TellsOf schema.now site.0 summary.now rs → IsStandingFor schema.now site.0 rs standing) }
+    {
+        let _sites = schema.sites();
+        let mut ledger = Ledger::new(alloc, schema, site)?;
+        note_gifts(&mut ledger, summary.gifts());
+        note_accepts(&mut ledger, summary.accepts());
+        let cuts = cut_rows(alloc, schema.fields(), summary.tightenings())?;
+        let rights = Rights::of(alloc, schema, summary.rights(), &cuts)?;
+        Ok(Standing {
+            rights,
+            ledger,
+            epoch: summary.epoch(),
+        })
+    }
+
     /// Takes in the next record, and answers whether it did. Where no rights are held, it does exactly
     /// where the record may stand behind those before it. In any case it does where what the record
     /// spends is free and what it adds has room. The standing is then for the old records and for
     /// this one, and what was held stays held. Where it doesn't, nothing is claimed of what is left.
     ///
     /// The schema is the one that the standing was made for, and the record's numbers lie in the
-    /// ranges that `Record` tells. Costs one step for each escrow of the record, and no memory.
+    /// ranges that `Record` tells. It is no summary: a summary is compared with what the records before
+    /// it stand for, which `replay` does, and adds nothing to it. Costs one step for each escrow of the record, and no memory.
     ///
     /// Source: O'Neil 1986 for the commit; Balegas and others 2015 for the gift and the acceptance;
     /// this project for the tightening, the restart and for what each of them has to meet.
     pub fn take_in(&mut self, schema: &Schema, next: &Record) -> bool
         requires places { HasPlaces schema.now self.old.rights self.old.ledger }
         requires in_range { IsRecord next.now }
+        requires plain { is_summary next.now ≡ false }
         ensures takes_in { TakesIn schema.now self.old next.now result self.new }
     {
         match next {
@@ -79,6 +115,7 @@ impl Standing {
             } => self.accept(schema, *from, *field, *kind, *total),
             Record::Tighten { field, kind, total } => self.tighten(schema, *field, *kind, *total),
             Record::Restart { epoch } => self.restart(*epoch),
+            Record::Summary(_) => unreachable!(),
         }
     }
 
@@ -174,6 +211,63 @@ impl Standing {
     {
         site.0 < schema.sites() && site.0 != self.ledger.site().0 && field.0 < schema.fields()
     }
+}
+
+/// Sets the totals that were given.
+fn note_gifts(ledger: &mut Ledger, gifts: &[Total])
+    requires places { AllByRecursion (λ t. IsPlace ledger.old t.site.0 t.field.0) gifts.now }
+    requires small { AllByRecursion (λ t. t.total ≤ max_total) gifts.now }
+    ensures noted { NotesGifts ledger.old gifts.now ledger.new }
+{
+    for told in gifts {
+        ledger.set_total(told.site, told.field, told.kind, told.total);
+    }
+}
+
+/// Sets the totals that were accepted.
+fn note_accepts(ledger: &mut Ledger, accepts: &[Total])
+    requires places { AllByRecursion (λ t. IsPlace ledger.old t.site.0 t.field.0) accepts.now }
+    ensures noted { NotesAccepts ledger.old accepts.now ledger.new }
+{
+    for told in accepts {
+        ledger.set_accepted(told.site, told.field, told.kind, told.total);
+    }
+}
+
+/// The total given up of a field and a kind, told after the one before.
+fn cut_or(told: &Cut, field: FieldNo, kind: Kind, before: u64) -> u64
+    ensures value { result ≡ cut_told_more field.0 kind before told.now }
+{
+    if told.field.0 == field.0 && told.kind == kind {
+        told.total
+    } else {
+        before
+    }
+}
+
+/// The total given up of a field and a kind.
+fn cut_told(cuts: &[Cut], field: FieldNo, kind: Kind) -> u64
+    ensures value { result ≡ cut_told cuts.now field.0 kind }
+{
+    let mut total = 0;
+    for told in cuts {
+        total = cut_or(told, field, kind, total);
+    }
+    total
+}
+
+/// What was given up of each field, to lower and to raise it. Costs a pass over what was given up for
+/// each field.
+fn cut_rows(alloc: Global, fields: u16, cuts: &[Cut]) -> Result<Vec<(u64, u64)>, AllocError>
+    ensures { IfOk result (λ rows. rows.items ≡ rights_of (cut_told cuts.now) fields) }
+{
+    let mut rows = Vec::new(alloc);
+    for number in 0..fields {
+        let lower = cut_told(cuts, FieldNo(number), Kind::Lower);
+        let raise = cut_told(cuts, FieldNo(number), Kind::Raise);
+        rows.push((lower, raise))?;
+    }
+    Ok(rows)
 }
 
 /// Whether each escrow is on a field of the schema.

@@ -1,0 +1,42 @@
+-- The summary of a standing (this project).
+use Rattle.std.specs.Prelude.{ℕ, ◌==◌, if◌then◌else◌, Bool, true, false, List, [], ◌∷◌, length}
+use Rattle.field_bounds.specs.declared.kind.Kind.{Kind}
+use Rattle.field_bounds.specs.declared.id.SiteNo.{SiteNo}
+use Rattle.field_bounds.specs.declared.id.FieldNo.{FieldNo}
+use Rattle.field_bounds.specs.Schema.{SchemaValue}
+use Rattle.kept_records.specs.declared.record.Record.{Record}
+use Rattle.kept_records.specs.declared.record.Record.TheVariants.{Summary}
+use Rattle.kept_records.specs.declared.total.Total.{Total}
+use Rattle.kept_records.specs.declared.total.Cut.{Cut}
+use Rattle.kept_records.specs.Summary.{SummaryValue, rights_of, totals_of, cuts_of}
+use Rattle.site_rights.specs.Rights.{own_at, cut_at}
+use Rattle.gift_ledger.specs.Ledger.{LedgerValue, total_at, accepted_at}
+use Rattle.log_replay.specs.declared.standing.Standing.{Standing}
+
+-- The record of a summary.
+abbrev pub record_of : SummaryValue → Record
+record_of v = Summary v
+
+-- The totals given, or those accepted.
+abbrev pub side : Bool → LedgerValue → ℕ → ℕ → Kind → ℕ
+side true ledger r f k = total_at ledger r f k
+side false ledger r f k = accepted_at ledger r f k
+
+-- A total, where it is above 0.
+abbrev pub told_if : SiteNo → FieldNo → Kind → ℕ → List Total
+told_if site field kind total = if total == 0 then [] else record { site = site; field = field; kind = kind; total = total } ∷ []
+
+-- A total given up, where it is above 0.
+abbrev pub cut_if : FieldNo → Kind → ℕ → List Cut
+cut_if field kind total = if total == 0 then [] else record { field = field; kind = kind; total = total } ∷ []
+
+-- What a standing comes to, as a summary.
+abbrev pub summary_now : SchemaValue → Standing → SummaryValue
+summary_now schema standing =
+    record {
+      epoch = standing.epoch;
+      rights = rights_of (own_at standing.rights) (length schema.fields);
+      gifts = totals_of (side true standing.ledger) standing.ledger.site (length schema.fields) schema.sites;
+      accepts = totals_of (side false standing.ledger) standing.ledger.site (length schema.fields) schema.sites;
+      tightenings = cuts_of (cut_at standing.rights) (length schema.fields);
+    }

@@ -1,0 +1,281 @@
+//! The summary of what was taken in.
+
+ghost use Rattle.std.specs.Prelude.{◌≡◌, ◌++◌, ◌∷◌, ◌≤◌, ◌<◌, ◌≢◌, [], ℕ, false, IfOk, OnOk, List, length};
+ghost use Rattle.kept_records.specs.declared.record.Record.{Record};
+ghost use Rattle.kept_records.specs.Stands.{is_summary, summary_of, may_stand};
+ghost use Rattle.kept_records.specs.Text.{IsRecord};
+ghost use Rattle.kept_records.specs.Summary.{rights_of, totals_of, totals_of_site, cuts_of, same_rights, same_totals, same_total, same_cuts, same_cut, same_summary};
+ghost use Rattle.field_bounds.specs.Kind.{same_kind};
+ghost use Rattle.site_rights.specs.Rights.{own_at, cut_at};
+ghost use Rattle.gift_ledger.specs.Ledger.{IsPlace};
+ghost use Rattle.log_replay.specs.Standing.{HasPlaces, Stands};
+ghost use Rattle.log_replay.specs.Resuming.{MayStandNext};
+ghost use Rattle.log_replay.specs.Telling.{record_of, side, told_if, cut_if, summary_now};
+
+use crate::standing::Standing;
+use field_bounds::{FieldNo, Kind, Schema, SiteNo};
+use gift_ledger::Ledger;
+use kept_records::{Cut, Record, Summary, Total};
+use site_rights::Rights;
+use std::alloc::{AllocError, Global};
+
+/// Adds a total, where it is above 0.
+fn push_total(
+    totals: &mut Vec<Total>,
+    site: SiteNo,
+    field: FieldNo,
+    kind: Kind,
+    total: u64,
+) -> Result<(), AllocError>
+    ensures { OnOk result (totals.new.items ≡ totals.old.items ++ told_if site field kind total) }
+{
+    if total != 0 {
+        totals.push(Total {
+            site,
+            field,
+            kind,
+            total,
+        })?;
+    }
+    Ok(())
+}
+
+fn total_on_side(ledger: &Ledger, given: bool, site: SiteNo, field: FieldNo, kind: Kind) -> u64
+    requires place { IsPlace ledger.now site.0 field.0 }
+    ensures value { result ≡ side given ledger.now site.0 field.0 kind }
+{
+    if given {
+        ledger.total(site, field, kind)
+    } else {
+        ledger.accepted(site, field, kind)
+    }
+}
+
+/// Adds the totals of one site, field by field.
+fn push_site(
+    totals: &mut Vec<Total>,
+    ledger: &Ledger,
+    given: bool,
+    site: SiteNo,
+    fields: u16,
+) -> Result<(), AllocError>
+    requires places { (f : ℕ) → f < fields → IsPlace ledger.now site.0 f }
+    ensures { OnOk result (totals.new.items ≡ totals.old.items ++ totals_of_site (side given ledger.now) site.0 fields) }
+{
+    for number in 0..fields {
+        let field = FieldNo(number);
+        let lower = total_on_side(ledger, given, site, field, Kind::Lower);
+        push_total(totals, site, field, Kind::Lower, lower)?;
+        let raise = total_on_side(ledger, given, site, field, Kind::Raise);
+        push_total(totals, site, field, Kind::Raise, raise)?;
+    }
+    Ok(())
+}
+
+/// The totals given or accepted, site by site.
+fn totals_on_side(
+    alloc: Global,
+    schema: &Schema,
+    ledger: &Ledger,
+    given: bool,
+) -> Result<Vec<Total>, AllocError>
+    requires places { (r f : ℕ) → r < schema.now.sites → r ≢ ledger.now.site → f < length schema.now.fields → IsPlace ledger.now r f }
+    ensures { IfOk result (λ totals. totals.items ≡ totals_of (side given ledger.now) ledger.now.site (length schema.now.fields) schema.now.sites) }
+{
+    let mut totals = Vec::new(alloc);
+    let own = ledger.site();
+    for number in 0..schema.sites() {
+        if number != own.0 {
+            push_site(&mut totals, ledger, given, SiteNo(number), schema.fields())?;
+        }
+    }
+    Ok(totals)
+}
+
+/// The own rights, field by field.
+fn own_rights(alloc: Global, rights: &Rights, fields: u16) -> Result<Vec<(u64, u64)>, AllocError>
+    requires count { fields ≤ length rights.now }
+    ensures { IfOk result (λ told. told.items ≡ rights_of (own_at rights.now) fields) }
+{
+    let mut told = Vec::new(alloc);
+    for number in 0..fields {
+        let field = FieldNo(number);
+        told.push((rights.own(field, Kind::Lower), rights.own(field, Kind::Raise)))?;
+    }
+    Ok(told)
+}
+
+/// Adds a total given up, where it is above 0.
+fn push_cut(
+    totals: &mut Vec<Cut>,
+    field: FieldNo,
+    kind: Kind,
+    total: u64,
+) -> Result<(), AllocError>
+    ensures { OnOk result (totals.new.items ≡ totals.old.items ++ cut_if field kind total) }
+{
+    if total != 0 {
+        totals.push(Cut { field, kind, total })?;
+    }
+    Ok(())
+}
+
+/// What was given up for good, field by field.
+fn given_up(alloc: Global, rights: &Rights, fields: u16) -> Result<Vec<Cut>, AllocError>
+    requires count { fields ≤ length rights.now }
+    ensures { IfOk result (λ told. told.items ≡ cuts_of (cut_at rights.now) fields) }
+{
+    let mut told = Vec::new(alloc);
+    for number in 0..fields {
+        let field = FieldNo(number);
+        let lower = rights.tightened(field, Kind::Lower);
+        push_cut(&mut told, field, Kind::Lower, lower)?;
+        let raise = rights.tightened(field, Kind::Raise);
+        push_cut(&mut told, field, Kind::Raise, raise)?;
+    }
+    Ok(told)
+}
+
+/// The summary of what was taken in: own rights, held ones included, the totals above 0 and the
+/// epoch. It tells what any records stand for that the standing is for. The error is want of memory.
+/// Costs a pass over the rights and the ledger, and memory for the summary.
+///
+/// Source: this project.
+pub fn summary(alloc: Global, schema: &Schema, standing: &Standing) -> Result<Summary, AllocError>
+    requires places { HasPlaces schema.now standing.now.rights standing.now.ledger }
+    ensures now { IfOk result (λ summary. summary ≡ summary_now schema.now standing.now) }
+    ensures told { IfOk result (λ summary. (s : ℕ) (rs : List Record) → Stands schema.now s rs standing.now → summary ≡ summary_of schema.now s rs) }
+{
+    let rights = own_rights(alloc, &standing.rights, schema.fields())?;
+    let gifts = totals_on_side(alloc, schema, &standing.ledger, true)?;
+    let accepts = totals_on_side(alloc, schema, &standing.ledger, false)?;
+    let tightenings = given_up(alloc, &standing.rights, schema.fields())?;
+    Ok(Summary::new(
+        standing.epoch,
+        rights,
+        gifts,
+        accepts,
+        tightenings,
+    ))
+}
+
+/// The summary that tells what stands after one record more, which may stand behind those that the
+/// standing is for. The standing stays as it is, rights that are held included: so the summary that is
+/// appended behind a record in one piece is there before either is. The error is want of memory. Costs
+/// two passes over the rights and the ledger, and memory for two summaries and a standing.
+///
+/// Source: this project.
+pub fn summary_after(
+    alloc: Global,
+    schema: &Schema,
+    standing: &Standing,
+    next: &Record,
+) -> Result<Summary, AllocError>
+    requires in_range { IsRecord next.now }
+    requires plain { is_summary next.now ≡ false }
+    requires may { (rs : List Record) × MayStandNext schema.now standing.now rs next.now }
+    ensures after { IfOk result (λ summary. (rs : List Record) → MayStandNext schema.now standing.now rs next.now → summary ≡ summary_of schema.now standing.now.ledger.site (rs ++ next.now ∷ [])) }
+{
+    let _sites = schema.sites();
+    let now = summary(alloc, schema, standing)?;
+    let mut after = Standing::of_summary(alloc, schema, standing.ledger.site(), &now)?;
+    let took = after.take_in(schema, next);
+    prove!(took);
+    summary(alloc, schema, &after)
+}
+
+/// Whether two lists of rights are the same.
+fn same_rights(a: &[(u64, u64)], b: &[(u64, u64)]) -> bool
+    ensures { result ≡ same_rights a.now b.now }
+{
+    let mut left = a;
+    let mut right = b;
+    while !left.is_empty() && !right.is_empty() {
+        if left[0].0 != right[0].0 || left[0].1 != right[0].1 {
+            return false;
+        }
+        left = &left[1..];
+        right = &right[1..];
+    }
+    left.is_empty() && right.is_empty()
+}
+
+fn same_total(a: &Total, b: &Total) -> bool
+    ensures { result ≡ same_total a.now b.now }
+{
+    a.site.0 == b.site.0
+        && a.field.0 == b.field.0
+        && same_kind(a.kind, b.kind)
+        && a.total == b.total
+}
+
+fn same_kind(a: Kind, b: Kind) -> bool
+    ensures { result ≡ same_kind a b }
+{
+    match (a, b) {
+        (Kind::Lower, Kind::Lower) | (Kind::Raise, Kind::Raise) => true,
+        _ => false,
+    }
+}
+
+/// Whether two lists of totals are the same.
+fn same_totals(a: &[Total], b: &[Total]) -> bool
+    ensures { result ≡ same_totals a.now b.now }
+{
+    let mut left = a;
+    let mut right = b;
+    while !left.is_empty() && !right.is_empty() {
+        if !same_total(&left[0], &right[0]) {
+            return false;
+        }
+        left = &left[1..];
+        right = &right[1..];
+    }
+    left.is_empty() && right.is_empty()
+}
+
+fn same_cut(a: &Cut, b: &Cut) -> bool
+    ensures { result ≡ same_cut a.now b.now }
+{
+    a.field.0 == b.field.0 && same_kind(a.kind, b.kind) && a.total == b.total
+}
+
+/// Whether two lists of totals given up are the same.
+fn same_cuts(a: &[Cut], b: &[Cut]) -> bool
+    ensures { result ≡ same_cuts a.now b.now }
+{
+    let mut left = a;
+    let mut right = b;
+    while !left.is_empty() && !right.is_empty() {
+        if !same_cut(&left[0], &right[0]) {
+            return false;
+        }
+        left = &left[1..];
+        right = &right[1..];
+    }
+    left.is_empty() && right.is_empty()
+}
+
+fn same_summary(a: &Summary, b: &Summary) -> bool
+    ensures { result ≡ same_summary a.now b.now }
+{
+    a.epoch() == b.epoch()
+        && same_rights(a.rights(), b.rights())
+        && same_totals(a.gifts(), b.gifts())
+        && same_totals(a.accepts(), b.accepts())
+        && same_cuts(a.tightenings(), b.tightenings())
+}
+
+/// Whether a summary is that of the records that a standing is for. The error is want of memory.
+pub(crate) fn tells(
+    alloc: Global,
+    schema: &Schema,
+    standing: &Standing,
+    told: &Summary,
+) -> Result<bool, AllocError>
+    requires places { HasPlaces schema.now standing.now.rights standing.now.ledger }
+    ensures { IfOk result (λ may. (s : ℕ) (rs : List Record) → Stands schema.now s rs standing.now → may ≡ may_stand schema.now s rs (record_of told.now)) }
+{
+    let own = summary(alloc, schema, standing)?;
+    Ok(same_summary(told, &own))
+}
