@@ -16,8 +16,8 @@ use Rattle.field_bounds.specs.Kind.{same_kind, kind_of}
 use Rattle.field_bounds.specs.Schema.{SchemaValue}
 use Rattle.field_bounds.specs.Effects.{takes}
 use Rattle.kept_records.specs.declared.record.Record.{Record}
-use Rattle.kept_records.specs.declared.record.Record.TheVariants.{Commit, Gift, Accept, Tighten, Restart}
-use Rattle.kept_records.specs.Stands.{greatest, given_in, accepted_in, cut_in, own_in, room_in, is_field, is_other_site, may_commit, may_stand, Lawful}
+use Rattle.kept_records.specs.declared.record.Record.TheVariants.{Commit, Gift, Accept, Tighten, Restart, Summary}
+use Rattle.kept_records.specs.Stands.{greatest, given_in, accepted_in, cut_in, own_in, room_in, is_field, is_other_site, is_summary, may_commit, may_stand, Lawful}
 use Rattle.kept_records.proofs.Pushes.{greatest_none, given_none, accepted_none, cut_none, greatest_push, given_push, accepted_push, cut_push}
 use Rattle.kept_records.proofs.Covering.{key, at_key, on_field, own_none, commit_within, own_commit, own_gift, own_accept, own_tighten, cut_tighten, own_restart, accept_parts, tighten_parts}
 use Rattle.site_rights.specs.declared.field_rights.FieldRights.{FieldRights}
@@ -31,6 +31,15 @@ use Rattle.log_replay.specs.declared.standing.Standing.{Standing}
 use Rattle.log_replay.specs.Standing.{IsOther, HasPlaces, StandsFor, Stands, NoneHeld, IsStandingFor, CanTakeIn, TakesIn, is_on_field, AreFree}
 
 -- ---- answers
+
+-- what can be taken in is no summary
+pub can_plain : (schema : SchemaValue) (old : Standing) (r : Record) → CanTakeIn schema old r → is_summary r ≡ false
+can_plain schema old (Commit txn es) can = refl
+can_plain schema old (Gift to field kind total) can = refl
+can_plain schema old (Accept from field kind total) can = refl
+can_plain schema old (Tighten field kind total) can = refl
+can_plain schema old (Restart epoch) can = refl
+can_plain schema old (Summary v) can = absurd can
 
 -- a record that may not stand is refused
 pub takes_none : (schema : SchemaValue) (old : Standing) (r : Record) (new : Standing)

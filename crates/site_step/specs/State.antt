@@ -84,6 +84,7 @@ readied a (records.Gift to field kind total) = a
 readied a (records.Accept from field kind total) = a
 readied a (records.Tighten field kind total) = a
 readied a (records.Restart epoch) = a
+readied a (records.Summary v) = a
 
 -- The transaction is open, and its escrows are held.
 pub record CanClose (a : Accounts) (txn : TxnId) : Type 0 where
@@ -111,6 +112,7 @@ CanReady a (records.Gift to field kind total) = Unit {0}
 CanReady a (records.Accept from field kind total) = Unit {0}
 CanReady a (records.Tighten field kind total) = Unit {0}
 CanReady a (records.Restart epoch) = Unit {0}
+CanReady a (records.Summary v) = Unit {0}
 
 -- The record can be taken in, once its transaction is released.
 pub record CanCarry (schema : SchemaValue) (a : Accounts) (kept : Record) : Type 0 where

@@ -290,6 +290,46 @@ const OVER_KEPT_TIGHTENINGS: [Step; 6] = [
     (Mishap::Never, READ, Reply::Between { lo: 20, hi: 70 }),
 ];
 
+/// A restart over a log that starts with a summary, and one over logs that end with one: of 20 rights to
+/// lower 5 were given to another site, or given up.
+const OVER_FRESH_SUMMARY: [Step; 2] = [
+    (
+        Mishap::Never,
+        Command::Restart,
+        Reply::Restarted {
+            epoch: 1,
+            last: Last::Nothing,
+        },
+    ),
+    (
+        Mishap::Never,
+        SHARE,
+        Reply::Shares {
+            lower: 20,
+            raise: 30,
+        },
+    ),
+];
+
+const OVER_SUMMARY: [Step; 2] = [
+    (
+        Mishap::Never,
+        Command::Restart,
+        Reply::Restarted {
+            epoch: 1,
+            last: Last::Nothing,
+        },
+    ),
+    (
+        Mishap::Never,
+        SHARE,
+        Reply::Shares {
+            lower: 15,
+            raise: 30,
+        },
+    ),
+];
+
 /// Under a mishap for reads a restart fails also where no epoch is left, and else it is refused,
 /// which leaves a torn end and a mishap for cuts.
 const LAST_EPOCH_UNDER_MISHAPS: [Step; 2] = [
@@ -365,8 +405,29 @@ fn opens_over_what_is_kept(rt: HostRuntime) {
     assert_eq!(rt; count_told_over(alloc, "R 1\n", &NOTHING_TO_CUT), Some(1));
 }
 
+#[test]
+fn opens_over_summaries(rt: HostRuntime) {
+    let alloc = rt.alloc();
+    assert_eq!(rt;
+        count_told_over(alloc, "S 0 1 20 30\n", &OVER_FRESH_SUMMARY),
+        Some(2)
+    );
+    assert_eq!(rt;
+        count_told_over(alloc, "G 1 0 l 5\nS 0 1 15 30 g 1 0 l 5\n", &OVER_SUMMARY),
+        Some(2)
+    );
+    assert_eq!(rt;
+        count_told_over(alloc, "T 0 l 5\nS 0 1 15 30 t 0 l 5\n", &OVER_SUMMARY),
+        Some(2)
+    );
+    assert_eq!(rt;
+        count_told_over(alloc, "S 0 1 20 30\nG 1 0 l 5\nS 0 1 15 30 g 1 0 l 5\nS 0", &OVER_SUMMARY),
+        Some(2)
+    );
+}
+
 /// Logs of site 0, and the first line that is no record or breaks a rule.
-const BAD_LOGS: [(&str, u64); 9] = [
+const BAD_LOGS: [(&str, u64); 14] = [
     ("R 01\n", 1),
     ("R 1\nR 1\n", 2),
     ("C 0 1 0 -21\n", 1),
@@ -376,6 +437,11 @@ const BAD_LOGS: [(&str, u64); 9] = [
     ("T 0 l 5\nT 0 l 5\n", 2),
     ("T 0 l 21\n", 1),
     ("T 0 l 20\nA 1 0 l 51\n", 2),
+    ("S 0 1 20 31\n", 1),
+    ("S 1 1 20 30\n", 1),
+    ("S 0 2 20 30 0 0\n", 1),
+    ("G 1 0 l 5\nS 0 1 15 30\n", 2),
+    ("R 1\nS 1 1 20 30\nT 0 l 5\nS 1 1 20 30\n", 4),
 ];
 
 /// The fault of an open over these bytes under a mishap, and whether the medium comes back with as
