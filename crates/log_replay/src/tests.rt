@@ -39,7 +39,7 @@ const PARTS: Stands = Stands {
 };
 
 /// Logs that break no rule, and what they stand for.
-const LAWFUL: [(&str, Stands); 14] = [
+const LAWFUL: [(&str, Stands); 21] = [
     ("", PARTS),
     (
         "C 0 1 0 -20\n",
@@ -148,10 +148,67 @@ const LAWFUL: [(&str, Stands); 14] = [
             ..PARTS
         },
     ),
+    ("S 0 1 20 30\n", PARTS),
+    (
+        "G 1 0 l 5\nS 0 1 15 30 g 1 0 l 5\n",
+        Stands {
+            lower: 15,
+            given: 5,
+            ..PARTS
+        },
+    ),
+    (
+        "T 0 l 5\nS 0 1 15 30 t 0 l 5\n",
+        Stands {
+            lower: 15,
+            cut_lower: 5,
+            ..PARTS
+        },
+    ),
+    (
+        "C 0 1 0 -20\nR 3\nS 3 1 0 50\nA 1 0 l 4\nG 1 0 l 4\n",
+        Stands {
+            lower: 0,
+            raise: 50,
+            given: 4,
+            accepted: 4,
+            epoch: 3,
+            ..PARTS
+        },
+    ),
+    (
+        "G 1 0 l 5\nA 1 0 l 4\nS 0 1 19 30 g 1 0 l 5 a 1 0 l 4\nG 1 0 l 6\n",
+        Stands {
+            lower: 18,
+            given: 6,
+            accepted: 4,
+            ..PARTS
+        },
+    ),
+    (
+        "T 0 l 5\nS 0 1 15 30 t 0 l 5\nA 1 0 l 50\n",
+        Stands {
+            lower: 65,
+            cut_lower: 5,
+            accepted: 50,
+            ..PARTS
+        },
+    ),
+    (
+        "G 1 0 l 5\nT 0 r 30\nT 0 l 15\nS 0 1 0 0 g 1 0 l 5 t 0 l 15 t 0 r 30\n",
+        Stands {
+            lower: 0,
+            raise: 0,
+            cut_lower: 15,
+            cut_raise: 30,
+            given: 5,
+            ..PARTS
+        },
+    ),
 ];
 
 /// Logs that break a rule, and the first record that does.
-const BROKEN: [(&str, u64); 24] = [
+const BROKEN: [(&str, u64); 33] = [
     ("C 0 1 0 -20\nC 0 2 0 -20\n", 2),
     ("C 0 1 0 -20 0 -1\n", 1),
     ("C 0 1 0 31\n", 1),
@@ -176,6 +233,15 @@ const BROKEN: [(&str, u64); 24] = [
     ("T 1 l 5\n", 1),
     ("T 0 l 20\nA 1 0 l 51\n", 2),
     ("T 0 l 5\nC 0 1 0 -16\n", 2),
+    ("S 0 1 20 31\n", 1),
+    ("S 1 1 20 30\n", 1),
+    ("S 0 2 20 30 0 0\n", 1),
+    ("G 1 0 l 5\nS 0 1 15 30\n", 2),
+    ("G 1 0 l 5\nS 0 1 15 30 g 1 0 l 5 a 1 0 l 5\n", 2),
+    ("T 0 l 5\nS 0 1 15 30\n", 2),
+    ("T 0 l 5\nS 0 1 20 30 t 0 l 5\n", 2),
+    ("S 0 1 20 30 t 0 l 5\n", 1),
+    ("S 0 1 20 30\nT 0 l 5\nS 0 1 20 30\n", 3),
 ];
 
 fn stock_of_two(alloc: Global) -> Option<Schema> {
@@ -229,4 +295,69 @@ fn broken_logs(rt: HostRuntime) {
     for (log, number) in BROKEN {
         assert_eq!(rt; replayed(rt.alloc(), log), Some(Err(number)));
     }
+}
+
+/// How many records of a log stand behind its last summary, or None where memory was refused.
+fn behind(alloc: Global, log: &str) -> Option<usize> {
+    let (records, _) = read_records(alloc, log.as_bytes()).ok()?;
+    Some(behind_last(&records))
+}
+
+#[test]
+fn records_behind_a_summary(rt: HostRuntime) {
+    let alloc = rt.alloc();
+    assert_eq!(rt; behind(alloc, ""), Some(0));
+    assert_eq!(rt; behind(alloc, "R 1\nR 2\n"), Some(2));
+    assert_eq!(rt; behind(alloc, "R 1\nS 1 1 20 30\nR 2\n"), Some(1));
+    assert_eq!(rt; behind(alloc, "R 1\nS 1 1 20 30\n"), Some(0));
+    assert_eq!(rt; behind(alloc, "R 1\nS 1 1 20 30\nR 2\nS 1 1 2"), Some(1));
+}
+
+/// What a lawful log comes to from its last summary on, and how many records were taken in for that.
+fn resumed(alloc: Global, log: &str) -> Option<(Stands, u64)> {
+    let schema = stock_of_two(alloc)?;
+    if schema.sites() != 2 || schema.fields() != 1 {
+        return None;
+    }
+    let (records, _) = read_records(alloc, log.as_bytes()).ok()?;
+    match replay(alloc, &schema, HERE, &records) {
+        Ok(Replayed::Standing(_)) => {
+            let resumed = resume(alloc, &schema, HERE, &records).ok()?;
+            Some((read_off(&resumed.standing), resumed.turns))
+        }
+        Ok(Replayed::BreaksRule { .. }) => None,
+        Err(_) => None,
+    }
+}
+
+fn resumed_stands(alloc: Global, log: &str) -> Option<Stands> {
+    let (stands, _) = resumed(alloc, log)?;
+    Some(stands)
+}
+
+#[test]
+fn every_lawful_log_resumes(rt: HostRuntime) {
+    for (log, stands) in LAWFUL {
+        assert_eq!(rt; resumed_stands(rt.alloc(), log), Some(stands));
+    }
+}
+
+#[test]
+fn a_log_resumes_at_its_last_summary(rt: HostRuntime) {
+    let alloc = rt.alloc();
+    let given = Stands {
+        lower: 15,
+        given: 5,
+        ..PARTS
+    };
+    assert_eq!(rt; resumed(alloc, "G 1 0 l 5\n"), Some((given, 1)));
+    assert_eq!(rt;
+        resumed(alloc, "S 0 1 20 30\nG 1 0 l 5\nS 0 1 15 30 g 1 0 l 5\n"),
+        Some((given, 0))
+    );
+    let restarted = Stands { epoch: 2, ..given };
+    assert_eq!(rt;
+        resumed(alloc, "G 1 0 l 5\nS 0 1 15 30 g 1 0 l 5\nR 1\nR 2\n"),
+        Some((restarted, 2))
+    );
 }
