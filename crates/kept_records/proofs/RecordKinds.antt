@@ -556,8 +556,15 @@ words_plain (Gift to f k n) fits = (letter_word 71 (omega arith) (omega arith), 
 words_plain (Accept from f k n) fits = (letter_word 65 (omega arith) (omega arith), total_plain (record { site = from; field = f; kind = k; total = n }) fits)
 words_plain (Tighten f k n) fits = (letter_word 84 (omega arith) (omega arith), cut_plain (record { field = f; kind = k; total = n }) fits)
 words_plain (Restart epoch) fits = (letter_word 82 (omega arith) (omega arith), ((number_law 1 max_epoch (omega arith)).plain epoch (omega (arith, fits.0), fits.1), tt))
-words_plain (Summary v) fits =
-    (letter_word 83 (omega arith) (omega arith), ((number_law 0 max_epoch (omega arith)).plain v.epoch (omega arith, fits.epoch), ((number_law 1 max_fields (omega arith)).plain (length v.rights) (omega (arith, fits.some), fits.few),
-    words_append (rights_words v.rights) (groups_words v.gifts v.accepts v.tightenings) (rights_plain v.rights fits.rights)
-    (words_append (group_words 103 v.gifts) (group_words 97 v.accepts ++ cuts_words v.tightenings) (group_plain 103 v.gifts (omega arith) (omega arith) fits.gifts)
-    (words_append (group_words 97 v.accepts) (cuts_words v.tightenings) (group_plain 97 v.accepts (omega arith) (omega arith) fits.accepts) (cuts_plain v.tightenings fits.tightenings))))))
+words_plain (Summary v) fits = (
+  letter_word 83 (omega arith) (omega arith),
+  (
+    (number_law 0 max_epoch (omega arith)).plain v.epoch (omega arith, fits.epoch),
+    (
+      (number_law 1 max_fields (omega arith)).plain (length v.rights) (omega (arith, fits.some), fits.few),
+      words_append (rights_words v.rights) (groups_words v.gifts v.accepts v.tightenings) (rights_plain v.rights fits.rights)
+          (words_append (group_words 103 v.gifts) (group_words 97 v.accepts ++ cuts_words v.tightenings) (group_plain 103 v.gifts (omega arith) (omega arith) fits.gifts)
+          (words_append (group_words 97 v.accepts) (cuts_words v.tightenings) (group_plain 97 v.accepts (omega arith) (omega arith) fits.accepts) (cuts_plain v.tightenings fits.tightenings))),
+    ),
+  ),
+)

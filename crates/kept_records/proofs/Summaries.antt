@@ -182,8 +182,10 @@ piece_lawful schema s rs r lawful may = by (nat_le max_behind (since_summary rs 
   where
     all : Record
     all = Summary (summary_of schema s (rs ++ r ∷ []))
+
     one : Lawful schema s (rs ++ r ∷ [])
     one = lawful_push schema s rs r lawful may
+
     by : (due : Bool) → Lawful schema s (rs ++ r ∷ (cond due (all ∷ []) []))
     by false = one
     by true =
@@ -213,6 +215,7 @@ piece_bounds schema s rs r = by (nat_le max_behind (since_summary rs + 1)) refl
   where
     all : Record
     all = Summary (summary_of schema s (rs ++ r ∷ []))
+
     by : (due : Bool) → nat_le max_behind (since_summary rs + 1) ≡ due → since_summary (rs ++ r ∷ (cond due (all ∷ []) [])) < max_behind
     by false is = omega (arith, since_one rs r, leb-false _ _ is)
     by true is =

@@ -89,8 +89,10 @@ module _ (F : ℕ → ℕ → Kind → ℕ) (r f : ℕ) (k : Kind) where
     where
       start : fold (told_more r f k) 0 (totals_of_site F r m) ≡ 0
       start = site_before 0 m (omega (arith, is))
+
       here : (k' : Kind) → k' ≡ k → fold (told_more r f k) 0 (one_total F r m k') ≡ F r f k
       here k' same = ap (λ (x : ℕ). fold (told_more r f k) 0 (one_total F r x k')) is ∙ ap (λ (x : Kind). fold (told_more r f k) 0 (one_total F r f x)) same ∙ one_hits
+
       off : (a b : Kind) → same_kind a b ≡ false → b ≡ k → ((r == r) && (m == f) && same_kind a k) ≡ false
       off a b apart same = ap (λ (x : Kind). (r == r) && (m == f) && same_kind a x) (sym same) ∙ rw apart (none (r == r) (m == f))
         where
@@ -98,6 +100,7 @@ module _ (F : ℕ → ℕ → Kind → ℕ) (r f : ℕ) (k : Kind) where
           none true true = refl
           none true false = refl
           none false q = refl
+
       by : (x : Kind) → x ≡ k
           → fold (told_more r f k) (fold (told_more r f k) (fold (told_more r f k) 0 (totals_of_site F r m)) (one_total F r m Lower)) (one_total F r m Raise) ≡ F r f k
       by Lower same =
@@ -306,7 +309,7 @@ module _ (schema : SchemaValue) (s : ℕ) (F : ℕ → ℕ → Kind → ℕ) whe
   site_placed r (suc m) site_in other le =
       let in_ : m < length schema.fields = omega (arith, le) in
       all_append (totals_of_site F r m) (one_total F r m Lower ++ one_total F r m Raise) (site_placed r m site_in other (omega (arith, le)))
-          (all_append (one_total F r m Lower) (one_total F r m Raise) (one_placed r m Lower site_in other in_) (one_placed r m Raise site_in other in_))
+      (all_append (one_total F r m Lower) (one_total F r m Raise) (one_placed r m Lower site_in other in_) (one_placed r m Raise site_in other in_))
 
   pub all_placed : (n : ℕ) → n ≤ schema.sites → AllByRecursion Here (totals_of F s (length schema.fields) n)
   unfolding totals_of

@@ -150,8 +150,8 @@ groups_from gifts accepts cuts (l ∷ w ∷ v ∷ x ∷ y ∷ ws) =
     if word_is 116 l then (do
       t ← cut_from (w ∷ v ∷ x ∷ [])
       groups_from gifts accepts (cuts ++ t ∷ []) (y ∷ ws)) else (do
-      t ← total_from (w ∷ v ∷ x ∷ y ∷ [])
-      if is_next_accept l cuts then groups_from gifts (accepts ++ t ∷ []) cuts ws else (if is_next_gift l accepts cuts then groups_from (gifts ++ t ∷ []) accepts cuts ws else None))
+        t ← total_from (w ∷ v ∷ x ∷ y ∷ [])
+        if is_next_accept l cuts then groups_from gifts (accepts ++ t ∷ []) cuts ws else (if is_next_gift l accepts cuts then groups_from (gifts ++ t ∷ []) accepts cuts ws else None))
 groups_from gifts accepts cuts ws = None
 
 -- An epoch, how many fields there are and the rights of each, the three groups, and no word more.

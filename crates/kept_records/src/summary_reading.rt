@@ -210,8 +210,7 @@ fn is_before(a: &Total, b: &Total) -> bool
 fn is_cut_before(a: &Cut, b: &Cut) -> bool
     ensures { result ≡ is_cut_before a.now b.now }
 {
-    a.field.0 < b.field.0
-        || (a.field.0 == b.field.0 && kind_number(a.kind) < kind_number(b.kind))
+    a.field.0 < b.field.0 || (a.field.0 == b.field.0 && kind_number(a.kind) < kind_number(b.kind))
 }
 
 // Whether totals given up rise strictly.

@@ -245,8 +245,7 @@ last_is rs n was some = elim was.start [
 -- the last summary tells what the records up to it stand for
 pub last_tells : (schema : SchemaValue) (s : ℕ) (rs : List Record) (n : ℕ) → Lawful schema s rs → (last : Last rs n) → Lawful schema s (take n rs) × TellsOf schema s last.summary (take n rs)
 last_tells schema s rs n lawful last =
-    let parted = lawful_at schema s last.front (Summary last.summary) (drop n rs) (subst (Lawful schema s) last.parts lawful) in
-    (
+    let parted = lawful_at schema s last.front (Summary last.summary) (drop n rs) (subst (Lawful schema s) last.parts lawful) in (
       subst (Lawful schema s) (sym last.taken) (lawful_push schema s last.front (Summary last.summary) parted.0 parted.1),
       subst (λ (x : List Record). TellsOf schema s last.summary x) (sym last.taken) (lawful_tells schema s last.front last.summary parted.1),
     )
@@ -302,7 +301,6 @@ turns_are rs n b b-is was =
 
 pub none_taken : (rs : List Record) (n : ℕ) → n ≡ 0 → take n rs ≡ []
 none_taken rs n is = ap (λ (x : ℕ). take x rs) is
-
 
 -- a standing is for a summary more where it is for the records before it
 pub stands_summary : (schema : SchemaValue) (s : ℕ) (rs : List Record) (v : SummaryValue) (rows : List FieldRights) (ledger : LedgerValue) (epoch : ℕ) → StandsFor schema s rs rows ledger epoch → StandsFor schema s (rs ++ Summary v ∷ []) rows ledger epoch

@@ -121,7 +121,7 @@ module _ (F : ℕ → ℕ → Kind → ℕ) (most : ℕ) (small : (r f : ℕ) (k
   site_rises r zero = refl
   site_rises r (suc m) =
       let two = rises_append (one_total F r m Lower) (one_total F r m Raise) (one_rises r m Lower) (one_rises r m Raise)
-          (each_before (At r m Lower most) (At r m Raise most) (λ a b p q. by_kind a b (p.site ∙ sym q.site) (p.field ∙ sym q.field) p.kind q.kind) (one_total F r m Lower) (one_total F r m Raise) (one_at r m Lower) (one_at r m Raise)) in
+      (each_before (At r m Lower most) (At r m Raise most) (λ a b p q. by_kind a b (p.site ∙ sym q.site) (p.field ∙ sym q.field) p.kind q.kind) (one_total F r m Lower) (one_total F r m Raise) (one_at r m Lower) (one_at r m Raise)) in
       let at_field : AllByRecursion (AtField r m) (one_total F r m Lower ++ one_total F r m Raise) =
       all_append (AtField r m) (one_total F r m Lower) (one_total F r m Raise)
       (all_weaker (At r m Lower most) (AtField r m) (λ t at. (at.site, at.field)) (one_total F r m Lower) (one_at r m Lower))

@@ -66,7 +66,7 @@ summary_is schema standing s rs was =
     let m = length schema.fields in
     let ledger = standing.ledger in
     let rights = rights_same (own_at standing.rights) (own_in schema s rs) m
-        (λ f k below. let l : f < length standing.rights = omega (arith, below, was.count) in was.own f k l) in
+    (λ f k below. let l : f < length standing.rights = omega (arith, below, was.count) in was.own f k l) in
     let cuts = cuts_same (cut_at standing.rights) (cut_in rs) m (λ f k below. was.cut f k (omega (arith, below, was.count))) in
     let other : (r f : ℕ) → r < schema.sites → r ≢ s → f < m → IsOther schema s r f = λ r f site_in apart field_in. record { other = apart; site_in = site_in; field_in = field_in } in
     let gifts = totals_same (side true ledger) (given_in rs) s m schema.sites (λ r f k site_in apart field_in. was.given r f k (other r f site_in apart field_in)) in
@@ -75,7 +75,7 @@ summary_is schema standing s rs was =
     let gifts-here = ap (λ (x : ℕ). totals_of (side true ledger) x m schema.sites) here ∙ gifts in
     let accepts-here = ap (λ (x : ℕ). totals_of (side false ledger) x m schema.sites) here ∙ accepts in
     let made : ◌≡◌ {A = SummaryValue} (record { epoch = standing.epoch; rights = rights_of (own_at standing.rights) m; gifts = totals_of (side true ledger) ledger.site m schema.sites; accepts = totals_of (side false ledger) ledger.site m schema.sites; tightenings = cuts_of (cut_at standing.rights) m })
-        (record { epoch = greatest rs; rights = rights_of (own_in schema s rs) m; gifts = totals_of (given_in rs) s m schema.sites; accepts = totals_of (accepted_in rs) s m schema.sites; tightenings = cuts_of (cut_in rs) m }) = cc (was.epoch, rights, gifts-here, accepts-here, cuts) in
+    (record { epoch = greatest rs; rights = rights_of (own_in schema s rs) m; gifts = totals_of (given_in rs) s m schema.sites; accepts = totals_of (accepted_in rs) s m schema.sites; tightenings = cuts_of (cut_in rs) m }) = cc (was.epoch, rights, gifts-here, accepts-here, cuts) in
     made
 
 -- ---- one more field, one more site

@@ -100,18 +100,16 @@ fn own_rights(alloc: Global, rights: &Rights, fields: u16) -> Result<Vec<(u64, u
     let mut told = Vec::new(alloc);
     for number in 0..fields {
         let field = FieldNo(number);
-        told.push((rights.own(field, Kind::Lower), rights.own(field, Kind::Raise)))?;
+        told.push((
+            rights.own(field, Kind::Lower),
+            rights.own(field, Kind::Raise),
+        ))?;
     }
     Ok(told)
 }
 
 /// Adds a total given up, where it is above 0.
-fn push_cut(
-    totals: &mut Vec<Cut>,
-    field: FieldNo,
-    kind: Kind,
-    total: u64,
-) -> Result<(), AllocError>
+fn push_cut(totals: &mut Vec<Cut>, field: FieldNo, kind: Kind, total: u64) -> Result<(), AllocError>
     ensures { OnOk result (totals.new.items ≡ totals.old.items ++ cut_if field kind total) }
 {
     if total != 0 {
@@ -150,13 +148,7 @@ pub fn summary(alloc: Global, schema: &Schema, standing: &Standing) -> Result<Su
     let gifts = totals_on_side(alloc, schema, &standing.ledger, true)?;
     let accepts = totals_on_side(alloc, schema, &standing.ledger, false)?;
     let tightenings = given_up(alloc, &standing.rights, schema.fields())?;
-    Ok(Summary::new(
-        standing.epoch,
-        rights,
-        gifts,
-        accepts,
-        tightenings,
-    ))
+    Ok(Summary::new(standing.epoch, rights, gifts, accepts, tightenings))
 }
 
 /// The summary that tells what stands after one record more, which may stand behind those that the

@@ -298,12 +298,7 @@ fn first_rights(schema: &Schema, site: SiteNo, field: FieldNo) -> FieldRights
 }
 
 /// The rights on a field of which so many are free and so many given up, to lower and to raise it.
-fn told_rights(
-    schema: &Schema,
-    field: FieldNo,
-    free: (u64, u64),
-    cut: (u64, u64),
-) -> FieldRights
+fn told_rights(schema: &Schema, field: FieldNo, free: (u64, u64), cut: (u64, u64)) -> FieldRights
     requires field_in { field.0 < length schema.now.fields }
     requires few { free.0 + free.1 + cut.0 + cut.1 ≤ width_of (field_at schema.now field.0) }
     ensures told { IsTold schema.now field.0 free cut result }

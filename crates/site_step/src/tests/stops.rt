@@ -421,7 +421,11 @@ fn opens_over_summaries(rt: HostRuntime) {
         Some(2)
     );
     assert_eq!(rt;
-        count_told_over(alloc, "S 0 1 20 30\nG 1 0 l 5\nS 0 1 15 30 g 1 0 l 5\nS 0", &OVER_SUMMARY),
+        count_told_over(
+            alloc,
+            "S 0 1 20 30\nG 1 0 l 5\nS 0 1 15 30 g 1 0 l 5\nS 0",
+            &OVER_SUMMARY
+        ),
         Some(2)
     );
 }

@@ -31,8 +31,7 @@ of_summary-requires-clause-tells c =
     let rs = c.requires.may.0 in
     let next = c.requires.may.1 in
     let is = c.in_ok-now.ensures.told s rs next.stands in
-    let tells = subst (λ (x : SummaryValue). TellsOf schema s x rs) (sym is) (summary_tells schema s rs) in
-    (
+    let tells = subst (λ (x : SummaryValue). TellsOf schema s x rs) (sym is) (summary_tells schema s rs) in (
       rs,
       subst (λ (n : ℕ). Lawful schema n rs) (sym c.site.ensures.value) next.lawful,
       subst (λ (n : ℕ). TellsOf schema n c.in_ok-now.now rs) (sym c.site.ensures.value) tells,
