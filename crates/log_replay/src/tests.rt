@@ -320,12 +320,11 @@ fn resumed(alloc: Global, log: &str) -> Option<(Stands, u64)> {
         return None;
     }
     let (records, _) = read_records(alloc, log.as_bytes()).ok()?;
-    match replay(alloc, &schema, HERE, &records) {
-        Ok(Replayed::Standing(_)) => {
-            let resumed = resume(alloc, &schema, HERE, &records).ok()?;
-            Some((read_off(&resumed.standing), resumed.turns))
-        }
-        Ok(Replayed::BreaksRule { .. }) => None,
+    let Ok(Replayed::Standing(_)) = replay(alloc, &schema, HERE, &records) else {
+        return None;
+    };
+    match resume(alloc, &schema, HERE, &records) {
+        Ok(resumed) => Some((read_off(&resumed.standing), resumed.turns)),
         Err(_) => None,
     }
 }
