@@ -96,11 +96,7 @@ impl Ledger {
             });
         }
         let total = account.given + amount;
-        let account = Account {
-            given: total,
-            ..account
-        };
-        self.put(to, field, kind, account);
+        self.set_total(to, field, kind, total);
         Ok(total)
     }
 
@@ -126,11 +122,7 @@ impl Ledger {
         let account = self.account(from, field, kind);
         let accepted = total.max(account.accepted);
         let gain = accepted - account.accepted;
-        let account = Account {
-            accepted,
-            ..account
-        };
-        self.put(from, field, kind, account);
+        self.set_accepted(from, field, kind, accepted);
         gain
     }
 
