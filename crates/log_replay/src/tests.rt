@@ -1,12 +1,13 @@
 //! Worked logs of site 0 of two, on one field from 0 to 100 at 40: each site begins with 20 rights
 //! to lower it and 30 to raise it. Every expected value is worked out by hand.
 
-ghost use Rattle.std.specs.Prelude.{◌<◌, length};
+ghost use Rattle.std.specs.Prelude.{◌<◌, ◌≤◌, length};
+ghost use Rattle.field_bounds.specs.Owed.{max_total};
 ghost use Rattle.gift_ledger.specs.Ledger.{IsPlace};
 
 use super::*;
 use field_bounds::{FieldNo, FieldSpec, Kind, Schema, SiteNo};
-use kept_records::read_records;
+use kept_records::{Record, read_records};
 use std::alloc::Global;
 
 const STOCK: FieldNo = FieldNo(0);
@@ -359,4 +360,51 @@ fn a_log_resumes_at_its_last_summary(rt: HostRuntime) {
         resumed(alloc, "G 1 0 l 5\nS 0 1 15 30 g 1 0 l 5\nR 1\nR 2\n"),
         Some((restarted, 2))
     );
+}
+
+/// What the summary tells that follows a first gift of so many rights to lower: the epoch, the rights, and
+/// how many totals each group has. None where the gift breaks a rule.
+fn told_after_gift(
+    alloc: Global,
+    total: u64,
+) -> Option<(u32, Option<(u64, u64)>, (usize, usize, usize))>
+    requires some { 0 < total }
+    requires few { total ≤ max_total }
+{
+    let schema = stock_of_two(alloc)?;
+    if schema.sites() != 2 {
+        return None;
+    }
+    let records = [Record::Gift {
+        to: OTHER,
+        field: STOCK,
+        kind: Kind::Lower,
+        total,
+    }];
+    let Ok(Replayed::Standing(_)) = replay(alloc, &schema, HERE, &records) else {
+        return None;
+    };
+    let Ok(standing) = Standing::new(alloc, &schema, HERE) else {
+        return None;
+    };
+    let told = summary_after(alloc, &schema, &standing, &records[0]).ok()?;
+    Some((
+        told.epoch(),
+        told.rights().get(0).copied(),
+        (
+            told.gifts().len(),
+            told.accepts().len(),
+            told.tightenings().len(),
+        ),
+    ))
+}
+
+#[test]
+fn a_summary_after_one_more_record(rt: HostRuntime) {
+    let alloc = rt.alloc();
+    assert_eq!(rt;
+        told_after_gift(alloc, 5),
+        Some((0, Some((15, 30)), (1, 0, 0)))
+    );
+    assert_eq!(rt; told_after_gift(alloc, 21), None);
 }
