@@ -29,7 +29,7 @@ pub use laws::{
 pub use log::{Front, RecordFault, read_front, read_records};
 pub use medium::{Device, End, Medium, MediumFault, Mishap};
 pub use memory::MemoryMedium;
-pub use reading_back::{ReadBack, read_back};
+pub use reading_back::{ReadBack, count_plain, read_back};
 pub use record::{Escrows, Record};
 pub use summary::Summary;
 pub use torn::TornMedium;

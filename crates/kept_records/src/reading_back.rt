@@ -6,6 +6,7 @@ ghost use Rattle.kept_records.specs.declared.medium.MediumFault.TheVariants.{NoM
 ghost use Rattle.kept_records.specs.Text.{text};
 ghost use Rattle.kept_records.specs.Logs.{AreAll};
 ghost use Rattle.kept_records.specs.Keeping.{IsKept};
+ghost use Rattle.kept_records.specs.Stands.{is_summary, plain};
 ghost use Rattle.kept_records.specs.Medium.{CountsRead, ReadFate};
 ghost use Rattle.kept_records.specs.ReadingBack.{PartsAt, StandBehind, AreRecords, IsWhole};
 
@@ -72,4 +73,30 @@ pub fn read_back<M: Medium>(
         whole,
         present: bytes.len(),
     })
+}
+
+/// How many of the records are no summaries. Costs a look at each.
+pub fn count_plain(records: &[Record]) -> usize
+    ensures count { result ≡ length (plain records.now) }
+{
+    let mut count = 0;
+    for record in records {
+        if !is_summary(record) {
+            count += 1;
+        }
+    }
+    count
+}
+
+fn is_summary(kept: &Record) -> bool
+    ensures value { result ≡ is_summary kept.now }
+{
+    match kept {
+        Record::Summary(_) => true,
+        Record::Commit { .. }
+        | Record::Gift { .. }
+        | Record::Accept { .. }
+        | Record::Tighten { .. }
+        | Record::Restart { .. } => false,
+    }
 }

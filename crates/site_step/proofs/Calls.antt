@@ -1,6 +1,6 @@
 -- What each call of a site needs and leaves: once for each, over the site as it is kept and as its callers see it.
-use Rattle.std.proofs.Common.{◌≡◌, ◌≢◌, ◌≤◌, ◌<◌, ℕ, ◌+◌, ◌-◌, Bool, true, false, ◌&&◌, List, [], ◌∷◌, ◌++◌, length, reverse, refl, sym, ap, subst, ◌∙◌, arith, Option, Some, None}
-use Rattle.std.specs.Prelude.{Ok, Err, unsigned_abs}
+use Rattle.std.proofs.Common.{◌≡◌, ◌≢◌, ◌≤◌, ◌<◌, ℕ, ◌+◌, ◌-◌, Bool, true, false, ◌&&◌, List, [], ◌∷◌, ◌++◌, length, reverse, refl, sym, ap, subst, ◌∙◌, arith, inl, inr, Option, Some, None}
+use Rattle.std.specs.Prelude.{Ok, Err, unsigned_abs, unwrap_or, ◌⊎◌, nat_le, if◌then◌else◌}
 use Rattle.std.proofs.lemmas.List.{length-reverse, reverse-append}
 use Rattle.field_bounds.specs.declared.id.TxnId.{TxnId}
 use Rattle.field_bounds.specs.declared.id.SiteNo.{SiteNo}
@@ -30,12 +30,18 @@ use Rattle.kept_records.specs.declared.medium.Mishap.{Mishap}
 use Rattle.kept_records.specs.declared.record.Record.{Record}
 use Rattle.kept_records.specs.Text.{text, IsRecord}
 use Rattle.kept_records.specs.Medium.{AppendFate}
-use Rattle.kept_records.specs.Keeping.{Appends}
-use Rattle.kept_records.specs.Stands.{Lawful}
+use Rattle.kept_records.specs.Summary.{SummaryValue}
+use Rattle.kept_records.specs.Logs.{IsLog}
+use Rattle.kept_records.specs.Keeping.{with_due, Appends}
+use Rattle.kept_records.specs.Stands.{Lawful, is_summary, plain, since_summary, max_behind, may_stand, piece}
+use Rattle.kept_records.proofs.Lines.{same_log}
+use Rattle.kept_records.proofs.Summaries.{plain_lawful}
+use Rattle.std.specs.List.{flat_map, AllByRecursion}
+use Rattle.field_bounds.specs.Limits.{IsSchema}
+use Rattle.log_replay.specs.Resuming.{MayStandNext}
 use Rattle.kept_state.specs.Keeps.{record_at}
 use Rattle.kept_records.specs.ReadingBack.{PartsAt, StandBehind}
 use Rattle.kept_state.proofs.Written.{written_in_range}
-use Rattle.kept_state.proofs.Lasting.{run_stays_lawful}
 use Rattle.log_replay.specs.declared.standing.Standing.{Standing}
 use Rattle.log_replay.specs.Standing.{IsStandingFor}
 use Rattle.site_step.specs.declared.accounts.Accounts.{Accounts}
@@ -44,7 +50,6 @@ use Rattle.site_step.specs.Site.{SiteValue, base_of, here, entry_of, HoldsLog}
 use Rattle.site_step.specs.State.{StandsOn, IsSound, CanSettle, CanCarry, is_carried, settled, with_rights, readied, extended}
 use Rattle.site_step.proofs.Reading.{Reads, reads}
 use Rattle.kept_records.specs.declared.record.Record.TheVariants as records
-use Rattle.kept_state.proofs.Staying.{run_lawful_more}
 use Rattle.log_replay.specs.Standing.{HasPlaces, CanTakeIn, TakesIn}
 use Rattle.log_replay.proofs.StandingLaws.{has_places}
 use Rattle.site_step.specs.Resuming.{IsLawfulLog, last_by, FailsOver, FullOver, StandsOver}
@@ -52,7 +57,8 @@ use Rattle.site_step.proofs.Matching.{stands-journal_of, escrows_at-journal_of}
 use Rattle.site_step.proofs.Settling.{carried_no_restart}
 use Rattle.site_step.proofs.Standing.{next_is, next_is_closed, room_by, opened_by, few_by, enough_by, end_opened, escrows_are, stands_open, stands_begin, stands_grant, can_settle, stands_settled, can_carry, stands_carried}
 use Rattle.site_step.proofs.Ends.{Ends, ends_refused, ends_answered, few_records}
-use Rattle.site_step.proofs.Writes.{count_is, is_there, ends_wrote, ends_unsure}
+use Rattle.site_step.proofs.Resumes.{stands_next, due_here}
+use Rattle.site_step.proofs.Writes.{record_is_plain, reached, may, lines_fit, is_there, ends_wrote, ends_unsure}
 use Rattle.site_step.proofs.Extents.{reach_seam}
 use Rattle.site_step.proofs.Restarts.{ends_failed, ends_full, few_behind, ends_restarted}
 
@@ -87,7 +93,7 @@ module _ {v w : SiteValue} {up : Bool} {extent : Extent} {a : Accounts} (was : I
   read there = reads v up extent a was there
 
   lawful : Lawful v.schema v.site.0 was.records
-  lawful = run_stays_lawful v.schema v.site.0 (base_of v) v.based was.ground.is_base was.ground.based_on was.kept v.history was.records was.run was.keeps
+  lawful = was.lawful
 
   pub tells_open : is_up (base_of w) w.history ≡ true → (t : TxnId) → stands t a.journal ≡ (is_begun t (here w).effects && is_open t (here w).effects)
   tells_open there t = ap (stands t) (stands_now there).matches.journal ∙ stands-journal_of t (here w).effects
@@ -131,12 +137,13 @@ module _ {v w : SiteValue} {up : Bool} {extent : Extent} {a : Accounts} (was : I
       let s = was in
       subst HoldsLog is
       (record {
-        records = s.records;
+        records = plain s.records;
         rest = s.rest;
         kept = s.kept;
-        log = s.log;
+        log = record { all = s.records; log = s.log; lawful = s.lawful; told = refl };
         keeps = s.keeps;
-        lawful = run_stays_lawful v.schema v.site.0 (base_of v) v.based s.ground.is_base s.ground.based_on s.kept v.history s.records s.run s.keeps;
+        lawful = plain_lawful v.schema v.site.0 s.records s.lawful;
+        few = s.few;
       })
 
   -- ---- a refusal
@@ -175,48 +182,98 @@ module _ {v w : SiteValue} {up : Bool} {extent : Extent} {a : Accounts} (was : I
 
     fits : IsRecord (record_at (here v) c)
     fits =
-        written_in_range v.schema v.site.0 (base_of v) v.based was.ground.is_base was.ground.based_on was.kept v.history was.records was.ground.limits was.ground.site_in was.run was.keeps c
+        written_in_range v.schema v.site.0 (base_of v) (plain v.based) was.ground.is_base was.ground.based_on was.kept v.history (plain was.records) was.ground.limits was.ground.site_in was.run was.keeps c
         was.ground.epoch_in unrefused writing
 
     pub record_fits : {kept : Record} → kept ≡ record_at (here w) c → IsRecord kept
     record_fits kept_is = subst (λ (r : Record). IsRecord r) (sym kept_is) (subst (λ (x : SiteValue). IsRecord (record_at (here x) c)) is fits)
 
+    pub record_plain : {kept : Record} → kept ≡ record_at (here w) c → is_summary kept ≡ false
+    record_plain kept_is = ap is_summary kept_is ∙ record_is_plain (here w) c
+
     there_now : is_up (base_of v) v.history ≡ true
     there_now = is_there v up extent a was c unrefused writing fits
 
+    may_now : may_stand v.schema v.site.0 was.records (record_at (here v) c) ≡ true
+    may_now = may v up extent a was c unrefused writing fits
+
+    same_record : {kept : Record} → kept ≡ record_at (here w) c → kept ≡ record_at (here v) c
+    same_record {kept = kept} kept_is = subst (λ (x : SiteValue). kept ≡ record_at (here x) c) (sym is) kept_is
+
     pub can_write : {kept : Record} → kept ≡ record_at (here w) c → CanCarry v.schema a kept
     can_write kept_is =
-        let may = run_lawful_more v.schema v.site.0 (base_of v) v.based was.ground.is_base was.kept v.history was.records was.run was.keeps c unrefused writing in
-        subst (λ (r : Record). CanCarry v.schema a r) (sym (kept_is ∙ sym (ap (λ (x : SiteValue). record_at (here x) c) is)))
-        (can_carry v.schema v.site.0 (base_of v) v.history a was.run (read there_now) was.records (was.stands there_now) lawful c unrefused writing may)
+        subst (λ (r : Record). CanCarry v.schema a r) (sym (same_record kept_is))
+        (can_carry v.schema v.site.0 (base_of v) v.history a was.run (read there_now) was.records (was.stands there_now) was.lawful c unrefused writing may_now)
+
+    -- the summary that is due
+    next : {kept : Record} → kept ≡ record_at (here w) c → MayStandNext v.schema a.standing was.records kept
+    next kept_is =
+        subst (λ (r : Record). MayStandNext v.schema a.standing was.records r) (sym (same_record kept_is))
+        (stands_next v.schema a.standing v.site.0 was.records (record_at (here v) c) was.ground.site_in was.log.each was.lawful (was.stands there_now).standing may_now)
+
+    pub can_due : {kept : Record} → kept ≡ record_at (here w) c → (rs : List Record) × MayStandNext v.schema a.standing rs kept
+    can_due kept_is = (was.records, next kept_is)
+
+    due_now : (kept : Record) (due : Option SummaryValue) → kept ≡ record_at (here w) c
+        → ((rs : List Record) → MayStandNext v.schema a.standing rs kept → extent.behind ≡ since_summary rs → with_due kept due ≡ piece v.schema a.standing.ledger.site rs kept)
+        → with_due kept due ≡ piece v.schema v.site.0 was.records kept
+    due_now kept due kept_is told_ =
+        due_here v.schema a.standing v.site.0 was.records kept due (was.stands there_now).standing
+        (told_ was.records (next kept_is) (reached v up extent a was c unrefused writing fits).behind)
+
+    pub due_is : (kept : Record) (due : Option SummaryValue) → kept ≡ record_at (here w) c
+        → ((rs : List Record) → MayStandNext v.schema a.standing rs kept → extent.behind ≡ since_summary rs → with_due kept due ≡ piece v.schema a.standing.ledger.site rs kept)
+        → (rs : List Record) (rest : List ℕ) → IsLog w.bytes rs rest → with_due kept due ≡ piece w.schema w.site.0 rs kept
+    due_is kept due kept_is told_ rs rest log =
+        let same = (same_log v.bytes was.records rs was.rest rest was.log (subst (λ (x : SiteValue). IsLog x.bytes rs rest) (sym is) log)).0 in
+        due_now kept due kept_is told_ ∙ ap (λ (x : List Record). piece v.schema v.site.0 x kept) same ∙ ap (λ (x : SiteValue). piece x.schema x.site.0 rs kept) is
+
+    pub due_fits : (kept : Record) (due : Option SummaryValue) → kept ≡ record_at (here w) c
+        → ((rs : List Record) → MayStandNext v.schema a.standing rs kept → extent.behind ≡ since_summary rs → with_due kept due ≡ piece v.schema a.standing.ledger.site rs kept)
+        → AllByRecursion IsRecord (with_due kept due)
+    due_fits kept due kept_is told_ =
+        subst (λ (ps : List Record). AllByRecursion IsRecord ps) (sym (due_now kept due kept_is told_ ∙ ap (λ (r : Record). piece v.schema v.site.0 was.records r) (same_record kept_is)))
+        (lines_fit v up extent a was c unrefused writing fits)
+
+    -- the lines that are appended
+    lines_are : (kept : Record) (due : Option SummaryValue) → kept ≡ record_at (here w) c
+        → ((rs : List Record) (rest : List ℕ) → IsLog v.bytes rs rest → with_due kept due ≡ piece v.schema v.site.0 rs kept)
+        → flat_map text (with_due kept due) ≡ flat_map text (piece v.schema v.site.0 was.records (record_at (here v) c))
+    lines_are kept due kept_is told_ =
+        ap (flat_map text) (told_ was.records was.rest was.log ∙ ap (λ (r : Record). piece v.schema v.site.0 was.records r) (same_record kept_is))
 
     pub few_written : extent.count ≤ length v.based + length v.history
-    few_written = omega (arith, count_is v up extent a was c unrefused writing fits, few_records v up extent a was)
+    few_written = omega (arith, (reached v up extent a was c unrefused writing fits).count, few_records v up extent a was)
 
-    pub wrote : (r : Reply) (kept : Record) {h : List Entry} {b : Accounts} {bytes : List ℕ} {failed : ℕ} {left : Option Mishap} {size : ℕ} {next : Extent} → kept ≡ record_at (here w) c → r ≡ answer (here w) c
+    pub wrote : (r : Reply) (kept : Record) (due : Option SummaryValue) {h : List Entry} {b : Accounts} {bytes : List ℕ} {failed : ℕ} {left : Option Mishap} {size : ℕ} {later : Extent}
+        → kept ≡ record_at (here w) c → r ≡ answer (here w) c
+        → ((rs : List Record) (rest : List ℕ) → IsLog v.bytes rs rest → with_due kept due ≡ piece v.schema v.site.0 rs kept)
         → TakesIn v.schema (readied a kept).standing kept true b.standing → b.journal ≡ (readied a kept).journal → b.last ≡ a.last
-        → Appends {T = Unit {0}} {E = Device} (Ok tt) v.bytes (text kept) bytes v.failed failed → AppendFate {E = Device} v.foretold v.bytes (text kept) (Ok tt) bytes left
-        → h ≡ entry_of v c r ∷ v.history → size ≡ length (text kept) → next ≡ extended extent size → Ends w c r (Then h bytes failed left v.doubt) up next b
-    wrote r kept {h = h} {b = b} {bytes = bytes} {failed = failed} {left = left} {size = size} {next = next} kept_is owed took open_ last_is added fate past long more =
-        let same : kept ≡ record_at (here v) c = subst (λ (x : SiteValue). kept ≡ record_at (here x) c) (sym is) kept_is in
-        let line = subst (λ (x : Record). Appends {T = Unit {0}} {E = Device} (Ok tt) v.bytes (text x) bytes v.failed failed) same added in
-        let size_is : size ≡ length (text (record_at (here v) c)) = long ∙ ap (λ (x : Record). length (text x)) same in
-        returned c r (Then h bytes failed left v.doubt) up next b
-        (subst (λ (e : Extent). Ends v c r (Then h bytes failed left v.doubt) up e b) (sym (more ∙ ap (extended extent) size_is))
+        → Appends {T = Unit {0}} {E = Device} (Ok tt) v.bytes (flat_map text (with_due kept due)) bytes v.failed failed
+        → AppendFate {E = Device} v.foretold v.bytes (flat_map text (with_due kept due)) (Ok tt) bytes left
+        → h ≡ entry_of v c r ∷ v.history → size ≡ length (flat_map text (with_due kept due)) → later ≡ extended extent size → Ends w c r (Then h bytes failed left v.doubt) up later b
+    wrote r kept due {h = h} {b = b} {bytes = bytes} {failed = failed} {left = left} {size = size} {later = later} kept_is owed told_ took open_ last_is added fate past long more =
+        let same = same_record kept_is in
+        let lines = lines_are kept due kept_is told_ in
+        let line = subst (λ (x : List ℕ). Appends {T = Unit {0}} {E = Device} (Ok tt) v.bytes x bytes v.failed failed) lines added in
+        returned c r (Then h bytes failed left v.doubt) up later b
+        (subst (λ (e : Extent). Ends v c r (Then h bytes failed left v.doubt) up e b) (sym (more ∙ ap (extended extent) (long ∙ ap length lines)))
         (ends_wrote v up extent a was c unrefused writing fits b bytes failed left r h (subst (λ (x : SiteValue). r ≡ answer (here x) c) (sym is) owed) past
-        (stands_carried v.schema v.site.0 (base_of v) v.history a was.run (read there_now) was.records (was.stands there_now) lawful v.site c unrefused writing b
+        (stands_carried v.schema v.site.0 (base_of v) v.history a was.run (read there_now) was.records (was.stands there_now) was.lawful v.site c unrefused writing b
         (subst (λ (x : Record). TakesIn v.schema (readied a x).standing x true b.standing) same took) (subst (λ (x : Record). b.journal ≡ (readied a x).journal) same open_) last_is) line.0 line.1
-        (subst (λ (x : Record). AppendFate {E = Device} v.foretold v.bytes (text x) (Ok tt) bytes left) same fate)))
+        (subst (λ (x : List ℕ). AppendFate {E = Device} v.foretold v.bytes x (Ok tt) bytes left) lines fate)))
 
-    pub unsure : (kept : Record) (device : Device) {h : List Entry} {bytes : List ℕ} {failed : ℕ} {left : Option Mishap} → kept ≡ record_at (here w) c
-        → Appends {T = Unit {0}} (Err device) v.bytes (text kept) bytes v.failed failed → AppendFate v.foretold v.bytes (text kept) (Err device) bytes left
+    pub unsure : (kept : Record) (due : Option SummaryValue) (device : Device) {h : List Entry} {bytes : List ℕ} {failed : ℕ} {left : Option Mishap} → kept ≡ record_at (here w) c
+        → ((rs : List Record) (rest : List ℕ) → IsLog v.bytes rs rest → with_due kept due ≡ piece v.schema v.site.0 rs kept)
+        → Appends {T = Unit {0}} (Err device) v.bytes (flat_map text (with_due kept due)) bytes v.failed failed
+        → AppendFate v.foretold v.bytes (flat_map text (with_due kept due)) (Err device) bytes left
         → h ≡ entry_of v c Unsure ∷ v.history → Ends w c Unsure (Then h bytes failed left (Some extent.count)) false extent a
-    unsure kept device {h = h} {bytes = bytes} {failed = failed} {left = left} kept_is added fate past =
-        let same : kept ≡ record_at (here v) c = subst (λ (x : SiteValue). kept ≡ record_at (here x) c) (sym is) kept_is in
-        let line = subst (λ (x : Record). Appends {T = Unit {0}} (Err device) v.bytes (text x) bytes v.failed failed) same added in
+    unsure kept due device {h = h} {bytes = bytes} {failed = failed} {left = left} kept_is told_ added fate past =
+        let lines = lines_are kept due kept_is told_ in
+        let line = subst (λ (x : List ℕ). Appends {T = Unit {0}} (Err device) v.bytes x bytes v.failed failed) lines added in
         returned c Unsure (Then h bytes failed left (Some extent.count)) false extent a
         (ends_unsure v up extent a was c unrefused writing fits a bytes failed left device Unsure h refl past line.0 line.1
-        (subst (λ (x : Record). AppendFate v.foretold v.bytes (text x) (Err device) bytes left) same fate))
+        (subst (λ (x : List ℕ). AppendFate v.foretold v.bytes x (Err device) bytes left) lines fate))
 
   -- ---- a begin
 
@@ -298,19 +355,23 @@ module _ {v w : SiteValue} {up : Bool} {extent : Extent} {a : Accounts} (was : I
   -- ---- a restart
 
   pub lawful_log : IsLawfulLog v.schema v.site.0 v.bytes
-  lawful_log =
-      let s = was in
-      record {
-        records = s.records;
-        rest = s.rest;
-        log = s.log;
-        lawful = run_stays_lawful v.schema v.site.0 (base_of v) v.based s.ground.is_base s.ground.based_on s.kept v.history s.records s.run s.keeps;
-      }
+  lawful_log = record { records = was.records; rest = was.rest; log = was.log; lawful = was.lawful }
 
-  pub fails : {h : List Entry} {bytes : List ℕ} {failed : ℕ} {left : Option Mishap} → FailsOver was.records was.rest v.bytes bytes v.foretold left v.failed failed
-      → h ≡ entry_of v Restart StillDown ∷ v.history → Ends w Restart StillDown (Then h bytes failed left v.doubt) false extent a
-  fails {h = h} {bytes = bytes} {failed = failed} {left = left} did past =
-      returned Restart StillDown (Then h bytes failed left v.doubt) false extent a (ends_failed v up extent a was a bytes failed left h past did)
+  pub limits : IsSchema v.schema
+  limits = was.ground.limits
+
+  abbrev ThenReplayed : List Entry → List ℕ → ℕ → Option Mishap → Option ℕ → ℕ → SiteValue
+  ThenReplayed h bytes failed left doubt n = record v { history = h; bytes = bytes; failed = failed; foretold = left; doubt = doubt; replayed = n }
+
+  pub fails : (turns : Option ℕ) (n : ℕ) {h : List Entry} {bytes : List ℕ} {failed : ℕ} {left : Option Mishap}
+      → FailsOver v.schema v.site.0 was.records turns was.rest v.bytes bytes v.foretold left v.failed failed → (turns ≡ Some n) ⊎ (n ≡ v.replayed)
+      → h ≡ entry_of v Restart StillDown ∷ v.history → Ends w Restart StillDown (ThenReplayed h bytes failed left v.doubt n) false extent a
+  fails turns n {h = h} {bytes = bytes} {failed = failed} {left = left} did which past =
+      returned Restart StillDown (ThenReplayed h bytes failed left v.doubt n) false extent a (ends_failed v up extent a was a turns n bytes failed left h past did (by which))
+    where
+      by : (turns ≡ Some n) ⊎ (n ≡ v.replayed) → (n ≡ since_summary was.records) ⊎ (n ≡ v.replayed)
+      by (inl read_) = inl (did.replayed n read_)
+      by (inr same) = inr same
 
   pub fills : {h : List Entry} {bytes : List ℕ} {failed : ℕ} {left : Option Mishap} → FullOver was.records v.bytes bytes v.foretold left v.failed failed
       → h ≡ entry_of v Restart (Refused NumbersFull) ∷ v.history → Ends w Restart (Refused NumbersFull) (Then h bytes failed left v.doubt) up extent a
@@ -320,8 +381,8 @@ module _ {v w : SiteValue} {up : Bool} {extent : Extent} {a : Accounts} (was : I
   pub seam : PartsAt v.bytes extent.length
   seam = reach_seam extent v.bytes was.records was.rest was.log was.reaches
 
-  pub can_restart : (standing : Standing) (epoch : ℕ) {size : ℕ} {rest bytes : List ℕ} {failed : ℕ} {left : Option Mishap} {behind : List Record}
-      → StandsOver was.records epoch size rest bytes v.foretold left v.failed failed × IsStandingFor v.schema v.site.0 was.records standing × StandBehind v.bytes extent.length behind
+  pub can_restart : (standing : Standing) (epoch : ℕ) {turns size : ℕ} {rest bytes : List ℕ} {failed : ℕ} {left : Option Mishap} {behind : List Record}
+      → StandsOver v.schema v.site.0 was.records epoch turns size rest bytes v.foretold left v.failed failed × IsStandingFor v.schema v.site.0 was.records standing × StandBehind v.bytes extent.length behind
       → HasPlaces v.schema standing.rights standing.ledger × CanTakeIn v.schema standing (records.Restart epoch) × IsRecord (records.Restart epoch)
   can_restart standing epoch did = (
     has_places v.schema v.site.0 was.records standing.rights standing.ledger standing.epoch did.1.for_,
@@ -329,14 +390,22 @@ module _ {v w : SiteValue} {up : Bool} {extent : Extent} {a : Accounts} (was : I
     (omega (arith, did.0.epoch_is), omega (arith, did.0.epoch_is, did.0.some)),
   )
 
-  pub few_more : (behind : List Record) → StandBehind v.bytes extent.length behind → extent.count + length behind ≤ length v.based + length v.history
+  pub few_more : (behind : List Record) → StandBehind v.bytes extent.length behind → extent.count + length (plain behind) ≤ length v.based + length v.history
   few_more behind are = omega (arith, few_behind v up extent a was behind are, few_records v up extent a was)
 
-  pub restarts : (standing : Standing) (behind : List Record) (epoch size : ℕ) (last : Last) {h : List Entry} {b : Accounts} {more : ℕ} {bytes : List ℕ} {failed : ℕ} {left : Option Mishap}
-      → StandsOver was.records epoch size was.rest bytes v.foretold left v.failed failed × IsStandingFor v.schema v.site.0 was.records standing × StandBehind v.bytes extent.length behind
-      → TakesIn v.schema standing (records.Restart epoch) true b.standing → b.journal ≡ [] → b.last ≡ 0 → last ≡ last_by v.doubt behind → more ≡ length behind
-      → h ≡ entry_of v Restart (Restarted epoch last) ∷ v.history → Ends w Restart (Restarted epoch last) (Then h bytes failed left None) true (record { count = extent.count + more + 1; length = size }) b
-  restarts standing behind epoch size last {h = h} {b = b} {more = more} {bytes = bytes} {failed = failed} {left = left} did took open_ last_is last_by_ counted past =
+  pub restarts : (standing : Standing) (behind : List Record) (epoch turns size behinds : ℕ) (last : Last) {h : List Entry} {b : Accounts} {more : ℕ} {bytes : List ℕ} {failed : ℕ} {left : Option Mishap}
+      → StandsOver v.schema v.site.0 was.records epoch turns size was.rest bytes v.foretold left v.failed failed × IsStandingFor v.schema v.site.0 was.records standing × StandBehind v.bytes extent.length behind
+      → TakesIn v.schema standing (records.Restart epoch) true b.standing → b.journal ≡ [] → b.last ≡ 0 → last ≡ last_by v.doubt behind → more ≡ length (plain behind)
+      → behinds ≡ (if nat_le max_behind (turns + 1) then 0 else turns + 1)
+      → h ≡ entry_of v Restart (Restarted epoch last) ∷ v.history
+      → Ends w Restart (Restarted epoch last) (ThenReplayed h bytes failed left None turns) true (record { count = extent.count + more + 1; length = size; behind = behinds }) b
+  restarts standing behind epoch turns size behinds last {h = h} {b = b} {more = more} {bytes = bytes} {failed = failed} {left = left} did took open_ last_is last_by_ counted behinds_are past =
       let r : Reply = Restarted epoch last in
-      returned Restart r (Then h bytes failed left None) true (record { count = extent.count + more + 1; length = size }) b
-      (ends_restarted v up extent a was standing behind epoch size b bytes failed left r more h did.1 did.0 did.2 took open_ last_is (ap (λ (l : Last). Restarted epoch l) last_by_) counted past)
+      returned Restart r (ThenReplayed h bytes failed left None turns) true (record { count = extent.count + more + 1; length = size; behind = behinds }) b
+      (ends_restarted v up extent a was standing behind epoch turns size behinds b bytes failed left r more h did.1 did.0 did.2 took open_ last_is (ap (λ (l : Last). Restarted epoch l) last_by_) counted
+      behinds_are past)
+
+-- what a failed restart replayed, where it did
+pub read_or_not : (turns : Option ℕ) (old n : ℕ) → n ≡ unwrap_or turns old → (turns ≡ Some n) ⊎ (n ≡ old)
+read_or_not None old n is = inr is
+read_or_not (Some m) old n is = inl (ap (λ (x : ℕ). Some x) (sym is))

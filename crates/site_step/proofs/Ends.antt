@@ -11,18 +11,20 @@ use Rattle.field_bounds.specs.Effects.{Base}
 use Rattle.field_bounds.specs.Owed.{Place, first, refusals, answer, writes, is_up, is_unsure, count_since}
 use Rattle.field_bounds.proofs.Refused.{is_restart}
 use Rattle.kept_records.specs.declared.record.Record.{Record}
-use Rattle.kept_records.specs.Logs.{IsLog}
-use Rattle.kept_records.specs.Stands.{greatest}
-use Rattle.kept_records.proofs.Lines.{same_log}
+use Rattle.field_bounds.specs.declared.id.SiteNo.{SiteNo}
+use Rattle.field_bounds.specs.Schema.{SchemaValue}
+use Rattle.kept_records.specs.Stands.{greatest, plain, since_summary, max_behind}
 use Rattle.kept_state.specs.Keeps.{Keeps, adds}
 use Rattle.kept_state.specs.Doubt.{IsDoubt, found_of}
 use Rattle.kept_state.specs.Luck.{doubt_after, record_length}
 use Rattle.kept_state.proofs.Adding.{adds_answer, keeps_length}
 use Rattle.site_step.specs.declared.accounts.Accounts.{Accounts}
 use Rattle.site_step.specs.declared.extent.Extent.{Extent}
-use Rattle.site_step.specs.Site.{SiteValue, base_of, here, entry_of, Finds, Applies}
+use Rattle.site_step.specs.Site.{SiteValue, base_of, here, entry_of, Holds, lines_of, Finds, Applies}
+use Rattle.site_step.specs.Replaying.{downs_since, downs_before}
+use Rattle.site_step.proofs.Holding.{plain_fewer, same_told, holds_all}
 use Rattle.site_step.specs.State.{StandsOn, IsSound}
-use Rattle.site_step.proofs.Settling.{answer_settles, refused_no_restart, refuses_over, noted_none, refusal_fits, answer_fits, refusal_owed, answer_owed, refusal_under, answer_under, answer_writes, line_none}
+use Rattle.site_step.proofs.Settling.{answer_settles, refused_no_restart, refuses_over, noted_none, refusal_fits, answer_fits, refusal_owed, answer_owed, refusal_under, answer_under, answer_writes, lines_none}
 use Rattle.site_step.proofs.Standing.{stands_refused}
 
 -- a site is sound after an entry, which is what the call says
@@ -32,26 +34,29 @@ pub record Ends (v : SiteValue) (c : Command) (r : Reply) (w : SiteValue) (up : 
 
 -- ---- what a restart would find
 
-pub finds_in : (v : SiteValue) (epoch : ℕ) (found : Last) → ((rs : List Record) (rest : List ℕ) → IsLog v.bytes rs rest → (greatest rs ≡ epoch) × (found_of v.doubt rs ≡ found)) → Finds v epoch found
+pub finds_in : (v : SiteValue) (epoch : ℕ) (found : Last) → ((rs : List Record) (rest : List ℕ) → Holds v.schema v.site.0 v.bytes rs rest → (greatest rs ≡ epoch) × (found_of v.doubt rs ≡ found)) → Finds v epoch found
 unfolding Finds
 finds_in v epoch found h = h
 
-pub finds_of : (v : SiteValue) (epoch : ℕ) (found : Last) → Finds v epoch found → (rs : List Record) (rest : List ℕ) → IsLog v.bytes rs rest → (greatest rs ≡ epoch) × (found_of v.doubt rs ≡ found)
+pub finds_of : (v : SiteValue) (epoch : ℕ) (found : Last) → Finds v epoch found → (rs : List Record) (rest : List ℕ) → Holds v.schema v.site.0 v.bytes rs rest → (greatest rs ≡ epoch) × (found_of v.doubt rs ≡ found)
 unfolding Finds
 finds_of v epoch found h = h
 
-pub finds_same : (v w : SiteValue) (epoch : ℕ) (found : Last) → w.bytes ≡ v.bytes → w.doubt ≡ v.doubt → Finds v epoch found → Finds w epoch found
-finds_same v w epoch found bytes doubt h =
-    finds_in w epoch found (λ rs rest log.
-    let old = finds_of v epoch found h rs rest (subst (λ (b : List ℕ). IsLog b rs rest) bytes log) in
+pub finds_same : (v w : SiteValue) (epoch : ℕ) (found : Last) → w.schema ≡ v.schema → w.site ≡ v.site → w.bytes ≡ v.bytes → w.doubt ≡ v.doubt → Finds v epoch found → Finds w epoch found
+finds_same v w epoch found schema site bytes doubt h =
+    finds_in w epoch found (λ rs rest holds.
+    let old = finds_of v epoch found h rs rest
+    (subst (λ (b : List ℕ). Holds v.schema v.site.0 b rs rest) bytes
+    (subst (λ (n : SiteNo). Holds v.schema n.0 w.bytes rs rest) site
+    (subst (λ (x : SchemaValue). Holds x w.site.0 w.bytes rs rest) schema holds))) in
     (old.0, ap (λ (d : Option ℕ). found_of d rs) doubt ∙ old.1))
 
--- where the medium's log is known
-pub finds_log : (w : SiteValue) (records : List Record) (rest : List ℕ) (epoch : ℕ) (found : Last) → IsLog w.bytes records rest → greatest records ≡ epoch → found_of w.doubt records ≡ found
+-- where what the medium holds is known
+pub finds_held : (w : SiteValue) (records : List Record) (rest : List ℕ) (epoch : ℕ) (found : Last) → Holds w.schema w.site.0 w.bytes records rest → greatest records ≡ epoch → found_of w.doubt records ≡ found
     → Finds w epoch found
-finds_log w records rest epoch found log greatest_is found_is =
+finds_held w records rest epoch found held greatest_is found_is =
     finds_in w epoch found (λ rs other is.
-    let same = (same_log w.bytes rs records other rest is log).0 in
+    let same : rs ≡ records = sym (sym held.told ∙ (same_told w.schema w.site.0 w.bytes held.all rest rs other held.log is).0) in
     (ap greatest same ∙ greatest_is, ap (found_of w.doubt) same ∙ found_is))
 
 -- ---- what is in doubt
@@ -72,8 +77,14 @@ module _ (v : SiteValue) (up : Bool) (extent : Extent) (a : Accounts) (was : IsS
   abbrev at : Place
   at = here v
 
-  pub few_records : length was.records ≤ length v.based + length v.history
-  few_records = keeps_length v.schema v.site.0 base v.based was.kept v.history was.records was.keeps
+  abbrev rs : List Record
+  rs = plain was.records
+
+  pub held : Holds v.schema v.site.0 v.bytes rs was.rest
+  held = holds_all v.schema v.site.0 v.bytes was.records was.rest was.log was.lawful
+
+  pub few_records : length rs ≤ length v.based + length v.history
+  few_records = omega (arith, keeps_length v.schema v.site.0 base (plain v.based) was.kept v.history rs was.keeps, plain_fewer v.based)
 
   -- ---- a refusal
 
@@ -87,13 +98,16 @@ module _ (v : SiteValue) (up : Bool) (extent : Extent) (a : Accounts) (was : IsS
           rest = was.rest;
           kept = was.kept;
           log = was.log;
+          lawful = was.lawful;
           run = (was.run, refusal_fits at c x some);
-          keeps = (was.records, false, was.keeps, tt, sym (append-nil was.records));
+          keeps = (rs, false, was.keeps, tt, sym (append-nil rs));
           up_is = was.up_is;
           clean = was.clean;
           reaches = was.reaches;
           place = was.place;
-          in_doubt = quiet_doubt was.kept v.history (entry_of v c (Refused x)) was.records v.doubt (omega arith) was.in_doubt;
+          in_doubt = quiet_doubt was.kept v.history (entry_of v c (Refused x)) rs v.doubt (omega arith) was.in_doubt;
+          few = was.few;
+          replays = was.replays;
           stands = λ u. stands_refused v.schema v.site.0 base v.history was.records a (was.stands u) v.site c x;
         };
         applies = record {
@@ -101,21 +115,22 @@ module _ (v : SiteValue) (up : Bool) (extent : Extent) (a : Accounts) (was : IsS
           entry = refl;
           same = record { schema = refl; site = refl; fresh = refl; based = refl };
           failed = refl;
-          logs = λ rs rest log. record {
+          logs = λ told rest log. record {
             stood = false;
             rest = rest;
-            log = subst (λ (all : List Record). IsLog v.bytes all rest) (sym (append-nil rs)) log;
+            log = subst (λ (all : List Record). Holds v.schema v.site.0 v.bytes all rest) (sym (append-nil told)) log;
             doubt = refl;
             restarts = tt;
-            refuses = refuses_over c (Refused x) rs n;
+            refuses = refuses_over c (Refused x) told n;
           };
           writes_ = refl;
           foretold = refl;
-          under = λ rs rest m log known. refusal_under v rs rest c m x some;
+          under = λ told rest m log known. refusal_under v told rest c m x some;
           exact = λ luck epoch found known finds. record {
             reply_is = refusal_owed at c x epoch found luck some;
-            finds = finds_same v (record v { history = entry_of v c (Refused x) ∷ v.history }) epoch found refl refl finds;
+            finds = finds_same v (record v { history = entry_of v c (Refused x) ∷ v.history }) epoch found refl refl refl refl finds;
           };
+          replays = λ all rest log. refl;
         };
       }
 
@@ -131,8 +146,8 @@ module _ (v : SiteValue) (up : Bool) (extent : Extent) (a : Accounts) (was : IsS
       → Ends v c (answer at c) (record v { history = After c }) up extent b
   answered c b n none silent stands =
       let settles = answer_settles at c n in
-      let empty : (rs : List Record) → rs ≡ rs ++ adds at c (answer at c) false rs =
-      λ rs. sym (append-nil rs) ∙ ap (λ (l : List Record). rs ++ l) (sym (adds_answer at c false rs n ∙ noted_none at c silent)) in
+      let empty : (told : List Record) → told ≡ told ++ adds at c (answer at c) false told =
+      λ told. sym (append-nil told) ∙ ap (λ (l : List Record). told ++ l) (sym (adds_answer at c false told n ∙ noted_none at c silent)) in
       record {
         sound = record {
           ground = was.ground;
@@ -140,19 +155,22 @@ module _ (v : SiteValue) (up : Bool) (extent : Extent) (a : Accounts) (was : IsS
           rest = was.rest;
           kept = was.kept;
           log = was.log;
+          lawful = was.lawful;
           run = (was.run, answer_fits at c n none);
           keeps = (
-            was.records,
+            rs,
             false,
-            subst (λ (k : Bool). Keeps v.schema v.site.0 base v.based k v.history was.records) (sym (settles.kept was.kept)) was.keeps,
-            settles.tells was.kept false was.records,
-            empty was.records,
+            subst (λ (k : Bool). Keeps v.schema v.site.0 base (plain v.based) k v.history rs) (sym (settles.kept was.kept)) was.keeps,
+            settles.tells was.kept false rs,
+            empty rs,
           );
           up_is = was.up_is ∙ sym (settles.up (is_up base v.history));
           clean = was.clean;
           reaches = was.reaches;
           place = was.place;
-          in_doubt = quiet_doubt was.kept v.history (entry_of v c (answer at c)) was.records v.doubt (settles.counts (count_since is_unsure v.history)) was.in_doubt;
+          in_doubt = quiet_doubt was.kept v.history (entry_of v c (answer at c)) rs v.doubt (settles.counts (count_since is_unsure v.history)) was.in_doubt;
+          few = λ h. subst (λ (m : ℕ). since_summary was.records ≤ max_behind + m) (sym (settles.downs (downs_since v.history))) (was.few h);
+          replays = λ h. subst (λ (m : ℕ). v.replayed ≤ max_behind + m) (sym (settles.before (downs_since v.history) (downs_before v.history))) (was.replays h);
           stands = λ u. stands;
         };
         applies = record {
@@ -160,24 +178,25 @@ module _ (v : SiteValue) (up : Bool) (extent : Extent) (a : Accounts) (was : IsS
           entry = refl;
           same = record { schema = refl; site = refl; fresh = refl; based = refl };
           failed = sym (settles.failed v.failed);
-          logs = λ rs rest log. record {
+          logs = λ told rest log. record {
             stood = false;
             rest = rest;
-            log = subst (λ (all : List Record). IsLog v.bytes all rest) (empty rs) log;
-            doubt = sym (settles.doubt rs v.doubt);
-            restarts = settles.restarts rs v.doubt rest;
-            refuses = refuses_over c (answer at c) rs n;
+            log = subst (λ (all : List Record). Holds v.schema v.site.0 v.bytes all rest) (empty told) log;
+            doubt = sym (settles.doubt told v.doubt);
+            restarts = settles.restarts told v.doubt rest;
+            refuses = refuses_over c (answer at c) told n;
           };
-          writes_ = answer_writes at c v.bytes v.bytes n (sym (ap (λ (l : List ℕ). v.bytes ++ l) (line_none at c silent) ∙ append-nil v.bytes));
+          writes_ = answer_writes at c v.bytes v.bytes n (λ all rest log. sym (ap (λ (l : List ℕ). v.bytes ++ l) (lines_none at c all silent) ∙ append-nil v.bytes));
           foretold = sym (settles.foretold v.foretold);
-          under = λ rs rest m log known. answer_under v rs rest c m n none silent;
+          under = λ told rest m log known. answer_under v told rest c m n none silent;
           exact = λ luck epoch found known finds.
               let w : SiteValue = record v { history = After c } in
               record {
                 reply_is = answer_owed at c epoch found luck n none silent;
                 finds = subst (λ (m : ℕ). Finds w m (doubt_after (answer at c) luck (record_length at c) found)) (sym (settles.greatest_is luck epoch))
-                    (subst (λ (l : Last). Finds w epoch l) (sym (settles.found luck (record_length at c) found)) (finds_same v w epoch found refl refl finds));
+                    (subst (λ (l : Last). Finds w epoch l) (sym (settles.found luck (record_length at c) found)) (finds_same v w epoch found refl refl refl refl finds));
               };
+          replays = λ all rest log. settles.replays (since_summary all) v.replayed;
         };
       }
 

@@ -1,54 +1,65 @@
 -- How far a site's log reached when the site was last up.
-use Rattle.std.proofs.Common.{◌≡◌, ℕ, ◌+◌, ◌-◌, ◌^◌, ◌≤◌, List, [], ◌∷◌, ◌++◌, length, drop, refl, sym, ap, subst, ◌∙◌, arith, append_assoc, Option, Some, None}
-use Rattle.std.specs.Prelude.{if◌then◌else◌}
+use Rattle.std.proofs.Common.{◌≡◌, ℕ, ◌+◌, ◌-◌, ◌^◌, ◌≤◌, Bool, false, List, [], ◌∷◌, ◌++◌, length, drop, refl, sym, ap, subst, ◌∙◌, arith, append_assoc, Option, Some, None}
+use Rattle.std.specs.Prelude.{nat_le, if◌then◌else◌}
 use Rattle.std.specs.List.{flat_map}
 use Rattle.std.proofs.Math.Seq.{drop-append_seam}
 use Rattle.std.proofs.lemmas.List.{append-nil, length-append}
+use Rattle.std.proofs.lemmas.List.Concat.{flat_map-append}
 use Rattle.field_bounds.specs.declared.entry.Last.{Last}
 use Rattle.field_bounds.specs.declared.entry.Last.TheVariants.{Kept, Lost}
+use Rattle.field_bounds.specs.Schema.{SchemaValue}
 use Rattle.kept_records.specs.declared.record.Record.{Record}
 use Rattle.kept_records.specs.Text.{text}
 use Rattle.kept_records.specs.Logs.{IsLog}
 use Rattle.kept_records.specs.Keeping.{starts_with_no_restart}
 use Rattle.kept_records.specs.ReadingBack.{told_length, PartsAt, StandBehind}
-use Rattle.kept_records.proofs.Lines.{flat_push}
+use Rattle.kept_records.specs.Stands.{is_summary, plain, since_summary, max_behind, piece}
+use Rattle.kept_records.proofs.Summaries.{piece_bounds}
 use Rattle.kept_state.specs.Doubt.{found_of}
+use Rattle.log_replay.specs.Resuming.{starts_with_summary}
 use Rattle.site_step.specs.declared.extent.Extent.{Extent}
-use Rattle.site_step.specs.State.{Reaches, extended}
+use Rattle.site_step.specs.State.{Reaches, ReachesAll, extended}
 use Rattle.site_step.specs.Resuming.{last_by}
+use Rattle.site_step.proofs.Holding.{plain_append, plain_cons, plain_piece, piece_since}
 
-none_left : (behind before rs : List Record) → rs ≡ before ++ behind → length before ≡ length rs → behind ≡ []
-none_left [] before rs all same = refl
-none_left (r ∷ behind) before rs all same = absurd (omega (arith, ap length all, length-append before (r ∷ behind), same))
+-- all records are the first ones
+pub reach_all : (e : Extent) (rs : List Record) → ReachesAll e rs → Reaches e rs
+reach_all e rs all = record { before = rs; behind = []; all = sym (append-nil rs); count = all.count; length_is = all.length_is; first_ = refl }
 
--- where all records are the first ones
-pub whole_reach : (e : Extent) (rs : List Record) → Reaches e rs → e.count ≡ length rs → e.length ≡ told_length (length (flat_map text rs))
-whole_reach e rs r all =
-    let none = none_left r.behind r.before rs r.all (sym r.count ∙ all) in
-    let same : rs ≡ r.before = r.all ∙ ap (λ (x : List Record). r.before ++ x) none ∙ append-nil r.before in
-    r.length_is ∙ ap (λ (x : List Record). told_length (length (flat_map text x))) (sym same)
+-- once what a record adds stands behind them
+pub reach_next : (schema : SchemaValue) (s : ℕ) (rs : List Record) (r : Record) → is_summary r ≡ false → (next : Extent) → next.count ≡ length (plain rs) + 1
+    → next.length ≡ told_length (length (flat_map text (rs ++ piece schema s rs r))) → next.behind ≡ (if nat_le max_behind (since_summary rs + 1) then 0 else since_summary rs + 1)
+    → ReachesAll next (rs ++ piece schema s rs r)
+reach_next schema s rs r one next count long behind = record {
+  count = omega (arith, count, ap length (plain_piece schema s rs r one), length-append (plain rs) (r ∷ []));
+  length_is = long;
+  behind = behind ∙ sym (piece_since schema s rs r one);
+  few = piece_bounds schema s rs r;
+}
 
-pub text_more : (rs : List Record) (r : Record) → length (flat_map text (rs ++ r ∷ [])) ≡ length (flat_map text rs) + length (text r)
-text_more rs r = ap length (flat_push rs r) ∙ length-append (flat_map text rs) (text r)
+pub reach_extended : (schema : SchemaValue) (s : ℕ) (rs : List Record) (r : Record) → is_summary r ≡ false → (e : Extent) → ReachesAll e rs
+    → ReachesAll (extended e (length (flat_map text (piece schema s rs r)))) (rs ++ piece schema s rs r)
+reach_extended schema s rs r one e was =
+    let size : ℕ = length (flat_map text (piece schema s rs r)) in
+    let long : e.length ≡ told_length (length (flat_map text rs)) = was.length_is in
+    let more : length (flat_map text (rs ++ piece schema s rs r)) ≡ length (flat_map text rs) + size =
+    ap length (flat_map-append text rs (piece schema s rs r)) ∙ length-append (flat_map text rs) (flat_map text (piece schema s rs r)) in
+    reach_next schema s rs r one (extended e size) (omega (arith, was.count)) (omega (arith, long, more))
+    (ap (λ (n : ℕ). if nat_le max_behind (n + 1) then 0 else n + 1) was.behind)
 
--- all records, up to a length
-pub reach_all : (e : Extent) (rs : List Record) → e.count ≡ length rs → e.length ≡ told_length (length (flat_map text rs)) → Reaches e rs
-reach_all e rs count size = record { before = rs; behind = []; all = sym (append-nil rs); count = count; length_is = size }
-
-pub reach_grown : (e : Extent) (rs : List Record) (r : Record) → Reaches e rs → e.count ≡ length rs → Reaches (extended e (length (text r))) (rs ++ r ∷ [])
-reach_grown e rs r was all =
-    reach_all (extended e (length (text r))) (rs ++ r ∷ []) (omega (arith, all, length-append rs (r ∷ [])))
-    (let long : e.length ≡ told_length (length (flat_map text rs)) = whole_reach e rs was all in
-    let more : length (flat_map text (rs ++ r ∷ [])) ≡ length (flat_map text rs) + length (text r) = text_more rs r in omega (arith, long, more))
+first_more : (as1 bs : List Record) → starts_with_summary as1 ≡ false → starts_with_summary bs ≡ false → starts_with_summary (as1 ++ bs) ≡ false
+first_more [] bs a b = b
+first_more (r ∷ as1) bs a b = a
 
 -- more records behind those that there were
-pub reach_more : (e : Extent) (rs more : List Record) → Reaches e rs → Reaches e (rs ++ more)
-reach_more e rs more r = record {
+pub reach_more : (e : Extent) (rs more : List Record) → starts_with_summary more ≡ false → Reaches e rs → Reaches e (rs ++ more)
+reach_more e rs more none r = record {
   before = r.before;
   behind = r.behind ++ more;
   all = ap (λ (x : List Record). x ++ more) r.all ∙ append_assoc r.before r.behind more;
   count = r.count;
   length_is = r.length_is;
+  first_ = first_more r.behind more r.first_ none;
 }
 
 pub reach_seam : (e : Extent) (bytes : List ℕ) (rs : List Record) (rest : List ℕ) → IsLog bytes rs rest → Reaches e rs → PartsAt bytes e.length
@@ -63,13 +74,23 @@ reach_seam e bytes rs rest log r = record {
 pub behind_is : (e : Extent) (bytes : List ℕ) (rs : List Record) (rest : List ℕ) → IsLog bytes rs rest → (r : Reaches e rs) → (found : List Record) → StandBehind bytes e.length found → found ≡ r.behind
 behind_is e bytes rs rest log r found stand = stand r.before r.behind rest (subst (λ (x : List Record). IsLog bytes x rest) r.all log) r.length_is
 
-pub count_behind : (e : Extent) (rs : List Record) (r : Reaches e rs) (found : List Record) → found ≡ r.behind → e.count + length found ≡ length rs
-count_behind e rs r found same = omega (arith, ap length same, ap length r.all, length-append r.before r.behind, r.count)
+pub count_more : (e : Extent) (rs : List Record) (r : Reaches e rs) (found : List Record) → found ≡ r.behind → e.count + length (plain found) ≡ length (plain rs)
+count_more e rs r found same =
+    omega (arith, ap (λ (x : List Record). length (plain x)) same, ap (λ (x : List Record). length (plain x)) r.all, ap length (plain_append r.before r.behind), length-append (plain r.before) (plain r.behind), r.count)
+
+-- where no summary stands first, leaving them out changes nothing of that
+first_plain : (rs : List Record) → starts_with_summary rs ≡ false → starts_with_no_restart (plain rs) ≡ starts_with_no_restart rs
+first_plain [] none = refl
+first_plain (r ∷ rs) none = ap starts_with_no_restart (plain_cons r rs none)
 
 -- what became of the record in doubt is told by those behind the first ones
-pub last_is : (doubt : Option ℕ) (e : Extent) (rs : List Record) (r : Reaches e rs) (found : List Record) → found ≡ r.behind → ((n : ℕ) → doubt ≡ Some n → n ≡ e.count) → last_by doubt found ≡ found_of doubt rs
+pub last_is : (doubt : Option ℕ) (e : Extent) (rs : List Record) (r : Reaches e rs) (found : List Record) → found ≡ r.behind → ((n : ℕ) → doubt ≡ Some n → n ≡ e.count)
+    → last_by doubt found ≡ found_of doubt (plain rs)
 last_is None e rs r found same place = refl
 last_is (Some n) e rs r found same place =
-    let at : n ≡ length r.before = place n refl ∙ r.count in
-    let left : drop n rs ≡ found = ap (λ (m : ℕ). drop m rs) at ∙ ap (drop (length r.before)) r.all ∙ drop-append_seam r.before r.behind ∙ sym same in
-    sym (ap (λ (x : List Record). if starts_with_no_restart x then Kept else Lost) left)
+    let at : n ≡ length (plain r.before) = place n refl ∙ r.count in
+    let left : drop n (plain rs) ≡ plain r.behind =
+    ap (λ (m : ℕ). drop m (plain rs)) at ∙ ap (drop (length (plain r.before))) (ap plain r.all ∙ plain_append r.before r.behind) ∙ drop-append_seam (plain r.before) (plain r.behind) in
+    let told : starts_with_no_restart (drop n (plain rs)) ≡ starts_with_no_restart found =
+    ap starts_with_no_restart left ∙ first_plain r.behind r.first_ ∙ ap starts_with_no_restart (sym same) in
+    sym (ap (λ (b : Bool). if b then Kept else Lost) told)

@@ -13,12 +13,11 @@ use Rattle.field_bounds.proofs.Refused.{is_restart}
 use Rattle.kept_records.specs.declared.medium.Mishap.{Mishap}
 use Rattle.kept_records.specs.declared.medium.Mishap.TheVariants.{Never}
 use Rattle.kept_records.specs.declared.record.Record.{Record}
-use Rattle.kept_records.specs.Logs.{IsLog}
 use Rattle.kept_records.specs.Stands.{greatest}
 use Rattle.kept_state.specs.declared.luck.Luck.TheVariants.{Fine}
 use Rattle.kept_state.specs.Doubt.{found_of}
 use Rattle.kept_state.specs.Luck.{refused_or, owed_with}
-use Rattle.site_step.specs.Site.{SiteValue, here, foretold_after, owed_under, Applies}
+use Rattle.site_step.specs.Site.{SiteValue, Holds, here, foretold_after, owed_under, Applies}
 use Rattle.site_step.specs.Calls.{Call, Leads, IsSure, AreSure}
 
 answer_is_sure : (at : Place) (c : Command) → is_restart c ≡ false → IsSure (answer at c)
@@ -42,7 +41,7 @@ never_under v rs rest Restart = refl
 never_under v rs rest c = refl
 
 -- one call
-pub call_is_sure : (v w : SiteValue) (rs : List Record) (rest : List ℕ) (c : Command) (r : Reply) → IsLog v.bytes rs rest → v.foretold ≡ Some Never → Applies v c r w → IsSure r
+pub call_is_sure : (v w : SiteValue) (rs : List Record) (rest : List ℕ) (c : Command) (r : Reply) → Holds v.schema v.site.0 v.bytes rs rest → v.foretold ≡ Some Never → Applies v c r w → IsSure r
 call_is_sure v w rs rest c r log known h =
     subst IsSure (sym (h.under rs rest Never log known ∙ never_under v rs rest c)) (fine_is_sure (here v) (greatest rs) (found_of v.doubt rs) c)
 
@@ -57,7 +56,7 @@ pub call_stays : (v w : SiteValue) (c : Command) (r : Reply) → v.foretold ≡ 
 call_stays v w c r known h = h.foretold ∙ stays r v.foretold known
 
 -- any number of calls
-pub calls_are_sure : (calls : List Call) (v w : SiteValue) (rs : List Record) (rest : List ℕ) → IsLog v.bytes rs rest → v.foretold ≡ Some Never → Leads v calls w → AreSure calls
+pub calls_are_sure : (calls : List Call) (v w : SiteValue) (rs : List Record) (rest : List ℕ) → Holds v.schema v.site.0 v.bytes rs rest → v.foretold ≡ Some Never → Leads v calls w → AreSure calls
 calls_are_sure [] v w rs rest log known leads = tt
 calls_are_sure (call ∷ calls) v w rs rest log known leads =
     let logs = leads.1.logs rs rest log in (

@@ -1,5 +1,5 @@
 -- A site that is opened is sound.
-use Rattle.std.proofs.Common.{◌≡◌, ℕ, ◌<◌, Bool, true, false, List, [], ◌∷◌, ◌++◌, length, drop, refl, sym, ap, subst, ◌∙◌, Option, Some, None}
+use Rattle.std.proofs.Common.{◌≡◌, ℕ, ◌<◌, Bool, true, false, List, [], ◌∷◌, ◌++◌, length, drop, refl, sym, ap, subst, ◌∙◌, arith, Option, Some, None}
 use Rattle.field_bounds.specs.declared.id.SiteNo.{SiteNo}
 use Rattle.field_bounds.specs.declared.entry.Entry.{Entry}
 use Rattle.field_bounds.specs.declared.entry.Last.TheVariants.{Nothing}
@@ -9,7 +9,12 @@ use Rattle.field_bounds.specs.Effects.{Base, fresh}
 use Rattle.kept_records.specs.declared.medium.Mishap.{Mishap}
 use Rattle.kept_records.specs.declared.record.Record.{Record}
 use Rattle.kept_records.specs.Logs.{IsLog, IsFront}
-use Rattle.kept_records.specs.Stands.{greatest, Lawful, BreaksRule}
+use Rattle.kept_records.specs.Stands.{greatest, plain, since_summary, given_in, accepted_in, stands, Lawful, BreaksRule}
+use Rattle.kept_records.proofs.Summaries.{plain_same, plain_lawful}
+use Rattle.field_bounds.proofs.Sums.{sum_below-same}
+use Rattle.field_bounds.specs.declared.kind.Kind.{Kind}
+use Rattle.field_bounds.specs.Kind.{other}
+use Rattle.std.proofs.lemmas.List.{append-nil}
 use Rattle.kept_records.proofs.Lines.{same_log, no_log}
 use Rattle.kept_records.proofs.Appending.{read_as_log}
 use Rattle.kept_state.specs.Keeps.{IsBase, opened}
@@ -18,11 +23,11 @@ use Rattle.kept_state.proofs.Covering.{stands_is_base, fresh_is_base}
 use Rattle.escrow_journal.specs.Journal.{Row}
 use Rattle.site_step.specs.declared.site.opening.Found.{Found}
 use Rattle.site_step.specs.Site.{SiteValue, value_of, base_of, Finds}
-use Rattle.site_step.specs.State.{StandsOn, IsSound}
+use Rattle.site_step.specs.State.{StandsOn, IsSound, ReachesAll}
 use Rattle.site_step.specs.Opening.{BeginsWith, IsFound}
 use Rattle.site_step.proofs.Resumes.{no_breach}
-use Rattle.site_step.proofs.Ends.{finds_log}
-use Rattle.site_step.proofs.Extents.{reach_all}
+use Rattle.site_step.proofs.Ends.{finds_held}
+use Rattle.site_step.proofs.Holding.{greatest_plain, holds_all}
 
 -- bytes that are none hold no record
 pub no_bytes : (bytes : List ℕ) (rs : List Record) (rest : List ℕ) → IsLog bytes rs rest → bytes ≡ [] → rs ≡ []
@@ -32,6 +37,31 @@ no_bytes bytes rs rest log none =
 nothing_kept : greatest [] ≡ 0
 unfolding greatest
 nothing_kept = refl
+
+since_none : since_summary [] ≡ 0
+unfolding since_summary
+since_none = refl
+
+-- what records stand for is what they stand for without their summaries
+plain_base : (schema : SchemaValue) (s : ℕ) (base : Base) (bs : List Record) → IsBase schema s base bs → IsBase schema s base (plain bs)
+plain_base schema s base bs is =
+    let same = plain_same bs in
+    record {
+      epoch = is.epoch ∙ sym same.epoch;
+      rights = λ f k.
+          omega (
+            arith,
+            is.rights f k,
+            same.committed f k,
+            same.committed f (other k),
+            same.cut f k,
+            sum_below-same schema.sites (λ (from : ℕ). accepted_in (plain bs) from f k) (λ (from : ℕ). accepted_in bs from f k) (λ from below. same.accepted from f k),
+            sum_below-same schema.sites (λ (to : ℕ). given_in (plain bs) to f k) (λ (to : ℕ). given_in bs to f k) (λ to below. same.given to f k),
+          );
+      cut = λ f k. is.cut f k ∙ sym (same.cut f k);
+      given = λ to f k. is.given to f k ∙ sym (same.given to f k);
+      accepted = λ from f k. is.accepted from f k ∙ sym (same.accepted from f k);
+    }
 
 -- ---- what is no site's log
 
@@ -54,9 +84,9 @@ module _ (schema : SchemaValue) (site : SiteNo) (found : Found) {held bytes : Li
   abbrev bs : List Record
   bs = found.records.items
 
-  base_is : (empty : Bool) → (empty ≡ true → bs ≡ []) → IsBase schema site.0 (opened schema site.0 empty bs) bs
-  base_is true none = subst (λ (rs : List Record). IsBase schema site.0 (fresh schema site.0) rs) (sym (none refl)) (fresh_is_base schema site.0)
-  base_is false none = stands_is_base schema site.0 false bs is.lawful
+  base_is : (empty : Bool) → (empty ≡ true → bs ≡ []) → IsBase schema site.0 (opened schema site.0 empty bs) (plain bs)
+  base_is true none = subst (λ (rs : List Record). IsBase schema site.0 (fresh schema site.0) (plain rs)) (sym (none refl)) (fresh_is_base schema site.0)
+  base_is false none = plain_base schema site.0 (stands schema site.0 false bs) bs (stands_is_base schema site.0 false bs is.lawful)
 
   stands_first : (base : Base) → StandsOn schema site.0 base [] bs (record { standing = found.standing; journal = []; last = 0 })
   stands_first base = record { standing = is.stands.for_; aside = record { held = is.stands.none; journal = refl }; last = refl }
@@ -67,8 +97,11 @@ module _ (schema : SchemaValue) (site : SiteNo) (found : Found) {held bytes : Li
   rest_none : bytes ≡ [] → is.rest ≡ []
   rest_none none = (same_log [] bs [] is.rest [] (subst (λ (b : List ℕ). IsLog b bs is.rest) none log) (record { parts = refl; each = tt; no_lf = refl })).1
 
-  clean_by : (empty : Bool) → (empty ≡ true → bytes ≡ []) → empty ≡ true → (is.rest ≡ []) × (found.extent.count ≡ length bs)
-  clean_by empty none e = (rest_none (none e), is.count)
+  clean_by : (empty : Bool) → (empty ≡ true → bytes ≡ []) → empty ≡ true → (is.rest ≡ []) × ReachesAll found.extent bs
+  clean_by empty none e =
+      let here = no_bytes bytes bs is.rest log (none e) in
+      let since : since_summary bs ≡ 0 = ap since_summary here ∙ since_none in
+      (rest_none (none e), record { count = is.count; length_is = is.length_is; behind = is.behind ∙ sym since; few = omega (arith, since) })
 
   up_by : (empty : Bool) → empty ≡ (opened schema site.0 empty bs).up
   up_by true = refl
@@ -76,7 +109,7 @@ module _ (schema : SchemaValue) (site : SiteNo) (found : Found) {held bytes : Li
 
   module _ (site_in : site.0 < schema.sites) (limits : IsSchema schema) (failed : ℕ) (left : Option Mishap) where
     abbrev made : Bool → List Entry → SiteValue
-    made empty h = value_of schema site empty bs h bytes failed left None
+    made empty h = value_of schema site empty bs h bytes failed left None 0
 
     sound : (empty : Bool) → (empty ≡ true → bytes ≡ []) → IsSound (made empty []) empty found.extent (record { standing = found.standing; journal = []; last = 0 })
     sound empty none =
@@ -87,19 +120,22 @@ module _ (schema : SchemaValue) (site : SiteNo) (found : Found) {held bytes : Li
             limits = limits;
             epoch_in = opened_in_range schema site.0 empty bs log.each;
             is_base = base;
-            based_on = is.lawful;
+            based_on = plain_lawful schema site.0 bs is.lawful;
           };
           records = bs;
           rest = is.rest;
           kept = false;
           log = log;
+          lawful = is.lawful;
           run = tt;
           keeps = refl;
           up_is = up_by empty;
           clean = clean_by empty none;
-          reaches = reach_all found.extent bs is.count is.length_is;
+          reaches = record { before = bs; behind = []; all = sym (append-nil bs); count = is.count; length_is = is.length_is; first_ = refl };
           place = λ n e. let none : ◌≡◌ {A = Option ℕ} None (Some n) = e in absurd cc;
           in_doubt = refl;
+          few = λ h. omega (arith, h);
+          replays = λ h. omega arith;
           stands = λ u. stands_first (base_of (made empty []));
         }
 
@@ -111,4 +147,5 @@ module _ (schema : SchemaValue) (site : SiteNo) (found : Found) {held bytes : Li
     pub opens_finds : (empty : Bool) {h : List Entry} → h ≡ [] → held ≡ [] → Finds (made empty h) 0 Nothing
     opens_finds empty new none =
         subst (λ (x : List Entry). Finds (made empty x) 0 Nothing) (sym new)
-        (finds_log (made empty []) bs is.rest 0 Nothing log (ap greatest (no_bytes bytes bs is.rest log (same ∙ none)) ∙ nothing_kept) refl)
+        (finds_held (made empty []) (plain bs) is.rest 0 Nothing (holds_all schema site.0 bytes bs is.rest log is.lawful)
+        (greatest_plain bs ∙ ap greatest (no_bytes bytes bs is.rest log (same ∙ none)) ∙ nothing_kept) refl)

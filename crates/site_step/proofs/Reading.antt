@@ -15,6 +15,9 @@ use Rattle.kept_state.proofs.Keeping.{run_owns, run_gives, run_cuts, run_accepts
 use Rattle.kept_state.proofs.Epochs.{up_epoch}
 use Rattle.kept_state.proofs.Sure.{keeps_up}
 use Rattle.log_replay.specs.Standing.{IsOther}
+use Rattle.kept_records.specs.declared.record.Record.{Record}
+use Rattle.kept_records.specs.Stands.{plain}
+use Rattle.kept_records.proofs.Summaries.{own_same, plain_same}
 use Rattle.site_step.specs.declared.accounts.Accounts.{Accounts}
 use Rattle.site_step.specs.declared.extent.Extent.{Extent}
 use Rattle.site_step.specs.Site.{SiteValue, base_of}
@@ -47,23 +50,26 @@ pub reads : (v : SiteValue) (up : Bool) (extent : Extent) (a : Accounts) → IsS
 reads v up extent a was there =
     let st = was.stands there in
     let base : Base = base_of v in
-    let keeps = keeps_up v.schema v.site.0 base v.based was.kept false v.history was.records there was.keeps in
-    let owns = run_owns v.schema v.site.0 base v.based false v.history was.records was.ground.is_base was.run keeps in
+    let bs = plain v.based in
+    let rs = plain was.records in
+    let sums = plain_same was.records in
+    let keeps = keeps_up v.schema v.site.0 base bs was.kept false v.history rs there was.keeps in
+    let owns = run_owns v.schema v.site.0 base bs false v.history rs was.ground.is_base was.run keeps in
     record {
       matches = record {
         count = st.standing.count;
         width = st.standing.width;
-        free = λ f k l. omega (arith, st.standing.own f k l, st.aside.held f k l, owns f k);
+        free = λ f k l. omega (arith, st.standing.own f k l, st.aside.held f k l, owns f k, own_same v.schema v.site.0 rs was.records sums f k);
         held = st.aside.held;
-        cut = λ f k l. st.standing.cut f k l ∙ sym (run_cuts v.schema v.site.0 base v.based false v.history was.records was.ground.is_base was.run keeps f k);
+        cut = λ f k l. st.standing.cut f k l ∙ sym (sums.cut f k) ∙ sym (run_cuts v.schema v.site.0 base bs false v.history rs was.ground.is_base was.run keeps f k);
         journal = st.aside.journal;
       };
       holds = record {
         place = st.standing.place;
-        given = λ r f k other. st.standing.given r f k other ∙ sym (run_gives v.schema v.site.0 base v.based false v.history was.records was.ground.is_base was.run keeps r f k);
-        accepted = λ r f k other. st.standing.accepted r f k other ∙ sym (run_accepts v.schema v.site.0 base v.based false v.history was.records was.ground.is_base was.run keeps r f k);
+        given = λ r f k other. st.standing.given r f k other ∙ sym (sums.given r f k) ∙ sym (run_gives v.schema v.site.0 base bs false v.history rs was.ground.is_base was.run keeps r f k);
+        accepted = λ r f k other. st.standing.accepted r f k other ∙ sym (sums.accepted r f k) ∙ sym (run_accepts v.schema v.site.0 base bs false v.history rs was.ground.is_base was.run keeps r f k);
         site = st.standing.site;
       };
-      epoch = st.standing.epoch ∙ sym (up_epoch v.schema v.site.0 base v.based was.ground.is_base false v.history was.records keeps there);
+      epoch = st.standing.epoch ∙ sym sums.epoch ∙ sym (up_epoch v.schema v.site.0 base bs was.ground.is_base false v.history rs keeps there);
       last = st.last;
     }

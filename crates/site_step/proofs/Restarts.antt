@@ -26,7 +26,7 @@ use Rattle.kept_records.specs.declared.record.Record.TheVariants as records
 use Rattle.kept_records.specs.Text.{text}
 use Rattle.kept_records.specs.Medium.{IsCutShort}
 use Rattle.kept_records.specs.Logs.{IsLog}
-use Rattle.kept_records.specs.Stands.{greatest}
+use Rattle.kept_records.specs.Stands.{greatest, plain, since_summary, max_behind, Lawful}
 use Rattle.kept_records.proofs.Lines.{same_log}
 use Rattle.kept_state.specs.declared.luck.Luck.{Luck}
 use Rattle.kept_state.specs.declared.luck.Luck.TheVariants.{Fine, Torn}
@@ -44,12 +44,16 @@ use Rattle.log_replay.specs.declared.standing.Standing.{Standing}
 use Rattle.log_replay.specs.Standing.{IsStandingFor, TakesIn}
 use Rattle.site_step.specs.declared.accounts.Accounts.{Accounts}
 use Rattle.site_step.specs.declared.extent.Extent.{Extent}
-use Rattle.site_step.specs.Site.{SiteValue, base_of, here, entry_of, mishap_of, luck_under, owed_under, Finds, IsExact, Applies}
-use Rattle.site_step.specs.State.{row_of, StandsOn, IsSound}
-use Rattle.site_step.specs.Resuming.{next_restart, last_by, FailsOver, FullOver, StandsOver}
+use Rattle.site_step.specs.Site.{SiteValue, base_of, here, entry_of, mishap_of, luck_under, owed_under, Holds, Finds, IsExact, Applies}
+use Rattle.site_step.specs.State.{row_of, StandsOn, IsSound, ReachesAll}
+use Rattle.site_step.specs.Resuming.{next_restart, next_piece, last_by, Leaves, FailsOver, FullOver, StandsOver}
 use Rattle.site_step.proofs.Standing.{stands_refused}
-use Rattle.site_step.proofs.Extents.{reach_all, reach_more, behind_is, count_behind, last_is}
-use Rattle.site_step.proofs.Ends.{Ends, finds_of, finds_log, finds_same, quiet_doubt}
+use Rattle.site_step.specs.Replaying.{downs_since, downs_before}
+use Rattle.site_step.proofs.Holding.{greatest_plain, holds_all, same_told, plain_piece, piece_same, all_lawful, left_plain, left_holds}
+use Rattle.site_step.proofs.Extents.{reach_all, reach_next, reach_more, behind_is, count_more, last_is}
+use Rattle.site_step.proofs.Resumes.{restart_may}
+use Rattle.site_step.proofs.Writes.{stands_as}
+use Rattle.site_step.proofs.Ends.{Ends, finds_of, finds_held, finds_same, quiet_doubt}
 
 abbrev pub says : Bool → Last
 says kept = if kept then Kept else Lost
@@ -119,139 +123,162 @@ module _ (v : SiteValue) (up : Bool) (extent : Extent) (a : Accounts) (was : IsS
   abbrev s : ℕ
   s = v.site.0
 
-  abbrev rs : List Record
-  rs = was.records
+  -- all records, and those that are no summaries
+  abbrev all : List Record
+  all = was.records
 
-  found : FoundIs schema s base v.based v.history rs (found_of v.doubt rs)
-  found = found_is schema s base v.based v.history rs was.kept was.keeps v.doubt was.in_doubt
+  abbrev rs : List Record
+  rs = plain was.records
+
+  abbrev bs : List Record
+  bs = plain v.based
+
+  found : FoundIs schema s base bs v.history rs (found_of v.doubt rs)
+  found = found_is schema s base bs v.history rs was.kept was.keeps v.doubt was.in_doubt
+
+  epochs : greatest rs ≡ greatest all
+  epochs = greatest_plain all
+
+  next_same : next_restart rs ≡ next_restart all
+  next_same = ap (λ (n : ℕ). records.Restart (n + 1)) epochs
+
+  held : Holds schema s v.bytes rs was.rest
+  held = holds_all schema s v.bytes all was.rest was.log was.lawful
+
+  same_as : (other : List Record) (more : List ℕ) → Holds schema s v.bytes other more → (rs ≡ other) × (was.rest ≡ more)
+  same_as other more is = same_told schema s v.bytes all was.rest other more was.log is
+
+  same_all : (other : List Record) (more : List ℕ) → IsLog v.bytes other more → all ≡ other
+  same_all other more is = (same_log v.bytes all other was.rest more was.log is).0
 
   -- ---- the device failed
 
   abbrev Failing : List Entry
   Failing = entry_of v Restart StillDown ∷ v.history
 
-  module _ (b : Accounts) (bytes : List ℕ) (left : Option Mishap) (failing : FailsOver rs was.rest v.bytes bytes v.foretold left v.failed (v.failed + 1)) where
+  module _ (b : Accounts) (turns : Option ℕ) (replayed_ : ℕ) (bytes : List ℕ) (left : Option Mishap) (failing : FailsOver schema s all turns was.rest v.bytes bytes v.foretold left v.failed (v.failed + 1))
+      (which : (replayed_ ≡ since_summary all) ⊎ (replayed_ ≡ v.replayed)) where
     abbrev down : SiteValue
-    down = record v { history = Failing; bytes = bytes; failed = v.failed + 1; foretold = left }
+    down = record v { history = Failing; bytes = bytes; failed = v.failed + 1; foretold = left; replayed = replayed_ }
+
+    -- what stands then, told without summaries
+    module _ (stood : Bool) (is : Leaves schema s all (next_restart all) stood bytes) where
+      abbrev then_told : List Record
+      then_told = rs ++ cond stood (next_restart rs ∷ []) []
+
+      told_is : plain (all ++ is.front) ≡ then_told
+      told_is = left_plain schema s all (next_restart all) stood bytes is ∙ ap (λ (r : Record). rs ++ cond stood (r ∷ []) []) (sym next_same)
+
+      held_then : Holds schema s bytes then_told is.rest
+      held_then = record { all = all ++ is.front; log = is.log; lawful = is.lawful; told = told_is }
 
     exact_down : (luck : Luck) (epoch : ℕ) (told : Last) → v.foretold ≡ Some (mishap_of luck) → Finds v epoch told → IsExact v Restart StillDown down luck epoch told
     exact_down Fine epoch told known finds = absurd (failing.never known)
     exact_down (Torn n) epoch told known finds =
         let torn = failing.torn n known in
-        let old = finds_of v epoch told finds rs was.rest was.log in
-        let below : nat_le max_epoch epoch ≡ false = subst (λ (m : ℕ). nat_le max_epoch m ≡ false) old.0 (lt-leb max_epoch (greatest rs) torn.0) in
-        record {
-          reply_is = rw below refl;
-          finds = elim torn.1 [
-            | inl few ↦
-                let short : nat_le (restart_length (epoch + 1)) n ≡ false =
-                subst (λ (m : ℕ). nat_le (restart_length (m + 1)) n ≡ false) old.0 (lt-leb (restart_length (greatest rs + 1)) n few.0) in
-                subst (λ (m : ℕ). Finds down m told) (sym (after_short (nat_le (restart_length (epoch + 1)) n) (epoch + 1) epoch short))
-                (finds_log down rs few.1 epoch told few.2 old.0 old.1)
-            | inr all ↦
-                let long : nat_le (restart_length (epoch + 1)) n ≡ true =
-                subst (λ (m : ℕ). nat_le (restart_length (m + 1)) n ≡ true) old.0 (le-leb (restart_length (greatest rs + 1)) n all.0) in
-                subst (λ (m : ℕ). Finds down m told) (sym (after_long (nat_le (restart_length (epoch + 1)) n) (epoch + 1) epoch long))
-                (finds_log down (rs ++ next_restart rs ∷ []) [] (epoch + 1) told all.1 (greatest_next rs ∙ ap (λ (m : ℕ). m + 1) old.0)
-                (found_more was.kept v.history rs (greatest rs + 1) v.doubt was.in_doubt ∙ old.1))
-          ];
-        }
+        let old = finds_of v epoch told finds rs was.rest held in
+        let below : nat_le max_epoch epoch ≡ false = lt-leb max_epoch epoch (omega (arith, old.0, epochs, torn.0)) in
+        record { reply_is = rw below refl; finds = by (nat_le (length (text (next_restart all))) n) (sym (same_size epoch old.0)) torn.1 old.0 old.1 }
       where
-        after_short : (t : Bool) (x y : ℕ) → t ≡ false → cond t x y ≡ y
-        after_short true x y h = cc
-        after_short false x y h = refl
+        same_size : (epoch : ℕ) → greatest rs ≡ epoch → nat_le (restart_length (epoch + 1)) n ≡ nat_le (length (text (next_restart all))) n
+        same_size epoch is = ap (λ (m : ℕ). nat_le (restart_length (m + 1)) n) (sym is ∙ epochs)
 
-        after_long : (t : Bool) (x y : ℕ) → t ≡ true → cond t x y ≡ x
-        after_long true x y h = refl
-        after_long false x y h = cc
+        by : (stood : Bool) → stood ≡ nat_le (restart_length (epoch + 1)) n → Leaves schema s all (next_restart all) stood bytes → greatest rs ≡ epoch → found_of v.doubt rs ≡ told
+            → Finds down (if nat_le (restart_length (epoch + 1)) n then epoch + 1 else epoch) told
+        by true long is epoch_is found_is_ =
+            subst (λ (t : Bool). Finds down (if t then epoch + 1 else epoch) told) long
+            (finds_held down (rs ++ next_restart rs ∷ []) is.rest (epoch + 1) told (held_then true is) (greatest_next rs ∙ ap (λ (m : ℕ). m + 1) epoch_is)
+            (found_more was.kept v.history rs (greatest rs + 1) v.doubt was.in_doubt ∙ found_is_))
+        by false short is epoch_is found_is_ =
+            subst (λ (t : Bool). Finds down (if t then epoch + 1 else epoch) told) short
+            (finds_held down rs is.rest epoch told (subst (λ (x : List Record). Holds schema s bytes x is.rest) (append-nil rs) (held_then false is)) epoch_is found_is_)
 
     under_down : (m : Mishap) → v.foretold ≡ Some m → StillDown ≡ owed_under v rs was.rest Restart m
     under_down Never known = absurd (failing.never known)
     under_down Read known = refl
-    under_down (Append n) known = rw (lt-leb max_epoch (greatest rs) (failing.torn n known).0) refl
+    under_down (Append n) known = rw (lt-leb max_epoch (greatest rs) (omega (arith, epochs, (failing.torn n known).0))) refl
     under_down Cut known =
         let is = failing.cut known in
-        rw (lt-leb max_epoch (greatest rs) is.0, luck_torn was.rest is.1) refl
+        rw (lt-leb max_epoch (greatest rs) (omega (arith, epochs, is.0)), luck_torn was.rest is.1) refl
 
-    applies_down : (stood : Bool) (rest : List ℕ) → IsLog bytes (rs ++ adds at Restart StillDown stood rs) rest → Applies v Restart StillDown down
-    applies_down stood rest log =
+    applies_down : (stood : Bool) → Leaves schema s all (next_restart all) stood bytes → Applies v Restart StillDown down
+    applies_down stood is =
         record {
           fits = tt;
           entry = refl;
           same = record { schema = refl; site = refl; fresh = refl; based = refl };
           failed = refl;
-          logs = λ other more is.
-              let same = (same_log v.bytes rs other was.rest more was.log is).0 in
+          logs = λ other more holds.
               record {
                 stood = stood;
-                rest = rest;
-                log = subst (λ (all : List Record). IsLog bytes (all ++ adds at Restart StillDown stood all) rest) same log;
+                rest = is.rest;
+                log = subst (λ (x : List Record). Holds schema s bytes (x ++ adds at Restart StillDown stood x) is.rest) (same_as other more holds).0 (held_then stood is);
                 doubt = refl;
                 restarts = tt;
                 refuses = tt;
               };
-          writes_ = λ other more is. subst (λ (x : List Record). (bytes ≡ v.bytes) ⊎ IsCutShort (flat_map text x) (text (next_restart x)) bytes) (same_log v.bytes rs other was.rest more was.log is).0 failing.left_;
+          writes_ = λ other more log.
+              subst (λ (x : List Record). (bytes ≡ v.bytes) ⊎ IsCutShort (flat_map text x) (flat_map text (next_piece schema s x)) bytes) (same_all other more log) failing.left_;
           foretold = failing.struck_;
-          under = λ other more m is known. subst (λ (x : List Record). StillDown ≡ owed_under v x more Restart m) (same_log v.bytes rs other was.rest more was.log is).0
-              (subst (λ (x : List ℕ). StillDown ≡ owed_under v rs x Restart m) (same_log v.bytes rs other was.rest more was.log is).1 (under_down m known));
+          under = λ other more m holds known.
+              let same = same_as other more holds in
+              subst (λ (x : List Record). StillDown ≡ owed_under v x more Restart m) same.0
+              (subst (λ (x : List ℕ). StillDown ≡ owed_under v rs x Restart m) same.1 (under_down m known));
           exact = exact_down;
+          replays = λ other more log. replays_by (ap since_summary (same_all other more log)) which;
         }
+      where
+        replays_by : {n m : ℕ} → n ≡ m → (replayed_ ≡ n) ⊎ (replayed_ ≡ v.replayed) → (replayed_ ≡ m) ⊎ (replayed_ ≡ v.replayed)
+        replays_by same (inl is) = inl (is ∙ same)
+        replays_by same (inr is) = inr is
 
-    failed_torn : (rest : List ℕ) → IsLog bytes rs rest → Ends v Restart StillDown down false extent b
-    failed_torn rest log =
-        let same = sym (append-nil rs) in
+    few_replayed : since_summary v.based ≤ max_behind → replayed_ ≤ max_behind + downs_before Failing
+    few_replayed h = few_by which
+      where
+        few_by : (replayed_ ≡ since_summary all) ⊎ (replayed_ ≡ v.replayed) → replayed_ ≤ max_behind + downs_before Failing
+        few_by (inl is) = omega (arith, is, was.few h)
+        few_by (inr is) = omega (arith, is, was.replays h)
+
+    failed : (stood : Bool) → Leaves schema s all (next_restart all) stood bytes → Ends v Restart StillDown down false extent b
+    failed stood is =
         record {
           sound = record {
             ground = was.ground;
-            records = rs;
-            rest = rest;
+            records = all ++ is.front;
+            rest = is.rest;
             kept = was.kept;
-            log = log;
+            log = is.log;
+            lawful = is.lawful;
             run = (was.run, tt);
-            keeps = (rs, false, was.keeps, tt, same);
+            keeps = (rs, stood, was.keeps, tt, told_is stood is);
             up_is = refl;
             clean = λ u. absurd (false≢true u);
-            reaches = was.reaches;
+            reaches = reach_more extent all is.front is.first_ was.reaches;
             place = was.place;
-            in_doubt = quiet_doubt was.kept v.history (entry_of v Restart StillDown) rs v.doubt (omega arith) was.in_doubt;
+            in_doubt = subst (λ (x : List Record). IsDoubt was.kept Failing x v.doubt) (sym (told_is stood is)) (in_doubt_then stood);
+            few = λ h. omega (arith, is.one, was.few h);
+            replays = few_replayed;
             stands = λ u. absurd (false≢true u);
           };
-          applies = applies_down false rest (subst (λ (all : List Record). IsLog bytes all rest) same log);
+          applies = applies_down stood is;
         }
-
-    failed_whole : IsLog bytes (rs ++ next_restart rs ∷ []) [] → Ends v Restart StillDown down false extent b
-    failed_whole log =
-        record {
-          sound = record {
-            ground = was.ground;
-            records = rs ++ next_restart rs ∷ [];
-            rest = [];
-            kept = was.kept;
-            log = log;
-            run = (was.run, tt);
-            keeps = (rs, true, was.keeps, tt, refl);
-            up_is = refl;
-            clean = λ u. absurd (false≢true u);
-            reaches = reach_more extent rs (next_restart rs ∷ []) was.reaches;
-            place = was.place;
-            in_doubt = still_doubt was.kept v.history (entry_of v Restart StillDown) rs (greatest rs + 1) v.doubt (omega arith) was.in_doubt;
-            stands = λ u. absurd (false≢true u);
-          };
-          applies = applies_down true [] log;
-        }
+      where
+        in_doubt_then : (b : Bool) → IsDoubt was.kept Failing (rs ++ cond b (next_restart rs ∷ []) []) v.doubt
+        in_doubt_then true = still_doubt was.kept v.history (entry_of v Restart StillDown) rs (greatest rs + 1) v.doubt (omega arith) was.in_doubt
+        in_doubt_then false =
+            subst (λ (x : List Record). IsDoubt was.kept Failing x v.doubt) (sym (append-nil rs))
+            (quiet_doubt was.kept v.history (entry_of v Restart StillDown) rs v.doubt (omega arith) was.in_doubt)
 
     ends_down : Ends v Restart StillDown down false extent b
-    ends_down = elim failing.leaves [
-      | inl torn ↦ failed_torn torn.0 torn.1
-      | inr whole ↦ failed_whole whole
-    ]
+    ends_down = failed failing.leaves.0 failing.leaves.1
 
-  pub ends_failed : (b : Accounts) (bytes : List ℕ) (failed : ℕ) (left : Option Mishap) (h : List Entry) → h ≡ Failing → FailsOver rs was.rest v.bytes bytes v.foretold left v.failed failed
-      → Ends v Restart StillDown (record v { history = h; bytes = bytes; failed = failed; foretold = left }) false extent b
-  ends_failed b bytes failed left h past failing =
-      subst (λ (o : List Entry). Ends v Restart StillDown (record v { history = o; bytes = bytes; failed = failed; foretold = left }) false extent b) (sym past)
-      (subst (λ (n : ℕ). Ends v Restart StillDown (record v { history = Failing; bytes = bytes; failed = n; foretold = left }) false extent b) (sym failing.counts)
-      (ends_down b bytes left (subst (λ (n : ℕ). FailsOver rs was.rest v.bytes bytes v.foretold left v.failed n) failing.counts failing)))
+  pub ends_failed : (b : Accounts) (turns : Option ℕ) (replayed_ : ℕ) (bytes : List ℕ) (failed : ℕ) (left : Option Mishap) (h : List Entry) → h ≡ Failing
+      → FailsOver schema s all turns was.rest v.bytes bytes v.foretold left v.failed failed → (replayed_ ≡ since_summary all) ⊎ (replayed_ ≡ v.replayed)
+      → Ends v Restart StillDown (record v { history = h; bytes = bytes; failed = failed; foretold = left; replayed = replayed_ }) false extent b
+  ends_failed b turns replayed_ bytes failed left h past failing which =
+      subst (λ (o : List Entry). Ends v Restart StillDown (record v { history = o; bytes = bytes; failed = failed; foretold = left; replayed = replayed_ }) false extent b) (sym past)
+      (subst (λ (n : ℕ). Ends v Restart StillDown (record v { history = Failing; bytes = bytes; failed = n; foretold = left; replayed = replayed_ }) false extent b) (sym failing.counts)
+      (ends_down b turns replayed_ bytes left (subst (λ (n : ℕ). FailsOver schema s all turns was.rest v.bytes bytes v.foretold left v.failed n) failing.counts failing) which))
 
   -- ---- no epoch is left
 
@@ -265,14 +292,15 @@ module _ (v : SiteValue) (up : Bool) (extent : Extent) (a : Accounts) (was : IsS
   full : (left : Option Mishap) → max_epoch ≤ greatest rs → (v.foretold ≡ Some Read → ⊥) → left ≡ v.foretold → Ends v Restart Full (record v { history = entry_of v Restart Full ∷ v.history; foretold = left }) up extent a
   full left most read stays =
       let w : SiteValue = record v { history = entry_of v Restart Full ∷ v.history; foretold = left } in
-      let fits = refused_fits schema s base v.based was.ground.is_base was.kept v.history rs was.keeps most in
+      let fits = refused_fits schema s base bs was.ground.is_base was.kept v.history rs was.keeps most in
       record {
         sound = record {
           ground = was.ground;
-          records = rs;
+          records = all;
           rest = was.rest;
           kept = was.kept;
           log = was.log;
+          lawful = was.lawful;
           run = (was.run, fits);
           keeps = (rs, false, was.keeps, tt, sym (append-nil rs));
           up_is = was.up_is;
@@ -280,7 +308,9 @@ module _ (v : SiteValue) (up : Bool) (extent : Extent) (a : Accounts) (was : IsS
           reaches = was.reaches;
           place = was.place;
           in_doubt = quiet_doubt was.kept v.history (entry_of v Restart Full) rs v.doubt (omega arith) was.in_doubt;
-          stands = λ u. stands_refused schema s base v.history rs a (was.stands u) v.site Restart NumbersFull;
+          few = was.few;
+          replays = was.replays;
+          stands = λ u. stands_refused schema s base v.history all a (was.stands u) v.site Restart NumbersFull;
         };
         applies = record {
           fits = fits;
@@ -290,104 +320,125 @@ module _ (v : SiteValue) (up : Bool) (extent : Extent) (a : Accounts) (was : IsS
           logs = λ other rest is. record {
             stood = false;
             rest = rest;
-            log = subst (λ (all : List Record). IsLog v.bytes all rest) (sym (append-nil other)) is;
+            log = subst (λ (x : List Record). Holds schema s v.bytes x rest) (sym (append-nil other)) is;
             doubt = refl;
             restarts = tt;
-            refuses = subst (λ (all : List Record). max_epoch ≤ greatest all) (same_log v.bytes rs other was.rest rest was.log is).0 most;
+            refuses = subst (λ (x : List Record). max_epoch ≤ greatest x) (same_as other rest is).0 most;
           };
           writes_ = refl;
           foretold = stays;
-          under = λ other more m is known. subst (λ (x : List Record). Full ≡ owed_under v x more Restart m) (same_log v.bytes rs other was.rest more was.log is).0
-              (subst (λ (x : List ℕ). Full ≡ owed_under v rs x Restart m) (same_log v.bytes rs other was.rest more was.log is).1 (under_full most read m known));
+          under = λ other more m is known.
+              let same = same_as other more is in
+              subst (λ (x : List Record). Full ≡ owed_under v x more Restart m) same.0
+              (subst (λ (x : List ℕ). Full ≡ owed_under v rs x Restart m) same.1 (under_full most read m known));
           exact = λ luck epoch last known finds.
-              let old = finds_of v epoch last finds rs was.rest was.log in
+              let old = finds_of v epoch last finds rs was.rest held in
               let over : nat_le max_epoch epoch ≡ true = le-leb max_epoch epoch (omega (arith, old.0, most)) in
-              record { reply_is = rw over refl; finds = finds_same v w epoch last refl refl finds };
+              record { reply_is = rw over refl; finds = finds_same v w epoch last refl refl refl refl finds };
+          replays = λ other more log. refl;
         };
       }
 
-  pub ends_full : (bytes : List ℕ) (failed : ℕ) (left : Option Mishap) (h : List Entry) → h ≡ entry_of v Restart Full ∷ v.history → FullOver rs v.bytes bytes v.foretold left v.failed failed
+  pub ends_full : (bytes : List ℕ) (failed : ℕ) (left : Option Mishap) (h : List Entry) → h ≡ entry_of v Restart Full ∷ v.history → FullOver all v.bytes bytes v.foretold left v.failed failed
       → Ends v Restart Full (record v { history = h; bytes = bytes; failed = failed; foretold = left }) up extent a
   ends_full bytes failed left h past over =
       let After : List Entry = entry_of v Restart Full ∷ v.history in
       subst (λ (o : List Entry). Ends v Restart Full (record v { history = o; bytes = bytes; failed = failed; foretold = left }) up extent a) (sym past)
       (subst (λ (x : List ℕ). Ends v Restart Full (record v { history = After; bytes = x; failed = failed; foretold = left }) up extent a) (sym over.same)
-      (subst (λ (n : ℕ). Ends v Restart Full (record v { history = After; foretold = left; failed = n }) up extent a) (sym over.counts) (full left over.full over.read over.stays)))
+      (subst (λ (n : ℕ). Ends v Restart Full (record v { history = After; foretold = left; failed = n }) up extent a) (sym over.counts)
+      (full left (omega (arith, epochs, over.full)) over.read over.stays)))
 
   -- ---- the site stands anew
 
   abbrev last : Last
   last = found_of v.doubt rs
 
-  module _ (standing : Standing) (for_ : IsStandingFor schema s rs standing) (b : Accounts) (took : TakesIn schema standing (next_restart rs) true b.standing) (open_ : b.journal ≡ []) (last_is : b.last ≡ 0) where
+  abbrev lines : List Record
+  lines = next_piece schema s all
+
+  module _ (standing : Standing) (for_ : IsStandingFor schema s all standing) (b : Accounts) (took : TakesIn schema standing (next_restart all) true b.standing) (open_ : b.journal ≡ []) (last_is_ : b.last ≡ 0) where
     abbrev Anew : ℕ → List Entry
     Anew epoch = entry_of v Restart (Restarted epoch last) ∷ v.history
 
     abbrev kept_effects : List Effect
     kept_effects = effects base (says_kept last) v.history
 
-    stands_anew : (epoch : ℕ) → StandsOn schema s base (Anew epoch) (rs ++ next_restart rs ∷ []) b
+    stands_anew : (epoch : ℕ) → StandsOn schema s base (Anew epoch) (all ++ lines) b
     stands_anew epoch =
         let effects_lawful = run_is_lawful schema s base v.history was.run (says_kept last) in
-        let lawful = run_stays_lawful schema s base v.based was.ground.is_base was.ground.based_on was.kept v.history rs was.run was.keeps in
-        let more = took.stands refl s rs lawful for_.for_ in
+        let more = took.stands refl s all was.lawful for_.for_ in
         record {
-          standing = more;
+          standing = stands_as schema s (all ++ lines) (all ++ next_restart all ∷ []) b.standing (piece_same schema s all (next_restart all) refl) more;
           aside = record {
             held = λ f k l.
                 let l' : f < length standing.rights = omega (arith, l, more.count, for_.for_.count) in
                 took.held refl f k l' ∙ for_.none f k l' ∙ sym (held_stop schema base kept_effects effects_lawful f k);
             journal = open_ ∙ sym (ap (λ (ts : List TxnId). map (row_of (Stops ∷ kept_effects)) (reverse ts)) (stop_closes_all kept_effects));
           };
-          last = last_is;
+          last = last_is_;
         }
 
-    module _ (anew_extent : Extent) (many : anew_extent.count ≡ length rs + 1) (long : anew_extent.length ≡ told_length (length (flat_map text (rs ++ next_restart rs ∷ []))))
-        (bytes : List ℕ) (left : Option Mishap) (some : greatest rs < max_epoch) (log : IsLog bytes (rs ++ next_restart rs ∷ []) [])
+    module _ (anew_extent : Extent) (reached : ReachesAll anew_extent (all ++ lines)) (turns : ℕ) (turns_are : turns ≡ since_summary all)
+        (bytes : List ℕ) (left : Option Mishap) (some : greatest all < max_epoch) (log : IsLog bytes (all ++ lines) [])
         (torn : (n : ℕ) → v.foretold ≡ Some (Append n) → ⊥) (read : v.foretold ≡ Some Read → ⊥) (cut : v.foretold ≡ Some Cut → was.rest ≡ []) (stays : left ≡ v.foretold) where
       abbrev epoch : ℕ
       epoch = greatest rs + 1
 
       abbrev anew : SiteValue
-      anew = record v { history = Anew epoch; bytes = bytes; foretold = left; doubt = None }
+      anew = record v { history = Anew epoch; bytes = bytes; foretold = left; doubt = None; replayed = turns }
+
+      some_ : greatest rs < max_epoch
+      some_ = omega (arith, epochs, some)
 
       fits_anew : RestartFits at (Restarted epoch last)
-      fits_anew = restart_fits schema s base v.based was.ground.is_base was.kept v.history rs was.keeps last some found.there found.back
+      fits_anew = restart_fits schema s base bs was.ground.is_base was.kept v.history rs was.keeps last some_ found.there found.back
+
+      plain_is : plain (all ++ lines) ≡ rs ++ next_restart rs ∷ []
+      plain_is = plain_piece schema s all (next_restart all) refl ∙ ap (λ (r : Record). rs ++ r ∷ []) (sym next_same)
+
+      lawful_anew : Lawful schema s (all ++ lines)
+      lawful_anew = all_lawful schema s all (next_restart all) refl was.lawful (restart_may schema s all)
+
+      held_anew : Holds schema s bytes (rs ++ next_restart rs ∷ []) []
+      held_anew = record { all = all ++ lines; log = log; lawful = lawful_anew; told = plain_is }
 
       exact_anew : (luck : Luck) (kept : ℕ) (found_ : Last) → v.foretold ≡ Some (mishap_of luck) → Finds v kept found_ → IsExact v Restart (Restarted epoch last) anew luck kept found_
       exact_anew Fine kept found_ known finds =
-          let old = finds_of v kept found_ finds rs was.rest was.log in
-          let below : nat_le max_epoch kept ≡ false = subst (λ (m : ℕ). nat_le max_epoch m ≡ false) old.0 (lt-leb max_epoch (greatest rs) some) in
+          let old = finds_of v kept found_ finds rs was.rest held in
+          let below : nat_le max_epoch kept ≡ false = subst (λ (m : ℕ). nat_le max_epoch m ≡ false) old.0 (lt-leb max_epoch (greatest rs) some_) in
           let owed : ◌≡◌ {A = Reply} (Restarted epoch last) (Restarted (kept + 1) found_) = rw (old.0, old.1) refl in
           record {
             reply_is = rw below owed;
-            finds = finds_log anew (rs ++ next_restart rs ∷ []) [] epoch Nothing log (greatest_next rs) refl;
+            finds = finds_held anew (rs ++ next_restart rs ∷ []) [] epoch Nothing held_anew (greatest_next rs) refl;
           }
       exact_anew (Torn n) kept found_ known finds = absurd (torn n known)
 
       under_anew : (m : Mishap) → v.foretold ≡ Some m → Restarted epoch last ≡ owed_under v rs was.rest Restart m
-      under_anew Never known = rw (lt-leb max_epoch (greatest rs) some) refl
+      under_anew Never known = rw (lt-leb max_epoch (greatest rs) some_) refl
       under_anew (Append n) known = absurd (torn n known)
       under_anew Read known = absurd (read known)
       under_anew Cut known =
-          subst (λ (x : List ℕ). Restarted epoch last ≡ owed_with at (greatest rs) last Restart (luck_under Restart x Cut)) (sym (cut known)) (rw (lt-leb max_epoch (greatest rs) some) refl)
+          subst (λ (x : List ℕ). Restarted epoch last ≡ owed_with at (greatest rs) last Restart (luck_under Restart x Cut)) (sym (cut known)) (rw (lt-leb max_epoch (greatest rs) some_) refl)
 
       restarted : Ends v Restart (Restarted epoch last) anew true anew_extent b
       restarted =
           record {
             sound = record {
               ground = was.ground;
-              records = rs ++ next_restart rs ∷ [];
+              records = all ++ lines;
               rest = [];
               kept = false;
               log = log;
+              lawful = lawful_anew;
               run = (was.run, fits_anew);
-              keeps = (rs, true, found.keeps, refl, refl);
+              keeps = (rs, true, found.keeps, refl, plain_is);
               up_is = refl;
-              clean = λ u. (refl, many ∙ sym (length_push rs (next_restart rs)));
-              reaches = reach_all anew_extent (rs ++ next_restart rs ∷ []) (many ∙ sym (length_push rs (next_restart rs))) long;
+              clean = λ u. (refl, reached);
+              reaches = reach_all anew_extent (all ++ lines) reached;
               place = λ n is. let e : ◌≡◌ {A = Option ℕ} None (Some n) = is in absurd cc;
               in_doubt = refl;
+              few = λ h. omega (arith, reached.few);
+              replays = λ h. omega (arith, turns_are, was.few h);
               stands = λ u. stands_anew epoch;
             };
             applies = record {
@@ -396,46 +447,51 @@ module _ (v : SiteValue) (up : Bool) (extent : Extent) (a : Accounts) (was : IsS
               same = record { schema = refl; site = refl; fresh = refl; based = refl };
               failed = refl;
               logs = λ other rest is.
-                  let same = (same_log v.bytes rs other was.rest rest was.log is).0 in
+                  let same = (same_as other rest is).0 in
                   record {
                     stood = true;
                     rest = [];
-                    log = subst (λ (all : List Record). IsLog bytes (all ++ next_restart rs ∷ []) []) same log;
+                    log = subst (λ (x : List Record). Holds schema s bytes (x ++ records.Restart epoch ∷ []) []) same held_anew;
                     doubt = refl;
-                    restarts = (ap (λ (all : List Record). greatest all + 1) same, ap (found_of v.doubt) same, refl, omega (arith, some));
+                    restarts = (ap (λ (x : List Record). greatest x + 1) same, ap (found_of v.doubt) same, refl, omega (arith, some_));
                     refuses = tt;
                   };
               writes_ = tt;
               foretold = stays;
-              under = λ other more m is known. subst (λ (x : List Record). Restarted epoch last ≡ owed_under v x more Restart m) (same_log v.bytes rs other was.rest more was.log is).0
-                  (subst (λ (x : List ℕ). Restarted epoch last ≡ owed_under v rs x Restart m) (same_log v.bytes rs other was.rest more was.log is).1 (under_anew m known));
+              under = λ other more m is known.
+                  let same = same_as other more is in
+                  subst (λ (x : List Record). Restarted epoch last ≡ owed_under v x more Restart m) same.0
+                  (subst (λ (x : List ℕ). Restarted epoch last ≡ owed_under v rs x Restart m) same.1 (under_anew m known));
               exact = exact_anew;
+              replays = λ other more is. turns_are ∙ ap since_summary (same_all other more is);
             };
           }
 
-  abbrev next_extent : ℕ → ℕ → Extent
-  next_extent more size = record { count = extent.count + more + 1; length = size }
+  abbrev next_extent : ℕ → ℕ → ℕ → Extent
+  next_extent more size behind = record { count = extent.count + more + 1; length = size; behind = behind }
 
-  pub few_behind : (found_ : List Record) → StandBehind v.bytes extent.length found_ → extent.count + length found_ ≡ length rs
-  few_behind found_ behind = count_behind extent rs was.reaches found_ (behind_is extent v.bytes rs was.rest was.log was.reaches found_ behind)
+  pub few_behind : (found_ : List Record) → StandBehind v.bytes extent.length found_ → extent.count + length (plain found_) ≡ length rs
+  few_behind found_ behind = count_more extent all was.reaches found_ (behind_is extent v.bytes all was.rest was.log was.reaches found_ behind)
 
-  pub ends_restarted : (standing : Standing) (found_ : List Record) (epoch size : ℕ) (b : Accounts) (bytes : List ℕ) (failed : ℕ) (left : Option Mishap) (r : Reply) (more : ℕ) (h : List Entry)
-      → IsStandingFor schema s rs standing → StandsOver rs epoch size was.rest bytes v.foretold left v.failed failed → StandBehind v.bytes extent.length found_
+  pub ends_restarted : (standing : Standing) (found_ : List Record) (epoch turns size behind_ : ℕ) (b : Accounts) (bytes : List ℕ) (failed : ℕ) (left : Option Mishap) (r : Reply) (more : ℕ) (h : List Entry)
+      → IsStandingFor schema s all standing → StandsOver schema s all epoch turns size was.rest bytes v.foretold left v.failed failed → StandBehind v.bytes extent.length found_
       → TakesIn schema standing (records.Restart epoch) true b.standing → b.journal ≡ [] → b.last ≡ 0
-      → r ≡ Restarted epoch (last_by v.doubt found_) → more ≡ length found_ → h ≡ entry_of v Restart r ∷ v.history
-      → Ends v Restart r (record v { history = h; bytes = bytes; failed = failed; foretold = left; doubt = None }) true (next_extent more size) b
-  ends_restarted standing found_ new size b bytes failed left r more h for_ over behind took open_ last_is_ said counted past =
+      → r ≡ Restarted epoch (last_by v.doubt found_) → more ≡ length (plain found_) → behind_ ≡ (if nat_le max_behind (turns + 1) then 0 else turns + 1) → h ≡ entry_of v Restart r ∷ v.history
+      → Ends v Restart r (record v { history = h; bytes = bytes; failed = failed; foretold = left; doubt = None; replayed = turns }) true (next_extent more size behind_) b
+  ends_restarted standing found_ new turns size behind_ b bytes failed left r more h for_ over stand took open_ last_is_ said counted behinds past =
       let next = greatest rs + 1 in
-      let same = behind_is extent v.bytes rs was.rest was.log was.reaches found_ behind in
-      let lasts : last_by v.doubt found_ ≡ last = last_is v.doubt extent rs was.reaches found_ same was.place in
-      let reply : r ≡ Restarted next last = said ∙ ap (λ (n : ℕ). Restarted n (last_by v.doubt found_)) over.epoch_is ∙ ap (λ (l : Last). Restarted next l) lasts in
+      let same = behind_is extent v.bytes all was.rest was.log was.reaches found_ stand in
+      let lasts : last_by v.doubt found_ ≡ last = last_is v.doubt extent all was.reaches found_ same was.place in
+      let new_is : new ≡ next = over.epoch_is ∙ ap (λ (n : ℕ). n + 1) (sym epochs) in
+      let reply : r ≡ Restarted next last = said ∙ ap (λ (n : ℕ). Restarted n (last_by v.doubt found_)) new_is ∙ ap (λ (l : Last). Restarted next l) lasts in
       let after : h ≡ entry_of v Restart (Restarted next last) ∷ v.history = past ∙ ap (λ (x : Reply). entry_of v Restart x ∷ v.history) reply in
-      let many : extent.count + more + 1 ≡ length rs + 1 = omega (arith, counted, few_behind found_ behind) in
+      let many : extent.count + more + 1 ≡ length rs + 1 = omega (arith, counted, few_behind found_ stand) in
+      let reached = reach_next schema s all (next_restart all) refl (next_extent more size behind_) many over.size_is (behinds ∙ ap (λ (n : ℕ). if nat_le max_behind (n + 1) then 0 else n + 1) over.replayed) in
       let At : Reply → List Entry → ℕ → Type 0 =
-      λ x o n. Ends v Restart x (record v { history = o; bytes = bytes; failed = n; foretold = left; doubt = None }) true (next_extent more size) b in
+      λ x o n. Ends v Restart x (record v { history = o; bytes = bytes; failed = n; foretold = left; doubt = None; replayed = turns }) true (next_extent more size behind_) b in
       let After : List Entry = entry_of v Restart (Restarted next last) ∷ v.history in
       subst (λ (x : Reply). At x h failed) (sym reply)
       (subst (λ (o : List Entry). At (Restarted next last) o failed) (sym after)
       (subst (λ (n : ℕ). At (Restarted next last) After n) (sym over.counts)
       (restarted standing for_ b (subst (λ (e : ℕ). TakesIn schema standing (records.Restart e) true b.standing) over.epoch_is took) open_ last_is_
-      (next_extent more size) many over.size_is bytes left over.some over.log over.torn over.read over.cut over.stays)))
+      (next_extent more size behind_) reached turns over.replayed bytes left over.some over.log over.torn over.read over.cut over.stays)))

@@ -1,8 +1,8 @@
 -- What a restart's work on the medium comes to.
 use Rattle.std.proofs.Common.{◌≡◌, ◌≢◌, ◌⊎◌, ℕ, ◌+◌, ◌<◌, List, [], ◌∷◌, ◌++◌, length, take, sym, ap, subst, ◌∙◌, inl, inr, arith, append_assoc, refl, true, Option, Some}
-use Rattle.std.specs.Prelude.{Result, Ok, Err, IsErr, None}
-use Rattle.std.specs.List.{flat_map}
-use Rattle.std.proofs.lemmas.Bool.{false≢true}
+use Rattle.std.specs.Prelude.{Result, Ok, Err, IsErr, None, nat_le, Bool, false}
+use Rattle.std.specs.List.{flat_map, AllByRecursion}
+use Rattle.std.proofs.lemmas.Bool.{false≢true, lt-ltb}
 use Rattle.std.proofs.lemmas.List.{append-nil, length-append}
 use Rattle.field_bounds.specs.Schema.{SchemaValue}
 use Rattle.field_bounds.specs.Owed.{max_epoch}
@@ -12,17 +12,23 @@ use Rattle.kept_records.specs.declared.medium.Mishap.TheVariants.{Never, Append,
 use Rattle.kept_records.specs.declared.record.Record.{Record}
 use Rattle.kept_records.specs.declared.record.Record.TheVariants.{Restart}
 use Rattle.kept_records.specs.Text.{text, IsRecord}
-use Rattle.kept_records.specs.Medium.{IsCutShort}
+use Rattle.kept_records.specs.Medium.{IsCutShort, ReadFate}
+use Rattle.kept_records.specs.declared.medium.MediumFault.TheVariants as faults
+use Rattle.kept_records.specs.declared.reading_back.ReadBack.{ReadBack}
 use Rattle.kept_records.specs.Logs.{IsLog}
 use Rattle.kept_records.specs.ReadingBack.{told_length, IsWhole}
-use Rattle.kept_records.proofs.Lines.{flat_push}
-use Rattle.kept_records.specs.Keeping.{CutsAndAppends, StrikesCut, CutAndAppendGo, CutAndAppendFate}
-use Rattle.kept_records.specs.Stands.{greatest, may_stand, LawfulBehind, Lawful, BreaksRule}
-use Rattle.kept_records.proofs.Appending.{HoldsFront, cut_to_records, cut_added, cut_torn, cut_cut_short}
+use Rattle.std.proofs.lemmas.List.Concat.{flat_map-append}
+use Rattle.kept_records.specs.Summary.{SummaryValue}
+use Rattle.kept_records.specs.Keeping.{with_due, CutsAndAppends, StrikesCut, CutAndAppendGo, CutAndAppendFate}
+use Rattle.kept_records.specs.Stands.{greatest, may_stand, since_summary, piece, LawfulBehind, Lawful, BreaksRule}
+use Rattle.kept_records.proofs.Appending.{cut_to_records}
 use Rattle.log_replay.specs.declared.standing.Standing.{Standing}
-use Rattle.log_replay.specs.Standing.{IsStandingFor}
+use Rattle.log_replay.specs.Standing.{Stands, IsStandingFor}
+use Rattle.log_replay.specs.Resuming.{MayStandNext}
 use Rattle.site_step.specs.Site.{struck}
-use Rattle.site_step.specs.Resuming.{LeavesSome, LeavesFront, next_restart, FailsOver, StandsOver}
+use Rattle.site_step.specs.Resuming.{Leaves, next_restart, next_piece, IsReplayed, FailsOver, StandsOver, ResumesOver}
+use Rattle.site_step.specs.declared.site.restart.Resumed.{Resumed}
+use Rattle.site_step.proofs.Holding.{piece_fits, added_all, leaves_by, leaves_none}
 
 -- ---- lawful records break no rule
 
@@ -36,42 +42,154 @@ no_breach schema s rs n breach lawful =
     let may = lawful_at schema s [] breach.before breach.behind breach.breaking (subst (λ (all : List Record). Lawful schema s all) breach.parts lawful) in
     false≢true (sym breach.broken ∙ may)
 
--- ---- what is left
+abbrev MayBeRead : Option Mishap → Type 0
+MayBeRead None = Unit {0}
+MayBeRead (Some Read) = Unit {0}
+MayBeRead (Some Never) = ⊥
+MayBeRead (Some Cut) = ⊥
+MayBeRead (Some (Append n)) = ⊥
 
-some_left : (n : ℕ) (bytes : List ℕ) (rs : List Record) (r : Record) → HoldsFront n bytes rs r → LeavesSome rs r bytes
-some_left n bytes rs r (inl front) = inl (take n (text r), front.0)
-some_left n bytes rs r (inr whole) = inr whole.0
+-- ---- a record that may stand next
 
-front_left : (n : ℕ) (bytes : List ℕ) (rs : List Record) (r : Record) → HoldsFront n bytes rs r → LeavesFront n rs r bytes
-front_left n bytes rs r (inl front) = inl (front.1, take n (text r), front.0)
-front_left n bytes rs r (inr whole) = inr (whole.1, whole.0)
+pub stands_next : (schema : SchemaValue) (standing : Standing) (s : ℕ) (rs : List Record) (r : Record) → s < schema.sites → AllByRecursion IsRecord rs → Lawful schema s rs → Stands schema s rs standing
+    → may_stand schema s rs r ≡ true → MayStandNext schema standing rs r
+stands_next schema standing s rs r site_in each lawful stands may =
+    let here = sym stands.site in
+    record {
+      site_in = subst (λ (n : ℕ). n < schema.sites) here site_in;
+      in_range = each;
+      lawful = subst (λ (n : ℕ). Lawful schema n rs) here lawful;
+      stands = subst (λ (n : ℕ). Stands schema n rs standing) here stands;
+      may = subst (λ (n : ℕ). may_stand schema n rs r ≡ true) here may;
+    }
 
-module _ (old new : List ℕ) (foretold left : Option Mishap) (before after whole : ℕ) (standing : Standing)
+-- what is due behind it is told for the site
+pub due_here : (schema : SchemaValue) (standing : Standing) (s : ℕ) (rs : List Record) (r : Record) (due : Option SummaryValue) → Stands schema s rs standing
+    → with_due r due ≡ piece schema standing.ledger.site rs r → with_due r due ≡ piece schema s rs r
+due_here schema standing s rs r due stands is = is ∙ ap (λ (n : ℕ). piece schema n rs r) stands.site
+
+-- ---- a restart's record may stand next
+
+pub restart_may : (schema : SchemaValue) (s : ℕ) (rs : List Record) → may_stand schema s rs (next_restart rs) ≡ true
+restart_may schema s rs = lt-ltb (greatest rs) (greatest rs + 1) (omega arith)
+
+pub restart_fits : (rs : List Record) → greatest rs < max_epoch → IsRecord (next_restart rs)
+restart_fits rs some = (omega arith, omega (arith, some))
+
+pub restart_next : (standing : Standing) (schema : SchemaValue) (s : ℕ) (rs : List Record) → IsStandingFor schema s rs standing → ◌≡◌ {A = Record} (Restart (standing.epoch + 1)) (next_restart rs)
+restart_next standing schema s rs for_ = ap (λ (n : ℕ). Restart (n + 1)) for_.for_.epoch
+
+-- what is replayed leaves the record of a restart next, with the summary that is due
+module _ (old : List ℕ) (standing : Standing) (turns : ℕ) (schema : SchemaValue) (s : ℕ) (rs : List Record) (rest : List ℕ) (is_replayed : IsReplayed schema s rs rest standing turns old) (below : standing.epoch < max_epoch) where
+  abbrev next_record : Record
+  next_record = Restart (standing.epoch + 1)
+
+  next_same : ◌≡◌ {A = Record} next_record (next_restart rs)
+  next_same = restart_next standing schema s rs is_replayed.for_
+
+  pub next_over : MayStandNext schema standing rs (Restart (standing.epoch + 1))
+  next_over =
+      subst (λ (r : Record). MayStandNext schema standing rs r) (sym next_same)
+      (stands_next schema standing s rs (next_restart rs) is_replayed.site_in is_replayed.log.each is_replayed.lawful is_replayed.for_.for_ (restart_may schema s rs))
+
+  pub due_over : (due : Option SummaryValue)
+      → ((all : List Record) → MayStandNext schema standing all (Restart (standing.epoch + 1)) → turns ≡ since_summary all
+      → with_due (Restart (standing.epoch + 1)) due ≡ piece schema standing.ledger.site all (Restart (standing.epoch + 1)))
+      → with_due (Restart (standing.epoch + 1)) due ≡ piece schema s rs (Restart (standing.epoch + 1))
+  due_over due told = due_here schema standing s rs next_record due is_replayed.for_.for_ (told rs next_over is_replayed.turns_are)
+
+  pub due_over_fits : (due : Option SummaryValue)
+      → ((all : List Record) → MayStandNext schema standing all (Restart (standing.epoch + 1)) → turns ≡ since_summary all
+      → with_due (Restart (standing.epoch + 1)) due ≡ piece schema standing.ledger.site all (Restart (standing.epoch + 1)))
+      → AllByRecursion IsRecord (with_due (Restart (standing.epoch + 1)) due)
+  due_over_fits due told =
+      subst (λ (ps : List Record). AllByRecursion IsRecord ps) (sym (due_over due told ∙ ap (λ (r : Record). piece schema s rs r) next_same))
+      (piece_fits schema s rs (next_restart rs) refl is_replayed.lawful (restart_may schema s rs) is_replayed.limits is_replayed.site_in is_replayed.log.each
+      (restart_fits rs (omega (arith, below, is_replayed.for_.for_.epoch))))
+
+-- a restart that didn't read the medium
+pub unread_fails : (schema : SchemaValue) (s : ℕ) (old new rest : List ℕ) (foretold left : Option Mishap) (before after : ℕ) (rs : List Record) → IsLog old rs rest → Lawful schema s rs
+    → new ≡ old → after ≡ before + 1 → (left ≡ struck foretold) × (MayBeRead foretold) → FailsOver schema s rs None rest old new foretold left before after
+unread_fails schema s old new rest foretold left before after rs log lawful same counts fate =
+    record {
+      counts = counts;
+      leaves = (false, leaves_none schema s rs (next_restart rs) new rest (subst (λ (bytes : List ℕ). IsLog bytes rs rest) (sym same) log) lawful);
+      left_ = inl same;
+      never = λ known. subst MayBeRead known fate.1;
+      torn = λ n known. absurd (subst MayBeRead known fate.1);
+      cut = λ known. absurd (subst MayBeRead known fate.1);
+      struck_ = fate.0;
+      replayed = λ n is. let e : ◌≡◌ {A = Option ℕ} None (Some n) = is in absurd cc;
+    }
+
+pub read_stays : (log : ReadBack) (foretold left : Option Mishap) → ReadFate foretold (Ok log) left → left ≡ foretold
+read_stays log None left fate = fate
+read_stays log (Some Read) left fate = absurd cc
+read_stays log (Some Never) left fate = fate.1
+read_stays log (Some Cut) left fate = fate.1
+read_stays log (Some (Append n)) left fate = fate.1
+
+-- a restart over a medium that reading left as it was
+pub resumes_from : (schema : SchemaValue) (s place : ℕ) (rs : List Record) (rest : List ℕ) (resumed : Resumed) (old mid new : List ℕ) (foretold between left : Option Mishap) (before middle after : ℕ)
+    → mid ≡ old → between ≡ foretold → middle ≡ before → ResumesOver schema s place rs rest resumed mid new between left middle after
+    → ResumesOver schema s place rs rest resumed old new foretold left before after
+resumes_from schema s place rs rest resumed old mid new foretold between left before middle after bytes fate count over =
+    subst (λ (x : List ℕ). ResumesOver schema s place rs rest resumed x new foretold left before after) bytes
+    (subst (λ (x : Option Mishap). ResumesOver schema s place rs rest resumed mid new x left before after) fate
+    (subst (λ (x : ℕ). ResumesOver schema s place rs rest resumed mid new between left x after) count over))
+
+pub read_fate : (foretold left : Option Mishap) → ReadFate {T = ReadBack} foretold (Err faults.Device) left → (left ≡ struck foretold) × (MayBeRead foretold)
+read_fate None left fate = (fate, tt)
+read_fate (Some Read) left fate = (fate.1, tt)
+read_fate (Some Never) left fate = absurd cc
+read_fate (Some Cut) left fate = absurd cc
+read_fate (Some (Append n)) left fate = absurd cc
+
+module _ (old new : List ℕ) (foretold left : Option Mishap) (before after whole : ℕ) (standing : Standing) (turns : ℕ) (due : Option SummaryValue)
     (sized : IsWhole old whole) (below : standing.epoch < max_epoch) (unread : foretold ≡ Some Read → ⊥)
-    (schema : SchemaValue) (s : ℕ) (rs : List Record) (rest : List ℕ) (log : IsLog old rs rest) (for_ : IsStandingFor schema s rs standing) where
+    (schema : SchemaValue) (s : ℕ) (rs : List Record) (rest : List ℕ) (is_replayed : IsReplayed schema s rs rest standing turns old)
+    (dues : with_due (Restart (standing.epoch + 1)) due ≡ piece schema s rs (Restart (standing.epoch + 1))) where
   abbrev next : Record
   next = Restart (standing.epoch + 1)
+
+  abbrev lines : List ℕ
+  lines = flat_map text (with_due (Restart (standing.epoch + 1)) due)
+
+  log : IsLog old rs rest
+  log = is_replayed.log
+
+  lawful : Lawful schema s rs
+  lawful = is_replayed.lawful
 
   size_is : whole ≡ length (flat_map text rs)
   size_is = sized rs rest log
 
-  epoch_is : standing.epoch ≡ greatest rs
-  epoch_is = for_.for_.epoch
-
-  next_is : next ≡ next_restart rs
-  next_is = ap (λ (n : ℕ). Restart (n + 1)) epoch_is
-
-  fits : IsRecord next
-  fits = (omega arith, omega (arith, below))
-
   some : greatest rs < max_epoch
-  some = omega (arith, below, epoch_is)
+  some = omega (arith, below, is_replayed.for_.for_.epoch)
+
+  next_is : ◌≡◌ {A = Record} next (next_restart rs)
+  next_is = restart_next standing schema s rs is_replayed.for_
+
+  lines_are : with_due next due ≡ next_piece schema s rs
+  lines_are = dues ∙ ap (λ (r : Record). piece schema s rs r) next_is
+
+  may : may_stand schema s rs (next_restart rs) ≡ true
+  may = restart_may schema s rs
+
+  each : AllByRecursion IsRecord (next_piece schema s rs)
+  each = piece_fits schema s rs (next_restart rs) refl lawful may is_replayed.limits is_replayed.site_in log.each (restart_fits rs some)
+
+  cut_log : IsLog (take whole old) rs []
+  cut_log = cut_to_records old rest rs whole log size_is
+
+  whole_is : take whole old ≡ flat_map text rs
+  whole_is = cut_log.parts ∙ append-nil (flat_map text rs)
 
   length_is : length old ≡ whole + length rest
   length_is = ap length log.parts ∙ length-append (flat_map text rs) rest ∙ ap (λ (n : ℕ). n + length rest) (sym size_is)
 
-  goes_under : (m : Mishap) (result : Result Unit Device) → foretold ≡ Some m → CutAndAppendFate foretold whole old (text next) result new left → CutAndAppendGo m whole old (text next) result new left
-  goes_under m result known fate = subst (λ (x : Option Mishap). CutAndAppendFate x whole old (text next) result new left) known fate
+  goes_under : (m : Mishap) (result : Result Unit Device) → foretold ≡ Some m → CutAndAppendFate foretold whole old lines result new left → CutAndAppendGo m whole old lines result new left
+  goes_under m result known fate = subst (λ (x : Option Mishap). CutAndAppendFate x whole old lines result new left) known fate
 
   is_clean : (result : Result Unit Device) → (IsErr result → ⊥) → StrikesCut whole old result new left → rest ≡ []
   is_clean result ok strikes = clean_by rest length_is
@@ -83,14 +201,14 @@ module _ (old new : List ℕ) (foretold left : Option Mishap) (before after whol
   not_clean : (device : Device) → StrikesCut whole old (Err device) new left → rest ≢ []
   not_clean device strikes none = false≢true (strikes.1 (omega (arith, length_is, ap length none))).0
 
-  mishap_stays : (m : Option Mishap) → (m ≡ Some Read → ⊥) → CutAndAppendFate {E = Device} m whole old (text next) (Ok tt) new left → left ≡ m
+  mishap_stays : (m : Option Mishap) → (m ≡ Some Read → ⊥) → CutAndAppendFate {E = Device} m whole old lines (Ok tt) new left → left ≡ m
   mishap_stays None past fate = fate
   mishap_stays (Some Never) past fate = fate.1
   mishap_stays (Some (Append n)) past fate = absurd (false≢true fate.0)
   mishap_stays (Some Cut) past fate = (fate.1 (omega (arith, length_is, ap length (is_clean (Ok tt) (λ e. false≢true e) fate)))).1
   mishap_stays (Some Read) past fate = absurd (past refl)
 
-  mishap_struck : (m : Option Mishap) (device : Device) → (m ≡ Some Read → ⊥) → CutAndAppendFate m whole old (text next) (Err device) new left → left ≡ struck m
+  mishap_struck : (m : Option Mishap) (device : Device) → (m ≡ Some Read → ⊥) → CutAndAppendFate m whole old lines (Err device) new left → left ≡ struck m
   mishap_struck None device past fate = fate
   mishap_struck (Some Never) device past fate = absurd (false≢true fate.0)
   mishap_struck (Some (Append n)) device past fate = fate.2
@@ -101,58 +219,57 @@ module _ (old new : List ℕ) (foretold left : Option Mishap) (before after whol
       cut_by (b ∷ more) is = (fate.0 (omega (arith, is))).2
   mishap_struck (Some Read) device past fate = absurd (past refl)
 
-  long_is : (line : List ℕ) → line ≡ text next → whole + length line ≡ length (flat_map text (rs ++ next_restart rs ∷ []))
+  long_is : (line : List ℕ) → line ≡ lines → whole + length line ≡ length (flat_map text (rs ++ next_piece schema s rs))
   long_is line is =
-      let more : length (flat_map text (rs ++ next_restart rs ∷ [])) ≡ length (flat_map text rs) + length (text next) =
-      ap length (flat_push rs (next_restart rs)) ∙ length-append (flat_map text rs) (text (next_restart rs)) ∙ ap (λ (r : Record). length (flat_map text rs) + length (text r)) (sym next_is) in
-      omega (arith, more, size_is, ap length is)
+      let more : length (flat_map text (rs ++ next_piece schema s rs)) ≡ length (flat_map text rs) + length (flat_map text (next_piece schema s rs)) =
+      ap length (flat_map-append text rs (next_piece schema s rs)) ∙ length-append (flat_map text rs) (flat_map text (next_piece schema s rs)) in
+      let same : length line ≡ length (flat_map text (next_piece schema s rs)) = ap length is ∙ ap (λ (ps : List Record). length (flat_map text ps)) lines_are in
+      omega (arith, more, size_is, same)
 
-  pub stands_over : (line : List ℕ) (size : ℕ) → line ≡ text next → size ≡ told_length (whole + length line)
-      → CutsAndAppends {T = Unit {0}} {E = Device} (Ok tt) whole old (text next) new before after → CutAndAppendFate {E = Device} foretold whole old (text next) (Ok tt) new left
-      → StandsOver rs (standing.epoch + 1) size rest new foretold left before after × IsStandingFor schema s rs standing
-  stands_over line size line_is size_ added fate = (
-    record {
-      counts = added.1;
-      size_is = size_ ∙ ap told_length (long_is line line_is);
-      epoch_is = ap (λ (n : ℕ). n + 1) epoch_is;
-      some = some;
-      log = subst (λ (r : Record). IsLog new (rs ++ r ∷ []) []) next_is
-          (subst (λ (bytes : List ℕ). IsLog bytes (rs ++ next ∷ []) []) (sym added.0) (cut_added old rest rs next whole log size_is fits));
-      torn = λ n known. false≢true (goes_under (Append n) (Ok tt) known fate).0;
-      read = unread;
-      cut = λ known. is_clean (Ok tt) (λ e. false≢true e) (goes_under Cut (Ok tt) known fate);
-      stays = mishap_stays foretold unread fate;
-    },
-    for_,
-  )
+  pub stands_over : (line : List ℕ) (size : ℕ) → line ≡ lines → size ≡ told_length (whole + length line)
+      → CutsAndAppends {T = Unit {0}} {E = Device} (Ok tt) whole old lines new before after → CutAndAppendFate {E = Device} foretold whole old lines (Ok tt) new left
+      → StandsOver schema s rs (standing.epoch + 1) turns size rest new foretold left before after
+  stands_over line size line_is size_ added fate =
+      record {
+        counts = added.1;
+        size_is = size_ ∙ ap told_length (long_is line line_is);
+        replayed = is_replayed.turns_are;
+        epoch_is = ap (λ (n : ℕ). n + 1) is_replayed.for_.for_.epoch;
+        some = some;
+        log = subst (λ (bytes : List ℕ). IsLog bytes (rs ++ next_piece schema s rs) [])
+            (sym (added.0 ∙ ap (λ (ps : List Record). take whole old ++ flat_map text ps) lines_are))
+            (added_all schema s rs (next_restart rs) refl lawful may (take whole old) cut_log each);
+        torn = λ n known. false≢true (goes_under (Append n) (Ok tt) known fate).0;
+        read = unread;
+        cut = λ known. is_clean (Ok tt) (λ e. false≢true e) (goes_under Cut (Ok tt) known fate);
+        stays = mishap_stays foretold unread fate;
+      }
 
-  whole_is : take whole old ≡ flat_map text rs
-  whole_is = let cut = cut_to_records old rest rs whole log size_is in cut.parts ∙ append-nil (flat_map text rs)
-
-  left_of : ((new ≡ old) ⊎ IsCutShort (take whole old) (text next) new) → (new ≡ old) ⊎ IsCutShort (flat_map text rs) (text (next_restart rs)) new
+  left_of : ((new ≡ old) ⊎ IsCutShort (take whole old) lines new) → (new ≡ old) ⊎ IsCutShort (flat_map text rs) (flat_map text (next_piece schema s rs)) new
   left_of (inl unchanged) = inl unchanged
   left_of (inr cut) =
-      inr (subst (λ (b : List ℕ). IsCutShort b (text (next_restart rs)) new) whole_is (subst (λ (r : Record). IsCutShort (take whole old) (text r) new) next_is cut))
+      inr (subst (λ (b : List ℕ). IsCutShort b (flat_map text (next_piece schema s rs)) new) whole_is (subst (λ (ps : List Record). IsCutShort (take whole old) (flat_map text ps) new) lines_are cut))
 
-  leaves_of : ((new ≡ old) ⊎ IsCutShort (take whole old) (text next) new) → LeavesSome rs (next_restart rs) new
-  leaves_of (inl unchanged) = inl (rest, subst (λ (bytes : List ℕ). IsLog bytes rs rest) (sym unchanged) log)
-  leaves_of (inr cut) = subst (λ (r : Record). LeavesSome rs r new) next_is (some_left cut.0 new rs next (cut_cut_short old rest new rs next whole log size_is fits cut))
+  front_left : (n : ℕ) → new ≡ take whole old ++ take n lines → Leaves schema s rs (next_restart rs) (nat_le (length (text (next_restart rs))) n) new
+  front_left n is =
+      leaves_by schema s rs (next_restart rs) refl lawful may n (take whole old) new cut_log each
+      (is ∙ ap (λ (ps : List Record). take whole old ++ take n (flat_map text ps)) lines_are)
 
-  pub fails_over : (device : Device) → CutsAndAppends {T = Unit {0}} (Err device) whole old (text next) new before after → CutAndAppendFate foretold whole old (text next) (Err device) new left
-      → FailsOver rs rest old new foretold left before after
-  fails_over device added fate =
+  leaves_of : ((new ≡ old) ⊎ IsCutShort (take whole old) lines new) → (stood : Bool) × Leaves schema s rs (next_restart rs) stood new
+  leaves_of (inl unchanged) = (false, leaves_none schema s rs (next_restart rs) new rest (subst (λ (bytes : List ℕ). IsLog bytes rs rest) (sym unchanged) log) lawful)
+  leaves_of (inr cut) = (nat_le (length (text (next_restart rs))) cut.0, front_left cut.0 cut.1)
+
+  pub fails_over : (device : Device) (told : Option ℕ) → ((n : ℕ) → told ≡ Some n → n ≡ turns)
+      → CutsAndAppends {T = Unit {0}} (Err device) whole old lines new before after → CutAndAppendFate foretold whole old lines (Err device) new left
+      → FailsOver schema s rs told rest old new foretold left before after
+  fails_over device told telling added fate =
       record {
         counts = added.1;
         leaves = leaves_of added.0;
         left_ = left_of added.0;
         never = λ known. false≢true (goes_under Never (Err device) known fate).0;
-        torn = λ n known.
-            let goes = goes_under (Append n) (Err device) known fate in
-            let front = cut_torn old rest rs next whole n log size_is fits in (
-              some,
-              subst (λ (r : Record). LeavesFront n rs r new) next_is
-                  (front_left n new rs next (subst (λ (bytes : List ℕ). HoldsFront n bytes rs next) (sym goes.1) front)),
-            );
+        torn = λ n known. (some, front_left n (goes_under (Append n) (Err device) known fate).1);
         cut = λ known. (some, not_clean device (goes_under Cut (Err device) known fate));
         struck_ = mishap_struck foretold device unread fate;
+        replayed = λ n is. telling n is ∙ is_replayed.turns_are;
       }

@@ -1,6 +1,6 @@
 -- What an answer leaves as it was, and what the ladder says of a reply that fits.
 use Rattle.std.proofs.Common.{◌≡◌, ℕ, Bool, true, false, ◌&&◌, List, [], ◌∷◌, ◌++◌, refl, sym, ap, ◌∙◌, inl, inr, arith, Option, Some, None}
-use Rattle.std.specs.Prelude.{if◌then◌else◌, Result, Ok, Err, IsOk, OnOk, IsSome, is_some}
+use Rattle.std.specs.Prelude.{if◌then◌else◌, Result, Ok, Err, IsOk, IfOk, OnOk, IsSome, is_some}
 use Rattle.field_bounds.specs.declared.entry.Command.{Command}
 use Rattle.field_bounds.specs.declared.entry.Command.TheVariants.{Begin, Escrow, Restart}
 use Rattle.field_bounds.specs.declared.entry.Last.{Last}
@@ -11,8 +11,7 @@ use Rattle.field_bounds.specs.Effects.{kept_before}
 use Rattle.field_bounds.specs.Owed.{Place, first, refusals, answer, writes, up_after, count_after, is_unsure, Fits}
 use Rattle.field_bounds.proofs.Refused.{is_restart}
 use Rattle.kept_records.specs.declared.record.Record.{Record}
-use Rattle.kept_records.specs.Text.{text}
-use Rattle.kept_records.specs.Medium.{IsCutShort}
+use Rattle.site_step.specs.Replaying.{Replays, downs_after, downs_at}
 use Rattle.kept_state.specs.declared.luck.Luck.{Luck}
 use Rattle.kept_state.specs.declared.luck.Luck.TheVariants.{Fine, Torn}
 use Rattle.kept_state.specs.Keeps.{record_at, noted, Tells}
@@ -22,11 +21,15 @@ use Rattle.kept_records.specs.declared.medium.Mishap.{Mishap}
 use Rattle.kept_records.specs.declared.medium.Mishap.TheVariants.{Never, Append, Cut, Read}
 use Rattle.kept_state.specs.Doubt.{found_of}
 use Rattle.kept_records.specs.Stands.{greatest}
-use Rattle.site_step.specs.Site.{SiteValue, here, failed_after, foretold_after, line_of, Writes, luck_under, owed_under, doubt_from, RestartsOver, RefusesOver}
+use Rattle.site_step.specs.Site.{SiteValue, here, failed_after, foretold_after, lines_of, lines_behind, AddsLines, LeavesUnsure, Writes, luck_under, owed_under, doubt_from, RestartsOver, RefusesOver}
 
 pub ok_gives : {A E : Type 0} {P : Type 0} (r : Result A E) → IsOk r → OnOk r P → P
 ok_gives (Ok a) is p = p
 ok_gives (Err e) is p = absurd cc
+
+pub ok_is : {A E : Type 0} {P Q : A → Type 0} (r : Result A E) → ((a : A) → P a → Q a) → IfOk r P → IfOk r Q
+ok_is (Ok a) f is = f a is
+ok_is (Err e) f is = is
 
 pub some_there : {A : Type 0} (o : Option A) → is_some o ≡ true → IsSome o
 some_there (Some a) is = is
@@ -46,6 +49,9 @@ pub record Settles (r : Reply) : Type 0 where
   pub restarts : (rs : List Record) (d : Option ℕ) (rest : List ℕ) → RestartsOver r rs d rest
   pub greatest_is : (luck : Luck) (n : ℕ) → kept_after r luck n ≡ n
   pub found : (luck : Luck) (size : ℕ) (last : Last) → doubt_after r luck size last ≡ last
+  pub downs : (n : ℕ) → downs_after r n ≡ n
+  pub before : (n m : ℕ) → downs_at r n m ≡ m
+  pub replays : (behind n : ℕ) → Replays r behind n n
 
 pub answer_settles : (at : Place) (c : Command) → is_restart c ≡ false → Settles (answer at c)
 answer_settles at Restart n = cc
@@ -60,6 +66,9 @@ answer_settles at c n = record {
   restarts = λ rs d rest. tt;
   greatest_is = λ luck n. refl;
   found = λ luck size last. refl;
+  downs = λ n. refl;
+  before = λ n m. refl;
+  replays = λ behind n. refl;
 }
 
 -- ---- a command that is no restart
@@ -170,15 +179,15 @@ unsure_under v rs rest c bytes n none w = unsure_owed (here v) c (greatest rs) (
 
 -- ---- the bytes
 
-pub answer_writes : (at : Place) (c : Command) (old new : List ℕ) → is_restart c ≡ false → new ≡ old ++ line_of at c → Writes at c (answer at c) old new
+pub answer_writes : (at : Place) (c : Command) (old new : List ℕ) → is_restart c ≡ false → AddsLines at c old new → Writes at c (answer at c) old new
 answer_writes at Restart old new n grown = cc
 answer_writes at c old new n grown = grown
 
-pub unsure_writes : (at : Place) (c : Command) (old new : List ℕ) → IsCutShort old (text (record_at at c)) new → Writes at c Unsure old new
+pub unsure_writes : (at : Place) (c : Command) (old new : List ℕ) → LeavesUnsure at c old new → Writes at c Unsure old new
 unsure_writes at c old new cut = cut
 
-pub line_none : (at : Place) (c : Command) → writes at c ≡ false → line_of at c ≡ []
-line_none at c w = rw w refl
+pub lines_none : (at : Place) (c : Command) (rs : List Record) → writes at c ≡ false → lines_of at c rs ≡ []
+lines_none at c rs w = rw w refl
 
-pub line_one : (at : Place) (c : Command) → writes at c ≡ true → line_of at c ≡ text (record_at at c)
-line_one at c w = rw w refl
+pub lines_one : (at : Place) (c : Command) (rs : List Record) → writes at c ≡ true → lines_of at c rs ≡ lines_behind at rs (record_at at c)
+lines_one at c rs w = rw w refl

@@ -1,3 +1,4 @@
+pub mod Replaying
 pub mod Site
 pub mod State
 pub mod Resuming

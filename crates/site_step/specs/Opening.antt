@@ -9,7 +9,7 @@ use Rattle.kept_records.specs.declared.medium.MediumFault.TheVariants as faults
 use Rattle.kept_records.specs.declared.record.Record.{Record}
 use Rattle.kept_records.specs.Text.{text, IsRecord}
 use Rattle.kept_records.specs.Logs.{IsLog, IsBadLine}
-use Rattle.kept_records.specs.Stands.{Lawful, BreaksRule}
+use Rattle.kept_records.specs.Stands.{Lawful, BreaksRule, plain}
 use Rattle.kept_records.specs.ReadingBack.{told_length}
 use Rattle.log_replay.specs.Standing.{IsStandingFor}
 use Rattle.site_step.specs.Site.{struck}
@@ -78,5 +78,6 @@ pub record IsFound (schema : SchemaValue) (s : ℕ) (bytes : List ℕ) (found : 
   pub log : IsLog bytes found.records.items rest
   pub lawful : Lawful schema s found.records.items
   pub stands : IsStandingFor schema s found.records.items found.standing
-  pub count : found.extent.count ≡ length found.records.items
+  pub count : found.extent.count ≡ length (plain found.records.items)
   pub length_is : found.extent.length ≡ told_length (length (flat_map text found.records.items))
+  pub behind : found.extent.behind ≡ 0

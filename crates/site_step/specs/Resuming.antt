@@ -1,8 +1,9 @@
 -- What a restart does to a medium, and finds on it (this project).
-use Rattle.std.specs.Prelude.{◌≡◌, ◌≢◌, ◌⊎◌, ℕ, ◌+◌, ◌<◌, ◌≤◌, if◌then◌else◌, List, [], ◌∷◌, ◌++◌, length, Option, None, Some}
+use Rattle.std.specs.Prelude.{◌≡◌, ◌≢◌, ◌⊎◌, ℕ, ◌+◌, ◌<◌, ◌≤◌, nat_le, if◌then◌else◌, Bool, false, List, [], ◌∷◌, ◌++◌, length, Option, None, Some}
 use Rattle.field_bounds.specs.declared.entry.Last.{Last}
 use Rattle.field_bounds.specs.declared.entry.Last.TheVariants.{Nothing, Kept, Lost}
 use Rattle.field_bounds.specs.Schema.{SchemaValue}
+use Rattle.field_bounds.specs.Limits.{IsSchema}
 use Rattle.field_bounds.specs.Owed.{max_epoch}
 use Rattle.kept_records.specs.declared.medium.Mishap.{Mishap}
 use Rattle.kept_records.specs.declared.medium.Mishap.TheVariants.{Never, Append, Cut, Read}
@@ -14,9 +15,10 @@ use Rattle.kept_records.specs.Medium.{IsCutShort}
 use Rattle.kept_records.specs.Logs.{IsLog}
 use Rattle.kept_records.specs.Keeping.{starts_with_no_restart}
 use Rattle.kept_records.specs.ReadingBack.{told_length, StandBehind}
-use Rattle.kept_records.specs.Stands.{greatest, Lawful}
+use Rattle.kept_records.specs.Stands.{greatest, Lawful, plain, since_summary, piece}
 use Rattle.log_replay.specs.declared.standing.Standing.{Standing as StandingValue}
 use Rattle.log_replay.specs.Standing.{IsStandingFor}
+use Rattle.log_replay.specs.Resuming.{starts_with_summary}
 use Rattle.site_step.specs.Site.{struck}
 use Rattle.site_step.specs.declared.site.restart.Resumed.{Resumed}
 use Rattle.site_step.specs.declared.site.restart.Resumed.TheVariants.{Failed, NumbersFull, Standing}
@@ -28,28 +30,34 @@ pub record IsLawfulLog (schema : SchemaValue) (s : ℕ) (bytes : List ℕ) : Typ
   pub log : IsLog bytes records rest
   pub lawful : Lawful schema s records
 
--- The bytes are a log of these records, or of one more.
-abbrev pub LeavesSome : List Record → Record → List ℕ → Type 0
-LeavesSome rs r bytes = ((rest : List ℕ) × IsLog bytes rs rest) ⊎ IsLog bytes (rs ++ r ∷ []) []
+-- The bytes are a log of these records and of a front of what a record adds behind them, which holds the record or nothing.
+pub record Leaves (schema : SchemaValue) (s : ℕ) (rs : List Record) (r : Record) (stood : Bool) (bytes : List ℕ) : Type 0 where
+  pub front : List Record
+  pub rest : List ℕ
+  pub log : IsLog bytes (rs ++ front) rest
+  pub lawful : Lawful schema s (rs ++ front)
+  pub told : plain front ≡ (if stood then r ∷ [] else [])
+  pub first_ : starts_with_summary front ≡ false
+  pub one : since_summary (rs ++ front) ≤ since_summary rs + 1
 
--- The same, told by how many bytes of the record's text were kept.
-abbrev pub LeavesFront : ℕ → List Record → Record → List ℕ → Type 0
-LeavesFront n rs r bytes =
-    ((n < length (text r)) × (rest : List ℕ) × IsLog bytes rs rest) ⊎ ((length (text r) ≤ n) × IsLog bytes (rs ++ r ∷ []) [])
-
--- The record that a restart adds behind these.
+-- The record that a restart adds behind these, and its lines.
 abbrev pub next_restart : List Record → Record
 next_restart rs = Restart (greatest rs + 1)
 
--- A restart failed: its record stands or doesn't, as the mishap says where it is known.
-pub record FailsOver (rs : List Record) (rest old bytes : List ℕ) (foretold left : Option Mishap) (before after : ℕ) : Type 0 where
+abbrev pub next_piece : SchemaValue → ℕ → List Record → List Record
+next_piece schema s rs = piece schema s rs (next_restart rs)
+
+-- A restart failed: its record stands or doesn't, as the mishap says where it is known. Where it read the medium, it
+-- replayed the records behind the last summary.
+pub record FailsOver (schema : SchemaValue) (s : ℕ) (rs : List Record) (turns : Option ℕ) (rest old bytes : List ℕ) (foretold left : Option Mishap) (before after : ℕ) : Type 0 where
   pub counts : after ≡ before + 1
-  pub leaves : LeavesSome rs (next_restart rs) bytes
-  pub left_ : (bytes ≡ old) ⊎ IsCutShort (flat_map text rs) (text (next_restart rs)) bytes
+  pub leaves : (stood : Bool) × Leaves schema s rs (next_restart rs) stood bytes
+  pub left_ : (bytes ≡ old) ⊎ IsCutShort (flat_map text rs) (flat_map text (next_piece schema s rs)) bytes
   pub never : foretold ≡ Some Never → ⊥
-  pub torn : (n : ℕ) → foretold ≡ Some (Append n) → (greatest rs < max_epoch) × LeavesFront n rs (next_restart rs) bytes
+  pub torn : (n : ℕ) → foretold ≡ Some (Append n) → (greatest rs < max_epoch) × Leaves schema s rs (next_restart rs) (nat_le (length (text (next_restart rs))) n) bytes
   pub cut : foretold ≡ Some Cut → (greatest rs < max_epoch) × (rest ≢ [])
   pub struck_ : left ≡ struck foretold
+  pub replayed : (n : ℕ) → turns ≡ Some n → n ≡ since_summary rs
 
 -- A restart found no epoch left.
 pub record FullOver (rs : List Record) (old bytes : List ℕ) (foretold left : Option Mishap) (before after : ℕ) : Type 0 where
@@ -59,13 +67,15 @@ pub record FullOver (rs : List Record) (old bytes : List ℕ) (foretold left : O
   pub read : foretold ≡ Some Read → ⊥
   pub stays : left ≡ foretold
 
--- A restart went well: its record stands behind those that there were, and so long are all texts with it.
-pub record StandsOver (rs : List Record) (epoch size : ℕ) (rest bytes : List ℕ) (foretold left : Option Mishap) (before after : ℕ) : Type 0 where
+-- A restart went well: its record stands behind those that there were, with the summary that is due, and so long are all
+-- texts then. It replayed the records behind the last summary.
+pub record StandsOver (schema : SchemaValue) (s : ℕ) (rs : List Record) (epoch turns size : ℕ) (rest bytes : List ℕ) (foretold left : Option Mishap) (before after : ℕ) : Type 0 where
   pub counts : after ≡ before
-  pub size_is : size ≡ told_length (length (flat_map text (rs ++ next_restart rs ∷ [])))
+  pub size_is : size ≡ told_length (length (flat_map text (rs ++ next_piece schema s rs)))
+  pub replayed : turns ≡ since_summary rs
   pub epoch_is : epoch ≡ greatest rs + 1
   pub some : greatest rs < max_epoch
-  pub log : IsLog bytes (rs ++ next_restart rs ∷ []) []
+  pub log : IsLog bytes (rs ++ next_piece schema s rs) []
   pub torn : (n : ℕ) → foretold ≡ Some (Append n) → ⊥
   pub read : foretold ≡ Some Read → ⊥
   pub cut : foretold ≡ Some Cut → rest ≡ []
@@ -73,15 +83,25 @@ pub record StandsOver (rs : List Record) (epoch size : ℕ) (rest bytes : List �
 
 -- How a restart went over these records, some of which stand behind the place that was looked at.
 abbrev pub ResumesOver : SchemaValue → ℕ → ℕ → List Record → List ℕ → Resumed → List ℕ → List ℕ → Option Mishap → Option Mishap → ℕ → ℕ → Type 0
-ResumesOver schema s place rs rest Failed old bytes foretold left before after = FailsOver rs rest old bytes foretold left before after
+ResumesOver schema s place rs rest (Failed turns) old bytes foretold left before after = FailsOver schema s rs turns rest old bytes foretold left before after
 ResumesOver schema s place rs rest NumbersFull old bytes foretold left before after = FullOver rs old bytes foretold left before after
-ResumesOver schema s place rs rest (Standing behind standing epoch size) old bytes foretold left before after =
-    StandsOver rs epoch size rest bytes foretold left before after × IsStandingFor schema s rs standing × StandBehind old place behind.items
+ResumesOver schema s place rs rest (Standing behind standing epoch turns size) old bytes foretold left before after =
+    StandsOver schema s rs epoch turns size rest bytes foretold left before after × IsStandingFor schema s rs standing × StandBehind old place behind.items
 
--- How a restart went over any records that the bytes hold and that this standing is for, where these were behind the place.
-abbrev pub ResumesAs : StandingValue → List Record → Resumed → List ℕ → List ℕ → Option Mishap → Option Mishap → ℕ → ℕ → Type 0
-ResumesAs standing found resumed old bytes foretold left before after =
-    (schema : SchemaValue) (s place : ℕ) (rs : List Record) (rest : List ℕ) → IsLog old rs rest → IsStandingFor schema s rs standing → StandBehind old place found
+-- The bytes are a log of these lawful records of a site of the schema, which the standing is for; so many of them stand
+-- behind the last summary.
+pub record IsReplayed (schema : SchemaValue) (s : ℕ) (rs : List Record) (rest : List ℕ) (standing : StandingValue) (turns : ℕ) (bytes : List ℕ) : Type 0 where
+  pub limits : IsSchema schema
+  pub site_in : s < schema.sites
+  pub log : IsLog bytes rs rest
+  pub lawful : Lawful schema s rs
+  pub for_ : IsStandingFor schema s rs standing
+  pub turns_are : turns ≡ since_summary rs
+
+-- How a restart went over the records that were replayed, where these were behind the place.
+abbrev pub ResumesAs : SchemaValue → StandingValue → ℕ → List Record → Resumed → List ℕ → List ℕ → Option Mishap → Option Mishap → ℕ → ℕ → Type 0
+ResumesAs schema standing turns found resumed old bytes foretold left before after =
+    (s place : ℕ) (rs : List Record) (rest : List ℕ) → IsReplayed schema s rs rest standing turns old → StandBehind old place found
     → ResumesOver schema s place rs rest resumed old bytes foretold left before after
 
 -- ---- the record in doubt

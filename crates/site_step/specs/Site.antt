@@ -19,7 +19,7 @@ use Rattle.kept_records.specs.declared.record.Record.{Record}
 use Rattle.kept_records.specs.declared.record.Record.TheVariants as records
 use Rattle.std.specs.List.{flat_map}
 use Rattle.kept_records.specs.Logs.{IsLog}
-use Rattle.kept_records.specs.Stands.{greatest, Lawful}
+use Rattle.kept_records.specs.Stands.{greatest, Lawful, plain, since_summary, max_behind, piece}
 use Rattle.kept_state.specs.declared.luck.Luck.{Luck}
 use Rattle.kept_state.specs.declared.luck.Luck.TheVariants.{Fine, Torn}
 use Rattle.kept_records.specs.Text.{text}
@@ -27,10 +27,12 @@ use Rattle.kept_records.specs.Medium.{IsCutShort}
 use Rattle.kept_state.specs.Keeps.{Keeps, opened, record_at, adds}
 use Rattle.kept_state.specs.Doubt.{found_of}
 use Rattle.kept_state.specs.Luck.{owed_with, kept_after, doubt_after, record_length}
+use Rattle.site_step.specs.Replaying.{Replays, downs_since}
 
 -- The schema and the site's number; whether the medium was empty when the site was opened, and the records that it held
 -- then; the history, the newest entry first; what the medium holds now, how often it has failed, and the mishap that
--- strikes it next, where that is known; and, where an answer is in doubt, how many records stood before its own.
+-- strikes it next, where that is known; where an answer is in doubt, how many records stood before its own, summaries
+-- left out; and how many records the last restart replayed that read the medium.
 pub record SiteValue : Type 0 where
   pub schema : SchemaValue
   pub site : SiteNo
@@ -41,11 +43,12 @@ pub record SiteValue : Type 0 where
   pub failed : ℕ
   pub foretold : Option Mishap
   pub doubt : Option ℕ
+  pub replayed : ℕ
 
 -- A site's value, from its parts: the history is kept with the oldest entry first.
-abbrev pub value_of : SchemaValue → SiteNo → Bool → List Record → List Entry → List ℕ → ℕ → Option Mishap → Option ℕ → SiteValue
-value_of schema site fresh based entries bytes failed foretold doubt =
-    record { schema = schema; site = site; fresh = fresh; based = based; history = reverse entries; bytes = bytes; failed = failed; foretold = foretold; doubt = doubt }
+abbrev pub value_of : SchemaValue → SiteNo → Bool → List Record → List Entry → List ℕ → ℕ → Option Mishap → Option ℕ → ℕ → SiteValue
+value_of schema site fresh based entries bytes failed foretold doubt replayed =
+    record { schema = schema; site = site; fresh = fresh; based = based; history = reverse entries; bytes = bytes; failed = failed; foretold = foretold; doubt = doubt; replayed = replayed }
 
 -- The base on which a site's history stands.
 abbrev pub base_of : SiteValue → Base
@@ -67,6 +70,16 @@ end_command Aborted txn = Abort txn
 abbrev pub end_reply : Outcome → Reply
 end_reply Committed = SaysCommitted
 end_reply Aborted = SaysAborted
+
+-- ---- what a medium holds
+
+-- A log told without its summaries: the bytes are the texts of lawful records, and then bytes in which no line ends; these
+-- are the records among them that are no summaries.
+pub record Holds (schema : SchemaValue) (s : ℕ) (bytes : List ℕ) (rs : List Record) (rest : List ℕ) : Type 0 where
+  pub all : List Record
+  pub log : IsLog bytes all rest
+  pub lawful : Lawful schema s all
+  pub told : plain all ≡ rs
 
 -- ---- what a call does to the medium
 
@@ -160,38 +173,50 @@ RefusesOver (Share field) reply rs = Unit {0}
 pub record Logs (before : SiteValue) (command : Command) (reply : Reply) (later : SiteValue) (rs : List Record) : Type 0 where
   pub stood : Bool
   pub rest : List ℕ
-  pub log : IsLog later.bytes (rs ++ adds (here before) command reply stood rs) rest
+  pub log : Holds later.schema later.site.0 later.bytes (rs ++ adds (here before) command reply stood rs) rest
   pub doubt : later.doubt ≡ doubt_from reply rs before.doubt
   pub restarts : RestartsOver reply rs before.doubt rest
   pub refuses : RefusesOver command reply rs
 
--- The line of a command's record, where it writes one.
-abbrev pub line_of : Place → Command → List ℕ
-line_of at command = if writes at command then text (record_at at command) else []
+-- The lines that a record adds behind these: its own, and the summary's that is due behind it.
+abbrev pub lines_behind : Place → List Record → Record → List ℕ
+lines_behind at rs r = flat_map text (piece at.schema at.site rs r)
 
--- What a restart that failed leaves: the bytes as they were, or the whole lines and some front of its record's line.
-abbrev pub LeavesFailed : List ℕ → List ℕ → Type 0
-LeavesFailed old new =
-    (rs : List Record) (rest : List ℕ) → IsLog old rs rest → (new ≡ old) ⊎ IsCutShort (flat_map text rs) (text (records.Restart (greatest rs + 1))) new
+-- The lines of a command's record, where it writes one.
+abbrev pub lines_of : Place → Command → List Record → List ℕ
+lines_of at command rs = if writes at command then lines_behind at rs (record_at at command) else []
 
--- What an entry does to the bytes of the medium: a refusal leaves them, an answer adds its record's line, if any, and of an
--- answer in doubt some front of that line stands. What a good restart leaves is told by the records.
+-- The lines of a command's record stand behind the bytes.
+abbrev pub AddsLines : Place → Command → List ℕ → List ℕ → Type 0
+AddsLines at command old new = (rs : List Record) (rest : List ℕ) → IsLog old rs rest → new ≡ old ++ lines_of at command rs
+
+-- A command's append failed: some front of its record's lines stands behind the bytes.
+abbrev pub LeavesUnsure : Place → Command → List ℕ → List ℕ → Type 0
+LeavesUnsure at command old new = (rs : List Record) (rest : List ℕ) → IsLog old rs rest → IsCutShort old (lines_behind at rs (record_at at command)) new
+
+-- What a restart that failed leaves: the bytes as they were, or the whole lines and some front of its record's lines.
+abbrev pub LeavesFailed : Place → List ℕ → List ℕ → Type 0
+LeavesFailed at old new =
+    (rs : List Record) (rest : List ℕ) → IsLog old rs rest → (new ≡ old) ⊎ IsCutShort (flat_map text rs) (lines_behind at rs (records.Restart (greatest rs + 1))) new
+
+-- What an entry does to the bytes of the medium: a refusal leaves them, an answer adds its record's lines, if any, and of an
+-- answer in doubt some front of these lines stands. What a good restart leaves is told by the records.
 abbrev pub Writes : Place → Command → Reply → List ℕ → List ℕ → Type 0
 Writes at command (Refused refusal) old new = new ≡ old
-Writes at command Unsure old new = IsCutShort old (text (record_at at command)) new
-Writes at command StillDown old new = LeavesFailed old new
+Writes at command Unsure old new = LeavesUnsure at command old new
+Writes at command StillDown old new = LeavesFailed at old new
 Writes at command (Restarted epoch found) old new = Unit {0}
-Writes at command (Begun txn) old new = new ≡ old ++ line_of at command
-Writes at command Granted old new = new ≡ old ++ line_of at command
-Writes at command SaysCommitted old new = new ≡ old ++ line_of at command
-Writes at command SaysAborted old new = new ≡ old ++ line_of at command
-Writes at command (Given total) old new = new ≡ old ++ line_of at command
-Writes at command (Stated total) old new = new ≡ old ++ line_of at command
-Writes at command (Spared amount total) old new = new ≡ old ++ line_of at command
-Writes at command (Tightened total) old new = new ≡ old ++ line_of at command
-Writes at command (Accepted gain) old new = new ≡ old ++ line_of at command
-Writes at command (Between lo hi) old new = new ≡ old ++ line_of at command
-Writes at command (Shares lower raise) old new = new ≡ old ++ line_of at command
+Writes at command (Begun txn) old new = AddsLines at command old new
+Writes at command Granted old new = AddsLines at command old new
+Writes at command SaysCommitted old new = AddsLines at command old new
+Writes at command SaysAborted old new = AddsLines at command old new
+Writes at command (Given total) old new = AddsLines at command old new
+Writes at command (Stated total) old new = AddsLines at command old new
+Writes at command (Spared amount total) old new = AddsLines at command old new
+Writes at command (Tightened total) old new = AddsLines at command old new
+Writes at command (Accepted gain) old new = AddsLines at command old new
+Writes at command (Between lo hi) old new = AddsLines at command old new
+Writes at command (Shares lower raise) old new = AddsLines at command old new
 
 -- ---- under a mishap that is known
 
@@ -229,7 +254,7 @@ foretold_by failed mishap = if nat_lt failed (2 ^ 64 - 1) then Some mishap else 
 -- What a restart that doesn't fail would find: this greatest epoch kept, and this of the record in doubt.
 unfoldable pub Finds : SiteValue → ℕ → Last → Type 0
 Finds v epoch found =
-    (rs : List Record) (rest : List ℕ) → IsLog v.bytes rs rest → (greatest rs ≡ epoch) × (found_of v.doubt rs ≡ found)
+    (rs : List Record) (rest : List ℕ) → Holds v.schema v.site.0 v.bytes rs rest → (greatest rs ≡ epoch) × (found_of v.doubt rs ≡ found)
 
 -- Whether a command reads the medium first, and cuts what stands behind the last line feed: a restart alone.
 abbrev pub reads_medium : Command → Bool
@@ -294,21 +319,25 @@ pub record Applies (before : SiteValue) (command : Command) (reply : Reply) (lat
   pub entry : later.history ≡ entry_of before command reply ∷ before.history
   pub same : IsSame before later
   pub failed : later.failed ≡ failed_after reply before.failed
-  pub logs : (rs : List Record) (rest : List ℕ) → IsLog before.bytes rs rest → Logs before command reply later rs
+  pub logs : (rs : List Record) (rest : List ℕ) → Holds before.schema before.site.0 before.bytes rs rest → Logs before command reply later rs
   pub writes_ : Writes (here before) command reply before.bytes later.bytes
   pub foretold : later.foretold ≡ foretold_after reply before.foretold
-  pub under : (rs : List Record) (rest : List ℕ) (mishap : Mishap) → IsLog before.bytes rs rest → before.foretold ≡ Some mishap → reply ≡ owed_under before rs rest command mishap
+  pub under : (rs : List Record) (rest : List ℕ) (mishap : Mishap) → Holds before.schema before.site.0 before.bytes rs rest → before.foretold ≡ Some mishap → reply ≡ owed_under before rs rest command mishap
   pub exact : (luck : Luck) (epoch : ℕ) (found : Last) → before.foretold ≡ Some (mishap_of luck) → Finds before epoch found
       → IsExact before command reply later luck epoch found
+  pub replays : (rs : List Record) (rest : List ℕ) → IsLog before.bytes rs rest → Replays reply (since_summary rs) before.replayed later.replayed
 
--- The medium holds the texts of lawful records that the history keeps, and then bytes in which no line ends.
+-- The medium holds the texts of lawful records that the history keeps, and then bytes in which no line ends. Behind the last
+-- summary stand at most 1,000 records and one for each restart that failed since the last that went well, where at most
+-- 1,000 stood there when the site was opened.
 pub record HoldsLog (v : SiteValue) : Type 0 where
   pub records : List Record
   pub rest : List ℕ
   pub kept : Bool
-  pub log : IsLog v.bytes records rest
-  pub keeps : Keeps v.schema v.site.0 (base_of v) v.based kept v.history records
+  pub log : Holds v.schema v.site.0 v.bytes records rest
+  pub keeps : Keeps v.schema v.site.0 (base_of v) (plain v.based) kept v.history records
   pub lawful : Lawful v.schema v.site.0 records
+  pub few : since_summary v.based ≤ max_behind → since_summary log.all ≤ max_behind + downs_since v.history
 
 -- A site that stands on what a medium held: nothing is answered and nothing in doubt, the base is the records read.
 pub record Opens (told : SchemaValue) (number : SiteNo) (held : List ℕ) (count : ℕ) (v : SiteValue) : Type 0 where
@@ -322,3 +351,4 @@ pub record Opens (told : SchemaValue) (number : SiteNo) (held : List ℕ) (count
   pub bytes : v.bytes ≡ held
   pub failed : v.failed ≡ count
   pub doubt : v.doubt ≡ None
+  pub replayed : v.replayed ≡ 0

@@ -1,5 +1,5 @@
 -- What ties what a site holds, in memory and on its medium, to its history (this project).
-use Rattle.std.specs.Prelude.{◌≡◌, ℕ, ◌+◌, ◌<◌, ◌≤◌, List, [], ◌++◌, length, map, reverse, Bool, true, false, Some}
+use Rattle.std.specs.Prelude.{◌≡◌, ℕ, ◌+◌, ◌<◌, ◌≤◌, List, [], ◌++◌, length, map, reverse, nat_le, if◌then◌else◌, Bool, true, false, Some}
 use Rattle.std.specs.List.{flat_map}
 use Rattle.field_bounds.specs.declared.kind.Kind.{Kind}
 use Rattle.field_bounds.specs.declared.id.TxnId.{TxnId}
@@ -18,13 +18,15 @@ use Rattle.site_rights.specs.Rights.{held_at, ending, by_escrows, AreInRange, Ar
 use Rattle.escrow_journal.specs.Journal.{Row, stands, escrows_at, without}
 use Rattle.kept_records.specs.declared.record.Record.{Record}
 use Rattle.kept_records.specs.Logs.{IsLog}
-use Rattle.kept_records.specs.Stands.{Lawful}
+use Rattle.kept_records.specs.Stands.{Lawful, plain, since_summary, max_behind}
 use Rattle.kept_records.specs.Text.{text}
 use Rattle.kept_records.specs.ReadingBack.{told_length}
 use Rattle.kept_state.specs.Keeps.{Keeps, IsBase}
 use Rattle.kept_state.specs.Doubt.{IsDoubt}
 use Rattle.kept_records.specs.declared.record.Record.TheVariants as records
 use Rattle.log_replay.specs.Standing.{HasPlaces, Stands, CanTakeIn}
+use Rattle.log_replay.specs.Resuming.{starts_with_summary}
+use Rattle.site_step.specs.Replaying.{downs_since, downs_before}
 use Rattle.site_step.specs.declared.accounts.Accounts.{Accounts}
 use Rattle.site_step.specs.declared.extent.Extent.{Extent}
 use Rattle.site_step.specs.Site.{SiteValue, base_of}
@@ -146,33 +148,51 @@ pub record RestsOn (schema : SchemaValue) (site : SiteNo) (base : Base) (based :
   pub is_base : IsBase schema site.0 base based
   pub based_on : Lawful schema site.0 based
 
--- One record more, with a text of this length.
+-- One record more, with lines of this length. Where a summary is due behind it, it stands in them.
 abbrev pub extended : Extent → ℕ → Extent
-extended e size = record { count = e.count + 1; length = told_length (e.length + size) }
+extended e size =
+    record {
+      count = e.count + 1;
+      length = told_length (e.length + size);
+      behind = if nat_le max_behind (e.behind + 1) then 0 else e.behind + 1;
+    }
 
--- The first records are so many, and so long are their texts.
+-- These are all the records, summaries left out: how many they are, how long all texts are, and how many records stand
+-- behind the last summary, which are fewer than 1,000.
+pub record ReachesAll (e : Extent) (rs : List Record) : Type 0 where
+  pub count : e.count ≡ length (plain rs)
+  pub length_is : e.length ≡ told_length (length (flat_map text rs))
+  pub behind : e.behind ≡ since_summary rs
+  pub few : since_summary rs < max_behind
+
+-- The first records are so many, summaries left out, and so long are their texts; no summary stands right behind them.
 pub record Reaches (e : Extent) (rs : List Record) : Type 0 where
   pub before : List Record
   pub behind : List Record
   pub all : rs ≡ before ++ behind
-  pub count : e.count ≡ length before
+  pub count : e.count ≡ length (plain before)
   pub length_is : e.length ≡ told_length (length (flat_map text before))
+  pub first_ : starts_with_summary behind ≡ false
 
 -- The history is a run of owed replies on its base, and the medium holds the records that it leaves, all of which are
--- lawful; behind them stands nothing while the site is up. It is known how many stood when the site was last up, and where
--- they end: these are all while it is up. Where an answer is in doubt, its record stands behind them, if it stands. While
--- the site is up, it stands on its history in memory too.
+-- lawful, summaries among them; behind them stands nothing while the site is up. It is known how many stood when the site
+-- was last up, and where they end: these are all while it is up. Where an answer is in doubt, its record stands behind
+-- them, if it stands. Few records stand behind the last summary, and few were replayed. While the site is up, it stands on
+-- its history in memory too.
 pub record IsSound (v : SiteValue) (up : Bool) (extent : Extent) (a : Accounts) : Type 0 where
-  pub ground : RestsOn v.schema v.site (base_of v) v.based
+  pub ground : RestsOn v.schema v.site (base_of v) (plain v.based)
   pub records : List Record
   pub rest : List ℕ
   pub kept : Bool
   pub log : IsLog v.bytes records rest
+  pub lawful : Lawful v.schema v.site.0 records
   pub run : IsRun v.schema v.site.0 (base_of v) v.history
-  pub keeps : Keeps v.schema v.site.0 (base_of v) v.based kept v.history records
+  pub keeps : Keeps v.schema v.site.0 (base_of v) (plain v.based) kept v.history (plain records)
   pub up_is : up ≡ is_up (base_of v) v.history
-  pub clean : up ≡ true → (rest ≡ []) × (extent.count ≡ length records)
+  pub clean : up ≡ true → (rest ≡ []) × ReachesAll extent records
   pub reaches : Reaches extent records
   pub place : (n : ℕ) → v.doubt ≡ Some n → n ≡ extent.count
-  pub in_doubt : IsDoubt kept v.history records v.doubt
+  pub in_doubt : IsDoubt kept v.history (plain records) v.doubt
+  pub few : since_summary v.based ≤ max_behind → since_summary records ≤ max_behind + downs_since v.history
+  pub replays : since_summary v.based ≤ max_behind → v.replayed ≤ max_behind + downs_before v.history
   pub stands : is_up (base_of v) v.history ≡ true → StandsOn v.schema v.site.0 (base_of v) v.history records a

@@ -10,9 +10,8 @@ ghost use Rattle.field_bounds.specs.Owed.{max_epoch};
 ghost use Rattle.kept_records.specs.declared.medium.Mishap.{Mishap};
 ghost use Rattle.kept_records.specs.declared.medium.Mishap.TheVariants.{Never, Cut, Read};
 ghost use Rattle.kept_records.specs.declared.record.Record.{Record};
-ghost use Rattle.kept_records.specs.Logs.{IsLog};
 ghost use Rattle.kept_records.specs.Stands.{greatest};
-ghost use Rattle.site_step.specs.Site.{SiteValue, owed_under, Applies, HoldsLog};
+ghost use Rattle.site_step.specs.Site.{SiteValue, Holds, owed_under, Applies, HoldsLog};
 ghost use Rattle.site_step.specs.Calls.{Call, Leads, IsSure, AreSure};
 
 /// Over a medium that is known not to fail, as one in memory, no answer of a site is in doubt and no
@@ -51,18 +50,18 @@ pub fn no_needless_cut_or_failure()
         Applies before command (Refused refusal) later →
         (later.bytes ≡ before.bytes) × (later.foretold ≡ before.foretold) }
     ensures full { (before later : SiteValue) (rs : List Record) (rest : List ℕ) (reply : Reply) →
-        IsLog before.bytes rs rest → before.foretold ≡ Some Cut → max_epoch ≤ greatest rs →
+        Holds before.schema before.site.0 before.bytes rs rest → before.foretold ≡ Some Cut → max_epoch ≤ greatest rs →
         Applies before Restart reply later → reply ≢ StillDown }
     ensures whole { (before later : SiteValue) (rs : List Record) (reply : Reply) →
-        IsLog before.bytes rs [] → before.foretold ≡ Some Cut →
+        Holds before.schema before.site.0 before.bytes rs [] → before.foretold ≡ Some Cut →
         Applies before Restart reply later → reply ≢ StillDown }
     ensures read { (before later : SiteValue) (rs : List Record) (rest : List ℕ) (reply : Reply) →
-        IsLog before.bytes rs rest → before.foretold ≡ Some Read →
+        Holds before.schema before.site.0 before.bytes rs rest → before.foretold ≡ Some Read →
         Applies before Restart reply later →
         (reply ≡ StillDown) × (later.foretold ≡ Some Never) }
     ensures others { (before later : SiteValue) (rs : List Record) (rest : List ℕ) (mishap : Mishap)
         (command : Command) (reply : Reply) →
-        IsLog before.bytes rs rest → before.foretold ≡ Some mishap →
+        Holds before.schema before.site.0 before.bytes rs rest → before.foretold ≡ Some mishap →
         ((mishap ≡ Cut) ⊎ (mishap ≡ Read)) → command ≢ Restart → Applies before command reply later →
         (reply ≡ owed_under before rs rest command Never) × (later.foretold ≡ before.foretold) }
 {}

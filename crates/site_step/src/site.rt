@@ -1,11 +1,13 @@
 //! A site and its step.
 
-ghost use Rattle.std.specs.Prelude.{◌≡◌, ◌<◌, [], ℕ, reverse, Some, OnErr, IfOk, IfErr};
+ghost use Rattle.std.specs.Prelude.{◌≡◌, ◌<◌, ◌≤◌, ◌+◌, [], ℕ, reverse, Some, OnErr, IfOk, IfErr};
 ghost use Rattle.field_bounds.specs.declared.entry.Last.{Last};
 ghost use Rattle.field_bounds.specs.declared.entry.Last.TheVariants.{Nothing};
 ghost use Rattle.field_bounds.specs.Owed.{interval_of, shares_of, is_up, IsRun};
 ghost use Rattle.site_step.specs.Site.{here, base_of, Applies, HoldsLog, Finds, Opens, foretold_by};
 ghost use Rattle.kept_records.specs.declared.medium.Mishap.TheVariants.{Read};
+ghost use Rattle.kept_records.specs.Stands.{since_summary, max_behind};
+ghost use Rattle.site_step.specs.Replaying.{downs_before};
 ghost use Rattle.site_step.specs.Opening.{TellsLine, SparesLogs, FailsUnder, failed_at, foretold_at};
 
 mod gifts;
@@ -28,7 +30,8 @@ use std::marker::Model;
 /// One site of a schema, over a medium that keeps what it answered. Contracts see the schema and the
 /// site's number; the records that the medium held when the site was opened, and whether it was
 /// empty then; the history, the newest entry first; the medium's bytes, its count of failures and the
-/// mishap foretold for it; and, where an answer is in doubt, how many records stood before its own.
+/// mishap foretold for it; where an answer is in doubt, how many records stood before its own,
+/// summaries left out; and how many records the last restart replayed.
 ///
 /// Source: O'Neil 1986 for escrows and the test of a grant, Balegas and others 2015 for rights that a
 /// site holds and transfers, this project for what it keeps and its restarts.
@@ -43,6 +46,7 @@ pub struct Site<M: Medium> {
     up: bool,
     extent: Extent,
     doubt: Option<usize>,
+    replayed: u64,
     accounts: Accounts,
     // The text of the last record; its memory is used again.
     line: Vec<u8>,
@@ -54,9 +58,9 @@ impl<M: Medium> Model for Site<M> {
 
     ghost Value = { SiteValue };
 
-    ghost view = { λ s. value_of s.schema s.number s.fresh s.based.items s.history.items (M.bytes s.medium) (M.failed s.medium) (M.foretold s.medium) s.doubt };
+    ghost view = { λ s. value_of s.schema s.number s.fresh s.based.items s.history.items (M.bytes s.medium) (M.failed s.medium) (M.foretold s.medium) s.doubt s.replayed };
 
-    ghost invariant = { λ s. IsSound (value_of s.schema s.number s.fresh s.based.items s.history.items (M.bytes s.medium) (M.failed s.medium) (M.foretold s.medium) s.doubt) s.up s.extent s.accounts };
+    ghost invariant = { λ s. IsSound (value_of s.schema s.number s.fresh s.based.items s.history.items (M.bytes s.medium) (M.failed s.medium) (M.foretold s.medium) s.doubt s.replayed) s.up s.extent s.accounts };
 }
 
 impl<M: Medium> Site<M> {
@@ -110,6 +114,7 @@ impl<M: Medium> Site<M> {
                 up: fresh,
                 extent,
                 doubt: None,
+                replayed: 0,
                 accounts: Accounts {
                     standing,
                     journal: Journal::new(alloc),
@@ -144,6 +149,20 @@ impl<M: Medium> Site<M> {
         ensures holds { HoldsLog self.now }
     {
         &self.history
+    }
+
+    /// How many records the last Restart replayed that read the medium and wasn't refused, and 0
+    /// before: the turns of the loop that took them in. They are those behind the last whole summary in
+    /// what it read, or all where there is none. Where at most 1,000 records stood behind the last
+    /// summary when the site was opened, it is at most 1,000 and the number of Restarts answered
+    /// StillDown since the last Restarted before it. Costs no memory.
+    ///
+    /// Source: this project.
+    pub fn replayed(&self) -> u64
+        ensures value { result ≡ self.now.replayed }
+        ensures few { since_summary self.now.based ≤ max_behind → result ≤ max_behind + downs_before self.now.history }
+    {
+        self.replayed
     }
 
     /// Between which values the field's committed value lies, as far as this site knows, both
@@ -197,11 +216,11 @@ impl<M: Medium> Site<M> {
             Escrow { txn, field, change } => self.grant(txn, field, change),
             Commit { txn } => self.commit(alloc, txn),
             Abort { txn } => self.answer(Command::Abort { txn }, Reply::Aborted),
-            Give { to, field, kind, amount } => self.give(to, field, kind, amount),
+            Give { to, field, kind, amount } => self.give(alloc, to, field, kind, amount),
             Restate { to, field, kind } => self.restate(to, field, kind),
-            Spare { to, field, kind, want } => self.spare(to, field, kind, want),
-            Tighten { field, kind, amount } => self.tighten(field, kind, amount),
-            Accept(told) => self.accept(told),
+            Spare { to, field, kind, want } => self.spare(alloc, to, field, kind, want),
+            Tighten { field, kind, amount } => self.tighten(alloc, field, kind, amount),
+            Accept(told) => self.accept(alloc, told),
             Read { field } => self.read(field),
             Share { field } => self.tell_shares(field),
             Restart => self.restart(alloc),

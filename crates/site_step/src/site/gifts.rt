@@ -10,7 +10,7 @@ use field_bounds::{
 };
 use kept_records::{Medium, Record};
 use rebalance::spare_amount;
-use std::alloc::AllocError;
+use std::alloc::{AllocError, Global};
 
 impl<M: Medium> Site<M> {
     fn knows(&self, site: SiteNo) -> bool
@@ -148,6 +148,7 @@ impl<M: Medium> Site<M> {
 
     pub(super) fn give(
         &mut self,
+        alloc: Global,
         to: SiteNo,
         field: FieldNo,
         kind: Kind,
@@ -170,7 +171,7 @@ impl<M: Medium> Site<M> {
             kind,
             amount,
         };
-        self.write(command, &record, Reply::Given { total })
+        self.write(alloc, command, &record, Reply::Given { total })
     }
 
     pub(super) fn restate(
@@ -192,6 +193,7 @@ impl<M: Medium> Site<M> {
 
     pub(super) fn spare(
         &mut self,
+        alloc: Global,
         to: SiteNo,
         field: FieldNo,
         kind: Kind,
@@ -215,10 +217,14 @@ impl<M: Medium> Site<M> {
             kind,
             want,
         };
-        self.write(command, &record, Reply::Spared { amount, total })
+        self.write(alloc, command, &record, Reply::Spared { amount, total })
     }
 
-    pub(super) fn accept(&mut self, told: Statement) -> Result<Reply, AllocError>
+    pub(super) fn accept(
+        &mut self,
+        alloc: Global,
+        told: Statement,
+    ) -> Result<Reply, AllocError>
         requires unrefused { first (refusals (here self.old) (Command.Accept told)) ≡ None }
         ensures ok { IfOk result (λ reply. Applies self.old (Command.Accept told) reply self.new) }
         ensures err { OnErr result (self.new ≡ self.old) }
@@ -234,6 +240,6 @@ impl<M: Medium> Site<M> {
             kind: told.kind,
             total: told.total,
         };
-        self.write(command, &record, Reply::Accepted { gain })
+        self.write(alloc, command, &record, Reply::Accepted { gain })
     }
 }

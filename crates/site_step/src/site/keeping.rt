@@ -1,6 +1,12 @@
 //! What a command that isn't refused does to the site and to its medium.
 
-ghost use Rattle.std.specs.Prelude.{◌≡◌, true, false, None, Some, OnErr, IfOk};
+ghost use Rattle.std.specs.Prelude.{◌≡◌, ℕ, List, true, false, None, Some, OnErr, IfOk};
+ghost use Rattle.std.specs.List.{AllByRecursion};
+ghost use Rattle.kept_records.specs.declared.record.Record.{Record};
+ghost use Rattle.kept_records.specs.Text.{IsRecord};
+ghost use Rattle.kept_records.specs.Logs.{IsLog};
+ghost use Rattle.kept_records.specs.Keeping.{with_due};
+ghost use Rattle.kept_records.specs.Stands.{piece};
 ghost use Rattle.field_bounds.specs.Owed.{first, refusals, answer, writes};
 ghost use Rattle.kept_state.specs.Keeps.{record_at};
 ghost use Rattle.site_step.specs.Site.{here, Applies};
@@ -8,7 +14,8 @@ ghost use Rattle.site_step.specs.State.{is_carried};
 
 use super::Site;
 use field_bounds::{Command, Entry, Escrow, FieldNo, Kind, Refusal, Reply, TxnId};
-use kept_records::{Escrows, Medium, Record, append_record};
+use crate::extent::due_behind;
+use kept_records::{Escrows, Medium, Record, Summary, append_piece};
 use std::alloc::{AllocError, Global};
 
 impl<M: Medium> Site<M> {
@@ -47,9 +54,34 @@ impl<M: Medium> Site<M> {
         Ok(reply)
     }
 
-    /// Carries out this record of a command, once it stands whole, and adds the command's entry.
+    /// The summary that is due behind the record of a command, where one is.
+    fn due(
+        &self,
+        alloc: Global,
+        command: Command,
+        kept: &Record,
+    ) -> Result<Option<Summary>, AllocError>
+        requires unrefused { first (refusals (here self.now) command) ≡ None }
+        requires told { writes (here self.now) command ≡ true }
+        requires kept { kept.now ≡ record_at (here self.now) command }
+        ensures due { IfOk result (λ due. (rs : List Record) (rest : List ℕ) → IsLog self.now.bytes rs rest →
+            with_due kept.now due ≡ piece self.now.schema self.now.site.0 rs kept.now) }
+        ensures ranges { IfOk result (λ due. AllByRecursion IsRecord (with_due kept.now due)) }
+    {
+        due_behind(
+            alloc,
+            &self.schema,
+            &self.accounts.standing,
+            self.extent.behind,
+            kept,
+        )
+    }
+
+    /// Carries out this record of a command, once it stands whole, and adds the command's entry. The
+    /// summary that is due behind the record is appended with it.
     pub(super) fn write(
         &mut self,
+        alloc: Global,
         command: Command,
         kept: &Record,
         reply: Reply,
@@ -62,7 +94,8 @@ impl<M: Medium> Site<M> {
         ensures err { OnErr result (self.new ≡ self.old) }
     {
         self.history.reserve(1)?;
-        match append_record(&mut self.line, &mut self.medium, kept)? {
+        let due = self.due(alloc, command, kept)?;
+        match append_piece(&mut self.line, &mut self.medium, kept, due)? {
             Ok(()) => {
                 self.accounts.carry_out(&self.schema, kept);
                 self.extent.extend(self.line.len());
@@ -144,7 +177,7 @@ impl<M: Medium> Site<M> {
         }
         let escrows = Escrows::new(Vec::from_slice(alloc, escrows)?);
         let kept = Record::Commit { txn, escrows };
-        self.write(command, &kept, Reply::Committed)
+        self.write(alloc, command, &kept, Reply::Committed)
     }
 
     pub(super) fn read(&mut self, field: FieldNo) -> Result<Reply, AllocError>

@@ -8,7 +8,7 @@ ghost use Rattle.site_step.specs.Opening.{TellsLine, SparesLogs, FailsUnder, IsF
 
 use crate::extent::Extent;
 use field_bounds::{Schema, SiteNo};
-use kept_records::{Medium, MediumFault, Record, read_front};
+use kept_records::{Medium, MediumFault, Record, count_plain, read_front};
 use log_replay::{Replayed, Standing, replay};
 use std::alloc::{AllocError, Global};
 use thiserror::Error;
@@ -103,8 +103,9 @@ fn find(alloc: Global, schema: &Schema, site: SiteNo, bytes: &[u8]) -> Result<Fo
     Ok(Found {
         fresh: bytes.is_empty(),
         extent: Extent {
-            count: front.records.len(),
+            count: count_plain(&front.records),
             length: front.length,
+            behind: 0,
         },
         records: front.records,
         standing,

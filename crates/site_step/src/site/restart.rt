@@ -2,93 +2,109 @@
 
 ghost use Rattle.std.specs.Prelude.{◌≡◌, ◌<◌, ◌≤◌, [], List, ℕ, length, Some, OnErr, IfOk};
 ghost use Rattle.field_bounds.specs.Owed.{max_epoch};
+ghost use Rattle.field_bounds.specs.Limits.{IsSchema};
 ghost use Rattle.kept_records.specs.declared.medium.Mishap.TheVariants.{Read};
 ghost use Rattle.field_bounds.specs.declared.entry.Command.TheVariants as commands;
 ghost use Rattle.kept_records.specs.declared.record.Record.{Record};
 ghost use Rattle.kept_records.specs.Logs.{IsLog};
 ghost use Rattle.kept_records.specs.ReadingBack.{PartsAt, StandBehind, IsWhole};
 ghost use Rattle.site_step.specs.Site.{Applies};
-ghost use Rattle.site_step.specs.Resuming.{IsLawfulLog, ResumesOver, ResumesAs, last_by};
+ghost use Rattle.site_step.specs.Resuming.{IsLawfulLog, IsReplayed, ResumesOver, ResumesAs, last_by};
 
 use super::Site;
-use crate::extent::Extent;
+use crate::extent::{Extent, behind_next, due_behind};
 use field_bounds::{Command, Entry, Last, MAX_EPOCH, Refusal, Reply, Schema, SiteNo};
 use kept_records::{
-    Medium, MediumFault, ReadBack, Record, append_restart, read_back, stands_behind,
+    Medium, MediumFault, ReadBack, Record, append_restart_piece, count_plain, read_back, stands_behind,
 };
-use log_replay::{Replayed, Standing, replay};
+use log_replay::{Resumed as Replay, Standing, resume as replay_end};
 use std::alloc::{AllocError, Global};
 
 /// How a restart went.
 #[derive(Drop)]
 enum Resumed {
-    /// The device failed.
-    Failed,
+    /// The device failed. Where it was an append or a cut, so many records were replayed before.
+    Failed {
+        turns: Option<u64>,
+    },
     /// The last epoch is used up.
     NumbersFull,
     /// The records that stood behind the place that was looked at, what all of them stand for, the
-    /// epoch of the record that was added, and the length in bytes of all with it.
+    /// epoch of the record that was added, how many were replayed, and the length in bytes of all with
+    /// the added lines.
     Standing {
         behind: Vec<Record>,
         standing: Standing,
         epoch: u32,
+        turns: u64,
         length: usize,
     },
 }
 
-/// Cuts a torn end and adds the record of a restart in the next epoch.
+/// Cuts a torn end and adds the record of a restart in the next epoch, with the summary that is due.
 fn add_restart<M: Medium>(
+    alloc: Global,
+    schema: &Schema,
     line: &mut Vec<u8>,
     medium: &mut M,
     log: ReadBack,
-    standing: Standing,
+    replay: Replay,
 ) -> Result<Resumed, AllocError>
     requires whole { IsWhole (M.bytes medium.old) log.whole }
     requires present { log.present ≡ length (M.bytes medium.old) }
     requires within { log.whole ≤ log.present }
-    requires below { standing.epoch < max_epoch }
+    requires replayed { (s : ℕ) × (rs : List Record) × (rest : List ℕ) × IsReplayed schema.now s rs rest replay.standing replay.turns (M.bytes medium.old) }
+    requires below { replay.standing.epoch < max_epoch }
     requires read { M.foretold medium.old ≡ Some Read → ⊥ }
-    ensures resumes { IfOk result (λ resumed. ResumesAs standing log.behind.items resumed (M.bytes medium.old) (M.bytes medium.new) (M.foretold medium.old) (M.foretold medium.new) (M.failed medium.old) (M.failed medium.new)) }
+    ensures resumes { IfOk result (λ resumed. ResumesAs schema.now replay.standing replay.turns log.behind.items resumed (M.bytes medium.old) (M.bytes medium.new) (M.foretold medium.old) (M.foretold medium.new) (M.failed medium.old) (M.failed medium.new)) }
     ensures bytes { OnErr result (M.bytes medium.new ≡ M.bytes medium.old) }
     ensures failed { OnErr result (M.failed medium.new ≡ M.failed medium.old) }
     ensures foretold { OnErr result (M.foretold medium.new ≡ M.foretold medium.old) }
 {
-    let epoch = standing.epoch + 1;
-    match append_restart(line, medium, log.whole, log.present, epoch)? {
+    let epoch = replay.standing.epoch + 1;
+    let next = Record::Restart { epoch };
+    let due = due_behind(alloc, schema, &replay.standing, replay.turns, &next)?;
+    match append_restart_piece(line, medium, log.whole, log.present, epoch, due)? {
         Ok(()) => Ok(Resumed::Standing {
             behind: log.behind,
-            standing,
+            standing: replay.standing,
             epoch,
+            turns: replay.turns,
             length: log.whole.saturating_add(line.len()),
         }),
-        Err(_) => Ok(Resumed::Failed),
+        Err(_) => Ok(Resumed::Failed {
+            turns: Some(replay.turns),
+        }),
     }
 }
 
-/// Adds the record of a restart behind the log that was read, where an epoch is left.
+/// Adds the record of a restart behind the log that was replayed, where an epoch is left.
 fn resume_over<M: Medium>(
+    alloc: Global,
+    schema: &Schema,
     line: &mut Vec<u8>,
     medium: &mut M,
     log: ReadBack,
-    standing: Standing,
+    replay: Replay,
 ) -> Result<Resumed, AllocError>
     requires whole { IsWhole (M.bytes medium.old) log.whole }
     requires present { log.present ≡ length (M.bytes medium.old) }
     requires within { log.whole ≤ log.present }
+    requires replayed { (s : ℕ) × (rs : List Record) × (rest : List ℕ) × IsReplayed schema.now s rs rest replay.standing replay.turns (M.bytes medium.old) }
     requires read { M.foretold medium.old ≡ Some Read → ⊥ }
-    ensures resumes { IfOk result (λ resumed. ResumesAs standing log.behind.items resumed (M.bytes medium.old) (M.bytes medium.new) (M.foretold medium.old) (M.foretold medium.new) (M.failed medium.old) (M.failed medium.new)) }
+    ensures resumes { IfOk result (λ resumed. ResumesAs schema.now replay.standing replay.turns log.behind.items resumed (M.bytes medium.old) (M.bytes medium.new) (M.foretold medium.old) (M.foretold medium.new) (M.failed medium.old) (M.failed medium.new)) }
     ensures bytes { OnErr result (M.bytes medium.new ≡ M.bytes medium.old) }
     ensures failed { OnErr result (M.failed medium.new ≡ M.failed medium.old) }
     ensures foretold { OnErr result (M.foretold medium.new ≡ M.foretold medium.old) }
 {
-    if standing.epoch >= MAX_EPOCH {
+    if replay.standing.epoch >= MAX_EPOCH {
         return Ok(Resumed::NumbersFull);
     }
-    add_restart(line, medium, log, standing)
+    add_restart(alloc, schema, line, medium, log, replay)
 }
 
-/// Reads the medium, cuts a torn end and adds the record of a restart. The records of its log before
-/// the place are known.
+/// Reads the medium, replays the records behind the last summary, cuts a torn end and adds the record
+/// of a restart. The records of its log before the place are known.
 fn resume<M: Medium>(
     alloc: Global,
     schema: &Schema,
@@ -98,6 +114,7 @@ fn resume<M: Medium>(
     medium: &mut M,
 ) -> Result<Resumed, AllocError>
     requires site_in { site.0 < schema.now.sites }
+    requires limits { IsSchema schema.now }
     requires log { IsLawfulLog schema.now site.0 (M.bytes medium.old) }
     requires place { PartsAt (M.bytes medium.old) place }
     ensures resumes { IfOk result (λ resumed. (rs : List Record) (rest : List ℕ) → IsLog (M.bytes medium.old) rs rest →
@@ -108,14 +125,11 @@ fn resume<M: Medium>(
 {
     let log = match read_back(alloc, medium, place) {
         Ok(log) => log,
-        Err(MediumFault::Device) => return Ok(Resumed::Failed),
+        Err(MediumFault::Device) => return Ok(Resumed::Failed { turns: None }),
         Err(MediumFault::NoMemory) => return Err(AllocError),
     };
-    let standing = match replay(alloc, schema, site, &log.records)? {
-        Replayed::Standing(standing) => standing,
-        Replayed::BreaksRule { number: _ } => unreachable!(),
-    };
-    resume_over(line, medium, log, standing)
+    let replay = replay_end(alloc, schema, site, &log.records)?;
+    resume_over(alloc, schema, line, medium, log, replay)
 }
 
 /// What became of the record in doubt, where one is, by the records behind its place.
@@ -148,8 +162,9 @@ impl<M: Medium> Site<M> {
             &mut self.line,
             &mut self.medium,
         )? {
-            Resumed::Failed => {
+            Resumed::Failed { turns } => {
                 self.up = false;
+                self.replayed = turns.unwrap_or(self.replayed);
                 self.history.push_reserved(Entry {
                     site: self.number,
                     command: Command::Restart,
@@ -170,16 +185,19 @@ impl<M: Medium> Site<M> {
                 behind,
                 standing,
                 epoch,
+                turns,
                 length,
             } => {
                 let last = last_of(self.doubt, &behind);
                 self.accounts.stand_on(&self.schema, standing, epoch);
                 self.up = true;
                 self.extent = Extent {
-                    count: self.extent.count + behind.len() + 1,
+                    count: self.extent.count + count_plain(&behind) + 1,
                     length,
+                    behind: behind_next(turns),
                 };
                 self.doubt = None;
+                self.replayed = turns;
                 let reply = Reply::Restarted { epoch, last };
                 self.history.push_reserved(Entry {
                     site: self.number,

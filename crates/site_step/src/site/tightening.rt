@@ -7,7 +7,7 @@ ghost use Rattle.site_step.specs.Site.{here, base_of, Applies};
 use super::Site;
 use field_bounds::{Command, FieldNo, Kind, MAX_CHANGE, Refusal, Reply, refuse_first};
 use kept_records::{Medium, Record};
-use std::alloc::AllocError;
+use std::alloc::{AllocError, Global};
 
 impl<M: Medium> Site<M> {
     /// What the site has given up so far of a kind on the field.
@@ -34,6 +34,7 @@ impl<M: Medium> Site<M> {
 
     pub(super) fn tighten(
         &mut self,
+        alloc: Global,
         field: FieldNo,
         kind: Kind,
         amount: u64,
@@ -49,6 +50,6 @@ impl<M: Medium> Site<M> {
             kind,
             amount,
         };
-        self.write(command, &record, Reply::Tightened { total })
+        self.write(alloc, command, &record, Reply::Tightened { total })
     }
 }
