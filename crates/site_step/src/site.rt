@@ -11,6 +11,7 @@ ghost use Rattle.site_step.specs.Replaying.{downs_before};
 ghost use Rattle.site_step.specs.Opening.{TellsLine, SparesLogs, FailsUnder, failed_at, foretold_at};
 
 mod gifts;
+mod identity;
 mod keeping;
 mod ladder;
 mod opening;

@@ -1,0 +1,28 @@
+//! Which site a site is, and on which base it stands.
+
+ghost use Rattle.std.specs.Prelude.{◌≡◌, ◌↔◌, IsTrue};
+ghost use Rattle.field_bounds.specs.Effects.{fresh};
+ghost use Rattle.site_step.specs.Site.{base_of};
+
+use super::Site;
+use field_bounds::{Schema, SiteNo};
+use kept_records::Medium;
+
+impl<M: Medium> Site<M> {
+    /// Whether the site has this number, and its schema equals this one. Costs a look at each field,
+    /// and no memory.
+    pub fn is_of(&self, schema: &Schema, number: SiteNo) -> bool
+        ensures own { IsTrue result ↔ ((self.now.schema ≡ schema.now) × (self.now.site ≡ number)) }
+    {
+        self.schema == *schema && self.number == number
+    }
+
+    /// Whether the site's history stands on its fresh base: the medium was empty when the site was
+    /// opened. Costs no memory.
+    pub fn on_fresh_base(&self) -> bool
+        ensures value { result ≡ self.now.fresh }
+        ensures base { IsTrue result ↔ (base_of self.now ≡ fresh self.now.schema self.now.site.0) }
+    {
+        self.fresh
+    }
+}
