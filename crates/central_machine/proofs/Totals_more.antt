@@ -16,7 +16,6 @@ use Rattle.central_machine.specs.declared.site_totals.SiteTotals.{SiteTotals}
 use Rattle.central_machine.specs.declared.totals.Totals.{Totals}
 use Rattle.central_machine.specs.Amounts.{amount}
 use Rattle.field_bounds.specs.Effects.{Base}
-use Rattle.central_machine.specs.Issued.{AreIssued}
 use Rattle.central_rules.specs.Verdict.{broken, verdict_back}
 use Rattle.central_machine.specs.Running.{IsSite, AreTotals, NumbersAfter, effect_by, doubt_after}
 use Rattle.central_rules.proofs.Verdicts.{legal_is_sound}
@@ -49,8 +48,8 @@ legal_next schema e t legal good = rw (legal, good) refl
 
 pub totals_more : (schema : SchemaValue) → IsSchema schema → (e : Entry) (t : List Entry) → length t < 230584300921369395 → verdict_back schema t ≡ Legal → broken schema t e ≡ None
     → (before after : Totals) (x y : SiteTotals) → slice_get before.sites.items e.site.0 ≡ Some x → after.sites.items ≡ set before.sites.items e.site.0 y
-    → AreIssued (e ∷ t) after.issued.keys.keys → AreTotals schema t before → GoesOn e x y → AreTotals schema (e ∷ t) after
-totals_more schema good e t few legal unbroken before after x y there put issued is took =
+    → AreTotals schema t before → GoesOn e x y → AreTotals schema (e ∷ t) after
+totals_more schema good e t few legal unbroken before after x y there put is took =
     let sound = (legal_is_sound schema (e ∷ t) (legal_next schema e t legal unbroken)).0 in
     record {
       count = ap length put ∙ set_long before.sites.items e.site.0 y ∙ is.count;
@@ -65,5 +64,4 @@ totals_more schema good e t few legal unbroken before after x y there put issued
                 let old = sym (set_there before.sites.items e.site.0 s y apart) ∙ got in
                 subst (λ o. IsSite schema s o z) (sym (own_there s e t (λ eq. apart (sym eq)))) (is.sites s z old)
           ];
-      issued = issued;
     }

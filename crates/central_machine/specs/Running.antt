@@ -20,6 +20,7 @@ use Rattle.field_bounds.specs.Central.{own}
 use Rattle.central_machine.specs.declared.numbers.Numbers.{Numbers}
 use Rattle.central_machine.specs.declared.site_totals.SiteTotals.{SiteTotals}
 use Rattle.central_machine.specs.declared.totals.Totals.{Totals}
+use Rattle.central_machine.specs.declared.running.Running.{Running}
 use Rattle.central_machine.specs.Amounts.{amount, has_place, IsPut, capped}
 use Rattle.central_machine.specs.Issued.{AreIssued}
 use Rattle.central_machine.specs.Open.{txns_of, has_row, escrows_at, IsOpened, IsAdded, IsClosed}
@@ -236,8 +237,12 @@ pub record IsSite (schema : SchemaValue) (s : ℕ) (o : List Entry) (x : SiteTot
 abbrev pub TellsOf : SchemaValue → ℕ → SiteTotals → Place → Type 0
 TellsOf schema s x at = (o : List Entry) × IsSite schema s o x × (at ≡ place schema s (fresh schema s) o)
 
--- The totals are those of a front.
+-- The totals of all sites are those of a front.
 pub record AreTotals (schema : SchemaValue) (t : List Entry) (x : Totals) : Type 0 where
   pub count : length x.sites.items ≡ schema.sites
   pub sites : (s : ℕ) (y : SiteTotals) → slice_get x.sites.items s ≡ Some y → IsSite schema s (own s t) y
+
+-- And so are the statements issued.
+pub record AreRunning (schema : SchemaValue) (t : List Entry) (x : Running) : Type 0 where
+  pub totals : AreTotals schema t x.totals
   pub issued : AreIssued t x.issued.keys.keys

@@ -3,7 +3,7 @@
 ghost use Rattle.std.specs.Prelude.{◌≡◌, ◌+◌, ◌≤◌, ℕ, IfOk, length, slice_get, is_some, if◌then◌else◌};
 ghost use Rattle.central_rules.specs.Verdict.{verdict_of, read_for};
 
-use crate::totals::Totals;
+use crate::running::Running;
 use central_rules::Verdict;
 use field_bounds::{Entry, Schema};
 use std::alloc::{AllocError, Global};
@@ -51,7 +51,7 @@ pub fn judge_counted(
     ensures count { IfOk result (λ r. r.1 ≡ read_for r.0 (length entries.now)) }
 {
     let _few = length_of(entries);
-    let mut totals = Totals::new(alloc, schema)?;
+    let mut totals = Running::new(alloc, schema)?;
     let mut reader = Reader { entries, read: 0 };
     while let Some(entry) = reader.next() {
         if let Some(rule) = totals.take_in(alloc, schema, entry)? {

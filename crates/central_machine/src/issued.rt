@@ -2,10 +2,10 @@
 
 ghost use Rattle.std.specs.Prelude.{◌≡◌, List, ◌∷◌, [], OnOk, IfOk};
 ghost use Rattle.field_bounds.specs.declared.entry.Entry.{Entry};
-ghost use Rattle.central_rules.specs.Verdict.{is_issued};
+ghost use Rattle.central_rules.specs.Verdict.{is_issued, statement_test};
 ghost use Rattle.central_machine.specs.Issued.{key_of, AreIssued};
 
-use field_bounds::{Entry, Kind, Statement, statement_of};
+use field_bounds::{Command, Entry, Kind, Reply, Statement, statement_of};
 use std::alloc::{AllocError, Global};
 use std::collections::HashSet;
 
@@ -47,10 +47,20 @@ impl Issued {
     }
 
     /// Whether the statement was issued. Costs one look-up.
-    pub fn has(&self, told: Statement) -> bool
+    fn has(&self, told: Statement) -> bool
         ensures { (t : List Entry) → AreIssued t self.now.keys.keys → result ≡ is_issued told t }
     {
         self.keys.contains(&key_of(told))
+    }
+
+    /// Whether an entry takes in no statement, or one that was issued. Costs at most one look-up.
+    pub fn holds(&self, entry: Entry) -> bool
+        ensures { (t : List Entry) → AreIssued t self.now.keys.keys → result ≡ statement_test t entry.command entry.reply }
+    {
+        match (entry.command, entry.reply) {
+            (Command::Accept(told), Reply::Accepted { .. } | Reply::Unsure) => self.has(told),
+            _ => true,
+        }
     }
 
     /// Takes in what an entry issues.

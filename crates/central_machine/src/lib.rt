@@ -12,6 +12,7 @@ mod journal;
 mod numbers;
 mod owed;
 mod parts;
+mod running;
 mod site_totals;
 mod totals;
 

@@ -9,11 +9,11 @@ ghost use Rattle.field_bounds.specs.Central.{at_site, committed, open_sizes, sha
 ghost use Rattle.central_rules.specs.declared.verdict.Verdict.TheVariants.{Legal};
 ghost use Rattle.central_rules.specs.declared.verdict.Rule.TheVariants.{Site, Grant, Shortage, Interval, Statement as Told, Reply as Owed};
 ghost use Rattle.central_rules.specs.Verdict.{broken, verdict_back, within_bound, test_of, true_share};
+ghost use Rattle.central_machine.specs.Parts.{field_broken};
 ghost use Rattle.central_machine.specs.Running.{AreTotals, IsSite};
 ghost use Rattle.central_rules.specs.Replies.{reply_test};
 ghost use Rattle.field_bounds.specs.Owed.{place};
 
-use crate::issued::Issued;
 use crate::numbers::place_at;
 use crate::owed::RunningSite;
 use crate::site_totals::SiteTotals;
@@ -21,11 +21,10 @@ use central_rules::{Bounds, Rule, bounds_of, fits, has, lies_between};
 use field_bounds::{Command, Entry, FieldNo, Kind, Refusal, Reply, Schema, SiteNo};
 use std::alloc::{AllocError, Global};
 
-/// The totals of a front: those of each site, and the statements issued.
+/// The totals of all sites over a front.
 #[derive(Drop)]
 pub struct Totals {
     pub sites: Vec<SiteTotals>,
-    pub issued: Issued,
 }
 
 /// Bounds with the floor as the value.
@@ -60,10 +59,7 @@ impl Totals {
         for site in 0..schema.sites() {
             sites.push(SiteTotals::new(alloc, schema, SiteNo(site))?)?;
         }
-        Ok(Totals {
-            sites,
-            issued: Issued::new(alloc),
-        })
+        Ok(Totals { sites })
     }
 
     fn free_at(&self, schema: &Schema, site: u16, field: FieldNo, kind: Kind) -> u64
@@ -217,7 +213,7 @@ impl Totals {
         lies_between(lo, hi, &from_floor, shares + flight + open + cut, 0)
     }
 
-    pub fn grant_holds(&self, schema: &Schema, entry: Entry) -> bool
+    fn grant_holds(&self, schema: &Schema, entry: Entry) -> bool
         ensures { (t : List Entry) → AreTotals schema.now t self.now → verdict_back schema.now t ≡ Legal → result ≡ test_of schema.now t entry Grant }
     {
         match (entry.command, entry.reply) {
@@ -262,7 +258,7 @@ impl Totals {
         told == self.free_at(schema, site.0, field, kind) && told < asked
     }
 
-    pub fn shortage_holds(&self, schema: &Schema, entry: Entry) -> bool
+    fn shortage_holds(&self, schema: &Schema, entry: Entry) -> bool
         requires site_in { entry.site.0 < schema.now.sites }
         ensures { (t : List Entry) → AreTotals schema.now t self.now → result ≡ test_of schema.now t entry Shortage }
     {
@@ -307,7 +303,7 @@ impl Totals {
         }
     }
 
-    pub fn interval_holds(&self, schema: &Schema, entry: Entry) -> bool
+    fn interval_holds(&self, schema: &Schema, entry: Entry) -> bool
         ensures { (t : List Entry) → AreTotals schema.now t self.now → verdict_back schema.now t ≡ Legal → result ≡ test_of schema.now t entry Interval }
     {
         match (entry.command, entry.reply) {
@@ -321,19 +317,7 @@ impl Totals {
         }
     }
 
-    fn statement_holds(&self, schema: &Schema, entry: Entry) -> bool
-        ensures { (t : List Entry) → AreTotals schema.now t self.now → result ≡ test_of schema.now t entry Told }
-    {
-        let _sites = schema.sites();
-        match (entry.command, entry.reply) {
-            (Command::Accept(told), Reply::Accepted { .. } | Reply::Unsure) => self
-                .issued
-                .has(told),
-            _ => true,
-        }
-    }
-
-    fn reply_holds(&self, schema: &Schema, entry: Entry) -> bool
+    pub fn reply_holds(&self, schema: &Schema, entry: Entry) -> bool
         requires site_in { entry.site.0 < schema.now.sites }
         ensures { (t : List Entry) → AreTotals schema.now t self.now → result ≡ test_of schema.now t entry Owed }
     {
@@ -343,10 +327,21 @@ impl Totals {
         }
     }
 
-    /// The first rule that the next entry breaks, of a site of the schema.
-    fn named(&self, schema: &Schema, entry: Entry) -> Option<Rule>
+    /// Takes the totals of a front to those of the front with the next entry.
+    pub fn step(&mut self, alloc: Global, schema: &Schema, entry: Entry) -> Result<(), AllocError>
+        ensures { OnOk result ((t : List Entry) → length t < 230584300921369395 → AreTotals schema.now t self.old → verdict_back schema.now t ≡ Legal → broken schema.now t entry ≡ None → AreTotals schema.now (entry ∷ t) self.new) }
+    {
+        let _sites = schema.sites();
+        match self.sites.get_mut(usize::from(entry.site.0)) {
+            Some(site) => site.take_in(alloc, entry),
+            None => Ok(()),
+        }
+    }
+
+    /// The first rule on fields that the next entry breaks: of Grant, Shortage and Interval.
+    pub fn field_broken(&self, schema: &Schema, entry: Entry) -> Option<Rule>
         requires site_in { entry.site.0 < schema.now.sites }
-        ensures { (t : List Entry) → AreTotals schema.now t self.now → verdict_back schema.now t ≡ Legal → result ≡ broken schema.now t entry }
+        ensures { (t : List Entry) → AreTotals schema.now t self.now → verdict_back schema.now t ≡ Legal → result ≡ field_broken schema.now t entry }
     {
         if !self.grant_holds(schema, entry) {
             return Some(Rule::Grant);
@@ -357,54 +352,6 @@ impl Totals {
         if !self.interval_holds(schema, entry) {
             return Some(Rule::Interval);
         }
-        if !self.statement_holds(schema, entry) {
-            return Some(Rule::Statement);
-        }
-        if !self.reply_holds(schema, entry) {
-            return Some(Rule::Reply);
-        }
         None
-    }
-
-    /// The first rule that the next entry breaks. One whose statement was issued and whose reply is owed breaks none.
-    fn broken(&self, schema: &Schema, entry: Entry) -> Option<Rule>
-        ensures { (t : List Entry) → AreTotals schema.now t self.now → verdict_back schema.now t ≡ Legal → result ≡ broken schema.now t entry }
-    {
-        if entry.site.0 >= schema.sites() {
-            return Some(Rule::Site);
-        }
-        if self.statement_holds(schema, entry) && self.reply_holds(schema, entry) {
-            return None;
-        }
-        self.named(schema, entry)
-    }
-
-    /// Takes the totals of a front to those of the front with the next entry.
-    pub fn step(&mut self, alloc: Global, schema: &Schema, entry: Entry) -> Result<(), AllocError>
-        ensures { OnOk result ((t : List Entry) → length t < 230584300921369395 → AreTotals schema.now t self.old → verdict_back schema.now t ≡ Legal → broken schema.now t entry ≡ None → AreTotals schema.now (entry ∷ t) self.new) }
-    {
-        let _sites = schema.sites();
-        self.issued.note(&entry)?;
-        match self.sites.get_mut(usize::from(entry.site.0)) {
-            Some(site) => site.take_in(alloc, entry),
-            None => Ok(()),
-        }
-    }
-
-    /// Judges the next entry, and takes it in where it breaks no rule.
-    pub fn take_in(
-        &mut self,
-        alloc: Global,
-        schema: &Schema,
-        entry: Entry,
-    ) -> Result<Option<Rule>, AllocError>
-        ensures rule { IfOk result (λ rule. (t : List Entry) → AreTotals schema.now t self.old → verdict_back schema.now t ≡ Legal → rule ≡ broken schema.now t entry) }
-        ensures totals { IfOk result (λ rule. (t : List Entry) → length t < 230584300921369395 → AreTotals schema.now t self.old → verdict_back schema.now t ≡ Legal → rule ≡ None → AreTotals schema.now (entry ∷ t) self.new) }
-    {
-        if let Some(rule) = self.broken(schema, entry) {
-            return Ok(Some(rule));
-        }
-        self.step(alloc, schema, entry)?;
-        Ok(None)
     }
 }

@@ -1,7 +1,7 @@
 use Rattle.std.proofs.Common.{◌≡◌, ◌<◌, ◌≤◌, ◌+◌, ◌-◌, List, ◌∷◌, reverse, take, length, refl, sym, subst, ◌∙◌, arith}
 use Rattle.field_bounds.specs.declared.entry.Entry.{Entry}
 use Rattle.central_rules.specs.Verdict.{verdict_back}
-use Rattle.central_machine.specs.Running.{AreTotals}
+use Rattle.central_machine.specs.Running.{AreRunning}
 use Rattle.central_machine.proofs.Reading.{inside, shorter, next, front_is, stops, goes_on, ends, ends_legal}
 use Rattle.central_machine.proofs.counted.judge_counted.Goals as goal
 
@@ -38,7 +38,7 @@ loop-entry-preserved c =
       same = c.next.ensures.entries ∙ was.same;
       within = omega (arith, more, below);
       legal = goes_on c.args.schema.now c.args.entries.now xs was.same i j c.next.result c.next.ensures.value c.next.ensures.read c.in-Some.entry c.in-Some.is was.legal good;
-      totals = subst (λ (t : List Entry). AreTotals c.args.schema.now t c.take_in.new.self) (sym front) (c.in_ok-rule.ensures.totals _ few was.totals was.legal c.in_default-2.is);
+      totals = subst (λ (t : List Entry). AreRunning c.args.schema.now t c.take_in.new.self) (sym front) (c.in_ok-rule.ensures.totals _ few was.totals was.legal c.in_default-2.is);
     }
 
 pub returns-clause-verdict : goal.returns-clause-verdict

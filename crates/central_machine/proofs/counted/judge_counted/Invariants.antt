@@ -1,7 +1,7 @@
 use Rattle.std.proofs.Common.{◌≡◌, ◌≤◌, ◌-◌, reverse, take, length}
 use Rattle.central_rules.specs.declared.verdict.Verdict.TheVariants.{Legal}
 use Rattle.central_rules.specs.Verdict.{verdict_back}
-use Rattle.central_machine.specs.Running.{AreTotals}
+use Rattle.central_machine.specs.Running.{AreRunning}
 use Rattle.central_machine.proofs.counted.judge_counted.Given as goal
 
 abbrev pub invariant-loop-entry : goal.invariant-loop-entry
@@ -9,7 +9,7 @@ invariant-loop-entry l = record {
   same : l.reader.entries.now ≡ l.entries;
   within : l.reader.read ≤ length l.entries;
   legal : verdict_back l.schema (reverse (take l.reader.read l.entries)) ≡ Legal;
-  totals : AreTotals l.schema (reverse (take l.reader.read l.entries)) l.totals;
+  totals : AreRunning l.schema (reverse (take l.reader.read l.entries)) l.totals;
 }
 
 abbrev pub decreases-loop-entry : goal.decreases-loop-entry

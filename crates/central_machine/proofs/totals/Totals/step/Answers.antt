@@ -14,7 +14,7 @@ returns-in-Some c =
     let took = goes_on c.take_in.result c.args.entry c.in-Some.site.now c.take_in.new.self told.numbers told.doubt told.up told.epoch told.begun told.still_down told.unsure in
     let item = c.in-Some.ensures.item in
     let at = found_at c.args.self.now.sites.items c.args.self.now.sites.items c.from.result c.args.entry.site.0 c.in-Some.site.now refl c.from.ensures item.0 item.1 in
-    ok_then c.take_in.result (λ took t few is legal good. totals_more c.args.schema.now c.sites-sites.ensures.limits c.args.entry t few legal good c.args.self.now _ c.in-Some.site.now c.take_in.new.self at (ap (λ (i : ℕ). set c.args.self.now.sites.items i c.take_in.new.self) c.from.ensures) (c.in_ok-note.ensures t is.issued) is took) took
+    ok_then c.take_in.result (λ took t few is legal good. totals_more c.args.schema.now c.sites-sites.ensures.limits c.args.entry t few legal good c.args.self.now _ c.in-Some.site.now c.take_in.new.self at (ap (λ (i : ℕ). set c.args.self.now.sites.items i c.take_in.new.self) c.from.ensures) is took) took
 
 pub returns-in-None : goal.returns-in-None
 returns-in-None c = λ t few is legal good.

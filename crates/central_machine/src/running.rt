@@ -1,0 +1,96 @@
+//! The running totals of a judge that goes over the entries.
+
+ghost use Rattle.std.specs.Prelude.{◌≡◌, ◌<◌, length, List, ◌∷◌, [], OnOk, IfOk, None};
+ghost use Rattle.field_bounds.specs.declared.entry.Entry.{Entry};
+ghost use Rattle.central_rules.specs.declared.verdict.Verdict.TheVariants.{Legal};
+ghost use Rattle.central_rules.specs.declared.verdict.Rule.TheVariants.{Statement as Told};
+ghost use Rattle.central_rules.specs.Verdict.{broken, verdict_back, test_of};
+ghost use Rattle.central_machine.specs.Running.{AreRunning};
+
+use crate::issued::Issued;
+use crate::totals::Totals;
+use central_rules::Rule;
+use field_bounds::{Entry, Schema};
+use std::alloc::{AllocError, Global};
+
+/// The totals of a front: those of all sites, and the statements issued.
+#[derive(Drop)]
+pub struct Running {
+    pub totals: Totals,
+    pub issued: Issued,
+}
+
+impl Running {
+    /// The totals of no entries.
+    pub fn new(alloc: Global, schema: &Schema) -> Result<Running, AllocError>
+        ensures { IfOk result (λ made. AreRunning schema.now [] made) }
+    {
+        Ok(Running {
+            totals: Totals::new(alloc, schema)?,
+            issued: Issued::new(alloc),
+        })
+    }
+
+    fn statement_holds(&self, schema: &Schema, entry: Entry) -> bool
+        ensures { (t : List Entry) → AreRunning schema.now t self.now → result ≡ test_of schema.now t entry Told }
+    {
+        let _sites = schema.sites();
+        self.issued.holds(entry)
+    }
+
+    /// The first rule that the next entry breaks, of a site of the schema.
+    fn named(&self, schema: &Schema, entry: Entry) -> Option<Rule>
+        requires site_in { entry.site.0 < schema.now.sites }
+        ensures { (t : List Entry) → AreRunning schema.now t self.now → verdict_back schema.now t ≡ Legal → result ≡ broken schema.now t entry }
+    {
+        if let Some(rule) = self.totals.field_broken(schema, entry) {
+            return Some(rule);
+        }
+        if !self.statement_holds(schema, entry) {
+            return Some(Rule::Statement);
+        }
+        if !self.totals.reply_holds(schema, entry) {
+            return Some(Rule::Reply);
+        }
+        None
+    }
+
+    /// The first rule that the next entry breaks. One whose statement was issued and whose reply is owed breaks none.
+    fn broken(&self, schema: &Schema, entry: Entry) -> Option<Rule>
+        ensures { (t : List Entry) → AreRunning schema.now t self.now → verdict_back schema.now t ≡ Legal → result ≡ broken schema.now t entry }
+    {
+        if entry.site.0 >= schema.sites() {
+            return Some(Rule::Site);
+        }
+        if self.statement_holds(schema, entry) && self.totals.reply_holds(schema, entry) {
+            return None;
+        }
+        self.named(schema, entry)
+    }
+
+    /// Takes the totals of a front to those of the front with the next entry.
+    fn step(&mut self, alloc: Global, schema: &Schema, entry: Entry) -> Result<(), AllocError>
+        ensures { OnOk result ((t : List Entry) → length t < 230584300921369395 → AreRunning schema.now t self.old → verdict_back schema.now t ≡ Legal → broken schema.now t entry ≡ None → AreRunning schema.now (entry ∷ t) self.new) }
+    {
+        let _sites = schema.sites();
+        self.issued.note(&entry)?;
+        self.totals.step(alloc, schema, entry)
+    }
+
+    /// Judges the next entry, and takes it in where it breaks no rule.
+    pub fn take_in(
+        &mut self,
+        alloc: Global,
+        schema: &Schema,
+        entry: Entry,
+    ) -> Result<Option<Rule>, AllocError>
+        ensures rule { IfOk result (λ rule. (t : List Entry) → AreRunning schema.now t self.old → verdict_back schema.now t ≡ Legal → rule ≡ broken schema.now t entry) }
+        ensures totals { IfOk result (λ rule. (t : List Entry) → length t < 230584300921369395 → AreRunning schema.now t self.old → verdict_back schema.now t ≡ Legal → rule ≡ None → AreRunning schema.now (entry ∷ t) self.new) }
+    {
+        if let Some(rule) = self.broken(schema, entry) {
+            return Ok(Some(rule));
+        }
+        self.step(alloc, schema, entry)?;
+        Ok(None)
+    }
+}
