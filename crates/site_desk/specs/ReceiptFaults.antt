@@ -1,0 +1,24 @@
+-- What a fault of receipts tells: they are tested in order.
+use Rattle.std.specs.Prelude.{◌≡◌, ℕ, ◌<◌, ◌≤◌, List, length, take, Some}
+use Rattle.std.specs.List.{slice_get}
+use Rattle.field_bounds.specs.declared.id.SiteNo.{SiteNo}
+use Rattle.field_bounds.specs.declared.entry.Entry.{Entry}
+use Rattle.site_desk.specs.declared.kept.Receipt.{Receipt}
+use Rattle.site_desk.specs.declared.receipts.ReceiptFault.{ReceiptFault}
+use Rattle.site_desk.specs.declared.receipts.ReceiptFault.TheVariants.{Differs, Twice, Missing, NoMemory}
+use Rattle.site_desk.specs.Receipts.{StandsAt, AllStandAt, HasNumber, AreDistinct}
+
+-- The receipt at place i, before which all stand, each once.
+pub record IsReachedAt (site : SiteNo) (h : List Entry) (rs : List Receipt) (i : ℕ) (r : Receipt) : Type 0 where
+  pub at : slice_get rs i ≡ Some r
+  pub stand : AllStandAt site h (take i rs)
+  pub once : AreDistinct (take i rs)
+
+abbrev pub TellsReceipts : SiteNo → List Entry → List Receipt → ReceiptFault → Type 0
+TellsReceipts site h rs (Differs s n) =
+    (i : ℕ) × (r : Receipt) × IsReachedAt site h rs i r × (r.site ≡ s) × (r.number ≡ n) × ¬ StandsAt site h r
+TellsReceipts site h rs (Twice s n) =
+    (i : ℕ) × (r : Receipt) × IsReachedAt site h rs i r × (r.site ≡ s) × (r.number ≡ n) × StandsAt site h r × HasNumber (take i rs) n
+TellsReceipts site h rs (Missing s n) =
+    (s ≡ site) × (0 < n) × (n ≤ length h) × ¬ HasNumber rs n × ((m : ℕ) → 0 < m → m < n → HasNumber rs m)
+TellsReceipts site h rs NoMemory = Unit {0}
