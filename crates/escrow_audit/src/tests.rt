@@ -199,6 +199,26 @@ fn judges_entries(rt: HostRuntime) -> Result<(), Fail> {
     Ok(())
 }
 
+/// What the program writes in its stored run.
+const STORED: &str = "\
+{\"sites\":1,\"fields\":[{\"name\":\"stock\",\"floor\":0,\"ceiling\":100,\"value\":40}]}
+0 begin -> begun 0.1
+0 escrow 0.1 stock -20 -> granted
+0 read stock -> between 40 40
+0 commit 0.1 -> committed
+0 read stock -> between 20 20
+";
+
+#[test]
+fn judges_the_stored_run(rt: HostRuntime) -> Result<(), Fail> {
+    for fields in [false, true] {
+        let (end, out) = audit(&rt, rt.alloc(), fields, STORED.as_bytes());
+        assert_eq!(rt; end, Ok(AuditEnd::Legal));
+        assert_eq!(rt; str::from_utf8(out.as_slice()), Ok("legal 5\n"));
+    }
+    Ok(())
+}
+
 /// The remarks that a run writes.
 const REMARKS: [&str; 14] = [
     "bad line",
