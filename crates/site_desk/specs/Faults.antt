@@ -1,21 +1,21 @@
--- When a call of a desk fails.
+-- When a call of a desk fails (this project).
 use Rattle.std.specs.Prelude.{◌≡◌, ℕ, ◌<◌}
 use Rattle.site_desk.specs.declared.fault.DeskFault.{DeskFault}
 use Rattle.site_desk.specs.declared.fault.DeskFault.TheVariants.{NoMemory, WentBack, GateTurns}
 
--- the fault of a call with a pass whose last number is `last`, at a history of this length
+-- The fault of a call with a pass whose last number is `last`, at a history of this length
 abbrev pub FailsAt : ℕ → ℕ → DeskFault → Type 0
 FailsAt last found NoMemory = Unit {0}
 FailsAt last found (WentBack len) = (len ≡ found) × (found < last)
 FailsAt last found GateTurns = ⊥
 
--- the same, where the length isn't known
+-- The same, where the length isn't known
 abbrev pub Fails : ℕ → DeskFault → Type 0
 Fails last NoMemory = Unit {0}
 Fails last (WentBack len) = len < last
 Fails last GateTurns = ⊥
 
--- the same of a call with a gate
+-- The same of a call with a gate
 abbrev pub FailsAtGate : ℕ → DeskFault → Type 0
 FailsAtGate last NoMemory = Unit {0}
 FailsAtGate last (WentBack len) = len < last

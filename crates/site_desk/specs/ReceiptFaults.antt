@@ -1,4 +1,4 @@
--- What a fault of receipts tells: they are tested in order.
+-- What a fault of receipts tells (this project). They are tested in the order of the list.
 use Rattle.std.specs.Prelude.{◌≡◌, ℕ, ◌<◌, ◌≤◌, List, length, take, Some}
 use Rattle.std.specs.List.{slice_get}
 use Rattle.field_bounds.specs.declared.id.SiteNo.{SiteNo}
@@ -14,6 +14,8 @@ pub record IsReachedAt (site : SiteNo) (h : List Entry) (rs : List Receipt) (i :
   pub stand : AllStandAt site h (take i rs)
   pub once : AreDistinct (take i rs)
 
+-- Differs names the first receipt that isn't the entry at its place, Twice the first whose place an earlier one has, and
+-- Missing the least place without one.
 abbrev pub TellsReceipts : SiteNo → List Entry → List Receipt → ReceiptFault → Type 0
 TellsReceipts site h rs (Differs s n) =
     (i : ℕ) × (r : Receipt) × IsReachedAt site h rs i r × (r.site ≡ s) × (r.number ≡ n) × ¬ StandsAt site h r

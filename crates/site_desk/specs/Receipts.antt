@@ -1,4 +1,4 @@
--- What a receipt says.
+-- What a receipt says (this project).
 use Rattle.std.specs.Prelude.{◌≡◌, ℕ, ◌+◌, ◌-◌, ◌<◌, ◌⊎◌, List, [], ◌∷◌, length, Some}
 use Rattle.std.specs.List.{slice_get}
 use Rattle.field_bounds.specs.declared.id.SiteNo.{SiteNo}
@@ -29,6 +29,7 @@ pub record StandsAt (site : SiteNo) (h : List Entry) (r : Receipt) : Type 0 wher
   pub some : 0 < r.number
   pub entry : slice_get h (r.number - 1) ≡ Some r.entry
 
+-- Each of the receipts is such an entry.
 abbrev pub AllStandAt : SiteNo → List Entry → List Receipt → Type 0
 AllStandAt site h [] = Unit {0}
 AllStandAt site h (r ∷ rs) = StandsAt site h r × AllStandAt site h rs

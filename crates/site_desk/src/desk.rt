@@ -1,6 +1,6 @@
 //! The lock round a kept site.
 
-ghost use Rattle.std.specs.Prelude.{◌≡◌, ◌+◌, ◌<◌, IfOk, IfErr, OnErr, length, vec_len, true, []};
+ghost use Rattle.std.specs.Prelude.{◌≡◌, ◌+◌, ◌<◌, IfOk, IfErr, OnErr, length, vec_len};
 ghost use Rattle.site_desk.specs.Faults.{Fails, FailsAtGate};
 ghost use Rattle.site_desk.specs.Passes.{AreNew, Settles};
 ghost use Rattle.site_desk.specs.Receipts.{Counts};
@@ -12,10 +12,16 @@ use crate::{DeskFault, Gate, kept};
 use field_bounds::{Command, Schema, SiteNo};
 use kept_records::Medium;
 use site_step::{OpenFault, Site};
-use std::alloc::{AllocError, Global};
+use std::alloc::Global;
+use std::marker::Model;
 use std::sync::ledger::Ledger;
 use std::sync::{Mutex, Wait};
 
+/// One site behind one lock, with its schema and number beside the lock. Its calls are counted by the
+/// ledger that `L` names, so that only the passes made with it serve. Contracts see the schema and the
+/// number.
+///
+/// Source: this project; Balegas and others 2015 for sites that act alone on rights that they hold.
 #[derive(Drop)]
 pub struct Desk<L: Ledger, M: Medium> {
     schema: Schema,
@@ -23,7 +29,18 @@ pub struct Desk<L: Ledger, M: Medium> {
     kept: Mutex<Kept<L, M>>,
 }
 
-/// A desk that wasn't closed, with the passes that were handed in and the length of the history that was found.
+impl<L: Ledger, M: Medium> Model for Desk<L, M> {
+    ghost use Rattle.site_desk.specs.Passes.{DeskSeen};
+
+    ghost Value = { DeskSeen };
+
+    ghost view = { λ d. record { schema = d.schema; site = d.number } };
+}
+
+/// A desk that wasn't closed, with the passes that were handed in and the length of the history that
+/// was found, in entries.
+///
+/// Source: this project.
 #[derive(Drop)]
 pub struct CloseError<L: Ledger, M: Medium> {
     pub desk: Desk<L, M>,
@@ -32,6 +49,12 @@ pub struct CloseError<L: Ledger, M: Medium> {
 }
 
 impl<L: Ledger, M: Medium + Drop> Desk<L, M> {
+    /// Opens the site of this number over the medium and puts it behind a lock. The passes are as many
+    /// as the blank has parts, and no call was made with them. At a fault, which is the site's own,
+    /// the medium is dropped.
+    ///
+    /// The blank is the one that `L` names, and has a part. Costs what opening the site costs, and
+    /// memory for the passes and for two copies of the schema.
     pub fn new(
         alloc: Global,
         blank: Blank,
@@ -39,11 +62,11 @@ impl<L: Ledger, M: Medium + Drop> Desk<L, M> {
         number: SiteNo,
         medium: M,
     ) -> Result<(Desk<L, M>, Vec<Pass<L>>), OpenFault>
-        requires name { blank.ledger.name ≡ L.name }
-        requires parts { blank.ledger.parts ≡ L.parts }
+        requires name { blank.name ≡ L.name }
+        requires parts { blank.parts ≡ L.parts }
         requires some { 0 < blank.parts }
         requires in_schema { number.0 < schema.now.sites }
-        ensures desk { IfOk result (λ r. (r.0.schema ≡ schema.now) × (r.0.number ≡ number)) }
+        ensures desk { IfOk result (λ r. (r.0.schema ≡ schema.now) × (r.0.site ≡ number)) }
         ensures passes { IfOk result (λ r. (vec_len r.1 ≡ blank.parts) × AreNew r.1.items) }
         ensures line { IfErr result (λ fault. TellsLine schema.now number.0 (M.bytes medium) fault) }
         ensures never { IfErr result (λ fault. SparesLogs schema.now number.0 (M.bytes medium) fault) }
@@ -65,13 +88,19 @@ impl<L: Ledger, M: Medium + Drop> Desk<L, M> {
         ))
     }
 
+    /// The site's number. Costs no memory.
     pub fn site(&self) -> SiteNo
-        ensures { result ≡ self.now.number }
+        ensures value { result ≡ self.now.site }
     {
         self.number
     }
 
-    /// Waits for the site's lock alone, and serves the command.
+    /// Waits for the site's lock, and for nothing else, and serves the command. The receipt has the
+    /// command asked and a number above all that the pass has seen, and the pass has one call more.
+    ///
+    /// `NoMemory`: memory is wanting. `WentBack`: the pass has seen an entry beyond the end of the
+    /// history, so never at a first call. After a fault neither site nor pass has changed. `GateTurns`
+    /// never comes. Costs what the site's own step costs.
     pub fn call<R: Wait>(
         &self,
         rt: &R,
@@ -86,7 +115,9 @@ impl<L: Ledger, M: Medium + Drop> Desk<L, M> {
         self.kept.lock(rt).serve(alloc, pass, command)
     }
 
-    /// The same, where the gate lets it.
+    /// The same, where the gate lets the call in: it is asked with the lock held, before the command
+    /// is applied, and told once the call was served and the lock is let go. Where it doesn't,
+    /// `GateTurns`, and nothing has changed.
     pub fn call_at<R: Wait, G: Gate>(
         &self,
         rt: &R,
@@ -110,11 +141,15 @@ impl<L: Ledger, M: Medium + Drop> Desk<L, M> {
         Ok(receipt)
     }
 
-    /// Closes the site where the passes' calls add up to its history and it is the desk's.
+    /// Closes the site: exactly where the calls of the passes handed in add up to the length of its
+    /// history, and it has the schema and the number that the desk was made with. Else the desk and the
+    /// passes come back, with the length found. Costs a look at each pass and each field, and no memory.
     pub fn close(self, passes: Vec<Pass<L>>) -> Result<Closed<M>, CloseError<L, M>>
-        ensures ok { IfOk result (λ closed. Settles self.schema self.number passes.items closed) }
-        ensures back { IfErr result (λ e. (e.passes ≡ passes) × (e.desk.schema ≡ self.schema) × (e.desk.number ≡ self.number)) }
-        ensures err { IfErr result (λ e. (found : SiteValue) × (e.length ≡ length found.history) × ¬ Settles self.schema self.number passes.items found) }
+        ensures ok { IfOk result (λ closed. Settles self.schema self.site passes.items closed) }
+        ensures passes { IfErr result (λ e. e.passes ≡ passes) }
+        ensures desk { IfErr result (λ e. e.desk ≡ self) }
+        ensures found { IfErr result (λ e. (found : SiteValue) × (e.length ≡ length found.history)
+            × ¬ Settles self.schema self.site passes.items found) }
     {
         let Desk {
             schema,

@@ -5,6 +5,7 @@ ghost use Rattle.std.specs.Prelude.{◌≡◌, ◌≢◌, ℕ, ◌+◌, ◌<◌,
 ghost use Rattle.site_desk.specs.Faults.{FailsAt};
 ghost use Rattle.site_desk.specs.Passes.{AreNew, calls_of, Settles};
 ghost use Rattle.site_desk.specs.Receipts.{Counts, Serves};
+ghost use Rattle.field_bounds.specs.Effects.{fresh};
 ghost use Rattle.field_bounds.specs.Owed.{IsRun};
 ghost use Rattle.field_bounds.specs.Central.{AreOf};
 ghost use Rattle.site_step.specs.Site.{base_of};
@@ -18,7 +19,11 @@ use std::marker::Model;
 use std::sync::ledger;
 use std::sync::ledger::{Book, Ledger, Share};
 
-/// A caller's token for one desk.
+/// A caller's token for one desk, which can't be copied: its share in the book of the desk's calls.
+/// Contracts see how many calls were made with it, and the number of the entry that the last one
+/// made, both 0 at first.
+///
+/// Source: this project.
 #[derive(Drop)]
 pub struct Pass<L: Ledger> {
     share: Share<L>,
@@ -37,7 +42,10 @@ impl<L: Ledger> Model for Pass<L> {
     ghost invariant = { λ p. (p.share.parts ≡ 1) × (p.share.amount ≡ p.count) };
 }
 
-/// The entry that a call made, and its place in the history.
+/// The entry that a call made, with its site and its place in the site's history. Only a call that was
+/// served makes one.
+///
+/// Source: this project.
 #[derive(Clone, Copy, PartialEq, Eq, Debug)]
 pub struct Receipt {
     site: SiteNo,
@@ -45,7 +53,12 @@ pub struct Receipt {
     entry: Entry,
 }
 
-/// The locked value: a site, and the book of the calls made on it.
+/// The locked value: a site, and the book of the calls made on it. The book's count is the length of
+/// the history, which is a run of owed replies of the site on its base whenever the lock is got.
+/// Contracts see the site.
+///
+/// Source: O'Neil 1986 for escrows, Balegas and others 2015 for rights that sites hold, this project
+/// for the lock and the book.
 #[derive(Drop)]
 pub struct Kept<L: Ledger, M: Medium> {
     site: Site<M>,
@@ -65,41 +78,66 @@ impl<L: Ledger, M: Medium> Model for Kept<L, M> {
 }
 
 impl<L: Ledger> Pass<L> {
+    /// The calls made with this pass. Costs no memory.
     pub fn count(&self) -> u64
-        ensures { result ≡ self.now.count }
+        ensures value { result ≡ self.now.count }
     {
         self.count
     }
 
+    /// The number of the entry that the last call with this pass made, from 1, and 0 before the first.
+    /// Costs no memory.
     pub fn last(&self) -> u64
-        ensures { result ≡ self.now.last }
+        ensures value { result ≡ self.now.last }
     {
         self.last
     }
 }
 
 impl Receipt {
+    /// The site that was called. Costs no memory.
     pub fn site(&self) -> SiteNo
-        ensures { result ≡ self.now.site }
+        ensures value { result ≡ self.now.site }
     {
         self.site
     }
 
+    /// The entry's place in the site's history, from 1. Costs no memory.
     pub fn number(&self) -> u64
-        ensures { result ≡ self.now.number }
+        ensures value { result ≡ self.now.number }
     {
         self.number
     }
 
+    /// The command that was asked, with the site's reply. Costs no memory.
     pub fn entry(&self) -> Entry
-        ensures { result ≡ self.now.entry }
+        ensures value { result ≡ self.now.entry }
     {
         self.entry
     }
 }
 
 impl<L: Ledger, M: Medium> Kept<L, M> {
-    /// The one call that changes a kept site, raises a pass's count or makes a receipt.
+    /// The commands answered so far with their replies, the oldest first: a run of owed replies on
+    /// the site's base, each entry of this site. Costs no memory.
+    pub fn history(&self) -> &[Entry]
+        ensures value { reverse result.now ≡ self.now.history }
+        ensures run { IsRun self.now.schema self.now.site.0 (base_of self.now) self.now.history }
+        ensures own { AreOf self.now.site.0 self.now.history }
+    {
+        self.site.history()
+    }
+
+    /// Answers a command. It is the one call that changes a kept site, raises a pass's count or makes
+    /// a receipt. The history is the one before and one entry, the command with the site's reply, and
+    /// the receipt is that entry (`site`). The pass has one call more, and has seen that entry
+    /// (`pass`).
+    ///
+    /// `NoMemory`: memory is wanting. `WentBack`: the pass has seen an entry beyond the end of the
+    /// history, whose length is told. After a fault neither site nor pass has changed. `GateTurns`
+    /// never comes.
+    ///
+    /// Costs what the site's own step costs.
     pub fn serve(
         &mut self,
         alloc: Global,
@@ -133,17 +171,29 @@ impl<L: Ledger, M: Medium> Kept<L, M> {
     }
 }
 
-/// A new ledger of calls, which no type stands for yet, and the number of its parts.
+/// A new book of calls, which no type stands for yet. Contracts see its name, and the number of its
+/// parts: a desk gives a pass for each.
 #[derive(Drop)]
 pub struct Blank {
     ledger: ledger::Blank,
     parts: u64,
-    ghost counted: { ledger.parts ≡ parts },
+}
+
+impl Model for Blank {
+    ghost use Rattle.std.specs.Prelude.{◌≡◌};
+    ghost use Rattle.site_desk.specs.Passes.{BlankSeen};
+
+    ghost Value = { BlankSeen };
+
+    ghost view = { λ b. record { name = b.ledger.name; parts = b.parts } };
+
+    ghost invariant = { λ b. b.ledger.parts ≡ b.parts };
 }
 
 impl Blank {
+    /// A book of so many parts. Costs no memory.
     pub fn new(parts: u64) -> Blank
-        ensures { result.parts ≡ parts }
+        ensures parts { result.parts ≡ parts }
     {
         Blank {
             ledger: ledger::Blank::new(parts),
@@ -152,7 +202,9 @@ impl Blank {
     }
 }
 
-/// A site that no call can change any more.
+/// A site that no call can change any more. Contracts see the site.
+///
+/// Source: this project.
 #[derive(Drop)]
 pub struct Closed<M: Medium> {
     site: Site<M>,
@@ -170,12 +222,15 @@ impl<M: Medium> Model for Closed<M> {
 }
 
 impl<M: Medium> Closed<M> {
+    /// The site's number. Costs no memory.
     pub fn site(&self) -> SiteNo
-        ensures { result ≡ self.now.site }
+        ensures value { result ≡ self.now.site }
     {
         self.site.site()
     }
 
+    /// The commands answered with their replies, the oldest first: a run of owed replies on the site's
+    /// base, each entry of this site. Costs no memory.
     pub fn history(&self) -> &[Entry]
         ensures value { reverse result.now ≡ self.now.history }
         ensures run { IsRun self.now.schema self.now.site.0 (base_of self.now) self.now.history }
@@ -184,8 +239,10 @@ impl<M: Medium> Closed<M> {
         self.site.history()
     }
 
+    /// Whether the history stands on the site's fresh base. Costs no memory.
     pub fn on_fresh_base(&self) -> bool
-        ensures { result ≡ self.now.fresh }
+        ensures value { result ≡ self.now.fresh }
+        ensures base { IsTrue result ↔ (base_of self.now ≡ fresh self.now.schema self.now.site.0) }
     {
         self.site.on_fresh_base()
     }
@@ -206,13 +263,13 @@ fn adds_up<L: Ledger>(passes: &[Pass<L>], length: u64) -> bool
 }
 
 /// A new kept site, whose history is empty, and a pass for each part of the blank.
-pub fn make<L: Ledger, M: Medium + Drop>(
+pub(crate) fn make<L: Ledger, M: Medium + Drop>(
     alloc: Global,
     blank: Blank,
     site: Site<M>,
 ) -> Result<(Kept<L, M>, Vec<Pass<L>>), AllocError>
-    requires name { blank.ledger.name ≡ L.name }
-    requires parts { blank.ledger.parts ≡ L.parts }
+    requires name { blank.name ≡ L.name }
+    requires parts { blank.parts ≡ L.parts }
     requires some { 0 < blank.parts }
     requires empty { site.history ≡ [] }
     ensures site { IfOk result (λ r. r.0 ≡ site) }
@@ -234,7 +291,7 @@ pub fn make<L: Ledger, M: Medium + Drop>(
 
 impl<L: Ledger, M: Medium> Kept<L, M> {
     /// The number of the next call with this pass, from 1.
-    pub fn next_call(&mut self, pass: &mut Pass<L>) -> u64
+    pub(crate) fn next_call(&mut self, pass: &mut Pass<L>) -> u64
         ensures number { result ≡ pass.old.count + 1 }
         ensures same { (self.new ≡ self.old) × (pass.new ≡ pass.old) }
     {
@@ -243,14 +300,17 @@ impl<L: Ledger, M: Medium> Kept<L, M> {
         pass.count + 1
     }
 
-    /// Closes the site where the passes' calls add up to its history and it is the site of this schema and number.
-    pub fn settle(
+    /// Closes the site where the passes' calls add up to its history and it is the site of this schema
+    /// and number. Else hands it back with the length of its history.
+    pub(crate) fn settle(
         self,
         schema: &Schema,
         number: SiteNo,
         passes: &[Pass<L>],
     ) -> Result<Closed<M>, (Kept<L, M>, u64)>
-        ensures { MatchResult result (λ closed. (closed ≡ self) × Settles schema.now number passes.now self) (λ e. (e.0 ≡ self) × (e.1 ≡ length self.history) × ¬ Settles schema.now number passes.now self) }
+        ensures ok { IfOk result (λ closed. (closed ≡ self) × Settles schema.now number passes.now self) }
+        ensures back { IfErr result (λ e. (e.0 ≡ self) × (e.1 ≡ length self.history)) }
+        ensures refused { OnErr result (¬ Settles schema.now number passes.now self) }
     {
         let length = self.site.history().len() as u64;
         if adds_up(passes, length) && self.site.is_of(schema, number) {

@@ -13,3 +13,6 @@ pub use fault::DeskFault;
 pub use gate::{FreeGate, Gate};
 pub use kept::{Blank, Closed, Kept, Pass, Receipt};
 pub use receipts::{ReceiptFault, check_receipts};
+
+#[cfg(test)]
+mod tests;

@@ -8,12 +8,24 @@ use crate::kept::{Closed, Receipt};
 use field_bounds::{Command, Entry, Reply, SiteNo};
 use kept_records::Medium;
 use std::alloc::Global;
+use thiserror::Error;
 
-#[derive(Clone, Copy, PartialEq, Eq, Debug)]
+/// Why receipts aren't those of a history. Numbers are places in the history, from 1.
+///
+/// Source: this project.
+#[derive(Clone, Copy, Debug, PartialEq, Eq, Error)]
 pub enum ReceiptFault {
+    /// This receipt is of another site or of no place of the history, or another entry stands there.
+    #[error("receipt {number} of site {site:?} is no entry of the history")]
     Differs { site: SiteNo, number: u64 },
+    /// An earlier receipt has this place.
+    #[error("receipt {number} of site {site:?} is there twice")]
     Twice { site: SiteNo, number: u64 },
+    /// No receipt has this place, the least such.
+    #[error("receipt {number} of site {site:?} is missing")]
     Missing { site: SiteNo, number: u64 },
+    /// Memory is wanting.
+    #[error("out of memory")]
     NoMemory,
 }
 
@@ -70,7 +82,14 @@ fn first_unmarked(marks: &[bool]) -> Option<usize>
     None
 }
 
-/// Whether the receipts are exactly the entries of the history, each once.
+/// Whether the receipts are exactly the entries of the closed site's history, each once. They may
+/// come in any order.
+///
+/// They are tested in the order of the list: `Differs`, and then `Twice`, for the first that doesn't
+/// stand. Then `Missing` for the least place without one. `NoMemory`: memory is wanting. Costs a
+/// step for each entry and each receipt, and memory for a mark for each entry.
+///
+/// Source: this project.
 pub fn check_receipts<M: Medium>(
     alloc: Global,
     closed: &Closed<M>,
