@@ -3,7 +3,7 @@ use Rattle.std.proofs.Common.{◌≡◌, ◌≢◌, ℕ, zero, suc, ◌+◌, ◌
 use Rattle.std.specs.Prelude.{fold, slice_index_or}
 use Rattle.std.specs.List.{AllByRecursion}
 use Rattle.std.proofs.lemmas.Bool.{cases_eq}
-use Rattle.std.proofs.lemmas.List.{append-nil, take_more, take_all, take-append-drop, length-take, length-drop, length-append, get_or_default, get_or-drop, get_or-append-add, get_or-append_right}
+use Rattle.std.proofs.lemmas.List.{take_more, take_all, take-append-drop, length-take, length-drop, length-append, get_or_default, get_or-drop, get_or-append-add, get_or-append_right}
 use Rattle.std.proofs.Math.Seq.{get_or-append_seam, take-append-add, drop-append-add}
 use Rattle.std.proofs.lemmas.List.Sums.{fold_more, fold-append}
 use Rattle.field_bounds.specs.declared.kind.Kind.{Kind}

@@ -8,13 +8,9 @@ use Rattle.field_bounds.specs.declared.kind.Kind.{Kind}
 use Rattle.field_bounds.specs.declared.kind.Kind.TheVariants.{Lower, Raise}
 use Rattle.field_bounds.specs.Kind.{same_kind}
 use Rattle.field_bounds.specs.Schema.{SchemaValue}
-use Rattle.std.specs.Prelude.{slice_index_or}
-use Rattle.std.proofs.lemmas.Int.{ints}
-use Rattle.field_bounds.specs.Schema.{FieldValue}
-use Rattle.field_bounds.specs.Limits.{IsSchema, IsField}
+use Rattle.field_bounds.specs.Limits.{IsSchema}
 use Rattle.kept_records.proofs.Covering.{own_within, width_few, cut_few}
 use Rattle.field_bounds.specs.Owed.{max_change, max_total, max_epoch}
-use Rattle.field_bounds.specs.Parts.{width_of, no_field}
 use Rattle.kept_records.specs.declared.record.Record.{Record}
 use Rattle.kept_records.specs.declared.record.Record.TheVariants.{Commit, Gift, Accept, Tighten, Restart, Summary}
 use Rattle.kept_records.specs.declared.total.Total.{Total}

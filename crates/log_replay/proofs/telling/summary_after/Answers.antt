@@ -1,6 +1,5 @@
-use Rattle.std.proofs.Common.{◌≡◌, ◌++◌, ◌∷◌, [], Bool, List, ℕ, sym, ap, subst, ◌∙◌, refl, Result, Ok, Err}
+use Rattle.std.proofs.Common.{◌++◌, ◌∷◌, [], Bool, ℕ, sym, ap, subst, ◌∙◌, Result, Ok, Err}
 use Rattle.std.specs.Prelude.{IfOk}
-use Rattle.kept_records.specs.declared.record.Record.{Record}
 use Rattle.kept_records.specs.Summary.{SummaryValue}
 use Rattle.kept_records.specs.Stands.{Lawful, summary_of}
 use Rattle.kept_records.specs.Summaries.{TellsOf}
