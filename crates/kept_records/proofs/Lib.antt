@@ -12,3 +12,4 @@ pub mod Places
 pub mod Pieces
 pub mod Told
 pub mod SummaryLoops
+pub mod Windows

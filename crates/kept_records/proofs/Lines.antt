@@ -91,7 +91,7 @@ begins r s more p q e =
 
 -- ---- one log
 
-first_text : (s : Record) (ss : List Record) (b : List ℕ) → flat_map text (s ∷ ss) ++ b ≡ body s ++ 10 ∷ (flat_map text ss ++ b)
+pub first_text : (s : Record) (ss : List Record) (b : List ℕ) → flat_map text (s ∷ ss) ++ b ≡ body s ++ 10 ∷ (flat_map text ss ++ b)
 first_text s ss b = append_assoc (text s) (flat_map text ss) b ∙ regrouped s (flat_map text ss ++ b)
 
 -- a rest without a line's end isn't a record and more

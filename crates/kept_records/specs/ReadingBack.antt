@@ -1,9 +1,13 @@
--- What is read of a log behind a place in its bytes (this project).
-use Rattle.std.specs.Prelude.{◌≡◌, ℕ, ◌-◌, ◌^◌, min, List, ◌++◌, length}
-use Rattle.std.specs.List.{flat_map}
+-- What is read of a log from its end (this project).
+use Rattle.std.specs.Prelude.{◌≡◌, ◌⊎◌, ℕ, ◌+◌, ◌-◌, ◌^◌, ◌<◌, ◌≤◌, ◌==◌, min, true, List, [], ◌∷◌, ◌++◌, length, drop, slice_index_or}
+use Rattle.std.specs.List.{flat_map, list_any}
+use Rattle.kept_records.specs.declared.medium.End.{End}
 use Rattle.kept_records.specs.declared.record.Record.{Record}
+use Rattle.kept_records.specs.declared.reading_back.ReadBack.{ReadBack}
 use Rattle.kept_records.specs.Text.{text}
 use Rattle.kept_records.specs.Logs.{IsLog}
+use Rattle.kept_records.specs.Medium.{last_bytes}
+use Rattle.kept_records.specs.Stands.{is_summary}
 
 -- A length in bytes, as far as a usize tells it: what is read of a medium is never longer.
 abbrev pub told_length : ℕ → ℕ
@@ -22,10 +26,45 @@ abbrev pub StandBehind : List ℕ → ℕ → List Record → Type 0
 StandBehind bytes place found =
     (before behind : List Record) (rest : List ℕ) → IsLog bytes (before ++ behind) rest → place ≡ told_length (length (flat_map text before)) → found ≡ behind
 
--- These are all the records of a log.
-abbrev pub AreRecords : List ℕ → List Record → Type 0
-AreRecords bytes found = (rs : List Record) (rest : List ℕ) → IsLog bytes rs rest → found ≡ rs
+-- The first record is a summary.
+abbrev pub StartsWithSummary : List Record → Type 0
+StartsWithSummary [] = ⊥
+StartsWithSummary (r ∷ rs) = is_summary r ≡ true
+
+-- These are the last of the records, from a summary on, or all.
+pub record IsLast (rs found : List Record) : Type 0 where
+  pub before : List Record
+  pub parts : rs ≡ before ++ found
+  pub start : (before ≡ []) ⊎ StartsWithSummary found
+
+-- These are the last records of a log.
+abbrev pub AreLast : List ℕ → List Record → Type 0
+AreLast bytes found = (rs : List Record) (rest : List ℕ) → IsLog bytes rs rest → IsLast rs found
 
 -- So long are the texts of a log's records.
 abbrev pub IsWhole : List ℕ → ℕ → Type 0
 IsWhole bytes whole = (rs : List Record) (rest : List ℕ) → IsLog bytes rs rest → whole ≡ length (flat_map text rs)
+
+-- ---- how the body goes on
+
+-- A line starts at this place, behind a line feed (10): it has a summary's letter (83), and ends.
+pub record IsSummaryLine (bytes : List ℕ) (start : ℕ) : Type 0 where
+  pub some : 0 < start
+  pub within : start < length bytes
+  pub behind : slice_index_or bytes (start - 1) 0 ≡ 10
+  pub letter : slice_index_or bytes start 0 ≡ 83
+  pub ends : list_any (λ b. b == 10) (drop start bytes) ≡ true
+
+-- The end of bytes that are a log.
+pub record EndsAt (bytes : List ℕ) (most place : ℕ) (end : End) : Type 0 where
+  pub window : end.bytes.items ≡ last_bytes most bytes
+  pub size : end.length ≡ length bytes
+  pub parts : PartsAt bytes place
+
+-- What was read of it is what the contract of reading tells.
+pub record ReadsEnd (bytes : List ℕ) (place : ℕ) (read : ReadBack) : Type 0 where
+  pub records : AreLast bytes read.records.items
+  pub behind : StandBehind bytes place read.behind.items
+  pub whole : IsWhole bytes read.whole
+  pub present : read.present ≡ length bytes
+  pub within : read.whole ≤ read.present

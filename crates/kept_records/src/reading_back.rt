@@ -1,6 +1,6 @@
-//! Reading what a site needs of its log for a restart.
+//! Reading what a site needs of its log for a restart, from its end.
 
-ghost use Rattle.std.specs.Prelude.{◌≡◌, ◌≤◌, IfOk, IfErr, length};
+ghost use Rattle.std.specs.Prelude.{◌≡◌, ◌≤◌, ◌<◌, ◌⊎◌, List, ℕ, IfOk, IfErr, IfSome, None, length};
 ghost use Rattle.std.specs.List.{flat_map};
 ghost use Rattle.kept_records.specs.declared.medium.MediumFault.TheVariants.{NoMemory};
 ghost use Rattle.kept_records.specs.Text.{text};
@@ -8,21 +8,24 @@ ghost use Rattle.kept_records.specs.Logs.{AreAll};
 ghost use Rattle.kept_records.specs.Keeping.{IsKept};
 ghost use Rattle.kept_records.specs.Stands.{is_summary, plain};
 ghost use Rattle.kept_records.specs.Medium.{CountsRead, ReadFate};
-ghost use Rattle.kept_records.specs.ReadingBack.{PartsAt, StandBehind, AreRecords, IsWhole};
+ghost use Rattle.kept_records.specs.ReadingBack.{PartsAt, StandBehind, AreLast, IsWhole, IsSummaryLine, EndsAt, ReadsEnd};
 
 use crate::log::{RecordFault, read_records};
-use crate::medium::{Medium, MediumFault};
+use crate::medium::{End, Medium, MediumFault};
 use crate::record::Record;
 use std::alloc::Global;
 
-/// What a log was read as.
+/// How many bytes are read at first. Where they don't tell all, twice as many are read.
+const FIRST_READ: usize = 16_384;
+
+/// What the end of a log was read as.
 #[derive(Drop)]
 pub struct ReadBack {
-    /// The records, the oldest first.
+    /// The last records, the oldest first: from a summary on, or all.
     pub records: Vec<Record>,
-    /// Those of them that stand behind the place.
+    /// The records behind the place.
     pub behind: Vec<Record>,
-    /// The length of the records' texts, in bytes.
+    /// The length of the texts of all records of the log, in bytes.
     pub whole: usize,
     /// How many bytes there are.
     pub present: usize,
@@ -43,10 +46,75 @@ fn read_log_bytes(alloc: Global, bytes: &[u8]) -> Result<(Vec<Record>, usize), M
     }
 }
 
-/// Reads the log that a medium holds, and which of its records stand behind a place, in bytes: the
-/// texts of the records before it end there. A torn record takes up the bytes from `whole` up to
-/// `present`. The bytes stay as they are. The errors are a fault of the device and want of memory.
-/// Costs a pass over the bytes, and memory for the bytes and the records.
+/// Where the last whole line starts that has a summary's letter and stands behind another line.
+fn last_summary(bytes: &[u8]) -> Option<usize>
+    ensures line { IfSome result (λ start. IsSummaryLine bytes.now start) }
+{
+    let mut whole = false;
+    let mut at = bytes.len();
+    while 1 < at {
+        at -= 1;
+        if bytes[at] == b'\n' {
+            whole = true;
+        } else if whole && bytes[at] == b'S' && bytes[at - 1] == b'\n' {
+            return Some(at);
+        }
+    }
+    None
+}
+
+/// Where to read the last records from, in the end of a log that starts behind so many bytes: from its
+/// last whole summary on, or from the front.
+fn start_in(bytes: &[u8], from: usize) -> Option<usize>
+    ensures start { IfSome result (λ start. IsSummaryLine bytes.now start ⊎ ((from ≡ 0) × (start ≡ 0))) }
+    ensures within { IfSome result (λ start. start ≤ length bytes.now) }
+    ensures none { result ≡ None → 0 < from }
+{
+    match last_summary(bytes) {
+        Some(start) => Some(start),
+        None => {
+            if from == 0 {
+                Some(0)
+            } else {
+                None
+            }
+        }
+    }
+}
+
+/// What the end of a log tells, where it reaches back to the place and to a whole summary, or is all
+/// of the log.
+fn take_end(alloc: Global, end: &End, place: usize) -> Result<Option<ReadBack>, MediumFault>
+    requires ends { (bytes : List ℕ) × (most : ℕ) × EndsAt bytes most place end.now }
+    ensures reads { IfOk result (λ read. IfSome read (λ told. (bytes : List ℕ) (most : ℕ) → EndsAt bytes most place end.now → ReadsEnd bytes place told)) }
+    ensures more { IfOk result (λ read. read ≡ None → length end.now.bytes.items < end.now.length) }
+    ensures fault { IfErr result (λ fault. fault ≡ NoMemory) }
+{
+    let from = end.length - end.bytes.len();
+    if place < from {
+        return Ok(None);
+    }
+    let Some(start) = start_in(&end.bytes, from) else {
+        return Ok(None);
+    };
+    let (records, _) = read_log_bytes(alloc, &end.bytes[start..])?;
+    let (behind, length) = read_log_bytes(alloc, &end.bytes[place - from..])?;
+    Ok(Some(ReadBack {
+        records,
+        behind,
+        whole: place + length,
+        present: end.length,
+    }))
+}
+
+/// Reads the end of the log that a medium holds: its records from a summary on, which is the last one
+/// where one stands whole, or all of them; and those that stand behind a place, in bytes, where the
+/// texts of some records end. A torn record takes up the bytes from `whole` up to `present`. The bytes
+/// stay as they are. The errors are a fault of the device and want of memory.
+///
+/// Reads 16,384 bytes, and while these don't reach back to a whole summary and to the place, twice as
+/// many, up to all. Costs a pass over the bytes behind that summary and behind the place, and a look
+/// for the summary; and memory for the bytes that are read and for the records.
 ///
 /// Source: this project.
 pub fn read_back<M: Medium>(
@@ -55,7 +123,7 @@ pub fn read_back<M: Medium>(
     place: usize,
 ) -> Result<ReadBack, MediumFault>
     requires log { PartsAt (M.bytes medium.old) place }
-    ensures records { IfOk result (λ read. AreRecords (M.bytes medium.old) read.records.items) }
+    ensures records { IfOk result (λ read. AreLast (M.bytes medium.old) read.records.items) }
     ensures behind { IfOk result (λ read. StandBehind (M.bytes medium.old) place read.behind.items) }
     ensures whole { IfOk result (λ read. IsWhole (M.bytes medium.old) read.whole) }
     ensures present { IfOk result (λ read. read.present ≡ length (M.bytes medium.old)) }
@@ -64,15 +132,14 @@ pub fn read_back<M: Medium>(
     ensures failed { CountsRead result (M.failed medium.old) (M.failed medium.new) }
     ensures foretold { ReadFate (M.foretold medium.old) result (M.foretold medium.new) }
 {
-    let bytes = medium.read_all(alloc)?;
-    let (records, whole) = read_log_bytes(alloc, &bytes)?;
-    let (behind, _) = read_log_bytes(alloc, &bytes[place..])?;
-    Ok(ReadBack {
-        records,
-        behind,
-        whole,
-        present: bytes.len(),
-    })
+    let mut most = FIRST_READ;
+    loop {
+        let end = medium.read_end(alloc, most)?;
+        if let Some(read) = take_end(alloc, &end, place)? {
+            return Ok(read);
+        }
+        most = most.saturating_mul(2);
+    }
 }
 
 /// How many of the records are no summaries. Costs a look at each.

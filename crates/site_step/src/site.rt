@@ -203,8 +203,11 @@ impl<M: Medium> Site<M> {
     /// one step for each escrow of a transaction that ends. A Give, a Restate, a Spare and an Accept look at
     /// one total and at the rights on one field, a Tighten at the rights on one field. What is written has the length of one record; its
     /// text is made in a buffer of the site, whose memory is used again. Nothing of that grows with
-    /// the history, the number of fields or the number of sites. A Restart reads the whole medium, and
-    /// takes in each record there.
+    /// the history, the number of fields or the number of sites. The record that is, by count, at least
+    /// the 1,000th behind the last summary is written with the next summary, in one piece: that costs a
+    /// few passes over the rights and the totals of the site, and memory for them. A Restart reads the end
+    /// of the medium back to the last whole summary, and takes in each record behind it; its cost doesn't
+    /// grow with what stands before.
     pub fn apply(&mut self, alloc: Global, command: Command) -> Result<Reply, AllocError>
         ensures ok { IfOk result (λ reply. Applies self.old command reply self.new) }
         ensures err { OnErr result (self.new ≡ self.old) }

@@ -1,4 +1,5 @@
 mod stops;
+mod summaries;
 
 use super::*;
 use field_bounds::{

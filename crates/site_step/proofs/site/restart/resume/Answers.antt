@@ -1,15 +1,13 @@
-use Rattle.std.proofs.Common.{◌≡◌, [], List, ℕ, refl, inl, sym, ap, subst, ◌∙◌}
+use Rattle.std.proofs.Common.{◌≡◌, List, ℕ, sym, ap, subst, ◌∙◌}
 use Rattle.kept_records.specs.declared.record.Record.{Record}
-use Rattle.std.specs.List.{AllByRecursion}
-use Rattle.kept_records.specs.Text.{IsRecord}
 use Rattle.kept_records.specs.Stands.{Lawful, since_summary}
-use Rattle.kept_records.specs.ReadingBack.{StandBehind}
+use Rattle.kept_records.specs.ReadingBack.{StandBehind, IsLast}
 use Rattle.log_replay.specs.Standing.{IsStandingFor}
 use Rattle.kept_records.specs.Logs.{IsLog}
 use Rattle.kept_records.proofs.Lines.{same_log}
 use Rattle.log_replay.specs.Resuming.{IsEnd}
 use Rattle.site_step.specs.Resuming.{IsReplayed}
-use Rattle.site_step.proofs.Resumes.{unread_fails, read_fate, read_stays, resumes_from}
+use Rattle.site_step.proofs.Resumes.{end_of, end_each, unread_fails, read_fate, read_stays, resumes_from}
 use Rattle.site_step.proofs.Settling.{ok_is}
 use Rattle.site_step.proofs.site.restart.resume.Goals as goal
 
@@ -27,18 +25,18 @@ returns-in-Err-Device-clause-resumes g c =
 pub resume-requires : goal.resume-requires
 resume-requires g c =
     let held = c.requires.log in
-    let same = c.deref.ensures.value ∙ c.in-Ok.ensures.records held.records held.rest held.log in
+    let last = subst (λ (x : List Record). IsLast held.records x) (sym c.deref.ensures.value) (c.in-Ok.ensures.records held.records held.rest held.log) in
     record {
       site_in = c.requires.site_in;
-      in_range = subst (λ (x : List Record). AllByRecursion IsRecord x) (sym same) held.log.each;
-      end_ = (held.records, record { before = []; parts = sym same; lawful = held.lawful; start = inl refl });
+      in_range = end_each held.records c.deref.result.now last held.log.each;
+      end_ = (held.records, end_of c.args.schema.now c.args.site.0 held.records c.deref.result.now last held.lawful);
     }
 
 pub resume_over-requires-clause-replayed : goal.resume_over-requires-clause-replayed
 resume_over-requires-clause-replayed g c =
     let held = c.requires.log in
-    let same = c.deref.ensures.value ∙ c.in-Ok.ensures.records held.records held.rest held.log in
-    let end_ : IsEnd c.args.schema.now c.args.site.0 held.records c.deref.result.now = record { before = []; parts = sym same; lawful = held.lawful; start = inl refl } in
+    let last = subst (λ (x : List Record). IsLast held.records x) (sym c.deref.ensures.value) (c.in-Ok.ensures.records held.records held.rest held.log) in
+    let end_ : IsEnd c.args.schema.now c.args.site.0 held.records c.deref.result.now = end_of c.args.schema.now c.args.site.0 held.records c.deref.result.now last held.lawful in
     (
       c.args.site.0,
       held.records,
@@ -60,8 +58,8 @@ returns-clause-resumes g c =
     let held = c.requires.log in
     let schema = c.args.schema.now in
     let s = c.args.site.0 in
-    let same = c.deref.ensures.value ∙ c.in-Ok.ensures.records held.records held.rest held.log in
-    let end_ : IsEnd schema s held.records c.deref.result.now = record { before = []; parts = sym same; lawful = held.lawful; start = inl refl } in
+    let last = subst (λ (x : List Record). IsLast held.records x) (sym c.deref.ensures.value) (c.in-Ok.ensures.records held.records held.rest held.log) in
+    let end_ : IsEnd schema s held.records c.deref.result.now = end_of schema s held.records c.deref.result.now last held.lawful in
     let bytes : g.M.Medium.bytes mid ≡ g.M.Medium.bytes was = c.in-Ok.ensures.bytes in
     ok_is c.resume_over.result (λ resumed as_ rs rest log.
         let all = (same_log (g.M.Medium.bytes was) held.records rs held.rest rest held.log log).0 in

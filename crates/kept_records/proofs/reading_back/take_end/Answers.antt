@@ -1,0 +1,56 @@
+use Rattle.std.proofs.Common.{◌≡◌, ◌<◌, ◌≤◌, ◌-◌, ◌+◌, ◌^◌, ℕ, List, length, sym, ap, ◌∙◌, arith}
+use Rattle.kept_records.proofs.Windows.{behind_in, kept_start, last_from, kept_behind, stand_behind, whole_is}
+use Rattle.kept_records.proofs.reading_back.take_end.Goals as goal
+
+pub read_log_bytes-requires : goal.read_log_bytes-requires
+read_log_bytes-requires c =
+    let held = c.requires.ends in
+    let end = c.args.end.now in
+    let window = c.deref-2.result.now in
+    let from : ℕ = end.length - c.len.result in
+    let long : length window ≡ length end.bytes.items = ap length c.deref-2.ensures.value in
+    let from_is : from ≡ end.length - length window = omega (arith, c.len.ensures, end.bytes.ok, long) in
+    let few : end.length < 2 ^ 64 = omega arith in
+    let same : window ≡ c.deref.result.now = c.deref-2.ensures.value ∙ sym c.deref.ensures.value in
+    record {
+      log = kept_start held.0 window held.1 c.args.place from end.length (c.deref-2.ensures.value ∙ held.2.window) held.2.size from_is few held.2.parts c.in-Some.start
+          (rw (sym same) at c.in-Some.ensures.start);
+    }
+
+pub read_log_bytes-requires-2 : goal.read_log_bytes-requires-2
+read_log_bytes-requires-2 c =
+    let held = c.requires.ends in
+    let end = c.args.end.now in
+    let window = c.deref-3.result.now in
+    let from : ℕ = end.length - c.len.result in
+    let long : length window ≡ length end.bytes.items = ap length c.deref-3.ensures.value in
+    let from_is : from ≡ end.length - length window = omega (arith, c.len.ensures, end.bytes.ok, long) in
+    let few : end.length < 2 ^ 64 = omega arith in
+    record {
+      log = kept_behind held.0 window held.1 c.args.place from end.length (c.deref-3.ensures.value ∙ held.2.window) held.2.size from_is few held.2.parts c.if-place-from.false;
+    }
+
+pub returns-clause-reads : goal.returns-clause-reads
+returns-clause-reads c = λ bytes most is.
+    let end = c.args.end.now in
+    let window = c.deref-2.result.now in
+    let other = c.deref-3.result.now in
+    let from : ℕ = end.length - c.len.result in
+    let long : length window ≡ length end.bytes.items = ap length c.deref-2.ensures.value in
+    let from_is : from ≡ end.length - length window = omega (arith, c.len.ensures, end.bytes.ok, long) in
+    let long_other : length other ≡ length end.bytes.items = ap length c.deref-3.ensures.value in
+    let from_other : from ≡ end.length - length other = omega (arith, c.len.ensures, end.bytes.ok, long_other) in
+    let few : end.length < 2 ^ 64 = omega arith in
+    let same : window ≡ c.deref.result.now = c.deref-2.ensures.value ∙ sym c.deref.ensures.value in
+    let within = c.if-place-from.false in
+    let at_window = c.deref-2.ensures.value ∙ is.window in
+    let at_other = c.deref-3.ensures.value ∙ is.window in
+    record {
+      records = last_from bytes window most c.args.place from end.length at_window is.size from_is few is.parts c.in-Some.start (rw (sym same) at c.in-Some.ensures.start)
+          c.in_ok-records.records.items c.in_ok-records.field-0-1 c.in_ok-records.ensures.only;
+      behind = stand_behind bytes other most c.args.place from end.length at_other is.size from_other few is.parts within c.in_ok-behind.behind.items c.in_ok-behind.length c.in_ok-behind.ensures.only;
+      whole = whole_is bytes other most c.args.place from end.length at_other is.size from_other few is.parts within c.in_ok-behind.behind.items c.in_ok-behind.length c.in_ok-behind.ensures.only
+          c.in_ok-behind.ensures.whole;
+      present = is.size;
+      within = behind_in bytes other most c.args.place from end.length at_other is.size from_other few is.parts c.in_ok-behind.length within c.in_ok-behind.ensures.within;
+    }
