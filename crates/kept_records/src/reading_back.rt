@@ -72,13 +72,7 @@ fn start_in(bytes: &[u8], from: usize) -> Option<usize>
 {
     match last_summary(bytes) {
         Some(start) => Some(start),
-        None => {
-            if from == 0 {
-                Some(0)
-            } else {
-                None
-            }
-        }
+        None => { if from == 0 { Some(0) } else { None } }
     }
 }
 

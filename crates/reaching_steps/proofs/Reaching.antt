@@ -134,13 +134,13 @@ module _ (schema : SchemaValue) (good : IsSchema schema) (steps : List WorldStep
       let is = is_clear schema t site field target clear in
       let mine : List Entry = own site.0 t in
       let own_cut : (k : Kind) → cut (fresh schema site.0) field.0 k (at_site schema t site.0) ≡ 0 = λ k.
-          omega (arith, is.calm.uncut k, term_below schema.sites (λ s. cut (fresh schema s) field.0 k (at_site schema t s)) site.0 is.site_in) in
+      omega (arith, is.calm.uncut k, term_below schema.sites (λ s. cut (fresh schema s) field.0 k (at_site schema t s)) site.0 is.site_in) in
       let low_is : cut (fresh schema site.0) field.0 Lower (at_site schema t site.0) ≡ 0
-          → ((field_at schema field.0).floor +ℤ pos (cut (fresh schema site.0) field.0 Lower (at_site schema t site.0) + own_rights (fresh schema site.0) field.0 Lower (at_site schema t site.0)))
-          ≡ ((field_at schema field.0).floor +ℤ pos (own_rights (fresh schema site.0) field.0 Lower (at_site schema t site.0))) = λ none. omega (arith, ints, none) in
+      → ((field_at schema field.0).floor +ℤ pos (cut (fresh schema site.0) field.0 Lower (at_site schema t site.0) + own_rights (fresh schema site.0) field.0 Lower (at_site schema t site.0)))
+      ≡ ((field_at schema field.0).floor +ℤ pos (own_rights (fresh schema site.0) field.0 Lower (at_site schema t site.0))) = λ none. omega (arith, ints, none) in
       let high_is : cut (fresh schema site.0) field.0 Raise (at_site schema t site.0) ≡ 0
-          → ((field_at schema field.0).ceiling -ℤ pos (cut (fresh schema site.0) field.0 Raise (at_site schema t site.0) + own_rights (fresh schema site.0) field.0 Raise (at_site schema t site.0)))
-          ≡ ((field_at schema field.0).ceiling -ℤ pos (own_rights (fresh schema site.0) field.0 Raise (at_site schema t site.0))) = λ none. omega (arith, ints, none) in
+      → ((field_at schema field.0).ceiling -ℤ pos (cut (fresh schema site.0) field.0 Raise (at_site schema t site.0) + own_rights (fresh schema site.0) field.0 Raise (at_site schema t site.0)))
+      ≡ ((field_at schema field.0).ceiling -ℤ pos (own_rights (fresh schema site.0) field.0 Raise (at_site schema t site.0))) = λ none. omega (arith, ints, none) in
       let plan : List WorldStep = planned schema steps (tasks schema site.0 field.0 target) in
       let there = same_value (committed schema t field.0) target in
       elim (cases_Bool there) [

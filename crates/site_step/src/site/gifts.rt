@@ -220,11 +220,7 @@ impl<M: Medium> Site<M> {
         self.write(alloc, command, &record, Reply::Spared { amount, total })
     }
 
-    pub(super) fn accept(
-        &mut self,
-        alloc: Global,
-        told: Statement,
-    ) -> Result<Reply, AllocError>
+    pub(super) fn accept(&mut self, alloc: Global, told: Statement) -> Result<Reply, AllocError>
         requires unrefused { first (refusals (here self.old) (Command.Accept told)) ≡ None }
         ensures ok { IfOk result (λ reply. Applies self.old (Command.Accept told) reply self.new) }
         ensures err { OnErr result (self.new ≡ self.old) }

@@ -13,8 +13,8 @@ ghost use Rattle.site_step.specs.Site.{here, Applies};
 ghost use Rattle.site_step.specs.State.{is_carried};
 
 use super::Site;
-use field_bounds::{Command, Entry, Escrow, FieldNo, Kind, Refusal, Reply, TxnId};
 use crate::extent::due_behind;
+use field_bounds::{Command, Entry, Escrow, FieldNo, Kind, Refusal, Reply, TxnId};
 use kept_records::{Escrows, Medium, Record, Summary, append_piece};
 use std::alloc::{AllocError, Global};
 

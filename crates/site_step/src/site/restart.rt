@@ -15,7 +15,8 @@ use super::Site;
 use crate::extent::{Extent, behind_next, due_behind};
 use field_bounds::{Command, Entry, Last, MAX_EPOCH, Refusal, Reply, Schema, SiteNo};
 use kept_records::{
-    Medium, MediumFault, ReadBack, Record, append_restart_piece, count_plain, read_back, stands_behind,
+    Medium, MediumFault, ReadBack, Record, append_restart_piece, count_plain, read_back,
+    stands_behind,
 };
 use log_replay::{Resumed as Replay, Standing, resume as replay_end};
 use std::alloc::{AllocError, Global};

@@ -131,11 +131,20 @@ fn a_summary_counts_what_is_held(rt: HostRuntime) {
     let mut site = restarted_often(alloc).expect(&rt, "a site");
     assert_eq!(rt; site.replayed(), 998);
     let begun = answer(alloc, &mut site, Command::Begin);
-    assert_eq!(rt; begun, Some(Reply::Begun(TxnId { epoch: 999, number: 1 })));
+    assert_eq!(rt;
+        begun,
+        Some(Reply::Begun(TxnId {
+            epoch: 999,
+            number: 1
+        }))
+    );
     assert_eq!(rt; answer(alloc, &mut site, TAKE_TWENTY), Some(Reply::Granted));
     assert_eq!(rt;
         answer(alloc, &mut site, spare_raise(1, 10)),
-        Some(Reply::Spared { amount: 10, total: 10 })
+        Some(Reply::Spared {
+            amount: 10,
+            total: 10
+        })
     );
     assert_eq!(rt;
         answer(alloc, &mut site, Command::Restart),

@@ -27,8 +27,7 @@ returns-in-Ok-clause-resumes g c =
     let log = c.args.log in
     let standing = c.args.replay.standing in
     λ s place rs rest is behind.
-    let dues = due_over (g.M.Medium.bytes was) standing c.args.replay.turns c.args.schema.now s rs rest is c.requires.below c.in_ok-due.due c.in_ok-due.ensures.due in
-    (
+    let dues = due_over (g.M.Medium.bytes was) standing c.args.replay.turns c.args.schema.now s rs rest is c.requires.below c.in_ok-due.due c.in_ok-due.ensures.due in (
       stands_over (g.M.Medium.bytes was) (g.M.Medium.bytes left) (g.M.Medium.foretold was) (g.M.Medium.foretold left) (g.M.Medium.failed was) (g.M.Medium.failed left) log.whole standing c.args.replay.turns
           c.in_ok-due.due c.requires.whole c.requires.below c.requires.read c.args.schema.now s rs rest is dues c.append_restart_piece.new.line.items c.saturating_add.result c.in_ok-append_restart_piece.ensures.line
           (c.saturating_add.ensures ∙ ap (λ (n : ℕ). told_length (log.whole + n)) (omega (arith, c.len.ensures, c.append_restart_piece.new.line.ok)))

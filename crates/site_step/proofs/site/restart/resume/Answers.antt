@@ -36,8 +36,7 @@ pub resume_over-requires-clause-replayed : goal.resume_over-requires-clause-repl
 resume_over-requires-clause-replayed g c =
     let held = c.requires.log in
     let last = subst (λ (x : List Record). IsLast held.records x) (sym c.deref.ensures.value) (c.in-Ok.ensures.records held.records held.rest held.log) in
-    let end_ : IsEnd c.args.schema.now c.args.site.0 held.records c.deref.result.now = end_of c.args.schema.now c.args.site.0 held.records c.deref.result.now last held.lawful in
-    (
+    let end_ : IsEnd c.args.schema.now c.args.site.0 held.records c.deref.result.now = end_of c.args.schema.now c.args.site.0 held.records c.deref.result.now last held.lawful in (
       c.args.site.0,
       held.records,
       held.rest,
@@ -62,18 +61,18 @@ returns-clause-resumes g c =
     let end_ : IsEnd schema s held.records c.deref.result.now = end_of schema s held.records c.deref.result.now last held.lawful in
     let bytes : g.M.Medium.bytes mid ≡ g.M.Medium.bytes was = c.in-Ok.ensures.bytes in
     ok_is c.resume_over.result (λ resumed as_ rs rest log.
-        let all = (same_log (g.M.Medium.bytes was) held.records rs held.rest rest held.log log).0 in
-        resumes_from schema s c.args.place rs rest resumed (g.M.Medium.bytes was) (g.M.Medium.bytes mid) (g.M.Medium.bytes c.resume_over.new.medium) (g.M.Medium.foretold was) (g.M.Medium.foretold mid)
-        (g.M.Medium.foretold c.resume_over.new.medium) (g.M.Medium.failed was) (g.M.Medium.failed mid) (g.M.Medium.failed c.resume_over.new.medium) bytes
-        (read_stays c.in-Ok.log (g.M.Medium.foretold was) (g.M.Medium.foretold mid) (rw c.in-Ok.is at c.read_back.ensures.foretold))
-        (rw c.in-Ok.is at c.read_back.ensures.failed)
-        (as_ s c.args.place rs rest
-        (record {
-          limits = c.requires.limits;
-          site_in = c.requires.site_in;
-          log = subst (λ (b : List ℕ). IsLog b rs rest) (sym bytes) log;
-          lawful = subst (λ (x : List Record). Lawful schema s x) all held.lawful;
-          for_ = subst (λ (x : List Record). IsStandingFor schema s x c.in_ok-replay.replay.standing) all (c.in_ok-replay.ensures.standing held.records end_);
-          turns_are = c.in_ok-replay.ensures.behind held.records end_ ∙ ap since_summary all;
-        })
-        (subst (λ (b : List ℕ). StandBehind b c.args.place c.in-Ok.log.behind.items) (sym bytes) c.in-Ok.ensures.behind))) c.resume_over.ensures.resumes
+    let all = (same_log (g.M.Medium.bytes was) held.records rs held.rest rest held.log log).0 in
+    resumes_from schema s c.args.place rs rest resumed (g.M.Medium.bytes was) (g.M.Medium.bytes mid) (g.M.Medium.bytes c.resume_over.new.medium) (g.M.Medium.foretold was) (g.M.Medium.foretold mid)
+    (g.M.Medium.foretold c.resume_over.new.medium) (g.M.Medium.failed was) (g.M.Medium.failed mid) (g.M.Medium.failed c.resume_over.new.medium) bytes
+    (read_stays c.in-Ok.log (g.M.Medium.foretold was) (g.M.Medium.foretold mid) (rw c.in-Ok.is at c.read_back.ensures.foretold))
+    (rw c.in-Ok.is at c.read_back.ensures.failed)
+    (as_ s c.args.place rs rest
+    (record {
+      limits = c.requires.limits;
+      site_in = c.requires.site_in;
+      log = subst (λ (b : List ℕ). IsLog b rs rest) (sym bytes) log;
+      lawful = subst (λ (x : List Record). Lawful schema s x) all held.lawful;
+      for_ = subst (λ (x : List Record). IsStandingFor schema s x c.in_ok-replay.replay.standing) all (c.in_ok-replay.ensures.standing held.records end_);
+      turns_are = c.in_ok-replay.ensures.behind held.records end_ ∙ ap since_summary all;
+    })
+    (subst (λ (b : List ℕ). StandBehind b c.args.place c.in-Ok.log.behind.items) (sym bytes) c.in-Ok.ensures.behind))) c.resume_over.ensures.resumes
