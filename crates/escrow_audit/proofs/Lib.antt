@@ -3,3 +3,4 @@ pub mod Entries
 pub mod States
 pub mod Pieces
 pub mod Told
+pub mod OneAnswer

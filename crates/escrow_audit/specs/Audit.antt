@@ -108,6 +108,10 @@ abbrev pub IsAudit : AuditEnd → List ℕ → Type 0 → List ℕ → Type 0
 IsAudit ends.BadEntry read ended text = (number : ℕ) × (FindsBad read number ended × (text ≡ bad_entry_text number))
 IsAudit end read ended text = ended × IsJudged (script_lines read) end text
 
+-- The answer to bytes, whether or not the input ends behind them.
+abbrev pub Answers : AuditEnd → List ℕ → List ℕ → Type 0
+Answers end read text = IsAudit end read (Unit {0}) text
+
 -- ---- what an audit reads and writes
 
 -- The answer to all that was read is written.

@@ -3,10 +3,12 @@
 #![tactic(auto)]
 
 mod answer;
+mod laws;
 mod reading;
 mod remark;
 
 pub use answer::{AuditEnd, audit_text};
+pub use laws::one_answer;
 pub use script_input::{End, ScriptFault, Watched};
 
 #[cfg(test)]
