@@ -2,6 +2,3 @@ use Rattle.site_desk.proofs.tests.a_desk_over_a_record_has_no_fresh_base.Given a
 
 abbrev pub ghosts-closed_at_once : goal.ghosts-closed_at_once
 ghosts-closed_at_once g a = record { name = a.blank.name; parts = a.blank.parts }
-
-abbrev pub ghosts-closed_at_once-2 : goal.ghosts-closed_at_once-2
-ghosts-closed_at_once-2 g a = record { name = a.blank.name; parts = a.blank.parts }
