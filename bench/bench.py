@@ -1,7 +1,8 @@
 #!/usr/bin/env python3
-"""Measures `escrow run` on long scripts, beside a plain Rust program of the same shape.
+"""Measures `escrow run` on long scripts, and `escrow audit` on what that writes, each beside a plain Rust
+program of the same shape.
 
-    bench/bench.py [LINES [TURNS]]
+    bench/bench.py [LINES [TURNS]] [--audit | --restarts]
 
 LINES is the length of the input, its header line included (1,000,000 if left out, which is the
 most that `run` takes), and TURNS how often each program runs (5). It prints, for the best turn of
@@ -18,10 +19,14 @@ The scripts:
   reads, shares, and 20 restarts, some of them after a torn commit. It runs at a tenth of the length
   and at the whole length, and then over 64 sites and 256 fields, each field at each site: the last
   line tells the cost of a line there as a multiple of that over 4 sites and 8 fields.
+- the audit of what the mixed scripts write, in one pass and with `--fields`, and of what a script
+  writes that has 912 escrows open at each of 4 sites all along: no command costs a walk over the
+  history, or over other transactions' escrows. With --audit these alone.
 - restarts: a quarter of all lines are restarts, at a tenth of the length and at the whole length;
   the last line tells the cost of a line at the whole length as a multiple of that at a tenth. And
   LINES / 100 restarts behind 1,000 gifts, and behind as many as fit: what one of them costs. The
-  plain program reads its whole log at each restart, so it doesn't run these.
+  plain program reads its whole log at each restart, so it doesn't run these. With --restarts these
+  alone.
 """
 
 import filecmp
@@ -121,6 +126,28 @@ class Mixed:
                     return
 
 
+def held(lines, sites, fields):
+    """The sites hold 57 transactions of 16 escrows each, and then begin, escrow, commit and read."""
+    names = [f"stock{place}" for place in range(1, fields + 1)]
+    yield header(sites, names, 0, 10**12, 5 * 10**11)
+    count = 1
+    for site in range(sites):
+        for number in range(1, 58):
+            yield f"{site} begin\n"
+            for place in range(16):
+                yield f"{site} escrow 0.{number} {names[place % fields]} {1 if place % 2 == 0 else -1}\n"
+            count += 17
+    for turn in range(lines - count):
+        number, site = turn // (4 * sites) + 58, turn // 4 % sites
+        name = names[(turn // 4) % fields]
+        yield (
+            f"{site} begin\n",
+            f"{site} escrow 0.{number} {name} {-2 if number % 2 == 0 else 2}\n",
+            f"{site} commit 0.{number}\n",
+            f"{site} read {name}\n",
+        )[turn % 4]
+
+
 def quarter_restarts(lines):
     yield header(1, ["stock1"], 0, 100, 40)
     for place in range(lines - 1):
@@ -195,14 +222,63 @@ def compare(name, script, folder, programs, turns):
     return ours
 
 
+def audit(name, script, folder, programs, turns):
+    """The seconds that `escrow audit` takes on what `escrow run` writes."""
+    source, trace, proved, written = (os.path.join(folder, part) for part in ("script", "trace", "proved", "written"))
+    with open(source, "w", encoding="ascii") as file:
+        file.writelines(script)
+    program, plain = programs
+    run([program, "run"], source, trace)
+    with open(trace, "rb") as file:
+        lines = sum(1 for _ in file)
+    print(f"audit, {name}: {lines:,} lines, {os.path.getsize(trace):,} bytes, best of {turns}")
+    ours = measure("escrow", [program, "audit"], trace, proved, lines, turns)
+    measure("--fields", [program, "audit", "--fields"], trace, written, lines, turns)
+    if not filecmp.cmp(proved, written, shallow=False):
+        sys.exit("with --fields it wrote other bytes")
+    if plain is None:
+        return ours
+    theirs = measure("plain", [plain, "audit"], trace, written, lines, turns)
+    if not filecmp.cmp(proved, written, shallow=False):
+        sys.exit("the two programs wrote different bytes")
+    print(f"         same output; escrow takes {ours / theirs:.2f} times the plain program's time")
+    return ours
+
+
+def audits(lines, folder, programs, turns):
+    audit("mixed", Mixed(lines // 10, 4, 8).all(), folder, programs, turns)
+    audit("mixed", Mixed(lines, 4, 8).all(), folder, programs, turns)
+    audit("mixed, 64 sites and 256 fields", Mixed(lines, 64, 256).all(), folder, programs, turns)
+    if lines >= 10_000:
+        audit("912 escrows open at each site", held(lines, 4, 8), folder, programs, turns)
+
+
+def restarts(lines, folder, program, turns):
+    alone = (program, None)
+    tenth = compare("a quarter restarts", quarter_restarts(lines // 10), folder, alone, turns)
+    whole = compare("a quarter restarts", quarter_restarts(lines), folder, alone, turns)
+    print(f"a line of {lines:,} takes {whole / tenth / 10:.2f} times one of {lines // 10:,}")
+    count = lines // 100
+    for gifts in (1_000, lines - count - 1):
+        without = compare("gifts", gifts_and_restarts(gifts, 0), folder, alone, turns)
+        with_them = compare("gifts, then restarts", gifts_and_restarts(gifts, count), folder, alone, turns)
+        print(f"a restart behind {gifts:,} gifts takes {(with_them - without) / count * 1e6:.0f} microseconds")
+
+
 def main():
-    words = sys.argv[1:]
+    words = [word for word in sys.argv[1:] if not word.startswith("--")]
     lines = int(words[0]) if words else 1_000_000
     turns = int(words[1]) if len(words) > 1 else 5
     if lines < 1_000 or turns < 1:
         sys.exit(__doc__)
     with tempfile.TemporaryDirectory() as folder:
         programs = build(folder)
+        if "--audit" in sys.argv:
+            audits(lines, folder, programs, turns)
+            return
+        if "--restarts" in sys.argv:
+            restarts(lines, folder, programs[0], turns)
+            return
         compare("one site", one_site(lines // 10, 1), folder, programs, turns)
         compare("one site", one_site(lines, 1), folder, programs, turns)
         compare("one site, 256 fields", one_site(lines, 256), folder, programs, turns)
@@ -210,15 +286,8 @@ def main():
         few = compare("mixed", Mixed(lines, 4, 8).all(), folder, programs, turns)
         many = compare("mixed, 64 sites and 256 fields", Mixed(lines, 64, 256).all(), folder, programs, turns)
         print(f"a mixed line over 64 sites and 256 fields takes {many / few:.2f} times one over 4 and 8")
-        alone = (programs[0], None)
-        tenth = compare("a quarter restarts", quarter_restarts(lines // 10), folder, alone, turns)
-        whole = compare("a quarter restarts", quarter_restarts(lines), folder, alone, turns)
-        print(f"a line of {lines:,} takes {whole / tenth / 10:.2f} times one of {lines // 10:,}")
-        restarts = lines // 100
-        for gifts in (1_000, lines - restarts - 1):
-            without = compare("gifts", gifts_and_restarts(gifts, 0), folder, alone, turns)
-            with_them = compare("gifts, then restarts", gifts_and_restarts(gifts, restarts), folder, alone, turns)
-            print(f"a restart behind {gifts:,} gifts takes {(with_them - without) / restarts * 1e6:.0f} microseconds")
+        audits(lines, folder, programs, turns)
+        restarts(lines, folder, programs[0], turns)
 
 
 if __name__ == "__main__":

@@ -1,7 +1,9 @@
 //! The same lines answered by plain Rust with nothing proved: a world of sites with rights, open
 //! transactions, ledgers, a log of records in memory, and histories of every command with its reply.
 //!
-//! Built by `rustc -O plain.rs`. The header is read only in the form in which bench.py writes it.
+//! With the argument `audit` it audits such answers. Built by `rustc -O plain.rs`. The header is read only in the form in which bench.py writes it.
+
+mod audit;
 
 use std::collections::HashMap;
 use std::fmt::{self, Write as _};
@@ -41,14 +43,14 @@ enum Command {
     Restart,
 }
 
-#[derive(Clone, Copy)]
+#[derive(Clone, Copy, PartialEq)]
 enum Last {
     Nothing,
     Kept,
     Lost,
 }
 
-#[derive(Clone, Copy)]
+#[derive(Clone, Copy, PartialEq)]
 enum Reply {
     Begun(TxnId),
     Granted,
@@ -66,7 +68,7 @@ enum Reply {
     Refused(Refusal),
 }
 
-#[derive(Clone, Copy)]
+#[derive(Clone, Copy, PartialEq)]
 enum Refusal {
     Down,
     NoSite,
@@ -616,7 +618,8 @@ fn step(schema: &Schema, line: &str) -> Option<(Step, Option<u64>, usize)> {
         Step::Deliver(number(words.next()?)?)
     } else {
         let site = small(first).filter(|site| *site < schema.sites)?;
-        Step::Do(site, command(schema, &mut words)?)
+        let command = command(schema, &mut words).filter(|asked| !matches!(asked, Command::Accept(_)))?;
+        Step::Do(site, command)
     };
     match words.next() {
         None => Some((step, None, line.len())),
@@ -662,6 +665,13 @@ fn command<'a>(schema: &Schema, words: &mut impl Iterator<Item = &'a str>) -> Op
             kind: kind(words.next()?)?,
             amount: number(words.next()?)?,
         },
+        "accept" => Command::Accept(Statement {
+            from: small(words.next()?)?,
+            to: small(words.next()?)?,
+            field: field(schema, words.next()?)?,
+            kind: kind(words.next()?)?,
+            total: number(words.next()?)?,
+        }),
         "read" => Command::Read {
             field: field(schema, words.next()?)?,
         },
@@ -773,5 +783,9 @@ fn run(reader: impl Read, writer: impl Write) -> io::Result<()> {
 }
 
 fn main() -> io::Result<()> {
-    run(io::stdin().lock(), io::stdout().lock())
+    let (reader, writer) = (io::stdin().lock(), io::stdout().lock());
+    match std::env::args().nth(1).as_deref() {
+        Some("audit") => audit::run(reader, writer),
+        _ => run(reader, writer),
+    }
 }
