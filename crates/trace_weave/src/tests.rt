@@ -46,15 +46,14 @@ fn begins(site: u16) -> Entry {
 }
 
 fn woven_of_two(alloc: Global, zero: &[Entry], one: &[Entry]) -> Result<Vec<Entry>, WeaveFault> {
-    let mut histories = Vec::new(alloc);
-    for history in [zero, one] {
-        let mut own = Vec::new(alloc);
-        for entry in history {
-            own.push(*entry)?;
-        }
-        histories.push(own)?;
-    }
-    weave(alloc, &histories)
+    let zero = Vec::from_slice(alloc, zero)?;
+    let one = Vec::from_slice(alloc, one)?;
+    weave(alloc, &[zero, one])
+}
+
+/// The history of a site that gives only once it has accepted.
+fn passed_on(alloc: Global, site: u16, from: u16, to: u16) -> Result<Vec<Entry>, AllocError> {
+    Vec::from_slice(alloc, &[accepts(site, from, ACCEPTED), gives(site, to)])
 }
 
 /// Whether weaving gave exactly these entries, in this order.
@@ -108,17 +107,13 @@ fn two_that_wait_for_each_other_are_stuck(rt: HostRuntime) {
 #[test]
 fn a_circle_of_three_is_stuck(rt: HostRuntime) -> Result<(), AllocError> {
     let alloc = rt.alloc();
-    let mut histories = Vec::new(alloc);
-    for (site, from, to) in [(0, 2, 1), (1, 0, 2), (2, 1, 0)] {
-        let mut history = Vec::new(alloc);
-        history.push(accepts(site, from, ACCEPTED))?;
-        history.push(gives(site, to))?;
-        histories.push(history)?;
-    }
+    let zero = passed_on(alloc, 0, 2, 1)?;
+    let one = passed_on(alloc, 1, 0, 2)?;
+    let two = passed_on(alloc, 2, 1, 0)?;
     let stuck = WeaveFault::Stuck {
         site: SiteNo(0),
         number: 1,
     };
-    assert_eq!(&rt; weave(alloc, &histories).err(), Some(stuck));
+    assert_eq!(&rt; weave(alloc, &[zero, one, two]).err(), Some(stuck));
     Ok(())
 }
