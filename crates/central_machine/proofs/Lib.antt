@@ -16,3 +16,7 @@ pub mod Steps
 pub mod Rest
 pub mod Totals_more
 pub mod Rows_told
+pub mod Parallel
+pub mod Places
+pub mod Found
+pub mod Gathered

@@ -7,6 +7,7 @@
 
 mod amounts;
 mod counted;
+mod faults;
 mod issued;
 mod journal;
 mod numbers;

@@ -1,26 +1,76 @@
 //! The judge in parts, each in a thread.
 
-ghost use Rattle.std.specs.Prelude.{◌≡◌, IfOk};
-ghost use Rattle.central_rules.specs.Verdict.{verdict_of};
+ghost use Rattle.std.specs.Prelude.{◌≡◌, IfOk, List, reverse};
+ghost use Rattle.field_bounds.specs.declared.entry.Entry.{Entry};
+ghost use Rattle.central_rules.specs.declared.verdict.Verdict.TheVariants.{Legal};
+ghost use Rattle.central_rules.specs.Verdict.{verdict_of, verdict_back};
+ghost use Rattle.central_machine.specs.Running.{AreTotals};
+ghost use Rattle.central_machine.specs.Parts.{named};
 
-use crate::counted::judge;
-use central_rules::Verdict;
+use crate::counted::length_of;
+use crate::faults::{earliest, faults_of, first_is_at, places_of};
+use crate::totals::Totals;
+use central_rules::{Rule, Verdict};
 use field_bounds::{Entry, Schema};
 use std::alloc::{AllocError, Global};
 use std::thread::Threads;
 
+/// The totals of all sites over a front.
+fn totals_of(alloc: Global, schema: &Schema, front: &[Entry]) -> Result<Totals, AllocError>
+    ensures { IfOk result (λ totals. verdict_back schema.now (reverse front.now) ≡ Legal → AreTotals schema.now (reverse front.now) totals) }
+{
+    let _few = length_of(front);
+    let mut totals = Totals::new(alloc, schema)?;
+    for entry in front {
+        totals.step(alloc, schema, *entry)?;
+    }
+    Ok(totals)
+}
+
+/// The rule that a bad entry breaks first, of which it is known whether it takes in a statement that
+/// wasn't issued.
+fn rule_of(totals: &Totals, schema: &Schema, entry: Entry, untold: bool) -> Rule
+    ensures { (t : List Entry) → AreTotals schema.now t totals.now → verdict_back schema.now t ≡ Legal → result ≡ named schema.now t entry untold }
+{
+    if entry.site.0 >= schema.sites() {
+        return Rule::Site;
+    }
+    if let Some(rule) = totals.field_broken(schema, entry) {
+        return rule;
+    }
+    if untold { Rule::Statement } else { Rule::Reply }
+}
+
 /// The verdict on entries, the oldest first, as `judge` answers it, with the work done by threads.
+/// The rules Site and Statement are one part, and Reply at each site is one more, over that site's
+/// own entries, whose places are listed once. Where no part finds a fault the entries are legal, since
+/// the rules on fields follow from the others. Else these are looked at, on the field that is named, at
+/// the one entry that was found.
 ///
-/// The error is want of memory.
+/// The error is want of memory. Takes time as `judge` does, divided among the threads but for one step
+/// for each entry that lists the places, and at illegal entries once more for the entries before the
+/// bad one. Takes memory as `judge` does, and a number for each entry.
 ///
-/// Source: this project.
+/// Source: O'Neil 1986 for the central store, this project for the judge and its parts.
 pub fn judge_fields(
-    _rt: &(impl Threads + Sync),
+    rt: &(impl Threads + Sync),
     alloc: Global,
     schema: &Schema,
     entries: &[Entry],
 ) -> Result<Verdict, AllocError>
     ensures verdict { IfOk result (λ verdict. verdict ≡ verdict_of schema.now entries.now) }
 {
-    judge(alloc, schema, entries)
+    let _sites = schema.sites();
+    let lists = places_of(alloc, schema, entries)?;
+    let faults = faults_of(rt, alloc, schema, entries, &lists)?;
+    let Some(place) = earliest(&faults) else {
+        return Ok(Verdict::Legal);
+    };
+    let Some(entry) = entries.get(place) else {
+        return Ok(Verdict::Legal);
+    };
+    let totals = totals_of(alloc, schema, &entries[..place])?;
+    let rule = rule_of(&totals, schema, *entry, first_is_at(&faults, place));
+    let at = (place + 1) as u64;
+    Ok(Verdict::Illegal { at, rule })
 }

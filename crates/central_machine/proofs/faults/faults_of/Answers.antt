@@ -1,0 +1,17 @@
+use Rattle.std.proofs.Common.{◌≡◌, ◌+◌, ◌<◌, ℕ, ap, ◌∙◌, length, arith}
+use Rattle.rayon.specs.Numbers.{nat_range}
+use Rattle.central_machine.specs.Parts.{AreAllPlaces, IsFault, part_at}
+use Rattle.central_machine.proofs.Parallel.{gather}
+use Rattle.central_machine.proofs.faults.faults_of.Goals as goal
+
+pub returns : goal.returns
+returns g c =
+    let ends = c.into_par_iter.ensures in
+    let h = c.in_ok-made.ensures in
+    let chain = rw (c.map.ensures.base, c.map.ensures.f, c.with_min_len.ensures.base) at h.1 in
+    let long : 1 + c.from-count.result ≡ 1 + c.args.schema.now.sites = omega arith in
+    let places = chain.1 ∙ (λ i. nat_range (ends.0 i) (ends.1 i)) ∙ ap (nat_range 0) long in
+    gather
+    (λ part fault. AreAllPlaces c.args.entries.now (length c.args.entries.now) c.args.lists.now → length c.args.lists.now ≡ c.args.schema.now.sites → part < 1 + c.args.schema.now.sites
+    → IsFault c.args.schema.now c.args.entries.now (part_at part) fault)
+    c.in_ok-made.made chain.0 _ h.0 places chain.2 h.2

@@ -1,0 +1,205 @@
+//! The parts of the judge's work: what each finds first.
+
+ghost use Rattle.std.specs.Prelude.{◌≡◌, ◌<◌, ◌+◌, ℕ, IfOk, OnOk, length, List, None};
+ghost use Rattle.std.specs.List.{AllZip};
+ghost use Rattle.rayon.specs.Numbers.{nat_range};
+ghost use Rattle.field_bounds.specs.declared.entry.Entry.{Entry};
+ghost use Rattle.central_machine.specs.Parts.{IsNoted, AreAllPlaces, ArePlaces, IsFault, part_at, part_test, earlier, earliest, first_is_at};
+ghost use Rattle.central_machine.specs.Issued.{AreIssued};
+ghost use Rattle.central_machine.specs.declared.faults.Part.TheVariants.{Statements, AtSite};
+
+use crate::counted::length_of;
+use crate::issued::Issued;
+use crate::site_totals::SiteTotals;
+use crate::totals::reply_fits;
+use field_bounds::{Entry, Schema, SiteNo};
+use rayon::prelude::*;
+use std::alloc::{AllocError, Global};
+use std::thread::Threads;
+
+/// A part of the work: the rules Site and Statement, or the rule Reply at one site.
+#[derive(Clone, Copy)]
+pub enum Part {
+    Statements,
+    AtSite(u16),
+}
+
+/// The places of the entries of one site, in order.
+#[derive(Drop)]
+pub struct Places {
+    pub list: Vec<usize>,
+}
+
+/// An empty list for each site.
+fn no_places(alloc: Global, schema: &Schema) -> Result<Vec<Places>, AllocError>
+    ensures count { IfOk result (λ lists. length lists.items ≡ schema.now.sites) }
+    ensures places { IfOk result (λ lists. (entries : List Entry) → AreAllPlaces entries 0 lists.items) }
+{
+    let mut lists = Vec::new(alloc);
+    for site in 0..schema.sites() {
+        let _site = site;
+        lists.push(Places {
+            list: Vec::new(alloc),
+        })?;
+    }
+    Ok(lists)
+}
+
+/// Notes a place in the list of its site, if there is one.
+fn note_place(lists: &mut Vec<Places>, site: SiteNo, place: usize) -> Result<(), AllocError>
+    ensures { OnOk result (IsNoted lists.old.items lists.new.items site.0 place) }
+{
+    match lists.get_mut(usize::from(site.0)) {
+        Some(places) => {
+            places.list.push(place)?;
+            Ok(())
+        }
+        None => Ok(()),
+    }
+}
+
+/// The places of each site's entries.
+pub fn places_of(
+    alloc: Global,
+    schema: &Schema,
+    entries: &[Entry],
+) -> Result<Vec<Places>, AllocError>
+    ensures count { IfOk result (λ lists. length lists.items ≡ schema.now.sites) }
+    ensures places { IfOk result (λ lists. AreAllPlaces entries.now (length entries.now) lists.items) }
+{
+    let mut lists = no_places(alloc, schema)?;
+    for (i, entry) in entries.iter().enumerate() {
+        note_place(&mut lists, entry.site, i)?;
+    }
+    Ok(lists)
+}
+
+/// Whether the entry's site is in the schema, and it takes in no statement that wasn't issued.
+fn statements_hold(issued: &Issued, schema: &Schema, entry: Entry) -> bool
+    ensures { (t : List Entry) → AreIssued t issued.now.keys.keys → result ≡ part_test schema.now t entry Statements }
+{
+    entry.site.0 < schema.sites() && issued.holds(entry)
+}
+
+/// The first entry of a site that isn't in the schema, or that takes in a statement that wasn't
+/// issued.
+fn statements_fault(
+    alloc: Global,
+    schema: &Schema,
+    entries: &[Entry],
+) -> Result<Option<usize>, AllocError>
+    ensures { IfOk result (λ fault. IsFault schema.now entries.now Statements fault) }
+{
+    let mut issued = Issued::new(alloc);
+    for (i, entry) in entries.iter().enumerate() {
+        if !statements_hold(&issued, schema, *entry) {
+            return Ok(Some(i));
+        }
+        issued.note(entry)?;
+    }
+    Ok(None)
+}
+
+/// The first entry of a site with a reply that the site doesn't owe.
+fn site_fault(
+    alloc: Global,
+    schema: &Schema,
+    entries: &[Entry],
+    site: SiteNo,
+    places: &[usize],
+) -> Result<Option<usize>, AllocError>
+    requires site_in { site.0 < schema.now.sites }
+    ensures { IfOk result (λ fault. ArePlaces site.0 entries.now (length entries.now) places.now → IsFault schema.now entries.now (AtSite site.0) fault) }
+{
+    let _few = length_of(entries);
+    let _sites = schema.sites();
+    let mut totals = SiteTotals::new(alloc, schema, site)?;
+    for place in places {
+        let Some(entry) = entries.get(*place) else {
+            return Ok(None);
+        };
+        if !reply_fits(schema, site, &totals, *entry) {
+            return Ok(Some(*place));
+        }
+        totals.take_in(alloc, *entry)?;
+    }
+    Ok(None)
+}
+
+/// What the part of a number finds first.
+fn fault_of(
+    alloc: Global,
+    schema: &Schema,
+    entries: &[Entry],
+    lists: &[Places],
+    part: usize,
+) -> Result<Option<usize>, AllocError>
+    ensures { IfOk result (λ fault. AreAllPlaces entries.now (length entries.now) lists.now → length lists.now ≡ schema.now.sites → part < 1 + schema.now.sites → IsFault schema.now entries.now (part_at part) fault) }
+{
+    if part == 0 {
+        return statements_fault(alloc, schema, entries);
+    }
+    let site = part - 1;
+    if site >= usize::from(schema.sites()) {
+        return Ok(None);
+    }
+    match lists.get(site) {
+        Some(places) => site_fault(alloc, schema, entries, SiteNo(site as u16), &places.list),
+        None => Ok(None),
+    }
+}
+
+/// What all parts find first, each in a thread.
+pub fn faults_of(
+    rt: &(impl Threads + Sync),
+    alloc: Global,
+    schema: &Schema,
+    entries: &[Entry],
+    lists: &[Places],
+) -> Result<Vec<Option<usize>>, AllocError>
+    ensures { IfOk result (λ faults. AllZip (λ part fault. AreAllPlaces entries.now (length entries.now) lists.now → length lists.now ≡ schema.now.sites → part < 1 + schema.now.sites → IsFault schema.now entries.now (part_at part) fault) (nat_range 0 (1 + schema.now.sites)) faults.items) }
+{
+    let count = 1 + usize::from(schema.sites());
+    let made: Result<Vec<Option<usize>>, AllocError> = (0..count)
+        .into_par_iter()
+        .with_min_len(1)
+        .map(
+            |part: usize| -> Result<Option<usize>, AllocError>
+                ensures { IfOk result (λ fault. AreAllPlaces entries.entry.now (length entries.entry.now) lists.entry.now → length lists.entry.now ≡ schema.entry.now.sites → part < 1 + schema.entry.now.sites → IsFault schema.entry.now entries.entry.now (part_at part) fault) }
+            { fault_of(alloc, schema, entries, lists, part) },
+        )
+        .collect(rt, alloc)?;
+    made
+}
+
+/// The earlier of two faults.
+fn earlier(a: Option<usize>, b: Option<usize>) -> Option<usize>
+    ensures { result ≡ earlier a b }
+{
+    match (a, b) {
+        (Some(p), Some(q)) => { if q < p { Some(q) } else { Some(p) } }
+        (Some(p), None) => Some(p),
+        (None, b) => b,
+    }
+}
+
+/// The earliest of some faults.
+pub fn earliest(faults: &[Option<usize>]) -> Option<usize>
+    ensures { result ≡ earliest None faults.now }
+{
+    let mut best = None;
+    for fault in faults {
+        best = earlier(*fault, best);
+    }
+    best
+}
+
+/// Whether the first of some faults stands at a place.
+pub fn first_is_at(faults: &[Option<usize>], place: usize) -> bool
+    ensures { result ≡ first_is_at faults.now place }
+{
+    match faults.first() {
+        Some(Some(at)) => *at == place,
+        Some(None) | None => false,
+    }
+}
