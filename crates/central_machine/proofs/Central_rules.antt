@@ -1,17 +1,17 @@
 -- Rights are conserved, so the rights of all sites tell the infimum, the supremum and the committed value.
-use Rattle.std.proofs.Common.{◌≡◌, ℕ, ◌+◌, ◌≤◌, Bool, List, refl, sym, ap, ◌∙◌, arith, leb}
+use Rattle.std.proofs.Common.{◌≡◌, ℕ, ◌+◌, List, arith, leb}
 use Rattle.std.proofs.lemmas.Bool.{leb-true, le-leb}
 use Rattle.std.proofs.lemmas.Bool.Decides.{same_from_decides}
 use Rattle.std.proofs.lemmas.Int.{ints}
 use Rattle.std.specs.Bool.{Decides}
-use Rattle.std.specs.Prelude.{ℤ, pos, ◌+ℤ◌, ◌-ℤ◌, ◌≤ℤ◌, int_le}
+use Rattle.std.specs.Prelude.{ℤ, pos, ◌+ℤ◌, ◌-ℤ◌, ◌≤ℤ◌}
 use Rattle.field_bounds.specs.declared.kind.Kind.{Kind}
 use Rattle.field_bounds.specs.declared.kind.Kind.TheVariants.{Lower, Raise}
 use Rattle.field_bounds.specs.declared.entry.Entry.{Entry}
 use Rattle.field_bounds.specs.Schema.{SchemaValue}
 use Rattle.field_bounds.specs.Limits.{IsSchema}
 use Rattle.field_bounds.specs.Parts.{field_at}
-use Rattle.field_bounds.specs.Central.{committed, inf, sup, open_sizes, shares, cuts, floor_in, ceiling_in, in_flight, IsSound, IsConserved}
+use Rattle.field_bounds.specs.Central.{committed, inf, sup, open_sizes, shares, cuts, floor_in, ceiling_in, in_flight, IsConserved}
 use Rattle.field_bounds.proofs.Conserved.{is_conserved}
 use Rattle.central_rules.specs.declared.verdict.Verdict.TheVariants.{Legal}
 use Rattle.central_rules.specs.Verdict.{within_bound, verdict_back}

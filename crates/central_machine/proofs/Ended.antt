@@ -1,5 +1,5 @@
 -- What each effect does to the running numbers of a site.
-use Rattle.std.proofs.Common.{◌≡◌, ℕ, ◌+◌, ◌-◌, ◌<◌, ◌≤◌, Bool, true, false, ◌&&◌, cond, List, [], ◌∷◌, refl, sym, ◌∙◌, ap, arith, eqb, Some, None, reverse, length}
+use Rattle.std.proofs.Common.{◌≡◌, ℕ, ◌+◌, ◌-◌, ◌<◌, ◌≤◌, Bool, true, false, ◌&&◌, cond, List, ◌∷◌, refl, sym, ◌∙◌, ap, arith, eqb, Some, None, length}
 use Rattle.std.specs.Prelude.{unsigned_abs}
 use Rattle.std.proofs.lemmas.Bool.{eq-eqb}
 use Rattle.field_bounds.specs.declared.kind.Kind.{Kind}
@@ -10,18 +10,17 @@ use Rattle.field_bounds.specs.declared.id.FieldNo.{FieldNo}
 use Rattle.field_bounds.specs.declared.entry.Escrow.{Escrow}
 use Rattle.field_bounds.specs.declared.effect.Effect.{Effect}
 use Rattle.field_bounds.specs.declared.effect.Effect.TheVariants.{Begins, Grants, Commits, Aborts, Gives, Accepts, Stops}
-use Rattle.field_bounds.specs.Kind.{same_kind, kind_of, other}
+use Rattle.field_bounds.specs.Kind.{same_kind, kind_of}
 use Rattle.field_bounds.specs.Schema.{SchemaValue}
-use Rattle.field_bounds.specs.Effects.{Base, is_begun, is_open, open_txns, escrows_of, takes, given, accepted, cut, share, held}
+use Rattle.field_bounds.specs.Effects.{Base, is_begun, is_open, takes, given, accepted, cut, share, held}
 use Rattle.field_bounds.proofs.Lawful.{IsLawful}
 use Rattle.field_bounds.proofs.Steps.{of_txn, share_grant, held_grant, share_commit, held_commit, share_abort, held_abort, share_accept}
 use Rattle.field_bounds.proofs.Stops.{share_stop, held_stop}
-use Rattle.central_machine.specs.declared.journal.OpenTransaction.{OpenTransaction}
 use Rattle.central_machine.specs.declared.numbers.Numbers.{Numbers}
 use Rattle.central_machine.specs.Amounts.{amount, has_place, capped}
-use Rattle.central_machine.specs.Open.{txns_of, escrows_at}
-use Rattle.central_machine.specs.Running.{Describes, IsSmall, KeepsLedgers, Opens, SetsAside, Ends, StopsAll, taken, turned, place_at, Takes}
-use Rattle.central_machine.proofs.Puts.{less_here, more_here, capped_is, fitting, describes_give, describes_cut, describes_accept}
+use Rattle.central_machine.specs.Open.{escrows_at}
+use Rattle.central_machine.specs.Running.{Describes, IsSmall, KeepsLedgers, Opens, SetsAside, Ends, StopsAll, taken, turned, Takes}
+use Rattle.central_machine.proofs.Puts.{less_here, more_here, fitting, describes_give, describes_cut, describes_accept}
 use Rattle.central_machine.proofs.Opened.{AreOpen, open_begin, open_grant, open_commit, open_abort, open_stop, taken_at}
 
 same_refl : (k : Kind) → same_kind k k ≡ true

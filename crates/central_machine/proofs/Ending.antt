@@ -1,17 +1,17 @@
 -- The end of escrows one after another, and of all that is held.
-use Rattle.std.proofs.Common.{◌≡◌, ℕ, ◌+◌, ◌-◌, ◌<◌, ◌≤◌, Bool, true, false, ◌&&◌, cond, List, [], ◌∷◌, ◌++◌, take, get_or, length, refl, sym, ◌∙◌, ap, arith, eqb}
-use Rattle.std.specs.Prelude.{unsigned_abs, sum_by}
+use Rattle.std.proofs.Common.{◌≡◌, ℕ, ◌+◌, ◌-◌, ◌<◌, ◌≤◌, Bool, true, false, ◌&&◌, cond, List, take, get_or, length, refl, sym, ◌∙◌, ap, arith, eqb}
+use Rattle.std.specs.Prelude.{unsigned_abs}
 use Rattle.std.proofs.lemmas.List.{take_more}
 use Rattle.std.proofs.lemmas.List.Sums.{sum_by_push}
 use Rattle.field_bounds.specs.declared.kind.Kind.{Kind}
 use Rattle.field_bounds.specs.declared.kind.Kind.TheVariants.{Lower, Raise}
 use Rattle.field_bounds.specs.declared.entry.Escrow.{Escrow}
-use Rattle.field_bounds.specs.Kind.{same_kind, kind_of, other}
+use Rattle.field_bounds.specs.Kind.{same_kind, kind_of}
 use Rattle.field_bounds.specs.Effects.{takes}
 use Rattle.central_machine.specs.declared.amounts.Amounts.{Amounts}
 use Rattle.central_machine.specs.Amounts.{amount, has_place, IsPut, capped}
 use Rattle.central_machine.specs.Running.{taken, turned}
-use Rattle.central_machine.proofs.Puts.{same_place, less_here, more_here}
+use Rattle.central_machine.proofs.Puts.{same_place, less_here}
 
 turned_same : (committed : Bool) (a b : Kind) → same_kind (turned committed a) b ≡ same_kind a (turned committed b)
 turned_same false a b = refl

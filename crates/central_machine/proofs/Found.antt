@@ -1,9 +1,9 @@
 -- What a part of the work finds, and what that is over all parts.
-use Rattle.std.proofs.Common.{◌≡◌, ◌≢◌, ℕ, zero, suc, ◌+◌, ◌<◌, ◌≤◌, Bool, true, false, cond, ◌&&◌, List, [], ◌∷◌, ◌++◌, length, reverse, take, drop, get_or, refl, sym, ◌∙◌, ap, subst, arith, inl, inr, eqb, ltb, leb, Some, None, Option}
+use Rattle.std.proofs.Common.{◌≡◌, ◌≢◌, ℕ, ◌+◌, ◌<◌, ◌≤◌, Bool, true, false, cond, List, [], ◌∷◌, ◌++◌, length, reverse, take, drop, get_or, refl, sym, ◌∙◌, ap, subst, arith, inl, inr, ltb, leb, Some, None, Option}
 use Rattle.std.specs.Prelude.{slice_get, Result, Ok, Err, IfOk}
-use Rattle.std.proofs.lemmas.Bool.{cases_eq, cases_Bool, eq-eqb, ne_eqb, lt-ltb, ltb-true, ltb-false, and_parts, leb-true, leb-false}
+use Rattle.std.proofs.lemmas.Bool.{cases_eq, cases_Bool, eq-eqb, ne_eqb, ltb-true, ltb-false, leb-true, leb-false}
 use Rattle.std.proofs.lemmas.List.{length-reverse, length-take-le, take-take}
-use Rattle.std.proofs.lemmas.Option.{slice_get-get_or, slice_get_within, get_or_from_slice_get}
+use Rattle.std.proofs.lemmas.Option.{slice_get-get_or, slice_get_within}
 use Rattle.field_bounds.specs.declared.entry.Entry.{Entry}
 use Rattle.field_bounds.specs.Schema.{SchemaValue}
 use Rattle.field_bounds.specs.Limits.{IsSchema}
@@ -11,19 +11,19 @@ use Rattle.field_bounds.specs.Effects.{fresh}
 use Rattle.field_bounds.specs.Owed.{place}
 use Rattle.field_bounds.specs.Central.{own}
 use Rattle.central_rules.specs.declared.verdict.Rule.{Rule}
-use Rattle.central_rules.specs.declared.verdict.Rule.TheVariants.{Site, Statement as Told, Reply as Owed}
+use Rattle.central_rules.specs.declared.verdict.Rule.TheVariants.{Reply as Owed}
 use Rattle.central_rules.specs.declared.verdict.Verdict.{Verdict}
 use Rattle.central_rules.specs.declared.verdict.Verdict.TheVariants.{Legal, Illegal}
-use Rattle.central_rules.specs.Verdict.{broken, verdict_back, verdict_more, test_of, statement_test}
+use Rattle.central_rules.specs.Verdict.{broken, verdict_back, verdict_more, test_of}
 use Rattle.central_rules.specs.Replies.{reply_test}
-use Rattle.central_rules.proofs.Fronts.{front_more, whole}
+use Rattle.central_rules.proofs.Fronts.{whole}
 use Rattle.central_rules.proofs.Verdicts.{legal_is_sound}
 use Rattle.central_machine.specs.declared.site_totals.SiteTotals.{SiteTotals}
 use Rattle.central_machine.specs.declared.faults.Part.{Part}
-use Rattle.central_machine.specs.declared.faults.Part.TheVariants.{Statements, AtSite}
+use Rattle.central_machine.specs.declared.faults.Part.TheVariants.{AtSite}
 use Rattle.central_machine.specs.Running.{IsSite}
-use Rattle.central_machine.specs.Parts.{front_of, own_count, ArePlaces, part_test, IsBefore, IsFault}
-use Rattle.central_machine.proofs.Places.{some_is, front_next, own_at, count_at, later}
+use Rattle.central_machine.specs.Parts.{front_of, own_count, ArePlaces, part_test, IsFault}
+use Rattle.central_machine.proofs.Places.{some_is, front_next, count_at, later}
 use Rattle.central_machine.proofs.Steps.{GoesOn, site_more}
 use Rattle.central_machine.proofs.Totals_more.{own_few}
 

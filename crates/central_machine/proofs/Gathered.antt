@@ -1,20 +1,18 @@
 -- What all parts of the work find tells the verdict.
-use Rattle.std.proofs.Common.{◌≡◌, ◌≢◌, ℕ, zero, suc, ◌+◌, ◌-◌, ◌<◌, ◌≤◌, Bool, true, false, cond, ◌&&◌, List, [], ◌∷◌, length, reverse, take, take_all, get_or, refl, sym, ◌∙◌, ap, subst, arith, inl, inr, eqb, ltb, Some, None, Option}
+use Rattle.std.proofs.Common.{◌≡◌, ℕ, zero, suc, ◌+◌, ◌-◌, ◌<◌, ◌≤◌, Bool, true, false, cond, ◌&&◌, List, [], ◌∷◌, length, reverse, take_all, refl, sym, ◌∙◌, ap, subst, arith, inl, inr, eqb, ltb, Some, None, Option}
 use Rattle.std.specs.Prelude.{slice_get, ◌⊎◌}
 use Rattle.std.specs.List.{AllZip, range_with_len}
 use Rattle.rayon.specs.Numbers.{nat_range}
-use Rattle.std.proofs.lemmas.Bool.{cases_eq, cases_Bool, eq-eqb, eqb-true, eqb-false, ne_eqb, lt-ltb, ltb-true, ltb-false, and_parts}
+use Rattle.std.proofs.lemmas.Bool.{cases_Bool, eq-eqb, eqb-true, eqb-false, ne_eqb, ltb-true, ltb-false, and_parts}
 use Rattle.std.proofs.lemmas.Option.{slice_get_within, get_or_from_slice_get, slice_get_cases}
 use Rattle.field_bounds.specs.declared.entry.Entry.{Entry}
 use Rattle.field_bounds.specs.Schema.{SchemaValue}
 use Rattle.field_bounds.specs.Limits.{IsSchema}
 use Rattle.central_rules.specs.declared.verdict.Rule.{Rule}
 use Rattle.central_rules.specs.declared.verdict.Rule.TheVariants.{Site, Grant, Shortage, Interval, Statement as Told, Reply as Owed}
-use Rattle.central_rules.specs.declared.verdict.Verdict.{Verdict}
 use Rattle.central_rules.specs.declared.verdict.Verdict.TheVariants.{Legal, Illegal}
 use Rattle.central_rules.specs.Verdict.{broken, first_broken, verdict_back, verdict_of, test_of}
 use Rattle.central_rules.proofs.Verdicts.{none_broken, stop_here}
-use Rattle.central_machine.specs.declared.faults.Part.{Part}
 use Rattle.central_machine.specs.declared.faults.Places.{Places}
 use Rattle.central_machine.specs.declared.faults.Part.TheVariants.{Statements, AtSite}
 use Rattle.central_machine.specs.Parts.{AreAllPlaces, rest_tests, field_broken, name_of, named, front_of, part_test, part_at, IsBefore, IsFault, earlier, earliest, is_at, first_is_at}

@@ -1,24 +1,21 @@
 -- What one more effect does to the running numbers of a site.
-use Rattle.std.proofs.Common.{◌≡◌, ℕ, zero, suc, ◌+◌, ◌-◌, ◌*◌, ◌<◌, ◌≤◌, Bool, true, false, not, ◌&&◌, cond, List, [], ◌∷◌, length, refl, sym, ◌∙◌, ap, subst, inl, inr, arith, eqb, ltb, ◌||◌, Some, None}
-use Rattle.std.specs.Prelude.{max, min, ◌⊎◌, filter, reverse}
-use Rattle.std.proofs.lemmas.Bool.{cases_Bool, ltb-true, ltb-false, and_parts, eqb-true, eqb-false, eq-eqb, ne_eqb, or_right}
+use Rattle.std.proofs.Common.{◌≡◌, ℕ, zero, suc, ◌+◌, ◌-◌, ◌*◌, ◌<◌, ◌≤◌, Bool, true, false, ◌&&◌, cond, List, ◌∷◌, refl, sym, ◌∙◌, ap, subst, inl, inr, arith, eqb, ltb, Some, None}
+use Rattle.std.specs.Prelude.{max}
+use Rattle.std.proofs.lemmas.Bool.{cases_Bool, ltb-true, ltb-false, and_parts, eqb-true, eqb-false, eq-eqb, ne_eqb}
 use Rattle.field_bounds.specs.declared.kind.Kind.{Kind}
-use Rattle.field_bounds.specs.declared.kind.Kind.TheVariants.{Lower, Raise}
 use Rattle.field_bounds.specs.declared.effect.Effect.{Effect}
-use Rattle.field_bounds.specs.declared.effect.Effect.TheVariants.{Begins, Grants, Commits, Aborts, Gives, Accepts, Stops}
+use Rattle.field_bounds.specs.declared.effect.Effect.TheVariants.{Gives, Accepts}
 use Rattle.field_bounds.specs.Kind.{same_kind}
 use Rattle.field_bounds.specs.Schema.{SchemaValue}
-use Rattle.field_bounds.specs.Effects.{Base, given, accepted, cut, share, held, gifts}
+use Rattle.field_bounds.specs.Effects.{Base, accepted}
 use Rattle.field_bounds.proofs.Lawful.{IsLawful, same_kind-true}
 use Rattle.field_bounds.proofs.Steps.{share_give, share_accept}
-use Rattle.field_bounds.specs.Effects.{is_begun, is_open, open_txns, escrows_of}
-use Rattle.field_bounds.specs.declared.id.TxnId.{TxnId}
 use Rattle.field_bounds.specs.declared.id.SiteNo.{SiteNo}
 use Rattle.field_bounds.specs.declared.id.FieldNo.{FieldNo}
 use Rattle.central_machine.specs.declared.amounts.Amounts.{Amounts}
 use Rattle.central_machine.specs.declared.numbers.Numbers.{Numbers}
-use Rattle.central_machine.specs.Amounts.{amount, has_place, IsPut, capped}
-use Rattle.central_machine.specs.Running.{Describes, place_at, Leaves, GoesTo, GoesForGood, TakesIn}
+use Rattle.central_machine.specs.Amounts.{amount, IsPut, capped}
+use Rattle.central_machine.specs.Running.{Describes, place_at, GoesTo, GoesForGood, TakesIn}
 
 pub same_place : (A : ℕ → Kind → ℕ) (field f : ℕ) (kind k : Kind) → (eqb field f && same_kind kind k) ≡ true → A field kind ≡ A f k
 same_place A field f kind k is =

@@ -1,12 +1,11 @@
 -- Entries that are read one by one.
-use Rattle.std.proofs.Common.{◌≡◌, ℕ, ◌+◌, ◌<◌, ◌≤◌, List, ◌∷◌, reverse, take, take_all, length, get_or, refl, ap, sym, subst, ◌∙◌, inl, inr, arith, Option, Some, None}
+use Rattle.std.proofs.Common.{◌≡◌, ℕ, ◌+◌, ◌<◌, ◌≤◌, List, ◌∷◌, reverse, take, take_all, length, get_or, ap, sym, ◌∙◌, inl, inr, arith, Option, Some, None}
 use Rattle.std.proofs.lemmas.List.{length-reverse, length-take-le}
 use Rattle.std.proofs.lemmas.Option.{slice_get_within, get_or_from_slice_get, slice_get_cases}
 use Rattle.std.specs.Prelude.{slice_get, is_some, if◌then◌else◌}
 use Rattle.field_bounds.specs.declared.entry.Entry.{Entry}
 use Rattle.field_bounds.specs.Schema.{SchemaValue}
 use Rattle.central_rules.specs.declared.verdict.Rule.{Rule}
-use Rattle.central_rules.specs.declared.verdict.Verdict.{Verdict}
 use Rattle.central_rules.specs.declared.verdict.Verdict.TheVariants.{Legal, Illegal}
 use Rattle.central_rules.specs.Verdict.{broken, verdict_back, verdict_of}
 use Rattle.central_rules.proofs.Fronts.{front_more}

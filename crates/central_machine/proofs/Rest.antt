@@ -1,5 +1,5 @@
 -- Over a legal front, an entry at a site of the schema whose statement was issued and whose reply is owed breaks no rule.
-use Rattle.std.proofs.Common.{◌≡◌, ℕ, Bool, true, List, ◌∷◌, refl, None}
+use Rattle.std.proofs.Common.{◌≡◌, List, ◌∷◌, None}
 use Rattle.std.proofs.lemmas.Bool.{ltb-true}
 use Rattle.field_bounds.specs.declared.entry.Entry.{Entry}
 use Rattle.field_bounds.specs.Schema.{SchemaValue}

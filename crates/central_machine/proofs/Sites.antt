@@ -1,5 +1,5 @@
 -- One more entry of a site, and its numbers.
-use Rattle.std.proofs.Common.{◌≡◌, ℕ, ◌+◌, ◌<◌, ◌≤◌, Bool, true, false, List, [], ◌∷◌, length, refl, sym, ◌∙◌, ap, subst, inl, inr, arith, Some, None, Option}
+use Rattle.std.proofs.Common.{◌≡◌, ℕ, ◌<◌, Bool, true, false, List, ◌∷◌, length, refl, sym, ◌∙◌, ap, subst, inl, inr, Some, None, Option}
 use Rattle.std.proofs.lemmas.Bool.{leb-false}
 use Rattle.std.specs.Result.{OnOk}
 use Rattle.std.specs.Prelude.{Result, Ok, Err}

@@ -1,16 +1,15 @@
 -- In a sound trace the rights of a site are within the width of a field, and so they fit.
-use Rattle.std.proofs.Common.{◌≡◌, ℕ, zero, suc, ◌+◌, ◌-◌, ◌<◌, ◌≤◌, List, [], ◌∷◌, false, refl, arith}
+use Rattle.std.proofs.Common.{ℕ, zero, suc, ◌+◌, ◌<◌, ◌≤◌, List, [], ◌∷◌, arith}
 use Rattle.std.proofs.lemmas.Int.{ints}
-use Rattle.std.specs.Prelude.{ℤ, pos, ◌+ℤ◌, ◌-ℤ◌, ◌≤ℤ◌, slice_index_or}
+use Rattle.std.specs.Prelude.{pos, ◌+ℤ◌, ◌≤ℤ◌, slice_index_or}
 use Rattle.std.specs.List.{AllByRecursion}
-use Rattle.field_bounds.specs.declared.kind.Kind.{Kind}
 use Rattle.field_bounds.specs.declared.kind.Kind.TheVariants.{Lower, Raise}
 use Rattle.field_bounds.specs.declared.entry.Entry.{Entry}
 use Rattle.field_bounds.specs.Schema.{SchemaValue, FieldValue}
-use Rattle.field_bounds.specs.Limits.{IsSchema, IsField, max_quantity}
-use Rattle.field_bounds.specs.Parts.{field_at, no_field}
-use Rattle.field_bounds.specs.Effects.{fresh, is_open, share, held, cut, granted}
-use Rattle.field_bounds.specs.Central.{at_site, is_open_in, open_sizes, shares, in_flight, committed, inf, sup, IsSound}
+use Rattle.field_bounds.specs.Limits.{IsSchema, IsField}
+use Rattle.field_bounds.specs.Parts.{no_field}
+use Rattle.field_bounds.specs.Effects.{fresh, share, held, cut}
+use Rattle.field_bounds.specs.Central.{at_site, is_open_in, IsSound}
 use Rattle.field_bounds.proofs.Sums.{term_below}
 use Rattle.field_bounds.proofs.Conserved.{is_conserved, traced, free_of, open_of}
 

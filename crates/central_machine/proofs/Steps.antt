@@ -1,5 +1,5 @@
 -- A site's totals over a sound trace, when its next entry is taken in.
-use Rattle.std.proofs.Common.{◌≡◌, ℕ, ◌+◌, ◌<◌, ◌≤◌, Bool, true, false, List, [], ◌∷◌, length, refl, sym, ◌∙◌, ap, subst, arith, inl, inr}
+use Rattle.std.proofs.Common.{◌≡◌, ℕ, ◌<◌, ◌≤◌, false, List, ◌∷◌, length, refl, sym, ◌∙◌, ap, subst, arith}
 use Rattle.field_bounds.specs.declared.kind.Kind.{Kind}
 use Rattle.field_bounds.specs.declared.kind.Kind.TheVariants.{Lower, Raise}
 use Rattle.field_bounds.specs.declared.effect.Effect.{Effect}
@@ -9,10 +9,9 @@ use Rattle.field_bounds.specs.declared.entry.Command.{Command}
 use Rattle.field_bounds.specs.declared.entry.Command.TheVariants.{Restart}
 use Rattle.field_bounds.specs.declared.entry.Reply.{Reply}
 use Rattle.field_bounds.specs.declared.entry.Reply.TheVariants.{Restarted}
-use Rattle.field_bounds.specs.declared.entry.Last.{Last}
 use Rattle.field_bounds.specs.Schema.{SchemaValue}
 use Rattle.field_bounds.specs.Limits.{IsSchema}
-use Rattle.field_bounds.specs.Effects.{Base, fresh, effect_of, after, effects, kept_before, says_kept, share, held, cut, given}
+use Rattle.field_bounds.specs.Effects.{Base, fresh, after, effects, kept_before, says_kept, share, held, cut}
 use Rattle.field_bounds.specs.Owed.{place, is_up, epoch_of, count_since, is_begun_reply, is_still_down, is_unsure, Fits, IsRun}
 use Rattle.field_bounds.specs.Central.{own, at_site, IsSound}
 use Rattle.field_bounds.proofs.Lawful.{IsLawful}
@@ -21,7 +20,7 @@ use Rattle.field_bounds.proofs.Stops.{share_stop}
 use Rattle.field_bounds.proofs.Traces.{own_here, sound_front, sound_fits}
 use Rattle.central_machine.specs.declared.site_totals.SiteTotals.{SiteTotals}
 use Rattle.central_machine.specs.Amounts.{amount}
-use Rattle.central_machine.specs.Running.{Describes, IsSmall, IsSite, NumbersAfter, effect_by, doubt, doubt_after}
+use Rattle.central_machine.specs.Running.{IsSmall, IsSite, NumbersAfter, effect_by, doubt, doubt_after}
 use Rattle.central_machine.proofs.Small.{rights_fit}
 use Rattle.central_machine.proofs.Given.{given_fits}
 use Rattle.central_machine.proofs.Sites.{numbers_more, agrees}

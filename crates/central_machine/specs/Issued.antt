@@ -1,5 +1,5 @@
 -- The statements issued so far, as keys of a set (this project).
-use Rattle.std.specs.Prelude.{◌≡◌, ℕ, Bool, true, false, List, ◌==◌, ◌&&◌}
+use Rattle.std.specs.Prelude.{◌≡◌, Bool, true, false, List, ◌==◌, ◌&&◌}
 use Rattle.std.specs.Bool.{beq}
 use Rattle.std.specs.List.{list_any}
 use Rattle.field_bounds.specs.declared.kind.Kind.{Kind}

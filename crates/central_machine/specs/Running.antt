@@ -1,8 +1,6 @@
 -- The running totals of a judge, and what they are over a front of a trace, the newest entry first (this project).
-use Rattle.std.specs.Prelude.{◌≡◌, ℕ, ◌+◌, ◌-◌, ◌*◌, ◌<◌, ◌≤◌, max, ℤ, unsigned_abs, sum_by, Bool, true, false, [], List, ◌∷◌, length, reverse, slice_get, Option, Some, None}
+use Rattle.std.specs.Prelude.{◌≡◌, ℕ, ◌+◌, ◌-◌, ◌*◌, ◌<◌, ◌≤◌, max, unsigned_abs, sum_by, Bool, true, false, [], List, ◌∷◌, length, reverse, slice_get, Option, Some, None}
 use Rattle.field_bounds.specs.declared.kind.Kind.{Kind}
-use Rattle.field_bounds.specs.declared.id.SiteNo.{SiteNo}
-use Rattle.field_bounds.specs.declared.id.FieldNo.{FieldNo}
 use Rattle.field_bounds.specs.declared.id.TxnId.{TxnId}
 use Rattle.field_bounds.specs.declared.effect.Effect.{Effect}
 use Rattle.field_bounds.specs.declared.effect.Effect.TheVariants.{Begins, Grants, Commits, Aborts, Gives, Accepts, Stops}
@@ -23,7 +21,7 @@ use Rattle.central_machine.specs.declared.totals.Totals.{Totals}
 use Rattle.central_machine.specs.declared.running.Running.{Running}
 use Rattle.central_machine.specs.Amounts.{amount, has_place, IsPut, capped}
 use Rattle.central_machine.specs.Issued.{AreIssued}
-use Rattle.central_machine.specs.Open.{txns_of, has_row, escrows_at, IsOpened, IsAdded, IsClosed}
+use Rattle.central_machine.specs.Open.{txns_of, escrows_at, IsOpened, IsAdded, IsClosed}
 
 -- ---- the numbers of one site
 

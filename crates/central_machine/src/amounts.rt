@@ -18,7 +18,8 @@ pub struct Amounts {
 impl Amounts {
     /// So many places with nothing.
     pub fn zeros(alloc: Global, n: usize) -> Result<Amounts, AllocError>
-        ensures { IfOk result (λ made. (g : ℕ) (k : Kind) → g < n → (has_place made g ≡ true) × (amount made g k ≡ 0)) }
+        ensures { IfOk result (λ made. (g : ℕ) (k : Kind) → g < n →
+            (has_place made g ≡ true) × (amount made g k ≡ 0)) }
     {
         Ok(Amounts {
             lower: Vec::from_elem(alloc, 0u64, n)?,
@@ -34,7 +35,9 @@ impl Amounts {
         kind: Kind,
     ) -> Result<Vec<u64>, AllocError>
         requires site_in { site.0 < schema.now.sites }
-        ensures { IfOk result (λ made. (length made.items ≡ length schema.now.fields) × ((f : ℕ) → f < length schema.now.fields → slice_index_or made.items f 0 ≡ part_of schema.now site.0 f kind)) }
+        ensures { IfOk result (λ made. (length made.items ≡ length schema.now.fields) × ((f : ℕ) →
+            f < length schema.now.fields →
+            slice_index_or made.items f 0 ≡ part_of schema.now site.0 f kind)) }
     {
         let mut made = Vec::new(alloc);
         for field in 0..schema.fields() {
@@ -45,7 +48,8 @@ impl Amounts {
 
     pub fn parts(alloc: Global, schema: &Schema, site: SiteNo) -> Result<Amounts, AllocError>
         requires site_in { site.0 < schema.now.sites }
-        ensures { IfOk result (λ made. (f : ℕ) (k : Kind) → f < length schema.now.fields → (has_place made f ≡ true) × (amount made f k ≡ part_of schema.now site.0 f k)) }
+        ensures { IfOk result (λ made. (f : ℕ) (k : Kind) → f < length schema.now.fields →
+            (has_place made f ≡ true) × (amount made f k ≡ part_of schema.now site.0 f k)) }
     {
         Ok(Amounts {
             lower: Amounts::parts_of(alloc, schema, site, Kind::Lower)?,

@@ -33,7 +33,8 @@ pub struct Places {
 /// An empty list for each site.
 fn no_places(alloc: Global, schema: &Schema) -> Result<Vec<Places>, AllocError>
     ensures count { IfOk result (λ lists. length lists.items ≡ schema.now.sites) }
-    ensures places { IfOk result (λ lists. (entries : List Entry) → AreAllPlaces entries 0 lists.items) }
+    ensures places { IfOk result (λ lists. (entries : List Entry) →
+        AreAllPlaces entries 0 lists.items) }
 {
     let mut lists = Vec::new(alloc);
     for site in 0..schema.sites() {
@@ -76,7 +77,8 @@ pub fn places_of(
 
 /// Whether the entry's site is in the schema, and it takes in no statement that wasn't issued.
 fn statements_hold(issued: &Issued, schema: &Schema, entry: Entry) -> bool
-    ensures { (t : List Entry) → AreIssued t issued.now.keys.keys → result ≡ part_test schema.now t entry Statements }
+    ensures { (t : List Entry) → AreIssued t issued.now.keys.keys →
+        result ≡ part_test schema.now t entry Statements }
 {
     entry.site.0 < schema.sites() && issued.holds(entry)
 }
@@ -109,7 +111,8 @@ fn site_fault(
     places: &[usize],
 ) -> Result<Option<usize>, AllocError>
     requires site_in { site.0 < schema.now.sites }
-    ensures { IfOk result (λ fault. ArePlaces site.0 entries.now (length entries.now) places.now → IsFault schema.now entries.now (AtSite site.0) fault) }
+    ensures { IfOk result (λ fault. ArePlaces site.0 entries.now (length entries.now) places.now →
+        IsFault schema.now entries.now (AtSite site.0) fault) }
 {
     let _few = length_of(entries);
     let _sites = schema.sites();
@@ -134,7 +137,9 @@ fn fault_of(
     lists: &[Places],
     part: usize,
 ) -> Result<Option<usize>, AllocError>
-    ensures { IfOk result (λ fault. AreAllPlaces entries.now (length entries.now) lists.now → length lists.now ≡ schema.now.sites → part < 1 + schema.now.sites → IsFault schema.now entries.now (part_at part) fault) }
+    ensures { IfOk result (λ fault. AreAllPlaces entries.now (length entries.now) lists.now →
+        length lists.now ≡ schema.now.sites → part < 1 + schema.now.sites →
+        IsFault schema.now entries.now (part_at part) fault) }
 {
     if part == 0 {
         return statements_fault(alloc, schema, entries);
@@ -157,7 +162,9 @@ pub fn faults_of(
     entries: &[Entry],
     lists: &[Places],
 ) -> Result<Vec<Option<usize>>, AllocError>
-    ensures { IfOk result (λ faults. AllZip (λ part fault. AreAllPlaces entries.now (length entries.now) lists.now → length lists.now ≡ schema.now.sites → part < 1 + schema.now.sites → IsFault schema.now entries.now (part_at part) fault) (nat_range 0 (1 + schema.now.sites)) faults.items) }
+    ensures { IfOk result (λ faults. AllZip (λ part fault. AreAllPlaces entries.now (length entries.now) lists.now →
+        length lists.now ≡ schema.now.sites → part < 1 + schema.now.sites →
+        IsFault schema.now entries.now (part_at part) fault) (nat_range 0 (1 + schema.now.sites)) faults.items) }
 {
     let count = 1 + usize::from(schema.sites());
     let made: Result<Vec<Option<usize>>, AllocError> = (0..count)
@@ -165,7 +172,10 @@ pub fn faults_of(
         .with_min_len(1)
         .map(
             |part: usize| -> Result<Option<usize>, AllocError>
-                ensures { IfOk result (λ fault. AreAllPlaces entries.entry.now (length entries.entry.now) lists.entry.now → length lists.entry.now ≡ schema.entry.now.sites → part < 1 + schema.entry.now.sites → IsFault schema.entry.now entries.entry.now (part_at part) fault) }
+                ensures { IfOk result (λ fault. AreAllPlaces entries.entry.now (length entries.entry.now) lists.entry.now →
+                    length lists.entry.now ≡ schema.entry.now.sites →
+                    part < 1 + schema.entry.now.sites →
+                    IsFault schema.entry.now entries.entry.now (part_at part) fault) }
             { fault_of(alloc, schema, entries, lists, part) },
         )
         .collect(rt, alloc)?;

@@ -55,7 +55,8 @@ impl Issued {
 
     /// Whether an entry takes in no statement, or one that was issued. Costs at most one look-up.
     pub fn holds(&self, entry: Entry) -> bool
-        ensures { (t : List Entry) → AreIssued t self.now.keys.keys → result ≡ statement_test t entry.command entry.reply }
+        ensures { (t : List Entry) → AreIssued t self.now.keys.keys →
+            result ≡ statement_test t entry.command entry.reply }
     {
         match (entry.command, entry.reply) {
             (Command::Accept(told), Reply::Accepted { .. } | Reply::Unsure) => self.has(told),
@@ -65,7 +66,8 @@ impl Issued {
 
     /// Takes in what an entry issues.
     pub fn note(&mut self, entry: &Entry) -> Result<(), AllocError>
-        ensures { (t : List Entry) → AreIssued t self.old.keys.keys → OnOk result (AreIssued (entry.now ∷ t) self.new.keys.keys) }
+        ensures { (t : List Entry) → AreIssued t self.old.keys.keys →
+            OnOk result (AreIssued (entry.now ∷ t) self.new.keys.keys) }
     {
         if let Some(told) = statement_of(entry) {
             self.keys.insert(key_of(told))?;

@@ -51,8 +51,11 @@ fn settle(free: &mut Amounts, held: &mut Amounts, escrow: Escrow, committed: boo
 
 /// Ends escrows, one after another.
 fn settle_all(free: &mut Amounts, held: &mut Amounts, escrows: &[Escrow], committed: bool)
-    ensures held { (f : ℕ) (k : Kind) → has_place held.old f ≡ true → amount held.new f k ≡ amount held.old f k - taken f k escrows.now }
-    ensures free { (f : ℕ) (k : Kind) → has_place free.old f ≡ true → amount free.old f k ≤ 18446744073709551615 → amount free.new f k ≡ capped (amount free.old f k + taken f (turned committed k) escrows.now) }
+    ensures held { (f : ℕ) (k : Kind) → has_place held.old f ≡ true →
+        amount held.new f k ≡ amount held.old f k - taken f k escrows.now }
+    ensures free { (f : ℕ) (k : Kind) → has_place free.old f ≡ true →
+        amount free.old f k ≤ 18446744073709551615 → amount free.new f k
+        ≡ capped (amount free.old f k + taken f (turned committed k) escrows.now) }
     ensures held_places { (g : ℕ) → has_place held.new g ≡ has_place held.old g }
     ensures free_places { (g : ℕ) → has_place free.new g ≡ has_place free.old g }
 {
@@ -73,8 +76,11 @@ fn release(free: &mut Amounts, held: &mut Amounts, place: usize, kind: Kind)
 
 /// All that is held at so many places goes free.
 fn release_all(free: &mut Amounts, held: &mut Amounts, places: u16)
-    ensures held { (f : ℕ) (k : Kind) → f < places → has_place held.old f ≡ true → amount held.new f k ≡ 0 }
-    ensures free { (f : ℕ) (k : Kind) → f < places → has_place free.old f ≡ true → has_place held.old f ≡ true → amount free.new f k ≡ capped (amount free.old f k + amount held.old f k) }
+    ensures held { (f : ℕ) (k : Kind) → f < places → has_place held.old f ≡ true →
+        amount held.new f k ≡ 0 }
+    ensures free { (f : ℕ) (k : Kind) → f < places → has_place free.old f ≡ true →
+        has_place held.old f ≡ true →
+        amount free.new f k ≡ capped (amount free.old f k + amount held.old f k) }
     ensures held_places { (g : ℕ) → has_place held.new g ≡ has_place held.old g }
     ensures free_places { (g : ℕ) → has_place free.new g ≡ has_place free.old g }
 {

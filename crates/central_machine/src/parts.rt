@@ -17,7 +17,8 @@ use std::thread::Threads;
 
 /// The totals of all sites over a front.
 fn totals_of(alloc: Global, schema: &Schema, front: &[Entry]) -> Result<Totals, AllocError>
-    ensures { IfOk result (λ totals. verdict_back schema.now (reverse front.now) ≡ Legal → AreTotals schema.now (reverse front.now) totals) }
+    ensures { IfOk result (λ totals. verdict_back schema.now (reverse front.now) ≡ Legal →
+        AreTotals schema.now (reverse front.now) totals) }
 {
     let _few = length_of(front);
     let mut totals = Totals::new(alloc, schema)?;
@@ -30,7 +31,8 @@ fn totals_of(alloc: Global, schema: &Schema, front: &[Entry]) -> Result<Totals, 
 /// The rule that a bad entry breaks first, of which it is known whether it takes in a statement that
 /// wasn't issued.
 fn rule_of(totals: &Totals, schema: &Schema, entry: Entry, untold: bool) -> Rule
-    ensures { (t : List Entry) → AreTotals schema.now t totals.now → verdict_back schema.now t ≡ Legal → result ≡ named schema.now t entry untold }
+    ensures { (t : List Entry) → AreTotals schema.now t totals.now →
+        verdict_back schema.now t ≡ Legal → result ≡ named schema.now t entry untold }
 {
     if entry.site.0 >= schema.sites() {
         return Rule::Site;

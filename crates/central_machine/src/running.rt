@@ -32,7 +32,8 @@ impl Running {
     }
 
     fn statement_holds(&self, schema: &Schema, entry: Entry) -> bool
-        ensures { (t : List Entry) → AreRunning schema.now t self.now → result ≡ test_of schema.now t entry Told }
+        ensures { (t : List Entry) → AreRunning schema.now t self.now →
+            result ≡ test_of schema.now t entry Told }
     {
         let _sites = schema.sites();
         self.issued.holds(entry)
@@ -41,7 +42,8 @@ impl Running {
     /// The first rule that the next entry breaks, of a site of the schema.
     fn named(&self, schema: &Schema, entry: Entry) -> Option<Rule>
         requires site_in { entry.site.0 < schema.now.sites }
-        ensures { (t : List Entry) → AreRunning schema.now t self.now → verdict_back schema.now t ≡ Legal → result ≡ broken schema.now t entry }
+        ensures { (t : List Entry) → AreRunning schema.now t self.now →
+            verdict_back schema.now t ≡ Legal → result ≡ broken schema.now t entry }
     {
         if let Some(rule) = self.totals.field_broken(schema, entry) {
             return Some(rule);
@@ -55,9 +57,11 @@ impl Running {
         None
     }
 
-    /// The first rule that the next entry breaks. One whose statement was issued and whose reply is owed breaks none.
+    /// The first rule that the next entry breaks. One of a site of the schema, whose statement was issued
+    /// and whose reply is owed, breaks none.
     fn broken(&self, schema: &Schema, entry: Entry) -> Option<Rule>
-        ensures { (t : List Entry) → AreRunning schema.now t self.now → verdict_back schema.now t ≡ Legal → result ≡ broken schema.now t entry }
+        ensures { (t : List Entry) → AreRunning schema.now t self.now →
+            verdict_back schema.now t ≡ Legal → result ≡ broken schema.now t entry }
     {
         if entry.site.0 >= schema.sites() {
             return Some(Rule::Site);
@@ -70,7 +74,9 @@ impl Running {
 
     /// Takes the totals of a front to those of the front with the next entry.
     fn step(&mut self, alloc: Global, schema: &Schema, entry: Entry) -> Result<(), AllocError>
-        ensures { OnOk result ((t : List Entry) → length t < 230584300921369395 → AreRunning schema.now t self.old → verdict_back schema.now t ≡ Legal → broken schema.now t entry ≡ None → AreRunning schema.now (entry ∷ t) self.new) }
+        ensures { OnOk result ((t : List Entry) → length t < 230584300921369395 →
+            AreRunning schema.now t self.old → verdict_back schema.now t ≡ Legal →
+            broken schema.now t entry ≡ None → AreRunning schema.now (entry ∷ t) self.new) }
     {
         let _sites = schema.sites();
         self.issued.note(&entry)?;
@@ -84,8 +90,11 @@ impl Running {
         schema: &Schema,
         entry: Entry,
     ) -> Result<Option<Rule>, AllocError>
-        ensures rule { IfOk result (λ rule. (t : List Entry) → AreRunning schema.now t self.old → verdict_back schema.now t ≡ Legal → rule ≡ broken schema.now t entry) }
-        ensures totals { IfOk result (λ rule. (t : List Entry) → length t < 230584300921369395 → AreRunning schema.now t self.old → verdict_back schema.now t ≡ Legal → rule ≡ None → AreRunning schema.now (entry ∷ t) self.new) }
+        ensures rule { IfOk result (λ rule. (t : List Entry) → AreRunning schema.now t self.old →
+            verdict_back schema.now t ≡ Legal → rule ≡ broken schema.now t entry) }
+        ensures totals { IfOk result (λ rule. (t : List Entry) → length t < 230584300921369395 →
+            AreRunning schema.now t self.old → verdict_back schema.now t ≡ Legal → rule ≡ None →
+            AreRunning schema.now (entry ∷ t) self.new) }
     {
         if let Some(rule) = self.broken(schema, entry) {
             return Ok(Some(rule));

@@ -174,12 +174,22 @@ impl SiteTotals {
     /// Takes in the next entry of the site.
     pub fn take_in(&mut self, alloc: Global, entry: Entry) -> Result<(), AllocError>
         ensures numbers { OnOk result (NumbersAfter (effect_by (amount self.old.numbers.free) entry.command entry.reply) entry.reply self.old.doubt self.old.numbers self.new.numbers) }
-        ensures doubt { OnOk result (self.new.doubt ≡ doubt_after (effect_by (amount self.old.numbers.free) entry.command entry.reply) entry.reply self.old.doubt) }
-        ensures up { OnOk result ((base : Base) (o : List Entry) → self.old.standing.up ≡ is_up base o → self.new.standing.up ≡ is_up base (entry ∷ o)) }
-        ensures epoch { OnOk result ((base : Base) (o : List Entry) → self.old.standing.epoch ≡ epoch_of base o → self.new.standing.epoch ≡ epoch_of base (entry ∷ o)) }
-        ensures begun { OnOk result ((o : List Entry) → length o < 18446744073709551615 → self.old.standing.begun ≡ count_since is_begun_reply o → self.new.standing.begun ≡ count_since is_begun_reply (entry ∷ o)) }
-        ensures still_down { OnOk result ((o : List Entry) → length o < 18446744073709551615 → self.old.standing.still_down ≡ count_since is_still_down o → self.new.standing.still_down ≡ count_since is_still_down (entry ∷ o)) }
-        ensures unsure { OnOk result ((o : List Entry) → length o < 18446744073709551615 → self.old.standing.unsure ≡ count_since is_unsure o → self.new.standing.unsure ≡ count_since is_unsure (entry ∷ o)) }
+        ensures doubt { OnOk result (self.new.doubt
+            ≡ doubt_after (effect_by (amount self.old.numbers.free) entry.command entry.reply) entry.reply self.old.doubt) }
+        ensures up { OnOk result ((base : Base) (o : List Entry) →
+            self.old.standing.up ≡ is_up base o → self.new.standing.up ≡ is_up base (entry ∷ o)) }
+        ensures epoch { OnOk result ((base : Base) (o : List Entry) →
+            self.old.standing.epoch ≡ epoch_of base o →
+            self.new.standing.epoch ≡ epoch_of base (entry ∷ o)) }
+        ensures begun { OnOk result ((o : List Entry) → length o < 18446744073709551615 →
+            self.old.standing.begun ≡ count_since is_begun_reply o →
+            self.new.standing.begun ≡ count_since is_begun_reply (entry ∷ o)) }
+        ensures still_down { OnOk result ((o : List Entry) → length o < 18446744073709551615 →
+            self.old.standing.still_down ≡ count_since is_still_down o →
+            self.new.standing.still_down ≡ count_since is_still_down (entry ∷ o)) }
+        ensures unsure { OnOk result ((o : List Entry) → length o < 18446744073709551615 →
+            self.old.standing.unsure ≡ count_since is_unsure o →
+            self.new.standing.unsure ≡ count_since is_unsure (entry ∷ o)) }
     {
         let effect = effect_by(&self.numbers.free, entry.command, entry.reply);
         self.numbers.after(alloc, effect, entry.reply, self.doubt)?;

@@ -40,7 +40,8 @@ fn at_floor(bounds: Bounds) -> Bounds
 
 /// Whether a site owes the reply, where its totals say that it stands.
 pub fn reply_fits(schema: &Schema, site: SiteNo, totals: &SiteTotals, entry: Entry) -> bool
-    ensures { (o : List Entry) → IsSite schema.now site.0 o totals.now → result ≡ reply_test (place schema.now site.0 (fresh schema.now site.0) o) entry.command entry.reply }
+    ensures { (o : List Entry) → IsSite schema.now site.0 o totals.now → result
+        ≡ reply_test (place schema.now site.0 (fresh schema.now site.0) o) entry.command entry.reply }
 {
     let here = RunningSite {
         schema,
@@ -63,7 +64,9 @@ impl Totals {
     }
 
     fn free_at(&self, schema: &Schema, site: u16, field: FieldNo, kind: Kind) -> u64
-        ensures { (t : List Entry) → AreTotals schema.now t self.now → site < schema.now.sites → field.0 < length schema.now.fields → result ≡ share (fresh schema.now site) field.0 kind (at_site schema.now t site) }
+        ensures { (t : List Entry) → AreTotals schema.now t self.now → site < schema.now.sites →
+            field.0 < length schema.now.fields →
+            result ≡ share (fresh schema.now site) field.0 kind (at_site schema.now t site) }
     {
         let _sites = schema.sites();
         match self.sites.get(usize::from(site)) {
@@ -73,7 +76,9 @@ impl Totals {
     }
 
     fn held_at(&self, schema: &Schema, site: u16, field: FieldNo, kind: Kind) -> u64
-        ensures { (t : List Entry) → AreTotals schema.now t self.now → site < schema.now.sites → field.0 < length schema.now.fields → result ≡ held field.0 kind (at_site schema.now t site) }
+        ensures { (t : List Entry) → AreTotals schema.now t self.now → site < schema.now.sites →
+            field.0 < length schema.now.fields →
+            result ≡ held field.0 kind (at_site schema.now t site) }
     {
         let _sites = schema.sites();
         match self.sites.get(usize::from(site)) {
@@ -83,7 +88,9 @@ impl Totals {
     }
 
     fn cut_at(&self, schema: &Schema, site: u16, field: FieldNo, kind: Kind) -> u64
-        ensures { (t : List Entry) → AreTotals schema.now t self.now → site < schema.now.sites → field.0 < length schema.now.fields → result ≡ cut (fresh schema.now site) field.0 kind (at_site schema.now t site) }
+        ensures { (t : List Entry) → AreTotals schema.now t self.now → site < schema.now.sites →
+            field.0 < length schema.now.fields →
+            result ≡ cut (fresh schema.now site) field.0 kind (at_site schema.now t site) }
     {
         let _sites = schema.sites();
         match self.sites.get(usize::from(site)) {
@@ -93,7 +100,9 @@ impl Totals {
     }
 
     fn given_at(&self, schema: &Schema, from: u16, to: u16, field: FieldNo, kind: Kind) -> u64
-        ensures { (t : List Entry) → AreTotals schema.now t self.now → from < schema.now.sites → to < schema.now.sites → field.0 < length schema.now.fields → result ≡ given_between schema.now t field.0 kind from to }
+        ensures { (t : List Entry) → AreTotals schema.now t self.now → from < schema.now.sites →
+            to < schema.now.sites → field.0 < length schema.now.fields →
+            result ≡ given_between schema.now t field.0 kind from to }
     {
         let _sites = schema.sites();
         match self.sites.get(usize::from(from)) {
@@ -106,7 +115,9 @@ impl Totals {
     }
 
     fn accepted_at(&self, schema: &Schema, from: u16, to: u16, field: FieldNo, kind: Kind) -> u64
-        ensures { (t : List Entry) → AreTotals schema.now t self.now → from < schema.now.sites → to < schema.now.sites → field.0 < length schema.now.fields → result ≡ accepted_between schema.now t field.0 kind from to }
+        ensures { (t : List Entry) → AreTotals schema.now t self.now → from < schema.now.sites →
+            to < schema.now.sites → field.0 < length schema.now.fields →
+            result ≡ accepted_between schema.now t field.0 kind from to }
     {
         let _sites = schema.sites();
         match self.sites.get(usize::from(to)) {
@@ -122,7 +133,8 @@ impl Totals {
     fn flight_from(&self, schema: &Schema, from: u16, field: FieldNo, kind: Kind) -> u128
         requires site_in { from < schema.now.sites }
         requires field_in { field.0 < length schema.now.fields }
-        ensures value { (t : List Entry) → AreTotals schema.now t self.now → result ≡ sum_below schema.now.sites (λ to. given_between schema.now t field.0 kind from to - accepted_between schema.now t field.0 kind from to) }
+        ensures value { (t : List Entry) → AreTotals schema.now t self.now → result
+            ≡ sum_below schema.now.sites (λ to. given_between schema.now t field.0 kind from to - accepted_between schema.now t field.0 kind from to) }
         ensures small { result ≤ 1208925819614629174706176 }
     {
         let mut sum: u128 = 0;
@@ -138,7 +150,8 @@ impl Totals {
     /// The rights in flight.
     fn in_flight(&self, schema: &Schema, field: FieldNo, kind: Kind) -> u128
         requires field_in { field.0 < length schema.now.fields }
-        ensures value { (t : List Entry) → AreTotals schema.now t self.now → result ≡ in_flight schema.now t field.0 kind }
+        ensures value { (t : List Entry) → AreTotals schema.now t self.now →
+            result ≡ in_flight schema.now t field.0 kind }
         ensures small { result ≤ 79228162514264337593543950336 }
     {
         let mut sum: u128 = 0;
@@ -151,7 +164,8 @@ impl Totals {
     /// The shares of all sites.
     fn shares(&self, schema: &Schema, field: FieldNo, kind: Kind) -> u128
         requires field_in { field.0 < length schema.now.fields }
-        ensures value { (t : List Entry) → AreTotals schema.now t self.now → result ≡ shares schema.now t field.0 kind }
+        ensures value { (t : List Entry) → AreTotals schema.now t self.now →
+            result ≡ shares schema.now t field.0 kind }
         ensures small { result ≤ 1208925819614629174706176 }
     {
         let mut sum: u128 = 0;
@@ -164,7 +178,8 @@ impl Totals {
     /// What all sites have given up for good.
     fn cuts(&self, schema: &Schema, field: FieldNo, kind: Kind) -> u128
         requires field_in { field.0 < length schema.now.fields }
-        ensures value { (t : List Entry) → AreTotals schema.now t self.now → result ≡ cuts schema.now t field.0 kind }
+        ensures value { (t : List Entry) → AreTotals schema.now t self.now →
+            result ≡ cuts schema.now t field.0 kind }
         ensures small { result ≤ 1208925819614629174706176 }
     {
         let mut sum: u128 = 0;
@@ -177,7 +192,8 @@ impl Totals {
     /// The sizes of the open escrows of all sites.
     fn open_sizes(&self, schema: &Schema, field: FieldNo, kind: Kind) -> u128
         requires field_in { field.0 < length schema.now.fields }
-        ensures value { (t : List Entry) → AreTotals schema.now t self.now → IsSound schema.now t → result ≡ open_sizes schema.now t field.0 kind }
+        ensures value { (t : List Entry) → AreTotals schema.now t self.now → IsSound schema.now t →
+            result ≡ open_sizes schema.now t field.0 kind }
         ensures small { result ≤ 1208925819614629174706176 }
     {
         let mut sum: u128 = 0;
@@ -187,11 +203,12 @@ impl Totals {
         sum
     }
 
-    /// Whether one central store may grant an escrow: rights are conserved, so it may where the rights of all sites
-    /// and those in flight cover it.
+    /// Whether one central store may grant a change of a kind, of this size: rights are conserved, so it
+    /// may where the free rights of all sites and those in flight cover it.
     fn may_grant(&self, schema: &Schema, field: FieldNo, by: u64, kind: Kind) -> bool
         requires field_in { field.0 < length schema.now.fields }
-        ensures { (t : List Entry) → AreTotals schema.now t self.now → verdict_back schema.now t ≡ Legal → result ≡ within_bound schema.now t field.0 by kind }
+        ensures { (t : List Entry) → AreTotals schema.now t self.now →
+            verdict_back schema.now t ≡ Legal → result ≡ within_bound schema.now t field.0 by kind }
     {
         let _sites = schema.sites();
         u128::from(by) <= self.shares(schema, field, kind) + self.in_flight(schema, field, kind)
@@ -201,7 +218,9 @@ impl Totals {
     /// rights to lower of all sites, free, held and given up, and those in flight.
     fn holds_between(&self, schema: &Schema, field: FieldNo, lo: i64, hi: i64) -> bool
         requires field_in { field.0 < length schema.now.fields }
-        ensures { (t : List Entry) → AreTotals schema.now t self.now → verdict_back schema.now t ≡ Legal → result ≡ (int_le lo (committed schema.now t field.0) && int_le (committed schema.now t field.0) hi) }
+        ensures { (t : List Entry) → AreTotals schema.now t self.now →
+            verdict_back schema.now t ≡ Legal → result
+            ≡ (int_le lo (committed schema.now t field.0) && int_le (committed schema.now t field.0) hi) }
     {
         let _sites = schema.sites();
         let bounds = bounds_of(schema, field);
@@ -214,7 +233,8 @@ impl Totals {
     }
 
     fn grant_holds(&self, schema: &Schema, entry: Entry) -> bool
-        ensures { (t : List Entry) → AreTotals schema.now t self.now → verdict_back schema.now t ≡ Legal → result ≡ test_of schema.now t entry Grant }
+        ensures { (t : List Entry) → AreTotals schema.now t self.now →
+            verdict_back schema.now t ≡ Legal → result ≡ test_of schema.now t entry Grant }
     {
         match (entry.command, entry.reply) {
             (Command::Escrow { field, change, .. }, Reply::Granted) => {
@@ -250,7 +270,8 @@ impl Totals {
         told: u64,
     ) -> bool
         requires site_in { site.0 < schema.now.sites }
-        ensures { (t : List Entry) → AreTotals schema.now t self.now → result ≡ true_share schema.now t site.0 field kind asked told }
+        ensures { (t : List Entry) → AreTotals schema.now t self.now →
+            result ≡ true_share schema.now t site.0 field kind asked told }
     {
         if !has(schema, field) {
             return true;
@@ -260,7 +281,8 @@ impl Totals {
 
     fn shortage_holds(&self, schema: &Schema, entry: Entry) -> bool
         requires site_in { entry.site.0 < schema.now.sites }
-        ensures { (t : List Entry) → AreTotals schema.now t self.now → result ≡ test_of schema.now t entry Shortage }
+        ensures { (t : List Entry) → AreTotals schema.now t self.now →
+            result ≡ test_of schema.now t entry Shortage }
     {
         match (entry.command, entry.reply) {
             (Command::Escrow { field, change, .. }, Reply::Refused(Refusal::Short { share })) => {
@@ -304,7 +326,8 @@ impl Totals {
     }
 
     fn interval_holds(&self, schema: &Schema, entry: Entry) -> bool
-        ensures { (t : List Entry) → AreTotals schema.now t self.now → verdict_back schema.now t ≡ Legal → result ≡ test_of schema.now t entry Interval }
+        ensures { (t : List Entry) → AreTotals schema.now t self.now →
+            verdict_back schema.now t ≡ Legal → result ≡ test_of schema.now t entry Interval }
     {
         match (entry.command, entry.reply) {
             (Command::Read { field }, Reply::Between { lo, hi }) => {
@@ -319,7 +342,8 @@ impl Totals {
 
     pub fn reply_holds(&self, schema: &Schema, entry: Entry) -> bool
         requires site_in { entry.site.0 < schema.now.sites }
-        ensures { (t : List Entry) → AreTotals schema.now t self.now → result ≡ test_of schema.now t entry Owed }
+        ensures { (t : List Entry) → AreTotals schema.now t self.now →
+            result ≡ test_of schema.now t entry Owed }
     {
         match self.sites.get(usize::from(entry.site.0)) {
             Some(totals) => reply_fits(schema, entry.site, totals, entry),
@@ -329,7 +353,9 @@ impl Totals {
 
     /// Takes the totals of a front to those of the front with the next entry.
     pub fn step(&mut self, alloc: Global, schema: &Schema, entry: Entry) -> Result<(), AllocError>
-        ensures { OnOk result ((t : List Entry) → length t < 230584300921369395 → AreTotals schema.now t self.old → verdict_back schema.now t ≡ Legal → broken schema.now t entry ≡ None → AreTotals schema.now (entry ∷ t) self.new) }
+        ensures { OnOk result ((t : List Entry) → length t < 230584300921369395 →
+            AreTotals schema.now t self.old → verdict_back schema.now t ≡ Legal →
+            broken schema.now t entry ≡ None → AreTotals schema.now (entry ∷ t) self.new) }
     {
         let _sites = schema.sites();
         match self.sites.get_mut(usize::from(entry.site.0)) {
@@ -341,7 +367,8 @@ impl Totals {
     /// The first rule on fields that the next entry breaks: of Grant, Shortage and Interval.
     pub fn field_broken(&self, schema: &Schema, entry: Entry) -> Option<Rule>
         requires site_in { entry.site.0 < schema.now.sites }
-        ensures { (t : List Entry) → AreTotals schema.now t self.now → verdict_back schema.now t ≡ Legal → result ≡ field_broken schema.now t entry }
+        ensures { (t : List Entry) → AreTotals schema.now t self.now →
+            verdict_back schema.now t ≡ Legal → result ≡ field_broken schema.now t entry }
     {
         if !self.grant_holds(schema, entry) {
             return Some(Rule::Grant);

@@ -1,13 +1,12 @@
 -- What each test of the judge decides.
-use Rattle.std.proofs.Common.{◌≡◌, ℕ, ◌+◌, ◌<◌, ◌≤◌, Bool, true, false, not, ◌&&◌, ◌||◌, cond, List, [], ◌∷◌, length, refl, ap, inl, inr, arith, eqb, ltb, leb, T, Option, Some, None}
-use Rattle.std.proofs.lemmas.Bool.{eqb-true, eq-eqb, leb-true, leb-false, le-leb, lt-leb, not-false, true≢false}
+use Rattle.std.proofs.Common.{◌≡◌, ℕ, ◌+◌, ◌<◌, ◌≤◌, Bool, true, false, not, ◌&&◌, ◌||◌, cond, List, [], ◌∷◌, length, refl, ap, arith, eqb, ltb, leb, T, Option, Some, None}
+use Rattle.std.proofs.lemmas.Bool.{eqb-true, eq-eqb, leb-true, leb-false, le-leb, true≢false}
 use Rattle.std.proofs.lemmas.Bool.Decides.{Decides-and, Decides-or, Decides-like, Decides-not, Decides-eqb, Decides-int_eq, Decides-ltb}
 use Rattle.std.specs.Bool.{Decides}
-use Rattle.std.specs.Int.Signed.{le_z, le_z_yes}
+use Rattle.std.specs.Int.Signed.{le_z}
 use Rattle.std.specs.Prelude.{ℤ, pos, ◌≤ℤ◌, ◌+ℤ◌, ◌-ℤ◌, unsigned_abs, ◌⊎◌, MatchOption, IsTrue}
 use Rattle.field_bounds.specs.declared.kind.Kind.{Kind}
 use Rattle.field_bounds.specs.declared.kind.Kind.TheVariants.{Lower, Raise}
-use Rattle.field_bounds.specs.declared.id.SiteNo.{SiteNo}
 use Rattle.field_bounds.specs.declared.id.FieldNo.{FieldNo}
 use Rattle.field_bounds.specs.declared.id.TxnId.{TxnId}
 use Rattle.field_bounds.specs.declared.entry.Statement.{Statement}
@@ -21,15 +20,14 @@ use Rattle.field_bounds.specs.declared.entry.Last.{Last}
 use Rattle.field_bounds.specs.declared.entry.Last.TheVariants.{Nothing, Kept, Lost}
 use Rattle.field_bounds.specs.declared.entry.Entry.{Entry}
 use Rattle.field_bounds.specs.Schema.{SchemaValue}
-use Rattle.field_bounds.specs.Parts.{field_at}
 use Rattle.field_bounds.specs.Kind.{same_kind, kind_of}
 use Rattle.field_bounds.specs.Effects.{fresh, same_txn, share}
-use Rattle.field_bounds.specs.Owed.{Place, place, first, refusals, answer, writes, epoch_of, count_since, is_still_down, is_unsure, max_epoch, last_epoch, RestartFits, AnswerFits, Fits}
-use Rattle.field_bounds.specs.Central.{own, at_site, committed, inf, sup, floor_in, ceiling_in, MayBeGranted, GrantRule, IsShortage, ShortageRule, IntervalRule, StatementRule}
+use Rattle.field_bounds.specs.Owed.{Place, first, refusals, answer, writes, epoch_of, count_since, is_unsure, max_epoch, last_epoch, RestartFits, Fits}
+use Rattle.field_bounds.specs.Central.{at_site, committed, inf, sup, floor_in, ceiling_in, MayBeGranted, GrantRule, IsShortage, ShortageRule, IntervalRule, StatementRule}
 use Rattle.field_bounds.specs.Statements.{statement_of, IsIssued}
-use Rattle.central_rules.specs.Replies.{same_refusal, same_last, same_reply, last_test, restart_test, answer_test, reply_test}
+use Rattle.central_rules.specs.Replies.{same_refusal, same_last, same_reply, last_test, answer_test, reply_test}
 use Rattle.central_rules.specs.Verdict.{on_field, within_bound, grant_test, true_share, shortage_test, interval_test, same_statement, is_told_by, is_issued, statement_test}
-use Rattle.field_bounds.proofs.Lawful.{same_txn-true, same_kind-true}
+use Rattle.field_bounds.proofs.Lawful.{same_txn-true}
 
 abbrev always : {P : Type 0} → P → Decides true P
 always p = (λ _. p, λ _. refl)

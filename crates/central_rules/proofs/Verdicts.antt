@@ -1,24 +1,21 @@
 -- The verdict is Legal exactly over sound traces that are central.
-use Rattle.std.proofs.Common.{◌≡◌, ℕ, ◌+◌, ◌<◌, Bool, true, false, List, [], ◌∷◌, ◌++◌, reverse, take, drop, length, get_or, refl, ap, subst, sym, ◌∙◌, inl, inr, arith, eqb, ltb, Option, Some, None}
-use Rattle.std.proofs.lemmas.Bool.{eq-eqb, eqb-true, ltb-true, lt-ltb, cases_Bool}
+use Rattle.std.proofs.Common.{◌≡◌, ℕ, ◌+◌, ◌<◌, Bool, true, false, List, [], ◌∷◌, ◌++◌, reverse, take, drop, length, get_or, refl, ap, sym, ◌∙◌, inl, inr, arith, Option, Some, None}
+use Rattle.std.proofs.lemmas.Bool.{ltb-true, lt-ltb}
 use Rattle.std.proofs.lemmas.List.{length-reverse, length-take-le}
 use Rattle.central_rules.proofs.Fronts.{front_more, whole}
 use Rattle.std.specs.Prelude.{◌⊎◌}
 use Rattle.field_bounds.specs.declared.entry.Entry.{Entry}
 use Rattle.central_rules.specs.declared.verdict.Rule.{Rule}
-use Rattle.central_rules.specs.declared.verdict.Rule.TheVariants.{Site, Grant, Shortage, Interval, Statement as Told, Reply as Owed}
 use Rattle.central_rules.specs.declared.verdict.Verdict.{Verdict}
 use Rattle.central_rules.specs.declared.verdict.Verdict.TheVariants.{Legal, Illegal}
 use Rattle.field_bounds.specs.Schema.{SchemaValue}
-use Rattle.field_bounds.specs.Limits.{IsSchema}
 use Rattle.field_bounds.specs.Effects.{fresh}
-use Rattle.field_bounds.specs.Owed.{IsRun, Fits, place}
-use Rattle.field_bounds.specs.Central.{own, IsSound, IsCentral, KeepsRules, IsAtSites, IsTold}
-use Rattle.central_rules.specs.Verdict.{first_broken, rules, test_of, broken, verdict_more, verdict_back, verdict_of, IsFirstBad}
+use Rattle.field_bounds.specs.Owed.{Fits, place}
+use Rattle.field_bounds.specs.Central.{own, IsSound, IsCentral, KeepsRules}
+use Rattle.central_rules.specs.Verdict.{first_broken, rules, broken, verdict_more, verdict_back, verdict_of, IsFirstBad}
 use Rattle.central_rules.proofs.Decided.{fits_is, grant_is, shortage_is, interval_is, statement_is}
 use Rattle.field_bounds.proofs.Sound.{sound_more}
 use Rattle.field_bounds.proofs.Traces.{sound_front, sound_fits}
-use Rattle.field_bounds.proofs.Headline.{sound_is_central}
 
 -- each test of the list holds
 abbrev pub AllHold : List (Bool × Rule) → Type 0

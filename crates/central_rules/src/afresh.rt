@@ -54,9 +54,12 @@ pub fn same_kind(a: Kind, b: Kind) -> bool
 
 /// The fate after one more effect.
 fn fate_after(before: Fate, effect: Effect, id: TxnId) -> Fate
-    ensures begun { (es : List Effect) → before.begun ≡ is_begun id es → result.begun ≡ is_begun id (effect ∷ es) }
-    ensures committed { (es : List Effect) → before.committed ≡ is_committed id es → result.committed ≡ is_committed id (effect ∷ es) }
-    ensures dropped { (es : List Effect) → before.begun ≡ is_begun id es → before.dropped ≡ is_dropped id es → result.dropped ≡ is_dropped id (effect ∷ es) }
+    ensures begun { (es : List Effect) → before.begun ≡ is_begun id es →
+        result.begun ≡ is_begun id (effect ∷ es) }
+    ensures committed { (es : List Effect) → before.committed ≡ is_committed id es →
+        result.committed ≡ is_committed id (effect ∷ es) }
+    ensures dropped { (es : List Effect) → before.begun ≡ is_begun id es →
+        before.dropped ≡ is_dropped id es → result.dropped ≡ is_dropped id (effect ∷ es) }
 {
     let mut fate = before;
     match effect {
@@ -100,7 +103,9 @@ fn passes(which: Which, effects: &[Effect], id: TxnId) -> bool
 
 /// The size of the escrow that the effect grants, if it passes.
 fn size(effects: &[Effect], which: Which, field: FieldNo, kind: Kind, effect: Effect) -> u64
-    ensures value { (es : List Effect) → granted (passes which (reverse effects.now)) field.0 kind (effect ∷ es) ≡ result + granted (passes which (reverse effects.now)) field.0 kind es }
+    ensures value { (es : List Effect) →
+        granted (passes which (reverse effects.now)) field.0 kind (effect ∷ es)
+        ≡ result + granted (passes which (reverse effects.now)) field.0 kind es }
     ensures small { result ≤ 9223372036854775808 }
 {
     match effect {
@@ -143,7 +148,8 @@ fn goes_to(whom: Whom, to: Option<SiteNo>) -> bool
 
 /// The amount that left by the effect, if it went there.
 fn gift(whom: Whom, field: FieldNo, kind: Kind, effect: Effect) -> u64
-    ensures { (es : List Effect) → gifts (goes_to whom) field.0 kind (effect ∷ es) ≡ result + gifts (goes_to whom) field.0 kind es }
+    ensures { (es : List Effect) → gifts (goes_to whom) field.0 kind (effect ∷ es)
+        ≡ result + gifts (goes_to whom) field.0 kind es }
 {
     match effect {
         Effect::Gives {
@@ -175,7 +181,8 @@ pub fn gifts(effects: &[Effect], whom: Whom, field: FieldNo, kind: Kind) -> u128
 }
 
 fn accepted_after(before: u64, from: SiteNo, field: FieldNo, kind: Kind, effect: Effect) -> u64
-    ensures { (base : Base) (es : List Effect) → before ≡ accepted base from.0 field.0 kind es → result ≡ accepted base from.0 field.0 kind (effect ∷ es) }
+    ensures { (base : Base) (es : List Effect) → before ≡ accepted base from.0 field.0 kind es →
+        result ≡ accepted base from.0 field.0 kind (effect ∷ es) }
 {
     match effect {
         Effect::Accepts {
@@ -196,7 +203,8 @@ fn accepted_after(before: u64, from: SiteNo, field: FieldNo, kind: Kind, effect:
 
 /// The greatest total accepted from a site, on a fresh base.
 pub fn accepted(effects: &[Effect], from: SiteNo, field: FieldNo, kind: Kind) -> u64
-    ensures { (schema : SchemaValue) (site : ℕ) → result ≡ accepted (fresh schema site) from.0 field.0 kind (reverse effects.now) }
+    ensures { (schema : SchemaValue) (site : ℕ) →
+        result ≡ accepted (fresh schema site) from.0 field.0 kind (reverse effects.now) }
 {
     let mut total = 0;
     for effect in effects {
@@ -207,7 +215,9 @@ pub fn accepted(effects: &[Effect], from: SiteNo, field: FieldNo, kind: Kind) ->
 
 /// What the effect gains on top of those before it, on a fresh base.
 fn gain(before: &[Effect], field: FieldNo, kind: Kind, effect: Effect) -> u64
-    ensures { (schema : SchemaValue) (site : ℕ) → gains (fresh schema site) field.0 kind (effect ∷ reverse before.now) ≡ result + gains (fresh schema site) field.0 kind (reverse before.now) }
+    ensures { (schema : SchemaValue) (site : ℕ) →
+        gains (fresh schema site) field.0 kind (effect ∷ reverse before.now)
+        ≡ result + gains (fresh schema site) field.0 kind (reverse before.now) }
 {
     match effect {
         Effect::Accepts {
@@ -228,7 +238,8 @@ fn gain(before: &[Effect], field: FieldNo, kind: Kind, effect: Effect) -> u64
 
 /// What all acceptances gained, on a fresh base.
 pub fn gains(effects: &[Effect], field: FieldNo, kind: Kind) -> u128
-    ensures value { (schema : SchemaValue) (site : ℕ) → result ≡ gains (fresh schema site) field.0 kind (reverse effects.now) }
+    ensures value { (schema : SchemaValue) (site : ℕ) →
+        result ≡ gains (fresh schema site) field.0 kind (reverse effects.now) }
     ensures small { result ≤ length effects.now * 18446744073709551616 }
 {
     let mut sum: u128 = 0;
@@ -268,7 +279,8 @@ pub fn share(schema: &Schema, site: SiteNo, effects: &[Effect], field: FieldNo, 
 
 /// What a site has given up for good, on a fresh base.
 pub fn cut(effects: &[Effect], field: FieldNo, kind: Kind) -> u128
-    ensures value { (schema : SchemaValue) (site : ℕ) → result ≡ cut (fresh schema site) field.0 kind (reverse effects.now) }
+    ensures value { (schema : SchemaValue) (site : ℕ) →
+        result ≡ cut (fresh schema site) field.0 kind (reverse effects.now) }
     ensures small { result ≤ length effects.now * 18446744073709551616 }
 {
     gifts(effects, Whom::ForGood, field, kind)
@@ -276,7 +288,9 @@ pub fn cut(effects: &[Effect], field: FieldNo, kind: Kind) -> u128
 
 /// One where the effect begins a transaction that is open after all effects.
 fn opens(effects: &[Effect], effect: Effect) -> usize
-    ensures value { (es : List Effect) → length (filter (λ id. is_open id (reverse effects.now)) (begun (effect ∷ es))) ≡ result + length (filter (λ id. is_open id (reverse effects.now)) (begun es)) }
+    ensures value { (es : List Effect) →
+        length (filter (λ id. is_open id (reverse effects.now)) (begun (effect ∷ es)))
+        ≡ result + length (filter (λ id. is_open id (reverse effects.now)) (begun es)) }
     ensures small { result ≤ 1 }
 {
     match effect {
@@ -298,7 +312,8 @@ pub fn count_open(effects: &[Effect]) -> usize
 
 /// One where the effect grants an escrow to the transaction.
 fn grants(id: TxnId, effect: Effect) -> usize
-    ensures value { (es : List Effect) → length (escrows_of id (effect ∷ es)) ≡ result + length (escrows_of id es) }
+    ensures value { (es : List Effect) →
+        length (escrows_of id (effect ∷ es)) ≡ result + length (escrows_of id es) }
     ensures small { result ≤ 1 }
 {
     match effect {

@@ -123,7 +123,8 @@ fn spare_of(
 ) -> Option<Effect>
     requires few { length made.now ≤ 230584300921369395 }
     requires site_in { site.0 < schema.now.sites }
-    ensures { result ≡ effect_of (fresh schema.now site.0) (reverse made.now) (Spare to field kind want) reply }
+    ensures { result
+        ≡ effect_of (fresh schema.now site.0) (reverse made.now) (Spare to field kind want) reply }
 {
     match reply {
         Reply::Spared { amount, .. } => left(true, Some(to), field, kind, amount),
@@ -184,7 +185,8 @@ pub fn effects(
     requires few { length front.now ≤ 230584300921369395 }
     requires site_in { site.0 < schema.now.sites }
     ensures few { IfOk result (λ made. length made.items ≤ length front.now) }
-    ensures value { IfOk result (λ made. reverse made.items ≡ effects (fresh schema.now site.0) false (own site.0 (reverse front.now))) }
+    ensures value { IfOk result (λ made. reverse made.items
+        ≡ effects (fresh schema.now site.0) false (own site.0 (reverse front.now))) }
 {
     let mut made = Vec::new(alloc);
     for (i, entry) in front.iter().enumerate() {
@@ -212,7 +214,8 @@ pub fn total(
     requires few { length front.now ≤ 230584300921369395 }
     requires sound { IsSound schema.now (reverse front.now) }
     ensures small { IfOk result (λ n. n ≤ 136112946768375385267290680900966154240) }
-    ensures value { IfOk result (λ n. n ≡ sizes (λ s id. passes which (at_site schema.now (reverse front.now) s) id) field.0 kind (reverse front.now)) }
+    ensures value { IfOk result (λ n. n
+        ≡ sizes (λ s id. passes which (at_site schema.now (reverse front.now) s) id) field.0 kind (reverse front.now)) }
 {
     let mut sum: u128 = 0;
     for site in 0..schema.sites() {
@@ -255,7 +258,8 @@ fn may_lower(bounds: &Bounds, raised: u128, lowered: u128, held: u128, by: u64, 
     requires lowered { lowered ≤ 136112946768375385267290680900966154240 }
     requires held { held ≤ 136112946768375385267290680900966154240 }
     requires ordered { bounds.now.floor ≤ℤ bounds.now.value }
-    ensures { result ≡ int_le (bounds.now.floor +ℤ pos cut) (((bounds.now.value +ℤ (pos raised -ℤ pos lowered)) -ℤ pos held) -ℤ pos by) }
+    ensures { result
+        ≡ int_le (bounds.now.floor +ℤ pos cut) (((bounds.now.value +ℤ (pos raised -ℤ pos lowered)) -ℤ pos held) -ℤ pos by) }
 {
     let there = u128::from(bounds.value.abs_diff(bounds.floor)) + raised;
     covers(there, lowered + held + u128::from(by), cut)
@@ -268,7 +272,8 @@ fn may_raise(bounds: &Bounds, raised: u128, lowered: u128, held: u128, by: u64, 
     requires lowered { lowered ≤ 136112946768375385267290680900966154240 }
     requires held { held ≤ 136112946768375385267290680900966154240 }
     requires ordered { bounds.now.value ≤ℤ bounds.now.ceiling }
-    ensures { result ≡ int_le (((bounds.now.value +ℤ (pos raised -ℤ pos lowered)) +ℤ pos held) +ℤ pos by) (bounds.now.ceiling -ℤ pos cut) }
+    ensures { result
+        ≡ int_le (((bounds.now.value +ℤ (pos raised -ℤ pos lowered)) +ℤ pos held) +ℤ pos by) (bounds.now.ceiling -ℤ pos cut) }
 {
     let there = u128::from(bounds.ceiling.abs_diff(bounds.value)) + lowered;
     covers(there, raised + held + u128::from(by), cut)
@@ -312,7 +317,8 @@ pub fn true_share(
 ) -> Result<bool, AllocError>
     requires few { length front.now ≤ 230584300921369395 }
     requires site_in { site.0 < schema.now.sites }
-    ensures { IfOk result (λ holds. holds ≡ true_share schema.now (reverse front.now) site.0 field kind asked told) }
+    ensures { IfOk result (λ holds. holds
+        ≡ true_share schema.now (reverse front.now) site.0 field kind asked told) }
 {
     if !has(schema, field) {
         return Ok(true);
@@ -350,7 +356,8 @@ fn is_below(high: i64, value: i64, raised: u128, lowered: u128) -> bool
 pub fn lies_between(lo: i64, hi: i64, bounds: &Bounds, raised: u128, lowered: u128) -> bool
     requires raised { raised ≤ 136112946768375385267290680900966154240 }
     requires lowered { lowered ≤ 136112946768375385267290680900966154240 }
-    ensures { result ≡ (int_le lo (bounds.now.value +ℤ (pos raised -ℤ pos lowered)) && int_le (bounds.now.value +ℤ (pos raised -ℤ pos lowered)) hi) }
+    ensures { result
+        ≡ (int_le lo (bounds.now.value +ℤ (pos raised -ℤ pos lowered)) && int_le (bounds.now.value +ℤ (pos raised -ℤ pos lowered)) hi) }
 {
     is_above(lo, bounds.value, raised, lowered) && is_below(hi, bounds.value, raised, lowered)
 }
@@ -367,7 +374,8 @@ pub fn between(
     requires few { length front.now ≤ 230584300921369395 }
     requires sound { IsSound schema.now (reverse front.now) }
     requires in_schema { field.0 < length schema.now.fields }
-    ensures { IfOk result (λ holds. holds ≡ (int_le lo (committed schema.now (reverse front.now) field.0) && int_le (committed schema.now (reverse front.now) field.0) hi)) }
+    ensures { IfOk result (λ holds. holds
+        ≡ (int_le lo (committed schema.now (reverse front.now) field.0) && int_le (committed schema.now (reverse front.now) field.0) hi)) }
 {
     let bounds = bounds_of(schema, field);
     let raised = total(alloc, schema, front, Which::Committed, field, Kind::Raise)?;
@@ -383,7 +391,8 @@ pub fn standing_at(schema: &Schema, front: &[Entry], site: SiteNo) -> Standing
     ensures begun { result.begun ≡ count_since is_begun_reply (own site.0 (reverse front.now)) }
     ensures still_down { result.still_down ≡ count_since is_still_down (own site.0 (reverse front.now)) }
     ensures unsure { result.unsure ≡ count_since is_unsure (own site.0 (reverse front.now)) }
-    ensures few { (result.begun ≤ 230584300921369395) × (result.still_down ≤ 230584300921369395) × (result.unsure ≤ 230584300921369395) }
+    ensures few { (result.begun ≤ 230584300921369395) × (result.still_down ≤ 230584300921369395)
+        × (result.unsure ≤ 230584300921369395) }
 {
     let _sites = schema.sites();
     let mut now = Standing::new();

@@ -45,7 +45,8 @@ impl<'a> Here<'a> {
     ) -> Result<Here<'a>, AllocError>
         requires few { length front.now ≤ 230584300921369395 }
         requires site_in { site.0 < schema.now.sites }
-        ensures { IfOk result (λ here. here ≡ record { schema = schema.now; site = site; front = reverse front.now }) }
+        ensures { IfOk result (λ here. here
+            ≡ record { schema = schema.now; site = site; front = reverse front.now }) }
     {
         let standing = standing_at(schema, front, site);
         let made = effects(alloc, schema, front, site)?;

@@ -39,10 +39,14 @@ pub trait AtPlace {
     /// Where the site stands. Costs no memory.
     fn standing(&self) -> Standing
         ensures up { (at : Place) → is_at self.now at → result.up ≡ is_up at.base at.entries }
-        ensures epoch { (at : Place) → is_at self.now at → result.epoch ≡ epoch_of at.base at.entries }
-        ensures begun { (at : Place) → is_at self.now at → result.begun ≡ count_since is_begun_reply at.entries }
-        ensures still_down { (at : Place) → is_at self.now at → result.still_down ≡ count_since is_still_down at.entries }
-        ensures unsure { (at : Place) → is_at self.now at → result.unsure ≡ count_since is_unsure at.entries };
+        ensures epoch { (at : Place) → is_at self.now at →
+            result.epoch ≡ epoch_of at.base at.entries }
+        ensures begun { (at : Place) → is_at self.now at →
+            result.begun ≡ count_since is_begun_reply at.entries }
+        ensures still_down { (at : Place) → is_at self.now at →
+            result.still_down ≡ count_since is_still_down at.entries }
+        ensures unsure { (at : Place) → is_at self.now at →
+            result.unsure ≡ count_since is_unsure at.entries };
 
     /// How many transactions are open.
     fn open_count(&self) -> usize
@@ -51,32 +55,39 @@ pub trait AtPlace {
     /// How many escrows a transaction has, or None where it isn't open.
     fn open_escrows(&self, txn: TxnId) -> Option<usize>
         ensures open { (at : Place) → is_at self.now at → is_some result ≡ is_open_at at txn }
-        ensures count { (at : Place) → is_at self.now at → IfSome result (λ n. n ≡ count_escrows txn at.effects) };
+        ensures count { (at : Place) → is_at self.now at →
+            IfSome result (λ n. n ≡ count_escrows txn at.effects) };
 
     /// The free rights of a kind on a field of the schema.
     fn free(&self, field: FieldNo, kind: Kind) -> u128
-        ensures value { (at : Place) → is_at self.now at → field.0 < length at.schema.fields → result ≡ free at field kind }
+        ensures value { (at : Place) → is_at self.now at → field.0 < length at.schema.fields →
+            result ≡ free at field kind }
         ensures small { result < 42535295865117307932921825928971026432 };
 
     /// The rights of a kind on a field of the schema that the site owns, free and held.
     fn owned(&self, field: FieldNo, kind: Kind) -> u128
-        ensures value { (at : Place) → is_at self.now at → field.0 < length at.schema.fields → result ≡ owned at field kind }
+        ensures value { (at : Place) → is_at self.now at → field.0 < length at.schema.fields →
+            result ≡ owned at field kind }
         ensures small { result ≤ 63802943797675961899382738893456539648 };
 
     /// The rights of a kind on a field of the schema that the site has given up for good.
     fn cut(&self, field: FieldNo, kind: Kind) -> u128
-        ensures value { (at : Place) → is_at self.now at → field.0 < length at.schema.fields → result ≡ cut_so_far at field kind }
+        ensures value { (at : Place) → is_at self.now at → field.0 < length at.schema.fields →
+            result ≡ cut_so_far at field kind }
         ensures small { result ≤ 5316911983139663491615228241121378304 };
 
     /// The total given so far to a site, of a kind on a field, both of the schema.
     fn told_so_far(&self, to: SiteNo, field: FieldNo, kind: Kind) -> u128
-        ensures value { (at : Place) → is_at self.now at → to.0 < at.schema.sites → field.0 < length at.schema.fields → result ≡ told_so_far at to field kind }
+        ensures value { (at : Place) → is_at self.now at → to.0 < at.schema.sites →
+            field.0 < length at.schema.fields → result ≡ told_so_far at to field kind }
         ensures small { result ≤ 5316911983139663491615228241121378304 };
 
     /// What a statement has above those accepted before from its site, of a field and a site of the
     /// schema.
     fn gain(&self, told: Statement) -> u64
-        ensures value { (at : Place) → is_at self.now at → told.from.0 < at.schema.sites → told.field.0 < length at.schema.fields → result ≡ gain_of at told.from told.field told.kind told.total };
+        ensures value { (at : Place) → is_at self.now at → told.from.0 < at.schema.sites →
+            told.field.0 < length at.schema.fields →
+            result ≡ gain_of at told.from told.field told.kind told.total };
 }
 
 fn is_up<P: AtPlace>(here: &P) -> bool
@@ -86,7 +97,8 @@ fn is_up<P: AtPlace>(here: &P) -> bool
 }
 
 fn has<P: AtPlace>(here: &P, field: FieldNo) -> bool
-    ensures { (at : Place) → P.is_at here.now at → result ≡ nat_lt field.0 (length at.schema.fields) }
+    ensures { (at : Place) → P.is_at here.now at →
+        result ≡ nat_lt field.0 (length at.schema.fields) }
 {
     field.0 < here.schema().fields()
 }
@@ -105,7 +117,8 @@ fn is_here<P: AtPlace>(here: &P, site: SiteNo) -> bool
 
 /// What the site guards of a field of the schema.
 fn guarded<P: AtPlace>(here: &P, field: FieldNo, kind: Kind) -> u128
-    ensures value { (at : Place) → P.is_at here.now at → field.0 < length at.schema.fields → result ≡ guarded at field kind }
+    ensures value { (at : Place) → P.is_at here.now at → field.0 < length at.schema.fields →
+        result ≡ guarded at field kind }
     ensures small { result ≤ 85070591730234615865843651857942052864 }
 {
     here.cut(field, kind) + here.owned(field, kind)
@@ -113,8 +126,10 @@ fn guarded<P: AtPlace>(here: &P, field: FieldNo, kind: Kind) -> u128
 
 /// The floor and the ceiling of a field of the schema.
 fn bounds<P: AtPlace>(here: &P, field: FieldNo) -> Bounds
-    ensures floor { (at : Place) → P.is_at here.now at → field.0 < length at.schema.fields → result.floor ≡ (field_at at.schema field.0).floor }
-    ensures ceiling { (at : Place) → P.is_at here.now at → field.0 < length at.schema.fields → result.ceiling ≡ (field_at at.schema field.0).ceiling }
+    ensures floor { (at : Place) → P.is_at here.now at → field.0 < length at.schema.fields →
+        result.floor ≡ (field_at at.schema field.0).floor }
+    ensures ceiling { (at : Place) → P.is_at here.now at → field.0 < length at.schema.fields →
+        result.ceiling ≡ (field_at at.schema field.0).ceiling }
 {
     let schema = here.schema();
     if field.0 < schema.fields() {
@@ -129,7 +144,8 @@ fn bounds<P: AtPlace>(here: &P, field: FieldNo) -> Bounds
 
 /// What the rights that are guarded leave of the width of a field of the schema.
 fn room<P: AtPlace>(here: &P, field: FieldNo) -> u128
-    ensures { (at : Place) → P.is_at here.now at → field.0 < length at.schema.fields → result ≡ room at field }
+    ensures { (at : Place) → P.is_at here.now at → field.0 < length at.schema.fields →
+        result ≡ room at field }
 {
     let bounds = bounds(here, field);
     let own = guarded(here, field, Kind::Lower) + guarded(here, field, Kind::Raise);
@@ -153,7 +169,8 @@ fn fits_begin<P: AtPlace>(here: &P, reply: Reply) -> bool
 }
 
 fn fits_escrow<P: AtPlace>(here: &P, txn: TxnId, field: FieldNo, change: i64, reply: Reply) -> bool
-    ensures { (at : Place) → P.is_at here.now at → result ≡ reply_test at (Escrow txn field change) reply }
+    ensures { (at : Place) → P.is_at here.now at →
+        result ≡ reply_test at (Escrow txn field change) reply }
 {
     let kind = Kind::of(change);
     let amount = change.unsigned_abs();
@@ -214,7 +231,8 @@ fn fits_give<P: AtPlace>(
     amount: u64,
     reply: Reply,
 ) -> bool
-    ensures { (at : Place) → P.is_at here.now at → result ≡ reply_test at (Give to field kind amount) reply }
+    ensures { (at : Place) → P.is_at here.now at →
+        result ≡ reply_test at (Give to field kind amount) reply }
 {
     if !is_up(here) {
         return is_refused(reply, Refusal::Down);
@@ -247,7 +265,8 @@ fn fits_give<P: AtPlace>(
 }
 
 fn fits_restate<P: AtPlace>(here: &P, to: SiteNo, field: FieldNo, kind: Kind, reply: Reply) -> bool
-    ensures { (at : Place) → P.is_at here.now at → result ≡ reply_test at (Restate to field kind) reply }
+    ensures { (at : Place) → P.is_at here.now at →
+        result ≡ reply_test at (Restate to field kind) reply }
 {
     if !is_up(here) {
         return is_refused(reply, Refusal::Down);
@@ -276,7 +295,8 @@ fn fits_spare<P: AtPlace>(
     want: u64,
     reply: Reply,
 ) -> bool
-    ensures { (at : Place) → P.is_at here.now at → result ≡ reply_test at (Spare to field kind want) reply }
+    ensures { (at : Place) → P.is_at here.now at →
+        result ≡ reply_test at (Spare to field kind want) reply }
 {
     if !is_up(here) {
         return is_refused(reply, Refusal::Down);
@@ -310,7 +330,8 @@ fn fits_spare<P: AtPlace>(
 }
 
 fn fits_tighten<P: AtPlace>(here: &P, field: FieldNo, kind: Kind, amount: u64, reply: Reply) -> bool
-    ensures { (at : Place) → P.is_at here.now at → result ≡ reply_test at (Tighten field kind amount) reply }
+    ensures { (at : Place) → P.is_at here.now at →
+        result ≡ reply_test at (Tighten field kind amount) reply }
 {
     if !is_up(here) {
         return is_refused(reply, Refusal::Down);

@@ -88,7 +88,8 @@ fn grant_holds(
 ) -> Result<bool, AllocError>
     requires few { length front.now ≤ 230584300921369395 }
     requires sound { IsSound schema.now (reverse front.now) }
-    ensures { IfOk result (λ holds. holds ≡ grant_test schema.now (reverse front.now) entry.command entry.reply) }
+    ensures { IfOk result (λ holds. holds
+        ≡ grant_test schema.now (reverse front.now) entry.command entry.reply) }
 {
     match (entry.command, entry.reply) {
         (Command::Escrow { field, change, .. }, Reply::Granted) => {
@@ -129,7 +130,8 @@ fn interval_holds(
 ) -> Result<bool, AllocError>
     requires few { length front.now ≤ 230584300921369395 }
     requires sound { IsSound schema.now (reverse front.now) }
-    ensures { IfOk result (λ holds. holds ≡ interval_test schema.now (reverse front.now) entry.command entry.reply) }
+    ensures { IfOk result (λ holds. holds
+        ≡ interval_test schema.now (reverse front.now) entry.command entry.reply) }
 {
     match (entry.command, entry.reply) {
         (Command::Read { field }, Reply::Between { lo, hi }) => {
@@ -150,7 +152,8 @@ fn shortage_holds(
 ) -> Result<bool, AllocError>
     requires few { length front.now ≤ 230584300921369395 }
     requires site_in { entry.site.0 < schema.now.sites }
-    ensures { IfOk result (λ holds. holds ≡ shortage_test schema.now (reverse front.now) entry.site.0 entry.command entry.reply) }
+    ensures { IfOk result (λ holds. holds
+        ≡ shortage_test schema.now (reverse front.now) entry.site.0 entry.command entry.reply) }
 {
     match (entry.command, entry.reply) {
         (Command::Escrow { field, change, .. }, Reply::Refused(Refusal::Short { share })) => {

@@ -41,12 +41,21 @@ impl Standing {
     /// Where the site stands after one more entry of its own. A count stays at the greatest number
     /// where it is that already, so it is exact over any entries that memory holds. Costs no memory.
     pub fn after(self, entry: Entry) -> Standing
-        ensures up { (base : Base) (o : List Entry) → self.up ≡ is_up base o → result.up ≡ is_up base (entry ∷ o) }
-        ensures epoch { (base : Base) (o : List Entry) → self.epoch ≡ epoch_of base o → result.epoch ≡ epoch_of base (entry ∷ o) }
-        ensures begun { (o : List Entry) → length o < 18446744073709551615 → self.begun ≡ count_since is_begun_reply o → result.begun ≡ count_since is_begun_reply (entry ∷ o) }
-        ensures still_down { (o : List Entry) → length o < 18446744073709551615 → self.still_down ≡ count_since is_still_down o → result.still_down ≡ count_since is_still_down (entry ∷ o) }
-        ensures unsure { (o : List Entry) → length o < 18446744073709551615 → self.unsure ≡ count_since is_unsure o → result.unsure ≡ count_since is_unsure (entry ∷ o) }
-        ensures most { (result.begun ≤ self.begun + 1) × (result.still_down ≤ self.still_down + 1) × (result.unsure ≤ self.unsure + 1) }
+        ensures up { (base : Base) (o : List Entry) → self.up ≡ is_up base o →
+            result.up ≡ is_up base (entry ∷ o) }
+        ensures epoch { (base : Base) (o : List Entry) → self.epoch ≡ epoch_of base o →
+            result.epoch ≡ epoch_of base (entry ∷ o) }
+        ensures begun { (o : List Entry) → length o < 18446744073709551615 →
+            self.begun ≡ count_since is_begun_reply o →
+            result.begun ≡ count_since is_begun_reply (entry ∷ o) }
+        ensures still_down { (o : List Entry) → length o < 18446744073709551615 →
+            self.still_down ≡ count_since is_still_down o →
+            result.still_down ≡ count_since is_still_down (entry ∷ o) }
+        ensures unsure { (o : List Entry) → length o < 18446744073709551615 →
+            self.unsure ≡ count_since is_unsure o →
+            result.unsure ≡ count_since is_unsure (entry ∷ o) }
+        ensures most { (result.begun ≤ self.begun + 1) × (result.still_down ≤ self.still_down + 1)
+            × (result.unsure ≤ self.unsure + 1) }
     {
         let mut now = self;
         match entry.reply {

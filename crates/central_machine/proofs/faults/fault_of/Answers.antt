@@ -1,9 +1,9 @@
-use Rattle.std.proofs.Common.{◌≡◌, ◌<◌, ◌+◌, ◌-◌, length, refl, ap, subst, sym, arith, rules, Some, true, false, eqb, cond}
-use Rattle.std.specs.Prelude.{slice_get, Option, ℕ, List, Bool}
+use Rattle.std.proofs.Common.{◌≡◌, ◌-◌, length, refl, ap, subst, sym, arith, cond}
+use Rattle.std.specs.Prelude.{ℕ, List, Bool}
 use Rattle.std.proofs.lemmas.Bool.{ne_eqb}
 use Rattle.central_machine.specs.declared.faults.Part.{Part}
 use Rattle.central_machine.specs.declared.faults.Part.TheVariants.{Statements, AtSite}
-use Rattle.central_machine.specs.Parts.{AreAllPlaces, ArePlaces, IsFault, part_at}
+use Rattle.central_machine.specs.Parts.{ArePlaces, IsFault, part_at}
 use Rattle.central_machine.proofs.Row.{found_at}
 use Rattle.central_machine.proofs.Found.{ok_if}
 use Rattle.central_machine.proofs.faults.fault_of.Goals as goal

@@ -1,4 +1,4 @@
-use Rattle.std.proofs.Common.{◌≡◌, ◌+◌, ◌<◌, ℕ, ap, ◌∙◌, length, arith}
+use Rattle.std.proofs.Common.{◌≡◌, ◌+◌, ◌<◌, ap, ◌∙◌, length, arith}
 use Rattle.rayon.specs.Numbers.{nat_range}
 use Rattle.central_machine.specs.Parts.{AreAllPlaces, IsFault, part_at}
 use Rattle.central_machine.proofs.Parallel.{gather}

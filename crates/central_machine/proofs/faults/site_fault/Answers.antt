@@ -1,4 +1,4 @@
-use Rattle.std.proofs.Common.{◌≡◌, ◌≤◌, ◌<◌, refl, sym, arith, rules, length, Some}
+use Rattle.std.proofs.Common.{◌≡◌, ◌≤◌, refl, arith, rules, length, Some}
 use Rattle.std.specs.Prelude.{slice_get, slice_index_or}
 use Rattle.std.proofs.lemmas.Option.{slice_get-get_or}
 use Rattle.central_machine.proofs.Row.{found_at}

@@ -1,4 +1,4 @@
-use Rattle.std.proofs.Common.{◌≡◌, arith, sym, ap, ◌∙◌}
+use Rattle.std.proofs.Common.{arith, sym, ap, ◌∙◌}
 use Rattle.std.proofs.lemmas.List.Sums.{position_or_len_is}
 use Rattle.field_bounds.specs.Effects.{same_txn}
 use Rattle.central_machine.specs.declared.journal.OpenTransaction.{OpenTransaction}

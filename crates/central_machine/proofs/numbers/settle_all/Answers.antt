@@ -1,4 +1,4 @@
-use Rattle.std.proofs.Common.{◌≡◌, ◌∙◌}
+use Rattle.std.proofs.Common.{◌∙◌}
 use Rattle.central_machine.proofs.Ending.{held_less, free_more}
 use Rattle.central_machine.proofs.numbers.settle_all.Goals as goal
 

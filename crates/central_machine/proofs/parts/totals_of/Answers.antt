@@ -1,4 +1,4 @@
-use Rattle.std.proofs.Common.{◌≡◌, ◌<◌, arith, List, length, sym, subst, ap, ◌∙◌, reverse, take, take_all, get_or, ◌∷◌}
+use Rattle.std.proofs.Common.{◌≡◌, ◌<◌, arith, List, length, sym, subst, reverse, take, take_all}
 use Rattle.field_bounds.specs.declared.entry.Entry.{Entry}
 use Rattle.central_rules.specs.declared.verdict.Verdict.TheVariants.{Legal}
 use Rattle.central_rules.specs.Verdict.{verdict_back}

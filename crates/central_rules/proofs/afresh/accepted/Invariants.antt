@@ -1,6 +1,6 @@
-use Rattle.std.proofs.Common.{◌≡◌, ◌≤◌, ◌*◌, ℕ, reverse, take}
+use Rattle.std.proofs.Common.{◌≡◌, ℕ, reverse, take}
 use Rattle.field_bounds.specs.Schema.{SchemaValue}
-use Rattle.field_bounds.specs.Effects.{gifts, gains, accepted, fresh}
+use Rattle.field_bounds.specs.Effects.{accepted, fresh}
 use Rattle.central_rules.proofs.afresh.accepted.Given as goal
 
 abbrev pub invariant-loop-effect : goal.invariant-loop-effect

@@ -1,6 +1,5 @@
-use Rattle.std.proofs.Common.{◌≡◌, ◌≤◌, ◌*◌, ℕ, reverse, take}
-use Rattle.field_bounds.specs.Schema.{SchemaValue}
-use Rattle.field_bounds.specs.Effects.{gifts, gains, accepted, fresh}
+use Rattle.std.proofs.Common.{◌≡◌, ◌≤◌, ◌*◌, reverse, take}
+use Rattle.field_bounds.specs.Effects.{gifts}
 use Rattle.central_rules.specs.Fates.{goes_to}
 use Rattle.central_rules.proofs.afresh.gifts.Given as goal
 

@@ -1,4 +1,4 @@
-use Rattle.std.proofs.Common.{◌≡◌, reverse, ap, ◌∙◌, Bool, ◌&&◌, w64}
+use Rattle.std.proofs.Common.{reverse, ap, ◌∙◌, ◌&&◌, w64}
 use Rattle.std.proofs.lemmas.Int.{to_z-of_z}
 use Rattle.std.specs.Prelude.{ℤ, int_le}
 use Rattle.central_rules.proofs.Across.{value_is}

@@ -2,7 +2,6 @@ use Rattle.std.proofs.Common.{◌≡◌, ap, arith, reverse, rules, List, ◌∙
 use Rattle.field_bounds.specs.declared.effect.Effect.{Effect}
 use Rattle.field_bounds.specs.Effects.{cut, fresh}
 use Rattle.field_bounds.specs.Central.{at_site}
-use Rattle.field_bounds.specs.Parts.{sum_below}
 use Rattle.central_rules.proofs.Across.{sum_more}
 use Rattle.central_rules.proofs.front.cuts.Goals as goal
 

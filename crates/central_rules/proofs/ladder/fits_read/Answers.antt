@@ -1,4 +1,4 @@
-use Rattle.std.proofs.Common.{◌≡◌, ◌<◌, length, rules}
+use Rattle.std.proofs.Common.{◌<◌, length, rules}
 use Rattle.central_rules.proofs.ladder.fits_read.Goals as goal
 
 pub returns : goal.returns

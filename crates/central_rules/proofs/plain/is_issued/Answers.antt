@@ -1,7 +1,7 @@
-use Rattle.std.proofs.Common.{◌≡◌, true, false, reverse, take, sym, ◌∙◌, ap, arith}
-use Rattle.std.specs.Prelude.{Bool, Option}
+use Rattle.std.proofs.Common.{◌≡◌, true, sym, ◌∙◌, ap, arith}
+use Rattle.std.specs.Prelude.{Option}
 use Rattle.field_bounds.specs.declared.entry.Statement.{Statement}
-use Rattle.central_rules.specs.Verdict.{is_told_by, same_statement}
+use Rattle.central_rules.specs.Verdict.{is_told_by}
 use Rattle.central_rules.proofs.Fronts.{issued_found}
 use Rattle.central_rules.proofs.plain.is_issued.Goals as goal
 

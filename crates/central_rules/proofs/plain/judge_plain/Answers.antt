@@ -1,4 +1,4 @@
-use Rattle.std.proofs.Common.{◌≡◌, sym, ◌∙◌, refl, arith, take_all, length, reverse}
+use Rattle.std.proofs.Common.{sym, ◌∙◌, refl, arith}
 use Rattle.central_rules.specs.Verdict.{verdict_back}
 use Rattle.central_rules.proofs.Verdicts.{stop_here, go_on}
 use Rattle.central_rules.proofs.plain.judge_plain.Goals as goal

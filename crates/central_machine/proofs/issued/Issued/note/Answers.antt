@@ -1,9 +1,6 @@
-use Rattle.std.proofs.Common.{◌≡◌, ℕ, Bool, true, cond, List, sym, ap, ◌∙◌, refl}
-use Rattle.std.specs.Prelude.{Option, Some, ◌||◌}
-use Rattle.field_bounds.specs.declared.entry.Statement.{Statement}
-use Rattle.central_rules.specs.Verdict.{same_statement, is_told_by, is_issued}
-use Rattle.central_machine.specs.Issued.{key_of, same_key}
-use Rattle.central_machine.proofs.Keys.{keys_compare, one_more}
+use Rattle.std.proofs.Common.{sym, ◌∙◌}
+use Rattle.central_machine.specs.Issued.{key_of}
+use Rattle.central_machine.proofs.Keys.{one_more}
 use Rattle.central_machine.proofs.issued.Issued.note.Goals as goal
 
 pub returns-in_ok-insert : goal.returns-in_ok-insert

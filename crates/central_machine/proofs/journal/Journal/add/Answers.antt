@@ -1,4 +1,4 @@
-use Rattle.std.proofs.Common.{◌≡◌, ◌≤◌, length, refl, rules}
+use Rattle.std.proofs.Common.{◌≤◌, length, refl, rules}
 use Rattle.central_machine.proofs.Rows.{added_is, not_added}
 use Rattle.central_machine.proofs.journal.Journal.add.Goals as goal
 

@@ -1,4 +1,4 @@
-use Rattle.std.proofs.Common.{rules, subst, sym, List}
+use Rattle.std.proofs.Common.{subst, sym, List}
 use Rattle.central_machine.specs.declared.journal.OpenTransaction.{OpenTransaction}
 use Rattle.central_machine.specs.Open.{IsOpened}
 use Rattle.central_machine.proofs.Rows.{opened_is}

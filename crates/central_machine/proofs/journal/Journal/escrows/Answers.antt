@@ -1,4 +1,4 @@
-use Rattle.std.proofs.Common.{◌≡◌, true, false, ltb, length, rules, ap, ◌∙◌}
+use Rattle.std.proofs.Common.{◌≡◌, true, false, ltb, length, rules, ◌∙◌}
 use Rattle.central_machine.proofs.Rows.{looked, found}
 use Rattle.central_machine.proofs.journal.Journal.escrows.Goals as goal
 

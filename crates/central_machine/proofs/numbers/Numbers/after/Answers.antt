@@ -1,4 +1,4 @@
-use Rattle.std.proofs.Common.{◌≡◌, subst, sym, Option}
+use Rattle.std.proofs.Common.{subst, sym, Option}
 use Rattle.std.specs.Result.{OnOk}
 use Rattle.field_bounds.specs.declared.effect.Effect.{Effect}
 use Rattle.field_bounds.specs.declared.entry.Reply.{Reply}

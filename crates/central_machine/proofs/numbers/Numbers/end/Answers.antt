@@ -1,4 +1,4 @@
-use Rattle.std.proofs.Common.{◌≡◌, ◌+◌, ◌-◌, false, refl, sym, ap, ◌∙◌, List, arith}
+use Rattle.std.proofs.Common.{◌+◌, ◌-◌, refl, sym, ap, ◌∙◌, List, arith}
 use Rattle.field_bounds.specs.declared.entry.Escrow.{Escrow}
 use Rattle.central_machine.specs.Amounts.{amount, capped}
 use Rattle.central_machine.specs.Running.{taken, turned}

@@ -1,5 +1,5 @@
-use Rattle.std.proofs.Common.{◌≡◌, ◌<◌, ◌*◌, length, ℕ, ◌∙◌, arith, refl, ap}
-use Rattle.field_bounds.specs.declared.kind.Kind.TheVariants.{Lower, Raise}
+use Rattle.std.proofs.Common.{◌<◌, ◌*◌, length, ℕ, ◌∙◌, arith, refl, ap}
+use Rattle.field_bounds.specs.declared.kind.Kind.TheVariants.{Lower}
 use Rattle.central_machine.specs.Open.{txns_of}
 use Rattle.central_machine.specs.Running.{place_at}
 use Rattle.central_machine.proofs.Row.{in_ledger}

@@ -1,5 +1,4 @@
-use Rattle.std.proofs.Common.{◌≡◌, ap, ◌∙◌, ℕ, rules, Some}
-use Rattle.std.specs.Prelude.{slice_get}
+use Rattle.std.proofs.Common.{ap, ◌∙◌, ℕ}
 use Rattle.central_machine.specs.Amounts.{amount}
 use Rattle.central_machine.proofs.Row.{found_at}
 use Rattle.central_machine.proofs.totals.Totals.cut_at.Goals as goal

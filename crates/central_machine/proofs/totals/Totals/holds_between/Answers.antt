@@ -1,4 +1,4 @@
-use Rattle.std.proofs.Common.{◌≡◌, ap, ◌∙◌, ℕ, Bool, ◌&&◌, ◌+◌, w64, arith, sym}
+use Rattle.std.proofs.Common.{ap, ◌∙◌, ◌&&◌, ◌+◌, w64, arith}
 use Rattle.std.proofs.lemmas.Int.{to_z-of_z}
 use Rattle.std.specs.Prelude.{ℤ, int_le}
 use Rattle.central_machine.proofs.Central_rules.{committed_at}

@@ -1,4 +1,4 @@
-use Rattle.std.proofs.Common.{◌≡◌, ◌<◌, ◌-◌, ℕ, ap, ◌∙◌, arith}
+use Rattle.std.proofs.Common.{◌≡◌, ◌-◌, ℕ, ap, ◌∙◌, arith}
 use Rattle.field_bounds.specs.Central.{given_between, accepted_between}
 use Rattle.field_bounds.specs.Parts.{sum_below}
 use Rattle.central_rules.proofs.Across.{sum_more}

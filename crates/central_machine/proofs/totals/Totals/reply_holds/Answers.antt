@@ -1,5 +1,3 @@
-use Rattle.std.proofs.Common.{◌≡◌, rules, Some}
-use Rattle.std.specs.Prelude.{slice_get}
 use Rattle.field_bounds.specs.Central.{own}
 use Rattle.central_machine.proofs.Row.{found_at}
 use Rattle.central_machine.proofs.totals.Totals.reply_holds.Goals as goal

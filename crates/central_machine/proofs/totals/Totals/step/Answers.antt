@@ -1,5 +1,4 @@
-use Rattle.std.proofs.Common.{◌≡◌, ◌<◌, ◌≤◌, ℕ, ap, set, refl, rules, Some, None, arith}
-use Rattle.std.specs.Prelude.{slice_get}
+use Rattle.std.proofs.Common.{◌<◌, ◌≤◌, ℕ, ap, set, refl, rules, arith}
 use Rattle.std.proofs.lemmas.Bool.{ltb-true}
 use Rattle.central_rules.specs.Verdict.{rules as all_rules}
 use Rattle.central_rules.proofs.Verdicts.{all_hold}

@@ -1,4 +1,4 @@
-use Rattle.std.proofs.Common.{◌≡◌, reverse, ap, sym, List, ◌∙◌}
+use Rattle.std.proofs.Common.{reverse, ap, sym, List, ◌∙◌}
 use Rattle.field_bounds.specs.declared.effect.Effect.{Effect}
 use Rattle.field_bounds.specs.Effects.{Base, fresh, cut}
 use Rattle.field_bounds.specs.Owed.{Place, cut_so_far}

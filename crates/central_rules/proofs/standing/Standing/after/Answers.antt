@@ -1,4 +1,4 @@
-use Rattle.std.proofs.Common.{◌≡◌, arith, ◌∙◌}
+use Rattle.std.proofs.Common.{arith}
 use Rattle.field_bounds.specs.Owed.{is_begun_reply, is_still_down, is_unsure}
 use Rattle.central_rules.proofs.Counts.{count_few}
 use Rattle.central_rules.proofs.standing.Standing.after.Goals as goal
