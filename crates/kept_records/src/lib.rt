@@ -37,4 +37,6 @@ pub use total::{Cut, Total};
 pub use writing::write_record;
 
 #[cfg(test)]
+mod end_tests;
+#[cfg(test)]
 mod tests;
