@@ -46,8 +46,8 @@ fn begins(site: u16) -> Entry {
 }
 
 fn woven_of_two(alloc: Global, zero: &[Entry], one: &[Entry]) -> Result<Vec<Entry>, WeaveFault> {
-    let zero = Vec::from_slice(alloc, zero)?;
-    let one = Vec::from_slice(alloc, one)?;
+    let zero = Vec::from_slice(alloc, zero).map_err(|_| WeaveFault::NoMemory)?;
+    let one = Vec::from_slice(alloc, one).map_err(|_| WeaveFault::NoMemory)?;
     weave(alloc, &[zero, one])
 }
 
