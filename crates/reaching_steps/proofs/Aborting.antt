@@ -1,10 +1,8 @@
 -- The open transactions of a site are aborted.
-use Rattle.std.proofs.Common.{◌≡◌, ℕ, suc, ◌+◌, ◌<◌, ◌≤◌, ◌≢◌, ◌⊎◌, Bool, true, false, not, ◌&&◌, ◌||◌, cond, List, [], ◌∷◌, ◌++◌, map, reverse, filter, refl, sym, ◌∙◌, ap, subst, inl, inr, arith, eqb, All}
-use Rattle.std.proofs.lemmas.Bool.{cases_Bool, cases_eq, eq-eqb, ne_eqb, or_cases, or_parts, or_right}
+use Rattle.std.proofs.Common.{◌≡◌, ℕ, ◌<◌, ◌≢◌, Bool, true, false, ◌&&◌, ◌||◌, cond, List, [], ◌∷◌, ◌++◌, map, reverse, filter, refl, sym, ◌∙◌, ap, subst, inl, inr, All}
+use Rattle.std.proofs.lemmas.Bool.{cases_Bool, ne_eqb, or_cases, or_parts, or_right}
 use Rattle.std.proofs.lemmas.List.{reverse-append, map-append}
 use Rattle.field_bounds.specs.declared.id.TxnId.{TxnId}
-use Rattle.field_bounds.specs.declared.id.SiteNo.{SiteNo}
-use Rattle.field_bounds.specs.declared.entry.Command.{Command}
 use Rattle.field_bounds.specs.declared.entry.Command.TheVariants.{Abort}
 use Rattle.field_bounds.specs.declared.entry.Entry.{Entry}
 use Rattle.field_bounds.specs.Schema.{SchemaValue}
@@ -14,7 +12,6 @@ use Rattle.field_bounds.specs.Effects.{Base, fresh, same_txn, is_begun, is_open,
 use Rattle.field_bounds.specs.Owed.{is_up}
 use Rattle.field_bounds.specs.Central.{own, at_site}
 use Rattle.field_bounds.proofs.Lawful.{IsLawful, same_txn-true}
-use Rattle.field_bounds.proofs.Steps.{same_txn-sym}
 use Rattle.field_bounds.proofs.Traces.{own_here}
 use Rattle.world_steps.specs.declared.step.WorldStep.{WorldStep}
 use Rattle.world_steps.specs.World.{StepFits, trace_by}

@@ -1,13 +1,12 @@
 -- Where nothing is open at the other sites and nothing is in flight, what lies between the committed value and an end of
 -- the named site's interval is what the other sites have free.
-use Rattle.std.proofs.Common.{◌≡◌, ℕ, zero, suc, ◌+◌, ◌-◌, ◌<◌, ◌≤◌, ◌≢◌, Bool, true, false, not, ◌&&◌, cond, List, [], ◌∷◌, length, refl, sym, ◌∙◌, ap, subst, inl, inr, arith, eqb}
+use Rattle.std.proofs.Common.{◌≡◌, ℕ, zero, suc, ◌+◌, ◌-◌, ◌<◌, ◌≤◌, ◌≢◌, Bool, true, false, ◌&&◌, cond, List, [], ◌∷◌, refl, sym, ◌∙◌, ap, inl, inr, arith, eqb}
 use Rattle.std.proofs.lemmas.Bool.{cases_eq, eq-eqb, ne_eqb}
 use Rattle.std.proofs.lemmas.Int.{ints}
-use Rattle.std.specs.Prelude.{ℤ, pos, ◌+ℤ◌, ◌-ℤ◌, ◌≤ℤ◌, neg_ℤ, unsigned_abs, slice_index_or}
+use Rattle.std.specs.Prelude.{pos, ◌+ℤ◌, ◌-ℤ◌, ◌≤ℤ◌, neg_ℤ, unsigned_abs, slice_index_or}
 use Rattle.std.specs.List.{AllByRecursion}
 use Rattle.field_bounds.specs.declared.kind.Kind.{Kind}
 use Rattle.field_bounds.specs.declared.kind.Kind.TheVariants.{Lower, Raise}
-use Rattle.field_bounds.specs.declared.id.TxnId.{TxnId}
 use Rattle.field_bounds.specs.declared.entry.Entry.{Entry}
 use Rattle.field_bounds.specs.Kind.{kind_of, same_kind}
 use Rattle.field_bounds.specs.Schema.{FieldValue, SchemaValue}
@@ -15,9 +14,9 @@ use Rattle.field_bounds.specs.Limits.{IsField, IsSchema, max_quantity}
 use Rattle.field_bounds.specs.Parts.{no_field, field_at, sum_below}
 use Rattle.field_bounds.specs.declared.effect.Effect.{Effect}
 use Rattle.field_bounds.specs.declared.effect.Effect.TheVariants.{Begins, Grants, Commits, Aborts, Gives, Accepts, Stops}
-use Rattle.field_bounds.specs.Effects.{Base, is_begun, is_open, granted, share, held, own_rights, fresh}
+use Rattle.field_bounds.specs.Effects.{Base, is_open, granted, share, held, own_rights, fresh}
 use Rattle.field_bounds.specs.Owed.{max_change}
-use Rattle.field_bounds.specs.Central.{own, at_site, committed, inf, sup, cuts, shares, in_flight, is_open_in, open_sizes, given_between, accepted_between, IsSound, IsConserved}
+use Rattle.field_bounds.specs.Central.{at_site, committed, cuts, shares, in_flight, is_open_in, open_sizes, given_between, accepted_between, IsSound, IsConserved}
 use Rattle.field_bounds.proofs.Sums.{sum_below-same, sum_below-zero, sum_below_bump, term_below}
 use Rattle.field_bounds.proofs.Lawful.{IsLawful}
 use Rattle.field_bounds.proofs.Steps.{granted-same}

@@ -1,6 +1,6 @@
 -- A transaction of one escrow that is begun, granted and committed.
-use Rattle.std.proofs.Common.{◌≡◌, ℕ, zero, suc, ◌+◌, ◌-◌, ◌<◌, ◌≤◌, ◌≢◌, min, Bool, true, false, not, ◌&&◌, ◌||◌, cond, List, [], ◌∷◌, length, refl, sym, ◌∙◌, ap, subst, inl, inr, arith, eqb, None}
-use Rattle.std.proofs.lemmas.Bool.{cases_Bool, eq-eqb, ne_eqb, or_left}
+use Rattle.std.proofs.Common.{◌≡◌, ℕ, ◌+◌, ◌<◌, ◌≤◌, ◌≢◌, Bool, true, false, not, ◌&&◌, ◌||◌, cond, List, ◌∷◌, length, refl, ap, subst, arith, eqb, None}
+use Rattle.std.proofs.lemmas.Bool.{eq-eqb, or_left}
 use Rattle.std.proofs.lemmas.Int.{ints}
 use Rattle.std.specs.Prelude.{ℤ, pos, negsuc, ◌+ℤ◌, ◌-ℤ◌, unsigned_abs, sum_by}
 use Rattle.field_bounds.specs.declared.kind.Kind.{Kind}
@@ -9,7 +9,6 @@ use Rattle.field_bounds.specs.declared.id.TxnId.{TxnId}
 use Rattle.field_bounds.specs.declared.id.SiteNo.{SiteNo}
 use Rattle.field_bounds.specs.declared.id.FieldNo.{FieldNo}
 use Rattle.field_bounds.specs.declared.entry.Escrow.{Escrow as EscrowOf}
-use Rattle.field_bounds.specs.declared.entry.Command.{Command}
 use Rattle.field_bounds.specs.declared.entry.Command.TheVariants.{Begin, Escrow, Commit}
 use Rattle.field_bounds.specs.declared.entry.Reply.TheVariants.{Begun, Granted, Committed}
 use Rattle.field_bounds.specs.declared.entry.Entry.{Entry}
@@ -18,13 +17,13 @@ use Rattle.field_bounds.specs.Schema.{SchemaValue}
 use Rattle.field_bounds.specs.Limits.{IsSchema}
 use Rattle.field_bounds.specs.Parts.{field_at, sum_below}
 use Rattle.field_bounds.specs.declared.effect.Effect.{Effect}
-use Rattle.field_bounds.specs.declared.effect.Effect.TheVariants.{Begins, Grants, Commits}
-use Rattle.field_bounds.specs.Effects.{Base, same_txn, is_begun, is_committed, is_dropped, is_open, open_txns, escrows_of, takes, granted, share, effects, fresh}
-use Rattle.field_bounds.specs.Owed.{Place, place, first, refusals, is_up, epoch_of, count_since, count_escrows, is_begun_reply, max_number, max_change, max_escrows, max_open, IsRun}
-use Rattle.field_bounds.specs.Central.{own, at_site, committed, sizes, is_committed_in, IsSound}
+use Rattle.field_bounds.specs.declared.effect.Effect.TheVariants.{Begins}
+use Rattle.field_bounds.specs.Effects.{Base, same_txn, is_begun, is_committed, is_dropped, open_txns, takes, granted, share, effects, fresh}
+use Rattle.field_bounds.specs.Owed.{place, first, refusals, is_up, epoch_of, count_since, count_escrows, is_begun_reply, max_number, max_change, IsRun}
+use Rattle.field_bounds.specs.Central.{own, at_site, committed, is_committed_in, IsSound}
 use Rattle.field_bounds.proofs.Lawful.{IsLawful, same_txn-true}
 use Rattle.field_bounds.proofs.Runs.{run_is_lawful, begun_is_new, next_id}
-use Rattle.field_bounds.proofs.Steps.{granted-or, of_txn, of_txn_is, IsUnused, new_is_unused}
+use Rattle.field_bounds.proofs.Steps.{granted-or, of_txn_is, IsUnused, new_is_unused}
 use Rattle.field_bounds.proofs.Sums.{sum_below_bump}
 use Rattle.field_bounds.proofs.Traces.{changes_split}
 use Rattle.field_bounds.proofs.Conserved.{traced}

@@ -9,5 +9,14 @@ pub mod Passing
 pub mod Balance
 pub mod Changing
 pub mod Moving
-pub mod Faults
+pub mod Clear
 pub mod Reaching
+pub mod Growing
+pub mod Few
+pub mod FirstNumber
+pub mod Walking
+pub mod Owning
+pub mod Firsts
+pub mod Reading
+pub mod Table
+pub mod Tightest

@@ -1,10 +1,9 @@
 -- The other sites move the field, one after another.
-use Rattle.std.proofs.Common.{◌≡◌, ℕ, zero, suc, ◌+◌, ◌-◌, ◌<◌, ◌≤◌, ◌≢◌, min, Bool, true, false, cond, List, [], ◌∷◌, ◌++◌, length, refl, sym, ◌∙◌, ap, subst, inl, inr, arith, eqb, None, All}
+use Rattle.std.proofs.Common.{◌≡◌, ℕ, zero, suc, ◌-◌, ◌<◌, ◌≤◌, ◌≢◌, min, Bool, true, false, cond, List, [], ◌∷◌, ◌++◌, length, refl, sym, ◌∙◌, ap, subst, inl, inr, arith, None, All}
 use Rattle.std.proofs.lemmas.Bool.{cases_eq, eq-eqb, ne_eqb}
 use Rattle.std.proofs.lemmas.Int.{ints}
-use Rattle.std.proofs.lemmas.List.{append_assoc}
 use Rattle.std.proofs.lemmas.List.Elements.{All-append}
-use Rattle.std.specs.Prelude.{ℤ, pos, negsuc, ◌+ℤ◌, ◌-ℤ◌, neg_ℤ, unsigned_abs}
+use Rattle.std.specs.Prelude.{ℤ, pos, ◌+ℤ◌, ◌-ℤ◌, neg_ℤ, unsigned_abs}
 use Rattle.field_bounds.specs.declared.kind.Kind.{Kind}
 use Rattle.field_bounds.specs.declared.kind.Kind.TheVariants.{Lower, Raise}
 use Rattle.field_bounds.specs.declared.id.TxnId.{TxnId}
@@ -17,8 +16,7 @@ use Rattle.field_bounds.specs.Kind.{kind_of}
 use Rattle.field_bounds.specs.Schema.{SchemaValue}
 use Rattle.field_bounds.specs.Limits.{IsSchema}
 use Rattle.field_bounds.specs.Parts.{sum_below}
-use Rattle.field_bounds.specs.declared.effect.Effect.{Effect}
-use Rattle.field_bounds.specs.Effects.{fresh, share, effects, is_committed, granted, takes}
+use Rattle.field_bounds.specs.Effects.{fresh, share, effects, is_committed, granted}
 use Rattle.field_bounds.specs.Owed.{Place, place, first, refusals, is_up, count_since, is_begun_reply, max_number, max_change}
 use Rattle.field_bounds.specs.Central.{own, at_site, committed, IsSound}
 use Rattle.field_bounds.proofs.Traces.{own_here, own_there}
@@ -29,7 +27,7 @@ use Rattle.reaching_steps.proofs.Sites.{NoneOpen}
 use Rattle.reaching_steps.proofs.Plans.{sound_of, Went, went_none, went_one, went_on, went_as, went_same, Leads, leads_task, leads_over, Claim}
 use Rattle.reaching_steps.proofs.Going.{here, made, goes_do}
 use Rattle.reaching_steps.proofs.Balance.{share_small}
-use Rattle.reaching_steps.proofs.Changing.{with_begin, with_escrow, with_commit, may_begin, may_escrow, may_commit, settles, settled_at, moved}
+use Rattle.reaching_steps.proofs.Changing.{with_begin, with_escrow, with_commit, may_begin, may_escrow, may_commit, settles, moved}
 
 -- ---- a number with the sign of a kind
 

@@ -1,35 +1,31 @@
 -- What was given is delivered.
-use Rattle.std.proofs.Common.{◌≡◌, ℕ, suc, ◌+◌, ◌<◌, ◌≤◌, ◌≢◌, ◌⊎◌, Bool, true, false, not, ◌&&◌, cond, List, [], ◌∷◌, ◌++◌, length, refl, sym, ◌∙◌, ap, subst, inl, inr, arith, eqb, ltb, Some, All}
-use Rattle.std.proofs.lemmas.Bool.{cases_Bool, cases_eq, eqb-true, eqb-false, ltb-true, ltb-false, and_parts, and_cases, eq-eqb, ne_eqb, not-false}
+use Rattle.std.proofs.Common.{◌≡◌, ℕ, suc, ◌<◌, ◌≤◌, ◌≢◌, ◌⊎◌, Bool, true, false, not, ◌&&◌, cond, List, [], ◌∷◌, ◌++◌, length, refl, sym, ◌∙◌, ap, subst, inl, inr, arith, eqb, ltb, All}
+use Rattle.std.proofs.lemmas.Bool.{cases_Bool, cases_eq, eqb-true, eqb-false, ltb-true, ltb-false, and_parts, and_cases}
 use Rattle.field_bounds.specs.declared.kind.Kind.{Kind}
 use Rattle.field_bounds.specs.declared.kind.Kind.TheVariants.{Lower, Raise}
-use Rattle.field_bounds.specs.declared.id.SiteNo.{SiteNo}
-use Rattle.field_bounds.specs.declared.id.FieldNo.{FieldNo}
 use Rattle.field_bounds.specs.declared.entry.Statement.{Statement}
 use Rattle.field_bounds.specs.declared.entry.Command.{Command}
 use Rattle.field_bounds.specs.declared.entry.Command.TheVariants.{Restate, Accept}
 use Rattle.field_bounds.specs.declared.entry.Entry.{Entry}
 use Rattle.field_bounds.specs.Schema.{SchemaValue}
 use Rattle.field_bounds.specs.Limits.{IsSchema}
-use Rattle.field_bounds.specs.declared.effect.Effect.{Effect}
-use Rattle.field_bounds.specs.declared.effect.Effect.TheVariants.{Accepts}
-use Rattle.field_bounds.specs.Effects.{fresh, effects, given, cut, accepted}
-use Rattle.field_bounds.specs.Owed.{is_up, count_since, is_begun_reply, max_number, max_total}
-use Rattle.field_bounds.specs.Statements.{statement_of, IsIssued}
+use Rattle.field_bounds.specs.Effects.{fresh, effects, cut, accepted}
+use Rattle.field_bounds.specs.Owed.{is_up, count_since, is_begun_reply, max_number}
+use Rattle.field_bounds.specs.Statements.{IsIssued}
 use Rattle.field_bounds.specs.Central.{own, at_site, cuts, given_between, accepted_between, IsSound}
 use Rattle.field_bounds.proofs.Traces.{own_here}
 use Rattle.field_bounds.proofs.Sums.{sum_below-same}
 use Rattle.kept_state.specs.declared.luck.Luck.TheVariants.{Fine}
 use Rattle.world_steps.specs.declared.step.WorldStep.{WorldStep}
 use Rattle.world_steps.specs.declared.step.WorldStep.TheVariants.{Deliver}
-use Rattle.world_steps.specs.World.{StepFits, issued, numbered, trace_by}
+use Rattle.world_steps.specs.World.{StepFits, issued, trace_by}
 use Rattle.world_steps.proofs.Issued.{numbered_is_issued}
 use Rattle.world_steps.proofs.Forged.{never_forged}
 use Rattle.reaching_steps.specs.Reach.{Task, fine, number_of, telling, is_wanting, restates, delivers, passes_on, over_sites}
 use Rattle.reaching_steps.proofs.Sites.{NoneOpen, keeps_restate, keeps_accept, accepted_all}
 use Rattle.reaching_steps.proofs.Refusals.{restate_goes, accept_goes}
-use Rattle.reaching_steps.proofs.Plans.{sound_of, Went, went_none, went_one, went_as, went_same, Leads, leads_first, leads_task, leads_on, leads_over, Claim}
-use Rattle.reaching_steps.proofs.Going.{here, made, goes_do, goes_deliver, Leaves, leaves_refl, leaves_trans, leaves_one}
+use Rattle.reaching_steps.proofs.Plans.{sound_of, Went, went_none, went_one, went_as, went_same, Leads, leads_first, leads_over, Claim}
+use Rattle.reaching_steps.proofs.Going.{here, made, goes_do, goes_deliver, Leaves, leaves_refl, leaves_one}
 use Rattle.reaching_steps.proofs.Numbers.{issued_numbered, numbered_number}
 use Rattle.reaching_steps.proofs.Ledger.{run_is_fair}
 

@@ -1,5 +1,5 @@
 -- Where no fault holds, the steps reach the target.
-use Rattle.std.proofs.Common.{◌≡◌, ℕ, zero, suc, ◌+◌, ◌-◌, ◌<◌, ◌≤◌, ◌≢◌, Bool, true, false, cond, List, [], ◌∷◌, ◌++◌, length, refl, sym, ◌∙◌, ap, subst, inl, inr, arith, eqb, None, All}
+use Rattle.std.proofs.Common.{◌≡◌, ℕ, suc, ◌+◌, ◌-◌, ◌<◌, ◌≤◌, ◌≢◌, Bool, true, false, cond, List, [], ◌∷◌, ◌++◌, length, refl, sym, ◌∙◌, ap, subst, inl, inr, arith, None, All}
 use Rattle.std.proofs.lemmas.Bool.{cases_Bool, eqb-true}
 use Rattle.std.proofs.lemmas.Int.{ints}
 use Rattle.std.specs.Prelude.{ℤ, pos, negsuc, ◌+ℤ◌, ◌-ℤ◌, ◌≤ℤ◌, unsigned_abs}
@@ -12,20 +12,20 @@ use Rattle.field_bounds.specs.Schema.{SchemaValue}
 use Rattle.field_bounds.specs.Limits.{IsSchema}
 use Rattle.field_bounds.specs.Parts.{sum_below, field_at}
 use Rattle.field_bounds.specs.Effects.{fresh, share, own_rights, cut, effects}
-use Rattle.field_bounds.specs.Central.{own, at_site, committed, IsSound}
+use Rattle.field_bounds.specs.Central.{own, at_site, committed}
 use Rattle.field_bounds.proofs.Conserved.{lawful_at}
 use Rattle.field_bounds.proofs.Sums.{term_below}
 use Rattle.world_steps.specs.declared.step.WorldStep.{WorldStep}
 use Rattle.world_steps.specs.World.{StepFits, trace_by}
-use Rattle.reaching_steps.specs.Reach.{Task, planned, over_sites, aborts, passes_on, moves, tasks, same_value, reach_steps, reach_fault}
+use Rattle.reaching_steps.specs.Reach.{planned, over_sites, aborts, passes_on, moves, tasks, same_value, reach_steps, reach_fault}
 use Rattle.reaching_steps.proofs.Sites.{NoneOpen}
 use Rattle.reaching_steps.proofs.Plans.{sound_of, Went, went_none, went_as, went_same, Leads, leads_task, leads_on, leads_over, Claim}
 use Rattle.reaching_steps.proofs.Going.{Leaves}
 use Rattle.reaching_steps.proofs.Aborting.{abort_all}
-use Rattle.reaching_steps.proofs.Passing.{Calm, Ready, Passed, calm_still, all_passed}
-use Rattle.reaching_steps.proofs.Balance.{but, but_here, but_there, others, below_is, above_is}
+use Rattle.reaching_steps.proofs.Passing.{Calm, Passed, calm_still, all_passed}
+use Rattle.reaching_steps.proofs.Balance.{but, but_here, but_there, below_is, above_is}
 use Rattle.reaching_steps.proofs.Moving.{signed, Moving, all_moved}
-use Rattle.reaching_steps.proofs.Faults.{IsClear, is_clear}
+use Rattle.reaching_steps.proofs.Clear.{is_clear}
 
 none_left : (k : Kind) (all sum : ℕ) (target value : ℤ) → all ≤ sum → target -ℤ value ≡ signed k (all - sum) → value ≡ target
 none_left Raise all sum target value h is = omega (arith, ints, h, is)

@@ -1,2 +1,6 @@
 pub mod Reach
 pub mod Worked
+pub mod Later
+pub mod Told
+pub mod Body
+pub mod Tight

@@ -1,6 +1,6 @@
 -- The steps by which the other sites take a field to a value that the named site's interval holds, and what stands in
 -- their way (this project). A trace has the newest entry first; steps stand in order, the oldest first.
-use Rattle.std.specs.Prelude.{◌≡◌, ℕ, zero, suc, ◌+◌, min, ◌==◌, nat_lt, nat_le, ℤ, pos, negsuc, ◌-ℤ◌, neg_ℤ, unsigned_abs, int_lt, Bool, true, false, not, ◌&&◌, ◌||◌, if◌then◌else◌, List, [], ◌∷◌, ◌++◌, length, map, reverse, Option, Some, None, is_some}
+use Rattle.std.specs.Prelude.{◌≡◌, ℕ, zero, suc, ◌+◌, min, ◌==◌, nat_lt, nat_le, ℤ, pos, negsuc, ◌-ℤ◌, neg_ℤ, unsigned_abs, int_lt, Bool, not, ◌&&◌, ◌||◌, if◌then◌else◌, List, [], ◌∷◌, ◌++◌, length, map, reverse, Option, Some, None, is_some}
 use Rattle.field_bounds.specs.declared.kind.Kind.{Kind}
 use Rattle.field_bounds.specs.declared.kind.Kind.TheVariants.{Lower, Raise}
 use Rattle.field_bounds.specs.declared.id.SiteNo.{SiteNo}
@@ -12,11 +12,9 @@ use Rattle.field_bounds.specs.declared.entry.Command.TheVariants.{Begin, Escrow,
 use Rattle.field_bounds.specs.declared.entry.Entry.{Entry}
 use Rattle.field_bounds.specs.Kind.{same_kind}
 use Rattle.field_bounds.specs.Schema.{SchemaValue}
-use Rattle.field_bounds.specs.Parts.{field_at}
 use Rattle.field_bounds.specs.Effects.{fresh, open_txns, share}
 use Rattle.field_bounds.specs.Owed.{place, is_up, epoch_of, count_since, is_begun_reply, max_number, interval_at}
 use Rattle.field_bounds.specs.Central.{own, at_site, committed, cuts, given_between, accepted_between}
-use Rattle.kept_state.specs.declared.luck.Luck.{Luck}
 use Rattle.kept_state.specs.declared.luck.Luck.TheVariants.{Fine}
 use Rattle.world_steps.specs.declared.step.WorldStep.{WorldStep}
 use Rattle.world_steps.specs.declared.step.WorldStep.TheVariants.{Do, Deliver}

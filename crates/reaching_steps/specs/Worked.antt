@@ -1,8 +1,7 @@
 -- Worked rows of reach, in a world of two sites (this project). Of a field from 0 to 100 at 40, each site has 20 rights to
 -- lower it and 30 to raise it.
-use Rattle.std.specs.Prelude.{◌≡◌, ℕ, ℤ, pos, neg_ℤ, List, [], ◌∷◌, ◌++◌, Option, Some, None}
-use Rattle.field_bounds.specs.declared.kind.Kind.TheVariants.{Lower, Raise}
-use Rattle.field_bounds.specs.declared.entry.Command.{Command}
+use Rattle.std.specs.Prelude.{◌≡◌, ℕ, ℤ, pos, neg_ℤ, List, [], ◌∷◌, ◌++◌, Some, None}
+use Rattle.field_bounds.specs.declared.kind.Kind.TheVariants.{Lower}
 use Rattle.field_bounds.specs.declared.entry.Command.TheVariants.{Begin, Escrow, Commit, Abort, Restate, Restart}
 use Rattle.field_bounds.specs.Worked.{halved, stock, txn, lower_by}
 use Rattle.field_bounds.specs.WorkedGifts.{site, give_lower}

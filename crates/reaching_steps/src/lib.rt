@@ -1,10 +1,28 @@
-//! The interval that a site reads can't be narrower: the steps of other sites that reach each value of it.
+//! The interval that a site reads can't be narrower: each value in it is one that the committed value
+//! can come to by steps at other sites alone, and here are the steps.
+//!
+//! Source: this project.
 #![tactic(auto)]
 
+mod counts;
 mod fault;
+mod faults;
+mod later;
 mod laws;
+mod numbering;
+mod readers;
+mod rights;
 mod rows;
+mod shares;
+mod steps;
+mod told;
+mod totals;
+mod trial;
 
 pub use fault::ReachFault;
-pub use laws::reach_meets;
+pub use laws::{no_narrower_interval_is_safe, reach_meets};
 pub use rows::worked_reaches;
+pub use steps::reach;
+
+#[cfg(test)]
+mod tests;

@@ -1,6 +1,6 @@
 -- Where no fault of reach holds.
-use Rattle.std.proofs.Common.{◌≡◌, ℕ, zero, suc, ◌+◌, ◌<◌, ◌≤◌, ◌≢◌, Bool, true, false, not, ◌&&◌, ◌||◌, cond, List, [], ◌∷◌, length, refl, sym, ◌∙◌, ap, subst, inl, inr, arith, eqb, ltb, leb, Option, Some, None}
-use Rattle.std.proofs.lemmas.Bool.{cases_eq, cases_Bool, or_parts, and_cases, not-false, ltb-false, leb-false, lt-ltb, eqb-false, ne_eqb}
+use Rattle.std.proofs.Common.{◌≡◌, ℕ, zero, suc, ◌<◌, ◌≢◌, Bool, true, false, not, ◌&&◌, ◌||◌, List, [], ◌∷◌, length, refl, subst, inl, inr, arith, eqb, ltb, leb, Option, Some, None}
+use Rattle.std.proofs.lemmas.Bool.{cases_eq, or_parts, and_cases, not-false, ltb-false, leb-false, lt-ltb, eqb-false, ne_eqb}
 use Rattle.std.proofs.lemmas.Int.{ints}
 use Rattle.std.specs.Prelude.{ℤ, pos, negsuc, ◌≤ℤ◌, int_lt, is_some, if◌then◌else◌}
 use Rattle.field_bounds.specs.declared.kind.Kind.{Kind}
@@ -10,16 +10,16 @@ use Rattle.field_bounds.specs.declared.id.FieldNo.{FieldNo}
 use Rattle.field_bounds.specs.declared.entry.Entry.{Entry}
 use Rattle.field_bounds.specs.Schema.{SchemaValue}
 use Rattle.field_bounds.specs.Effects.{fresh}
-use Rattle.field_bounds.specs.Owed.{place, is_up, count_since, is_begun_reply, max_number, interval_at}
+use Rattle.field_bounds.specs.Owed.{place, count_since, is_begun_reply, max_number, interval_at}
 use Rattle.field_bounds.specs.Statements.{IsIssued}
-use Rattle.field_bounds.specs.Central.{own, cuts, given_between, accepted_between}
+use Rattle.field_bounds.specs.Central.{own, cuts, given_between}
 use Rattle.world_steps.specs.World.{issued}
 use Rattle.world_steps.proofs.Issued.{numbered_is_issued}
 use Rattle.reaching_steps.specs.declared.fault.ReachFault.{ReachFault}
 use Rattle.reaching_steps.specs.declared.fault.ReachFault.TheVariants.{NoSite, NoField, NotUp, InFlight, Unstated, Tightened, Numbers, Outside}
 use Rattle.reaching_steps.specs.Reach.{least, fault_at, fault_if, first_fault, is_down, is_short_of, is_unstated, is_tightened, has_no_number, lies_outside, reach_faults, reach_fault, number_of, telling}
 use Rattle.reaching_steps.proofs.Numbers.{numbered_number}
-use Rattle.reaching_steps.proofs.Passing.{Arrived, Calm}
+use Rattle.reaching_steps.proofs.Passing.{Calm}
 
 first_none : (x : Option ReachFault) (rest : List (Option ReachFault)) → first_fault (x ∷ rest) ≡ None → (x ≡ None) × (first_fault rest ≡ None)
 first_none None rest h = (refl, h)

@@ -1,0 +1,173 @@
+-- The rights of a site, from sums over what took effect there.
+use Rattle.std.proofs.Common.{◌≡◌, ℕ, zero, suc, ◌+◌, ◌*◌, ◌<◌, ◌≤◌, true, false, List, [], ap, arith}
+use Rattle.std.specs.Prelude.{ℤ, pos, ◌+ℤ◌, ◌-ℤ◌, ◌≤ℤ◌, neg_ℤ}
+use Rattle.std.proofs.lemmas.Int.{ints}
+use Rattle.field_bounds.specs.declared.kind.Kind.{Kind}
+use Rattle.field_bounds.specs.declared.kind.Kind.TheVariants.{Lower, Raise}
+use Rattle.field_bounds.specs.Kind.{other}
+use Rattle.field_bounds.specs.declared.entry.Entry.{Entry}
+use Rattle.field_bounds.specs.Schema.{SchemaValue}
+use Rattle.field_bounds.specs.Limits.{IsSchema}
+use Rattle.field_bounds.specs.Parts.{sum_below, part_of, field_at}
+use Rattle.field_bounds.specs.declared.effect.Effect.{Effect}
+use Rattle.field_bounds.specs.Effects.{fresh, granted, gifts, is_to, given, cut, accepted, share, held, own_rights, is_committed}
+use Rattle.field_bounds.specs.Owed.{max_change, max_total}
+use Rattle.field_bounds.specs.Central.{own, at_site, committed, given_between, IsSound}
+use Rattle.field_bounds.proofs.Sums.{sum_below-zero}
+use Rattle.field_bounds.proofs.Lawful.{IsLawful}
+use Rattle.field_bounds.proofs.Shares.{balance, gains_split}
+use Rattle.field_bounds.proofs.Shares.{gifts_split}
+use Rattle.field_bounds.proofs.Sums.{term_below}
+use Rattle.field_bounds.proofs.Sound.{sound_empty}
+use Rattle.field_bounds.proofs.Ledgers.{accepted_is_given}
+use Rattle.field_bounds.proofs.Headline.{within_bounds}
+use Rattle.field_bounds.proofs.Conserved.{is_conserved, traced, open_of, free_of, lawful_at}
+use Rattle.field_bounds.specs.Central.{is_open_in}
+use Rattle.reaching_steps.proofs.Balance.{all_near, share_small}
+use Rattle.reaching_steps.proofs.Changing.{committed_is, settled_at}
+use Rattle.reaching_steps.proofs.Ledger.{run_is_fair}
+
+pub owned_is : (schema : SchemaValue) (s : ℕ) (es : List Effect) → IsLawful schema (fresh schema s) es → (f : ℕ) (k : Kind)
+    → share (fresh schema s) f k es + granted (λ id. is_committed id es) f k es + held f k es + gifts (λ _. true) f k es
+    ≡ part_of schema s f k + granted (λ id. is_committed id es) f (other k) es + sum_below schema.sites (λ from. accepted (fresh schema s) from f k es)
+owned_is schema s es lawful f k =
+    omega (arith, balance schema (fresh schema s) es lawful f k, gains_split schema (fresh schema s) es lawful f k, sum_below-zero schema.sites)
+
+-- the same of what was read
+pub record Summed (schema : SchemaValue) (s f : ℕ) (k : Kind) (es : List Effect) (part turned gained settled given held_ : ℕ) : Type 0 where
+  pub whole : share (fresh schema s) f k es + settled + held f k es + given ≡ part + turned + gained
+  pub holds : held_ ≡ held f k es
+
+pub summed : (schema : SchemaValue) (s f : ℕ) (k : Kind) (deeds : List Effect) (sites part turned gained settled given held_ : ℕ) (k' : Kind) → IsLawful schema (fresh schema s) deeds
+    → sites ≡ schema.sites → k' ≡ other k → part ≡ part_of schema s f k → turned ≡ granted (λ id. is_committed id deeds) f k' deeds
+    → gained ≡ sum_below sites (λ from. accepted (fresh schema s) from f k deeds) → settled ≡ granted (λ id. is_committed id deeds) f k deeds
+    → given ≡ gifts (λ _. true) f k deeds → held_ ≡ held f k deeds → Summed schema s f k deeds part turned gained settled given held_
+summed schema s f k deeds sites part turned gained settled given held_ k' lawful sites_is kind_is part_is turned_is gained_is settled_is given_is held_is =
+    let es = deeds in
+    let turn : granted (λ id. is_committed id es) f k' es ≡ granted (λ id. is_committed id es) f (other k) es = ap (λ (x : Kind). granted (λ id. is_committed id es) f x es) kind_is in
+    let gain : sum_below sites (λ from. accepted (fresh schema s) from f k es) ≡ sum_below schema.sites (λ from. accepted (fresh schema s) from f k es) = ap (λ (n : ℕ). sum_below n (λ from. accepted (fresh schema s) from f k es)) sites_is in
+    record {
+      whole = omega (arith, owned_is schema s es lawful f k, part_is, turned_is, turn, gained_is, gain, settled_is, given_is);
+      holds = held_is;
+    }
+
+sum_bound : (n m : ℕ) (F : ℕ → ℕ) → ((j : ℕ) → j < n → F j ≤ m) → sum_below n F ≤ n * m
+sum_bound zero m F h = omega arith
+sum_bound (suc n) m F h = omega (arith, sum_bound n m F (λ j less. h j (omega (arith, less))), h n (omega arith))
+
+-- what was given to one site is within the greatest total
+pub given_small : (schema : SchemaValue) (t : List Entry) → IsSound schema t → (from to f : ℕ) (k : Kind) → from < schema.sites → given_between schema t f k from to ≤ max_total
+given_small schema t sound from to f k below = (run_is_fair schema from (own from t) (sound.runs from below)).within to f k
+
+module _ (schema : SchemaValue) (good : IsSchema schema) (t : List Entry) (sound : IsSound schema t) where
+  -- the own rights of a site are within the greatest change
+  pub own_small : (s : ℕ) (f : ℕ) (k : Kind) → s < schema.sites → own_rights (fresh schema s) f k (at_site schema t s) ≤ max_change
+  own_small s f Lower below =
+      let law = is_conserved schema good t sound in
+      let near = all_near schema.fields good.each f in
+      omega (
+        arith,
+        ints,
+        law.lowering f,
+        law.raising f,
+        near.least,
+        near.most,
+        term_below schema.sites (free_of schema good t sound f Lower) s below,
+        term_below schema.sites (open_of schema good t sound f Lower) s below,
+        traced schema good t sound (is_open_in schema t) f Lower,
+      )
+  own_small s f Raise below =
+      let law = is_conserved schema good t sound in
+      let near = all_near schema.fields good.each f in
+      omega (
+        arith,
+        ints,
+        law.lowering f,
+        law.raising f,
+        near.least,
+        near.most,
+        term_below schema.sites (free_of schema good t sound f Raise) s below,
+        term_below schema.sites (open_of schema good t sound f Raise) s below,
+        traced schema good t sound (is_open_in schema t) f Raise,
+      )
+
+  -- and so is what it has given up for good
+  pub cut_small : (s : ℕ) (f : ℕ) (k : Kind) → s < schema.sites → cut (fresh schema s) f k (at_site schema t s) ≤ max_change
+  cut_small s f Lower below =
+      let law = is_conserved schema good t sound in
+      let near = all_near schema.fields good.each f in
+      omega (arith, ints, law.lowering f, law.raising f, near.least, near.most, term_below schema.sites (λ j. cut (fresh schema j) f Lower (at_site schema t j)) s below)
+  cut_small s f Raise below =
+      let law = is_conserved schema good t sound in
+      let near = all_near schema.fields good.each f in
+      omega (arith, ints, law.lowering f, law.raising f, near.least, near.most, term_below schema.sites (λ j. cut (fresh schema j) f Raise (at_site schema t j)) s below)
+
+  -- and so are both together
+  pub guarded_small : (s : ℕ) (f : ℕ) (k : Kind) → s < schema.sites → cut (fresh schema s) f k (at_site schema t s) + own_rights (fresh schema s) f k (at_site schema t s) ≤ max_change
+  guarded_small s f Lower below =
+      let law = is_conserved schema good t sound in
+      let near = all_near schema.fields good.each f in
+      omega (
+        arith,
+        ints,
+        law.lowering f,
+        law.raising f,
+        near.least,
+        near.most,
+        term_below schema.sites (free_of schema good t sound f Lower) s below,
+        term_below schema.sites (open_of schema good t sound f Lower) s below,
+        term_below schema.sites (λ j. cut (fresh schema j) f Lower (at_site schema t j)) s below,
+        traced schema good t sound (is_open_in schema t) f Lower,
+      )
+  guarded_small s f Raise below =
+      let law = is_conserved schema good t sound in
+      let near = all_near schema.fields good.each f in
+      omega (
+        arith,
+        ints,
+        law.lowering f,
+        law.raising f,
+        near.least,
+        near.most,
+        term_below schema.sites (free_of schema good t sound f Raise) s below,
+        term_below schema.sites (open_of schema good t sound f Raise) s below,
+        term_below schema.sites (λ j. cut (fresh schema j) f Raise (at_site schema t j)) s below,
+        traced schema good t sound (is_open_in schema t) f Raise,
+      )
+
+  -- what is settled of one kind and of the other at a site is not far apart
+  pub settled_near : (s f : ℕ) → s < schema.sites
+      → (settled_at schema good f Raise t s ≤ settled_at schema good f Lower t s + 100_000_000_000_000_000_000) × (settled_at schema good f Lower t s ≤ settled_at schema good f Raise t s + 100_000_000_000_000_000_000)
+  settled_near s f below =
+      let es = at_site schema t s in
+      let lawful = lawful_at schema good t sound s below in
+      let whole = owned_is schema s es lawful f Lower in
+      let small = own_small s f Lower below in
+      let part = share_small schema good [] (sound_empty schema) f s Lower below in
+      let all_given = gifts_split schema (fresh schema s) es lawful f Lower in
+      let gave = sum_bound schema.sites max_total (λ to. gifts (is_to to) f Lower es) (λ to less. let one = given_small schema t sound s to f Lower below in omega (arith, one)) in
+      let gone = cut_small s f Lower below in
+      let took = sum_bound schema.sites max_total (λ from. accepted (fresh schema s) from f Lower es) (λ from less. let one = given_small schema t sound from s f Lower less in omega (arith, one, accepted_is_given schema t sound false f Lower from s)) in
+      (omega (arith, whole, small, part, all_given, gave, gone, took, good.few_sites), omega (arith, whole, small, part, all_given, gave, gone, took, good.few_sites))
+
+  pub committed_near : (f : ℕ) → (neg_ℤ (pos 1_000_000_000_000_000) ≤ℤ committed schema t f) × (committed schema t f ≤ℤ pos 1_000_000_000_000_000)
+  committed_near f =
+      let law = within_bounds schema good t sound f in
+      let near = all_near schema.fields good.each f in
+      (omega (arith, ints, law.0, law.1, near.least, near.most), omega (arith, ints, law.0, law.1, near.least, near.most))
+
+-- one site more
+pub both_more : (F G : ℕ → ℕ) (i up down more less : ℕ) → up + sum_below i F ≡ down + sum_below i G → more + F i ≡ less + G i → (up + more) + sum_below (i + 1) F ≡ (down + less) + sum_below (i + 1) G
+both_more F G i up down more less was is =
+    let one : i + 1 ≡ suc i = omega arith in
+    let f : sum_below (i + 1) F ≡ sum_below i F + F i = ap (λ (n : ℕ). sum_below n F) one in
+    let g : sum_below (i + 1) G ≡ sum_below i G + G i = ap (λ (n : ℕ). sum_below n G) one in
+    omega (arith, was, is, f, g)
+
+pub committed_from : (schema : SchemaValue) (good : IsSchema schema) (t : List Entry) → IsSound schema t → (f i n up down : ℕ) (value : ℤ) → i ≤ n → n ≤ i → n ≡ schema.sites
+    → up + sum_below i (settled_at schema good f Lower t) ≡ down + sum_below i (settled_at schema good f Raise t) → value ≡ (field_at schema f).value → (value +ℤ (pos up -ℤ pos down)) ≡ committed schema t f
+committed_from schema good t sound f i n up down value low high all is value_is =
+    let same : i ≡ schema.sites = omega (arith, low, high, all) in
+    let lower : sum_below i (settled_at schema good f Lower t) ≡ sum_below schema.sites (settled_at schema good f Lower t) = ap (λ (m : ℕ). sum_below m (settled_at schema good f Lower t)) same in
+    let raise : sum_below i (settled_at schema good f Raise t) ≡ sum_below schema.sites (settled_at schema good f Raise t) = ap (λ (m : ℕ). sum_below m (settled_at schema good f Raise t)) same in
+    omega (arith, ints, is, lower, raise, value_is, committed_is schema good f t sound)

@@ -1,0 +1,18 @@
+use Rattle.std.proofs.Common.{ℕ, [], ◌∷◌}
+use Rattle.field_bounds.specs.declared.kind.Kind.TheVariants.{Lower, Raise}
+use Rattle.field_bounds.specs.Schema.{SchemaValue}
+use Rattle.reaching_steps.specs.Reach.{restates, delivers, passes_on}
+use Rattle.reaching_steps.proofs.Growing.{grew_over, grew_tasks}
+use Rattle.reaching_steps.proofs.steps.pass_from.Goals as goal
+
+pub loop-to-preserved : goal.loop-to-preserved
+loop-to-preserved c =
+    let m = c.args.named.0 in
+    let f = c.args.field.0 in
+    let i = c.args.from.0 in
+    let j = c.loop-to.to in
+    grew_over c.args.trial.now c.loop-to.trial c.pass_on-in-loop-to.new.trial _ _ _ (λ (schema : SchemaValue) (to : ℕ). passes_on schema m f i to) j c.loop-to.invariant
+    (grew_tasks c.loop-to.trial c.pass_on.new.trial c.pass_on-in-loop-to.new.trial _ _ _
+    (λ (schema : SchemaValue). restates schema m f i j Lower ∷ delivers schema m f i j Lower ∷ [])
+    (λ (schema : SchemaValue). restates schema m f i j Raise ∷ delivers schema m f i j Raise ∷ [])
+    c.in_ok-pass_on.ensures.grew c.in_ok-pass_on-2.ensures.grew)

@@ -1,0 +1,22 @@
+use Rattle.std.proofs.Common.{◌≡◌, ◌∙◌, ap, subst}
+use Rattle.std.specs.Prelude.{IfOk, ℤ}
+use Rattle.std.proofs.Math.Facts.{to_z-of_z}
+use Rattle.field_bounds.specs.Schema.{SchemaValue}
+use Rattle.field_bounds.specs.Limits.{IsSchema}
+use Rattle.world_steps.specs.View.{WorldValue}
+use Rattle.reaching_steps.specs.Reach.{reach_steps}
+use Rattle.reaching_steps.specs.Body.{Does}
+use Rattle.reaching_steps.proofs.Growing.{if_ok, does}
+use Rattle.reaching_steps.proofs.steps.plan_clear.Goals as goal
+
+pub returns : goal.returns
+returns c =
+    let w : WorldValue = c.args.trial.now in
+    let same = to_z-of_z c.ranges.target in
+    let good : IsSchema w.schema = subst (λ (s : SchemaValue). IsSchema s) (c.schema.ensures.value ∙ ap (λ (x : WorldValue). x.schema) c.world.ensures.value) c.sites-sites.ensures.limits in
+    let steps = subst (λ (z : ℤ). IfOk c.plan.result (λ taken. taken.items ≡ reach_steps w.schema w.steps c.args.named c.args.field z)) same c.plan.ensures.steps in
+    record {
+      steps = steps;
+      does = if_ok c.plan.result (λ taken. taken.items ≡ reach_steps w.schema w.steps c.args.named c.args.field c.args.target) (λ taken. Does w c.args.named c.args.field c.args.target taken.items)
+          (λ taken is. does w c.args.named c.args.field c.args.target taken.items good c.requires.fit c.requires.clear is) steps;
+    }

@@ -1,0 +1,76 @@
+-- What took effect at the sites, read from a trace (this project).
+use Rattle.std.specs.Prelude.{◌≡◌, ℕ, ◌<◌, ◌==◌, Bool, true, false, if◌then◌else◌, List, [], ◌∷◌, length, get_or, reverse, Option, Some, None}
+use Rattle.std.specs.Global.{Vec}
+use Rattle.field_bounds.specs.declared.kind.Kind.{Kind}
+use Rattle.field_bounds.specs.declared.id.SiteNo.{SiteNo}
+use Rattle.field_bounds.specs.declared.id.FieldNo.{FieldNo}
+use Rattle.field_bounds.specs.declared.entry.Command.{Command}
+use Rattle.field_bounds.specs.declared.entry.Command.TheVariants.{Begin, Escrow, Commit, Abort, Give, Restate, Spare, Tighten, Accept, Read, Share, Restart}
+use Rattle.field_bounds.specs.declared.entry.Entry.{Entry}
+use Rattle.field_bounds.specs.declared.effect.Effect.{Effect}
+use Rattle.field_bounds.specs.Schema.{SchemaValue}
+use Rattle.field_bounds.specs.Effects.{Base, share, spared, kept_before, effects, fresh, is_to, is_for_good}
+use Rattle.field_bounds.specs.Central.{own, at_site}
+use Rattle.world_steps.specs.View.{WorldValue, trace_of, Answers}
+use Rattle.world_steps.specs.declared.step.WorldStep.{WorldStep}
+use Rattle.world_steps.specs.declared.step.StepReply.{StepReply}
+use Rattle.world_steps.specs.declared.step.StepReply.TheVariants.{Made, NoStatement}
+use Rattle.reaching_steps.specs.declared.totals.Receivers.{Receivers}
+use Rattle.reaching_steps.specs.declared.totals.Receivers.TheVariants.{OneSite, ForGood, Everyone}
+
+-- Whether what stands in doubt at site s before these entries, the oldest first, was kept, as its next restart found.
+abbrev pub kept_in : ℕ → List Entry → Bool
+kept_in s [] = false
+kept_in s (e ∷ later) = if e.site.0 == s then kept_before (kept_in s later) e.reply else kept_in s later
+
+-- On which field, of which kind and how much a spare wants.
+abbrev pub wanted_by : Command → Option (FieldNo × Kind × ℕ)
+wanted_by Begin = None
+wanted_by (Escrow txn field change) = None
+wanted_by (Commit txn) = None
+wanted_by (Abort txn) = None
+wanted_by (Give to field kind amount) = None
+wanted_by (Restate to field kind) = None
+wanted_by (Spare to field kind want) = Some (field, kind, want)
+wanted_by (Tighten field kind amount) = None
+wanted_by (Accept told) = None
+wanted_by (Read field) = None
+wanted_by (Share field) = None
+wanted_by Restart = None
+
+-- What is spared behind these effects where so much is wanted.
+abbrev pub spared_for : Base → List Effect → Option (FieldNo × Kind × ℕ) → ℕ
+spared_for base es None = 0
+spared_for base es (Some wanted) = spared (share base wanted.0.0 wanted.1 es) wanted.2
+
+-- What took effect at site s before an entry is known, the oldest first, and so it is with the entry.
+unfoldable pub Reads : SchemaValue → ℕ → List Effect → Entry → List Entry → List Effect → Type 0
+Reads schema s told e later more =
+    (t : List Entry) → reverse told ≡ effects (fresh schema s) (kept_in s (e ∷ later)) (own s t)
+    → reverse more ≡ effects (fresh schema s) (kept_in s later) (own s (e ∷ t))
+
+-- For each site, what took effect there.
+unfoldable pub AllTold : SchemaValue → List Entry → List (Vec Effect) → Type 0
+AllTold schema t lists = (s : ℕ) (d : Vec Effect) → s < length lists → (get_or lists s d).items ≡ at_site schema t s
+
+-- To whom rights left: to one site, for good, or to anyone.
+abbrev pub passes : Receivers → Option SiteNo → Bool
+passes (OneSite site) = is_to site.0
+passes ForGood = is_for_good
+passes Everyone = λ _. true
+
+-- Where a trial is whole, its table tells what took effect at each site of its world.
+abbrev pub IsTrial : WorldValue → List (Vec Effect) → Bool → Type 0
+IsTrial w lists whole = whole ≡ true → (length lists ≡ w.schema.sites) × AllTold w.schema (trace_of w) lists
+
+-- The entry that was made, if any, is of one of so many sites.
+abbrev pub IsMadeWithin : StepReply → ℕ → Type 0
+IsMadeWithin (Made entry) sites = entry.site.0 < sites
+IsMadeWithin NoStatement sites = Unit {0}
+
+-- Where a table told what took effect at each site before a step, it does so after it.
+unfoldable pub Renews : WorldValue → StepReply → List (Vec Effect) → List (Vec Effect) → Type 0
+Renews later reply lists more =
+    (before : WorldValue) (step : WorldStep) → Answers reply before step later → later.schema ≡ before.schema
+    → (length lists ≡ before.schema.sites) × AllTold before.schema (trace_of before) lists
+    → (length more ≡ later.schema.sites) × AllTold later.schema (trace_of later) more

@@ -1,0 +1,382 @@
+//! The steps, tried one after another on a trial.
+
+ghost use Rattle.std.specs.Prelude.{◌≡◌, ◌<◌, ◌++◌, [], ◌∷◌, IfOk, IfErr, OnOk, All, None};
+ghost use Rattle.field_bounds.specs.Central.{own, committed};
+ghost use Rattle.field_bounds.specs.declared.kind.Kind.TheVariants as kinds;
+ghost use Rattle.world_steps.specs.World.{StepFits, trace_by};
+ghost use Rattle.world_steps.specs.View.{trace_of};
+ghost use Rattle.reaching_steps.specs.Reach.{planned, over_sites, aborts, restates, delivers, passes_on, moves, move_tasks, tasks, reach_steps, reach_fault, IsFine};
+ghost use Rattle.reaching_steps.specs.Body.{Explains, Grew, Does};
+
+use crate::fault::ReachFault;
+use crate::faults::fault_of;
+use crate::readers::{change_at, is_at, next_at, number_wanted, open_at};
+use crate::trial::Trial;
+use field_bounds::{Command, FieldNo, Kind, Schema, SiteNo};
+use std::alloc::{AllocError, Global};
+use world_steps::{Luck, World, WorldStep};
+
+/// One step, taken in the trial and noted.
+fn take(
+    alloc: Global,
+    trial: &mut Trial,
+    taken: &mut Vec<WorldStep>,
+    step: WorldStep,
+) -> Result<(), AllocError>
+    requires fits { StepFits trial.old.schema step }
+    ensures grew { OnOk result (Grew trial.old taken.old.items (step ∷ []) trial.new taken.new.items) }
+{
+    trial.step(alloc, &step)?;
+    taken.push(step)?;
+    Ok(())
+}
+
+/// A command at a site, taken so.
+fn ask(
+    alloc: Global,
+    trial: &mut Trial,
+    taken: &mut Vec<WorldStep>,
+    site: SiteNo,
+    command: Command,
+) -> Result<(), AllocError>
+    requires fits { StepFits trial.old.schema (Rattle.reaching_steps.specs.Reach.fine site.0 command) }
+    ensures grew { OnOk result (Grew trial.old taken.old.items (Rattle.reaching_steps.specs.Reach.fine site.0 command ∷ []) trial.new taken.new.items) }
+{
+    take(
+        alloc,
+        trial,
+        taken,
+        WorldStep::Do {
+            site,
+            command,
+            luck: Luck::Fine,
+        },
+    )
+}
+
+/// The open transactions of another site are aborted.
+fn abort_open(
+    alloc: Global,
+    trial: &mut Trial,
+    taken: &mut Vec<WorldStep>,
+    named: SiteNo,
+    site: SiteNo,
+) -> Result<(), AllocError>
+    requires in_schema { site.0 < trial.old.schema.sites }
+    ensures grew { OnOk result (Grew trial.old taken.old.items (aborts trial.old.schema named.0 site.0 (trace_of trial.old)) trial.new taken.new.items) }
+{
+    if site.0 == named.0 {
+        return Ok(());
+    }
+    let ids = open_at(alloc, trial, site)?;
+    for id in &ids {
+        ask(alloc, trial, taken, site, Command::Abort { txn: *id })?;
+    }
+    Ok(())
+}
+
+/// What one site gave to another is told again, where it has to be delivered and was never told.
+fn tell_again(
+    alloc: Global,
+    trial: &mut Trial,
+    taken: &mut Vec<WorldStep>,
+    named: SiteNo,
+    field: FieldNo,
+    from: SiteNo,
+    to: SiteNo,
+    kind: Kind,
+) -> Result<(), AllocError>
+    requires giver { from.0 < trial.old.schema.sites }
+    requires receiver { to.0 < trial.old.schema.sites }
+    ensures grew { OnOk result (Grew trial.old taken.old.items
+        (restates trial.old.schema named.0 field.0 from.0 to.0 kind (trace_of trial.old)) trial.new taken.new.items) }
+{
+    let wanted = number_wanted(trial, named, field, from, to, kind)?;
+    match wanted {
+        None => Ok(()),
+        Some(which) => {
+            if which == 0 {
+                ask(
+                    alloc,
+                    trial,
+                    taken,
+                    from,
+                    Command::Restate { to, field, kind },
+                )
+            } else {
+                Ok(())
+            }
+        }
+    }
+}
+
+/// It is delivered, where it has to be.
+fn deliver(
+    alloc: Global,
+    trial: &mut Trial,
+    taken: &mut Vec<WorldStep>,
+    named: SiteNo,
+    field: FieldNo,
+    from: SiteNo,
+    to: SiteNo,
+    kind: Kind,
+) -> Result<(), AllocError>
+    requires giver { from.0 < trial.old.schema.sites }
+    requires receiver { to.0 < trial.old.schema.sites }
+    ensures grew { OnOk result (Grew trial.old taken.old.items
+        (delivers trial.old.schema named.0 field.0 from.0 to.0 kind (trace_of trial.old)) trial.new taken.new.items) }
+{
+    let wanted = number_wanted(trial, named, field, from, to, kind)?;
+    match wanted {
+        None => Ok(()),
+        Some(k) => take(
+            alloc,
+            trial,
+            taken,
+            WorldStep::Deliver {
+                k,
+                luck: Luck::Fine,
+            },
+        ),
+    }
+}
+
+/// Both, of one pair of sites and one kind.
+fn pass_on(
+    alloc: Global,
+    trial: &mut Trial,
+    taken: &mut Vec<WorldStep>,
+    named: SiteNo,
+    field: FieldNo,
+    from: SiteNo,
+    to: SiteNo,
+    kind: Kind,
+) -> Result<(), AllocError>
+    requires giver { from.0 < trial.old.schema.sites }
+    requires receiver { to.0 < trial.old.schema.sites }
+    ensures grew { OnOk result (Grew trial.old taken.old.items
+        (planned trial.old.schema trial.old.steps
+        (restates trial.old.schema named.0 field.0 from.0 to.0 kind ∷ delivers trial.old.schema named.0 field.0 from.0 to.0 kind ∷ []))
+        trial.new taken.new.items) }
+{
+    tell_again(alloc, trial, taken, named, field, from, to, kind)?;
+    deliver(alloc, trial, taken, named, field, from, to, kind)?;
+    Ok(())
+}
+
+/// Another site moves the field as far as it can towards the target.
+fn move_field(
+    alloc: Global,
+    trial: &mut Trial,
+    taken: &mut Vec<WorldStep>,
+    named: SiteNo,
+    field: FieldNo,
+    target: i64,
+    site: SiteNo,
+) -> Result<(), AllocError>
+    requires in_schema { site.0 < trial.old.schema.sites }
+    ensures grew { OnOk result (Grew trial.old taken.old.items (moves trial.old.schema named.0 field.0 target site.0 (trace_of trial.old)) trial.new taken.new.items) }
+{
+    if site.0 == named.0 {
+        return Ok(());
+    }
+    let txn = next_at(trial, site);
+    let found = change_at(alloc, trial, field, target, site)?;
+    match found {
+        None => Ok(()),
+        Some(change) => {
+            ask(alloc, trial, taken, site, Command::Begin)?;
+            ask(
+                alloc,
+                trial,
+                taken,
+                site,
+                Command::Escrow { txn, field, change },
+            )?;
+            ask(alloc, trial, taken, site, Command::Commit { txn })
+        }
+    }
+}
+
+/// First, the open transactions of all other sites.
+fn abort_all(
+    alloc: Global,
+    trial: &mut Trial,
+    taken: &mut Vec<WorldStep>,
+    named: SiteNo,
+    sites: u16,
+) -> Result<(), AllocError>
+    requires all { sites ≡ trial.old.schema.sites }
+    ensures grew { OnOk result (Grew trial.old taken.old.items
+        (planned trial.old.schema trial.old.steps (over_sites sites (λ s. aborts trial.old.schema named.0 s ∷ []))) trial.new taken.new.items) }
+{
+    for s in 0..sites {
+        abort_open(alloc, trial, taken, named, SiteNo(s))?;
+    }
+    Ok(())
+}
+
+/// What one site gave to each other one.
+fn pass_from(
+    alloc: Global,
+    trial: &mut Trial,
+    taken: &mut Vec<WorldStep>,
+    named: SiteNo,
+    field: FieldNo,
+    sites: u16,
+    from: SiteNo,
+) -> Result<(), AllocError>
+    requires in_schema { from.0 < trial.old.schema.sites }
+    requires all { sites ≡ trial.old.schema.sites }
+    ensures grew { OnOk result (Grew trial.old taken.old.items
+        (planned trial.old.schema trial.old.steps (over_sites sites (λ to. passes_on trial.old.schema named.0 field.0 from.0 to))) trial.new taken.new.items) }
+{
+    for to in 0..sites {
+        pass_on(
+            alloc,
+            trial,
+            taken,
+            named,
+            field,
+            from,
+            SiteNo(to),
+            Kind::Lower,
+        )?;
+        pass_on(
+            alloc,
+            trial,
+            taken,
+            named,
+            field,
+            from,
+            SiteNo(to),
+            Kind::Raise,
+        )?;
+    }
+    Ok(())
+}
+
+/// Then what was given.
+fn pass_all(
+    alloc: Global,
+    trial: &mut Trial,
+    taken: &mut Vec<WorldStep>,
+    named: SiteNo,
+    field: FieldNo,
+    sites: u16,
+) -> Result<(), AllocError>
+    requires all { sites ≡ trial.old.schema.sites }
+    ensures grew { OnOk result (Grew trial.old taken.old.items
+        (planned trial.old.schema trial.old.steps (over_sites sites (λ from. over_sites sites (λ to. passes_on trial.old.schema named.0 field.0 from to)))) trial.new taken.new.items) }
+{
+    for from in 0..sites {
+        pass_from(alloc, trial, taken, named, field, sites, SiteNo(from))?;
+    }
+    Ok(())
+}
+
+/// Last, the field.
+fn move_all(
+    alloc: Global,
+    trial: &mut Trial,
+    taken: &mut Vec<WorldStep>,
+    named: SiteNo,
+    field: FieldNo,
+    target: i64,
+    sites: u16,
+) -> Result<(), AllocError>
+    requires all { sites ≡ trial.old.schema.sites }
+    ensures grew { OnOk result (Grew trial.old taken.old.items
+        (planned trial.old.schema trial.old.steps (move_tasks trial.old.schema named.0 field.0 target sites)) trial.new taken.new.items) }
+{
+    for s in 0..sites {
+        move_field(alloc, trial, taken, named, field, target, SiteNo(s))?;
+    }
+    Ok(())
+}
+
+/// The steps; the trial has them taken.
+fn plan(
+    alloc: Global,
+    trial: &mut Trial,
+    named: SiteNo,
+    field: FieldNo,
+    target: i64,
+    sites: u16,
+) -> Result<Vec<WorldStep>, AllocError>
+    requires all { sites ≡ trial.old.schema.sites }
+    ensures steps { IfOk result (λ taken. taken.items ≡ reach_steps trial.old.schema trial.old.steps named field target) }
+{
+    let mut taken = Vec::new(alloc);
+    let there = is_at(alloc, trial, field, target)?;
+    if there {
+        return Ok(taken);
+    }
+    abort_all(alloc, trial, &mut taken, named, sites)?;
+    pass_all(alloc, trial, &mut taken, named, field, sites)?;
+    move_all(alloc, trial, &mut taken, named, field, target, sites)?;
+    Ok(taken)
+}
+
+/// The steps, where no fault holds, with what they are promised to do.
+fn plan_clear(
+    alloc: Global,
+    trial: &mut Trial,
+    named: SiteNo,
+    field: FieldNo,
+    target: i64,
+) -> Result<Vec<WorldStep>, AllocError>
+    requires fit { All (StepFits trial.old.schema) trial.old.steps }
+    requires clear { reach_fault trial.old.schema (trace_of trial.old) named field target ≡ None }
+    ensures steps { IfOk result (λ taken. taken.items ≡ reach_steps trial.old.schema trial.old.steps named field target) }
+    ensures does { IfOk result (λ taken. Does trial.old named field target taken.items) }
+{
+    let sites = trial.world().schema().sites();
+    plan(alloc, trial, named, field, target, sites)
+}
+
+/// The steps at other sites after which the committed value of a field is the target: told by the
+/// steps that a world has taken, all with luck that is fine (`steps`). First the open transactions
+/// of the other sites are aborted, in order of site and begin; then what the sites gave each other
+/// on the field is taken in, told again where its statement was never issued; last, each site but
+/// the named one moves the field as far towards the target as its share lets it. Where the target is
+/// the committed value there are no steps.
+///
+/// The fault is the first that holds, in the order of `ReachFault`, or want of memory (`fault`), and
+/// where there are steps none holds (`clear`).
+///
+/// Taken after the world's own steps, they leave the named site as it is, and the target is the
+/// committed value (`does`). As every value from lo to hi of the interval that the named site reads
+/// is such a target, an interval that leaves one out would be wrong in some run.
+///
+/// The site is tried on a world of its own. Costs taking the world's steps once more, reading the
+/// trace once for each site and for each step that is told, and, for each two sites, what took
+/// effect at both.
+///
+/// Source: this project.
+pub fn reach(
+    alloc: Global,
+    world: &World,
+    site: SiteNo,
+    field: FieldNo,
+    target: i64,
+) -> Result<Vec<WorldStep>, ReachFault>
+    ensures clear { OnOk result (reach_fault world.now.schema (trace_of world.now) site field target ≡ None) }
+    ensures fault { IfErr result (λ fault. Explains fault (reach_fault world.now.schema (trace_of world.now) site field target)) }
+    ensures steps { IfOk result (λ taken. taken.items ≡ reach_steps world.now.schema world.now.steps site field target) }
+    ensures does { IfOk result (λ taken. Does world.now site field target taken.items) }
+{
+    let Ok(mut trial) = Trial::new(alloc, world) else {
+        return Err(ReachFault::NoMemory);
+    };
+    let Ok(found) = fault_of(alloc, &trial, site, field, target) else {
+        return Err(ReachFault::NoMemory);
+    };
+    match found {
+        Some(fault) => Err(fault),
+        None => match plan_clear(alloc, &mut trial, site, field, target) {
+            Ok(taken) => Ok(taken),
+            Err(_) => Err(ReachFault::NoMemory),
+        },
+    }
+}

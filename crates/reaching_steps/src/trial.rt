@@ -1,0 +1,135 @@
+//! A world on which steps are tried.
+
+ghost use Rattle.std.specs.Prelude.{◌≡◌, ◌<◌, ◌++◌, [], ◌∷◌, All, IfOk, OnOk, true, length};
+ghost use Rattle.field_bounds.specs.Limits.{IsSchema};
+ghost use Rattle.field_bounds.specs.Central.{at_site, IsSound};
+ghost use Rattle.world_steps.specs.World.{StepFits};
+ghost use Rattle.world_steps.specs.View.{trace_of};
+ghost use Rattle.reaching_steps.specs.Told.{AllTold, IsMadeWithin, Renews};
+
+use crate::told::told_at;
+use field_bounds::{Effect, SiteNo};
+use std::alloc::{AllocError, Global};
+use std::marker::Model;
+use world_steps::{StepReply, World, WorldStep};
+
+/// A world of its own, in which the steps are tried that a world is to be told, with a table of what
+/// took effect at each site, the newest first: each site's part of the trace is read once for all
+/// that is asked of it. Where want of memory came between a step and the table, the table is read no
+/// more.
+#[derive(Drop)]
+pub(crate) struct Trial {
+    world: World,
+    told: Vec<Vec<Effect>>,
+    is_whole: bool,
+}
+
+impl Model for Trial {
+    ghost use Rattle.world_steps.specs.View.{WorldValue};
+    ghost use Rattle.reaching_steps.specs.Told.{IsTrial};
+
+    ghost Value = { WorldValue };
+
+    ghost view = { λ t. t.world };
+
+    ghost invariant = { λ t. IsTrial t.world t.told.items t.is_whole };
+}
+
+/// What took effect at each site of a world.
+fn table_of(alloc: Global, world: &World) -> Result<Vec<Vec<Effect>>, AllocError>
+    ensures count { IfOk result (λ table. length table.items ≡ world.now.schema.sites) }
+    ensures told { IfOk result (λ table. AllTold world.now.schema (trace_of world.now) table.items) }
+{
+    let mut table = Vec::new(alloc);
+    for site in 0..world.schema().sites() {
+        table.push(told_at(alloc, world, SiteNo(site))?)?;
+    }
+    Ok(table)
+}
+
+/// The table, once a world has answered one step more: the site of the entry that was made, if any,
+/// is read anew. The error is want of memory.
+fn renew(
+    alloc: Global,
+    world: &World,
+    table: &mut Vec<Vec<Effect>>,
+    reply: StepReply,
+) -> Result<(), AllocError>
+    requires made { IsMadeWithin reply world.now.schema.sites }
+    ensures renewed { OnOk result (Renews world.now reply table.old.items table.new.items) }
+{
+    match reply {
+        StepReply::NoStatement => Ok(()),
+        StepReply::Made(entry) => {
+            let told = told_at(alloc, world, entry.site)?;
+            if usize::from(entry.site.0) < table.len() {
+                table[usize::from(entry.site.0)] = told;
+            }
+            Ok(())
+        }
+    }
+}
+
+/// A world in which the same steps were taken.
+fn replay(alloc: Global, world: &World) -> Result<World, AllocError>
+    ensures same { IfOk result (λ replayed. replayed ≡ world.now) }
+    ensures fit { All (StepFits world.now.schema) world.now.steps }
+{
+    let steps = world.steps(alloc)?;
+    let mut replayed = World::new(alloc, world.schema().copy()?)?;
+    for step in &steps {
+        replayed.step(alloc, step)?;
+    }
+    Ok(replayed)
+}
+
+impl Trial {
+    /// The trial of a world, in which no other step was tried yet. The error is want of memory.
+    pub(crate) fn new(alloc: Global, world: &World) -> Result<Trial, AllocError>
+        ensures same { IfOk result (λ trial. trial ≡ world.now) }
+        ensures fit { All (StepFits world.now.schema) world.now.steps }
+    {
+        let world = replay(alloc, world)?;
+        let told = table_of(alloc, &world)?;
+        Ok(Trial {
+            world,
+            told,
+            is_whole: true,
+        })
+    }
+
+    /// Tries one step. The error is want of memory.
+    pub(crate) fn step(&mut self, alloc: Global, step: &WorldStep) -> Result<(), AllocError>
+        requires fits { StepFits self.old.schema step.now }
+        ensures steps { OnOk result (self.new ≡ record self.old { steps = self.old.steps ++ step.now ∷ [] }) }
+    {
+        let was_whole = self.is_whole;
+        self.is_whole = false;
+        let reply = self.world.step(alloc, step)?;
+        renew(alloc, &self.world, &mut self.told, reply)?;
+        self.is_whole = was_whole;
+        Ok(())
+    }
+
+    /// The world, with the steps tried so far.
+    pub(crate) fn world(&self) -> &World
+        ensures value { result.now ≡ self.now }
+    {
+        &self.world
+    }
+
+    /// What took effect at a site, the newest first. The error is want of memory in an earlier step.
+    pub(crate) fn told(&self, site: SiteNo) -> Result<&[Effect], AllocError>
+        requires in_schema { site.0 < self.now.schema.sites }
+        ensures value { IfOk result (λ told. told.now ≡ at_site self.now.schema (trace_of self.now) site.0) }
+        ensures sound { IsSound self.now.schema (trace_of self.now) }
+        ensures limits { IsSchema self.now.schema }
+    {
+        let _schema = self.world.schema();
+        let _trace = self.world.trace();
+        if !self.is_whole {
+            return Err(AllocError);
+        }
+        Ok(&self.told[usize::from(site.0)])
+    }
+}
