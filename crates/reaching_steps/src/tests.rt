@@ -3,7 +3,7 @@ use field_bounds::{Command, FieldNo, FieldSpec, Kind, Schema, SiteNo, TxnId};
 use std::alloc::Global;
 use std::process::Abort;
 use std::test::Fail;
-use world_steps::{Luck, World, WorldStep, steps_fit};
+use world_steps::{Luck, World, WorldStep, step_fits};
 
 const STOCK: FieldNo = FieldNo(0);
 
@@ -89,11 +89,11 @@ fn stock_of_two(alloc: Global) -> Option<Schema> {
 /// A world of two sites in which these steps were taken; None where they don't fit.
 fn world_after(alloc: Global, steps: &[WorldStep]) -> Option<World> {
     let schema = stock_of_two(alloc)?;
-    if !steps_fit(&schema, steps) {
-        return None;
-    }
     let mut world = World::new(alloc, schema).ok()?;
     for step in steps {
+        if !step_fits(world.schema(), step) {
+            return None;
+        }
         world.step(alloc, step).ok()?;
     }
     Some(world)
