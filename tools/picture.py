@@ -1,0 +1,289 @@
+#!/usr/bin/env python3
+"""Draws one field of a trace: SVG on standard output.
+
+    tools/picture.py TRACE FIELD > PICTURE.svg
+
+TRACE is a file that `escrow run` printed, FIELD a name in its header. Over the entries are drawn the committed
+value, where open transactions may take it (infimum to supremum), floor and ceiling, and the interval that each site
+would answer to a read; below, a row for each site with what it did. Equal traces give equal bytes. Where TRACE is
+no trace or FIELD no field of it, standard error says so and the status is 2. It needs Python 3.10 and its standard
+library alone.
+"""
+import html
+import math
+import re
+import sys
+
+from trace_entries import Fault, fronts_of, gifts_of, read_trace
+
+TOP, CHART, ROW, LETTER = 72, 270, 26, 6.4  # heights, and about how wide a letter is
+FONT = "text { font: 11px 'DejaVu Sans', Verdana, sans-serif }"
+STYLE = """
+.title { font-size: 17px; font-weight: bold }
+svg { color: INK }
+text { fill: INK }
+.mute { fill: MUTE }
+.card { fill: CARD }
+.grid { stroke: GRID }
+.value { stroke: INK; stroke-width: 3; fill: none }
+.open { fill: MUTE; fill-opacity: .35; shape-rendering: crispEdges }
+.bound, .refused { stroke: BOUND; stroke-width: 2; fill: none }
+.line { stroke: currentColor; stroke-width: 1.6; fill: none }
+.read { stroke-width: 2.6; stroke-opacity: .55 }
+.down { stroke-dasharray: 1 5 }
+.gift { stroke-dasharray: 4 2 }
+.mark { stroke: currentColor; stroke-width: 1.6; fill: currentColor }
+.hollow { fill: CARD }
+.word { fill: currentColor }
+"""
+LIGHT = {"INK": "#1f2328", "MUTE": "#656d76", "CARD": "#ffffff", "GRID": "#d0d7de", "BOUND": "#cf222e"}
+DARK = {"INK": "#e6edf3", "MUTE": "#9198a1", "CARD": "#0d1117", "GRID": "#30363d", "BOUND": "#ff7b72"}
+LIGHT_SITES = ("#0969da", "#bc4c00", "#1a7f37", "#8250df", "#9a6700", "#bf3989", "#1b7c83", "#57606a")
+DARK_SITES = ("#58a6ff", "#f0883e", "#3fb950", "#bc8cff", "#d29922", "#f778ba", "#39c5cf", "#b1bac4")
+
+DISK, DIAMOND, SQUARE = "M-4 0A4 4 0 1 0 4 0A4 4 0 1 0-4 0Z", "M0-5.5L5.5 0L0 5.5L-5.5 0Z", "M-4-4H4V4H-4Z"
+MARKS = {
+    "lower": ("M-5-4H5L0 5Z", "mark", "granted: set aside to lower"),
+    "raise": ("M-5 4H5L0-5Z", "mark", "granted: set aside to raise"),
+    "committed": (DISK, "mark", "committed"),
+    "aborted": (DISK, "mark hollow", "aborted"),
+    "refused": ("M-4-4L4 4M4-4L-4 4", "refused", "refused"),
+    "given": (DIAMOND, "mark hollow", "rights given"),
+    "spared": (DIAMOND, "mark hollow", "rights given"),
+    "accepted": (DIAMOND, "mark", "rights accepted"),
+    "tightened": ("M-5 5H5M0 5V-5M-4-1L0-5L4-1", "line", "rights given up: a bound moves inwards"),
+    "unsure": (SQUARE, "mark", "stopped, its answer in doubt"),
+    "still": (SQUARE, "mark hollow", "restart failed"),
+    "restarted": ("M-4-5L5 0L-4 5Z", "mark hollow", "restarted"),
+}
+
+
+def tag(name, text=None, **attributes):
+    """One element; class_ stands for class, and text_anchor for text-anchor."""
+    told = ""
+    for key, value in attributes.items():
+        told += f' {key.strip("_").replace("_", "-")}="{round(value, 1) if isinstance(value, float) else value}"'
+    return f"<{name}{told}/>" if text is None else f"<{name}{told}>{html.escape(text, False)}</{name}>"
+
+
+def group(elements, **attributes):
+    """Elements that share attributes."""
+    return f"{tag('g', **attributes)[:-2]}>{''.join(elements)}</g>"
+
+
+class Plane:
+    """Where fronts and values lie in the picture."""
+
+    def __init__(self, fronts, top):
+        lowest, highest = min(it.inf for it in fronts), max(it.sup for it in fronts)
+        far = 10 * max(highest - lowest, 1)  # a bound further off isn't drawn
+        floor, ceiling = fronts[0].floor, fronts[0].ceiling
+        self.low = floor if lowest - floor <= far else lowest - far // 20
+        self.high = max(ceiling if ceiling - highest <= far else highest + far // 20, self.low + 1)
+        self.top, self.bottom = top, top + CHART
+        self.left = round(max(70, LETTER * max(len(f"{it:,}") for it in (self.low, self.high)) + 16))
+        self.step = max(13, 700 / len(fronts))
+        self.right = self.x(len(fronts))
+
+    def x(self, number):
+        """Where the front begins that so many entries have made."""
+        return round(self.left + self.step * number, 1)
+
+    def y(self, value):
+        """Where a value lies; none where it isn't in the picture."""
+        if value is not None and self.low <= value <= self.high:
+            return round(self.bottom - CHART * (value - self.low) / (self.high - self.low), 1)
+        return None
+
+    def stairs(self, heights):
+        """The path of a height for each front, with gaps where there is none."""
+        path, before = "", None
+        for number, y in enumerate(heights):
+            if y is not None:
+                path += f"{f'M{self.x(number)} {y}' if before is None else f'V{y}'}H{self.x(number + 1)}"
+            before = y
+        return path or "M0 0"
+
+
+def scale(plane):
+    """The grid, with round values at the left."""
+    units = (unit * 10 ** power for power in range(17) for unit in (1, 2, 5))
+    size = next(unit for unit in units if (plane.high - plane.low) / unit <= 7)
+    for value in range(math.ceil(plane.low / size) * size, plane.high + 1, size):
+        y = plane.y(value)
+        yield tag("path", class_="grid", d=f"M{plane.left} {y}H{plane.right}")
+        yield tag("text", f"{value:,}", class_="mute", x=plane.left - 8, y=y + 4, text_anchor="end")
+
+
+def intervals(plane, fronts, sites):
+    """The two ends of each site's interval, a little aside, so that all are seen where they meet; a site that is alone
+    knows the value."""
+    for site in range(sites) if sites > 1 else ():
+        aside = round((site - (sites - 1) / 2) * min(2.4, 10 / sites), 1)
+        paths = (plane.stairs(plane.y(front.intervals[site][end]) for front in fronts) for end in (0, 1))
+        lines = (tag("path", class_="line", d=path) for path in paths)
+        yield group(lines, class_=f"s{site}", transform=f"translate(0 {aside})")
+
+
+def reads_of(trace):
+    """The number, the site and the interval of each read, where there is more than one site."""
+    for number, (site, command, reply) in enumerate(trace.entries, 1):
+        if trace.sites > 1 and command == ["read", trace.field.name] and reply[0] == "between":
+            yield number, site, [int(end) for end in reply[1:]]
+
+
+def reads(plane, trace):
+    """What was answered to each read; an end that isn't in the picture has no bar across."""
+    for number, site, interval in reads_of(trace):
+        x, (low, high) = plane.x(number), (min(max(end, plane.low), plane.high) for end in interval)
+        bars = "".join(f"M{x - 4:.1f} {plane.y(end)}h8" for end in interval if plane.y(end) is not None)
+        yield tag("path", class_=f"line read s{site}", d=f"M{x} {plane.y(low)}V{plane.y(high)}{bars}")
+
+
+def store_lines(plane, fronts):
+    """Floor, ceiling and value, and where open transactions may take the value."""
+    for number, front in enumerate(fronts):
+        if front.inf < front.sup:
+            x, y = plane.x(number), plane.y(front.sup)
+            size = {"width": round(plane.step, 1), "height": round(plane.y(front.inf) - y, 1)}
+            yield tag("rect", class_="open", x=x, y=y, **size)
+    for style, part in (("bound", "ceiling"), ("bound", "floor"), ("value", "value")):
+        yield tag("path", class_=style, d=plane.stairs(plane.y(getattr(front, part)) for front in fronts))
+
+
+def end_names(plane, last):
+    """The names of these three lines at the right, one below the other where they meet."""
+    before = plane.top - 14
+    for name, edge in (("ceiling", plane.top), ("value", None), ("floor", plane.bottom)):
+        value = getattr(last, name)
+        y = plane.y(value)
+        before = max(edge if y is None else y, before + 14)
+        yield f"{name} {value:,}{' (not in sight)' if y is None else ''}", before + 4
+
+
+def mark_of(entry, field):
+    """The name of an entry's mark, where it has one and is about the field."""
+    if entry.command[0] not in ("commit", "abort", "restart") and field not in entry.command:
+        return None
+    if entry.reply == ["granted"]:
+        return "lower" if entry.command[-1].startswith("-") else "raise"
+    return entry.reply[0] if entry.reply[0] in MARKS else None
+
+
+def mark(name, site, x, y):
+    """A mark in the colour of a site."""
+    path, style, _ = MARKS[name]
+    return tag("path", class_=f"{style} {site}".strip(), d=path, transform=f"translate({x} {y})")
+
+
+def rows(plane, trace, fronts, top):
+    """For each site a row with its marks, dotted while it is down; and a line for each gift that arrived."""
+    levels = [top + ROW * site + ROW // 2 for site in range(trace.sites)]
+    for site, y in enumerate(levels):
+        yield tag("text", f"site {site}", class_=f"word s{site}", x=plane.left - 8, y=y + 4, text_anchor="end")
+        for style, is_up in (("line", True), ("line down", False)):
+            path = plane.stairs(y if (front.intervals[site][0] is not None) == is_up else None for front in fronts)
+            yield tag("path", class_=f"{style} s{site}", d=path)
+    for gift in gifts_of(trace):
+        ends = f"M{plane.x(gift.start)} {levels[gift.giver]}L{plane.x(gift.end)} {levels[gift.receiver]}"
+        yield tag("path", class_=f"line gift s{gift.giver}", d=ends)
+    for number, entry in enumerate(trace.entries, 1):
+        name = mark_of(entry, trace.field.name)
+        if name:
+            yield mark(name, f"s{entry.site}", plane.x(number), levels[entry.site])
+
+
+def words_of(trace):
+    """The words of each entry, without its site and the field."""
+    for number, entry in enumerate(trace.entries, 1):
+        words = (word for word in entry.command if word != trace.field.name)
+        yield f"{number}. {' '.join(words)} → {' '.join(entry.reply)}"
+
+
+def signs(trace):
+    """Each kind of line and of mark that the picture has, with what it tells."""
+    known = ", which the one site knows" if trace.sites == 1 else ""
+    yield tag("path", class_="value", d="M0 0H20"), f"committed value{known}"
+    area = tag("rect", class_="open", y=-6, width=20, height=12)
+    yield area, "infimum to supremum: where open transactions may take it"
+    yield tag("path", class_="bound", d="M0 0H20"), "floor and ceiling"
+    if trace.sites > 1:
+        two = group((tag("path", class_="line", d=f"M0 {y}H20") for y in (-5, 5)), class_="s0")
+        yield two, "two lines in a site's colour: between them, it knows, lies the value"
+    if any(reads_of(trace)):
+        yield tag("path", class_="line read s0", d="M6-6h8m-4 0V6m-4 0h8"), "read: the interval that a site answered"
+    used = {mark_of(entry, trace.field.name) for entry in trace.entries}
+    yield from {told: (mark(name, "", 10, 0), told) for name, (_, _, told) in MARKS.items() if name in used}.values()
+
+
+def legend(trace, width):
+    """The signs in rows of this width: what is drawn, and how high it is."""
+    x, y, drawn = 0, 0, []
+    for sign, told in signs(trace):
+        wide = 46 + round(LETTER * len(told))
+        if x + wide > width:
+            x, y = 0, y + 20
+        drawn.append(group((sign, tag("text", told, x=27, y=4)), transform=f"translate({x} {y})"))
+        x += wide
+    return drawn, y + 20
+
+
+def style_sheet(sites):
+    """The styles, for light and for dark surroundings."""
+    def coloured(colours, of_sites):
+        own = "".join(f".s{site} {{ color: {of_sites[site % len(of_sites)]} }}\n" for site in range(sites))
+        return re.sub("[A-Z]{3,}", lambda word: colours[word[0]], STYLE) + own
+    dark = f"@media (prefers-color-scheme: dark) {{{coloured(DARK, DARK_SITES)}}}\n"
+    return f"<style>\n{FONT}{coloured(LIGHT, LIGHT_SITES)}{dark}</style>"
+
+
+def picture(trace):
+    """The elements of the picture."""
+    fronts, words = fronts_of(trace), list(words_of(trace))
+    keys, key_height = legend(trace, max(820, 13 * len(fronts)))
+    plane = Plane(fronts, TOP + key_height + 8)
+    names = list(end_names(plane, fronts[-1]))
+    row_top = plane.bottom + 14
+    word_top = row_top + ROW * trace.sites + 12
+    longest = LETTER * max((len(text) for text in words), default=0)
+    ends = [plane.right + LETTER * len(name) for name, _ in names]
+    ends += [plane.x(number) + .65 * LETTER * len(text) for number, text in enumerate(words, 1)]
+    width, height = math.ceil(max(ends)) + 16, math.ceil(word_top + .77 * longest) + 16
+    title = f"{trace.field.name} at {trace.sites} site{'s' * (trace.sites > 1)}, entry by entry"
+    yield f'<svg xmlns="http://www.w3.org/2000/svg" width="{width}" height="{height}" viewBox="0 0 {width} {height}">'
+    yield tag("title", title)
+    yield style_sheet(trace.sites)
+    yield tag("rect", class_="card", width=width, height=height, rx=8)
+    yield tag("text", title, class_="title", x=20, y=30)
+    yield tag("text", "Above, the value and what each site knows of it; below, what each site did, command → answer.",
+              class_="mute", x=20, y=48)
+    yield group(keys, transform=f"translate(20 {TOP})")
+    yield from scale(plane)
+    yield from intervals(plane, fronts, trace.sites)
+    yield from store_lines(plane, fronts)
+    yield from reads(plane, trace)
+    yield from (tag("text", name, x=plane.right + 8, y=y) for name, y in names)
+    yield from rows(plane, trace, fronts, row_top)
+    for number, (entry, text) in enumerate(zip(trace.entries, words), 1):
+        turned = f"translate({round(plane.x(number) - 3, 1)} {word_top}) rotate(50)"
+        yield tag("text", text, class_=f"word s{entry.site}", transform=turned)
+    yield "</svg>"
+
+
+def main(arguments):
+    """Draws the field of the trace that the command line names, or says why not."""
+    if len(arguments) != 2:
+        print("use: tools/picture.py TRACE FIELD > PICTURE.svg", file=sys.stderr)
+        return 2
+    try:
+        with open(arguments[0], encoding="utf-8", newline="\n") as file:
+            drawn = "\n".join(picture(read_trace(file.read(), arguments[1])))
+    except (OSError, UnicodeError, Fault) as fault:
+        print(f"picture: {arguments[0]}: {fault}", file=sys.stderr)
+        return 2
+    sys.stdout.buffer.write(f"{drawn}\n".encode())
+    return 0
+
+
+if __name__ == "__main__":
+    sys.exit(main(sys.argv[1:]))
