@@ -76,10 +76,10 @@ class Plane:
 
     def __init__(self, fronts, top):
         lowest, highest = min(it.inf for it in fronts), max(it.sup for it in fronts)
-        far = 10 * max(highest - lowest, 1)  # a bound further off isn't drawn
-        floor, ceiling = fronts[0].floor, fronts[0].ceiling
-        self.low = floor if lowest - floor <= far else lowest - far // 20
-        self.high = max(ceiling if ceiling - highest <= far else highest + far // 20, self.low + 1)
+        span = max(highest - lowest, 1)  # a bound that is ten spans away isn't drawn
+        floor, ceiling, margin = fronts[0].floor, fronts[0].ceiling, max(span // 2, 1)
+        self.low = min(floor, lowest) if lowest - floor <= 10 * span else lowest - margin
+        self.high = max(ceiling, highest, self.low + 1) if ceiling - highest <= 10 * span else highest + margin
         self.top, self.bottom = top, top + CHART
         self.left = round(max(70, LETTER * max(len(f"{it:,}") for it in (self.low, self.high)) + 16))
         self.step = max(13, 700 / len(fronts))
@@ -116,8 +116,7 @@ def scale(plane):
 
 
 def intervals(plane, fronts, sites):
-    """The two ends of each site's interval, a little aside, so that all are seen where they meet; a site that is alone
-    knows the value."""
+    """The ends of each site's interval, a little aside, so that all are seen; a site that is alone knows the value."""
     for site in range(sites) if sites > 1 else ():
         aside = round((site - (sites - 1) / 2) * min(2.4, 10 / sites), 1)
         paths = (plane.stairs(plane.y(front.intervals[site][end]) for front in fronts) for end in (0, 1))
@@ -145,8 +144,8 @@ def store_lines(plane, fronts):
     for number, front in enumerate(fronts):
         if front.inf < front.sup:
             x, y = plane.x(number), plane.y(front.sup)
-            size = {"width": round(plane.step, 1), "height": round(plane.y(front.inf) - y, 1)}
-            yield tag("rect", class_="open", x=x, y=y, **size)
+            width, height = plane.x(number + 1) - x, plane.y(front.inf) - y
+            yield tag("rect", class_="open", x=x, y=y, width=width, height=height)
     for style, part in (("bound", "ceiling"), ("bound", "floor"), ("value", "value")):
         yield tag("path", class_=style, d=plane.stairs(plane.y(getattr(front, part)) for front in fronts))
 
