@@ -1,8 +1,8 @@
 #!/usr/bin/env python3
-"""Measures `escrow run` on long scripts, and `escrow audit` on what that writes, each beside a plain Rust
-program of the same shape.
+"""Measures `escrow run` on long scripts, `escrow audit` on what that writes, and desks that threads call, each
+beside a plain Rust program of the same shape.
 
-    bench/bench.py [LINES [TURNS]] [--audit | --restarts]
+    bench/bench.py [LINES [TURNS]] [--audit | --restarts | --desk]
 
 LINES is the length of the input, its header line included (1,000,000 if left out, which is the
 most that `run` takes), and TURNS how often each program runs (5). It prints, for the best turn of
@@ -27,6 +27,11 @@ The scripts:
   LINES / 100 restarts behind 1,000 gifts, and behind as many as fit: what one of them costs. The
   plain program reads its whole log at each restart, so it doesn't run these. With --restarts these
   alone.
+- desks: a desk of one site called by 1, 2 and 4 threads, and four desks, each of a site and called by
+  one thread, beside a Mutex of std round the plain program's site. Each thread makes LINES calls in
+  all: a begin, an escrow, a commit and a read, over and over. The two programs run in turn, and tell
+  the time themselves; each row has the best of each, and the load of the machine when it was done.
+  With --desk these alone.
 """
 
 import filecmp
@@ -190,17 +195,22 @@ def measure(name, words, source, target, lines, turns):
     return passed
 
 
+def build_plain(folder):
+    """The plain program, where there is a compiler for it."""
+    if shutil.which("rustc") is None:
+        print("no rustc here: nothing to compare with")
+        return None
+    plain = os.path.join(folder, "plain")
+    source = os.path.join(TOP, "bench", "plain", "plain.rs")
+    subprocess.run(["rustc", "--edition", "2024", "-O", "-o", plain, source], check=True)
+    return plain
+
+
 def build(folder):
     """The program, and the plain one where there is a compiler for it."""
     subprocess.run([os.path.join(TOP, "escrow"), "--help"], stdout=subprocess.DEVNULL, check=True)
     program = os.path.join(TOP, "crates", "escrow", "out", "escrow")
-    if shutil.which("rustc") is None:
-        print("no rustc here: nothing to compare with")
-        return program, None
-    plain = os.path.join(folder, "plain")
-    source = os.path.join(TOP, "bench", "plain", "plain.rs")
-    subprocess.run(["rustc", "--edition", "2024", "-O", "-o", plain, source], check=True)
-    return program, plain
+    return program, build_plain(folder)
 
 
 def compare(name, script, folder, programs, turns):
@@ -265,6 +275,37 @@ def restarts(lines, folder, program, turns):
         print(f"a restart behind {gifts:,} gifts takes {(with_them - without) / count * 1e6:.0f} microseconds")
 
 
+def build_desks():
+    """The program of desks."""
+    folder = os.path.join(TOP, "crates", "desk_bench")
+    subprocess.run(["rt", "run", "--", "1", "1", "1"], cwd=folder, stdout=subprocess.DEVNULL, check=True)
+    return os.path.join(folder, "out", "desk_bench")
+
+
+def serve(words):
+    """What it wrote, and the seconds that it tells."""
+    ran = subprocess.run(["nice", "-n", "-5", *words], capture_output=True, text=True, check=True)
+    return ran.stdout, int(ran.stderr.split()[-1]) / 1e9
+
+
+def desks(lines, plain, turns):
+    program = build_desks()
+    rounds = str(lines // 4)
+    print(f"desks: {lines // 4 * 4:,} calls a thread, best of {turns}")
+    for desk_count, threads in ((1, 1), (1, 2), (1, 4), (4, 1)):
+        asked = [str(desk_count), str(threads), rounds]
+        programs = [[program, *asked]] + ([[plain, "desk", *asked]] if plain else [])
+        runs = [[serve(words) for words in programs] for _ in range(turns)]
+        if len({written for each in runs for written, _ in each}) > 1:
+            sys.exit("the two programs served different calls")
+        calls = lines // 4 * 4 * desk_count * threads
+        best = [min(each[place][1] for each in runs) for place in range(len(programs))]
+        told = f"desks {desk_count}, threads of each {threads}: {calls / best[0]:12,.0f} calls/s"
+        if plain:
+            told += f"  plain {calls / best[1]:12,.0f} calls/s  {best[0] / best[1]:5.2f} times its time"
+        print(f"{told}  load {os.getloadavg()[0]:.1f}")
+
+
 def main():
     words = [word for word in sys.argv[1:] if not word.startswith("--")]
     lines = int(words[0]) if words else 1_000_000
@@ -272,6 +313,9 @@ def main():
     if lines < 1_000 or turns < 1:
         sys.exit(__doc__)
     with tempfile.TemporaryDirectory() as folder:
+        if "--desk" in sys.argv:
+            desks(lines, build_plain(folder), turns)
+            return
         programs = build(folder)
         if "--audit" in sys.argv:
             audits(lines, folder, programs, turns)
@@ -288,6 +332,7 @@ def main():
         print(f"a mixed line over 64 sites and 256 fields takes {many / few:.2f} times one over 4 and 8")
         audits(lines, folder, programs, turns)
         restarts(lines, folder, programs[0], turns)
+        desks(lines, programs[1], turns)
 
 
 if __name__ == "__main__":

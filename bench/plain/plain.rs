@@ -4,6 +4,7 @@
 //! With the argument `audit` it audits such answers. Built by `rustc -O plain.rs`. The header is read only in the form in which bench.py writes it.
 
 mod audit;
+mod desk;
 
 use std::collections::HashMap;
 use std::fmt::{self, Write as _};
@@ -784,8 +785,10 @@ fn run(reader: impl Read, writer: impl Write) -> io::Result<()> {
 
 fn main() -> io::Result<()> {
     let (reader, writer) = (io::stdin().lock(), io::stdout().lock());
-    match std::env::args().nth(1).as_deref() {
-        Some("audit") => audit::run(reader, writer),
+    let words: Vec<String> = std::env::args().skip(1).collect();
+    match words.split_first() {
+        Some((first, rest)) if first == "desk" => desk::run(rest, writer),
+        Some((first, _)) if first == "audit" => audit::run(reader, writer),
         _ => run(reader, writer),
     }
 }
