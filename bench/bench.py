@@ -21,7 +21,12 @@ The scripts:
   line tells the cost of a line there as a multiple of that over 4 sites and 8 fields.
 - the audit of what the mixed scripts write, in one pass and with `--fields`, and of what a script
   writes that has 912 escrows open at each of 4 sites all along: no command costs a walk over the
-  history, or over other transactions' escrows. With --audit these alone.
+  history, or over other transactions' escrows. Both read the text alike, so a line tells what the
+  judges alone take: an audit less that of the same text with an illegal entry in front, at which
+  the judge in one pass ends. Then traces in which all lines are gifts of one field and their
+  arrivals, of 1 right each and of 2**32 each, at a tenth of the length and at the whole length: the
+  statements issued, as many as there are lines at half, cost no more where they are alike. With
+  --audit these alone.
 - restarts: a quarter of all lines are restarts, at a tenth of the length and at the whole length;
   the last line tells the cost of a line at the whole length as a multiple of that at a tenth. And
   LINES / 100 restarts behind 1,000 gifts, and behind as many as fit: what one of them costs. The
@@ -44,6 +49,7 @@ import time
 
 TOP = os.path.dirname(os.path.dirname(os.path.abspath(__file__)))
 RESTARTS = 20
+ILLEGAL = 3
 
 
 def header(sites, names, floor, ceiling, value):
@@ -153,6 +159,16 @@ def held(lines, sites, fields):
         )[turn % 4]
 
 
+def gifts(lines, amount):
+    """Site 0 gives so many rights to site 1, again and again; after each 1,000 gifts site 1 gives all of them back."""
+    yield header(2, ["stock1"], -(10**15), 10**15, 10**15)
+    for number in range(1, lines // 2 + 1):
+        back = number % 1_001 == 0
+        giver, rights = (1, 1_000 * amount) if back else (0, amount)
+        yield f"{giver} give {1 - giver} stock1 lower {rights}\n"
+        yield f"deliver {number}\n"
+
+
 def quarter_restarts(lines):
     yield header(1, ["stock1"], 0, 100, 40)
     for place in range(lines - 1):
@@ -172,7 +188,7 @@ def gifts_and_restarts(gifts, restarts):
     yield from ["0 restart\n"] * restarts
 
 
-def run(words, source, target):
+def run(words, source, target, wanted=0):
     """The seconds that passed, those of the processor, and the peak memory in KiB."""
     with open(source, "rb") as stdin, open(target, "wb") as stdout:
         start = time.perf_counter()
@@ -180,7 +196,7 @@ def run(words, source, target):
         _, status, usage = os.wait4(child.pid, 0)
         passed = time.perf_counter() - start
     child.returncode = os.waitstatus_to_exitcode(status)
-    if child.returncode != 0:
+    if child.returncode != wanted:
         sys.exit(f"{words[0]} ended with {child.returncode}")
     return passed, usage.ru_utime + usage.ru_stime, usage.ru_maxrss
 
@@ -232,6 +248,20 @@ def compare(name, script, folder, programs, turns):
     return ours
 
 
+def judges_alone(program, trace, folder, turns, ours, parts):
+    """The seconds that the judge in one pass takes, and those of the one in parts, without the reading of the text."""
+    behind, told = (os.path.join(folder, part) for part in ("behind", "told"))
+    with open(trace, "rb") as source, open(behind, "wb") as target:
+        target.write(source.readline() + b"0 begin -> granted\n")
+        shutil.copyfileobj(source, target)
+    reading = min(run([program, "audit"], behind, told, ILLEGAL)[0] for _ in range(turns))
+    one, fields = ours - reading, parts - reading
+    print(
+        f"         {reading:.3f} s are reading; the judge takes {one:.3f} s, and with --fields {fields:.3f} s: "
+        f"{fields / one:.2f} times"
+    )
+
+
 def audit(name, script, folder, programs, turns):
     """The seconds that `escrow audit` takes on what `escrow run` writes."""
     source, trace, proved, written = (os.path.join(folder, part) for part in ("script", "trace", "proved", "written"))
@@ -243,9 +273,10 @@ def audit(name, script, folder, programs, turns):
         lines = sum(1 for _ in file)
     print(f"audit, {name}: {lines:,} lines, {os.path.getsize(trace):,} bytes, best of {turns}")
     ours = measure("escrow", [program, "audit"], trace, proved, lines, turns)
-    measure("--fields", [program, "audit", "--fields"], trace, written, lines, turns)
+    parts = measure("--fields", [program, "audit", "--fields"], trace, written, lines, turns)
     if not filecmp.cmp(proved, written, shallow=False):
         sys.exit("with --fields it wrote other bytes")
+    judges_alone(program, trace, folder, turns, ours, parts)
     if plain is None:
         return ours
     theirs = measure("plain", [plain, "audit"], trace, written, lines, turns)
@@ -256,11 +287,18 @@ def audit(name, script, folder, programs, turns):
 
 
 def audits(lines, folder, programs, turns):
+    audit("one site", one_site(lines, 1), folder, programs, turns)
     audit("mixed", Mixed(lines // 10, 4, 8).all(), folder, programs, turns)
     audit("mixed", Mixed(lines, 4, 8).all(), folder, programs, turns)
+    audit("mixed, 64 sites and 64 fields", Mixed(lines, 64, 64).all(), folder, programs, turns)
     audit("mixed, 64 sites and 256 fields", Mixed(lines, 64, 256).all(), folder, programs, turns)
     if lines >= 10_000:
         audit("912 escrows open at each site", held(lines, 4, 8), folder, programs, turns)
+    for amount in (1, 2**32):
+        name = f"gifts of {amount:,}"
+        tenth = audit(name, gifts(lines // 10, amount), folder, programs, turns)
+        whole = audit(name, gifts(lines, amount), folder, programs, turns)
+        print(f"a line of {lines:,} takes {whole / tenth / 10:.2f} times one of {lines // 10:,}")
 
 
 def restarts(lines, folder, program, turns):

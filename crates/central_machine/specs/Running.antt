@@ -243,4 +243,4 @@ pub record AreTotals (schema : SchemaValue) (t : List Entry) (x : Totals) : Type
 -- And so are the statements issued.
 pub record AreRunning (schema : SchemaValue) (t : List Entry) (x : Running) : Type 0 where
   pub totals : AreTotals schema t x.totals
-  pub issued : AreIssued t x.issued.keys.keys
+  pub issued : AreIssued t x.issued.keys

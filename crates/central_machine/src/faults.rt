@@ -77,7 +77,7 @@ pub fn places_of(
 
 /// Whether the entry's site is in the schema, and it takes in no statement that wasn't issued.
 fn statements_hold(issued: &Issued, schema: &Schema, entry: Entry) -> bool
-    ensures { (t : List Entry) → AreIssued t issued.now.keys.keys →
+    ensures { (t : List Entry) → AreIssued t issued.now.keys →
         result ≡ part_test schema.now t entry Statements }
 {
     entry.site.0 < schema.sites() && issued.holds(entry)

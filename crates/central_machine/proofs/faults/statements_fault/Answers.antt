@@ -16,7 +16,7 @@ loop-i-preserved c =
     let was = c.loop-i.invariant in
     let holds = sym (c.statements_hold.ensures (front_of entries i) was.issued) ∙ c.if-not-statements_hold.false in
     record {
-      issued = subst (λ (t : List Entry). AreIssued t c.note.new.self.keys.keys) (sym (front_more entries i _ (omega arith))) (c.in_ok-note.ensures (front_of entries i) was.issued);
+      issued = subst (λ (t : List Entry). AreIssued t c.note.new.self.keys) (sym (front_more entries i _ (omega arith))) (c.in_ok-note.ensures (front_of entries i) was.issued);
       passed = next_passed (λ j e. part_test schema (front_of entries j) e Statements ≡ true) entries i _ (omega arith) was.passed holds;
     }
 

@@ -8,6 +8,6 @@ use Rattle.central_machine.proofs.faults.statements_fault.Given as goal
 
 abbrev pub invariant-loop-i : goal.invariant-loop-i
 invariant-loop-i l = record {
-  issued : AreIssued (front_of l.entries l.i) l.issued.keys.keys;
+  issued : AreIssued (front_of l.entries l.i) l.issued.keys;
   passed : (j : ℕ) (e : Entry) → j < l.i → slice_get l.entries j ≡ Some e → part_test l.schema (front_of l.entries j) e Statements ≡ true;
 }
