@@ -22,8 +22,8 @@ The scripts:
 - the audit of what the mixed scripts write, in one pass and with `--fields`, and of what a script
   writes that has 912 escrows open at each of 4 sites all along: no command costs a walk over the
   history, or over other transactions' escrows. Both read the text alike, so a line tells what the
-  judges alone take: an audit less that of the same text with an illegal entry in front, at which
-  the judge in one pass ends. Then traces in which all lines are gifts of one field and their
+  judges alone take: an audit less that of the same text with an illegal first entry, at which the
+  judge in one pass ends. Then traces in which all lines are gifts of one field and their
   arrivals, of 1 right each and of 2**32 each, at a tenth of the length and at the whole length: the
   statements issued, as many as there are lines at half, cost no more where they are alike. With
   --audit these alone.
@@ -162,7 +162,7 @@ def held(lines, sites, fields):
 def gifts(lines, amount):
     """Site 0 gives so many rights to site 1, again and again; after each 1,000 gifts site 1 gives all of them back."""
     yield header(2, ["stock1"], -(10**15), 10**15, 10**15)
-    for number in range(1, lines // 2 + 1):
+    for number in range(1, (lines + 1) // 2):
         back = number % 1_001 == 0
         giver, rights = (1, 1_000 * amount) if back else (0, amount)
         yield f"{giver} give {1 - giver} stock1 lower {rights}\n"
@@ -253,9 +253,13 @@ def judges_alone(program, trace, folder, turns, ours, parts):
     behind, told = (os.path.join(folder, part) for part in ("behind", "told"))
     with open(trace, "rb") as source, open(behind, "wb") as target:
         target.write(source.readline() + b"0 begin -> granted\n")
+        source.readline()
         shutil.copyfileobj(source, target)
     reading = min(run([program, "audit"], behind, told, ILLEGAL)[0] for _ in range(turns))
     one, fields = ours - reading, parts - reading
+    if min(one, fields) <= 0:
+        print(f"         {reading:.3f} s are reading: the machine is too busy to tell the judges' own time")
+        return
     print(
         f"         {reading:.3f} s are reading; the judge takes {one:.3f} s, and with --fields {fields:.3f} s: "
         f"{fields / one:.2f} times"
