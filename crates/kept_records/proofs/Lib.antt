@@ -12,4 +12,5 @@ pub mod Places
 pub mod Pieces
 pub mod Told
 pub mod SummaryLoops
+pub mod Cursors
 pub mod Windows

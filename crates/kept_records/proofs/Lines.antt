@@ -80,7 +80,7 @@ torn_text r fits written is k = elim (cases_lt (length (body r)) k) [
   | inr inside ↦ inl (ap (λ (l : List ℕ). list_any (λ b. eqb b 10) (take k l)) is ∙ ap (list_any (λ b. eqb b 10)) (take-append-le k (body r) (10 ∷ []) inside) ∙ without_take 10 k (body r) (body_without r fits))
 ]
 
-regrouped : (r : Record) (more : List ℕ) → text r ++ more ≡ body r ++ 10 ∷ more
+pub regrouped : (r : Record) (more : List ℕ) → text r ++ more ≡ body r ++ 10 ∷ more
 regrouped r more = append_assoc (body r) (10 ∷ []) more
 
 -- the record that another's text begins with is that record, and nothing is left

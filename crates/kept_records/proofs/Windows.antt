@@ -1,9 +1,11 @@
 -- The end of a log, cut where a line starts.
 use Rattle.std.proofs.Common.{◌≡◌, ◌≢◌, ℕ, zero, suc, ◌+◌, ◌-◌, ◌^◌, ◌<◌, ◌≤◌, Bool, true, false, eqb, List, [], ◌∷◌, ◌++◌, length, take, drop, get_or, refl, sym, ap, subst, ◌∙◌, inl, inr, arith, append_assoc, ◌⊎◌}
-use Rattle.std.specs.Prelude.{slice_index_or, ◌==◌}
+use Rattle.std.specs.Prelude.{slice_index_or, ◌==◌, Option, Some, None}
 use Rattle.std.specs.List.{flat_map, list_any, AllByRecursion}
-use Rattle.std.proofs.lemmas.List.{take_at, drop_at, take_all, take-append-drop, drop_more, drop-drop, length-append, length-drop, length-take}
-use Rattle.std.proofs.lemmas.Bool.{or_from, or_right, eqb-true}
+use Rattle.std.proofs.lemmas.List.{take_at, drop_at, take_all, take-append-drop, drop_more, drop-drop, length-append, length-drop, length-take, get_or-take, get_or-drop}
+use Rattle.std.proofs.lemmas.Bool.{cases_lt, or_from, eqb-true, eq-eqb}
+use Rattle.std.proofs.lemmas.List.Folds.{list_any_none}
+use Rattle.std.proofs.lemmas.List.Elements.{All-from_get_or}
 use Rattle.kept_records.specs.declared.medium.End.{End}
 use Rattle.kept_records.specs.declared.record.Record.{Record}
 use Rattle.kept_records.specs.declared.record.Record.TheVariants.{Commit, Gift, Accept, Tighten, Restart, Summary}
@@ -13,10 +15,13 @@ use Rattle.kept_records.specs.Keeping.{IsKept}
 use Rattle.std.proofs.lemmas.List.Concat.{flat_map-append}
 use Rattle.kept_records.specs.Medium.{last_bytes}
 use Rattle.kept_records.specs.Stands.{is_summary}
-use Rattle.kept_records.specs.ReadingBack.{told_length, PartsAt, StandBehind, StartsWithSummary, IsLast, AreLast, IsWhole, IsSummaryLine}
+use Rattle.kept_records.specs.Cursor.{HandsSummary}
+use Rattle.kept_records.specs.Summary.{SummaryValue}
+use Rattle.kept_records.specs.ReadingBack.{told_length, PartsAt, StandBehind, HoldsLast, AreLast, IsWhole, IsSummaryLine, IsLastLine}
 use Rattle.kept_records.proofs.Bytes.{Without, one_cut, has_it}
 use Rattle.kept_records.proofs.Lines.{body, body_without, first_text, same_log}
 use Rattle.kept_records.proofs.Places.{inside, log_behind, place_within}
+use Rattle.kept_records.proofs.Cursors.{AllPlain, NoSummaryLine, is_one, next_in, plain_after, lines_behind}
 
 -- ---- a log, cut behind a line feed
 
@@ -62,24 +67,22 @@ cut_lf [] rest front behind each none is =
     absurd cc
 cut_lf (r ∷ rs) rest front behind each none is = cut_by r rs rest front behind each none is (λ f b same. cut_lf rs rest f b each.1 none same) (first_lf front)
 
--- a line with a summary's letter is a summary
-is_one : (r : Record) (more after : List ℕ) → text r ++ more ≡ 83 ∷ after → is_summary r ≡ true
-is_one (Summary v) more after is = refl
-is_one (Commit txn es) more after is = let e : 67 ≡ 83 = ap (λ (l : List ℕ). get_or l 0 0) is in absurd (omega (arith, e))
-is_one (Gift to f k t) more after is = let e : 71 ≡ 83 = ap (λ (l : List ℕ). get_or l 0 0) is in absurd (omega (arith, e))
-is_one (Accept from f k t) more after is = let e : 65 ≡ 83 = ap (λ (l : List ℕ). get_or l 0 0) is in absurd (omega (arith, e))
-is_one (Tighten f k t) more after is = let e : 84 ≡ 83 = ap (λ (l : List ℕ). get_or l 0 0) is in absurd (omega (arith, e))
-is_one (Restart epoch) more after is = let e : 82 ≡ 83 = ap (λ (l : List ℕ). get_or l 0 0) is in absurd (omega (arith, e))
+-- the first record is a summary
+abbrev StartsWithSummary : List Record → Type 0
+StartsWithSummary [] = ⊥
+StartsWithSummary (r ∷ rs) = is_summary r ≡ true
 
 starts : (rs : List Record) (rest after : List ℕ) → HasNoLf rest → list_any (λ x. eqb x 10) (83 ∷ after) ≡ true → 83 ∷ after ≡ flat_map text rs ++ rest → StartsWithSummary rs
 starts [] rest after none some is =
     let t : list_any (λ x. eqb x 10) rest ≡ true = ap (list_any (λ x. eqb x 10)) (sym is) ∙ some in absurd cc
-starts (r ∷ rs) rest after none some is = is_one r (flat_map text rs ++ rest) after (sym (is ∙ append_assoc (text r) (flat_map text rs) rest))
+starts (r ∷ rs) rest after none some is = is_one r (flat_map text rs ++ rest) (ap (λ (l : List ℕ). get_or l 0 0) (sym (is ∙ append_assoc (text r) (flat_map text rs) rest)))
 
--- the last records of a log, from a line on with a summary's letter
+-- the last records of a log, from a line on with a summary's letter, or all
 pub record LastAt (rs : List Record) (rest found : List ℕ) : Type 0 where
   pub records : List Record
-  pub last : IsLast rs records
+  pub before : List Record
+  pub parts : rs ≡ before ++ records
+  pub start : (before ≡ []) ⊎ StartsWithSummary records
   pub log : IsLog found records rest
 
 summary_at : (bytes : List ℕ) (rs : List Record) (rest front after : List ℕ) → IsLog bytes rs rest → bytes ≡ front ++ 10 ∷ (83 ∷ after) → list_any (λ x. eqb x 10) (83 ∷ after) ≡ true → LastAt rs rest (83 ∷ after)
@@ -87,7 +90,9 @@ summary_at bytes rs rest front after log is some =
     let cut = cut_lf rs rest front (83 ∷ after) log.each log.no_lf (sym log.parts ∙ is) in
     record {
       records = cut.after;
-      last = record { before = cut.before; parts = cut.parts; start = inr (starts cut.after rest after log.no_lf some cut.bytes) };
+      before = cut.before;
+      parts = cut.parts;
+      start = inr (starts cut.after rest after log.no_lf some cut.bytes);
       log = record { parts = cut.bytes; each = cut.each; no_lf = log.no_lf };
     }
 
@@ -122,7 +127,9 @@ window_last bytes window from start rs rest is line log =
 pub window_all : (bytes window : List ℕ) (from : ℕ) (rs : List Record) (rest : List ℕ) → window ≡ drop from bytes → from ≡ 0 → IsLog bytes rs rest → LastAt rs rest (drop 0 window)
 window_all bytes window from rs rest is none log = record {
   records = rs;
-  last = record { before = []; parts = refl; start = inl refl };
+  before = [];
+  parts = refl;
+  start = inl refl;
   log = subst (λ (l : List ℕ). IsLog l rs rest) (sym (is ∙ ap (λ (n : ℕ). drop n bytes) none)) log;
 }
 
@@ -145,6 +152,58 @@ window_start bytes window from start rs rest is (inr front) log =
 
 slice_all : (start : ℕ) (window : List ℕ) → take (length window - start) (drop start window) ≡ drop start window
 slice_all start window = take_all (length window - start) (drop start window) (omega (arith, length-drop start window))
+
+-- ---- the last summary, and what stands behind it
+
+starts_none : (records : List Record) (bytes rest : List ℕ) → IsLog bytes records rest → ((v : SummaryValue) (more : List ℕ) → bytes ≡ text (Summary v) ++ more → ⊥) → StartsWithSummary records → ⊥
+starts_none [] bytes rest log none is = is
+starts_none (r ∷ rs) bytes rest log none is = plain_first r rs bytes rest (log.parts ∙ append_assoc (text r) (flat_map text rs) rest) none is
+  where
+    plain_first : (r : Record) (rs : List Record) (bytes rest : List ℕ) → bytes ≡ text r ++ (flat_map text rs ++ rest) → ((v : SummaryValue) (more : List ℕ) → bytes ≡ text (Summary v) ++ more → ⊥) → is_summary r ≡ true → ⊥
+    plain_first (Summary v) rs bytes rest is none on = none v (flat_map text rs ++ rest) is
+    plain_first (Commit txn es) rs bytes rest is none on = cc
+    plain_first (Gift to f k t) rs bytes rest is none on = cc
+    plain_first (Accept from f k t) rs bytes rest is none on = cc
+    plain_first (Tighten f k t) rs bytes rest is none on = cc
+    plain_first (Restart epoch) rs bytes rest is none on = cc
+
+none_plain : (records : List Record) (bytes rest : List ℕ) → IsLog bytes records rest → (StartsWithSummary records → ⊥) → NoSummaryLine bytes → AllPlain records
+none_plain [] bytes rest log apart none = tt
+none_plain (r ∷ rs) bytes rest log apart none = (off (is_summary r) apart, plain_after bytes r rs rest log none)
+  where
+    off : (b : Bool) → (b ≡ true → ⊥) → b ≡ false
+    off true apart = absurd (apart refl)
+    off false apart = refl
+
+no_before : (before records : List Record) → (before ≡ []) ⊎ StartsWithSummary records → (StartsWithSummary records → ⊥) → before ≡ []
+no_before before records (inl none) apart = none
+no_before before records (inr is) apart = absurd (apart is)
+
+holds : (rs : List Record) (rest bytes lines : List ℕ) (summary : Option SummaryValue) → LastAt rs rest bytes → NoSummaryLine bytes → HandsSummary bytes summary lines → HoldsLast rs rest summary lines
+holds rs rest bytes lines None from none handed =
+    let apart = starts_none from.records bytes rest from.log handed.0 in
+    record {
+      found = from.records;
+      last = record {
+        before = from.before;
+        parts = from.parts;
+        all = λ same. no_before from.before from.records from.start apart;
+        plain = none_plain from.records bytes rest from.log apart none;
+      };
+      log = subst (λ (l : List ℕ). IsLog l from.records rest) (sym handed.1) from.log;
+    }
+holds rs rest bytes lines (Some v) from none handed =
+    let next = next_in bytes from.records rest (Summary v) lines from.log handed.0 handed.1 in
+    record {
+      found = next.more;
+      last = record {
+        before = from.before;
+        parts = from.parts ∙ ap (λ (x : List Record). from.before ++ x) next.parts;
+        all = λ same. cc;
+        plain = plain_after bytes (Summary v) next.more rest (subst (λ (x : List Record). IsLog bytes x rest) next.parts from.log) none;
+      };
+      log = next.log;
+    }
 
 -- ---- what is read of the window
 
@@ -174,10 +233,13 @@ module _ (bytes window : List ℕ) (most place from size : ℕ) (is_window : win
     pub kept_start : IsKept (take (length window - start) (drop start window))
     kept_start = let here = last_at (parts.before ++ parts.behind) parts.rest parts.log in (here.records, parts.rest, here.log)
 
-    pub last_from : (found : List Record) (n : ℕ) → AreAll (take (length window - start) (drop start window)) found n → AreLast bytes found
-    last_from found n all rs rest log =
-        let here = last_at rs rest log in
-        subst (λ (x : List Record). IsLast rs x) (sym (all here.records rest here.log).0) here.last
+    pub lines_are : (size : ℕ) → drop size (take (length window - start) (drop start window)) ≡ drop (start + size) window
+    lines_are size = ap (drop size) (slice_all start window) ∙ drop-drop size start window
+
+    pub last_from : (summary : Option SummaryValue) (lines : List ℕ) → start ≤ length window → IsLastLine window start → HandsSummary (take (length window - start) (drop start window)) summary lines → AreLast bytes summary lines
+    last_from summary lines within last handed rs rest log =
+        let none : NoSummaryLine (take (length window - start) (drop start window)) = subst NoSummaryLine (sym (slice_all start window)) (lines_behind window start within last) in
+        holds rs rest (take (length window - start) (drop start window)) lines summary (last_at rs rest log) none handed
 
   module _ (within : from ≤ place) where
     at_place : (before behind : List Record) (rest : List ℕ) → IsLog bytes (before ++ behind) rest → place ≡ told_length (length (flat_map text before))
@@ -205,12 +267,78 @@ module _ (bytes window : List ℕ) (most place from size : ℕ) (is_window : win
           omega (arith, texts, exact, size_is, ap (λ (x : List Record). length (flat_map text x)) found_is) in
           long ∙ ap (λ (x : List Record). length (flat_map text x)) same
 
--- ---- looking for a line feed
+-- ---- looking for the last summary's line
 
-pub ends_here : (bytes : List ℕ) (i : ℕ) → i < length bytes → slice_index_or bytes i 0 ≡ 10 → list_any (λ x. eqb x 10) (drop i bytes) ≡ true
-ends_here bytes i less is = ap (list_any (λ x. eqb x 10)) (at_drop bytes i 10 less is)
+-- no such line starts from this place on
+abbrev pub NoneFrom : List ℕ → ℕ → Type 0
+NoneFrom bytes n = (j : ℕ) → n ≤ j → IsSummaryLine bytes j → ⊥
 
-pub ends_before : (bytes : List ℕ) (i : ℕ) → i < length bytes → list_any (λ x. eqb x 10) (drop (i + 1) bytes) ≡ true → list_any (λ x. eqb x 10) (drop i bytes) ≡ true
-ends_before bytes i less some =
-    let b = slice_index_or bytes i 0 in
-    ap (list_any (λ x. eqb x 10)) (at_drop bytes i b less refl) ∙ or_right (eqb b 10) (list_any (λ x. eqb x 10) (drop (i + 1) bytes)) some
+-- this byte stands nowhere from a place on
+abbrev pub NoByteFrom : ℕ → List ℕ → ℕ → Type 0
+NoByteFrom c bytes n = (k : ℕ) → n ≤ k → k < length bytes → eqb (get_or bytes k 0) c ≡ true → ⊥
+
+pub no_lf_from : (bytes : List ℕ) (n : ℕ) → NoByteFrom 10 bytes n → HasNoLf (drop n bytes)
+no_lf_from bytes n none =
+    list_any_none (λ x. eqb x 10) (drop n bytes) (All-from_get_or (λ x. eqb x 10 ≡ false) (drop n bytes) 0 (λ k less.
+    off (eqb (get_or (drop n bytes) k 0) 10) (λ is. none (n + k) (omega arith) (omega (arith, less, length-drop n bytes)) (ap (λ (x : ℕ). eqb x 10) (sym (get_or-drop n bytes k 0)) ∙ is))))
+  where
+    off : (b : Bool) → (b ≡ true → ⊥) → b ≡ false
+    off true apart = absurd (apart refl)
+    off false apart = refl
+
+no_line_in : (bytes : List ℕ) (j : ℕ) → HasNoLf (drop j bytes) → IsSummaryLine bytes j → ⊥
+no_line_in bytes j none line = let t : list_any (λ x. eqb x 10) (drop j bytes) ≡ true = line.ends in let no : list_any (λ x. eqb x 10) (drop j bytes) ≡ false = none in cc
+
+-- no line ends in the bytes
+pub none_at_all : (bytes : List ℕ) → NoByteFrom 10 bytes 0 → NoneFrom bytes 0
+none_at_all bytes none j low line = no_line_in bytes j (no_lf_from bytes j (λ k more less. none k (omega arith) less)) line
+
+-- the last line feed stands here
+pub none_behind_lf : (bytes : List ℕ) (w : ℕ) → eqb (get_or bytes w 0) 10 ≡ true → NoByteFrom 10 bytes (w + 1) → NoneFrom bytes w
+none_behind_lf bytes w here none j low line = elim (cases_lt w j) [
+  | inl past ↦ no_line_in bytes j (no_lf_from bytes j (λ k more less. none k (omega (arith, past, more)) less)) line
+  | inr back ↦
+      let same : j ≡ w = omega (arith, low, back) in
+      let letter : get_or bytes w 0 ≡ 83 = ap (λ (i : ℕ). get_or bytes i 0) (sym same) ∙ line.letter in
+      let lf : get_or bytes w 0 ≡ 10 = eqb-true (get_or bytes w 0) 10 here in
+      absurd (omega (arith, letter, lf))
+]
+
+-- the letter stands nowhere behind this place, among the first bytes
+abbrev pub NoLetterBehind : List ℕ → ℕ → ℕ → Type 0
+NoLetterBehind bytes end n = (k : ℕ) → n ≤ k → k < length (take end bytes) → eqb (get_or (take end bytes) k 0) 83 ≡ true → ⊥
+
+pub none_behind_letter : (bytes : List ℕ) (end here : ℕ) → end ≤ length bytes → NoneFrom bytes end → NoLetterBehind bytes end (here + 1) → NoneFrom bytes (here + 1)
+none_behind_letter bytes end here within none letters j low line = elim (cases_lt j end) [
+  | inl below ↦ letters j low (omega (arith, below, within, length-take end bytes)) (eq-eqb (get_or (take end bytes) j 0) 83 (get_or-take end bytes j 0 below ∙ line.letter))
+  | inr past ↦ none j past line
+]
+
+pub none_with_letters : (bytes : List ℕ) (end : ℕ) → end ≤ length bytes → NoneFrom bytes end → NoLetterBehind bytes end 0 → NoneFrom bytes 0
+none_with_letters bytes end within none letters j low line = elim (cases_lt j end) [
+  | inl below ↦ letters j low (omega (arith, below, within, length-take end bytes)) (eq-eqb (get_or (take end bytes) j 0) 83 (get_or-take end bytes j 0 below ∙ line.letter))
+  | inr past ↦ none j past line
+]
+
+-- the letter at this place starts no line
+pub none_at_letter : (bytes : List ℕ) (here : ℕ) → NoneFrom bytes (here + 1) → (0 < here → get_or bytes (here - 1) 0 ≡ 10 → ⊥) → NoneFrom bytes here
+none_at_letter bytes here none apart j low line = elim (cases_lt here j) [
+  | inl past ↦ none j (omega (arith, past)) line
+  | inr back ↦
+      let same : j ≡ here = omega (arith, low, back) in
+      apart (omega (arith, same, line.some)) (ap (λ (i : ℕ). get_or bytes (i - 1) 0) (sym same) ∙ line.behind)
+]
+
+pub is_line : (bytes : List ℕ) (here end w : ℕ) → 0 < here → here < end → end ≤ w → w < length bytes → eqb (get_or bytes w 0) 10 ≡ true → get_or bytes (here - 1) 0 ≡ 10 → eqb (get_or (take end bytes) here 0) 83 ≡ true → IsSummaryLine bytes here
+is_line bytes here end w some below before within lf behind letter = record {
+  some = some;
+  within = omega (arith, below, before, within);
+  behind = behind;
+  letter = sym (get_or-take end bytes here 0 below) ∙ eqb-true (get_or (take end bytes) here 0) 83 letter;
+  ends =
+      let at_w : drop w bytes ≡ 10 ∷ drop (w + 1) bytes = at_drop bytes w 10 within (eqb-true (get_or bytes w 0) 10 lf) in
+      let n : ℕ = w - here in
+      let there : here + n ≡ w = omega (arith, below, before) in
+      let moved : drop n (drop here bytes) ≡ drop w bytes = drop-drop n here bytes ∙ ap (λ (i : ℕ). drop i bytes) there in
+      ap (list_any (λ x. eqb x 10)) (sym (take-append-drop n (drop here bytes)) ∙ ap (λ (l : List ℕ). take n (drop here bytes) ++ l) (moved ∙ at_w)) ∙ has_it 10 (take n (drop here bytes)) (drop (w + 1) bytes);
+}

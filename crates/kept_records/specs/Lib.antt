@@ -7,5 +7,6 @@ pub mod Logs
 pub mod Faults
 pub mod Stands
 pub mod Keeping
+pub mod Cursor
 pub mod ReadingBack
 pub mod Summaries

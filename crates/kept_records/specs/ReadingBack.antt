@@ -1,9 +1,11 @@
 -- What is read of a log from its end (this project).
-use Rattle.std.specs.Prelude.{◌≡◌, ◌⊎◌, ℕ, ◌+◌, ◌-◌, ◌^◌, ◌<◌, ◌≤◌, ◌==◌, min, true, List, [], ◌∷◌, ◌++◌, length, drop, slice_index_or}
-use Rattle.std.specs.List.{flat_map, list_any}
+use Rattle.std.specs.Prelude.{◌≡◌, ℕ, ◌-◌, ◌^◌, ◌<◌, ◌≤◌, ◌==◌, min, true, false, List, [], ◌∷◌, ◌++◌, length, drop, slice_index_or, Option, Some, None}
+use Rattle.std.specs.List.{flat_map, list_any, AllByRecursion}
 use Rattle.kept_records.specs.declared.medium.End.{End}
 use Rattle.kept_records.specs.declared.record.Record.{Record}
+use Rattle.kept_records.specs.declared.record.Record.TheVariants.{Summary}
 use Rattle.kept_records.specs.declared.reading_back.ReadBack.{ReadBack}
+use Rattle.kept_records.specs.Summary.{SummaryValue}
 use Rattle.kept_records.specs.Text.{text}
 use Rattle.kept_records.specs.Logs.{IsLog}
 use Rattle.kept_records.specs.Medium.{last_bytes}
@@ -26,20 +28,27 @@ abbrev pub StandBehind : List ℕ → ℕ → List Record → Type 0
 StandBehind bytes place found =
     (before behind : List Record) (rest : List ℕ) → IsLog bytes (before ++ behind) rest → place ≡ told_length (length (flat_map text before)) → found ≡ behind
 
--- The first record is a summary.
-abbrev pub StartsWithSummary : List Record → Type 0
-StartsWithSummary [] = ⊥
-StartsWithSummary (r ∷ rs) = is_summary r ≡ true
+-- These records, behind the summary where there is one.
+abbrev pub with_summary : Option SummaryValue → List Record → List Record
+with_summary None rs = rs
+with_summary (Some v) rs = Summary v ∷ rs
 
--- These are the last of the records, from a summary on, or all.
-pub record IsLast (rs found : List Record) : Type 0 where
+-- This is the last summary among the records, and these stand behind it; or they are all, and there is none.
+pub record IsLast (rs : List Record) (summary : Option SummaryValue) (found : List Record) : Type 0 where
   pub before : List Record
-  pub parts : rs ≡ before ++ found
-  pub start : (before ≡ []) ⊎ StartsWithSummary found
+  pub parts : rs ≡ before ++ with_summary summary found
+  pub all : summary ≡ None → before ≡ []
+  pub plain : AllByRecursion (λ r. is_summary r ≡ false) found
 
--- These are the last records of a log.
-abbrev pub AreLast : List ℕ → List Record → Type 0
-AreLast bytes found = (rs : List Record) (rest : List ℕ) → IsLog bytes rs rest → IsLast rs found
+-- The lines are a log of the records behind the last summary, with the same rest.
+pub record HoldsLast (rs : List Record) (rest : List ℕ) (summary : Option SummaryValue) (lines : List ℕ) : Type 0 where
+  pub found : List Record
+  pub last : IsLast rs summary found
+  pub log : IsLog lines found rest
+
+-- The same of bytes that are a log.
+abbrev pub AreLast : List ℕ → Option SummaryValue → List ℕ → Type 0
+AreLast bytes summary lines = (rs : List Record) (rest : List ℕ) → IsLog bytes rs rest → HoldsLast rs rest summary lines
 
 -- So long are the texts of a log's records.
 abbrev pub IsWhole : List ℕ → ℕ → Type 0
@@ -55,6 +64,10 @@ pub record IsSummaryLine (bytes : List ℕ) (start : ℕ) : Type 0 where
   pub letter : slice_index_or bytes start 0 ≡ 83
   pub ends : list_any (λ b. b == 10) (drop start bytes) ≡ true
 
+-- No such line starts behind this place.
+abbrev pub IsLastLine : List ℕ → ℕ → Type 0
+IsLastLine bytes start = (j : ℕ) → start < j → IsSummaryLine bytes j → ⊥
+
 -- The end of bytes that are a log.
 pub record EndsAt (bytes : List ℕ) (most place : ℕ) (end : End) : Type 0 where
   pub window : end.bytes.items ≡ last_bytes most bytes
@@ -63,7 +76,7 @@ pub record EndsAt (bytes : List ℕ) (most place : ℕ) (end : End) : Type 0 whe
 
 -- What was read of it is what the contract of reading tells.
 pub record ReadsEnd (bytes : List ℕ) (place : ℕ) (read : ReadBack) : Type 0 where
-  pub records : AreLast bytes read.records.items
+  pub last : AreLast bytes read.summary read.lines
   pub behind : StandBehind bytes place read.behind.items
   pub whole : IsWhole bytes read.whole
   pub present : read.present ≡ length bytes

@@ -1,5 +1,8 @@
 //! Worked rows of the end of a medium.
 
+ghost use Rattle.std.specs.Prelude.{IfSome};
+ghost use Rattle.kept_records.specs.Keeping.{IsKept};
+
 use super::*;
 use std::alloc::{AllocError, Global};
 use std::process::Abort;
@@ -90,4 +93,77 @@ fn a_mishap_for_reads_strikes_the_end(rt: HostRuntime) {
     assert!(rt; matches!(medium.read_end(alloc, 5), Err(MediumFault::Device)));
     assert!(rt; ends_with(alloc, &mut medium, 5, "G 1 0", 9));
     assert_eq!(rt; medium.failures(), 1);
+}
+
+/// The text's bytes, or None where they are no log.
+fn log_of(alloc: Global, text: &str) -> Option<Vec<u8>>
+    ensures { IfSome result (λ bytes. IsKept bytes.items) }
+{
+    let bytes = bytes_of(alloc, text)?;
+    match read_records(alloc, &bytes) {
+        Ok(_) => Some(bytes),
+        Err(_) => None,
+    }
+}
+
+/// How many records a cursor hands out.
+fn handed_out(alloc: Global, lines: &[u8]) -> Option<u64>
+    requires { IsKept lines.now }
+{
+    let mut count: u64 = 0;
+    let mut records = Cursor::new(alloc, lines);
+    while let Some(record) = records.next(alloc).ok()? {
+        count = count.saturating_add(1);
+        records.give_back(record);
+    }
+    Some(count)
+}
+
+/// What the end of a log is read as, with all records behind the place: the epoch of the last summary;
+/// how many records stand behind it, and in all; and the length of the records and of all bytes.
+fn told_back(alloc: Global, text: &str) -> Option<(Option<u32>, (u64, usize), (usize, usize))> {
+    let mut medium = MemoryMedium::new(log_of(alloc, text)?);
+    let read = read_back(alloc, &mut medium, 0).ok()?;
+    let behind = handed_out(alloc, read.lines.as_slice())?;
+    let epoch = match &read.summary {
+        Some(summary) => Some(summary.epoch()),
+        None => None,
+    };
+    Some((
+        epoch,
+        (behind, read.behind.len()),
+        (read.whole, read.present),
+    ))
+}
+
+#[test]
+fn the_last_summary_and_the_lines_behind_it(rt: HostRuntime) {
+    let alloc = rt.alloc();
+    assert_eq!(rt;
+        told_back(alloc, "R 1\nS 1 1 20 30\nR 2\nC 2 1 0 -5 0 3\nC 2 2 0 1\n"),
+        Some((Some(1), (3, 5), (45, 45)))
+    );
+    assert_eq!(rt;
+        told_back(alloc, "R 1\nS 1 1 20 30\nR 2\nS 2 1 20 30\nR 3\nG 1"),
+        Some((Some(2), (1, 5), (36, 39)))
+    );
+    assert_eq!(rt;
+        told_back(alloc, "R 1\nS 1 1 20 30\nR 2\nS 2 1 20 3"),
+        Some((Some(1), (1, 3), (20, 30)))
+    );
+    assert_eq!(rt;
+        told_back(alloc, "R 1\nG 1 0 l 5\nR"),
+        Some((None, (2, 2), (14, 15)))
+    );
+}
+
+#[test]
+fn a_summary_at_the_front_of_a_log(rt: HostRuntime) {
+    let alloc = rt.alloc();
+    assert_eq!(rt;
+        told_back(alloc, "S 0 1 20 30\nT 0 l 5\n"),
+        Some((Some(0), (1, 2), (20, 20)))
+    );
+    assert_eq!(rt; told_back(alloc, "S 0 1 20 30"), Some((None, (0, 0), (0, 11))));
+    assert_eq!(rt; told_back(alloc, ""), Some((None, (0, 0), (0, 0))));
 }

@@ -4,6 +4,7 @@
 //! Source: this project.
 #![tactic(auto)]
 
+mod cursor;
 mod keeping;
 mod laws;
 mod log;
@@ -18,6 +19,7 @@ mod torn;
 mod total;
 mod writing;
 
+pub use cursor::Cursor;
 pub use keeping::{
     ReadLog, append_piece, append_record, append_restart, append_restart_piece, read_log,
     stands_behind,
@@ -29,7 +31,7 @@ pub use laws::{
 pub use log::{Front, RecordFault, read_front, read_records};
 pub use medium::{Device, End, Medium, MediumFault, Mishap};
 pub use memory::MemoryMedium;
-pub use reading_back::{ReadBack, count_plain, read_back};
+pub use reading_back::{LastLines, ReadBack, count_plain, read_back};
 pub use record::{Escrows, Record};
 pub use summary::Summary;
 pub use torn::TornMedium;

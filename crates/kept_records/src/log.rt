@@ -40,7 +40,7 @@ pub struct Front {
     pub bad_line: Option<u64>,
 }
 
-fn line_feed(bytes: &[u8]) -> Option<usize>
+pub(crate) fn line_feed(bytes: &[u8]) -> Option<usize>
     ensures { result ≡ position (λ b. b == 10) bytes.now }
 {
     bytes.iter().position(|b| *b == b'\n')
@@ -58,10 +58,11 @@ pub fn read_front(alloc: Global, bytes: &[u8]) -> Result<Front, AllocError>
     ensures length { IfOk result (λ front. front.length ≡ length (flat_map text front.records.items)) }
 {
     let mut records = Vec::new(alloc);
+    let mut spare = Vec::new(alloc);
     let mut length = 0;
     let mut rest = bytes;
     while let Some(end) = line_feed(rest) {
-        let kept = match read_line(alloc, &rest[..end]) {
+        let kept = match read_line(alloc, &mut spare, &rest[..end]) {
             Ok(kept) => kept,
             Err(LineFault::NoRecord) => {
                 let bad_line = Some(records.len() as u64 + 1);

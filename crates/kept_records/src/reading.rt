@@ -14,6 +14,7 @@ use field_bounds::{
 };
 use line_words::{Words, read_number, read_signed};
 use std::alloc::{AllocFailed, Global};
+use std::mem;
 
 // The greatest number of a site or of a field that a record can name.
 pub(crate) const MAX_PLACE: u64 = u16::MAX as u64;
@@ -171,11 +172,16 @@ fn take_restart(mut words: Words) -> Option<Record>
     }
 }
 
-// Pairs of a field and a change up to the end of the line.
-fn take_escrows(alloc: Global, mut words: Words) -> Result<Escrows, LineFault>
+// Pairs of a field and a change up to the end of the line, in the spare memory.
+fn take_escrows(
+    alloc: Global,
+    spare: &mut Vec<Escrow>,
+    mut words: Words,
+) -> Result<Escrows, LineFault>
     ensures { Tells result (escrows_from words.entry) }
 {
-    let mut escrows = Vec::new(alloc);
+    let mut escrows = mem::replace(spare, Vec::new(alloc));
+    escrows.clear();
     while let Some(first) = words.next() {
         let Some(field) = number(first, 0, MAX_PLACE) else {
             return Err(LineFault::NoRecord);
@@ -191,16 +197,21 @@ fn take_escrows(alloc: Global, mut words: Words) -> Result<Escrows, LineFault>
             change,
         })?;
     }
-    Ok(Escrows::new(escrows))
+    let read = Escrows::new(escrows);
+    Ok(read)
 }
 
 #[tactic(auto, unfolding(crate::specs::Reading::commit_from))]
-fn take_commit(alloc: Global, mut words: Words) -> Result<Record, LineFault>
+fn take_commit(
+    alloc: Global,
+    spare: &mut Vec<Escrow>,
+    mut words: Words,
+) -> Result<Record, LineFault>
     ensures { Tells result (commit_from words.entry) }
 {
     let epoch = take_number(&mut words, 0, u64::from(MAX_EPOCH)).ok_or(LineFault::NoRecord)?;
     let number = take_number(&mut words, 1, u64::from(MAX_NUMBER)).ok_or(LineFault::NoRecord)?;
-    let escrows = take_escrows(alloc, words)?;
+    let escrows = take_escrows(alloc, spare, words)?;
     let count = escrows.as_slice().len();
     if 1 <= count && count <= MAX_ESCROWS {
         let txn = TxnId {
@@ -213,14 +224,19 @@ fn take_commit(alloc: Global, mut words: Words) -> Result<Record, LineFault>
     }
 }
 
-/// The record whose text is the line and a line feed.
+/// The record whose text is the line and a line feed. A commit's escrows are put into the spare memory,
+/// whatever it held.
 #[tactic(auto, unfolding(crate::specs::Reading::record_of))]
-pub(crate) fn read_line(alloc: Global, line: &[u8]) -> Result<Record, LineFault>
+pub(crate) fn read_line(
+    alloc: Global,
+    spare: &mut Vec<Escrow>,
+    line: &[u8],
+) -> Result<Record, LineFault>
     ensures { Tells result (record_of (words line.now)) }
 {
     let mut words = Words::new(line);
     match words.next() {
-        Some([b'C']) => take_commit(alloc, words),
+        Some([b'C']) => take_commit(alloc, spare, words),
         Some([b'G']) => take_gift(words).ok_or(LineFault::NoRecord),
         Some([b'A']) => take_accept(words).ok_or(LineFault::NoRecord),
         Some([b'S']) => take_summary(alloc, words),

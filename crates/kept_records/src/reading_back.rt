@@ -1,28 +1,62 @@
 //! Reading what a site needs of its log for a restart, from its end.
 
-ghost use Rattle.std.specs.Prelude.{◌≡◌, ◌≤◌, ◌<◌, ◌⊎◌, List, ℕ, IfOk, IfErr, IfSome, None, length};
+ghost use Rattle.std.specs.Prelude.{◌≡◌, ◌≤◌, ◌<◌, ◌⊎◌, List, ℕ, IfOk, IfErr, IfSome, None, length, drop};
 ghost use Rattle.std.specs.List.{flat_map};
 ghost use Rattle.kept_records.specs.declared.medium.MediumFault.TheVariants.{NoMemory};
 ghost use Rattle.kept_records.specs.Text.{text};
 ghost use Rattle.kept_records.specs.Logs.{AreAll};
 ghost use Rattle.kept_records.specs.Keeping.{IsKept};
+ghost use Rattle.kept_records.specs.Cursor.{HandsSummary};
 ghost use Rattle.kept_records.specs.Stands.{is_summary, plain};
 ghost use Rattle.kept_records.specs.Medium.{CountsRead, ReadFate};
-ghost use Rattle.kept_records.specs.ReadingBack.{PartsAt, StandBehind, AreLast, IsWhole, IsSummaryLine, EndsAt, ReadsEnd};
+ghost use Rattle.kept_records.specs.ReadingBack.{PartsAt, StandBehind, AreLast, IsWhole, IsSummaryLine, IsLastLine, EndsAt, ReadsEnd};
 
+use crate::cursor::Cursor;
 use crate::log::{RecordFault, read_records};
 use crate::medium::{End, Medium, MediumFault};
 use crate::record::Record;
+use crate::summary::Summary;
+use memchr::memrchr;
 use std::alloc::Global;
+use std::marker::Model;
 
 /// How many bytes are read at first. Where they don't tell all, twice as many are read.
 const FIRST_READ: usize = 16_384;
 
+/// The lines of a log behind its last summary, or all of them, with what is torn behind them. Contracts
+/// see their bytes.
+#[derive(Drop)]
+pub struct LastLines {
+    held: Vec<u8>,
+    start: usize,
+}
+
+impl Model for LastLines {
+    ghost use Rattle.std.specs.Prelude.{◌≤◌, List, ℕ, drop, length};
+
+    ghost Value = { List ℕ };
+
+    ghost view = { λ l. drop l.start l.held.items };
+
+    ghost invariant = { λ l. l.start ≤ length l.held.items };
+}
+
+impl LastLines {
+    /// The bytes. Takes no memory.
+    pub fn as_slice(&self) -> &[u8]
+        ensures all { result.now ≡ self.now }
+    {
+        &self.held[self.start..]
+    }
+}
+
 /// What the end of a log was read as.
 #[derive(Drop)]
 pub struct ReadBack {
-    /// The last records, the oldest first: from a summary on, or all.
-    pub records: Vec<Record>,
+    /// The last whole summary of the log, where it has one.
+    pub summary: Option<Summary>,
+    /// The lines behind that summary, or all lines.
+    pub lines: LastLines,
     /// The records behind the place.
     pub behind: Vec<Record>,
     /// The length of the texts of all records of the log, in bytes.
@@ -49,16 +83,15 @@ fn read_log_bytes(alloc: Global, bytes: &[u8]) -> Result<(Vec<Record>, usize), M
 /// Where the last whole line starts that has a summary's letter and stands behind another line.
 fn last_summary(bytes: &[u8]) -> Option<usize>
     ensures line { IfSome result (λ start. IsSummaryLine bytes.now start) }
+    ensures last { IfSome result (λ start. IsLastLine bytes.now start) }
+    ensures none { result ≡ None → IsLastLine bytes.now 0 }
 {
-    let mut whole = false;
-    let mut at = bytes.len();
-    while 1 < at {
-        at -= 1;
-        if bytes[at] == b'\n' {
-            whole = true;
-        } else if whole && bytes[at] == b'S' && bytes[at - 1] == b'\n' {
+    let mut end = memrchr(b'\n', bytes)?;
+    while let Some(at) = memrchr(b'S', &bytes[..end]) {
+        if at > 0 && bytes[at - 1] == b'\n' {
             return Some(at);
         }
+        end = at;
     }
     None
 }
@@ -67,6 +100,7 @@ fn last_summary(bytes: &[u8]) -> Option<usize>
 /// last whole summary on, or from the front.
 fn start_in(bytes: &[u8], from: usize) -> Option<usize>
     ensures start { IfSome result (λ start. IsSummaryLine bytes.now start ⊎ ((from ≡ 0) × (start ≡ 0))) }
+    ensures last { IfSome result (λ start. IsLastLine bytes.now start) }
     ensures within { IfSome result (λ start. start ≤ length bytes.now) }
     ensures none { result ≡ None → 0 < from }
 {
@@ -76,12 +110,26 @@ fn start_in(bytes: &[u8], from: usize) -> Option<usize>
     }
 }
 
+/// The summary that the bytes of a log start with, where they do, and how long its line is.
+fn first_summary(alloc: Global, bytes: &[u8]) -> Result<(Option<Summary>, usize), MediumFault>
+    requires log { IsKept bytes.now }
+    ensures handed { IfOk result (λ read. HandsSummary bytes.now read.0 (drop read.1 bytes.now)) }
+    ensures within { IfOk result (λ read. read.1 ≤ length bytes.now) }
+    ensures fault { IfErr result (λ fault. fault ≡ NoMemory) }
+{
+    let mut cursor = Cursor::new(alloc, bytes);
+    match cursor.next_summary(alloc) {
+        Ok(summary) => Ok((summary, bytes.len() - cursor.left())),
+        Err(_) => Err(MediumFault::NoMemory),
+    }
+}
+
 /// What the end of a log tells, where it reaches back to the place and to a whole summary, or is all
 /// of the log.
-fn take_end(alloc: Global, end: &End, place: usize) -> Result<Option<ReadBack>, MediumFault>
-    requires ends { (bytes : List ℕ) × (most : ℕ) × EndsAt bytes most place end.now }
-    ensures reads { IfOk result (λ read. IfSome read (λ told. (bytes : List ℕ) (most : ℕ) → EndsAt bytes most place end.now → ReadsEnd bytes place told)) }
-    ensures more { IfOk result (λ read. read ≡ None → length end.now.bytes.items < end.now.length) }
+fn take_end(alloc: Global, end: End, place: usize) -> Result<Option<ReadBack>, MediumFault>
+    requires ends { (bytes : List ℕ) × (most : ℕ) × EndsAt bytes most place end }
+    ensures reads { IfOk result (λ read. IfSome read (λ told. (bytes : List ℕ) (most : ℕ) → EndsAt bytes most place end → ReadsEnd bytes place told)) }
+    ensures more { IfOk result (λ read. read ≡ None → length end.bytes.items < end.length) }
     ensures fault { IfErr result (λ fault. fault ≡ NoMemory) }
 {
     let from = end.length - end.bytes.len();
@@ -91,24 +139,29 @@ fn take_end(alloc: Global, end: &End, place: usize) -> Result<Option<ReadBack>, 
     let Some(start) = start_in(&end.bytes, from) else {
         return Ok(None);
     };
-    let (records, _) = read_log_bytes(alloc, &end.bytes[start..])?;
+    let (summary, size) = first_summary(alloc, &end.bytes[start..])?;
     let (behind, length) = read_log_bytes(alloc, &end.bytes[place - from..])?;
     Ok(Some(ReadBack {
-        records,
+        summary,
+        lines: LastLines {
+            held: end.bytes,
+            start: start + size,
+        },
         behind,
         whole: place + length,
         present: end.length,
     }))
 }
 
-/// Reads the end of the log that a medium holds: its records from a summary on, which is the last one
-/// where one stands whole, or all of them; and those that stand behind a place, in bytes, where the
-/// texts of some records end. A torn record takes up the bytes from `whole` up to `present`. The bytes
-/// stay as they are. The errors are a fault of the device and want of memory.
+/// Reads the end of the log that a medium holds: its last whole summary and the lines behind it, or all
+/// lines where it has none; and the records that stand behind a place, in bytes, where the texts of some
+/// records end. A torn record takes up the bytes from `whole` up to `present`. The bytes stay as they
+/// are. The errors are a fault of the device and want of memory.
 ///
 /// Reads 16,384 bytes, and while these don't reach back to a whole summary and to the place, twice as
-/// many, up to all. Costs a pass over the bytes behind that summary and behind the place, and a look
-/// for the summary; and memory for the bytes that are read and for the records.
+/// many, up to all. Costs a look for the summary, and a pass over it and over the bytes behind the place;
+/// and memory for the bytes that are read, for the summary and for the records behind the place. The
+/// lines behind the summary aren't read as records: a `Cursor` does that.
 ///
 /// Source: this project.
 pub fn read_back<M: Medium>(
@@ -117,7 +170,7 @@ pub fn read_back<M: Medium>(
     place: usize,
 ) -> Result<ReadBack, MediumFault>
     requires log { PartsAt (M.bytes medium.old) place }
-    ensures records { IfOk result (λ read. AreLast (M.bytes medium.old) read.records.items) }
+    ensures last { IfOk result (λ read. AreLast (M.bytes medium.old) read.summary read.lines) }
     ensures behind { IfOk result (λ read. StandBehind (M.bytes medium.old) place read.behind.items) }
     ensures whole { IfOk result (λ read. IsWhole (M.bytes medium.old) read.whole) }
     ensures present { IfOk result (λ read. read.present ≡ length (M.bytes medium.old)) }
@@ -129,7 +182,7 @@ pub fn read_back<M: Medium>(
     let mut most = FIRST_READ;
     loop {
         let end = medium.read_end(alloc, most)?;
-        if let Some(read) = take_end(alloc, &end, place)? {
+        if let Some(read) = take_end(alloc, end, place)? {
             return Ok(read);
         }
         most = most.saturating_mul(2);

@@ -38,6 +38,13 @@ impl Escrows {
     {
         &self.held
     }
+
+    /// The memory that holds them.
+    pub(crate) fn into_buffer(self) -> Vec<Escrow>
+        ensures all { result.items ≡ self }
+    {
+        self.held
+    }
 }
 
 /// What a site keeps of what it answered, so that it stands the same after a stop. Each record is

@@ -45,8 +45,10 @@ loop-end-preserved c =
       each = subst (AllByRecursion IsRecord) (sym more) (all_push rs r c.loop-end.invariant.each read.1);
     }
 
-reads : (c : goal.In_default) → Reads c.args.bytes.now c.loop-end.records.items c.loop-end.length
-reads c = are_read c.args.bytes.now c.loop-end.records.items c.loop-end.rest.now c.loop-end.length c.loop-end.invariant.parts c.loop-end.invariant.size c.loop-end.invariant.each (missing 10 c.loop-end.rest.now (sym c.in_default.ensures))
-
 pub returns-clause-front : goal.returns-clause-front
-returns-clause-front c = (reads c, only_log c.args.bytes.now c.loop-end.records.items c.loop-end.length (reads c))
+returns-clause-front c =
+    let bytes = c.args.bytes.now in
+    let now = c.loop-end in
+    let reads : Reads bytes now.records.items now.length =
+    are_read bytes now.records.items now.rest.now now.length now.invariant.parts now.invariant.size now.invariant.each (missing 10 now.rest.now (sym c.in_default.ensures)) in
+    (reads, only_log bytes now.records.items now.length reads)

@@ -27,4 +27,4 @@ loop-first-preserved c =
     ∙ step c.loop-first.escrows.items c.loop-first.words c.next.new.self c.in-Some.first.now c.in-Some-next.second.now rest field z _ c.loop-first.invariant c.in-Some.ensures.first c.in-Some-next.ensures.first (cc) (cc)
 
 pub returns : goal.returns
-returns c = ends_all c.loop-first.escrows.items c.loop-first.words _ c.loop-first.invariant c.in_default.ensures.first ∙ ap (λ (l : List Escrow). Some l) (sym c.new.ensures.all)
+returns c = ends_all c.loop-first.escrows.items c.loop-first.words _ c.loop-first.invariant c.in_default.ensures.first ∙ ap (λ (l : List Escrow). Some l) (sym c.new-read.ensures.all)

@@ -1,11 +1,13 @@
-use Rattle.std.proofs.Common.{◌≡◌, ◌<◌, ◌≤◌, ◌-◌, ◌+◌, ◌^◌, ℕ, List, length, sym, ap, ◌∙◌, arith}
-use Rattle.kept_records.proofs.Windows.{behind_in, kept_start, last_from, kept_behind, stand_behind, whole_is}
+use Rattle.std.proofs.Common.{◌≡◌, ◌<◌, ◌≤◌, ◌-◌, ◌+◌, ◌^◌, ℕ, List, length, take, drop, sym, ap, subst, ◌∙◌, arith}
+use Rattle.std.proofs.lemmas.List.{length-take, length-drop}
+use Rattle.kept_records.specs.Cursor.{HandsSummary}
+use Rattle.kept_records.proofs.Windows.{behind_in, kept_start, lines_are, last_from, kept_behind, stand_behind, whole_is}
 use Rattle.kept_records.proofs.reading_back.take_end.Goals as goal
 
-pub read_log_bytes-requires : goal.read_log_bytes-requires
-read_log_bytes-requires c =
+pub first_summary-requires : goal.first_summary-requires
+first_summary-requires c =
     let held = c.requires.ends in
-    let end = c.args.end.now in
+    let end = c.args.end in
     let window = c.deref-2.result.now in
     let from : ℕ = end.length - c.len.result in
     let long : length window ≡ length end.bytes.items = ap length c.deref-2.ensures.value in
@@ -17,10 +19,10 @@ read_log_bytes-requires c =
           (rw (sym same) at c.in-Some.ensures.start);
     }
 
-pub read_log_bytes-requires-2 : goal.read_log_bytes-requires-2
-read_log_bytes-requires-2 c =
+pub read_log_bytes-requires : goal.read_log_bytes-requires
+read_log_bytes-requires c =
     let held = c.requires.ends in
-    let end = c.args.end.now in
+    let end = c.args.end in
     let window = c.deref-3.result.now in
     let from : ℕ = end.length - c.len.result in
     let long : length window ≡ length end.bytes.items = ap length c.deref-3.ensures.value in
@@ -32,9 +34,12 @@ read_log_bytes-requires-2 c =
 
 pub returns-clause-reads : goal.returns-clause-reads
 returns-clause-reads c = λ bytes most is.
-    let end = c.args.end.now in
+    let end = c.args.end in
     let window = c.deref-2.result.now in
     let other = c.deref-3.result.now in
+    let start = c.in-Some.start in
+    let size = c.in_ok-summary.size in
+    let summary = c.in_ok-summary.summary in
     let from : ℕ = end.length - c.len.result in
     let long : length window ≡ length end.bytes.items = ap length c.deref-2.ensures.value in
     let from_is : from ≡ end.length - length window = omega (arith, c.len.ensures, end.bytes.ok, long) in
@@ -45,9 +50,14 @@ returns-clause-reads c = λ bytes most is.
     let within = c.if-place-from.false in
     let at_window = c.deref-2.ensures.value ∙ is.window in
     let at_other = c.deref-3.ensures.value ∙ is.window in
+    let which = rw (sym same) at c.in-Some.ensures.start in
+    let slice = take (length window - start) (drop start window) in
+    let lines : drop size slice ≡ drop (start + size) end.bytes.items =
+    lines_are bytes window most c.args.place from end.length at_window is.size from_is few is.parts start which size ∙ ap (λ (l : List ℕ). drop (start + size) l) c.deref-2.ensures.value in
     record {
-      records = last_from bytes window most c.args.place from end.length at_window is.size from_is few is.parts c.in-Some.start (rw (sym same) at c.in-Some.ensures.start)
-          c.in_ok-records.records.items c.in_ok-records.field-0-1 c.in_ok-records.ensures.only;
+      last = last_from bytes window most c.args.place from end.length at_window is.size from_is few is.parts start which summary (drop (start + size) end.bytes.items)
+          (rw (sym same) at c.in-Some.ensures.within) (rw (sym same) at c.in-Some.ensures.last)
+          (subst (λ (l : List ℕ). HandsSummary slice summary l) lines c.in_ok-summary.ensures.handed);
       behind = stand_behind bytes other most c.args.place from end.length at_other is.size from_other few is.parts within c.in_ok-behind.behind.items c.in_ok-behind.length c.in_ok-behind.ensures.only;
       whole = whole_is bytes other most c.args.place from end.length at_other is.size from_other few is.parts within c.in_ok-behind.behind.items c.in_ok-behind.length c.in_ok-behind.ensures.only
           c.in_ok-behind.ensures.whole;
