@@ -1,10 +1,8 @@
 -- A standing that is begun at a summary is for all records up to it.
 use Rattle.std.proofs.Common.{◌≡◌, ◌≢◌, ℕ, zero, suc, ◌+◌, ◌-◌, ◌<◌, ◌≤◌, true, false, List, [], ◌∷◌, ◌++◌, length, take, drop, get_or, refl, sym, ◌∙◌, ap, subst, inl, inr, arith, append_assoc}
-use Rattle.std.specs.Prelude.{fold, slice_index_or}
+use Rattle.std.specs.Prelude.{fold, slice_index_or, Option, Some, None}
 use Rattle.std.specs.List.{AllByRecursion}
-use Rattle.std.proofs.lemmas.Bool.{cases_eq}
-use Rattle.std.proofs.lemmas.List.{take_more, take_all, take-append-drop, length-take, length-drop, length-append, get_or_default, get_or-drop, get_or-append-add, get_or-append_right}
-use Rattle.std.proofs.Math.Seq.{get_or-append_seam, take-append-add, drop-append-add}
+use Rattle.std.proofs.lemmas.List.{append-nil, length-append}
 use Rattle.std.proofs.lemmas.List.Sums.{fold_more, fold-append}
 use Rattle.field_bounds.specs.declared.kind.Kind.{Kind}
 use Rattle.field_bounds.specs.declared.kind.Kind.TheVariants.{Lower, Raise}
@@ -15,7 +13,10 @@ use Rattle.kept_records.specs.declared.record.Record.{Record}
 use Rattle.kept_records.specs.declared.record.Record.TheVariants.{Commit, Gift, Accept, Tighten, Restart, Summary}
 use Rattle.kept_records.specs.declared.total.Total.{Total}
 use Rattle.kept_records.specs.declared.total.Cut.{Cut}
-use Rattle.kept_records.specs.Text.{IsListed}
+use Rattle.kept_records.specs.Text.{text, IsRecord, IsListed, IsSummary}
+use Rattle.kept_records.specs.Logs.{HasNoLf, IsLog}
+use Rattle.kept_records.specs.ReadingBack.{with_summary}
+use Rattle.kept_records.specs.declared.reading_back.ReadBack.{ReadBack}
 use Rattle.kept_records.specs.Summary.{SummaryValue, rights_told, told_more, told, cut_told, rights_of}
 use Rattle.kept_records.specs.Stands.{is_summary, since_summary, count_behind, summary_of, may_stand, Lawful}
 use Rattle.kept_records.specs.Summaries.{TellsOf, IsPlaced}
@@ -27,10 +28,11 @@ use Rattle.gift_ledger.specs.Ledger.{LedgerValue, IsPlace, total_at, accepted_at
 use Rattle.gift_ledger.proofs.LedgerLaws.{place_stays, fresh_place, fresh_account, total_at-with_total, accepted_at-with_total, total_at-with_accepted, accepted_at-with_accepted}
 use Rattle.log_replay.specs.declared.standing.Standing.{Standing}
 use Rattle.log_replay.specs.Standing.{StandsFor, NoneHeld, IsStandingFor}
-use Rattle.log_replay.specs.Resuming.{NotesGifts, NotesAccepts, IsBehind, IsEnd, starts_with_summary, MayStandNext}
+use Rattle.log_replay.specs.Resuming.{NotesGifts, NotesAccepts, IsEnd, up_to, BeginsAt, Walks, MayStandNext}
 use Rattle.kept_records.proofs.Pushes.{lawful_push, lawful_at}
 use Rattle.kept_records.proofs.Covering.{own_within}
-use Rattle.kept_records.proofs.Told.{lawful_tells, summary_tells, rights_length, rights_told_at}
+use Rattle.kept_records.proofs.Told.{lawful_tells, summary_tells, summary_fits, rights_length, rights_told_at}
+use Rattle.kept_records.proofs.Cursors.{next_in, none_in}
 
 abbrev pub no_total : Total
 no_total = record { site = record { 0 = 0 }; field = record { 0 = 0 }; kind = Lower; total = 0 }
@@ -152,17 +154,7 @@ stands_told schema s v rs rows mid ledger tells rights gifts accepts =
 pub none_held : (schema : SchemaValue) (free cuts : List (ℕ × ℕ)) (rows : List FieldRights) → AreTold schema free cuts rows → NoneHeld rows
 none_held schema free cuts rows told f k l = (told.each f l).held k
 
--- ---- the last summary
-
-abbrev pub no_record : Record
-no_record = Restart 0
-
-since_none : since_summary [] ≡ 0
-unfolding since_summary
-since_none = refl
-
-pub behind_start : (rs : List Record) → IsBehind rs 0 0
-behind_start rs = record { within = omega arith; start = inl refl; plain = λ j low high. absurd (omega arith); count = since_none }
+-- ---- the last summary, and the records up to it
 
 count_plain : (n : ℕ) (r : Record) → is_summary r ≡ false → count_behind n r ≡ n + 1
 count_plain n (Summary v) h = cc
@@ -172,135 +164,38 @@ count_plain n (Accept from f k t) h = refl
 count_plain n (Tighten f k t) h = refl
 count_plain n (Restart epoch) h = refl
 
-pub behind_same : (rs : List Record) (i n : ℕ) → i < length rs → is_summary (get_or rs i no_record) ≡ false → IsBehind rs i n → IsBehind rs (i + 1) n
-behind_same rs i n below isnt was =
-    let r = get_or rs i no_record in
+in_front : (schema : SchemaValue) (s : ℕ) (before found : List Record) (v : SummaryValue) → Lawful schema s (before ++ Summary v ∷ found) → Lawful schema s (before ++ Summary v ∷ []) × TellsOf schema s v (before ++ Summary v ∷ [])
+in_front schema s before found v lawful =
+    let parted = lawful_at schema s before (Summary v) found lawful in
+    (lawful_push schema s before (Summary v) parted.0 parted.1, lawful_tells schema s before v parted.1)
+
+one_of : (before found : List Record) (r : Record) → AllByRecursion IsRecord (before ++ r ∷ found) → IsRecord r
+one_of [] found r all = all.0
+one_of (b ∷ before) found r all = one_of before found r all.1
+
+-- a summary tells what these lawful records stand for
+pub record Begun (schema : SchemaValue) (s : ℕ) (rs : List Record) (v : SummaryValue) : Type 0 where
+  pub lawful : Lawful schema s rs
+  pub tells : TellsOf schema s v rs
+  pub ranges : IsSummary v
+
+pub begun_some : (schema : SchemaValue) (s : ℕ) (all : List Record) (read : ReadBack) (end_ : IsEnd schema s all read) (v : SummaryValue) → read.summary ≡ Some v
+    → Begun schema s (up_to end_.holds.last.before read.summary) v
+begun_some schema s all read end_ v is =
+    let before = end_.holds.last.before in
+    let found = end_.holds.found in
+    let parts : all ≡ before ++ Summary v ∷ found = end_.holds.last.parts ∙ ap (λ (o : Option SummaryValue). before ++ with_summary o found) is in
+    let both = in_front schema s before found v (subst (λ (x : List Record). Lawful schema s x) parts end_.lawful) in
+    let front : before ++ Summary v ∷ [] ≡ up_to before read.summary = ap (λ (o : Option SummaryValue). before ++ with_summary o []) (sym is) in
     record {
-      within = omega (arith, was.within);
-      start = was.start;
-      plain = λ j low high.
-          elim (cases_eq j i) [
-            | inl same ↦ subst (λ (x : ℕ). is_summary (get_or rs x no_record) ≡ false) (sym same) isnt
-            | inr apart ↦ was.plain j low (omega (arith, high, apart))
-          ];
-      count = omega (arith, ap since_summary (take_more rs i no_record below), since_push (take i rs) r, count_plain (since_summary (take i rs)) r isnt, was.count, was.within);
+      lawful = subst (λ (x : List Record). Lawful schema s x) front both.0;
+      tells = subst (λ (x : List Record). TellsOf schema s v x) front both.1;
+      ranges = summary_fits v (one_of before found (Summary v) (subst (λ (x : List Record). AllByRecursion IsRecord x) parts end_.each));
     }
 
-pub behind_here : (rs : List Record) (i n : ℕ) (v : SummaryValue) → i < length rs → get_or rs i no_record ≡ Summary v → IsBehind rs i n → IsBehind rs (i + 1) (i + 1)
-behind_here rs i n v below is was =
-    let more : take (i + 1) rs ≡ take i rs ++ Summary v ∷ [] = take_more rs i no_record below ∙ ap (λ (x : Record). take i rs ++ x ∷ []) is in
-    record {
-      within = omega arith;
-      start = inr (take i rs, v, more);
-      plain = λ j low high. absurd (omega (arith, low, high));
-      count = omega (arith, ap since_summary more, since_push (take i rs) (Summary v));
-    }
-
-summary_is : (r : Record) → is_summary r ≡ true → (v : SummaryValue) × (r ≡ Summary v)
-summary_is (Summary v) h = (v, refl)
-summary_is (Commit txn es) h = cc
-summary_is (Gift to f k t) h = cc
-summary_is (Accept from f k t) h = cc
-summary_is (Tighten f k t) h = cc
-summary_is (Restart epoch) h = cc
-
--- the same, of the element that a loop looks at
-pub behind_then : (rs : List Record) (i n m : ℕ) (r : Record) → i < length rs → r ≡ get_or rs i r → is_summary r ≡ true → m ≡ i + 1 → IsBehind rs i n → IsBehind rs (i + 1) m
-behind_then rs i n m r below is holds m-is was =
-    let s = summary_is r holds in
-    let at : get_or rs i no_record ≡ Summary s.0 = get_or_default rs i no_record r below ∙ sym is ∙ s.1 in
-    subst (λ (x : ℕ). IsBehind rs (i + 1) x) (sym m-is) (behind_here rs i n s.0 below at was)
-
-pub behind_else : (rs : List Record) (i n : ℕ) (r : Record) → i < length rs → r ≡ get_or rs i r → is_summary r ≡ false → IsBehind rs i n → IsBehind rs (i + 1) n
-behind_else rs i n r below is fails was =
-    behind_same rs i n below (ap is_summary (get_or_default rs i no_record r below ∙ sym is) ∙ fails) was
-
--- ---- where the last summary stands
-
-pub record Last (rs : List Record) (n : ℕ) : Type 0 where
-  pub front : List Record
-  pub summary : SummaryValue
-  pub taken : take n rs ≡ front ++ Summary summary ∷ []
-  pub at : get_or rs (n - 1) no_record ≡ Summary summary
-  pub parts : rs ≡ front ++ Summary summary ∷ drop n rs
-
-pub last_is : (rs : List Record) (n : ℕ) → IsBehind rs (length rs) n → n ≢ 0 → Last rs n
-last_is rs n was some = elim was.start [
-  | inl none ↦ absurd (some none)
-  | inr it ↦
-      let front = it.0 in
-      let v = it.1 in
-      let whole : rs ≡ front ++ Summary v ∷ drop n rs =
-      sym (take-append-drop n rs) ∙ ap (λ (x : List Record). x ++ drop n rs) it.2 ∙ append_assoc front (Summary v ∷ []) (drop n rs) in
-      let size : length front ≡ n - 1 = omega (arith, ap length it.2, length-append front (Summary v ∷ []), length-take n rs, was.within) in
-      record {
-        front = front;
-        summary = v;
-        taken = it.2;
-        at = ap (λ (x : List Record). get_or x (n - 1) no_record) whole ∙ ap (λ (i : ℕ). get_or (front ++ Summary v ∷ drop n rs) i no_record) (sym size) ∙ get_or-append_seam front (Summary v) (drop n rs) no_record;
-        parts = whole;
-      }
-]
-
--- the last summary tells what the records up to it stand for
-pub last_tells : (schema : SchemaValue) (s : ℕ) (rs : List Record) (n : ℕ) → Lawful schema s rs → (last : Last rs n) → Lawful schema s (take n rs) × TellsOf schema s last.summary (take n rs)
-last_tells schema s rs n lawful last =
-    let parted = lawful_at schema s last.front (Summary last.summary) (drop n rs) (subst (Lawful schema s) last.parts lawful) in (
-      subst (Lawful schema s) (sym last.taken) (lawful_push schema s last.front (Summary last.summary) parted.0 parted.1),
-      subst (λ (x : List Record). TellsOf schema s last.summary x) (sym last.taken) (lawful_tells schema s last.front last.summary parted.1),
-    )
-
-pub same_at : (rs : List Record) (n : ℕ) (last : Last rs n) (r d : Record) → n ≢ 0 → n ≤ length rs → r ≡ get_or rs (n - 1) d → r ≡ Summary last.summary
-same_at rs n last r d some within is = is ∙ get_or_default rs (n - 1) d no_record (omega (arith, some, within)) ∙ last.at
-
--- ---- the records behind it, one after another
-
-pub record Next (schema : SchemaValue) (s : ℕ) (rs : List Record) (n i : ℕ) (behind : List Record) (r : Record) : Type 0 where
-  pub lawful : Lawful schema s (take n rs ++ take i behind)
-  pub may : may_stand schema s (take n rs ++ take i behind) r ≡ true
-  pub plain : is_summary r ≡ false
-  pub more : take n rs ++ take (i + 1) behind ≡ (take n rs ++ take i behind) ++ r ∷ []
-
-pub behind_is : (rs : List Record) (n : ℕ) → n ≤ length rs → take (length rs - n) (drop n rs) ≡ drop n rs
-behind_is rs n within = take_all (length rs - n) (drop n rs) (omega (arith, length-drop n rs))
-
-next_is : (schema : SchemaValue) (s : ℕ) (rs : List Record) (n i : ℕ) (r : Record) → Lawful schema s rs → IsBehind rs (length rs) n → i < length (drop n rs) → r ≡ get_or (drop n rs) i r
-    → Next schema s rs n i (drop n rs) r
-next_is schema s rs n i r lawful was below is =
-    let b = drop n rs in
-    let there : get_or b i r ≡ r = sym is in
-    let more : take (i + 1) b ≡ take i b ++ r ∷ [] = take_more b i r below ∙ ap (λ (x : Record). take i b ++ x ∷ []) there in
-    let one : take n rs ++ take (i + 1) b ≡ (take n rs ++ take i b) ++ r ∷ [] = ap (λ (x : List Record). take n rs ++ x) more ∙ sym (append_assoc (take n rs) (take i b) (r ∷ [])) in
-    let parts : rs ≡ (take n rs ++ take i b) ++ r ∷ drop (i + 1) b =
-    sym (take-append-drop n rs) ∙ ap (λ (x : List Record). take n rs ++ x) (sym (take-append-drop (i + 1) b) ∙ ap (λ (x : List Record). x ++ drop (i + 1) b) more ∙ append_assoc (take i b) (r ∷ []) (drop (i + 1) b))
-    ∙ sym (append_assoc (take n rs) (take i b) (r ∷ drop (i + 1) b)) in
-    let parted = lawful_at schema s (take n rs ++ take i b) r (drop (i + 1) b) (subst (Lawful schema s) parts lawful) in
-    let size : length b ≡ length rs - n = length-drop n rs in
-    let at : r ≡ get_or rs (n + i) no_record = is ∙ get_or_default b i r no_record below ∙ get_or-drop n rs i no_record in
-    record {
-      lawful = parted.0;
-      may = parted.1;
-      plain = ap is_summary at ∙ was.plain (n + i) (omega arith) (omega (arith, size, below));
-      more = one;
-    }
-
-pub next_here : (schema : SchemaValue) (s : ℕ) (rs : List Record) (n i : ℕ) (b : List Record) (r : Record) → b ≡ take (length rs - n) (drop n rs) → Lawful schema s rs → IsBehind rs (length rs) n → i < length b → r ≡ get_or b i r
-    → Next schema s rs n i b r
-next_here schema s rs n i b r b-is lawful was below is =
-    let same : b ≡ drop n rs = b-is ∙ behind_is rs n was.within in
-    subst (λ (x : List Record). Next schema s rs n i x r) (sym same)
-    (next_is schema s rs n i r lawful was (subst (λ (x : List Record). i < length x) same below) (subst (λ (x : List Record). r ≡ get_or x i r) same is))
-
-pub all_behind : (rs : List Record) (n : ℕ) (b : List Record) → b ≡ take (length rs - n) (drop n rs) → n ≤ length rs → take n rs ++ take (length b) b ≡ rs
-all_behind rs n b b-is within =
-    ap (λ (x : List Record). take n rs ++ x) (take_all (length b) b (omega arith) ∙ b-is ∙ behind_is rs n within) ∙ take-append-drop n rs
-
-pub turns_are : (rs : List Record) (n : ℕ) (b : List Record) → b ≡ take (length rs - n) (drop n rs) → IsBehind rs (length rs) n → length b ≡ since_summary rs
-turns_are rs n b b-is was =
-    omega (arith, ap length b-is, ap length (behind_is rs n was.within), length-drop n rs, was.count, ap since_summary (take_all (length rs) rs (omega arith)))
-
-pub none_taken : (rs : List Record) (n : ℕ) → n ≡ 0 → take n rs ≡ []
-none_taken rs n is = ap (λ (x : ℕ). take x rs) is
+pub begun_none : (schema : SchemaValue) (s : ℕ) (all : List Record) (read : ReadBack) (end_ : IsEnd schema s all read) → read.summary ≡ None → up_to end_.holds.last.before read.summary ≡ []
+begun_none schema s all read end_ is =
+    ap (λ (o : Option SummaryValue). end_.holds.last.before ++ with_summary o []) is ∙ ap (λ (x : List Record). x ++ []) (end_.holds.last.all is)
 
 -- a standing is for a summary more where it is for the records before it
 pub stands_summary : (schema : SchemaValue) (s : ℕ) (rs : List Record) (v : SummaryValue) (rows : List FieldRights) (ledger : LedgerValue) (epoch : ℕ) → StandsFor schema s rs rows ledger epoch → StandsFor schema s (rs ++ Summary v ∷ []) rows ledger epoch
@@ -318,112 +213,101 @@ stands_summary schema s rs v rows ledger epoch was =
       epoch = was.epoch ∙ sym same.epoch;
     }
 
--- ---- the end of a log
+-- ---- the records behind it, one after another
 
--- what stands from a summary on counts the same, whatever was counted before it
-count_from : (a b : ℕ) (front : List Record) (v : SummaryValue) (more : List Record) → fold count_behind a (front ++ Summary v ∷ more) ≡ fold count_behind b (front ++ Summary v ∷ more)
-count_from a b front v more =
-    fold-append count_behind a front (Summary v ∷ more) ∙ sym (fold-append count_behind b front (Summary v ∷ more))
+front_summary : (summary : Option SummaryValue) (found : List Record) → with_summary summary found ≡ with_summary summary [] ++ found
+front_summary None found = refl
+front_summary (Some v) found = refl
 
-since_end : (before rs front : List Record) (v : SummaryValue) (more : List Record) → rs ≡ front ++ Summary v ∷ more → since_summary (before ++ rs) ≡ since_summary rs
+plain_at : (before behind : List Record) (r : Record) → AllByRecursion (λ x. is_summary x ≡ false) (before ++ r ∷ behind) → is_summary r ≡ false
+plain_at [] behind r all = all.0
+plain_at (b ∷ before) behind r all = plain_at before behind r all.1
+
+fold_plain : (n : ℕ) (found : List Record) → AllByRecursion (λ x. is_summary x ≡ false) found → fold count_behind n found ≡ n + length found
+fold_plain n [] all = omega arith
+fold_plain n (r ∷ rs) all =
+    ap (λ (m : ℕ). fold count_behind m rs) (count_plain n r all.0) ∙ fold_plain (n + 1) rs all.1 ∙ omega arith
+
+since_plain : (rs found : List Record) → AllByRecursion (λ x. is_summary x ≡ false) found → since_summary (rs ++ found) ≡ since_summary rs + length found
 unfolding since_summary
-since_end before rs front v more is =
-    fold-append count_behind 0 before rs
-    ∙ ap (λ (x : List Record). fold count_behind (fold count_behind 0 before) x) is
-    ∙ count_from (fold count_behind 0 before) 0 front v more
-    ∙ ap (λ (x : List Record). fold count_behind 0 x) (sym is)
+since_plain rs found all = fold-append count_behind 0 rs found ∙ fold_plain (fold count_behind 0 rs) found all
 
--- records that start with a summary have a last one
-starts_at : (rs : List Record) → starts_with_summary rs ≡ true → (0 < length rs) × (is_summary (get_or rs 0 no_record) ≡ true)
-starts_at [] h = cc
-starts_at (r ∷ rs) h = (omega arith, h)
+since_none : since_summary [] ≡ 0
+unfolding since_summary
+since_none = refl
 
-module _ (before rs : List Record) (start : ℕ) (was : IsBehind rs (length rs) start) where
-  end_plain : (j : ℕ) → length before + start ≤ j → j < length (before ++ rs) → is_summary (get_or (before ++ rs) j no_record) ≡ false
-  end_plain j low high =
-      let at : get_or (before ++ rs) j no_record ≡ get_or rs (j - length before) no_record = get_or-append_right before rs (length before) j no_record refl (omega (arith, low)) in
-      ap is_summary at ∙ was.plain (j - length before) (omega (arith, low)) (omega (arith, low, high, length-append before rs))
+since_up_to : (before : List Record) (summary : Option SummaryValue) → (summary ≡ None → before ≡ []) → since_summary (up_to before summary) ≡ 0
+since_up_to before None all = ap (λ (x : List Record). since_summary (x ++ [])) (all refl) ∙ since_none
+since_up_to before (Some v) all = since_push before (Summary v)
 
-  end_some : (front : List Record) (v : SummaryValue) → take start rs ≡ front ++ Summary v ∷ [] → IsBehind (before ++ rs) (length (before ++ rs)) (length before + start)
-  end_some front v is =
-      let parts : rs ≡ front ++ Summary v ∷ drop start rs =
-      sym (take-append-drop start rs) ∙ ap (λ (x : List Record). x ++ drop start rs) is ∙ append_assoc front (Summary v ∷ []) (drop start rs) in
-      let taken : take (length before + start) (before ++ rs) ≡ (before ++ front) ++ Summary v ∷ [] =
-      take-append-add before rs start ∙ ap (λ (x : List Record). before ++ x) is ∙ sym (append_assoc before front (Summary v ∷ [])) in
-      record {
-        within = omega (arith, length-append before rs, was.within);
-        start = inr (before ++ front, v, taken);
-        plain = end_plain;
-        count = omega (
-          arith,
-          ap since_summary (take_all (length (before ++ rs)) (before ++ rs) (omega arith)),
-          since_end before rs front v (drop start rs) parts,
-          ap since_summary (take_all (length rs) rs (omega arith)),
-          was.count,
-          length-append before rs,
-        );
-      }
+-- a record that is taken in next
+pub record Turn (schema : SchemaValue) (s : ℕ) (rs : List Record) (r : Record) : Type 0 where
+  pub lawful : Lawful schema s rs
+  pub may : may_stand schema s rs r ≡ true
+  pub plain : is_summary r ≡ false
 
--- the last summary of the end is the last of all
-pub end_behind : (schema : SchemaValue) (s : ℕ) (all rs : List Record) (start : ℕ) (end_ : IsEnd schema s all rs) → IsBehind rs (length rs) start → IsBehind all (length all) (length end_.before + start)
-end_behind schema s all rs start end_ was =
-    subst (λ (x : List Record). IsBehind x (length x) (length end_.before + start)) (sym end_.parts)
-    (elim was.start [
-      | inl none ↦ elim end_.start [
-        | inl none_before ↦
-            let same : start ≡ length {A = Record} [] + start = omega arith in
-            subst (λ (x : List Record). IsBehind (x ++ rs) (length (x ++ rs)) (length x + start)) (sym none_before) (subst (λ (n : ℕ). IsBehind rs (length rs) n) same was)
-        | inr on ↦
-            let first = starts_at rs on in
-            let off = was.plain 0 (omega (arith, none)) first.0 in
-            absurd (let both : true ≡ false = sym first.1 ∙ off in cc)
-      ]
-      | inr it ↦ end_some end_.before rs start was it.0 it.1 it.2
-    ])
+module _ (schema : SchemaValue) (s : ℕ) (all : List Record) (read : ReadBack) (end_ : IsEnd schema s all read) where
+  abbrev front : List Record
+  front = up_to end_.holds.last.before read.summary
 
--- what stands behind so many of the end stands behind so many of all
-pub end_drop : (schema : SchemaValue) (s : ℕ) (all rs : List Record) (start : ℕ) (end_ : IsEnd schema s all rs) → start ≤ length rs → (b : List Record) → b ≡ take (length rs - start) (drop start rs)
-    → b ≡ take (length all - (length end_.before + start)) (drop (length end_.before + start) all)
-end_drop schema s all rs start end_ within b is =
-    let n = length end_.before + start in
-    let size : length all ≡ length end_.before + length rs = ap length end_.parts ∙ length-append end_.before rs in
-    let rest : drop n all ≡ drop start rs = ap (λ (x : List Record). drop n x) end_.parts ∙ drop-append-add end_.before rs start in
-    is ∙ behind_is rs start within ∙ sym rest ∙ sym (behind_is all n (omega (arith, size, within)))
+  whole : front ++ end_.holds.found ≡ all
+  whole =
+      append_assoc end_.holds.last.before (with_summary read.summary []) end_.holds.found
+      ∙ ap (λ (x : List Record). end_.holds.last.before ++ x) (sym (front_summary read.summary end_.holds.found))
+      ∙ sym end_.holds.last.parts
 
-pub end_at : (schema : SchemaValue) (s : ℕ) (all rs : List Record) (start : ℕ) (end_ : IsEnd schema s all rs) → start ≢ 0 → (d : Record) → get_or rs (start - 1) d ≡ get_or all (length end_.before + start - 1) d
-end_at schema s all rs start end_ some d =
-    sym (get_or-append-add end_.before rs (start - 1) d)
-    ∙ ap (λ (i : ℕ). get_or (end_.before ++ rs) i d) place
-    ∙ ap (λ (x : List Record). get_or x (length end_.before + start - 1) d) (sym end_.parts)
-  where
-    place : length end_.before + (start - 1) ≡ length end_.before + start - 1
-    place = omega (arith, some)
+  pub walks_start : (standing : Standing) (bytes : List ℕ) → bytes ≡ read.lines → BeginsAt schema s all read end_ standing → Walks schema s all read end_ standing 0 bytes
+  walks_start standing bytes is begins = record {
+    taken = [];
+    left = end_.holds.found;
+    parts = refl;
+    log = subst (λ (l : List ℕ). IsLog l end_.holds.found end_.rest) (sym is) end_.holds.log;
+    stands = subst (λ (x : List Record). IsStandingFor schema s x standing) (sym (append-nil (up_to end_.holds.last.before read.summary))) begins;
+    count = refl;
+  }
 
--- where none of the end are told by a summary, none of all are
-pub end_none : (schema : SchemaValue) (s : ℕ) (all rs : List Record) (start : ℕ) (end_ : IsEnd schema s all rs) → IsBehind rs (length rs) start → start ≡ 0 → take (length end_.before + start) all ≡ []
-end_none schema s all rs start end_ was none = elim end_.start [
-  | inl none_before ↦
-      let place : length end_.before + start ≡ 0 = omega (arith, ap length none_before, none) in
-      ap (λ (n : ℕ). take n all) place
-  | inr on ↦
-      let first = starts_at rs on in
-      let off = was.plain 0 (omega (arith, none)) first.0 in
-      absurd (let both : true ≡ false = sym first.1 ∙ off in cc)
-]
+  module _ (standing : Standing) (turns : ℕ) (bytes : List ℕ) (walks : Walks schema s all read end_ standing turns bytes) where
+    abbrev so_far : List Record
+    so_far = front ++ walks.taken
 
--- the summary at the last place tells what the records up to it stand for
-pub end_tells : (schema : SchemaValue) (s : ℕ) (all rs : List Record) (start : ℕ) (end_ : IsEnd schema s all rs) → IsBehind rs (length rs) start → start ≢ 0 → (r : Record) → r ≡ get_or rs (start - 1) r
-    → (v : SummaryValue) → r ≡ Summary v
-    → Lawful schema s (take (length end_.before + start) all) × TellsOf schema s v (take (length end_.before + start) all)
-end_tells schema s all rs start end_ was some r at v is =
-    let n = length end_.before + start in
-    let behind = end_behind schema s all rs start end_ was in
-    let apart : n ≢ 0 = λ none. some (omega (arith, none)) in
-    let last = last_is all n behind apart in
-    let told = last_tells schema s all n end_.lawful last in
-    let here = same_at all n last r r apart behind.within (at ∙ end_at schema s all rs start end_ some r) in
-    let same : v ≡ last.summary = cc (here, is) in
-    (told.0, subst (λ (x : SummaryValue). TellsOf schema s x (take n all)) (sym same) told.1)
+    pub turn_of : (r : Record) (new : List ℕ) → bytes ≡ text r ++ new → IsRecord r → Turn schema s (up_to end_.holds.last.before read.summary ++ walks.taken) r
+    turn_of r new is fits =
+        let next = next_in bytes walks.left end_.rest r new walks.log is fits in
+        let found_is : end_.holds.found ≡ walks.taken ++ r ∷ next.more = walks.parts ∙ ap (λ (x : List Record). walks.taken ++ x) next.parts in
+        let all_is : all ≡ so_far ++ r ∷ next.more =
+        sym whole ∙ ap (λ (x : List Record). front ++ x) found_is ∙ sym (append_assoc front walks.taken (r ∷ next.more)) in
+        let parted = lawful_at schema s so_far r next.more (subst (λ (x : List Record). Lawful schema s x) all_is end_.lawful) in
+        record {
+          lawful = parted.0;
+          may = parted.1;
+          plain = plain_at walks.taken next.more r (subst (λ (x : List Record). AllByRecursion (λ y. is_summary y ≡ false) x) found_is end_.holds.last.plain);
+        }
+
+    pub walks_on : (r : Record) (new : List ℕ) (after : Standing) → bytes ≡ text r ++ new → IsRecord r → IsStandingFor schema s ((up_to end_.holds.last.before read.summary ++ walks.taken) ++ r ∷ []) after
+        → Walks schema s all read end_ after (turns + 1) new
+    walks_on r new after is fits stands =
+        let next = next_in bytes walks.left end_.rest r new walks.log is fits in
+        record {
+          taken = walks.taken ++ r ∷ [];
+          left = next.more;
+          parts = walks.parts ∙ ap (λ (x : List Record). walks.taken ++ x) next.parts ∙ sym (append_assoc walks.taken (r ∷ []) next.more);
+          log = next.log;
+          stands = subst (λ (x : List Record). IsStandingFor schema s x after) (append_assoc front walks.taken (r ∷ [])) stands;
+          count = omega (arith, walks.count, length-append walks.taken (r ∷ []));
+        }
+
+    taken_is : HasNoLf bytes → end_.holds.found ≡ walks.taken
+    taken_is none =
+        walks.parts ∙ ap (λ (x : List Record). walks.taken ++ x) (none_in bytes walks.left end_.rest walks.log none) ∙ append-nil walks.taken
+
+    pub walks_end : HasNoLf bytes → IsStandingFor schema s all standing × (turns ≡ since_summary all)
+    walks_end none =
+        let found_is = taken_is none in
+        let all_is : so_far ≡ all = ap (λ (x : List Record). front ++ x) (sym found_is) ∙ whole in
+        let since : since_summary (front ++ end_.holds.found) ≡ since_summary front + length end_.holds.found = since_plain front end_.holds.found end_.holds.last.plain in (
+          subst (λ (x : List Record). IsStandingFor schema s x standing) all_is walks.stands,
+          omega (arith, walks.count, ap length found_is, since, since_up_to end_.holds.last.before read.summary end_.holds.last.all, ap since_summary whole),
+        )
 
 -- ---- one record more, from the summary of a standing on
 

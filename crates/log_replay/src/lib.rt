@@ -15,7 +15,7 @@ mod telling;
 
 pub use log::{Replayed, replay};
 pub use ranges::{summary_may_be_written, totals_rise};
-pub use resuming::{Resumed, behind_last, resume};
+pub use resuming::{Resumed, resume};
 pub use standing::Standing;
 pub use telling::{summary, summary_after};
 

@@ -7,7 +7,7 @@ ghost use Rattle.gift_ledger.specs.Ledger.{IsPlace};
 
 use super::*;
 use field_bounds::{FieldNo, FieldSpec, Kind, Schema, SiteNo};
-use kept_records::{Record, read_records};
+use kept_records::{MemoryMedium, Record, read_back, read_records};
 use std::alloc::Global;
 
 const STOCK: FieldNo = FieldNo(0);
@@ -298,22 +298,6 @@ fn broken_logs(rt: HostRuntime) {
     }
 }
 
-/// How many records of a log stand behind its last summary, or None where memory was refused.
-fn behind(alloc: Global, log: &str) -> Option<usize> {
-    let (records, _) = read_records(alloc, log.as_bytes()).ok()?;
-    Some(behind_last(&records))
-}
-
-#[test]
-fn records_behind_a_summary(rt: HostRuntime) {
-    let alloc = rt.alloc();
-    assert_eq!(rt; behind(alloc, ""), Some(0));
-    assert_eq!(rt; behind(alloc, "R 1\nR 2\n"), Some(2));
-    assert_eq!(rt; behind(alloc, "R 1\nS 1 1 20 30\nR 2\n"), Some(1));
-    assert_eq!(rt; behind(alloc, "R 1\nS 1 1 20 30\n"), Some(0));
-    assert_eq!(rt; behind(alloc, "R 1\nS 1 1 20 30\nR 2\nS 1 1 2"), Some(1));
-}
-
 /// What a lawful log comes to from its last summary on, and how many records were taken in for that.
 fn resumed(alloc: Global, log: &str) -> Option<(Stands, u64)> {
     let schema = stock_of_two(alloc)?;
@@ -324,7 +308,9 @@ fn resumed(alloc: Global, log: &str) -> Option<(Stands, u64)> {
     let Ok(Replayed::Standing(_)) = replay(alloc, &schema, HERE, &records) else {
         return None;
     };
-    match resume(alloc, &schema, HERE, &records) {
+    let mut medium = MemoryMedium::new(Vec::from_slice(alloc, log.as_bytes()).ok()?);
+    let end = read_back(alloc, &mut medium, 0).ok()?;
+    match resume(alloc, &schema, HERE, &end) {
         Ok(resumed) => Some((read_off(&resumed.standing), resumed.turns)),
         Err(_) => None,
     }
@@ -355,9 +341,14 @@ fn a_log_resumes_at_its_last_summary(rt: HostRuntime) {
         resumed(alloc, "S 0 1 20 30\nG 1 0 l 5\nS 0 1 15 30 g 1 0 l 5\n"),
         Some((given, 0))
     );
+    assert_eq!(rt; resumed(alloc, "G 1 0 l 5\nS 0 1 15 3"), Some((given, 1)));
     let restarted = Stands { epoch: 2, ..given };
     assert_eq!(rt;
         resumed(alloc, "G 1 0 l 5\nS 0 1 15 30 g 1 0 l 5\nR 1\nR 2\n"),
+        Some((restarted, 2))
+    );
+    assert_eq!(rt;
+        resumed(alloc, "G 1 0 l 5\nS 0 1 15 30 g 1 0 l 5\nR 1\nR 2\nS 2 1 15 30 g 1 0 l"),
         Some((restarted, 2))
     );
 }

@@ -1,13 +1,14 @@
-use Rattle.std.proofs.Common.{◌≡◌, ◌+◌, ◌++◌, List, length, take}
+use Rattle.std.proofs.Common.{◌+◌, ◌≤◌, List, length}
 use Rattle.kept_records.specs.declared.record.Record.{Record}
-use Rattle.log_replay.specs.Standing.{IsStandingFor}
-use Rattle.log_replay.specs.Resuming.{IsEnd}
+use Rattle.log_replay.specs.Resuming.{IsEnd, Walks}
 use Rattle.log_replay.proofs.resuming.resume.Given as goal
 
--- the standing is for the records so far
-abbrev pub invariant-loop-record : goal.invariant-loop-record
-invariant-loop-record l = record {
-  count : l.turns ≡ l.record-index;
-  standing : (all : List Record) → (end_ : IsEnd l.fn.schema l.fn.site.0 all l.fn.records)
-      → IsStandingFor l.fn.schema l.fn.site.0 (take (length end_.before + l.start) all ++ take l.record-index l.behind) l.standing;
+-- the standing is for the records so far, and the cursor has the others
+abbrev pub invariant-loop-records : goal.invariant-loop-records
+invariant-loop-records l = record {
+  few : l.turns + length l.records ≤ length l.fn.end.lines;
+  walks : (all : List Record) → (end_ : IsEnd l.fn.schema l.fn.site.0 all l.fn.end) → Walks l.fn.schema l.fn.site.0 all l.fn.end end_ l.standing l.turns l.records;
 }
+
+abbrev pub decreases-loop-records : goal.decreases-loop-records
+decreases-loop-records l = length l.records
