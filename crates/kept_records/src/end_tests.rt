@@ -164,6 +164,9 @@ fn a_summary_at_the_front_of_a_log(rt: HostRuntime) {
         told_back(alloc, "S 0 1 20 30\nT 0 l 5\n"),
         Some((Some(0), (1, 2), (20, 20)))
     );
-    assert_eq!(rt; told_back(alloc, "S 0 1 20 30"), Some((None, (0, 0), (0, 11))));
+    assert_eq!(rt;
+        told_back(alloc, "S 0 1 20 30"),
+        Some((None, (0, 0), (0, 11)))
+    );
     assert_eq!(rt; told_back(alloc, ""), Some((None, (0, 0), (0, 0))));
 }

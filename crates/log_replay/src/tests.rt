@@ -304,11 +304,12 @@ fn resumed(alloc: Global, log: &str) -> Option<(Stands, u64)> {
     if schema.sites() != 2 || schema.fields() != 1 {
         return None;
     }
-    let (records, _) = read_records(alloc, log.as_bytes()).ok()?;
+    let bytes = log.as_bytes();
+    let (records, _) = read_records(alloc, bytes).ok()?;
     let Ok(Replayed::Standing(_)) = replay(alloc, &schema, HERE, &records) else {
         return None;
     };
-    let mut medium = MemoryMedium::new(Vec::from_slice(alloc, log.as_bytes()).ok()?);
+    let mut medium = MemoryMedium::new(Vec::from_slice(alloc, bytes).ok()?);
     let end = read_back(alloc, &mut medium, 0).ok()?;
     match resume(alloc, &schema, HERE, &end) {
         Ok(resumed) => Some((read_off(&resumed.standing), resumed.turns)),
@@ -348,7 +349,10 @@ fn a_log_resumes_at_its_last_summary(rt: HostRuntime) {
         Some((restarted, 2))
     );
     assert_eq!(rt;
-        resumed(alloc, "G 1 0 l 5\nS 0 1 15 30 g 1 0 l 5\nR 1\nR 2\nS 2 1 15 30 g 1 0 l"),
+        resumed(
+            alloc,
+            "G 1 0 l 5\nS 0 1 15 30 g 1 0 l 5\nR 1\nR 2\nS 2 1 15 30 g 1 0 l"
+        ),
         Some((restarted, 2))
     );
 }

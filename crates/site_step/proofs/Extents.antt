@@ -16,9 +16,8 @@ use Rattle.kept_records.specs.ReadingBack.{told_length, PartsAt, StandBehind}
 use Rattle.kept_records.specs.Stands.{is_summary, plain, since_summary, max_behind, piece}
 use Rattle.kept_records.proofs.Summaries.{piece_bounds}
 use Rattle.kept_state.specs.Doubt.{found_of}
-use Rattle.log_replay.specs.Resuming.{starts_with_summary}
 use Rattle.site_step.specs.declared.extent.Extent.{Extent}
-use Rattle.site_step.specs.State.{Reaches, ReachesAll, extended}
+use Rattle.site_step.specs.State.{starts_with_summary, Reaches, ReachesAll, extended}
 use Rattle.site_step.specs.Resuming.{last_by}
 use Rattle.site_step.proofs.Holding.{plain_append, plain_cons, plain_piece, piece_since}
 

@@ -19,7 +19,7 @@ use Rattle.kept_records.proofs.Lines.{same_log, all_push, flat_push}
 use Rattle.kept_records.proofs.Pushes.{lawful_push}
 use Rattle.kept_records.proofs.Pieces.{leaves_front}
 use Rattle.kept_records.proofs.Summaries.{same_sums, same_summary_push, plain_same, plain_lawful, piece_lawful, since_push, since_one}
-use Rattle.log_replay.specs.Resuming.{starts_with_summary}
+use Rattle.site_step.specs.State.{starts_with_summary}
 use Rattle.log_replay.proofs.Rising.{summary_fits}
 use Rattle.site_step.specs.Site.{Holds}
 use Rattle.site_step.specs.Resuming.{Leaves}

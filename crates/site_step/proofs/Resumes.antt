@@ -16,7 +16,7 @@ use Rattle.kept_records.specs.Medium.{IsCutShort, ReadFate}
 use Rattle.kept_records.specs.declared.medium.MediumFault.TheVariants as faults
 use Rattle.kept_records.specs.declared.reading_back.ReadBack.{ReadBack}
 use Rattle.kept_records.specs.Logs.{IsLog}
-use Rattle.kept_records.specs.ReadingBack.{told_length, StartsWithSummary, IsLast, IsWhole}
+use Rattle.kept_records.specs.ReadingBack.{told_length, AreLast, IsWhole}
 use Rattle.std.proofs.lemmas.List.Concat.{flat_map-append}
 use Rattle.kept_records.specs.Summary.{SummaryValue}
 use Rattle.kept_records.specs.Keeping.{with_due, CutsAndAppends, StrikesCut, CutAndAppendGo, CutAndAppendFate}
@@ -24,9 +24,9 @@ use Rattle.kept_records.specs.Stands.{greatest, may_stand, since_summary, piece,
 use Rattle.kept_records.proofs.Appending.{cut_to_records}
 use Rattle.log_replay.specs.declared.standing.Standing.{Standing}
 use Rattle.log_replay.specs.Standing.{Stands, IsStandingFor}
-use Rattle.log_replay.specs.Resuming.{MayStandNext, IsEnd, starts_with_summary}
+use Rattle.log_replay.specs.Resuming.{MayStandNext, IsEnd}
 use Rattle.site_step.specs.Site.{struck}
-use Rattle.site_step.specs.Resuming.{Leaves, next_restart, next_piece, IsReplayed, FailsOver, StandsOver, ResumesOver}
+use Rattle.site_step.specs.Resuming.{IsLawfulLog, Leaves, next_restart, next_piece, IsReplayed, FailsOver, StandsOver, ResumesOver}
 use Rattle.site_step.specs.declared.site.restart.Resumed.{Resumed}
 use Rattle.site_step.proofs.Holding.{piece_fits, added_all, leaves_by, leaves_none}
 
@@ -51,23 +51,13 @@ MayBeRead (Some (Append n)) = ⊥
 
 -- ---- the end that was read
 
-starts_so : (found : List Record) → StartsWithSummary found → starts_with_summary found ≡ true
-starts_so [] none = absurd none
-starts_so (r ∷ rs) is = is
-
-pub end_of : (schema : SchemaValue) (s : ℕ) (rs found : List Record) → IsLast rs found → Lawful schema s rs → IsEnd schema s rs found
-end_of schema s rs found last lawful = record { before = last.before; parts = last.parts; lawful = lawful; start = start_by last.start }
-  where
-    start_by : (last.before ≡ []) ⊎ StartsWithSummary found → (last.before ≡ []) ⊎ (starts_with_summary found ≡ true)
-    start_by (inl none) = inl none
-    start_by (inr is) = inr (starts_so found is)
-
-each_behind : (before found : List Record) → AllByRecursion IsRecord (before ++ found) → AllByRecursion IsRecord found
-each_behind [] found each = each
-each_behind (r ∷ before) found each = each_behind before found each.1
-
-pub end_each : (rs found : List Record) → IsLast rs found → AllByRecursion IsRecord rs → AllByRecursion IsRecord found
-end_each rs found last each = each_behind last.before found (subst (λ (x : List Record). AllByRecursion IsRecord x) last.parts each)
+pub end_of : (schema : SchemaValue) (s : ℕ) (bytes : List ℕ) (held : IsLawfulLog schema s bytes) (read : ReadBack) → AreLast bytes read.summary read.lines → IsEnd schema s held.records read
+end_of schema s bytes held read last = record {
+  rest = held.rest;
+  each = held.log.each;
+  lawful = held.lawful;
+  holds = last held.records held.rest held.log;
+}
 
 -- ---- a record that may stand next
 

@@ -18,7 +18,7 @@ use Rattle.kept_records.specs.ReadingBack.{told_length, StandBehind}
 use Rattle.kept_records.specs.Stands.{greatest, Lawful, plain, since_summary, piece}
 use Rattle.log_replay.specs.declared.standing.Standing.{Standing as StandingValue}
 use Rattle.log_replay.specs.Standing.{IsStandingFor}
-use Rattle.log_replay.specs.Resuming.{starts_with_summary}
+use Rattle.site_step.specs.State.{starts_with_summary}
 use Rattle.site_step.specs.Site.{struck}
 use Rattle.site_step.specs.declared.site.restart.Resumed.{Resumed}
 use Rattle.site_step.specs.declared.site.restart.Resumed.TheVariants.{Failed, NumbersFull, Standing}

@@ -1,5 +1,5 @@
 -- What ties what a site holds, in memory and on its medium, to its history (this project).
-use Rattle.std.specs.Prelude.{◌≡◌, ℕ, ◌+◌, ◌<◌, ◌≤◌, List, [], ◌++◌, length, map, reverse, nat_le, if◌then◌else◌, Bool, true, false, Some}
+use Rattle.std.specs.Prelude.{◌≡◌, ℕ, ◌+◌, ◌<◌, ◌≤◌, List, [], ◌∷◌, ◌++◌, length, map, reverse, nat_le, if◌then◌else◌, Bool, true, false, Some}
 use Rattle.std.specs.List.{flat_map}
 use Rattle.field_bounds.specs.declared.kind.Kind.{Kind}
 use Rattle.field_bounds.specs.declared.id.TxnId.{TxnId}
@@ -18,14 +18,13 @@ use Rattle.site_rights.specs.Rights.{held_at, ending, by_escrows, AreInRange, Ar
 use Rattle.escrow_journal.specs.Journal.{Row, stands, escrows_at, without}
 use Rattle.kept_records.specs.declared.record.Record.{Record}
 use Rattle.kept_records.specs.Logs.{IsLog}
-use Rattle.kept_records.specs.Stands.{Lawful, plain, since_summary, max_behind}
+use Rattle.kept_records.specs.Stands.{Lawful, is_summary, plain, since_summary, max_behind}
 use Rattle.kept_records.specs.Text.{text}
 use Rattle.kept_records.specs.ReadingBack.{told_length}
 use Rattle.kept_state.specs.Keeps.{Keeps, IsBase}
 use Rattle.kept_state.specs.Doubt.{IsDoubt}
 use Rattle.kept_records.specs.declared.record.Record.TheVariants as records
 use Rattle.log_replay.specs.Standing.{HasPlaces, Stands, CanTakeIn}
-use Rattle.log_replay.specs.Resuming.{starts_with_summary}
 use Rattle.site_step.specs.Replaying.{downs_since, downs_before}
 use Rattle.site_step.specs.declared.accounts.Accounts.{Accounts}
 use Rattle.site_step.specs.declared.extent.Extent.{Extent}
@@ -164,6 +163,11 @@ pub record ReachesAll (e : Extent) (rs : List Record) : Type 0 where
   pub length_is : e.length ≡ told_length (length (flat_map text rs))
   pub behind : e.behind ≡ since_summary rs
   pub few : since_summary rs < max_behind
+
+-- The first record is a summary.
+abbrev pub starts_with_summary : List Record → Bool
+starts_with_summary [] = false
+starts_with_summary (r ∷ rs) = is_summary r
 
 -- The first records are so many, summaries left out, and so long are their texts; no summary stands right behind them.
 pub record Reaches (e : Extent) (rs : List Record) : Type 0 where

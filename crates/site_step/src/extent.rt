@@ -70,4 +70,15 @@ impl Extent {
         self.length = self.length.saturating_add(length);
         self.behind = behind_next(self.behind);
     }
+
+    /// A restart found so many records more, and its own record stands behind them, in lines up to this
+    /// length. So many records stood behind the last summary.
+    pub(crate) fn reach(&mut self, more: usize, behind: u64, length: usize)
+        requires few { self.old.count + more + 1 < 2 ^ 64 }
+        ensures reached { self.new ≡ record { count = self.old.count + more + 1; length = length; behind = if nat_le max_behind (behind + 1) then 0 else behind + 1 } }
+    {
+        self.count = self.count + more + 1;
+        self.length = length;
+        self.behind = behind_next(behind);
+    }
 }

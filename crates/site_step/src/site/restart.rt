@@ -1,6 +1,6 @@
 //! A restart: the site stands anew on what its medium holds.
 
-ghost use Rattle.std.specs.Prelude.{◌≡◌, ◌<◌, ◌≤◌, [], List, ℕ, length, Some, OnErr, IfOk};
+ghost use Rattle.std.specs.Prelude.{◌≡◌, ◌<◌, ◌≤◌, [], ◌∷◌, ◌++◌, List, ℕ, length, Some, OnErr, IfOk, vec_len, vec_capacity};
 ghost use Rattle.field_bounds.specs.Owed.{max_epoch};
 ghost use Rattle.field_bounds.specs.Limits.{IsSchema};
 ghost use Rattle.kept_records.specs.declared.medium.Mishap.TheVariants.{Read};
@@ -12,7 +12,7 @@ ghost use Rattle.site_step.specs.Site.{Applies};
 ghost use Rattle.site_step.specs.Resuming.{IsLawfulLog, IsReplayed, ResumesOver, ResumesAs, last_by};
 
 use super::Site;
-use crate::extent::{Extent, behind_next, due_behind};
+use crate::extent::due_behind;
 use field_bounds::{Command, Entry, Last, MAX_EPOCH, Refusal, Reply, Schema, SiteNo};
 use kept_records::{
     Medium, MediumFault, ReadBack, Record, append_restart_piece, count_plain, read_back,
@@ -129,7 +129,7 @@ fn resume<M: Medium>(
         Err(MediumFault::Device) => return Ok(Resumed::Failed { turns: None }),
         Err(MediumFault::NoMemory) => return Err(AllocError),
     };
-    let replay = replay_end(alloc, schema, site, &log.records)?;
+    let replay = replay_end(alloc, schema, site, &log)?;
     resume_over(alloc, schema, line, medium, log, replay)
 }
 
@@ -149,6 +149,18 @@ fn last_of(doubt: Option<usize>, behind: &[Record]) -> Last
     }
 }
 
+/// Adds the entry of a restart to a history that has room for it.
+fn tell(history: &mut Vec<Entry>, site: SiteNo, reply: Reply)
+    requires room { vec_len history.old < vec_capacity history.old }
+    ensures told { history.new.items ≡ history.old.items ++ record { site = site; command = commands.Restart; reply = reply } ∷ [] }
+{
+    history.push_reserved(Entry {
+        site,
+        command: Command::Restart,
+        reply,
+    });
+}
+
 impl<M: Medium> Site<M> {
     pub(super) fn restart(&mut self, alloc: Global) -> Result<Reply, AllocError>
         ensures ok { IfOk result (λ reply. Applies self.old commands.Restart reply self.new) }
@@ -166,20 +178,12 @@ impl<M: Medium> Site<M> {
             Resumed::Failed { turns } => {
                 self.up = false;
                 self.replayed = turns.unwrap_or(self.replayed);
-                self.history.push_reserved(Entry {
-                    site: self.number,
-                    command: Command::Restart,
-                    reply: Reply::StillDown,
-                });
+                tell(&mut self.history, self.number, Reply::StillDown);
                 Ok(Reply::StillDown)
             }
             Resumed::NumbersFull => {
                 let reply = Reply::Refused(Refusal::NumbersFull);
-                self.history.push_reserved(Entry {
-                    site: self.number,
-                    command: Command::Restart,
-                    reply,
-                });
+                tell(&mut self.history, self.number, reply);
                 Ok(reply)
             }
             Resumed::Standing {
@@ -192,19 +196,11 @@ impl<M: Medium> Site<M> {
                 let last = last_of(self.doubt, &behind);
                 self.accounts.stand_on(&self.schema, standing, epoch);
                 self.up = true;
-                self.extent = Extent {
-                    count: self.extent.count + count_plain(&behind) + 1,
-                    length,
-                    behind: behind_next(turns),
-                };
+                self.extent.reach(count_plain(&behind), turns, length);
                 self.doubt = None;
                 self.replayed = turns;
                 let reply = Reply::Restarted { epoch, last };
-                self.history.push_reserved(Entry {
-                    site: self.number,
-                    command: Command::Restart,
-                    reply,
-                });
+                tell(&mut self.history, self.number, reply);
                 Ok(reply)
             }
         }

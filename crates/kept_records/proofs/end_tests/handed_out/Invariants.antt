@@ -2,8 +2,8 @@ use Rattle.std.proofs.Common.{length}
 use Rattle.kept_records.specs.Keeping.{IsKept}
 use Rattle.kept_records.proofs.end_tests.handed_out.Given as goal
 
-abbrev pub invariant-loop-record : goal.invariant-loop-record
-invariant-loop-record l = IsKept l.records
+abbrev pub invariant-loop-records : goal.invariant-loop-records
+invariant-loop-records l = IsKept l.records
 
-abbrev pub decreases-loop-record : goal.decreases-loop-record
-decreases-loop-record l = length l.records
+abbrev pub decreases-loop-records : goal.decreases-loop-records
+decreases-loop-records l = length l.records

@@ -1,8 +1,6 @@
-use Rattle.std.proofs.Common.{◌≡◌, ◌∙◌, ◌++◌, [], List, ℕ, refl, sym, ap, subst, arith, take, drop}
+use Rattle.std.proofs.Common.{◌≡◌, ◌∙◌, ◌++◌, [], List, ℕ, refl, sym, ap, subst, arith, drop}
 use Rattle.std.proofs.lemmas.List.{take-append-drop}
-use Rattle.std.specs.List.{flat_map}
 use Rattle.kept_records.specs.declared.record.Record.{Record}
-use Rattle.kept_records.specs.Text.{text}
 use Rattle.kept_records.specs.Logs.{Reads, IsLog}
 use Rattle.kept_records.specs.Stands.{Lawful}
 use Rattle.log_replay.specs.declared.log.Replayed.{Replayed}

@@ -1,6 +1,7 @@
 use Rattle.kept_records.specs.declared.record.Record.{Record}
-use Rattle.kept_records.specs.Stands.{plain}
-use Rattle.std.proofs.Common.{◌≡◌, List, length, ap, ◌∙◌, arith}
+use Rattle.kept_records.specs.Stands.{plain, max_behind}
+use Rattle.std.proofs.Common.{◌≡◌, ◌+◌, List, length, ap, ◌∙◌, arith, refl}
+use Rattle.std.specs.Prelude.{nat_le, if◌then◌else◌}
 use Rattle.std.proofs.lemmas.List.{length-reverse}
 use Rattle.site_step.specs.Resuming.{last_by}
 use Rattle.site_step.proofs.Calls.{grew, lawful_log, limits, seam, fails, fills, can_restart, read_or_not, few_more, restarts}
@@ -18,12 +19,12 @@ resume-requires-clause-place g c = seam c.self.invariant c.self.view_is
 pub invariant_of-self-in-NumbersFull : goal.invariant_of-self-in-NumbersFull
 invariant_of-self-in-NumbersFull g c =
     let s = c.self.invariant in
-    (fills s c.self.view_is (rw c.in-NumbersFull.is at c.in_ok-turns.ensures.resumes s.records s.rest s.log) (grew c.push_reserved-in-NumbersFull.ensures.items c.in_ok-reserve.ensures.items)).sound
+    (fills s c.self.view_is (rw c.in-NumbersFull.is at c.in_ok-turns.ensures.resumes s.records s.rest s.log) (grew c.tell-in-NumbersFull.ensures.told c.in_ok-reserve.ensures.items)).sound
 
 pub returns-in-NumbersFull-clause-ok : goal.returns-in-NumbersFull-clause-ok
 returns-in-NumbersFull-clause-ok g c =
     let s = c.self.invariant in
-    (fills s c.self.view_is (rw c.in-NumbersFull.is at c.in_ok-turns.ensures.resumes s.records s.rest s.log) (grew c.push_reserved-in-NumbersFull.ensures.items c.in_ok-reserve.ensures.items)).applies
+    (fills s c.self.view_is (rw c.in-NumbersFull.is at c.in_ok-turns.ensures.resumes s.records s.rest s.log) (grew c.tell-in-NumbersFull.ensures.told c.in_ok-reserve.ensures.items)).applies
 
 pub stand_on-requires : goal.stand_on-requires
 stand_on-requires g c =
@@ -35,44 +36,36 @@ pub invariant_of-self-in-Failed : goal.invariant_of-self-in-Failed
 invariant_of-self-in-Failed g c =
     let s = c.self.invariant in
     (fails s c.self.view_is c.in-Failed.turns c.unwrap_or-self-inside.result (rw c.in-Failed.is at c.in_ok-turns.ensures.resumes s.records s.rest s.log)
-    (read_or_not c.in-Failed.turns c.self.inside.replayed c.unwrap_or-self-inside.result c.unwrap_or-self-inside.ensures) (grew c.push_reserved.ensures.items c.in_ok-reserve.ensures.items)).sound
+    (read_or_not c.in-Failed.turns c.self.inside.replayed c.unwrap_or-self-inside.result c.unwrap_or-self-inside.ensures) (grew c.tell.ensures.told c.in_ok-reserve.ensures.items)).sound
 
 pub returns-in-Failed-clause-ok : goal.returns-in-Failed-clause-ok
 returns-in-Failed-clause-ok g c =
     let s = c.self.invariant in
     (fails s c.self.view_is c.in-Failed.turns c.unwrap_or-self-inside.result (rw c.in-Failed.is at c.in_ok-turns.ensures.resumes s.records s.rest s.log)
-    (read_or_not c.in-Failed.turns c.self.inside.replayed c.unwrap_or-self-inside.result c.unwrap_or-self-inside.ensures) (grew c.push_reserved.ensures.items c.in_ok-reserve.ensures.items)).applies
+    (read_or_not c.in-Failed.turns c.self.inside.replayed c.unwrap_or-self-inside.result c.unwrap_or-self-inside.ensures) (grew c.tell.ensures.told c.in_ok-reserve.ensures.items)).applies
 
-pub overflow_add-self : goal.overflow_add-self
-overflow_add-self g c =
+pub reach-requires : goal.reach-requires
+reach-requires g c =
     let s = c.self.invariant in
     let i = c.self.inside in
     let did = rw c.in-Standing.is at c.in_ok-turns.ensures.resumes s.records s.rest s.log in
     let many : c.count_plain.result ≡ length (plain c.in-Standing.behind.items) = c.count_plain.ensures.count ∙ ap (λ (x : List Record). length (plain x)) c.deref-in-Standing.ensures.value in
-    omega (arith, few_more s c.self.view_is c.in-Standing.behind.items did.2, many, length-reverse i.history.items, i.history.ok, i.history.small, i.based.ok, i.based.small)
-
-pub overflow_add-self-in-Standing : goal.overflow_add-self-in-Standing
-overflow_add-self-in-Standing g c =
-    let s = c.self.invariant in
-    let i = c.self.inside in
-    let did = rw c.in-Standing.is at c.in_ok-turns.ensures.resumes s.records s.rest s.log in
-    let many : c.count_plain.result ≡ length (plain c.in-Standing.behind.items) = c.count_plain.ensures.count ∙ ap (λ (x : List Record). length (plain x)) c.deref-in-Standing.ensures.value in
-    omega (arith, few_more s c.self.view_is c.in-Standing.behind.items did.2, many, length-reverse i.history.items, i.history.ok, i.history.small, i.based.ok, i.based.small)
+    record { few = omega (arith, few_more s c.self.view_is c.in-Standing.behind.items did.2, many, length-reverse i.history.items, i.history.ok, i.history.small, i.based.ok, i.based.small) }
 
 pub invariant_of-self-in-Standing : goal.invariant_of-self-in-Standing
 invariant_of-self-in-Standing g c =
     let s = c.self.invariant in
     let many : c.count_plain.result ≡ length (plain c.in-Standing.behind.items) = c.count_plain.ensures.count ∙ ap (λ (x : List Record). length (plain x)) c.deref-in-Standing.ensures.value in
-    (restarts s c.self.view_is c.in-Standing.standing c.in-Standing.behind.items c.in-Standing.epoch c.in-Standing.turns c.in-Standing.length c.behind_next.result c.last_of-last.result
+    rw c.reach.ensures.reached (restarts s c.self.view_is c.in-Standing.standing c.in-Standing.behind.items c.in-Standing.epoch c.in-Standing.turns c.in-Standing.length (if nat_le max_behind (c.in-Standing.turns + 1) then 0 else c.in-Standing.turns + 1) c.last_of-last.result
     (rw c.in-Standing.is at c.in_ok-turns.ensures.resumes s.records s.rest s.log)
-    c.stand_on.ensures.took c.stand_on.ensures.journal c.stand_on.ensures.last (c.last_of-last.ensures ∙ ap (last_by c.self.inside.doubt) c.deref.ensures.value) many c.behind_next.ensures.value
-    (grew c.push_reserved-in-Standing.ensures.items c.in_ok-reserve.ensures.items)).sound
+    c.stand_on.ensures.took c.stand_on.ensures.journal c.stand_on.ensures.last (c.last_of-last.ensures ∙ ap (last_by c.self.inside.doubt) c.deref.ensures.value) many refl
+    (grew c.tell-in-Standing.ensures.told c.in_ok-reserve.ensures.items)).sound
 
 pub returns-in-Standing-clause-ok : goal.returns-in-Standing-clause-ok
 returns-in-Standing-clause-ok g c =
     let s = c.self.invariant in
     let many : c.count_plain.result ≡ length (plain c.in-Standing.behind.items) = c.count_plain.ensures.count ∙ ap (λ (x : List Record). length (plain x)) c.deref-in-Standing.ensures.value in
-    (restarts s c.self.view_is c.in-Standing.standing c.in-Standing.behind.items c.in-Standing.epoch c.in-Standing.turns c.in-Standing.length c.behind_next.result c.last_of-last.result
+    (restarts s c.self.view_is c.in-Standing.standing c.in-Standing.behind.items c.in-Standing.epoch c.in-Standing.turns c.in-Standing.length (if nat_le max_behind (c.in-Standing.turns + 1) then 0 else c.in-Standing.turns + 1) c.last_of-last.result
     (rw c.in-Standing.is at c.in_ok-turns.ensures.resumes s.records s.rest s.log)
-    c.stand_on.ensures.took c.stand_on.ensures.journal c.stand_on.ensures.last (c.last_of-last.ensures ∙ ap (last_by c.self.inside.doubt) c.deref.ensures.value) many c.behind_next.ensures.value
-    (grew c.push_reserved-in-Standing.ensures.items c.in_ok-reserve.ensures.items)).applies
+    c.stand_on.ensures.took c.stand_on.ensures.journal c.stand_on.ensures.last (c.last_of-last.ensures ∙ ap (last_by c.self.inside.doubt) c.deref.ensures.value) many refl
+    (grew c.tell-in-Standing.ensures.told c.in_ok-reserve.ensures.items)).applies

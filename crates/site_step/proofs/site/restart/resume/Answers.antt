@@ -1,13 +1,12 @@
 use Rattle.std.proofs.Common.{◌≡◌, List, ℕ, sym, ap, subst, ◌∙◌}
 use Rattle.kept_records.specs.declared.record.Record.{Record}
 use Rattle.kept_records.specs.Stands.{Lawful, since_summary}
-use Rattle.kept_records.specs.ReadingBack.{StandBehind, IsLast}
+use Rattle.kept_records.specs.ReadingBack.{StandBehind}
 use Rattle.log_replay.specs.Standing.{IsStandingFor}
 use Rattle.kept_records.specs.Logs.{IsLog}
 use Rattle.kept_records.proofs.Lines.{same_log}
-use Rattle.log_replay.specs.Resuming.{IsEnd}
 use Rattle.site_step.specs.Resuming.{IsReplayed}
-use Rattle.site_step.proofs.Resumes.{end_of, end_each, unread_fails, read_fate, read_stays, resumes_from}
+use Rattle.site_step.proofs.Resumes.{end_of, unread_fails, read_fate, read_stays, resumes_from}
 use Rattle.site_step.proofs.Settling.{ok_is}
 use Rattle.site_step.proofs.site.restart.resume.Goals as goal
 
@@ -25,18 +24,15 @@ returns-in-Err-Device-clause-resumes g c =
 pub resume-requires : goal.resume-requires
 resume-requires g c =
     let held = c.requires.log in
-    let last = subst (λ (x : List Record). IsLast held.records x) (sym c.deref.ensures.value) (c.in-Ok.ensures.records held.records held.rest held.log) in
     record {
       site_in = c.requires.site_in;
-      in_range = end_each held.records c.deref.result.now last held.log.each;
-      end_ = (held.records, end_of c.args.schema.now c.args.site.0 held.records c.deref.result.now last held.lawful);
+      end_ = (held.records, end_of c.args.schema.now c.args.site.0 (g.M.Medium.bytes c.args.medium.now) held c.in-Ok.log c.in-Ok.ensures.last);
     }
 
 pub resume_over-requires-clause-replayed : goal.resume_over-requires-clause-replayed
 resume_over-requires-clause-replayed g c =
     let held = c.requires.log in
-    let last = subst (λ (x : List Record). IsLast held.records x) (sym c.deref.ensures.value) (c.in-Ok.ensures.records held.records held.rest held.log) in
-    let end_ : IsEnd c.args.schema.now c.args.site.0 held.records c.deref.result.now = end_of c.args.schema.now c.args.site.0 held.records c.deref.result.now last held.lawful in (
+    let end_ = end_of c.args.schema.now c.args.site.0 (g.M.Medium.bytes c.args.medium.now) held c.in-Ok.log c.in-Ok.ensures.last in (
       c.args.site.0,
       held.records,
       held.rest,
@@ -46,7 +42,7 @@ resume_over-requires-clause-replayed g c =
         log = subst (λ (b : List ℕ). IsLog b held.records held.rest) (sym c.in-Ok.ensures.bytes) held.log;
         lawful = held.lawful;
         for_ = c.in_ok-replay.ensures.standing held.records end_;
-        turns_are = c.in_ok-replay.ensures.behind held.records end_;
+        turns_are = c.in_ok-replay.ensures.turns held.records end_;
       },
     )
 
@@ -57,8 +53,7 @@ returns-clause-resumes g c =
     let held = c.requires.log in
     let schema = c.args.schema.now in
     let s = c.args.site.0 in
-    let last = subst (λ (x : List Record). IsLast held.records x) (sym c.deref.ensures.value) (c.in-Ok.ensures.records held.records held.rest held.log) in
-    let end_ : IsEnd schema s held.records c.deref.result.now = end_of schema s held.records c.deref.result.now last held.lawful in
+    let end_ = end_of c.args.schema.now c.args.site.0 (g.M.Medium.bytes c.args.medium.now) held c.in-Ok.log c.in-Ok.ensures.last in
     let bytes : g.M.Medium.bytes mid ≡ g.M.Medium.bytes was = c.in-Ok.ensures.bytes in
     ok_is c.resume_over.result (λ resumed as_ rs rest log.
     let all = (same_log (g.M.Medium.bytes was) held.records rs held.rest rest held.log log).0 in
@@ -73,6 +68,6 @@ returns-clause-resumes g c =
       log = subst (λ (b : List ℕ). IsLog b rs rest) (sym bytes) log;
       lawful = subst (λ (x : List Record). Lawful schema s x) all held.lawful;
       for_ = subst (λ (x : List Record). IsStandingFor schema s x c.in_ok-replay.replay.standing) all (c.in_ok-replay.ensures.standing held.records end_);
-      turns_are = c.in_ok-replay.ensures.behind held.records end_ ∙ ap since_summary all;
+      turns_are = c.in_ok-replay.ensures.turns held.records end_ ∙ ap since_summary all;
     })
     (subst (λ (b : List ℕ). StandBehind b c.args.place c.in-Ok.log.behind.items) (sym bytes) c.in-Ok.ensures.behind))) c.resume_over.ensures.resumes
