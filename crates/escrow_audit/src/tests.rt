@@ -265,6 +265,72 @@ const BAD: [&str; 24] = [
     "0 begin->begun 0.1",
 ];
 
+/// What runs write whose lines reach for a value, and what is answered.
+const REACHED: [(&[&str], &str); 6] = [
+    (
+        &[
+            "reach 0 stock 20 -> steps 3",
+            "1 begin -> begun 0.1",
+            "1 escrow 0.1 stock -20 -> granted",
+            "1 commit 0.1 -> committed",
+            "reach 0 stock 70 -> steps 3",
+            "1 begin -> begun 0.2",
+            "1 escrow 0.2 stock 50 -> granted",
+            "1 commit 0.2 -> committed",
+            "reach 0 stock 70 -> steps 0",
+            "reach 0 stock 19 -> no outside",
+        ],
+        "legal 6\n",
+    ),
+    (
+        &[
+            "1 give 0 stock lower 5 -> given 5",
+            "reach 0 stock 20 -> no flight",
+            "0 accept 1 0 stock lower 5 -> accepted 5",
+            "reach 0 stock 24 -> no outside",
+            "reach 0 stock 25 -> steps 3",
+            "1 begin -> begun 0.1",
+            "1 escrow 0.1 stock -15 -> granted",
+            "1 commit 0.1 -> committed",
+        ],
+        "legal 5\n",
+    ),
+    (
+        &[
+            "0 give 1 stock lower 5 -> unsure",
+            "0 restart -> restarted 1 kept",
+            "reach 0 stock 25 -> no unstated",
+            "0 restate 1 stock lower -> stated 5",
+            "reach 0 stock 15 -> steps 4",
+            "1 accept 0 1 stock lower 5 -> accepted 5",
+            "1 begin -> begun 0.1",
+            "1 escrow 0.1 stock -25 -> granted",
+            "1 commit 0.1 -> committed",
+        ],
+        "legal 7\n",
+    ),
+    (
+        &["1 restart -> still down", "reach 0 stock 40 -> no down"],
+        "legal 1\n",
+    ),
+    (
+        &[
+            "1 tighten stock lower 1 -> tightened 1",
+            "reach 0 stock 40 -> no tightened",
+        ],
+        "legal 1\n",
+    ),
+    (&["bad line"], "legal 0\n"),
+];
+
+#[test]
+fn judges_what_reaches(rt: HostRuntime) -> Result<(), Fail> {
+    for (lines, answer) in &REACHED {
+        check(&rt, rt.alloc(), *lines, AuditEnd::Legal, *answer)?;
+    }
+    Ok(())
+}
+
 #[test]
 fn skips_remarks(rt: HostRuntime) -> Result<(), Fail> {
     let alloc = rt.alloc();
