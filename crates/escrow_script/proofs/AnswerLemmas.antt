@@ -3,17 +3,14 @@ use Rattle.std.proofs.Common.{◌≡◌, ℕ, zero, suc, ◌+◌, ◌<◌, ◌�
 use Rattle.std.proofs.lemmas.List.{length-append, map-append, reverse-append, take_more}
 use Rattle.std.proofs.Math.Seq.{take-append_seam}
 use Rattle.rebalance.specs.declared.even_plan.Move.{Move}
-use Rattle.field_bounds.specs.declared.kind.Kind.{Kind}
-use Rattle.field_bounds.specs.declared.id.FieldNo.{FieldNo}
 use Rattle.field_bounds.specs.declared.entry.Entry.{Entry}
 use Rattle.field_bounds.specs.Schema.{SchemaValue}
 use Rattle.entry_text.specs.Spelling.{entry_text}
 use Rattle.kept_state.specs.Luck.{entries}
 use Rattle.world_steps.specs.declared.step.WorldStep.{WorldStep}
 use Rattle.world_steps.specs.declared.step.StepReply.TheVariants.{Made, NoStatement}
-use Rattle.world_steps.specs.View.{WorldValue, lived, trace_of, Answers}
-use Rattle.escrow_script.specs.Level.{Levels, level_gifts}
-use Rattle.escrow_script.specs.Text.{line_text, trace, remark_text, moves_text, Asks, IsBad, IsReply, AreReplies}
+use Rattle.world_steps.specs.View.{WorldValue, lived, Answers}
+use Rattle.escrow_script.specs.Text.{line_text, trace, remark_text, Asks, AsksSteps, IsBad, IsReply, AreReplies}
 use Rattle.escrow_script.specs.Run.{Answered, HasTaken}
 
 -- ---- one step
@@ -79,6 +76,15 @@ took_more steps step old middle new out between grown before last =
       written = after.written ∙ ap (λ (l : List ℕ). l ++ after.replies) before.written ∙ append_assoc out before.replies after.replies;
     }
 
+-- the next of many steps
+pub took_next : (steps : List WorldStep) (i : ℕ) (d step : WorldStep) (old middle new : WorldValue) (out between grown : List ℕ)
+    → i < length steps → step ≡ get_or steps i d → HasTaken (take i steps) old middle out between → HasTaken (step ∷ []) middle new between grown
+    → HasTaken (take (i + 1) steps) old new out grown
+took_next steps i d step old middle new out between grown below is before last =
+    let all : take (i + 1) steps ≡ take i steps ++ step ∷ [] =
+    take_more steps i d below ∙ ap (λ (s : WorldStep). take i steps ++ s ∷ []) (sym is) in
+    subst (λ (l : List WorldStep). HasTaken l old new out grown) (sym all) (took_more (take i steps) step old middle new out between grown before last)
+
 -- the gift of the next move of a plan
 pub took_gift : (gift : Move → WorldStep) (plan : List Move) (i : ℕ) (d : Move) (step : WorldStep) (old middle new : WorldValue) (out between grown : List ℕ)
     → i < length plan → step ≡ gift (get_or plan i d) → HasTaken (map gift (take i plan)) old middle out between → HasTaken (step ∷ []) middle new between grown
@@ -124,25 +130,20 @@ answered_step line step old new out grown asks took = record {
   written = took.written;
 }
 
-pub answered_level : (line : List ℕ) (field : FieldNo) (kind : Kind) (gifts : List WorldStep) (count : ℕ) (old new : WorldValue) (out between grown : List ℕ)
-    → Levels old.schema line field kind → gifts ≡ level_gifts old.schema (trace_of old) field kind → count ≡ length gifts
-    → between ≡ out ++ line_text (moves_text old.schema field kind count) → HasTaken gifts old new between grown → Answered line old new out grown
-answered_level line field kind gifts count old new out between grown levels are many first took =
-    let head : List ℕ = line_text (moves_text old.schema field kind (length gifts)) in
-    let front : between ≡ out ++ head = first ∙ ap (λ (n : ℕ). out ++ line_text (moves_text old.schema field kind n)) many in
-    record {
-      text = head ++ took.replies;
-      schema = ap (λ (w : WorldValue). w.schema) took.taken;
-      answer = inr (inr (record {
-        field = field;
-        kind = kind;
-        gifts = gifts;
-        replies = took.replies;
-        levels = levels;
-        gifts_are = are;
-        taken = ap (λ (w : WorldValue). reverse w.steps) took.taken ∙ reverse-append old.steps gifts;
-        answered = took.answered;
-        written = refl;
-      }));
-      written = took.written ∙ ap (λ (l : List ℕ). l ++ took.replies) front ∙ append_assoc out head took.replies;
-    }
+pub answered_many : (line : List ℕ) (steps : List WorldStep) (head : List ℕ) (old new : WorldValue) (out between grown : List ℕ)
+    → AsksSteps old.schema line (reverse old.steps) steps head → between ≡ out ++ line_text head → HasTaken steps old new between grown
+    → Answered line old new out grown
+answered_many line steps head old new out between grown asks front took = record {
+  text = line_text head ++ took.replies;
+  schema = ap (λ (w : WorldValue). w.schema) took.taken;
+  answer = inr (inr (record {
+    steps = steps;
+    head = head;
+    replies = took.replies;
+    asked = asks;
+    taken = ap (λ (w : WorldValue). reverse w.steps) took.taken ∙ reverse-append old.steps steps;
+    answered = took.answered;
+    written = refl;
+  }));
+  written = took.written ∙ ap (λ (l : List ℕ). l ++ took.replies) front ∙ append_assoc out (line_text head) took.replies;
+}

@@ -1,6 +1,7 @@
 -- The gifts that level a field: who takes part, which moves there are, and that a world takes them.
 use Rattle.std.proofs.Common.{◌≡◌, ℕ, zero, suc, ◌+◌, ◌*◌, ◌<◌, ◌≤◌, ℤ, pos, neg_ℤ, ◌-ℤ◌, ◌≤ℤ◌, Bool, true, false, not, List, [], ◌∷◌, ◌++◌, Option, Some, None, length, map, reverse, refl, sym, ap, subst, ◌∙◌, append-nil, arith, inl, inr}
-use Rattle.std.specs.Prelude.{sum, nat_le, is_none, unsigned_abs, if◌then◌else◌}
+use Rattle.std.specs.Fmt.{decimal}
+use Rattle.std.specs.Prelude.{codes, sum, nat_le, is_none, unsigned_abs, if◌then◌else◌}
 use Rattle.std.specs.List.{All, AllByRecursion}
 use Rattle.std.proofs.lemmas.Bool.{cases_lt, lt-ltb, le-ltb, lt-leb}
 use Rattle.std.proofs.lemmas.Int.{ints}
@@ -25,7 +26,9 @@ use Rattle.rebalance.specs.EvenPlan.{overlap, pair_moves, moves_from, moves_befo
 use Rattle.world_steps.specs.declared.step.WorldStep.{WorldStep}
 use Rattle.world_steps.specs.World.{StepFits}
 use Rattle.world_steps.proofs.Sound.{StepsFit}
-use Rattle.escrow_script.specs.Level.{sites_up, free_at, gift_of, gifts_among, level_gifts}
+use Rattle.world_steps.specs.View.{WorldValue, trace_of}
+use Rattle.escrow_script.specs.Level.{Levels, sites_up, free_at, gift_of, gifts_among, level_gifts}
+use Rattle.escrow_script.specs.Text.{moves_text, AsksSteps}
 
 all_both : {X : Type 0} (P : X → Type 0) (xs ys : List X) → AllByRecursion P xs → AllByRecursion P ys → AllByRecursion P (xs ++ ys)
 all_both P [] ys h k = k
@@ -80,7 +83,7 @@ pub gift_fits : (schema : SchemaValue) (sites : List SiteNo) (field : FieldNo) (
     → All (λ (site : SiteNo). site.0 < schema.sites) sites → m.from < length sites → StepFits schema (gift_of sites field kind m)
 gift_fits schema sites field kind m within known = (within m.from (record { 0 = 0 }) known, refl)
 
-fit_both : (schema : SchemaValue) (xs ys : List WorldStep) → StepsFit schema xs → StepsFit schema ys → StepsFit schema (xs ++ ys)
+pub fit_both : (schema : SchemaValue) (xs ys : List WorldStep) → StepsFit schema xs → StepsFit schema ys → StepsFit schema (xs ++ ys)
 fit_both schema [] ys h k = k
 fit_both schema (x ∷ xs) ys h k = (fit_both schema xs ys h.0 k, h.1)
 
@@ -197,3 +200,16 @@ share_few schema good f known Raise lower raise free within low high = omega (ar
 pub sum_within : (shares : List ℕ) (free s : ℕ) → sum shares ≤ s * 2_000_000_000_000_000 → free ≤ 2_000_000_000_000_000
     → sum (shares ++ free ∷ []) ≤ (s + 1) * 2_000_000_000_000_000
 sum_within shares free s few small = omega (arith, sum_by_push (λ (y : ℕ). y) shares free)
+
+-- ---- the line asks the gifts of the plan
+
+pub asks_level : (w : WorldValue) (line : List ℕ) (field : FieldNo) (kind : Kind) (gifts : List WorldStep) (count : ℕ) → Levels w.schema line field kind
+    → gifts ≡ level_gifts w.schema (trace_of w) field kind → count ≡ length gifts
+    → AsksSteps w.schema line (reverse w.steps) gifts (line ++ codes " -> moves " ++ decimal count)
+asks_level w line field kind gifts count levels are many = inl (record {
+  field = field;
+  kind = kind;
+  levels = levels;
+  steps_are = are;
+  head_is = ap (λ (l : List ℕ). l ++ codes " -> moves " ++ decimal count) levels.text ∙ ap (λ (n : ℕ). moves_text w.schema field kind n) many;
+})

@@ -2,6 +2,8 @@ pub mod StepLemmas
 pub mod LuckLemmas
 pub mod LevelLines
 pub mod LevelLemmas
+pub mod AimLines
+pub mod AimLemmas
 pub mod AnswerLemmas
 pub mod TextLemmas
 pub mod RunLemmas

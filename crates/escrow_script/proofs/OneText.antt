@@ -14,10 +14,12 @@ use Rattle.entry_text.specs.Spelling.{entry_text}
 use Rattle.kept_state.specs.Luck.{entries}
 use Rattle.world_steps.specs.declared.step.WorldStep.{WorldStep}
 use Rattle.world_steps.specs.World.{asked, luck_of, with_entry, world_of}
-use Rattle.escrow_script.specs.Text.{line_text, trace, moves_text, Asks, IsReply, AreReplies, IsLevelled, IsAnswer, AreAnswers, HasText}
+use Rattle.escrow_script.specs.Text.{line_text, trace, moves_text, Asks, IsBad, IsReply, AreReplies, AsksLevel, AsksSteps, IsCarriedOut, IsAnswer, AreAnswers, HasText}
 use Rattle.escrow_script.specs.Level.{level_gifts}
 use Rattle.escrow_script.proofs.StepLemmas.{head_is, tail_is, one_step}
 use Rattle.escrow_script.proofs.LevelLines.{no_both, one_level}
+use Rattle.escrow_script.proofs.AimLines.{asks_no_reach, levels_no_reach}
+use Rattle.escrow_script.proofs.AimLemmas.{one_reach}
 
 ok_is : (r : Result SchemaValue SchemaFault) (s t : SchemaValue) → r ≡ Ok s → r ≡ Ok t → s ≡ t
 ok_is r s t h g = cc
@@ -26,35 +28,56 @@ ok_is r s t h g = cc
 only_asked : (schema : SchemaValue) → IsSchema schema → (line : List ℕ) (step other : WorldStep) → Asks schema line step → Asks schema line other → step ≡ other
 only_asked schema is line step other a b = one_step schema is step other a.numbers b.numbers (sym a.text ∙ b.text)
 
--- a line that levels a field has one list of gifts
-only_gifts : (schema : SchemaValue) → IsSchema schema → (line : List ℕ) (old new was now : List WorldStep) (text again : List ℕ)
-    → old ≡ was → (a : IsLevelled schema line old new text) (b : IsLevelled schema line was now again) → a.gifts ≡ b.gifts
-only_gifts schema is line old new was now text again same a b =
+-- a line that levels a field has one list of gifts, and one head
+one_levelling : (schema : SchemaValue) → IsSchema schema → (line : List ℕ) (old steps others : List WorldStep) (head other : List ℕ)
+    → AsksLevel schema line old steps head → AsksLevel schema line old others other → (steps ≡ others) × (head ≡ other)
+one_levelling schema is line old steps others head other a b =
     let one = one_level schema is line a.field b.field a.kind b.kind a.levels b.levels in
-    a.gifts_are ∙ ap (λ (l : List WorldStep). level_gifts schema (trace schema l) a.field a.kind) same
-    ∙ ap (λ (f : FieldNo). level_gifts schema (trace schema was) f a.kind) one.0 ∙ ap (λ (k : Kind). level_gifts schema (trace schema was) b.field k) one.1 ∙ sym b.gifts_are
+    let same : steps ≡ others =
+    a.steps_are ∙ ap (λ (f : FieldNo). level_gifts schema (trace schema old) f a.kind) one.0 ∙ ap (λ (k : Kind). level_gifts schema (trace schema old) b.field k) one.1 ∙ sym b.steps_are in (
+      same,
+      a.head_is ∙ ap (λ (f : FieldNo). moves_text schema f a.kind (length steps)) one.0 ∙ ap (λ (k : Kind). moves_text schema b.field k (length steps)) one.1
+          ∙ ap (λ (l : List WorldStep). moves_text schema b.field b.kind (length l)) same ∙ sym b.head_is,
+    )
+
+-- and so has each line that asks steps together
+one_list : (schema : SchemaValue) → IsSchema schema → (line : List ℕ) (old steps others : List WorldStep) (head other : List ℕ)
+    → AsksSteps schema line old steps head → AsksSteps schema line old others other → (steps ≡ others) × (head ≡ other)
+one_list schema is line old steps others head other (inl a) (inl b) = one_levelling schema is line old steps others head other a b
+one_list schema is line old steps others head other (inl a) (inr b) = absurd (levels_no_reach schema line a.field a.kind b.aim a.levels b.aims)
+one_list schema is line old steps others head other (inr a) (inl b) = absurd (levels_no_reach schema line b.field b.kind a.aim b.levels a.aims)
+one_list schema is line old steps others head other (inr a) (inr b) = one_reach schema is line old steps others head other a b
+
+-- it is no bad line, and asks no step alone
+not_bad : (schema : SchemaValue) (line : List ℕ) (old steps : List WorldStep) (head : List ℕ) → IsBad schema line → AsksSteps schema line old steps head → ⊥
+not_bad schema line old steps head bad (inl a) = bad.1 a.field a.kind a.levels
+not_bad schema line old steps head bad (inr a) = bad.2 a.aim a.aims
+
+not_alone : (schema : SchemaValue) (line : List ℕ) (old steps : List WorldStep) (step : WorldStep) (head : List ℕ) → Asks schema line step → AsksSteps schema line old steps head → ⊥
+not_alone schema line old steps step head asks (inl a) = no_both schema line step a.field a.kind asks a.levels
+not_alone schema line old steps step head asks (inr a) = asks_no_reach schema line step a.aim asks a.aims
 
 -- lines ask one list of steps
-next_steps : (schema : SchemaValue) → IsSchema schema → (line : List ℕ) (old new was now : List WorldStep) (text again : List ℕ)
-    → old ≡ was → IsAnswer schema line old new text → IsAnswer schema line was now again → new ≡ now
-next_steps schema is line old new was now text again same (inl a) (inl b) = a.1 ∙ same ∙ sym b.1
-next_steps schema is line old new was now text again same (inl a) (inr (inl b)) = absurd (a.0.0 b.0 b.1)
-next_steps schema is line old new was now text again same (inl a) (inr (inr b)) = absurd (a.0.1 b.field b.kind b.levels)
-next_steps schema is line old new was now text again same (inr (inl a)) (inl b) = absurd (b.0.0 a.0 a.1)
-next_steps schema is line old new was now text again same (inr (inl a)) (inr (inl b)) =
-    a.2 ∙ ap (λ (x : WorldStep). x ∷ old) (only_asked schema is line a.0 b.0 a.1 b.1) ∙ ap (λ (l : List WorldStep). b.0 ∷ l) same ∙ sym b.2
-next_steps schema is line old new was now text again same (inr (inl a)) (inr (inr b)) = absurd (no_both schema line a.0 b.field b.kind a.1 b.levels)
-next_steps schema is line old new was now text again same (inr (inr a)) (inl b) = absurd (b.0.1 a.field a.kind a.levels)
-next_steps schema is line old new was now text again same (inr (inr a)) (inr (inl b)) = absurd (no_both schema line b.0 a.field a.kind b.1 a.levels)
-next_steps schema is line old new was now text again same (inr (inr a)) (inr (inr b)) =
-    a.taken ∙ ap (λ (l : List WorldStep). reverse l ++ old) (only_gifts schema is line old new was now text again same a b)
-    ∙ ap (λ (l : List WorldStep). reverse b.gifts ++ l) same ∙ sym b.taken
+next_steps : (schema : SchemaValue) → IsSchema schema → (line : List ℕ) (old new now : List WorldStep) (text again : List ℕ)
+    → IsAnswer schema line old new text → IsAnswer schema line old now again → new ≡ now
+next_steps schema is line old new now text again (inl a) (inl b) = a.1 ∙ sym b.1
+next_steps schema is line old new now text again (inl a) (inr (inl b)) = absurd (a.0.0 b.0 b.1)
+next_steps schema is line old new now text again (inl a) (inr (inr b)) = absurd (not_bad schema line old b.steps b.head a.0 b.asked)
+next_steps schema is line old new now text again (inr (inl a)) (inl b) = absurd (b.0.0 a.0 a.1)
+next_steps schema is line old new now text again (inr (inl a)) (inr (inl b)) =
+    a.2 ∙ ap (λ (x : WorldStep). x ∷ old) (only_asked schema is line a.0 b.0 a.1 b.1) ∙ sym b.2
+next_steps schema is line old new now text again (inr (inl a)) (inr (inr b)) = absurd (not_alone schema line old b.steps a.0 b.head a.1 b.asked)
+next_steps schema is line old new now text again (inr (inr a)) (inl b) = absurd (not_bad schema line old a.steps a.head b.0 a.asked)
+next_steps schema is line old new now text again (inr (inr a)) (inr (inl b)) = absurd (not_alone schema line old a.steps b.0 a.head b.1 a.asked)
+next_steps schema is line old new now text again (inr (inr a)) (inr (inr b)) =
+    a.taken ∙ ap (λ (l : List WorldStep). reverse l ++ old) (one_list schema is line old a.steps b.steps a.head b.head a.asked b.asked).0 ∙ sym b.taken
 
 all_steps : (schema : SchemaValue) → IsSchema schema → (lines : List (List ℕ)) (steps others : List WorldStep) (text again : List ℕ)
     → AreAnswers schema lines steps text → AreAnswers schema lines others again → steps ≡ others
 all_steps schema is [] steps others text again a b = a.0 ∙ sym b.0
 all_steps schema is (line ∷ before) steps others text again a b =
-    next_steps schema is line a.0 steps b.0 others a.1.1 b.1.1 (all_steps schema is before a.0 b.0 a.1.0 b.1.0 a.1.2 b.1.2) a.1.3 b.1.3
+    let same = all_steps schema is before a.0 b.0 a.1.0 b.1.0 a.1.2 b.1.2 in
+    next_steps schema is line b.0 steps others a.1.1 b.1.1 (subst (λ (l : List WorldStep). IsAnswer schema line l steps a.1.1) same a.1.3) b.1.3
 
 -- and each step has one reply
 
@@ -82,30 +105,26 @@ one_replies schema earlier (step ∷ before) text again (front, last, fronts, is
     ∙ ap (λ (l : List ℕ). fore ++ l) (one_reply schema (before ++ earlier) step last end is was) ∙ sym whole
 
 -- so that with one list of steps they have one text
-level_text_same : (schema : SchemaValue) → IsSchema schema → (line : List ℕ) (old new now : List WorldStep) (text again : List ℕ)
-    → IsLevelled schema line old new text → IsLevelled schema line old now again → text ≡ again
-level_text_same schema is line old new now text again a b =
-    let one = one_level schema is line a.field b.field a.kind b.kind a.levels b.levels in
-    let gifts : a.gifts ≡ b.gifts = only_gifts schema is line old new old now text again refl a b in
+carried_text : (schema : SchemaValue) → IsSchema schema → (line : List ℕ) (old new now : List WorldStep) (text again : List ℕ)
+    → IsCarriedOut schema line old new text → IsCarriedOut schema line old now again → text ≡ again
+carried_text schema is line old new now text again a b =
+    let one = one_list schema is line old a.steps b.steps a.head b.head a.asked b.asked in
     let replies : a.replies ≡ b.replies =
-    one_replies schema old (reverse b.gifts) a.replies b.replies (subst (λ (l : List WorldStep). AreReplies schema old (reverse l) a.replies) gifts a.answered) b.answered in
-    let head : line_text (moves_text schema a.field a.kind (length a.gifts)) ≡ line_text (moves_text schema b.field b.kind (length b.gifts)) =
-    ap (λ (f : FieldNo). line_text (moves_text schema f a.kind (length a.gifts))) one.0
-    ∙ ap (λ (k : Kind). line_text (moves_text schema b.field k (length a.gifts))) one.1 ∙ ap (λ (l : List WorldStep). line_text (moves_text schema b.field b.kind (length l))) gifts in
-    a.written ∙ ap (λ (l : List ℕ). l ++ a.replies) head ∙ ap (λ (l : List ℕ). line_text (moves_text schema b.field b.kind (length b.gifts)) ++ l) replies ∙ sym b.written
+    one_replies schema old (reverse b.steps) a.replies b.replies (subst (λ (l : List WorldStep). AreReplies schema old (reverse l) a.replies) one.0 a.answered) b.answered in
+    a.written ∙ ap (λ (l : List ℕ). line_text l ++ a.replies) one.1 ∙ ap (λ (l : List ℕ). line_text b.head ++ l) replies ∙ sym b.written
 
 next_text : (schema : SchemaValue) → IsSchema schema → (line : List ℕ) (old new now : List WorldStep) (text again : List ℕ)
     → IsAnswer schema line old new text → IsAnswer schema line old now again → text ≡ again
 next_text schema is line old new now text again (inl a) (inl b) = a.2 ∙ sym b.2
 next_text schema is line old new now text again (inl a) (inr (inl b)) = absurd (a.0.0 b.0 b.1)
-next_text schema is line old new now text again (inl a) (inr (inr b)) = absurd (a.0.1 b.field b.kind b.levels)
+next_text schema is line old new now text again (inl a) (inr (inr b)) = absurd (not_bad schema line old b.steps b.head a.0 b.asked)
 next_text schema is line old new now text again (inr (inl a)) (inl b) = absurd (b.0.0 a.0 a.1)
 next_text schema is line old new now text again (inr (inl a)) (inr (inl b)) =
     one_reply schema old b.0 text again (subst (λ (x : WorldStep). IsReply schema old x text) (only_asked schema is line a.0 b.0 a.1 b.1) a.3) b.3
-next_text schema is line old new now text again (inr (inl a)) (inr (inr b)) = absurd (no_both schema line a.0 b.field b.kind a.1 b.levels)
-next_text schema is line old new now text again (inr (inr a)) (inl b) = absurd (b.0.1 a.field a.kind a.levels)
-next_text schema is line old new now text again (inr (inr a)) (inr (inl b)) = absurd (no_both schema line b.0 a.field a.kind b.1 a.levels)
-next_text schema is line old new now text again (inr (inr a)) (inr (inr b)) = level_text_same schema is line old new now text again a b
+next_text schema is line old new now text again (inr (inl a)) (inr (inr b)) = absurd (not_alone schema line old b.steps a.0 b.head a.1 b.asked)
+next_text schema is line old new now text again (inr (inr a)) (inl b) = absurd (not_bad schema line old a.steps a.head b.0 a.asked)
+next_text schema is line old new now text again (inr (inr a)) (inr (inl b)) = absurd (not_alone schema line old a.steps b.0 a.head b.1 a.asked)
+next_text schema is line old new now text again (inr (inr a)) (inr (inr b)) = carried_text schema is line old new now text again a b
 
 all_text : (schema : SchemaValue) → IsSchema schema → (lines : List (List ℕ)) (steps others : List WorldStep) (text again : List ℕ)
     → AreAnswers schema lines steps text → AreAnswers schema lines others again → text ≡ again

@@ -5,6 +5,7 @@ use Rattle.std.proofs.Math.Seq.{take-append-add}
 use Rattle.std.proofs.lemmas.Bool.{cases_lt}
 use Rattle.field_bounds.specs.Schema.{SchemaValue}
 use Rattle.field_bounds.specs.Header.{schema_of}
+use Rattle.field_bounds.specs.Limits.{IsSchema}
 use Rattle.field_bounds.proofs.Alone.{schema_of-limits}
 use Rattle.escrow_script.specs.declared.machine.Machine.{Machine}
 use Rattle.world_steps.specs.declared.step.WorldStep.{WorldStep}
@@ -12,9 +13,10 @@ use Rattle.world_steps.specs.View.{WorldValue}
 use Rattle.world_steps.proofs.Sound.{StepsFit}
 use Rattle.world_steps.proofs.Living.{one_store}
 use Rattle.entry_text.specs.Lines.{max_line}
-use Rattle.escrow_script.specs.Text.{line_text, trace, IsAnswer, AreAnswers, HasText}
+use Rattle.escrow_script.specs.Text.{line_text, trace, AsksSteps, IsAnswer, AreAnswers, HasText}
 use Rattle.escrow_script.specs.Run.{with_piece, kept, Answered, Moves, StandsFor}
 use Rattle.escrow_script.proofs.LevelLemmas.{level_fits}
+use Rattle.escrow_script.proofs.AimLemmas.{reach_fits}
 
 -- ---- as much of a line as is kept
 
@@ -29,10 +31,21 @@ IsAnswer-kept : (schema : SchemaValue) (line : List ℕ) (old new : List WorldSt
 IsAnswer-kept schema line old new text answer = elim (kept_cases line) [
   | inl e ↦ subst (λ l. IsAnswer schema l old new text) e answer
   | inr long ↦ elim answer [
-    | inl bad ↦ inl (((λ step asks. omega (arith, asks.short, long.0)), (λ field kind levels. omega (arith, levels.short, long.0))), bad.1, bad.2)
+    | inl bad ↦ inl (
+      (
+        (λ step asks. omega (arith, asks.short, long.0)),
+        (λ field kind levels. omega (arith, levels.short, long.0)),
+        (λ aim aims. omega (arith, aims.short, long.0)),
+      ),
+      bad.1,
+      bad.2,
+    )
     | inr good ↦ elim good [
       | inl asked ↦ absurd (omega (arith, asked.1.short, long.1))
-      | inr levelled ↦ absurd (omega (arith, levelled.levels.short, long.1))
+      | inr carried ↦ elim carried.asked [
+        | inl level ↦ absurd (omega (arith, level.levels.short, long.1))
+        | inr reach ↦ absurd (omega (arith, reach.aims.short, long.1))
+      ]
     ]
   ]
 ]
@@ -63,18 +76,24 @@ with_piece-kept (Some m) line piece = take_of_append (max_line + 1) line piece
 
 -- ---- one more line
 
--- the steps that lines ask are steps that a world takes
-answers_fit : (schema : SchemaValue) (lines : List (List ℕ)) (steps : List WorldStep) (text : List ℕ) → AreAnswers schema lines steps text → StepsFit schema steps
-answers_fit schema [] steps text answers = subst (λ (l : List WorldStep). StepsFit schema l) (sym answers.0) tt
-answers_fit schema (line ∷ before) steps text answers =
-    let earlier = answers_fit schema before answers.0 answers.1.0 answers.1.2 in
+-- the steps that a line asks together are steps that a world takes
+carried_fit : (schema : SchemaValue) → IsSchema schema → (line : List ℕ) (old steps : List WorldStep) (head : List ℕ) → StepsFit schema old → AsksSteps schema line old steps head
+    → StepsFit schema (reverse steps ++ old)
+carried_fit schema is line old steps head earlier (inl level) =
+    subst (λ (l : List WorldStep). StepsFit schema (reverse l ++ old)) (sym level.steps_are) (level_fits schema (trace schema old) level.field level.kind old earlier)
+carried_fit schema is line old steps head earlier (inr reach) = reach_fits schema is line old steps head earlier reach
+
+-- and so are those that lines ask
+answers_fit : (schema : SchemaValue) → IsSchema schema → (lines : List (List ℕ)) (steps : List WorldStep) (text : List ℕ) → AreAnswers schema lines steps text → StepsFit schema steps
+answers_fit schema is [] steps text answers = subst (λ (l : List WorldStep). StepsFit schema l) (sym answers.0) tt
+answers_fit schema is (line ∷ before) steps text answers =
+    let earlier = answers_fit schema is before answers.0 answers.1.0 answers.1.2 in
     elim answers.1.3 [
       | inl bad ↦ subst (λ (l : List WorldStep). StepsFit schema l) (sym bad.1) earlier
       | inr good ↦ elim good [
         | inl asked ↦ subst (λ (l : List WorldStep). StepsFit schema l) (sym asked.2) (earlier, asked.1.fits)
-        | inr levelled ↦
-            subst (λ (l : List WorldStep). StepsFit schema l) (sym (levelled.taken ∙ ap (λ (l : List WorldStep). reverse l ++ answers.0) levelled.gifts_are))
-            (level_fits schema (trace schema answers.0) levelled.field levelled.kind answers.0 earlier)
+        | inr carried ↦
+            subst (λ (l : List WorldStep). StepsFit schema l) (sym carried.taken) (carried_fit schema is line answers.0 carried.steps carried.head earlier carried.asked)
       ]
     ]
 
@@ -84,6 +103,7 @@ HasText-more : (schema : SchemaValue) (old new : List WorldStep) (lines : List (
 HasText-more schema old new lines line text reply has answer =
     let back : reverse (has.behind ++ line ∷ []) ≡ line ∷ reverse has.behind = reverse-append has.behind (line ∷ []) in
     let answers : AreAnswers schema (line ∷ reverse has.behind) new (has.body ++ reply) = (old, (has.body, reply, has.answers, answer, refl)) in
+    let is = schema_of-limits has.header schema has.start in
     record {
       header = has.header;
       behind = has.behind ++ line ∷ [];
@@ -91,7 +111,7 @@ HasText-more schema old new lines line text reply has answer =
       parts = ap (λ l. l ++ line ∷ []) has.parts;
       start = has.start;
       answers = subst (λ ls. AreAnswers schema ls new (has.body ++ reply)) (sym back) answers;
-      one_store = one_store schema (schema_of-limits has.header schema has.start) new (answers_fit schema (line ∷ reverse has.behind) new (has.body ++ reply) answers);
+      one_store = one_store schema is new (answers_fit schema is (line ∷ reverse has.behind) new (has.body ++ reply) answers);
       written = ap (λ t. t ++ reply) has.written ∙ append_assoc (line_text has.header) has.body reply;
     }
 

@@ -1,6 +1,6 @@
 -- What a script writes for the lines that it reads (this project). Lists of lines, of steps and of entries here have the
 -- newest first.
-use Rattle.std.specs.Prelude.{◌≡◌, ℕ, ◌^◌, ◌<◌, ◌≤◌, ◌⊎◌, List, [], ◌∷◌, ◌++◌, length, reverse, Ok, None, codes}
+use Rattle.std.specs.Prelude.{◌≡◌, ℕ, ◌^◌, ◌<◌, ◌≤◌, ◌⊎◌, List, [], ◌∷◌, ◌++◌, length, reverse, Option, Some, None, Ok, codes}
 use Rattle.std.specs.Fmt.{decimal}
 use Rattle.field_bounds.specs.Schema.{SchemaValue}
 use Rattle.field_bounds.specs.Header.{schema_of}
@@ -17,7 +17,11 @@ use Rattle.world_steps.specs.declared.step.WorldStep.{WorldStep}
 use Rattle.world_steps.specs.declared.step.WorldStep.TheVariants.{Do, Deliver}
 use Rattle.world_steps.specs.World.{asked, luck_of, StepFits, world_of}
 use Rattle.world_steps.specs.Promises.{IsOneStore}
+use Rattle.reaching_steps.specs.declared.fault.ReachFault.{ReachFault}
+use Rattle.reaching_steps.specs.Reach.{reach_steps, reach_fault}
+use Rattle.escrow_script.specs.declared.aim.Aim.{Aim}
 use Rattle.escrow_script.specs.Level.{level_text, Levels, level_gifts}
+use Rattle.escrow_script.specs.Reach.{reach_text, Aims, IsReason}
 
 -- A line and its LF (10).
 abbrev pub line_text : List ℕ → List ℕ
@@ -65,9 +69,13 @@ AsksNone schema line = (step : WorldStep) → Asks schema line step → ⊥
 abbrev pub LevelsNone : SchemaValue → List ℕ → Type 0
 LevelsNone schema line = (field : FieldNo) (kind : Kind) → Levels schema line field kind → ⊥
 
--- A bad line does neither.
+-- A line reaches for nothing.
+abbrev pub AimsNone : SchemaValue → List ℕ → Type 0
+AimsNone schema line = (aim : Aim) → Aims schema line aim → ⊥
+
+-- A bad line does none of these.
 abbrev pub IsBad : SchemaValue → List ℕ → Type 0
-IsBad schema line = AsksNone schema line × LevelsNone schema line
+IsBad schema line = AsksNone schema line × LevelsNone schema line × AimsNone schema line
 
 -- ---- what answers it
 
@@ -96,26 +104,52 @@ AreReplies schema earlier (step ∷ before) text =
 abbrev pub moves_text : SchemaValue → FieldNo → Kind → ℕ → List ℕ
 moves_text schema field kind count = level_text schema field kind ++ codes " -> moves " ++ decimal count
 
--- What answers a line that levels a field, and the steps before and after it: the count of the gifts, and then what
--- answers each gift.
-pub record IsLevelled (schema : SchemaValue) (line : List ℕ) (old new : List WorldStep) (text : List ℕ) : Type 0 where
+-- What a line asks that levels a field, where earlier steps were taken: the gifts, headed by their count.
+pub record AsksLevel (schema : SchemaValue) (line : List ℕ) (earlier steps : List WorldStep) (head : List ℕ) : Type 0 where
   pub field : FieldNo
   pub kind : Kind
-  pub gifts : List WorldStep
-  pub replies : List ℕ
   pub levels : Levels schema line field kind
-  pub gifts_are : gifts ≡ level_gifts schema (trace schema old) field kind
-  pub taken : new ≡ reverse gifts ++ old
-  pub answered : AreReplies schema old (reverse gifts) replies
-  pub written : text ≡ line_text (moves_text schema field kind (length gifts)) ++ replies
+  pub steps_are : steps ≡ level_gifts schema (trace schema earlier) field kind
+  pub head_is : head ≡ moves_text schema field kind (length steps)
+
+-- What is taken to reach a value, by the first fault that there is: where there is none, the steps at the other sites,
+-- headed by their count; else no step, headed by the reason.
+abbrev pub IsReached : SchemaValue → Aim → List WorldStep → Option ReachFault → List WorldStep → List ℕ → Type 0
+IsReached schema aim earlier None steps head =
+    (steps ≡ reach_steps schema (reverse earlier) aim.site aim.field aim.target)
+    × (head ≡ reach_text schema aim ++ codes " -> steps " ++ decimal (length steps))
+IsReached schema aim earlier (Some fault) steps head =
+    (steps ≡ []) × ((word : List ℕ) × IsReason fault word × (head ≡ reach_text schema aim ++ codes " -> no " ++ word))
+
+-- What a line asks that reaches for a value, where earlier steps were taken.
+pub record AsksReach (schema : SchemaValue) (line : List ℕ) (earlier steps : List WorldStep) (head : List ℕ) : Type 0 where
+  pub aim : Aim
+  pub aims : Aims schema line aim
+  pub reached : IsReached schema aim earlier (reach_fault schema (trace schema earlier) aim.site aim.field aim.target) steps head
+
+-- The steps that a line asks together, where earlier steps were taken, and the head of what answers it.
+abbrev pub AsksSteps : SchemaValue → List ℕ → List WorldStep → List WorldStep → List ℕ → Type 0
+AsksSteps schema line earlier steps head =
+    AsksLevel schema line earlier steps head ⊎ AsksReach schema line earlier steps head
+
+-- What answers a line that asks steps together, and the steps before and after it: the head, and then what answers each
+-- step.
+pub record IsCarriedOut (schema : SchemaValue) (line : List ℕ) (old new : List WorldStep) (text : List ℕ) : Type 0 where
+  pub steps : List WorldStep
+  pub head : List ℕ
+  pub replies : List ℕ
+  pub asked : AsksSteps schema line old steps head
+  pub taken : new ≡ reverse steps ++ old
+  pub answered : AreReplies schema old (reverse steps) replies
+  pub written : text ≡ line_text head ++ replies
 
 -- What answers a line, and the steps before and after it: a bad line is answered by `bad line`, a line that asks a step by
--- what answers that one more step, and a line that levels a field by the count of the gifts and what answers them.
+-- what answers that one more step, and a line that levels a field or reaches for a value by what answers its steps.
 abbrev pub IsAnswer : SchemaValue → List ℕ → List WorldStep → List WorldStep → List ℕ → Type 0
 IsAnswer schema line old new text =
     (IsBad schema line × (new ≡ old) × (text ≡ line_text (codes "bad line")))
     ⊎ (((step : WorldStep) × Asks schema line step × (new ≡ step ∷ old) × IsReply schema old step text)
-    ⊎ IsLevelled schema line old new text)
+    ⊎ IsCarriedOut schema line old new text)
 
 -- What answers lines, one after another.
 abbrev pub AreAnswers : SchemaValue → List (List ℕ) → List WorldStep → List ℕ → Type 0

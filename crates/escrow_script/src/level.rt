@@ -3,14 +3,12 @@
 ghost use Rattle.std.specs.Prelude.{◌≡◌, ◌<◌, ◌^◌, IfOk, length, map, sum};
 ghost use Rattle.world_steps.specs.View.{trace_of};
 ghost use Rattle.escrow_script.specs.Level.{sites_up, free_at, gift_of};
-ghost use Rattle.kept_state.specs.declared.luck.Luck.TheVariants.{Fine};
-ghost use Rattle.world_steps.specs.declared.step.WorldStep.TheVariants.{Do};
 
 use crate::line::Level;
 use field_bounds::{Command, Kind, SiteNo};
 use rebalance::Move;
 use std::alloc::{AllocError, Global};
-use world_steps::World;
+use world_steps::{Luck, World, WorldStep};
 
 /// The sites of a world that are up, in order, and the free rights that each has of one kind on one
 /// field.
@@ -56,11 +54,11 @@ pub(crate) fn sites_up(alloc: Global, world: &World, level: Level) -> Result<Sit
     Ok(up)
 }
 
-/// The giver of a move among some sites, and the gift that carries it out.
-pub(crate) fn gift(sites: &[SiteNo], level: Level, planned: &Move) -> (SiteNo, Command)
+/// The gift that carries out a move among some sites.
+pub(crate) fn gift(sites: &[SiteNo], level: Level, planned: &Move) -> WorldStep
     requires from { planned.now.from < length sites.now }
     requires to { planned.now.to < length sites.now }
-    ensures { Do result.0 result.1 Fine ≡ gift_of sites.now level.field level.kind planned.now }
+    ensures { result ≡ gift_of sites.now level.field level.kind planned.now }
 {
     let give = Command::Give {
         to: sites[planned.to],
@@ -68,5 +66,9 @@ pub(crate) fn gift(sites: &[SiteNo], level: Level, planned: &Move) -> (SiteNo, C
         kind: level.kind,
         amount: planned.amount,
     };
-    (sites[planned.from], give)
+    WorldStep::Do {
+        site: sites[planned.from],
+        command: give,
+        luck: Luck::Fine,
+    }
 }

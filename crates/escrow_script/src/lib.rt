@@ -2,6 +2,7 @@
 //! writer.
 #![tactic(auto)]
 
+mod aim;
 mod laws;
 mod level;
 mod line;

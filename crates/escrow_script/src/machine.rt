@@ -1,6 +1,6 @@
 //! The world that a header line starts, and its answers to the lines behind it.
 
-ghost use Rattle.std.specs.Prelude.{◌≡◌, ℕ, [], ◌∷◌, ◌++◌, ◌<◌, ◌≤◌, length, take, map, All, codes, Ok, OnOk, OnErr, IfOk, IfErr};
+ghost use Rattle.std.specs.Prelude.{◌≡◌, ℕ, [], ◌∷◌, ◌++◌, ◌<◌, ◌≤◌, length, take, map, All, codes, Ok, OnOk, OnErr, IfOk, IfErr, None};
 ghost use Rattle.std.specs.Fmt.{decimal};
 ghost use Rattle.field_bounds.specs.Header.{schema_of};
 ghost use Rattle.script_input.specs.Faults.{TellsHeader};
@@ -8,15 +8,17 @@ ghost use Rattle.entry_text.specs.Spelling.{reply_text, entry_text};
 ghost use Rattle.escrow_script.specs.Text.{line_text, plain_text};
 ghost use Rattle.escrow_script.specs.Run.{IsMadeBy};
 
+use crate::aim::{Aim, line_aim, reason};
 use crate::level::{gift, sites_up};
 use crate::line::{Asked, Level, line_level, line_step};
 use entry_text::{append_entry, append_reply};
-use field_bounds::{Command, Entry, Reply, Schema, SiteNo};
+use field_bounds::{Entry, Reply, Schema, SiteNo};
 use itoa::Buffer;
+use reaching_steps::reach;
 use rebalance::{Move, plan_even};
 use script_input::ScriptFault;
 use std::alloc::{AllocError, Global};
-use world_steps::{Luck, StepReply, World, WorldStep};
+use world_steps::{StepReply, World, WorldStep};
 
 // Adds a piece, or, where memory is refused, cuts back to the first `kept` bytes.
 #[inline]
@@ -116,17 +118,45 @@ fn add_made(
     }
 }
 
-// Adds how many gifts a line levels a field by, or changes nothing where memory is refused.
-fn add_moves(out: &mut Vec<u8>, line: &[u8], moves: usize) -> Result<(), AllocError>
+// Adds a line, some words behind it, a count and an LF, or changes nothing where memory is refused.
+fn add_count(out: &mut Vec<u8>, line: &[u8], words: &[u8], count: usize) -> Result<(), AllocError>
     ensures ok { OnOk result (out.new.items
-        ≡ out.old.items ++ line_text (line.now ++ codes " -> moves " ++ decimal moves)) }
+        ≡ out.old.items ++ line_text (line.now ++ words.now ++ decimal count)) }
     ensures err { OnErr result (out.new.items ≡ out.old.items) }
 {
     let kept = out.len();
     let mut buffer = Buffer::new();
     add(out, kept, line)?;
-    add(out, kept, b" -> moves ")?;
-    add(out, kept, buffer.format(moves as u64).as_bytes())?;
+    add(out, kept, words)?;
+    add(out, kept, buffer.format(count as u64).as_bytes())?;
+    add(out, kept, b"\n")
+}
+
+// Adds a line, why it reaches for a value in vain, and an LF, or changes nothing where memory is
+// refused.
+fn add_reason(out: &mut Vec<u8>, line: &[u8], word: &str) -> Result<(), AllocError>
+    ensures ok { OnOk result (out.new.items
+        ≡ out.old.items ++ line_text (line.now ++ codes " -> no " ++ word.now)) }
+    ensures err { OnErr result (out.new.items ≡ out.old.items) }
+{
+    let kept = out.len();
+    add(out, kept, line)?;
+    add(out, kept, b" -> no ")?;
+    add(out, kept, word.as_bytes())?;
+    add(out, kept, b"\n")
+}
+
+// Adds the remark on a delivery of no statement, or changes nothing where memory is refused.
+fn add_undelivered(out: &mut Vec<u8>, k: u64) -> Result<(), AllocError>
+    ensures ok { OnOk result (out.new.items
+        ≡ out.old.items ++ line_text ((codes "deliver " ++ decimal k) ++ codes " -> refused 16 no statement")) }
+    ensures err { OnErr result (out.new.items ≡ out.old.items) }
+{
+    let kept = out.len();
+    let mut buffer = Buffer::new();
+    add(out, kept, b"deliver ")?;
+    add(out, kept, buffer.format(k).as_bytes())?;
+    add(out, kept, b" -> refused 16 no statement")?;
     add(out, kept, b"\n")
 }
 
@@ -139,11 +169,12 @@ pub(crate) struct Machine {
 }
 
 impl Machine {
-    ghost use Rattle.kept_state.specs.declared.luck.Luck.TheVariants.{Fine};
     ghost use Rattle.rebalance.specs.declared.even_plan.Move.{Move as MoveType};
-    ghost use Rattle.world_steps.specs.declared.step.WorldStep.TheVariants.{Do};
     ghost use Rattle.world_steps.specs.World.{StepFits};
+    ghost use Rattle.world_steps.specs.View.{trace_of};
+    ghost use Rattle.reaching_steps.specs.Reach.{reach_steps, reach_fault};
     ghost use Rattle.escrow_script.specs.Level.{Levels, gift_of};
+    ghost use Rattle.escrow_script.specs.Reach.{Aims};
     ghost use Rattle.escrow_script.specs.Run.{Answered, HasTaken};
 
     /// The world that a header line, without its LF, starts.
@@ -180,28 +211,43 @@ impl Machine {
         }
     }
 
-    // Asks a site a command, with its append whole, and adds the text of the entry.
-    fn ask(
+    // Takes a step, and adds the text of its entry, or the remark.
+    fn take_step(
         &mut self,
         alloc: Global,
-        site: SiteNo,
-        command: Command,
+        step: &WorldStep,
         out: &mut Vec<u8>,
     ) -> Result<(), AllocError>
-        requires fits { StepFits self.old.world.schema (Do site command Fine) }
-        ensures ok { OnOk result (HasTaken (Do site command Fine ∷ []) self.old.world self.new.world
+        requires fits { StepFits self.old.world.schema step.now }
+        ensures ok { OnOk result (HasTaken (step.now ∷ []) self.old.world self.new.world
             out.old.items out.new.items) }
         ensures err { OnErr result (out.new.items ≡ out.old.items) }
     {
-        let step = WorldStep::Do {
-            site,
-            command,
-            luck: Luck::Fine,
-        };
-        match self.world.step(alloc, &step)? {
-            StepReply::NoStatement => unreachable!(),
+        match self.world.step(alloc, step)? {
             StepReply::Made(entry) => add_whole(out, &mut self.text, self.world.schema(), entry),
+            StepReply::NoStatement => match *step {
+                WorldStep::Do { .. } => unreachable!(),
+                WorldStep::Deliver { k, .. } => add_undelivered(out, k),
+            },
         }
+    }
+
+    // Takes steps one after another, and adds what answers each.
+    fn take_steps(
+        &mut self,
+        alloc: Global,
+        steps: &[WorldStep],
+        out: &mut Vec<u8>,
+    ) -> Result<(), AllocError>
+        requires fit { All (StepFits self.old.world.schema) steps.now }
+        ensures ok { OnOk result (HasTaken steps.now self.old.world self.new.world
+            out.old.items out.new.items) }
+        ensures err { OnErr result (take (length out.old.items) out.new.items ≡ out.old.items) }
+    {
+        for step in steps {
+            self.take_step(alloc, step, out)?;
+        }
+        Ok(())
     }
 
     // Takes the gifts of a plan one after another, and adds the text of the entry of each.
@@ -220,14 +266,13 @@ impl Machine {
         ensures err { OnErr result (take (length out.old.items) out.new.items ≡ out.old.items) }
     {
         for planned in plan {
-            let (site, command) = gift(sites, level, planned);
-            self.ask(alloc, site, command, out)?;
+            self.take_step(alloc, &gift(sites, level, planned), out)?;
         }
         Ok(())
     }
 
     // Adds how many gifts a line levels a field by, then takes them.
-    fn carry_out(
+    fn level(
         &mut self,
         alloc: Global,
         line: &[u8],
@@ -242,35 +287,79 @@ impl Machine {
         let up = sites_up(alloc, &self.world, level)?;
         let plan = plan_even(alloc, up.shares.as_slice())?;
         let moves = plan.as_slice();
-        add_moves(out, line, moves.len())?;
+        add_count(out, line, b" -> moves ", moves.len())?;
         self.take_gifts(alloc, up.sites.as_slice(), level, moves, out)
     }
 
-    // Levels a field: adds how many gifts that takes, and the text of the entry of each. Where memory
-    // is refused nothing is added.
-    fn level(
+    // Adds how many steps reach a value, then takes them.
+    fn carry_out(
         &mut self,
         alloc: Global,
         line: &[u8],
-        level: Level,
+        aim: Aim,
+        steps: &[WorldStep],
         out: &mut Vec<u8>,
     ) -> Result<(), AllocError>
-        requires levels { Levels self.old.world.schema line.now level.field level.kind }
+        requires aims { Aims self.old.world.schema line.now aim }
+        requires fit { All (StepFits self.old.world.schema) steps.now }
+        requires clear { reach_fault self.old.world.schema (trace_of self.old.world) aim.site aim.field aim.target ≡ None }
+        requires steps { steps.now ≡ reach_steps self.old.world.schema self.old.world.steps aim.site aim.field aim.target }
         ensures ok { OnOk result (Answered line.now self.old.world self.new.world
             out.old.items out.new.items) }
-        ensures err { OnErr result (out.new.items ≡ out.old.items) }
+        ensures err { OnErr result (take (length out.old.items) out.new.items ≡ out.old.items) }
     {
-        let kept = out.len();
-        if self.carry_out(alloc, line, level, out).is_err() {
-            out.truncate(kept);
-            return Err(AllocError);
-        }
-        Ok(())
+        add_count(out, line, b" -> steps ", steps.len())?;
+        self.take_steps(alloc, steps, out)
     }
 
-    /// Answers a line, without its LF: adds the text of the entry, a remark, the count of the gifts
-    /// that level a field with the texts of their entries, or `bad line`. Where memory is refused
-    /// nothing is added.
+    // Reaches a value: adds how many steps that takes, and what answers each, or why it isn't reached.
+    fn reach_for(
+        &mut self,
+        alloc: Global,
+        line: &[u8],
+        aim: Aim,
+        out: &mut Vec<u8>,
+    ) -> Result<(), AllocError>
+        requires aims { Aims self.old.world.schema line.now aim }
+        ensures ok { OnOk result (Answered line.now self.old.world self.new.world
+            out.old.items out.new.items) }
+        ensures err { OnErr result (take (length out.old.items) out.new.items ≡ out.old.items) }
+    {
+        match reach(alloc, &self.world, aim.site, aim.field, aim.target) {
+            Ok(steps) => self.carry_out(alloc, line, aim, steps.as_slice(), out),
+            Err(fault) => match reason(fault) {
+                Some(word) => add_reason(out, line, word),
+                None => Err(AllocError),
+            },
+        }
+    }
+
+    // Answers a line. Where memory is refused, a front of the answer may have been added.
+    fn add_answer(
+        &mut self,
+        alloc: Global,
+        line: &[u8],
+        out: &mut Vec<u8>,
+    ) -> Result<(), AllocError>
+        ensures ok { OnOk result (Answered line.now self.old.world self.new.world
+            out.old.items out.new.items) }
+        ensures err { OnErr result (take (length out.old.items) out.new.items ≡ out.old.items) }
+    {
+        if let Some(asked) = line_step(&self.world, line) {
+            return self.take(alloc, &asked, out);
+        }
+        if let Some(level) = line_level(&self.world, line) {
+            return self.level(alloc, line, level, out);
+        }
+        match line_aim(&self.world, line) {
+            Some(aim) => self.reach_for(alloc, line, aim, out),
+            None => add_line(out, b"bad line"),
+        }
+    }
+
+    /// Answers a line, without its LF: adds the text of the entry, a remark, the count of the steps
+    /// that level a field or reach a value with what answers each, why a value isn't reached, or
+    /// `bad line`. Where memory is refused nothing is added.
     pub(crate) fn answer(
         &mut self,
         alloc: Global,
@@ -281,12 +370,11 @@ impl Machine {
             out.old.items out.new.items) }
         ensures err { OnErr result (out.new.items ≡ out.old.items) }
     {
-        if let Some(asked) = line_step(&self.world, line) {
-            return self.take(alloc, &asked, out);
+        let kept = out.len();
+        if self.add_answer(alloc, line, out).is_err() {
+            out.truncate(kept);
+            return Err(AllocError);
         }
-        match line_level(&self.world, line) {
-            Some(level) => self.level(alloc, line, level, out),
-            None => add_line(out, b"bad line"),
-        }
+        Ok(())
     }
 }

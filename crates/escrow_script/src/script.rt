@@ -277,7 +277,7 @@ impl Script {
 }
 
 /// Runs a script: a header line, and then the lines of steps, each answered by a line, or by more where
-/// a field is levelled.
+/// a field is levelled or a value is reached.
 ///
 /// Line 1 is a header, and is written as it was read. Every other line asks a step of a world of
 /// the header's sites: a command, answered by `COMMAND -> REPLY` at the site that it names, or
@@ -286,9 +286,13 @@ impl Script {
 /// `deliver K -> refused 16 no statement`. Such a line may end in ` torn N`: then the append of its
 /// step keeps the first N bytes. `level FIELD KIND` evens out the free rights of a field of the schema
 /// among the sites that are up: it is answered by ` -> moves M` behind the line, and then by the
-/// entries of M gifts, those of the even plan of the sites' shares, one after another. Any other line
-/// is answered by `bad line` and changes nothing. A line ends with LF; a last line without LF counts
-/// where it has at least one byte.
+/// entries of M gifts, those of the even plan of the sites' shares, one after another.
+/// `reach SITE FIELD TARGET` takes the M steps at the other sites after which the committed value of the
+/// field is the target, as `reaching_steps::reach` answers them: it is answered by ` -> steps M` behind
+/// the line, and then by their entries; or, where a fault holds, by ` -> no REASON`, and nothing changes:
+/// REASON is `down`, `flight`, `unstated`, `tightened`, `numbers` or `outside`. Any other line is answered
+/// by `bad line` and changes nothing. A line ends with LF; a last line without LF counts where it has at
+/// least one byte.
 ///
 /// So what is written at Ok is the text of the one trace that the steps make, and that trace is a
 /// run of one central escrow store, with all that `World::trace` says of it: rights are conserved,
@@ -305,7 +309,8 @@ impl Script {
 ///
 /// Output is written before each read, once 64 KiB of it have gathered behind a line, and at the
 /// end. Costs 64 KiB for input and somewhat more for output, and memory for the world, which keeps
-/// each entry in its trace and in its site's history.
+/// each entry in its trace and in its site's history. A line that reaches for a value costs what `reach`
+/// does, so time and memory for all steps so far once more.
 ///
 /// Source: O'Neil 1986 for the central store, Balegas and others 2015 for rights that are divided
 /// among sites and given, this project for the script.

@@ -2,6 +2,7 @@
 
 mod bad_lines;
 mod levels;
+mod reaches;
 
 use crate::{End, ScriptFault, Watched, run_script};
 use field_bounds::SchemaFault;

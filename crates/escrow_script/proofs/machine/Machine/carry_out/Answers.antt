@@ -1,40 +1,17 @@
-use Rattle.std.proofs.Common.{◌++◌, length, map, sym, ap, ◌∙◌, codes}
+use Rattle.std.proofs.Common.{◌++◌, length, refl, codes}
 use Rattle.std.specs.Fmt.{decimal}
-use Rattle.std.proofs.lemmas.List.{length-map}
 use Rattle.std.proofs.lemmas.Result.{on_ok_weaker, on_err_weaker}
-use Rattle.world_steps.specs.View.{trace_of}
-use Rattle.escrow_script.specs.Level.{free_at, gift_of}
 use Rattle.escrow_script.specs.Text.{line_text}
-use Rattle.escrow_script.proofs.LevelLemmas.{sites_in, planned_among, gifts_are}
-use Rattle.escrow_script.proofs.AnswerLemmas.{answered_level, front_stays}
+use Rattle.escrow_script.proofs.AimLemmas.{asks_reach}
+use Rattle.escrow_script.proofs.AnswerLemmas.{answered_many, front_stays}
 use Rattle.escrow_script.proofs.machine.Machine.carry_out.Goals as goal
-
-pub take_gifts-requires-clause-there : goal.take_gifts-requires-clause-there
-take_gifts-requires-clause-there c =
-    let schema = c.args.self.now.world.schema in
-    rw (c.as_slice-2.ensures.value, c.in_ok-up.ensures.sites) (sites_in schema (trace_of c.args.self.now.world))
-
-pub take_gifts-requires-clause-within : goal.take_gifts-requires-clause-within
-take_gifts-requires-clause-within c =
-    let shares = c.as_slice.ensures.value ∙ c.in_ok-up.ensures.shares in
-    let sites = c.as_slice-2.ensures.value in
-    planned_among c.as_slice-2.result.now c.as_slice.result.now c.as_slice-moves.result.now
-    (ap (λ l. length l) shares ∙ length-map c.in_ok-up.up.sites.items _ ∙ ap (λ l. length l) (sym sites))
-    (c.as_slice-moves.ensures.value ∙ c.in_ok-plan.ensures.plan)
 
 pub returns-clause-ok : goal.returns-clause-ok
 returns-clause-ok c =
     let world = c.args.self.now.world in
-    let field = c.args.level.field in
-    let kind = c.args.level.kind in
-    let sites = c.as_slice-2.ensures.value in
-    let shares = c.as_slice.ensures.value ∙ c.in_ok-up.ensures.shares ∙ ap (λ s. map (free_at world.schema (trace_of world) field kind) s) (sym sites) in
-    let gifts = gifts_are world.schema (trace_of world) field kind c.as_slice-2.result.now c.as_slice.result.now c.as_slice-moves.result.now
-    (sites ∙ c.in_ok-up.ensures.sites) shares (c.as_slice-moves.ensures.value ∙ c.in_ok-plan.ensures.plan) in
-    let count = sym (length-map c.as_slice-moves.result.now (gift_of c.as_slice-2.result.now field kind)) in
-    let first = c.in_ok-add_moves.ensures.ok ∙ ap (λ l. c.args.out.now.items ++ line_text (l ++ codes " -> moves " ++ decimal (length c.as_slice-moves.result.now))) c.requires.levels.text in
-    on_ok_weaker c.take_gifts.result (λ took. answered_level c.args.line.now field kind _ (length c.as_slice-moves.result.now) _ _ _ _ _ c.requires.levels gifts count first took) c.take_gifts.ensures.ok
+    let asks = asks_reach world c.args.line.now c.args.aim c.args.steps.now _ c.requires.aims c.requires.clear c.requires.steps refl in
+    on_ok_weaker c.take_steps.result (λ took. answered_many c.args.line.now _ _ world _ _ _ _ asks c.in_ok-add_count.ensures.ok took) c.take_steps.ensures.ok
 
 pub returns-clause-err : goal.returns-clause-err
 returns-clause-err c =
-    on_err_weaker c.take_gifts.result (front_stays c.args.out.now.items (line_text (c.args.line.now ++ codes " -> moves " ++ decimal (length c.as_slice-moves.result.now))) _ _ c.in_ok-add_moves.ensures.ok) c.take_gifts.ensures.err
+    on_err_weaker c.take_steps.result (front_stays c.args.out.now.items (line_text (c.args.line.now ++ codes " -> steps " ++ decimal (length c.args.steps.now))) _ _ c.in_ok-add_count.ensures.ok) c.take_steps.ensures.err

@@ -5,4 +5,4 @@ use Rattle.escrow_script.proofs.machine.Machine.take_gifts.Goals as goal
 pub loop-planned-preserved : goal.loop-planned-preserved
 loop-planned-preserved c =
     took_gift (gift_of c.args.sites.now c.args.level.field c.args.level.kind) c.args.plan.now c.loop-planned.planned-index _ _ _ _ _ _ _ _
-    c.loop-planned-test.true c.gift-command.ensures c.loop-planned.invariant c.in_ok-ask.ensures.ok
+    c.loop-planned-test.true c.gift.ensures c.loop-planned.invariant c.in_ok-take_step.ensures.ok
