@@ -8,7 +8,7 @@ use std::alloc::{AllocError, Global};
 use std::thread::Threads;
 use std::{fs, io};
 
-const WALKTHROUGHS: [&str; 9] = [
+const WALKTHROUGHS: [&str; 10] = [
     "one_gift",
     "two_warehouses",
     "three_desks",
@@ -18,6 +18,7 @@ const WALKTHROUGHS: [&str; 9] = [
     "three_shops",
     "flight_seats",
     "account_limit",
+    "what_a_read_means",
 ];
 
 /// What a script writes; a fault ends it early.
