@@ -1,3 +1,4 @@
+use Rattle.std.proofs.Common.{refl}
 use Rattle.escrow_script.proofs.AnswerLemmas.{took_next}
 use Rattle.escrow_script.proofs.machine.Machine.take_steps.Goals as goal
 

@@ -1,6 +1,6 @@
 use Rattle.std.proofs.lemmas.Result.{on_ok_weaker}
 use Rattle.escrow_script.proofs.AnswerLemmas.{answered_step}
-use Rattle.escrow_script.proofs.machine.Machine.answer.Goals as goal
+use Rattle.escrow_script.proofs.machine.Machine.add_answer.Goals as goal
 
 pub returns-in-Some-clause-ok : goal.returns-in-Some-clause-ok
 returns-in-Some-clause-ok c =
