@@ -14,7 +14,7 @@ use crate::line::{Asked, Level, line_level, line_step};
 use entry_text::{append_entry, append_reply};
 use field_bounds::{Entry, Reply, Schema, SiteNo};
 use itoa::Buffer;
-use reaching_steps::reach;
+use reaching_steps::{ReachFault, reach};
 use rebalance::{Move, plan_even};
 use script_input::ScriptFault;
 use std::alloc::{AllocError, Global};
@@ -172,6 +172,7 @@ impl Machine {
     ghost use Rattle.rebalance.specs.declared.even_plan.Move.{Move as MoveType};
     ghost use Rattle.world_steps.specs.World.{StepFits};
     ghost use Rattle.world_steps.specs.View.{trace_of};
+    ghost use Rattle.reaching_steps.specs.Body.{Explains};
     ghost use Rattle.reaching_steps.specs.Reach.{reach_steps, reach_fault};
     ghost use Rattle.escrow_script.specs.Level.{Levels, gift_of};
     ghost use Rattle.escrow_script.specs.Reach.{Aims};
@@ -312,6 +313,27 @@ impl Machine {
         self.take_steps(alloc, steps, out)
     }
 
+    // Adds why a value isn't reached; want of memory is the error.
+    fn give_up(
+        &self,
+        line: &[u8],
+        aim: Aim,
+        fault: ReachFault,
+        out: &mut Vec<u8>,
+    ) -> Result<(), AllocError>
+        requires aims { Aims self.now.world.schema line.now aim }
+        requires why { Explains fault
+            (reach_fault self.now.world.schema (trace_of self.now.world) aim.site aim.field aim.target) }
+        ensures ok { OnOk result (Answered line.now self.now.world self.now.world
+            out.old.items out.new.items) }
+        ensures err { OnErr result (out.new.items ≡ out.old.items) }
+    {
+        match reason(fault) {
+            Some(word) => add_reason(out, line, word),
+            None => Err(AllocError),
+        }
+    }
+
     // Reaches a value: adds how many steps that takes, and what answers each, or why it isn't reached.
     fn reach_for(
         &mut self,
@@ -327,10 +349,7 @@ impl Machine {
     {
         match reach(alloc, &self.world, aim.site, aim.field, aim.target) {
             Ok(steps) => self.carry_out(alloc, line, aim, steps.as_slice(), out),
-            Err(fault) => match reason(fault) {
-                Some(word) => add_reason(out, line, word),
-                None => Err(AllocError),
-            },
+            Err(fault) => self.give_up(line, aim, fault, out),
         }
     }
 
