@@ -13,9 +13,8 @@ use Rattle.central_rules.specs.declared.verdict.Rule.TheVariants.{Site, Grant, S
 use Rattle.central_rules.specs.declared.verdict.Verdict.TheVariants.{Legal, Illegal}
 use Rattle.central_rules.specs.Verdict.{broken, first_broken, verdict_back, verdict_of, test_of}
 use Rattle.central_rules.proofs.Verdicts.{none_broken, stop_here}
-use Rattle.central_machine.specs.declared.faults.Places.{Places}
 use Rattle.central_machine.specs.declared.faults.Part.TheVariants.{Statements, AtSite}
-use Rattle.central_machine.specs.Parts.{AreAllPlaces, rest_tests, field_broken, name_of, named, front_of, part_test, part_at, IsBefore, IsFault, earlier, earliest, is_at, first_is_at}
+use Rattle.central_machine.specs.Parts.{rest_tests, field_broken, name_of, named, front_of, part_test, part_at, IsBefore, IsFault, earlier, earliest, is_at, first_is_at}
 use Rattle.central_machine.proofs.Rest.{rest_is_all}
 use Rattle.central_machine.proofs.Places.{some_is, front_next}
 use Rattle.central_machine.proofs.Totals_more.{legal_next}
@@ -111,6 +110,12 @@ by_site true schema t e untold is h =
 
 -- ---- the verdict
 
+part_of_site : (s : ℕ) → part_at (s + 1) ≡ AtSite s
+part_of_site s =
+    let isnt : eqb (s + 1) 0 ≡ false = ne_eqb (s + 1) 0 (λ e. omega (arith, e)) in
+    let less : s + 1 - 1 ≡ s = omega arith in
+    ap (λ (b : Bool). cond b Statements (AtSite (s + 1 - 1))) isnt ∙ ap (λ (n : ℕ). AtSite n) less
+
 module _ (schema : SchemaValue) (good : IsSchema schema) (entries : List Entry) (faults : List Fault)
     (zip : AllZip (λ part fault. part < 1 + schema.sites → IsFault schema entries (part_at part) fault) (range_with_len 0 (1 + schema.sites)) faults) where
   answered : (part : ℕ) → part < 1 + schema.sites → (f : Fault) × (slice_get faults part ≡ Some f) × IsFault schema entries (part_at part) f
@@ -121,10 +126,7 @@ module _ (schema : SchemaValue) (good : IsSchema schema) (entries : List Entry) 
   at_site : (s : ℕ) → s < schema.sites → (f : Fault) × (slice_get faults (s + 1) ≡ Some f) × IsFault schema entries (AtSite s) f
   at_site s below =
       let r = answered (s + 1) (omega (arith, below)) in
-      let isnt : eqb (s + 1) 0 ≡ false = ne_eqb (s + 1) 0 (λ e. omega (arith, e)) in
-      let less : s + 1 - 1 ≡ s = omega arith in
-      let part : part_at (s + 1) ≡ AtSite s = ap (λ (b : Bool). cond b Statements (AtSite (s + 1 - 1))) isnt ∙ ap (λ (n : ℕ). AtSite n) less in
-      (r.0, r.1, subst (λ p. IsFault schema entries p r.0) part r.2)
+      (r.0, r.1, subst (λ p. IsFault schema entries p r.0) (part_of_site s) r.2)
 
   -- an entry before all faults breaks no rule
   unbroken : (i : ℕ) (e : Entry) → slice_get entries i ≡ Some e → IsBefore i (earliest None faults) → verdict_back schema (front_of entries i) ≡ Legal → broken schema (front_of entries i) e ≡ None
@@ -243,16 +245,33 @@ module _ (schema : SchemaValue) (good : IsSchema schema) (entries : List Entry) 
           stop_here schema entries p e inside legal_front_there (named schema t e untold)
           (ap (λ (x : Entry). broken schema t x) (get_or_from_slice_get entries p e e at) ∙ rule_is untold is)
 
-zip_weaker : {P Q : ℕ → Fault → Type 0} (xs : List ℕ) (ys : List Fault) → ((x : ℕ) (y : Fault) → P x y → Q x y) → AllZip P xs ys → AllZip Q xs ys
+pub zip_weaker : {P Q : ℕ → Fault → Type 0} (xs : List ℕ) (ys : List Fault) → ((x : ℕ) (y : Fault) → P x y → Q x y) → AllZip P xs ys → AllZip Q xs ys
 zip_weaker [] [] f h = tt
 zip_weaker [] (y ∷ ys) f h = absurd h
 zip_weaker (x ∷ xs) [] f h = absurd h
 zip_weaker (x ∷ xs) (y ∷ ys) f h = (f x y h.0, zip_weaker xs ys f h.1)
 
--- what was gathered over the lists of places
-pub gathered : (schema : SchemaValue) (entries : List Entry) (lists : List Places) (faults : List Fault) → AreAllPlaces entries (length entries) lists → length lists ≡ schema.sites
-    → AllZip (λ part fault. AreAllPlaces entries (length entries) lists → length lists ≡ schema.sites → part < 1 + schema.sites → IsFault schema entries (part_at part) fault) (nat_range 0 (1 + schema.sites)) faults
+zip_later : (P Q : ℕ → Fault → Type 0) (a n : ℕ) (ys : List Fault) → ((x : ℕ) (y : Fault) → P x y → Q (x + 1) y) → AllZip P (range_with_len a n) ys → AllZip Q (range_with_len (a + 1) n) ys
+zip_later P Q a zero [] f h = tt
+zip_later P Q a zero (y ∷ ys) f h = absurd h
+zip_later P Q a (suc n) [] f h = absurd h
+zip_later P Q a (suc n) (y ∷ ys) f h = (f a y h.0, zip_later P Q (a + 1) n ys f h.1)
+
+-- what the sites find stands behind what is found of the statements
+pub all_parts : (schema : SchemaValue) (entries : List Entry) (told : Fault) (owed : List Fault) → IsFault schema entries Statements told
+    → AllZip (λ site fault. site < schema.sites → IsFault schema entries (AtSite site) fault) (nat_range 0 schema.sites) owed
+    → AllZip (λ part fault. part < 1 + schema.sites → IsFault schema entries (part_at part) fault) (nat_range 0 (1 + schema.sites)) (told ∷ owed)
+all_parts schema entries told owed first rest =
+    let none : schema.sites - 0 ≡ schema.sites = omega arith in
+    let all : (1 + schema.sites) - 0 ≡ suc schema.sites = omega arith in
+    let sites : AllZip (λ site fault. site < schema.sites → IsFault schema entries (AtSite site) fault) (range_with_len 0 schema.sites) owed =
+        subst (λ n. AllZip (λ site fault. site < schema.sites → IsFault schema entries (AtSite site) fault) (range_with_len 0 n) owed) none rest in
+    let behind = zip_later (λ site fault. site < schema.sites → IsFault schema entries (AtSite site) fault) (λ part fault. part < 1 + schema.sites → IsFault schema entries (part_at part) fault) 0 schema.sites owed (λ site fault h below. subst (λ part. IsFault schema entries part fault) (sym (part_of_site site)) (h (omega (arith, below)))) sites in
+    subst (λ n. AllZip (λ part fault. part < 1 + schema.sites → IsFault schema entries (part_at part) fault) (range_with_len 0 n) (told ∷ owed)) (sym all) (λ below. first, behind)
+
+-- the answers of all parts, as a list of so many
+pub gathered : (schema : SchemaValue) (entries : List Entry) (faults : List Fault)
+    → AllZip (λ part fault. part < 1 + schema.sites → IsFault schema entries (part_at part) fault) (nat_range 0 (1 + schema.sites)) faults
     → AllZip (λ part fault. part < 1 + schema.sites → IsFault schema entries (part_at part) fault) (range_with_len 0 (1 + schema.sites)) faults
-gathered schema entries lists faults are long zip =
-    subst (λ n. AllZip (λ part fault. part < 1 + schema.sites → IsFault schema entries (part_at part) fault) (range_with_len 0 n) faults) (let e : (1 + schema.sites) - 0 ≡ 1 + schema.sites = omega arith in e)
-    (zip_weaker (nat_range 0 (1 + schema.sites)) faults (λ part fault h below. h are long below) zip)
+gathered schema entries faults zip =
+    subst (λ n. AllZip (λ part fault. part < 1 + schema.sites → IsFault schema entries (part_at part) fault) (range_with_len 0 n) faults) (let e : (1 + schema.sites) - 0 ≡ 1 + schema.sites = omega arith in e) zip

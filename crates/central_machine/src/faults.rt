@@ -15,7 +15,7 @@ use crate::totals::reply_fits;
 use field_bounds::{Entry, Schema, SiteNo};
 use rayon::prelude::*;
 use std::alloc::{AllocError, Global};
-use std::thread::Threads;
+use std::thread::{Threads, join};
 
 /// A part of the work: the rules Site and Statement, or the rule Reply at one site.
 #[derive(Clone, Copy)]
@@ -60,7 +60,7 @@ fn note_place(lists: &mut Vec<Places>, site: SiteNo, place: usize) -> Result<(),
 }
 
 /// The places of each site's entries.
-pub fn places_of(
+fn places_of(
     alloc: Global,
     schema: &Schema,
     entries: &[Entry],
@@ -129,22 +129,18 @@ fn site_fault(
     Ok(None)
 }
 
-/// What the part of a number finds first.
+/// What a site of this number finds first, over its own entries.
 fn fault_of(
     alloc: Global,
     schema: &Schema,
     entries: &[Entry],
     lists: &[Places],
-    part: usize,
+    site: usize,
 ) -> Result<Option<usize>, AllocError>
     ensures { IfOk result (λ fault. AreAllPlaces entries.now (length entries.now) lists.now →
-        length lists.now ≡ schema.now.sites → part < 1 + schema.now.sites →
-        IsFault schema.now entries.now (part_at part) fault) }
+        length lists.now ≡ schema.now.sites → site < schema.now.sites →
+        IsFault schema.now entries.now (AtSite site) fault) }
 {
-    if part == 0 {
-        return statements_fault(alloc, schema, entries);
-    }
-    let site = part - 1;
     if site >= usize::from(schema.sites()) {
         return Ok(None);
     }
@@ -154,32 +150,75 @@ fn fault_of(
     }
 }
 
-/// What all parts find first, each in a thread.
-pub fn faults_of(
+/// What the sites find first over the places listed, each in a thread.
+fn listed_faults(
     rt: &(impl Threads + Sync),
     alloc: Global,
     schema: &Schema,
     entries: &[Entry],
     lists: &[Places],
 ) -> Result<Vec<Option<usize>>, AllocError>
-    ensures { IfOk result (λ faults. AllZip (λ part fault. AreAllPlaces entries.now (length entries.now) lists.now →
-        length lists.now ≡ schema.now.sites → part < 1 + schema.now.sites →
-        IsFault schema.now entries.now (part_at part) fault) (nat_range 0 (1 + schema.now.sites)) faults.items) }
+    ensures { IfOk result (λ faults. AllZip (λ site fault. AreAllPlaces entries.now (length entries.now) lists.now →
+        length lists.now ≡ schema.now.sites → site < schema.now.sites →
+        IsFault schema.now entries.now (AtSite site) fault) (nat_range 0 schema.now.sites) faults.items) }
 {
-    let count = 1 + usize::from(schema.sites());
+    let count = usize::from(schema.sites());
     let made: Result<Vec<Option<usize>>, AllocError> = (0..count)
         .into_par_iter()
         .with_min_len(1)
         .map(
-            |part: usize| -> Result<Option<usize>, AllocError>
+            |site: usize| -> Result<Option<usize>, AllocError>
                 ensures { IfOk result (λ fault. AreAllPlaces entries.entry.now (length entries.entry.now) lists.entry.now →
                     length lists.entry.now ≡ schema.entry.now.sites →
-                    part < 1 + schema.entry.now.sites →
-                    IsFault schema.entry.now entries.entry.now (part_at part) fault) }
-            { fault_of(alloc, schema, entries, lists, part) },
+                    site < schema.entry.now.sites →
+                    IsFault schema.entry.now entries.entry.now (AtSite site) fault) }
+            { fault_of(alloc, schema, entries, lists, site) },
         )
         .collect(rt, alloc)?;
     made
+}
+
+/// What the sites find first, each over its own entries.
+fn site_faults(
+    rt: &(impl Threads + Sync),
+    alloc: Global,
+    schema: &Schema,
+    entries: &[Entry],
+) -> Result<Vec<Option<usize>>, AllocError>
+    ensures { IfOk result (λ faults. AllZip (λ site fault. site < schema.now.sites →
+        IsFault schema.now entries.now (AtSite site) fault) (nat_range 0 schema.now.sites) faults.items) }
+{
+    let lists = places_of(alloc, schema, entries)?;
+    listed_faults(rt, alloc, schema, entries, &lists)
+}
+
+/// What all parts find first, the statements' part before those of the sites. It has a thread of its
+/// own, while the places of each site's entries are listed and the sites' parts go over them.
+pub fn faults_of(
+    rt: &(impl Threads + Sync),
+    alloc: Global,
+    schema: &Schema,
+    entries: &[Entry],
+) -> Result<Vec<Option<usize>>, AllocError>
+    ensures { IfOk result (λ faults. AllZip (λ part fault. part < 1 + schema.now.sites →
+        IsFault schema.now entries.now (part_at part) fault) (nat_range 0 (1 + schema.now.sites)) faults.items) }
+{
+    let (of_statements, of_sites) = join(
+        rt,
+        || -> Result<Option<usize>, AllocError>
+            ensures { IfOk result (λ fault. IsFault schema.entry.now entries.entry.now Statements fault) }
+        { statements_fault(alloc, schema, entries) },
+        || -> Result<Vec<Option<usize>>, AllocError>
+            ensures { IfOk result (λ faults. AllZip (λ site fault. site < schema.entry.now.sites →
+                IsFault schema.entry.now entries.entry.now (AtSite site) fault) (nat_range 0 schema.entry.now.sites) faults.items) }
+        { site_faults(rt, alloc, schema, entries) },
+    );
+    let told = of_statements?;
+    let owed = of_sites?;
+    let mut faults = Vec::new(alloc);
+    faults.push(told)?;
+    faults.extend_from_slice(&owed)?;
+    Ok(faults)
 }
 
 /// The earlier of two faults.

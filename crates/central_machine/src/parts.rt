@@ -8,7 +8,7 @@ ghost use Rattle.central_machine.specs.Running.{AreTotals};
 ghost use Rattle.central_machine.specs.Parts.{named};
 
 use crate::counted::length_of;
-use crate::faults::{earliest, faults_of, first_is_at, places_of};
+use crate::faults::{earliest, faults_of, first_is_at};
 use crate::totals::Totals;
 use central_rules::{Rule, Verdict};
 use field_bounds::{Entry, Schema};
@@ -44,10 +44,10 @@ fn rule_of(totals: &Totals, schema: &Schema, entry: Entry, untold: bool) -> Rule
 }
 
 /// The verdict on entries, the oldest first, as `judge` answers it, with the work done by threads.
-/// The rules Site and Statement are one part, and Reply at each site is one more, over that site's
-/// own entries, whose places are listed once. Where no part finds a fault the entries are legal, since
-/// the rules on fields follow from the others. Else these are looked at, on the field that is named, at
-/// the one entry that was found.
+/// The rules Site and Statement are one part, in a thread of its own, and Reply at each site is one
+/// more, over that site's own entries, whose places are listed once. Where no part finds a fault the
+/// entries are legal, since the rules on fields follow from the others. Else these are looked at, on
+/// the field that is named, at the one entry that was found.
 ///
 /// The error is want of memory. Takes time as `judge` does, divided among the threads but for one step
 /// for each entry that lists the places, and at illegal entries once more for the entries before the
@@ -63,8 +63,7 @@ pub fn judge_fields(
     ensures verdict { IfOk result (λ verdict. verdict ≡ verdict_of schema.now entries.now) }
 {
     let _sites = schema.sites();
-    let lists = places_of(alloc, schema, entries)?;
-    let faults = faults_of(rt, alloc, schema, entries, &lists)?;
+    let faults = faults_of(rt, alloc, schema, entries)?;
     let Some(place) = earliest(&faults) else {
         return Ok(Verdict::Legal);
     };

@@ -1,17 +1,15 @@
-use Rattle.std.proofs.Common.{◌≡◌, ◌+◌, ◌<◌, ap, ◌∙◌, length, arith}
+use Rattle.std.proofs.Common.{◌≡◌, ◌<◌, ◌∷◌, ◌++◌, rules}
+use Rattle.std.specs.Prelude.{ℕ, Option}
+use Rattle.std.specs.List.{AllZip}
 use Rattle.rayon.specs.Numbers.{nat_range}
-use Rattle.central_machine.specs.Parts.{AreAllPlaces, IsFault, part_at}
-use Rattle.central_machine.proofs.Parallel.{gather}
+use Rattle.central_machine.specs.declared.faults.Part.TheVariants.{Statements, AtSite}
+use Rattle.central_machine.specs.Parts.{IsFault}
+use Rattle.central_machine.proofs.Gathered.{all_parts}
 use Rattle.central_machine.proofs.faults.faults_of.Goals as goal
 
 pub returns : goal.returns
 returns g c =
-    let ends = c.into_par_iter.ensures in
-    let h = c.in_ok-made.ensures in
-    let chain = rw (c.map.ensures.base, c.map.ensures.f, c.with_min_len.ensures.base) at h.1 in
-    let long : 1 + c.from-count.result ≡ 1 + c.args.schema.now.sites = omega arith in
-    let places = chain.1 ∙ (λ i. nat_range (ends.0 i) (ends.1 i)) ∙ ap (nat_range 0) long in
-    gather
-    (λ part fault. AreAllPlaces c.args.entries.now (length c.args.entries.now) c.args.lists.now → length c.args.lists.now ≡ c.args.schema.now.sites → part < 1 + c.args.schema.now.sites
-    → IsFault c.args.schema.now c.args.entries.now (part_at part) fault)
-    c.in_ok-made.made chain.0 _ h.0 places chain.2 h.2
+    let first : IsFault c.args.schema.now c.args.entries.now Statements c.in_ok-told.told = search rules in
+    let owed : AllZip (λ (site : ℕ) (fault : Option ℕ). site < c.args.schema.now.sites → IsFault c.args.schema.now c.args.entries.now (AtSite site) fault) (nat_range 0 c.args.schema.now.sites) c.in_ok-owed.owed.items = search rules in
+    let items : c.push.new.self.items ++ c.deref.result.now ≡ c.in_ok-told.told ∷ c.in_ok-owed.owed.items = search rules in
+    rw (c.in_ok-extend_from_slice.ensures.items, items) (all_parts c.args.schema.now c.args.entries.now c.in_ok-told.told c.in_ok-owed.owed.items first owed)

@@ -1,8 +1,7 @@
 use Rattle.std.proofs.Common.{◌≤◌, ◌+◌, ◌∙◌, ap, sym, refl, subst, length, rules, arith, List, None}
 use Rattle.central_rules.specs.declared.verdict.Rule.{Rule}
 use Rattle.central_rules.specs.declared.verdict.Verdict.TheVariants.{Illegal}
-use Rattle.central_machine.specs.declared.faults.Places.{Places}
-use Rattle.central_machine.specs.Parts.{front_of, AreAllPlaces, earliest, first_is_at}
+use Rattle.central_machine.specs.Parts.{front_of, earliest, first_is_at}
 use Rattle.central_machine.proofs.Row.{found_at}
 use Rattle.central_machine.proofs.Gathered.{gathered, none_found, one_found, inside, legal_front_there}
 use Rattle.central_machine.proofs.parts.judge_fields.Goals as goal
@@ -10,16 +9,14 @@ use Rattle.central_machine.proofs.parts.judge_fields.Goals as goal
 pub returns-in_default : goal.returns-in_default
 returns-in_default g c =
     let entries = c.args.entries.now in
-    let are = subst (λ (xs : List Places). AreAllPlaces entries (length entries) xs) (sym c.deref.ensures.value) c.in_ok-lists.ensures.places in
-    let zip = gathered c.args.schema.now entries c.deref.result.now c.in_ok-faults.faults.items are (ap length c.deref.ensures.value ∙ c.in_ok-lists.ensures.count) c.in_ok-faults.ensures in
-    record { verdict = none_found c.args.schema.now c.sites-sites.ensures.limits entries c.in_ok-faults.faults.items zip (ap (earliest None) (sym c.deref-2.ensures.value) ∙ sym c.earliest.ensures ∙ c.in_default.is) }
+    let zip = gathered c.args.schema.now entries c.in_ok-faults.faults.items c.in_ok-faults.ensures in
+    record { verdict = none_found c.args.schema.now c.sites-sites.ensures.limits entries c.in_ok-faults.faults.items zip (ap (earliest None) (sym c.deref.ensures.value) ∙ sym c.earliest.ensures ∙ c.in_default.is) }
 
 pub returns-in_default-get : goal.returns-in_default-get
 returns-in_default-get g c =
     let entries = c.args.entries.now in
-    let are = subst (λ (xs : List Places). AreAllPlaces entries (length entries) xs) (sym c.deref.ensures.value) c.in_ok-lists.ensures.places in
-    let zip = gathered c.args.schema.now entries c.deref.result.now c.in_ok-faults.faults.items are (ap length c.deref.ensures.value ∙ c.in_ok-lists.ensures.count) c.in_ok-faults.ensures in
-    let first = ap (earliest None) (sym c.deref-2.ensures.value) ∙ sym c.earliest.ensures ∙ c.in-Some.is in
+    let zip = gathered c.args.schema.now entries c.in_ok-faults.faults.items c.in_ok-faults.ensures in
+    let first = ap (earliest None) (sym c.deref.ensures.value) ∙ sym c.earliest.ensures ∙ c.in-Some.is in
     let past : length entries ≤ c.in-Some.place = search rules in
     absurd (let less = inside c.args.schema.now c.sites-sites.ensures.limits entries c.in_ok-faults.faults.items zip c.in-Some.place first in omega (arith, less, past))
 
@@ -30,13 +27,12 @@ returns g c =
     let p = c.in-Some.place in
     let faults = c.in_ok-faults.faults.items in
     let good = c.sites-sites.ensures.limits in
-    let are = subst (λ (xs : List Places). AreAllPlaces entries (length entries) xs) (sym c.deref.ensures.value) c.in_ok-lists.ensures.places in
-    let zip = gathered schema entries c.deref.result.now faults are (ap length c.deref.ensures.value ∙ c.in_ok-lists.ensures.count) c.in_ok-faults.ensures in
-    let first = ap (earliest None) (sym c.deref-2.ensures.value) ∙ sym c.earliest.ensures ∙ c.in-Some.is in
+    let zip = gathered schema entries faults c.in_ok-faults.ensures in
+    let first = ap (earliest None) (sym c.deref.ensures.value) ∙ sym c.earliest.ensures ∙ c.in-Some.is in
     let look = c.in-Some-get.ensures.lookup in
     let at = found_at entries entries p p c.in-Some-get.entry.now refl refl look.0 look.1 in
     let legal = legal_front_there schema good entries faults zip p first in
-    let untold = c.first_is_at.ensures ∙ ap (λ xs. first_is_at xs p) c.deref-3.ensures.value in
+    let untold = c.first_is_at.ensures ∙ ap (λ xs. first_is_at xs p) c.deref-2.ensures.value in
     record {
       verdict =
           ap (λ (r : Rule). Illegal (p + 1) r) (c.rule_of-rule.ensures (front_of entries p) (c.in_ok-totals.ensures legal) legal)
