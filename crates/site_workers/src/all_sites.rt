@@ -1,0 +1,205 @@
+//! All sites, each in a thread of its own.
+
+ghost use Rattle.std.specs.Prelude.{◌≡◌, ◌<◌, [], List, IfOk, IfSome};
+ghost use Rattle.field_bounds.specs.declared.entry.Command.{Command as CommandSeen};
+ghost use Rattle.field_bounds.specs.Schema.{SchemaValue};
+ghost use Rattle.site_workers.specs.Jobs.{AreJoined};
+ghost use Rattle.site_workers.specs.Scripts.{scripts_of, histories_of, HasNoAccept, ScriptsFit, AreWorked, AllWorked};
+
+use crate::crossing::{foreign, lost};
+use crate::fault::WorkFault;
+use crate::inbox::{admit, hire, open_inbox};
+use crate::one_site::{Seat, run_site};
+use crate::post::{Mail, Post, Spare};
+use crate::running::{Running, Task};
+use field_bounds::{Command, Entry, Schema, SiteNo};
+use site_desk::Gate;
+use std::alloc::{AllocError, Global};
+use std::snapshot::Snapshot;
+use std::sync::Wait;
+use std::thread;
+use std::thread::Threads;
+
+/// The posts of each worker, the mail of each courier, and the caller's ends of the inboxes.
+pub(crate) fn open_all(
+    alloc: Global,
+    sites: u16,
+) -> Result<(Vec<Vec<Post>>, Vec<Mail>, Vec<Spare>), WorkFault> {
+    let mut posts = Vec::new(alloc);
+    for _i in 0..sites {
+        posts.push(Vec::new(alloc))?;
+    }
+    let mut mails = Vec::new(alloc);
+    let mut spares = Vec::new(alloc);
+    for _i in 0..sites {
+        let Ok((slot, inbox, way)) = open_inbox(alloc) else {
+            return Err(WorkFault::NoMemory);
+        };
+        let mut own = way;
+        for j in 0..sites {
+            let Ok(theirs) = slot.try_clone() else {
+                return Err(WorkFault::NoMemory);
+            };
+            let way = hire(&slot, &mut own);
+            if let Some(row) = posts.get_mut(usize::from(j)) {
+                row.push(Post {
+                    slot: theirs,
+                    way,
+                    site: SiteNo(j),
+                })?;
+            }
+        }
+        let way = admit(&slot, &mut own);
+        mails.push(Mail { inbox, way })?;
+        spares.push(Spare { slot, way: own })?;
+    }
+    Ok((posts, mails, spares))
+}
+
+/// The seat of a site.
+fn seat_of(
+    site: SiteNo,
+    script: Vec<Command>,
+    posts: Option<Vec<Post>>,
+    mail: Option<Mail>,
+) -> Option<Seat>
+    ensures site { IfSome result (λ seat. seat.site ≡ site) }
+    ensures script { IfSome result (λ seat. seat.script ≡ script) }
+{
+    let posts = posts?;
+    let mail = mail?;
+    Some(Seat {
+        site,
+        script,
+        posts,
+        mail,
+    })
+}
+
+/// The histories of threads that run, the last of which is the lowest site's, in order of site.
+fn join_all<'x, R: Threads>(
+    rt: &'x R,
+    alloc: Global,
+    handles: Vec<Option<Running<'x>>>,
+) -> Result<Vec<Vec<Entry>>, WorkFault>
+    ensures { (schema : SchemaValue) (all : List (List CommandSeen)) → AreJoined schema all handles.entry.items [] →
+        IfOk result (λ hs. AreWorked schema 0 all (histories_of hs.items)) }
+{
+    let mut handles = handles;
+    let mut histories = Vec::new(alloc);
+    while let Some(handle) = handles.pop() {
+        let Some(handle) = handle else {
+            return Err(WorkFault::NoMemory);
+        };
+        let history = handle.join(rt)?;
+        histories.push(history)?;
+    }
+    Ok(histories)
+}
+
+/// One thread for each site; their histories, in order of site.
+fn run_threads<'x, R: Threads + Wait + Sync, G: Gate>(
+    rt: &'x R,
+    alloc: Global,
+    schema: &'x Schema,
+    scripts: Vec<Vec<Command>>,
+    posts: Vec<Vec<Post>>,
+    mails: Vec<Mail>,
+    spares: Vec<Spare>,
+    gate: &'x G,
+) -> Result<Vec<Vec<Entry>>, WorkFault>
+    requires fit { ScriptsFit schema.now (scripts_of scripts.items) }
+    ensures { IfOk result (λ hs. AreWorked schema.now 0 (scripts_of scripts.items) (histories_of hs.items)) }
+{
+    thread::scope(
+        thread::scope_env(),
+        rt,
+        move |scope| -> Result<Vec<Vec<Entry>>, WorkFault>
+            requires fit { ScriptsFit schema.now (scripts_of scripts.items) }
+            ensures { IfOk result (λ hs. AreWorked schema.entry.now 0 (scripts_of scripts.items) (histories_of hs.items)) }
+        {
+            let mut left = scripts;
+            let mut posts = posts;
+            let mut mails = mails;
+            let mut spares = spares;
+            let mut next = schema.sites();
+            let mut handles: Vec<Option<Running>> = Vec::with_capacity(alloc, left.len())?;
+            while let Some(script) = left.pop() {
+                next -= 1;
+                let site = SiteNo(next);
+                let mut started = None;
+                if let Some(seat) = seat_of(site, script, posts.pop(), mails.pop()) {
+                    let task = Task {
+                        schema,
+                        site,
+                        script: Snapshot::of(&seat.script),
+                    };
+                    let spawned = scope.spawn_with(
+                        task,
+                        move ||
+                            requires in_schema { seat.site.0 < schema.now.sites }
+                            requires plain { HasNoAccept seat.script.items }
+                        { run_site(rt, alloc, schema, seat, gate) },
+                    );
+                    match spawned {
+                        Ok(handle) => {
+                            started = Some(Running::new(handle));
+                        }
+                        Err(_refused) => {}
+                    }
+                }
+                if started.is_none() {
+                    for spare in spares.iter_mut() {
+                        spare.put_end(rt, site);
+                    }
+                }
+                handles.push(started)?;
+            }
+            join_all(rt, alloc, handles)
+        },
+    )
+}
+
+/// Runs each script at its site, all at the same time, and takes each statement that one site issues to
+/// its receiver, which accepts it. Answers the histories in order of site, each with its oldest entry
+/// first.
+///
+/// Each site has a desk over a new medium in memory, a worker, which makes its script's calls in order
+/// at the gate, and a courier, which accepts without it. At Ok each history is a run of owed replies on
+/// the fresh base; its commands without its accepts are its script, whole and in order; its entries are
+/// exactly the receipts of its worker and its courier, each once; each statement that it accepts was
+/// issued by the worker of the site that it names; and each statement that it issues is accepted in its
+/// receiver's history.
+///
+/// Give one script for each site, with no accept in them: `scripts_fit` tests it. Of several faults the
+/// one of the lowest site is answered, the worker's before the courier's: `GateTurns`, `WentBack`,
+/// `Passes`, `Receipts`, `Lost` of an inbox that was closed, `NoMemory`. Where there is none, `Foreign`
+/// and then `Lost` name the lowest site whose history shows it.
+///
+/// Costs two threads a site, an inbox of 1,024 letters for each, memory for the histories twice, for
+/// their receipts and for the statements, and time in proportion to the scripts.
+///
+/// Source: Balegas and others 2015 for sites that act alone on rights that they hold and state what
+/// they give, O'Neil 1986 for escrows, this project for workers and couriers.
+pub fn run_workers<'x, R: Threads + Wait + Sync, G: Gate>(
+    rt: &'x R,
+    alloc: Global,
+    schema: &'x Schema,
+    scripts: Vec<Vec<Command>>,
+    gate: &'x G,
+) -> Result<Vec<Vec<Entry>>, WorkFault>
+    requires fit { ScriptsFit schema.now (scripts_of scripts.items) }
+    ensures ok { IfOk result (λ hs. AllWorked schema.now (scripts_of scripts.items) (histories_of hs.items)) }
+{
+    let (posts, mails, spares) = open_all(alloc, schema.sites())?;
+    let histories = run_threads(rt, alloc, schema, scripts, posts, mails, spares, gate)?;
+    let strange = foreign(alloc, histories.as_slice())?;
+    if let Some(site) = strange {
+        return Err(WorkFault::Foreign { site });
+    }
+    let lacking = lost(alloc, histories.as_slice())?;
+    if let Some(site) = lacking {
+        return Err(WorkFault::Lost { site });
+    }
+    Ok(histories)
+}

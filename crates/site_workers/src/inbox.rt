@@ -1,0 +1,167 @@
+//! A courier's inbox: a bounded channel under a rule. Each Stated letter in the queue or among those
+//! taken was put by the worker of the site that it names as its giver. Four kinds of step keep the
+//! rule: a worker's way is made, another way is made, a letter is put, a letter is taken.
+
+ghost use Rattle.std.specs.Prelude.{◌≡◌, ◌+◌, ◌<◌, ℕ, [], ◌∷◌, ◌++◌, IfOk, IfErr, OnOk, OnErr, MatchResult, None, Some, IfSome, IfNone};
+ghost use Rattle.crossbeam_channel.specs.Claims.{view, IsSeatAt};
+ghost use Rattle.crossbeam_channel.specs.Ends.{sends_on, receives_on};
+ghost use Rattle.site_workers.specs.Inboxes.{after_put, after_take, AllStand, maker_after, MayPut, newcomer, next_worker};
+
+use crossbeam_channel::protocol::{Lesson, Outcome, Protocol, Split};
+use crossbeam_channel::{Pass, RuledReceiver, RuledSender, bounded_with};
+use field_bounds::{SiteNo, Statement};
+use std::alloc::{AllocError, Global};
+use std::collections::LinkedList;
+use std::sync::Wait;
+
+/// What goes into an inbox.
+///
+/// Source: Balegas and others 2015 for statements, this project for the end.
+#[derive(Clone, Copy, PartialEq, Eq, Debug)]
+pub enum Letter {
+    /// A statement that a worker got.
+    Stated(Statement),
+    /// The worker of this site puts no more.
+    End(SiteNo),
+}
+
+/// The most letters that wait in an inbox.
+pub const INBOX_LETTERS: usize = 1_024;
+
+/// What a way knows: whose it is, how many workers' ways were made from it, and what was put and taken
+/// on it, in order. No value of it is made.
+pub struct View {
+    pub worker: Option<SiteNo>,
+    pub made: u64,
+    pub put: LinkedList<Letter>,
+    pub taken: LinkedList<Letter>,
+}
+
+/// The rule of an inbox.
+pub struct Standing;
+
+impl Protocol<Letter, View> for Standing {
+    ghost use Rattle.site_workers.specs.Inboxes.{AllStand, newcomer};
+
+    ghost holds = { AllStand };
+
+    ghost first = { newcomer };
+}
+
+/// How a worker's way is made.
+pub struct Hires;
+
+impl Split<View> for Hires {
+    ghost use Rattle.site_workers.specs.Inboxes.{maker_after, next_worker};
+
+    ghost left = { maker_after };
+
+    ghost right = { next_worker };
+}
+
+/// How a way that is no worker's is made.
+pub struct Admits;
+
+impl Split<View> for Admits {
+    ghost use Rattle.site_workers.specs.Inboxes.{newcomer};
+
+    ghost left = { λ v. v };
+
+    ghost right = { λ v. newcomer };
+}
+
+/// What putting a letter tells its way.
+pub struct Puts;
+
+impl Outcome<Letter, View> for Puts {
+    ghost use Rattle.std.specs.Prelude.{◌≡◌};
+    ghost use Rattle.site_workers.specs.Inboxes.{after_put};
+
+    ghost then = { λ v x w. w ≡ after_put v x };
+}
+
+impl Lesson<Letter, View> for Puts {
+    ghost fact = { λ v items. Unit {0} };
+}
+
+/// What taking a letter tells its way.
+pub struct Takes;
+
+impl Outcome<Letter, View> for Takes {
+    ghost use Rattle.std.specs.Prelude.{◌≡◌};
+    ghost use Rattle.site_workers.specs.Inboxes.{after_take};
+
+    ghost then = { λ v x w. w ≡ after_take v x };
+}
+
+impl Lesson<Letter, View> for Takes {
+    ghost fact = { λ v items. Unit {0} };
+}
+
+/// A pass of an inbox: what its holder has put and taken there. It can't be copied, and takes no bytes.
+pub type Way = Pass<Letter, View>;
+
+/// The end of an inbox into which letters are put.
+pub type Slot = RuledSender<Letter, View, Standing>;
+
+/// The end of an inbox from which its courier takes letters.
+///
+/// Source: this project.
+pub type Inbox = RuledReceiver<Letter, View, Standing>;
+
+/// Makes an inbox for at most 1,024 letters that wait, with the way of its maker, who is no worker. The
+/// error is want of memory, which it takes for all letters at once.
+pub fn open_inbox(alloc: Global) -> Result<(Slot, Inbox, Way), AllocError>
+    ensures ends { IfOk result (λ r. receives_on r.1 ≡ sends_on r.0) }
+    ensures seat { IfOk result (λ r. IsSeatAt (sends_on r.0) r.2) }
+    ensures view { IfOk result (λ r. view r.2 ≡ newcomer) }
+{
+    bounded_with::<Letter, View, Standing, Global>(alloc, INBOX_LETTERS)
+}
+
+/// Cuts the way of the next worker from the maker's: the first made is that of site 0. Costs no memory.
+pub fn hire(slot: &Slot, way: &mut Way) -> Way
+    requires seat { IsSeatAt (sends_on slot.now) way.old }
+    ensures seat { IsSeatAt (sends_on slot.now) way.new }
+    ensures own { IsSeatAt (sends_on slot.now) result }
+    ensures maker { view way.new ≡ maker_after (view way.old) }
+    ensures worker { view result ≡ next_worker (view way.old) }
+{
+    slot.another::<Hires>(way)
+}
+
+/// Cuts a way that is no worker's, as the courier's, from another. Costs no memory.
+pub fn admit(slot: &Slot, way: &mut Way) -> Way
+    requires seat { IsSeatAt (sends_on slot.now) way.old }
+    ensures seat { IsSeatAt (sends_on slot.now) way.new }
+    ensures own { IsSeatAt (sends_on slot.now) result }
+    ensures same { view way.new ≡ view way.old }
+    ensures view { view result ≡ newcomer }
+{
+    slot.another::<Admits>(way)
+}
+
+/// Puts a letter, or hands it back where the courier is gone. Waits while the inbox is full, so never
+/// call it under a lock. A Stated letter is put by the worker of the site that it names as its giver
+/// alone; an End is free. Costs no memory.
+pub fn put<R: Wait>(rt: &R, slot: &Slot, way: &mut Way, letter: Letter) -> Result<(), Letter>
+    requires seat { IsSeatAt (sends_on slot.now) way.old }
+    requires may { MayPut (view way.old) letter }
+    ensures seat { IsSeatAt (sends_on slot.now) way.new }
+    ensures put { OnOk result (view way.new ≡ after_put (view way.old) letter) }
+    ensures back { IfErr result (λ back. (back ≡ letter) × (view way.new ≡ view way.old)) }
+{
+    slot.send_as::<Puts, R>(rt, way, letter)
+        .map_err(|e| e.into_inner())
+}
+
+/// Takes the next letter, and waits for one. None where all that could put one are gone. Costs no
+/// memory.
+pub fn take<R: Wait>(rt: &R, inbox: &Inbox, way: &mut Way) -> Option<Letter>
+    requires seat { IsSeatAt (receives_on inbox.now) way.old }
+    ensures seat { IsSeatAt (receives_on inbox.now) way.new }
+    ensures some { IfSome result (λ x. view way.new ≡ after_take (view way.old) x) }
+    ensures none { IfNone result (view way.new ≡ view way.old) }
+{
+    inbox.recv_as::<Takes, R>(rt, way).ok()
+}

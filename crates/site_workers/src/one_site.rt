@@ -1,0 +1,241 @@
+//! One site: its desk, its worker and its courier.
+
+ghost use Rattle.std.specs.Prelude.{◌≡◌, ◌<◌, ◌++◌, ◌∷◌, [], Some, IfOk, IfSome, length, vec_len, map, reverse};
+ghost use Rattle.crossbeam_channel.specs.Claims.{view, IsSeatAt};
+ghost use Rattle.crossbeam_channel.specs.Ends.{sends_on, receives_on};
+ghost use Rattle.site_workers.specs.Carried.{commands_of};
+ghost use Rattle.site_workers.specs.Scripts.{HasNoAccept, AreAccepts, IsRising, IsClosed, IsWorked};
+
+use crate::courier::carry;
+use crate::fault::{WorkFault, fault_of_call, fault_of_receipts};
+use crate::post::{Mail, Post, end_all};
+use field_bounds::{Command, Entry, Schema, SiteNo, statement_of};
+use kept_records::MemoryMedium;
+use site_desk::{Blank, Desk, Gate, Pass, Receipt, check_receipts};
+use std::alloc::{AllocError, Global};
+use std::marker::Brand;
+use std::sync::Wait;
+use std::sync::ledger::Ledger;
+use std::thread;
+use std::thread::{Promise, Threads};
+
+/// What a site's thread is given: its number, its worker's script and ends of all inboxes, and its
+/// courier's end of its own.
+#[derive(Drop)]
+pub(crate) struct Seat {
+    pub site: SiteNo,
+    pub script: Vec<Command>,
+    pub posts: Vec<Post>,
+    pub mail: Mail,
+}
+
+/// Makes the script's calls in order at the gate, and puts each statement issued into its receiver's
+/// inbox, once the lock is let go.
+fn work<L: Ledger, R: Wait, G: Gate>(
+    rt: &R,
+    alloc: Global,
+    desk: &Desk<L, MemoryMedium>,
+    pass: &mut Pass<L>,
+    script: &[Command],
+    posts: &mut Vec<Post>,
+    gate: &G,
+) -> Result<Vec<Receipt>, WorkFault>
+    ensures calls { IfOk result (λ receipts. commands_of receipts.items ≡ script.now) }
+    ensures rising { IfOk result (λ receipts. IsRising pass.old.last receipts.items pass.new.last) }
+{
+    let mut receipts = Vec::new(alloc);
+    for command in script {
+        match desk.call_at(rt, alloc, pass, *command, gate) {
+            Ok(receipt) => {
+                receipts.push(receipt)?;
+                let entry = receipt.entry();
+                if let Some(statement) = statement_of(&entry) {
+                    if let Some(post) = posts.get_mut(usize::from(statement.to.0)) {
+                        post.put_stated(rt, statement);
+                    }
+                }
+            }
+            Err(fault) => return Err(fault_of_call(desk.site(), fault)),
+        }
+    }
+    Ok(receipts)
+}
+
+/// Carries the mail, and lets go of the inbox.
+fn carry_mail<L: Ledger, R: Wait>(
+    rt: &R,
+    alloc: Global,
+    mail: Mail,
+    schema: &Schema,
+    desk: &Desk<L, MemoryMedium>,
+    pass: &mut Pass<L>,
+) -> Result<Vec<Receipt>, WorkFault>
+    ensures { IfOk result (λ receipts. AreAccepts (commands_of receipts.items)) }
+{
+    let Mail { inbox, way } = mail;
+    let mut way = way;
+    carry(rt, alloc, &inbox, &mut way, schema, desk, pass)
+}
+
+/// What a courier's thread promises of its receipts.
+#[derive(Clone, Copy)]
+struct Couriers;
+
+impl<L: Ledger> Promise<(Result<Vec<Receipt>, WorkFault>, Pass<L>)> for Couriers {
+    ghost kept_by = { λ p r. IfOk r.0 (λ receipts. AreAccepts (commands_of receipts.items)) };
+}
+
+/// The worker on this thread and the courier on one of its own.
+fn run_both<'x, L: Ledger + Send + Sync, R: Threads + Wait + Sync, G: Gate>(
+    rt: &'x R,
+    alloc: Global,
+    desk: &'x Desk<L, MemoryMedium>,
+    schema: &'x Schema,
+    gate: &'x G,
+    script: Vec<Command>,
+    mail: Mail,
+    first: Pass<L>,
+    second: Pass<L>,
+    posts: Vec<Post>,
+) -> (
+    Result<Vec<Receipt>, WorkFault>,
+    Pass<L>,
+    Option<(Result<Vec<Receipt>, WorkFault>, Pass<L>)>,
+)
+    ensures calls { IfOk result.0 (λ receipts. commands_of receipts.items ≡ script.items) }
+    ensures rising { IfOk result.0 (λ receipts. IsRising first.last receipts.items result.1.last) }
+    ensures accepts { IfSome result.2 (λ carried. IfOk carried.0 (λ receipts. AreAccepts (commands_of receipts.items))) }
+{
+    thread::scope(
+        thread::scope_env(),
+        rt,
+        move |scope| -> (
+            Result<Vec<Receipt>, WorkFault>,
+            Pass<L>,
+            Option<(Result<Vec<Receipt>, WorkFault>, Pass<L>)>,
+        )
+            ensures calls { IfOk result.0 (λ receipts. commands_of receipts.items ≡ script.items) }
+            ensures rising { IfOk result.0 (λ receipts. IsRising first.last receipts.items result.1.last) }
+            ensures accepts { IfSome result.2 (λ carried. IfOk carried.0 (λ receipts. AreAccepts (commands_of receipts.items))) }
+        {
+            let mut first = first;
+            let mut posts = posts;
+            let spawned = scope.spawn_with(Couriers, move || {
+                let mut pass = second;
+                let carried = carry_mail(rt, alloc, mail, schema, desk, &mut pass);
+                (carried, pass)
+            });
+            match spawned {
+                Ok(handle) => {
+                    let worked = work(
+                        rt,
+                        alloc,
+                        desk,
+                        &mut first,
+                        script.as_slice(),
+                        &mut posts,
+                        gate,
+                    );
+                    end_all(rt, &mut posts);
+                    (worked, first, Some(handle.join(rt)))
+                }
+                Err(refused) => {
+                    drop(refused);
+                    end_all(rt, &mut posts);
+                    (Err(WorkFault::NoMemory), first, None)
+                }
+            }
+        },
+    )
+}
+
+/// Closes the desk, and hands its history back where the receipts are exactly its entries.
+fn finish<L: Ledger>(
+    alloc: Global,
+    desk: Desk<L, MemoryMedium>,
+    first: Pass<L>,
+    second: Pass<L>,
+    receipts: &[Receipt],
+) -> Result<Vec<Entry>, WorkFault>
+    ensures { IfOk result (λ history. IsClosed desk.schema desk.site history.items receipts.now) }
+{
+    let site = desk.site();
+    let mut passes = Vec::new(alloc);
+    passes.push(first)?;
+    passes.push(second)?;
+    let Ok(closed) = desk.close(passes) else {
+        return Err(WorkFault::Passes { site });
+    };
+    if !closed.on_fresh_base() {
+        return Err(WorkFault::Passes { site });
+    }
+    if let Err(fault) = check_receipts(alloc, &closed, receipts) {
+        return Err(fault_of_receipts(fault));
+    }
+    let mut history = Vec::new(alloc);
+    for entry in closed.history() {
+        history.push(*entry)?;
+    }
+    Ok(history)
+}
+
+/// One site, over its own ledger: its desk is made, called and closed here.
+fn run_over<'x, L: Ledger + Send + Sync, R: Threads + Wait + Sync, G: Gate>(
+    rt: &'x R,
+    alloc: Global,
+    blank: Blank,
+    schema: &'x Schema,
+    seat: Seat,
+    gate: &'x G,
+) -> Result<Vec<Entry>, WorkFault>
+    requires name { blank.name ≡ L.name }
+    requires parts { blank.parts ≡ L.parts }
+    requires some { 0 < blank.parts }
+    requires in_schema { seat.site.0 < schema.now.sites }
+    requires plain { HasNoAccept seat.script.items }
+    ensures { IfOk result (λ history. IsWorked schema.now seat.site seat.script.items history.items) }
+{
+    let Seat {
+        site,
+        script,
+        mut posts,
+        mail,
+    } = seat;
+    let medium = MemoryMedium::new(Vec::new(alloc));
+    let made = Desk::<L, MemoryMedium>::new(alloc, blank, schema, site, medium);
+    let Ok((desk, mut passes)) = made else {
+        drop(mail);
+        end_all(rt, &mut posts);
+        return Err(WorkFault::NoMemory);
+    };
+    let (Some(first), Some(second)) = (passes.pop(), passes.pop()) else {
+        drop(mail);
+        end_all(rt, &mut posts);
+        return Err(WorkFault::NoMemory);
+    };
+    let (worked, first, carried) = run_both(
+        rt, alloc, &desk, schema, gate, script, mail, first, second, posts,
+    );
+    let mut receipts = worked?;
+    let Some((carried, second)) = carried else {
+        return Err(WorkFault::NoMemory);
+    };
+    let mut theirs = carried?;
+    receipts.append(&mut theirs)?;
+    finish(alloc, desk, first, second, receipts.as_slice())
+}
+
+/// One site, over a ledger that is named here.
+pub(crate) fn run_site<'x, R: Threads + Wait + Sync, G: Gate>(
+    rt: &'x R,
+    alloc: Global,
+    schema: &'x Schema,
+    seat: Seat,
+    gate: &'x G,
+) -> Result<Vec<Entry>, WorkFault>
+    requires in_schema { seat.site.0 < schema.now.sites }
+    requires plain { HasNoAccept seat.script.items }
+    ensures { IfOk result (λ history. IsWorked schema.now seat.site seat.script.items history.items) }
+{
+    run_over::<Brand, R, G>(rt, alloc, Blank::new(2), schema, seat, gate)
+}

@@ -1,0 +1,67 @@
+//! What a worker, a courier and the caller hold of an inbox.
+
+ghost use Rattle.std.specs.Prelude.{◌≡◌, Some};
+ghost use Rattle.crossbeam_channel.specs.Claims.{view, IsSeatAt};
+ghost use Rattle.crossbeam_channel.specs.Ends.{sends_on, receives_on};
+
+use crate::inbox::{Inbox, Letter, Slot, Way, put};
+use field_bounds::{SiteNo, Statement};
+use std::sync::Wait;
+
+/// A worker's end of an inbox, its own or another site's, with the worker's site.
+#[derive(Drop)]
+pub(crate) struct Post {
+    pub slot: Slot,
+    pub way: Way,
+    pub site: SiteNo,
+    ghost seated: { IsSeatAt (sends_on slot) way },
+    ghost named: { (view way).worker ≡ Some site },
+}
+
+impl Post {
+    /// Puts a statement of this worker. One of another site, of which a site's step issues none, is left
+    /// out, and so is one whose courier is gone.
+    pub fn put_stated<R: Wait>(&mut self, rt: &R, statement: Statement) {
+        let Post { slot, way, site } = self;
+        if statement.from == *site {
+            let _ = put(rt, slot, way, Letter::Stated(statement));
+        }
+    }
+
+    /// Tells the courier, where it isn't gone, that this worker puts no more.
+    pub fn put_end<R: Wait>(&mut self, rt: &R) {
+        let Post { slot, way, site } = self;
+        let _ = put(rt, slot, way, Letter::End(*site));
+    }
+}
+
+/// Tells all couriers that this worker puts no more.
+pub(crate) fn end_all<R: Wait>(rt: &R, posts: &mut Vec<Post>) {
+    for post in posts.iter_mut() {
+        post.put_end(rt);
+    }
+}
+
+/// A courier's end of its inbox.
+#[derive(Drop)]
+pub(crate) struct Mail {
+    pub inbox: Inbox,
+    pub way: Way,
+    ghost seated: { IsSeatAt (receives_on inbox) way },
+}
+
+/// The caller's end of an inbox, for the Ends of workers that can't be made.
+#[derive(Drop)]
+pub(crate) struct Spare {
+    pub slot: Slot,
+    pub way: Way,
+    ghost seated: { IsSeatAt (sends_on slot) way },
+}
+
+impl Spare {
+    /// Tells the courier that the worker of this site puts no more.
+    pub fn put_end<R: Wait>(&mut self, rt: &R, site: SiteNo) {
+        let Spare { slot, way } = self;
+        let _ = put(rt, slot, way, Letter::End(site));
+    }
+}
