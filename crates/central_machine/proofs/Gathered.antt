@@ -265,7 +265,7 @@ all_parts schema entries told owed first rest =
     let none : schema.sites - 0 ≡ schema.sites = omega arith in
     let all : (1 + schema.sites) - 0 ≡ suc schema.sites = omega arith in
     let sites : AllZip (λ site fault. site < schema.sites → IsFault schema entries (AtSite site) fault) (range_with_len 0 schema.sites) owed =
-        subst (λ n. AllZip (λ site fault. site < schema.sites → IsFault schema entries (AtSite site) fault) (range_with_len 0 n) owed) none rest in
+    subst (λ n. AllZip (λ site fault. site < schema.sites → IsFault schema entries (AtSite site) fault) (range_with_len 0 n) owed) none rest in
     let behind = zip_later (λ site fault. site < schema.sites → IsFault schema entries (AtSite site) fault) (λ part fault. part < 1 + schema.sites → IsFault schema entries (part_at part) fault) 0 schema.sites owed (λ site fault h below. subst (λ part. IsFault schema entries part fault) (sym (part_of_site site)) (h (omega (arith, below)))) sites in
     subst (λ n. AllZip (λ part fault. part < 1 + schema.sites → IsFault schema entries (part_at part) fault) (range_with_len 0 n) (told ∷ owed)) (sym all) (λ below. first, behind)
 

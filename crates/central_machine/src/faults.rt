@@ -60,11 +60,7 @@ fn note_place(lists: &mut Vec<Places>, site: SiteNo, place: usize) -> Result<(),
 }
 
 /// The places of each site's entries.
-fn places_of(
-    alloc: Global,
-    schema: &Schema,
-    entries: &[Entry],
-) -> Result<Vec<Places>, AllocError>
+fn places_of(alloc: Global, schema: &Schema, entries: &[Entry]) -> Result<Vec<Places>, AllocError>
     ensures count { IfOk result (λ lists. length lists.items ≡ schema.now.sites) }
     ensures places { IfOk result (λ lists. AreAllPlaces entries.now (length entries.now) lists.items) }
 {
