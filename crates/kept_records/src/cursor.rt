@@ -79,6 +79,7 @@ impl<'a> Cursor<'a> {
         requires log { IsKept self.old }
         ensures handed { IfOk result (λ next. HandsSummary self.old next self.new) }
         ensures within { IfOk result (λ _. length self.new ≤ length self.old) }
+        ensures stays { OnErr result (self.new ≡ self.old) }
     {
         if self.left.first() != Some(&b'S') {
             return Ok(None);
