@@ -1,4 +1,4 @@
-pub mod Keys
+pub mod Sets
 pub mod Reading
 pub mod Small
 pub mod Given

@@ -1,4 +1,3 @@
-pub mod Issued
 pub mod Amounts
 pub mod Open
 pub mod Running

@@ -20,7 +20,7 @@ use Rattle.central_machine.specs.declared.site_totals.SiteTotals.{SiteTotals}
 use Rattle.central_machine.specs.declared.totals.Totals.{Totals}
 use Rattle.central_machine.specs.declared.running.Running.{Running}
 use Rattle.central_machine.specs.Amounts.{amount, has_place, IsPut, capped}
-use Rattle.central_machine.specs.Issued.{AreIssued}
+use Rattle.statement_set.specs.Issued.{HasIssued}
 use Rattle.central_machine.specs.Open.{txns_of, escrows_at, IsOpened, IsAdded, IsClosed}
 
 -- ---- the numbers of one site
@@ -243,4 +243,4 @@ pub record AreTotals (schema : SchemaValue) (t : List Entry) (x : Totals) : Type
 -- And so are the statements issued.
 pub record AreRunning (schema : SchemaValue) (t : List Entry) (x : Running) : Type 0 where
   pub totals : AreTotals schema t x.totals
-  pub issued : AreIssued t x.issued.keys
+  pub issued : HasIssued x.issued t

@@ -5,15 +5,16 @@ ghost use Rattle.std.specs.List.{AllZip};
 ghost use Rattle.rayon.specs.Numbers.{nat_range};
 ghost use Rattle.field_bounds.specs.declared.entry.Entry.{Entry};
 ghost use Rattle.central_machine.specs.Parts.{IsNoted, AreAllPlaces, ArePlaces, IsFault, part_at, part_test, earlier, earliest, first_is_at};
-ghost use Rattle.central_machine.specs.Issued.{AreIssued};
+ghost use Rattle.statement_set.specs.Issued.{HasIssued};
 ghost use Rattle.central_machine.specs.declared.faults.Part.TheVariants.{Statements, AtSite};
 
 use crate::counted::length_of;
-use crate::issued::Issued;
+use crate::issued;
 use crate::site_totals::SiteTotals;
 use crate::totals::reply_fits;
 use field_bounds::{Entry, Schema, SiteNo};
 use rayon::prelude::*;
+use statement_set::StatementSet;
 use std::alloc::{AllocError, Global};
 use std::thread::{Threads, join};
 
@@ -72,11 +73,11 @@ fn places_of(alloc: Global, schema: &Schema, entries: &[Entry]) -> Result<Vec<Pl
 }
 
 /// Whether the entry's site is in the schema, and it takes in no statement that wasn't issued.
-fn statements_hold(issued: &Issued, schema: &Schema, entry: Entry) -> bool
-    ensures { (t : List Entry) → AreIssued t issued.now.keys →
+fn statements_hold(issued: &StatementSet, schema: &Schema, entry: Entry) -> bool
+    ensures { (t : List Entry) → HasIssued issued.now t →
         result ≡ part_test schema.now t entry Statements }
 {
-    entry.site.0 < schema.sites() && issued.holds(entry)
+    entry.site.0 < schema.sites() && issued::holds(issued, entry)
 }
 
 /// The first entry of a site that isn't in the schema, or that takes in a statement that wasn't
@@ -88,12 +89,12 @@ fn statements_fault(
 ) -> Result<Option<usize>, AllocError>
     ensures { IfOk result (λ fault. IsFault schema.now entries.now Statements fault) }
 {
-    let mut issued = Issued::new(alloc);
+    let mut issued = StatementSet::new(alloc);
     for (i, entry) in entries.iter().enumerate() {
         if !statements_hold(&issued, schema, *entry) {
             return Ok(Some(i));
         }
-        issued.note(entry)?;
+        issued::note(&mut issued, entry)?;
     }
     Ok(None)
 }

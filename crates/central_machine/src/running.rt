@@ -7,17 +7,18 @@ ghost use Rattle.central_rules.specs.declared.verdict.Rule.TheVariants.{Statemen
 ghost use Rattle.central_rules.specs.Verdict.{broken, verdict_back, test_of};
 ghost use Rattle.central_machine.specs.Running.{AreRunning};
 
-use crate::issued::Issued;
+use crate::issued;
 use crate::totals::Totals;
 use central_rules::Rule;
 use field_bounds::{Entry, Schema};
+use statement_set::StatementSet;
 use std::alloc::{AllocError, Global};
 
 /// The totals of a front: those of all sites, and the statements issued.
 #[derive(Drop)]
 pub struct Running {
     pub totals: Totals,
-    pub issued: Issued,
+    pub issued: StatementSet,
 }
 
 impl Running {
@@ -27,7 +28,7 @@ impl Running {
     {
         Ok(Running {
             totals: Totals::new(alloc, schema)?,
-            issued: Issued::new(alloc),
+            issued: StatementSet::new(alloc),
         })
     }
 
@@ -36,7 +37,7 @@ impl Running {
             result ≡ test_of schema.now t entry Told }
     {
         let _sites = schema.sites();
-        self.issued.holds(entry)
+        issued::holds(&self.issued, entry)
     }
 
     /// The first rule that the next entry breaks, of a site of the schema.
@@ -79,7 +80,7 @@ impl Running {
             broken schema.now t entry ≡ None → AreRunning schema.now (entry ∷ t) self.new) }
     {
         let _sites = schema.sites();
-        self.issued.note(&entry)?;
+        issued::note(&mut self.issued, &entry)?;
         self.totals.step(alloc, schema, entry)
     }
 

@@ -1,5 +1,5 @@
 -- What a courier has done after one letter more.
-use Rattle.std.proofs.Common.{◌≡◌, ◌≢◌, ℕ, ◌+◌, ◌<◌, Bool, true, false, true≢false, List, [], ◌∷◌, ◌++◌, length, set, sym, refl, ap, ◌∙◌, subst, arith, slice_index_or, append-nil, append_assoc, get_or-set_same, get_or-set_other, take}
+use Rattle.std.proofs.Common.{◌≡◌, ◌≢◌, ℕ, ◌+◌, ◌<◌, Bool, true, false, true≢false, List, [], ◌∷◌, ◌++◌, length, set, sym, refl, ap, ◌∙◌, subst, arith, slice_index_or, append-nil, append_assoc, get_or-set_other, take}
 use Rattle.std.proofs.lemmas.List.{take_more}
 use Rattle.std.specs.List.{Contains}
 use Rattle.std.proofs.lemmas.List.Elements.{Contains-append_left, Contains-push}
@@ -13,7 +13,7 @@ use Rattle.site_desk.specs.declared.kept.Receipt.{Receipt}
 use Rattle.site_workers.specs.declared.inbox.Letter.{Letter}
 use Rattle.site_workers.specs.declared.inbox.Letter.TheVariants.{Stated, End}
 use Rattle.site_workers.specs.Inboxes.{site_no}
-use Rattle.site_workers.specs.Carried.{accepts_of, commands_of, Carries, Progress, HasEnds}
+use Rattle.site_workers.specs.Carried.{accepts_of, commands_of, Carries, Progress}
 
 accepts_stated : (xs : List Letter) (s : Statement) → accepts_of (xs ++ Stated s ∷ []) ≡ accepts_of xs ++ Accept s ∷ []
 accepts_stated [] s = refl

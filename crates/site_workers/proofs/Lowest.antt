@@ -1,5 +1,5 @@
 -- The lowest site whose history shows what it may not.
-use Rattle.std.proofs.Common.{◌≡◌, ◌↔◌, ℕ, ◌+◌, ◌<◌, ◌≤◌, ◌⊎◌, Bool, true, false, List, [], ◌∷◌, length, get_or, take, reverse, refl, sym, ap, subst, ◌∙◌, inl, inr, ⊎_elim, arith, Option, Some, None, Contains}
+use Rattle.std.proofs.Common.{◌≡◌, ℕ, ◌+◌, ◌<◌, ◌≤◌, ◌⊎◌, Bool, true, false, List, [], length, get_or, take, reverse, refl, sym, ap, subst, ◌∙◌, inl, inr, ⊎_elim, arith, Option, Some, None, Contains}
 use Rattle.std.specs.Prelude.{if◌then◌else◌, nat_lt, IfSome, IfNone}
 use Rattle.std.proofs.lemmas.Bool.{cases_lt, ltb-true, ltb-false}
 use Rattle.std.proofs.lemmas.List.{get_or_past, length-map}
@@ -10,7 +10,7 @@ use Rattle.field_bounds.specs.declared.entry.Entry.{Entry}
 use Rattle.field_bounds.specs.declared.entry.Statement.{Statement}
 use Rattle.field_bounds.specs.Statements.{statement_of, IsIssued}
 use Rattle.site_workers.specs.Scripts.{histories_of, history_at, HasAccept, NoneForeign, NoneLost}
-use Rattle.site_workers.specs.Crossing.{AreIssued, AreAccepted, set_at, AcceptsIssued, IsForeign, IsLowestForeign, AcceptsAll, Lacks, IsLowestLost, lower_of, IsLowest, LacksTold, TakesTold, LacksIn, TakesIn, LacksBefore, TakesBefore}
+use Rattle.site_workers.specs.Crossing.{AreIssued, AreAccepted, set_at, AcceptsIssued, IsLowestForeign, AcceptsAll, Lacks, IsLowestLost, lower_of, IsLowest, LacksTold, TakesTold, LacksIn, TakesIn, LacksBefore, TakesBefore}
 use Rattle.site_workers.proofs.Traffic.{turned_more, issued_at, accepted_at, history_here}
 
 -- ---- the lower of two

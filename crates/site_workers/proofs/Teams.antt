@@ -1,5 +1,5 @@
 -- The threads of all sites, as they are started and joined.
-use Rattle.std.proofs.Common.{◌≡◌, ℕ, zero, suc, ◌+◌, ◌<◌, ◌≤◌, List, [], ◌∷◌, ◌++◌, length, map, reverse, refl, sym, ap, subst, ◌∙◌, arith, append-nil, append_assoc, Option, Some, None, length-append}
+use Rattle.std.proofs.Common.{◌≡◌, ℕ, ◌+◌, ◌<◌, ◌≤◌, List, [], ◌∷◌, ◌++◌, length, reverse, refl, sym, ap, subst, ◌∙◌, arith, append-nil, append_assoc, Option, Some, None, length-append}
 use Rattle.std.proofs.lemmas.List.{reverse-append, length-map, map-append}
 use Rattle.std.specs.Global.{Vec}
 use Rattle.field_bounds.specs.declared.id.SiteNo.{SiteNo}

@@ -1,8 +1,7 @@
 -- What goes from site to site, entry by entry.
-use Rattle.std.proofs.Common.{◌≡◌, ◌↔◌, ℕ, zero, suc, ◌+◌, ◌<◌, ◌≤◌, ◌⊎◌, List, [], ◌∷◌, ◌++◌, length, get_or, take, map, reverse, refl, sym, ap, subst, ◌∙◌, inl, inr, ⊎_elim, arith, Some, Contains}
+use Rattle.std.proofs.Common.{◌≡◌, ◌↔◌, ℕ, zero, suc, ◌+◌, ◌<◌, ◌≤◌, ◌⊎◌, List, [], ◌∷◌, ◌++◌, length, get_or, take, reverse, sym, ap, subst, ◌∙◌, inl, inr, ⊎_elim, arith, Some, Contains}
 use Rattle.std.proofs.lemmas.List.{take_more, take_all, get_or-map, reverse-append, map-append}
 use Rattle.std.specs.Global.{Vec}
-use Rattle.field_bounds.specs.declared.entry.Command.{Command}
 use Rattle.field_bounds.specs.declared.entry.Command.TheVariants.{Accept}
 use Rattle.field_bounds.specs.declared.entry.Entry.{Entry}
 use Rattle.field_bounds.specs.declared.entry.Statement.{Statement}

@@ -5,6 +5,7 @@ use Rattle.field_bounds.specs.declared.id.SiteNo.{SiteNo}
 use Rattle.field_bounds.specs.declared.entry.Entry.{Entry}
 use Rattle.field_bounds.specs.declared.entry.Statement.{Statement}
 use Rattle.field_bounds.specs.Statements.{IsIssued}
+use Rattle.statement_set.specs.Issued.{HasIssued}
 use Rattle.site_workers.specs.Scripts.{history_at, HasAccept}
 
 -- ---- sets of statements
@@ -14,7 +15,7 @@ abbrev pub AreIssued : List (List Entry) → List (List Statement) → Type 0
 AreIssued [] [] = Unit {0}
 AreIssued [] (set ∷ sets) = ⊥
 AreIssued (h ∷ hs) [] = ⊥
-AreIssued (h ∷ hs) (set ∷ sets) = ((told : Statement) → Contains set told ↔ IsIssued told (reverse h)) × AreIssued hs sets
+AreIssued (h ∷ hs) (set ∷ sets) = HasIssued set (reverse h) × AreIssued hs sets
 
 -- One set for each history: the statements that it accepts.
 abbrev pub AreAccepted : List (List Entry) → List (List Statement) → Type 0

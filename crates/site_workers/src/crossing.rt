@@ -6,13 +6,14 @@ ghost use Rattle.field_bounds.specs.Statements.{statement_of};
 ghost use Rattle.site_workers.specs.Scripts.{histories_of, HasAccept, NoneForeign, NoneLost};
 ghost use Rattle.site_workers.specs.Crossing.{set_at, lower_of, IsLowest, LacksTold, TakesTold, LacksIn, TakesIn, IsLowestForeign, IsLowestLost};
 
-use crate::told::{Told, all_accepted, all_issued, has_at};
+use crate::told::{all_accepted, all_issued, has_at};
 use field_bounds::{Command, Entry, SiteNo, Statement, statement_of};
+use statement_set::StatementSet;
 use std::alloc::{AllocError, Global};
 
 /// The first statement that a history accepts and that isn't in the set of the site that it names as
 /// its giver.
-fn first_unissued(issued: &[Told], history: &[Entry]) -> Option<Statement>
+fn first_unissued(issued: &[StatementSet], history: &[Entry]) -> Option<Statement>
     ensures some { IfSome result (λ told. HasAccept told (reverse history.now) × ¬ Contains (set_at issued.now told.from.0) told) }
     ensures none { IfNone result ((told : Statement) → HasAccept told (reverse history.now) → Contains (set_at issued.now told.from.0) told) }
 {
@@ -53,7 +54,7 @@ fn lower_of(one: Option<SiteNo>, other: Option<SiteNo>) -> Option<SiteNo>
 }
 
 /// The receiver of the statement that an entry issues, where its set lacks it.
-fn lacking(accepted: &[Told], entry: &Entry) -> Option<SiteNo>
+fn lacking(accepted: &[StatementSet], entry: &Entry) -> Option<SiteNo>
     ensures { IsLowest (LacksTold accepted.now (statement_of entry.now)) (TakesTold accepted.now (statement_of entry.now)) result }
 {
     let Some(told) = statement_of(entry) else {
@@ -66,7 +67,7 @@ fn lacking(accepted: &[Told], entry: &Entry) -> Option<SiteNo>
 }
 
 /// The lowest site whose set lacks a statement that a history issues to it.
-fn lowest_lacking(accepted: &[Told], history: &[Entry]) -> Option<SiteNo>
+fn lowest_lacking(accepted: &[StatementSet], history: &[Entry]) -> Option<SiteNo>
     ensures { IsLowest (LacksIn accepted.now history.now) (TakesIn accepted.now history.now) result }
 {
     let mut lowest = None;

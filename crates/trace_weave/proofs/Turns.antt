@@ -1,5 +1,5 @@
 -- What one turn does.
-use Rattle.std.proofs.Common.{◌≡◌, ◌≢◌, ◌↔◌, ◌⊎◌, ℕ, zero, suc, ◌+◌, ◌<◌, ◌≤◌, List, [], ◌∷◌, ◌++◌, length, get_or, set, reverse, sym, ap, subst, ◌∙◌, inl, inr, ⊎_elim, arith, Some, None, Contains, get_or-set_same, get_or-set_other}
+use Rattle.std.proofs.Common.{◌≡◌, ◌≢◌, ◌↔◌, ◌⊎◌, ℕ, zero, suc, ◌+◌, ◌<◌, ◌≤◌, List, [], ◌∷◌, ◌++◌, length, get_or, set, reverse, sym, ap, subst, ◌∙◌, ⊎_elim, arith, Some, None, Contains, get_or-set_same, get_or-set_other}
 use Rattle.std.proofs.lemmas.List.{reverse-append}
 use Rattle.std.proofs.lemmas.Option.{slice_get_within, slice_get_cases, none-some}
 use Rattle.std.specs.List.{slice_get}
@@ -9,7 +9,9 @@ use Rattle.field_bounds.specs.declared.entry.Entry.{Entry}
 use Rattle.field_bounds.specs.declared.entry.Statement.{Statement}
 use Rattle.field_bounds.specs.Statements.{statement_of}
 use Rattle.trace_weave.specs.Weave.{history_at, placed, next_of, IsPicked, Waits, WeavesLowest, SticksAt, NoneWeaves}
-use Rattle.trace_weave.specs.Turn.{upcoming, HoldsBack, IsTurn, IsFirstLeft, IsWoven, left_of, Knows, IsReached, GoesOn}
+use Rattle.trace_weave.specs.Turn.{upcoming, HoldsBack, IsTurn, IsFirstLeft, IsWoven, left_of, IsReached, GoesOn}
+use Rattle.statement_set.specs.Issued.{HasIssued}
+use Rattle.statement_set.proofs.Sets.{issued_more}
 use Rattle.trace_weave.proofs.Woven.{placed_here, placed_there, none_weaves, rule_grows}
 
 pub starts : (hs : List (List Entry)) (counts : List ℕ) → ((s : ℕ) → get_or counts s 0 ≡ 0) → IsWoven hs counts []
@@ -135,17 +137,11 @@ ends_stuck hs counts seen again xs shown s n len same too is found first held w 
 no_place : (st : Statement) → ¬ Contains [] st
 no_place st has = absurd (omega arith)
 
-nothing_told : (told : List Statement) → told ≡ [] → Knows told []
+nothing_told : (told : List Statement) → told ≡ [] → HasIssued told []
 nothing_told told none st = (λ has. absurd (no_place st (subst (λ (l : List Statement). Contains l st) none has)), λ is. absurd is)
 
 pub begins : (hs : List (List Entry)) (counts : List ℕ) (told : List Statement) → told ≡ [] → IsReached hs counts told [] 0
 begins hs counts told none = record { knows = nothing_told told none; below = λ j under. absurd (omega arith) }
-
-knows_more : (told more : List Statement) (t : List Entry) (e : Entry) → Knows told t → ((st : Statement) → Contains more st ↔ ((statement_of e ≡ Some st) ⊎ Contains told st)) → Knows more (e ∷ t)
-knows_more told more t e knows added st = (
-  λ has. ⊎_elim (λ now. inl now) (λ before. inr ((knows st).0 before)) ((added st).0 has),
-  λ is. (added st).1 (⊎_elim (λ now. inl now) (λ before. inr ((knows st).1 before)) is),
-)
 
 -- a history that held back still does, behind an entry of another that issues nothing
 holds_still : (hs : List (List Entry)) (counts : List ℕ) (t : List Entry) (s j n : ℕ) (e : Entry) → statement_of e ≡ None → j < s → HoldsBack hs counts t j → HoldsBack hs (set counts s n) (e ∷ t) j
@@ -154,12 +150,12 @@ holds_still hs counts t s j n e silent under held f next may =
     (rule_grows t (e ∷ t) f.command f.reply (λ st is. ⊎_elim (λ now. absurd (none-some st (sym silent ∙ now))) (λ before. before) is) may)
 
 pub reaches : (hs : List (List Entry)) (counts seen : List ℕ) (told more : List Statement) (xs ys : List Entry) (s n from : ℕ) (e : Entry) → seen ≡ counts → ys ≡ xs ++ e ∷ []
-    → IsTurn hs seen (reverse xs) s e → Knows told (reverse xs) → ((st : Statement) → Contains more st ↔ ((statement_of e ≡ Some st) ⊎ Contains told st)) → GoesOn e s from → IsReached hs (set counts s n) more (reverse ys) from
+    → IsTurn hs seen (reverse xs) s e → HasIssued told (reverse xs) → ((st : Statement) → Contains more st ↔ ((statement_of e ≡ Some st) ⊎ Contains told st)) → GoesOn e s from → IsReached hs (set counts s n) more (reverse ys) from
 reaches hs counts seen told more xs ys s n from e same grown turned knows added goes =
     let turn : IsTurn hs counts (reverse xs) s e = subst (λ (k : List ℕ). IsTurn hs k (reverse xs) s e) same turned in
     subst (λ (l : List Entry). IsReached hs (set counts s n) more l from) (sym (ap (λ (l : List Entry). reverse l) grown ∙ reverse-append xs (e ∷ [])))
     (record {
-      knows = knows_more told more (reverse xs) e knows added;
+      knows = issued_more told more (reverse xs) e knows added;
       below = λ j under.
           ⊎_elim (λ (none : from ≡ 0). absurd (omega arith))
           (λ (on : (from ≡ s) × (statement_of e ≡ None)). holds_still hs counts (reverse xs) s j n e on.1 (subst (λ (k : ℕ). j < k) on.0 under) (turn.lower j (subst (λ (k : ℕ). j < k) on.0 under)))

@@ -1,9 +1,10 @@
 -- A turn of weaving, as the code takes it: by how many entries of each history were placed (this project).
-use Rattle.std.specs.Prelude.{◌≡◌, ◌↔◌, ◌⊎◌, ℕ, ◌-◌, ◌+◌, ◌<◌, List, [], ◌∷◌, length, slice_index_or, Option, Some, None, Contains}
+use Rattle.std.specs.Prelude.{◌≡◌, ◌⊎◌, ℕ, ◌-◌, ◌+◌, ◌<◌, List, [], ◌∷◌, length, slice_index_or, Option, Some, None}
 use Rattle.std.specs.List.{slice_get}
 use Rattle.field_bounds.specs.declared.entry.Entry.{Entry}
 use Rattle.field_bounds.specs.declared.entry.Statement.{Statement}
-use Rattle.field_bounds.specs.Statements.{statement_of, IsIssued}
+use Rattle.field_bounds.specs.Statements.{statement_of}
+use Rattle.statement_set.specs.Issued.{HasIssued}
 use Rattle.trace_weave.specs.Weave.{history_at, placed, MayStand, IsPicked, IsLowest}
 
 -- The next entry of history s.
@@ -35,13 +36,9 @@ pub record IsWoven (hs : List (List Entry)) (counts : List ℕ) (t : List Entry)
   pub lowest : IsLowest hs picks t
   pub counted : (s : ℕ) → slice_index_or counts s 0 ≡ placed s picks
 
--- The statements told are those that the trace issues.
-abbrev pub Knows : List Statement → List Entry → Type 0
-Knows told t = (statement : Statement) → Contains told statement ↔ IsIssued statement t
-
 -- The statements told are those that the trace issues, and below this history none has a next entry that may stand.
 pub record IsReached (hs : List (List Entry)) (counts : List ℕ) (told : List Statement) (t : List Entry) (from : ℕ) : Type 0 where
-  pub knows : Knows told t
+  pub knows : HasIssued told t
   pub below : (j : ℕ) → j < from → HoldsBack hs counts t j
 
 -- Where the next look begins, behind an entry of history s: at the first where it issues a statement, for which a lower

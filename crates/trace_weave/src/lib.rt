@@ -2,7 +2,6 @@
 #![tactic(auto)]
 
 mod fault;
-mod issued;
 mod laws;
 mod weaving;
 

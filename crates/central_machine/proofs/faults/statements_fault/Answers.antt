@@ -3,7 +3,7 @@ use Rattle.std.proofs.lemmas.Option.{slice_get-get_or}
 use Rattle.field_bounds.specs.declared.entry.Entry.{Entry}
 use Rattle.central_rules.proofs.Fronts.{front_more}
 use Rattle.central_machine.specs.declared.faults.Part.TheVariants.{Statements}
-use Rattle.central_machine.specs.Issued.{AreIssued}
+use Rattle.statement_set.specs.Issued.{HasIssued}
 use Rattle.central_machine.specs.Parts.{front_of, part_test}
 use Rattle.central_machine.proofs.Found.{next_passed, no_fault, fault_at}
 use Rattle.central_machine.proofs.faults.statements_fault.Goals as goal
@@ -16,7 +16,7 @@ loop-i-preserved c =
     let was = c.loop-i.invariant in
     let holds = sym (c.statements_hold.ensures (front_of entries i) was.issued) ∙ c.if-not-statements_hold.false in
     record {
-      issued = subst (λ (t : List Entry). AreIssued t c.note.new.self.keys) (sym (front_more entries i _ (omega arith))) (c.in_ok-note.ensures (front_of entries i) was.issued);
+      issued = subst (λ (t : List Entry). HasIssued c.note.new.issued t) (sym (front_more entries i _ (omega arith))) (c.in_ok-note.ensures (front_of entries i) was.issued);
       passed = next_passed (λ j e. part_test schema (front_of entries j) e Statements ≡ true) entries i _ (omega arith) was.passed holds;
     }
 

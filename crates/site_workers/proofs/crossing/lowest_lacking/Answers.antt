@@ -1,4 +1,4 @@
-use Rattle.std.proofs.Common.{ℕ, ◌+◌, take, sym, subst, Option}
+use Rattle.std.proofs.Common.{◌+◌, take, sym, subst, Option}
 use Rattle.field_bounds.specs.declared.id.SiteNo.{SiteNo}
 use Rattle.site_workers.specs.Crossing.{IsLowest, LacksIn, TakesIn}
 use Rattle.site_workers.proofs.Lowest.{lowest_step}

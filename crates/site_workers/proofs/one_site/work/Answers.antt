@@ -1,5 +1,3 @@
-use Rattle.std.proofs.Common.{◌≡◌, sym, subst, List}
-use Rattle.site_desk.specs.declared.kept.Receipt.{Receipt}
 use Rattle.site_workers.proofs.Carrying.{commands_step}
 use Rattle.site_workers.proofs.Scripts.{rises_more_at}
 use Rattle.site_workers.proofs.one_site.work.Goals as goal

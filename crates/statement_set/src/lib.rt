@@ -1,0 +1,9 @@
+//! Sets of statements: which statements some sites issued, or accepted.
+#![tactic(auto)]
+
+mod set;
+
+pub use set::StatementSet;
+
+#[cfg(test)]
+mod tests;
