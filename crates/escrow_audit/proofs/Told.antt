@@ -8,10 +8,10 @@ use Rattle.central_rules.specs.declared.verdict.Verdict.{Verdict}
 use Rattle.central_rules.specs.declared.verdict.Verdict.TheVariants as verdicts
 use Rattle.central_rules.specs.Verdict.{verdict_of}
 use Rattle.script_input.specs.declared.fault.ScriptFault.TheVariants.{Write, NoMemory}
-use Rattle.script_input.specs.declared.watched.End.{End}
+use Rattle.script_input.specs.declared.streams.End.{End}
 use Rattle.script_input.specs.Lines.{script_lines}
 use Rattle.script_input.specs.Faults.{HasEndedAt}
-use Rattle.script_input.specs.Watched.{AppendsFront}
+use Rattle.script_input.specs.Streams.{AppendsFront}
 use Rattle.escrow_audit.specs.declared.answer.AuditEnd.{AuditEnd}
 use Rattle.escrow_audit.specs.declared.answer.AuditEnd.TheVariants as ends
 use Rattle.escrow_audit.specs.declared.reading.Reading.{Reading}

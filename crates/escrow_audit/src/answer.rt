@@ -5,7 +5,7 @@ ghost use Rattle.std.specs.Io.KnownBytes.{Appends};
 ghost use Rattle.std.specs.Fmt.{decimal};
 ghost use Rattle.field_bounds.specs.Schema.{SchemaValue};
 ghost use Rattle.central_rules.specs.Verdict.{verdict_of};
-ghost use Rattle.script_input.specs.Watched.{known, last_of, HasFailed, GaveNothing, HasRefused, AppendsFront};
+ghost use Rattle.script_input.specs.Streams.{HasFailed, GaveNothing, HasRefused, AppendsFront};
 ghost use Rattle.escrow_audit.specs.Reading.{Tells, FaultsIn};
 ghost use Rattle.escrow_audit.specs.Audit.{rule_text, verdict_text, end_of, bad_entry_text, Audits, Fails};
 
@@ -13,9 +13,8 @@ use crate::reading::{Reading, Stop};
 use central_machine::{judge, judge_fields};
 use central_rules::{Rule, Verdict};
 use field_bounds::{Entry, Schema};
-use script_input::{ScriptFault, Watched};
+use script_input::{ScriptFault, Sink, Source};
 use std::alloc::{AllocError, Global};
-use std::io::{Read, Write};
 use std::thread::Threads;
 
 /// What an audit found.
@@ -117,17 +116,17 @@ fn judged(
 }
 
 // Reads the input, and tells what is answered.
-fn answer<R: Read>(
+fn answer<R: Source>(
     rt: &(impl Threads + Sync),
     alloc: Global,
     fields: bool,
-    reader: &mut Watched<R>,
+    reader: &mut R,
 ) -> Result<(AuditEnd, String), ScriptFault>
-    ensures ok { IfOk result (λ told. Tells (known R.remaining reader.old) (known R.remaining reader.new)
-        (last_of reader.new) told.0 (string_bytes told.1)) }
-    ensures fault { IfErr result (FaultsIn (known R.remaining reader.old) (known R.remaining reader.new)
-        (last_of reader.new)) }
-    ensures read { IfErr result (λ fault. fault ≡ ScriptFault.Read → HasFailed reader.new) }
+    ensures ok { IfOk result (λ told. Tells (R.bytes reader.old) (R.bytes reader.new)
+        (R.last reader.new) told.0 (string_bytes told.1)) }
+    ensures fault { IfErr result (FaultsIn (R.bytes reader.old) (R.bytes reader.new)
+        (R.last reader.new)) }
+    ensures read { IfErr result (λ fault. fault ≡ ScriptFault.Read → HasFailed (R.last reader.new)) }
 {
     let mut reading = Reading::new(alloc);
     match reading.read_all(reader) {
@@ -141,12 +140,12 @@ fn answer<R: Read>(
 }
 
 // Writes what is answered.
-fn write_out<W: Write>(writer: &mut Watched<W>, bytes: &[u8]) -> Result<(), ScriptFault>
-    ensures ok { OnOk result (Appends (known W.contents writer.old) (known W.contents writer.new) bytes.now) }
-    ensures front { OnErr result (AppendsFront (known W.contents writer.old) (known W.contents writer.new)
+fn write_out<W: Sink>(writer: &mut W, bytes: &[u8]) -> Result<(), ScriptFault>
+    ensures ok { OnOk result (Appends (W.bytes writer.old) (W.bytes writer.new) bytes.now) }
+    ensures front { OnErr result (AppendsFront (W.bytes writer.old) (W.bytes writer.new)
         bytes.now) }
     ensures fault { IfErr result (λ fault. fault ≡ ScriptFault.Write) }
-    ensures refused { OnErr result (HasRefused writer.new) }
+    ensures refused { OnErr result (HasRefused (W.last writer.new)) }
 {
     if writer.write_all(bytes).is_err() {
         return Err(ScriptFault::Write);
@@ -186,29 +185,29 @@ fn write_out<W: Write>(writer: &mut Watched<W>, bytes: &[u8]) -> Result<(), Scri
 ///
 /// Source: O'Neil 1986 for the central store, Balegas and others 2015 for rights that are divided among
 /// sites and given, this project for the audit.
-pub fn audit_text<R: Read, W: Write>(
+pub fn audit_text<R: Source, W: Sink>(
     rt: &(impl Threads + Sync),
     alloc: Global,
     fields: bool,
-    reader: &mut Watched<R>,
-    writer: &mut Watched<W>,
+    reader: &mut R,
+    writer: &mut W,
 ) -> Result<AuditEnd, ScriptFault>
     // The answer to what was read is written.
-    ensures ok { IfOk result (Audits (known R.remaining reader.old) (known R.remaining reader.new)
-        (known W.contents writer.old) (known W.contents writer.new) (last_of reader.new)) }
+    ensures ok { IfOk result (Audits (R.bytes reader.old) (R.bytes reader.new)
+        (W.bytes writer.old) (W.bytes writer.new) (R.last reader.new)) }
 
     // A verdict comes only after a read that had room and gave nothing.
-    ensures end { IfOk result (λ end. end ≢ AuditEnd.BadEntry → GaveNothing reader.new) }
+    ensures end { IfOk result (λ end. end ≢ AuditEnd.BadEntry → GaveNothing (R.last reader.new)) }
 
     // A fault comes for a reason, and nothing but a front of the answer is written.
-    ensures fault { IfErr result (Fails (known R.remaining reader.old) (known R.remaining reader.new)
-        (known W.contents writer.old) (known W.contents writer.new) (last_of reader.new)) }
+    ensures fault { IfErr result (Fails (R.bytes reader.old) (R.bytes reader.new)
+        (W.bytes writer.old) (W.bytes writer.new) (R.last reader.new)) }
 
     // A read fault comes only where a read failed.
-    ensures read { IfErr result (λ fault. fault ≡ ScriptFault.Read → HasFailed reader.new) }
+    ensures read { IfErr result (λ fault. fault ≡ ScriptFault.Read → HasFailed (R.last reader.new)) }
 
     // A write fault comes only where a write failed, or took none of its bytes.
-    ensures write { IfErr result (λ fault. fault ≡ ScriptFault.Write → HasRefused writer.new) }
+    ensures write { IfErr result (λ fault. fault ≡ ScriptFault.Write → HasRefused (W.last writer.new)) }
 {
     let (end, text) = answer(rt, alloc, fields, reader)?;
     write_out(writer, text.as_bytes())?;

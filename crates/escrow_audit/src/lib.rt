@@ -1,4 +1,4 @@
-//! The audit of a run's output, over any reader and writer: whether its entries are a run of one
+//! The audit of a run's output, over any source and sink: whether its entries are a run of one
 //! central store.
 #![tactic(auto)]
 
@@ -9,7 +9,7 @@ mod remark;
 
 pub use answer::{AuditEnd, audit_text};
 pub use laws::one_answer;
-pub use script_input::{End, ScriptFault, Watched};
+pub use script_input::{CallFailed, End, ScriptFault, Sink, Source, Watched};
 
 #[cfg(test)]
 mod tests;

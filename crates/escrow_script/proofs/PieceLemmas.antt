@@ -7,11 +7,11 @@ use Rattle.std.proofs.KnownBytes.{Appends-trans, Appends-nil, Consumes-trans, Co
 use Rattle.escrow_script.specs.declared.script.Script.{Script}
 use Rattle.script_input.specs.declared.fault.ScriptFault.{ScriptFault}
 use Rattle.script_input.specs.declared.fault.ScriptFault.TheVariants.{Read, TooLong, Write, Header, NoMemory}
-use Rattle.script_input.specs.declared.watched.End.{End}
-use Rattle.script_input.specs.declared.watched.End.TheVariants.{Nothing}
+use Rattle.script_input.specs.declared.streams.End.{End}
+use Rattle.script_input.specs.declared.streams.End.TheVariants.{Nothing}
 use Rattle.script_input.specs.Lines.{whole_lines}
 use Rattle.script_input.specs.Faults.{HasEndedAt}
-use Rattle.script_input.specs.Watched.{AppendsFront}
+use Rattle.script_input.specs.Streams.{AppendsFront}
 use Rattle.script_input.proofs.LineLemmas.{split_piece, rest_some}
 use Rattle.escrow_script.specs.Run.{At, HasWritten, Stops, Stands, StopsAfter, IsFresh, RunsThrough, Answers, Fails, Leaves, LeavesAll, WritesText, WritesFor}
 use Rattle.escrow_script.proofs.RunLemmas.{At-written, Stops-along, kept-nil, IsTextOf-stands}

@@ -15,7 +15,7 @@ use Rattle.field_bounds.specs.Header.{schema_of}
 use Rattle.script_input.specs.Lines.{whole_lines, last_part, last_line, with_header, script_lines}
 use Rattle.escrow_script.specs.Text.{IsTextOf}
 use Rattle.script_input.specs.Faults.{BeginsWithBreak}
-use Rattle.script_input.specs.Watched.{AppendsFront}
+use Rattle.script_input.specs.Streams.{AppendsFront}
 use Rattle.escrow_script.specs.Run.{At, HasKept, CannotKeep, HasEnded, CannotEnd, HasAnswered, HasWritten, Stops, kept, with_piece, Leaves, LeavesFront, StandsFor, Moves, Completes}
 use Rattle.script_input.proofs.LineLemmas.{whole_lines-unbroken, last_part-unbroken, whole_lines-broken, last_part-broken, last_part_after-none, last_line-some, with_header-last, with_header-some}
 use Rattle.escrow_script.proofs.TextLemmas.{StandsFor-next, StandsFor-more, with_piece-kept}

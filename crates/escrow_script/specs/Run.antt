@@ -8,7 +8,7 @@ use Rattle.escrow_script.specs.declared.machine.Machine.{Machine}
 use Rattle.escrow_script.specs.declared.script.Script.{Script}
 use Rattle.script_input.specs.declared.fault.ScriptFault.{ScriptFault}
 use Rattle.script_input.specs.declared.fault.ScriptFault.TheVariants.{Write, Header, NoMemory}
-use Rattle.script_input.specs.declared.watched.End.{End}
+use Rattle.script_input.specs.declared.streams.End.{End}
 use Rattle.entry_text.specs.Lines.{max_line}
 use Rattle.escrow_script.specs.Text.{line_text, AreReplies, IsAnswer, HasText, IsTextOf}
 use Rattle.world_steps.specs.declared.step.WorldStep.{WorldStep}
@@ -17,7 +17,7 @@ use Rattle.field_bounds.specs.declared.entry.Entry.{Entry}
 use Rattle.world_steps.specs.View.{WorldValue}
 use Rattle.script_input.specs.Lines.{whole_lines, last_part, script_lines}
 use Rattle.script_input.specs.Faults.{HasEndedAt, Explains}
-use Rattle.script_input.specs.Watched.{AppendsFront}
+use Rattle.script_input.specs.Streams.{AppendsFront}
 
 -- A line with the next bytes: all of them in a header line, and else as many as tell that the line is too long.
 abbrev pub with_piece : Option Machine → List ℕ → List ℕ → List ℕ

@@ -1,5 +1,5 @@
-//! Scripts of a world's steps, read line by line and answered line by line, over any reader and
-//! writer.
+//! Scripts of a world's steps, read line by line and answered line by line, over any source and
+//! sink.
 #![tactic(auto)]
 
 mod aim;
@@ -11,7 +11,7 @@ mod script;
 
 pub use laws::one_text;
 pub use script::run_script;
-pub use script_input::{End, ScriptFault, Watched};
+pub use script_input::{CallFailed, End, ScriptFault, Sink, Source, Watched};
 
 #[cfg(test)]
 mod tests;

@@ -2,16 +2,15 @@
 
 ghost use Rattle.std.specs.Prelude.{◌≡◌, ◌≢◌, ℕ, ◌+◌, ◌-◌, ◌^◌, ◌<◌, ◌≤◌, [], ◌∷◌, ◌++◌, length, take, All, OnOk, OnErr, IfOk, IfErr, MatchOption, vec_len, ◌↔◌, IsTrue, IsSome};
 ghost use Rattle.escrow_script.specs.Run.{Answers, Fails};
-ghost use Rattle.script_input.specs.Watched.{known, last_of, HasFailed, GaveNothing, HasRefused};
+ghost use Rattle.script_input.specs.Streams.{HasFailed, GaveNothing, HasRefused};
 
 use crate::machine::{Machine, add_line};
 use entry_text::MAX_LINE;
 use field_bounds::{MAX_HEADER, SchemaFault};
 use script_input::{
-    MOST_BYTES, MOST_LINES, PIECE, ScriptFault, Watched, front, new_buffer, split_line,
+    MOST_BYTES, MOST_LINES, PIECE, ScriptFault, Sink, Source, front, new_buffer, split_line,
 };
 use std::alloc::{AllocError, Global};
-use std::io::{Read, Write};
 
 // The machine once the header line came, the bytes of the line that is being read, the whole lines
 // so far, and what is to be written.
@@ -27,7 +26,7 @@ struct Script {
 impl Script {
     ghost use Rattle.std.specs.Io.KnownBytes.{Appends};
     ghost use Rattle.escrow_script.specs.Run.{HasKept, CannotKeep, HasEnded, CannotEnd, HasAnswered, EndsWith, CannotEndWith, HasWritten, GoesOn, StopsIn, Finishes, StopsAtEnd, IsFresh, RunsThrough, StopsAfter, StandsNext, StopsNext};
-    ghost use Rattle.script_input.specs.Watched.{AppendsFront};
+    ghost use Rattle.script_input.specs.Streams.{AppendsFront};
 
     fn new(alloc: Global) -> Script
         ensures { IsFresh result }
@@ -85,13 +84,13 @@ impl Script {
     }
 
     // Writes what is to be written.
-    fn write_out<W: Write>(&mut self, writer: &mut Watched<W>) -> Result<(), ScriptFault>
+    fn write_out<W: Sink>(&mut self, writer: &mut W) -> Result<(), ScriptFault>
         ensures ok { OnOk result (HasWritten self.old self.new
-            × Appends (known W.contents writer.old) (known W.contents writer.new) self.old.out.items) }
+            × Appends (W.bytes writer.old) (W.bytes writer.new) self.old.out.items) }
         ensures front { OnErr result (AppendsFront
-            (known W.contents writer.old) (known W.contents writer.new) self.old.out.items) }
+            (W.bytes writer.old) (W.bytes writer.new) self.old.out.items) }
         ensures fault { IfErr result (λ fault. fault ≡ ScriptFault.Write) }
-        ensures refused { OnErr result (HasRefused writer.new) }
+        ensures refused { OnErr result (HasRefused (W.last writer.new)) }
     {
         if writer.write_all(self.out.as_slice()).is_err() {
             return Err(ScriptFault::Write);
@@ -135,19 +134,15 @@ impl Script {
     }
 
     // Takes a whole line, whose LF was read.
-    fn take_line<W: Write>(
-        &mut self,
-        line: &[u8],
-        writer: &mut Watched<W>,
-    ) -> Result<(), ScriptFault>
+    fn take_line<W: Sink>(&mut self, line: &[u8], writer: &mut W) -> Result<(), ScriptFault>
         requires room { self.old.lines < 1000000 }
         requires unbroken { All (λ b. b ≢ 10) line.now }
         ensures ok { OnOk result (GoesOn self.old self.new
-            (known W.contents writer.old) (known W.contents writer.new) (line.now ++ 10 ∷ [])) }
+            (W.bytes writer.old) (W.bytes writer.new) (line.now ++ 10 ∷ [])) }
         ensures err { IfErr result (StopsIn self.old self.new
-            (known W.contents writer.old) (known W.contents writer.new) (line.now ++ 10 ∷ [])) }
+            (W.bytes writer.old) (W.bytes writer.new) (line.now ++ 10 ∷ [])) }
         ensures lines { OnOk result (self.new.lines ≡ self.old.lines + 1) }
-        ensures refused { IfErr result (λ fault. fault ≡ ScriptFault.Write → HasRefused writer.new) }
+        ensures refused { IfErr result (λ fault. fault ≡ ScriptFault.Write → HasRefused (W.last writer.new)) }
         ensures not_read { IfErr result (λ fault. fault ≢ ScriptFault.Read) }
     {
         self.end_with(line)?;
@@ -158,18 +153,14 @@ impl Script {
     }
 
     // Takes the next bytes of the input.
-    fn take_piece<W: Write>(
-        &mut self,
-        piece: &[u8],
-        writer: &mut Watched<W>,
-    ) -> Result<(), ScriptFault>
+    fn take_piece<W: Sink>(&mut self, piece: &[u8], writer: &mut W) -> Result<(), ScriptFault>
         requires { self.old.lines ≤ 1000000 }
         ensures ok { OnOk result (GoesOn self.old self.new
-            (known W.contents writer.old) (known W.contents writer.new) piece.now) }
+            (W.bytes writer.old) (W.bytes writer.new) piece.now) }
         ensures err { IfErr result (StopsIn self.old self.new
-            (known W.contents writer.old) (known W.contents writer.new) piece.now) }
+            (W.bytes writer.old) (W.bytes writer.new) piece.now) }
         ensures lines { OnOk result (self.new.lines ≤ 1000000) }
-        ensures refused { IfErr result (λ fault. fault ≡ ScriptFault.Write → HasRefused writer.new) }
+        ensures refused { IfErr result (λ fault. fault ≡ ScriptFault.Write → HasRefused (W.last writer.new)) }
         ensures not_read { IfErr result (λ fault. fault ≢ ScriptFault.Read) }
     {
         let mut rest = piece;
@@ -212,24 +203,24 @@ impl Script {
 
     // Writes what is to be written, then reads the next piece and takes it. The answer is the
     // piece's length, and 0 at the end of the input.
-    fn take_next<R: Read, W: Write>(
+    fn take_next<R: Source, W: Sink>(
         &mut self,
         buffer: &mut [u8],
         bytes: u64,
-        reader: &mut Watched<R>,
-        writer: &mut Watched<W>,
+        reader: &mut R,
+        writer: &mut W,
     ) -> Result<u64, ScriptFault>
         requires some { 0 < length buffer.old }
         requires bytes { bytes ≤ 268435456 }
         requires lines { self.old.lines ≤ 1000000 }
-        ensures ok { IfOk result (StandsNext (known R.remaining reader.old) (known R.remaining reader.new)
-            (known W.contents writer.old) (known W.contents writer.new) self.old self.new (last_of reader.new) bytes) }
-        ensures err { IfErr result (StopsNext (known R.remaining reader.old) (known R.remaining reader.new)
-            (known W.contents writer.old) (known W.contents writer.new) self.old self.new (last_of reader.new) bytes) }
+        ensures ok { IfOk result (StandsNext (R.bytes reader.old) (R.bytes reader.new)
+            (W.bytes writer.old) (W.bytes writer.new) self.old self.new (R.last reader.new) bytes) }
+        ensures err { IfErr result (StopsNext (R.bytes reader.old) (R.bytes reader.new)
+            (W.bytes writer.old) (W.bytes writer.new) self.old self.new (R.last reader.new) bytes) }
         ensures lines { OnOk result (self.new.lines ≤ 1000000) }
         ensures within { IfOk result (λ count. bytes + count ≤ 268435456) }
-        ensures refused { IfErr result (λ fault. fault ≡ ScriptFault.Write → HasRefused writer.new) }
-        ensures failed { IfErr result (λ fault. fault ≡ ScriptFault.Read → HasFailed reader.new) }
+        ensures refused { IfErr result (λ fault. fault ≡ ScriptFault.Write → HasRefused (W.last writer.new)) }
+        ensures failed { IfErr result (λ fault. fault ≡ ScriptFault.Read → HasFailed (R.last reader.new)) }
     {
         self.write_out(writer)?;
         let count = match reader.read(buffer) {
@@ -249,19 +240,19 @@ impl Script {
     }
 
     // Takes the whole input. Some of the output may stay in the buffer.
-    fn run_to_end<R: Read, W: Write>(
+    fn run_to_end<R: Source, W: Sink>(
         &mut self,
-        reader: &mut Watched<R>,
-        writer: &mut Watched<W>,
+        reader: &mut R,
+        writer: &mut W,
     ) -> Result<(), ScriptFault>
         requires { IsFresh self.old }
-        ensures ok { OnOk result (RunsThrough (known R.remaining reader.old) (known R.remaining reader.new)
-            (known W.contents writer.old) (known W.contents writer.new) self.new) }
-        ensures err { IfErr result (StopsAfter (known R.remaining reader.old) (known R.remaining reader.new)
-            (known W.contents writer.old) (known W.contents writer.new) self.new (last_of reader.new)) }
-        ensures end { OnOk result (GaveNothing reader.new) }
-        ensures refused { IfErr result (λ fault. fault ≡ ScriptFault.Write → HasRefused writer.new) }
-        ensures failed { IfErr result (λ fault. fault ≡ ScriptFault.Read → HasFailed reader.new) }
+        ensures ok { OnOk result (RunsThrough (R.bytes reader.old) (R.bytes reader.new)
+            (W.bytes writer.old) (W.bytes writer.new) self.new) }
+        ensures err { IfErr result (StopsAfter (R.bytes reader.old) (R.bytes reader.new)
+            (W.bytes writer.old) (W.bytes writer.new) self.new (R.last reader.new)) }
+        ensures end { OnOk result (GaveNothing (R.last reader.new)) }
+        ensures refused { IfErr result (λ fault. fault ≡ ScriptFault.Write → HasRefused (W.last writer.new)) }
+        ensures failed { IfErr result (λ fault. fault ≡ ScriptFault.Read → HasFailed (R.last reader.new)) }
     {
         let mut buffer = new_buffer(self.alloc)?;
         let mut bytes = 0u64;
@@ -314,27 +305,27 @@ impl Script {
 ///
 /// Source: O'Neil 1986 for the central store, Balegas and others 2015 for rights that are divided
 /// among sites and given, this project for the script.
-pub fn run_script<R: Read, W: Write>(
+pub fn run_script<R: Source, W: Sink>(
     alloc: Global,
-    reader: &mut Watched<R>,
-    writer: &mut Watched<W>,
+    reader: &mut R,
+    writer: &mut W,
 ) -> Result<(), ScriptFault>
     // All the input is read, and its text is written.
-    ensures ok { OnOk result (Answers (known R.remaining reader.old) (known R.remaining reader.new)
-        (known W.contents writer.old) (known W.contents writer.new)) }
+    ensures ok { OnOk result (Answers (R.bytes reader.old) (R.bytes reader.new)
+        (W.bytes writer.old) (W.bytes writer.new)) }
 
     // That is so only after a read that had room and gave nothing.
-    ensures end { OnOk result (GaveNothing reader.new) }
+    ensures end { OnOk result (GaveNothing (R.last reader.new)) }
 
     // A fault comes for a reason, and the text of the whole lines before it is written.
-    ensures fault { IfErr result (Fails (known R.remaining reader.old) (known R.remaining reader.new)
-        (known W.contents writer.old) (known W.contents writer.new) (last_of reader.new)) }
+    ensures fault { IfErr result (Fails (R.bytes reader.old) (R.bytes reader.new)
+        (W.bytes writer.old) (W.bytes writer.new) (R.last reader.new)) }
 
     // A read fault comes only where a read failed.
-    ensures read { IfErr result (λ fault. fault ≡ ScriptFault.Read → HasFailed reader.new) }
+    ensures read { IfErr result (λ fault. fault ≡ ScriptFault.Read → HasFailed (R.last reader.new)) }
 
     // A write fault comes only where a write failed, or took none of its bytes.
-    ensures write { IfErr result (λ fault. fault ≡ ScriptFault.Write → HasRefused writer.new) }
+    ensures write { IfErr result (λ fault. fault ≡ ScriptFault.Write → HasRefused (W.last writer.new)) }
 {
     let mut script = Script::new(alloc);
     let Err(fault) = script.run_to_end(reader, writer) else {
@@ -350,6 +341,7 @@ pub fn run_script<R: Read, W: Write>(
 #[cfg(test)]
 mod tests {
     use super::*;
+    use script_input::Watched;
     use std::test::Fail;
 
     // What is left of the longest input is taken, and a byte more ends the run.

@@ -7,8 +7,8 @@ use Rattle.field_bounds.specs.declared.fault.SchemaFault.{SchemaFault}
 use Rattle.field_bounds.specs.declared.fault.SchemaFault.TheVariants as schema_faults
 use Rattle.script_input.specs.declared.fault.ScriptFault.{ScriptFault}
 use Rattle.script_input.specs.declared.fault.ScriptFault.TheVariants as faults
-use Rattle.script_input.specs.declared.watched.End.{End}
-use Rattle.script_input.specs.declared.watched.End.TheVariants.{Nothing}
+use Rattle.script_input.specs.declared.streams.End.{End}
+use Rattle.script_input.specs.declared.streams.End.TheVariants.{Nothing}
 use Rattle.script_input.specs.Lines.{whole_lines}
 
 -- How a fault of the schema is told: want of memory as such, any other as the header's fault.

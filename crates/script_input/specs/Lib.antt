@@ -1,3 +1,4 @@
+pub mod Streams
 pub mod Watched
 pub mod Lines
 pub mod Faults

@@ -1,48 +1,39 @@
-//! Readers and writers that keep how their last call ended.
+//! Readers and writers of std as sources and sinks.
 
-ghost use Rattle.std.specs.Prelude.{◌≡◌, ◌<◌, length, IfOk, OnOk, OnErr};
-ghost use Rattle.std.specs.Io.{ReadsAtMost};
-ghost use Rattle.std.specs.Io.KnownBytes.{Appends, ReadConsumes};
-ghost use Rattle.script_input.specs.Watched.{inner_of, last_of, known, GaveNothing, HasFailed, HasRefused, AppendsFront};
+ghost use Rattle.std.specs.Prelude.{◌≡◌};
+ghost use Rattle.script_input.specs.Streams.{one_more};
+ghost use Rattle.script_input.specs.Watched.{inner_of, last_of, failures_of, known};
 
+use crate::streams::{CallFailed, End, Sink, Source};
 use std::io::{Read, Write};
 
-/// How a call of a reader or a writer ended.
-#[derive(Clone, Copy, Debug, PartialEq, Eq)]
-pub enum End {
-    /// There was no call yet.
-    NotCalled,
-    /// Bytes were moved, or a read had no room for any.
-    Moved,
-    /// A read gave nothing though it had room, or a write took nothing though it had bytes.
-    Nothing,
-    /// The call answered an error.
-    Failed,
-}
-
-/// A reader or a writer, and how its last call ended. Only a call that did end so changes this:
-/// nothing outside can set it.
+/// A reader or a writer of std, how its last call ended, and how many calls failed or took none of
+/// their bytes.
+///
+/// This is the one place in which it is read, and not proved, how a call ended: std's traits don't
+/// tell a contract whether a call fails, so no clause ties `last` and `failures` to the inner calls.
+/// The bodies of `read` and `write` make one inner call each, and set both by its answer; nothing
+/// outside this module can.
 ///
 /// Source: this project.
 #[derive(Drop)]
 pub struct Watched<T> {
     inner: T,
     last: End,
+    failures: u64,
 }
-
-/// A call of a reader or a writer failed, or a writer took none of its bytes.
-#[derive(Clone, Copy, Debug)]
-pub struct CallFailed;
 
 impl<T> Watched<T> {
     /// A reader or a writer before its first call. Costs no memory.
     pub fn new(inner: T) -> Watched<T>
         ensures inner { inner_of result ≡ inner }
         ensures last { last_of result ≡ End.NotCalled }
+        ensures failures { failures_of result ≡ 0 }
     {
         Watched {
             inner,
             last: End::NotCalled,
+            failures: 0,
         }
     }
 
@@ -53,71 +44,70 @@ impl<T> Watched<T> {
         self.last
     }
 
+    /// How many calls failed or took none of their bytes: a `u64` that begins again at 0. Costs no
+    /// memory.
+    pub fn failures(&self) -> u64
+        ensures failures { result ≡ failures_of self.now }
+    {
+        self.failures
+    }
+
     /// The reader or the writer. Costs no memory.
     pub fn into_inner(self) -> T
         ensures inner { result ≡ inner_of self }
     {
         self.inner
     }
+
+    // Notes that a call failed or took none of its bytes.
+    fn fail(&mut self, last: End) -> CallFailed
+        ensures inner { self.new.inner ≡ self.old.inner }
+        ensures last { self.new.last ≡ last }
+        ensures failures { self.new.failures ≡ one_more self.old.failures }
+    {
+        self.last = last;
+        self.failures = self.failures.wrapping_add(1);
+        CallFailed
+    }
 }
 
-impl<R: Read> Watched<R> {
-    /// One read. An error of any kind is answered at once, and nothing is tried again.
-    pub fn read(&mut self, buffer: &mut [u8]) -> Result<usize, CallFailed>
-        ensures bound { ReadsAtMost result buffer.new }
-        ensures bytes { ReadConsumes (known R.remaining self.old) (known R.remaining self.new)
-            result buffer.new }
-        ensures nothing { IfOk result (λ n. n ≡ 0 → 0 < length buffer.new → GaveNothing self.new) }
-        ensures failed { OnErr result (HasFailed self.new) }
-    {
+impl<R: Read> Source for Watched<R> {
+    ghost bytes = { known R.remaining };
+
+    ghost last = { last_of };
+
+    ghost failures = { failures_of };
+
+    fn read(&mut self, buffer: &mut [u8]) -> Result<usize, CallFailed> {
         match self.inner.read(buffer) {
-            Ok(0) => {
-                self.last = if buffer.is_empty() {
-                    End::Moved
-                } else {
-                    End::Nothing
-                };
+            Ok(0) if !buffer.is_empty() => {
+                self.last = End::Nothing;
                 Ok(0)
             }
             Ok(count) => {
                 self.last = End::Moved;
                 Ok(count)
             }
-            Err(_) => {
-                self.last = End::Failed;
-                Err(CallFailed)
-            }
+            Err(_) => Err(self.fail(End::Failed)),
         }
     }
 }
 
-impl<W: Write> Watched<W> {
-    /// Writes the bytes in as many calls as it takes. An error of any kind, and a call that takes
-    /// none of the bytes, ends it, and nothing is tried again.
-    pub fn write_all(&mut self, bytes: &[u8]) -> Result<(), CallFailed>
-        ensures ok { OnOk result (Appends (known W.contents self.old) (known W.contents self.new)
-            bytes.now) }
-        ensures front { OnErr result (AppendsFront (known W.contents self.old)
-            (known W.contents self.new) bytes.now) }
-        ensures refused { OnErr result (HasRefused self.new) }
-    {
-        let mut written = 0;
-        while written < bytes.len() {
-            match self.inner.write(&bytes[written..]) {
-                Ok(0) => {
-                    self.last = End::Nothing;
-                    return Err(CallFailed);
-                }
-                Ok(count) => {
-                    self.last = End::Moved;
-                    written += count;
-                }
-                Err(_) => {
-                    self.last = End::Failed;
-                    return Err(CallFailed);
-                }
+impl<W: Write> Sink for Watched<W> {
+    ghost bytes = { known W.contents };
+
+    ghost last = { last_of };
+
+    ghost refusals = { failures_of };
+
+    fn write(&mut self, piece: &[u8]) -> Result<usize, CallFailed> {
+        match self.inner.write(piece) {
+            Ok(0) if !piece.is_empty() => Err(self.fail(End::Nothing)),
+            Ok(count) => {
+                self.last = End::Moved;
+                Ok(count)
             }
+            Err(_) => Err(self.fail(End::Failed)),
         }
-        Ok(())
     }
 }

@@ -1,6 +1,5 @@
 use Rattle.std.proofs.Common.{◌≡◌, ◌-◌, ◌≤◌, vec_len}
 use Rattle.escrow_script.specs.Run.{Stands}
-use Rattle.script_input.specs.Watched.{known}
 use Rattle.escrow_script.proofs.script.Script.run_to_end.Given as goal
 
 abbrev pub invariant-pieces : goal.invariant-pieces
@@ -8,8 +7,8 @@ invariant-pieces g l = record {
   size : vec_len l.buffer ≡ 65536;
   bound : l.bytes ≤ 268435456;
   within : l.self.lines ≤ 1000000;
-  stands : Stands (known g.R.Read.remaining l.initial.reader) (known g.R.Read.remaining l.reader)
-      (known g.W.Write.contents l.initial.writer) (known g.W.Write.contents l.writer) l.self l.bytes;
+  stands : Stands (g.R.Source.bytes l.initial.reader) (g.R.Source.bytes l.reader)
+      (g.W.Sink.bytes l.initial.writer) (g.W.Sink.bytes l.writer) l.self l.bytes;
 }
 
 abbrev pub decreases-pieces : goal.decreases-pieces

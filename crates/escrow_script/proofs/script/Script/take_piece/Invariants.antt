@@ -1,6 +1,5 @@
 use Rattle.std.proofs.Common.{◌≡◌, ℕ, List, ◌≤◌, ◌++◌, length}
 use Rattle.escrow_script.specs.Run.{GoesOn}
-use Rattle.script_input.specs.Watched.{known}
 use Rattle.escrow_script.proofs.script.Script.take_piece.Given as goal
 
 abbrev pub invariant-lines : goal.invariant-lines
@@ -8,7 +7,7 @@ invariant-lines g l = record {
   within : l.self.lines ≤ 1000000;
   done : List ℕ;
   split : l.piece ≡ done ++ l.rest;
-  goes : GoesOn l.initial.self l.self (known g.W.Write.contents l.initial.writer) (known g.W.Write.contents l.writer) done;
+  goes : GoesOn l.initial.self l.self (g.W.Sink.bytes l.initial.writer) (g.W.Sink.bytes l.writer) done;
 }
 
 abbrev pub decreases-lines : goal.decreases-lines
