@@ -1,5 +1,5 @@
 -- What the parts of the reading do to its state (this project).
-use Rattle.std.specs.Prelude.{◌≡◌, ◌≢◌, ℕ, ◌+◌, ◌<◌, List, [], ◌∷◌, ◌++◌, length, ◌⊎◌, Option, None, Some, IsNone, IsSome, Ok, Err}
+use Rattle.std.specs.Prelude.{◌≡◌, ◌≢◌, ℕ, ◌+◌, ◌<◌, List, [], ◌∷◌, ◌++◌, length, ◌⊎◌, Option, None, Some, IsNone, IsSome, Result, Ok, Err}
 use Rattle.std.specs.Io.KnownBytes.{Consumes}
 use Rattle.field_bounds.specs.Schema.{SchemaValue}
 use Rattle.field_bounds.specs.Header.{schema_of}
@@ -10,7 +10,7 @@ use Rattle.script_input.specs.declared.fault.ScriptFault.{ScriptFault}
 use Rattle.script_input.specs.declared.fault.ScriptFault.TheVariants as faults
 use Rattle.script_input.specs.declared.streams.End.{End}
 use Rattle.script_input.specs.Lines.{whole_lines, last_part, script_lines}
-use Rattle.script_input.specs.Faults.{Explains, HasEndedAt}
+use Rattle.script_input.specs.Faults.{Explains, HasEndedAt, CountsRead}
 use Rattle.escrow_audit.specs.declared.reading.Stop.{Stop}
 use Rattle.escrow_audit.specs.declared.reading.Stop.TheVariants.{Fault, BadEntry}
 use Rattle.escrow_audit.specs.declared.reading.Reading.{Reading}
@@ -159,3 +159,9 @@ Tells from to last end text = (read : List ℕ) × (Consumes from to read × IsA
 -- The fault came in what was read.
 abbrev pub FaultsIn : Option (List ℕ) → Option (List ℕ) → End → ScriptFault → Type 0
 FaultsIn from to last fault = (read : List ℕ) × (Consumes from to read × FaultIn fault read (HasEndedAt to last))
+
+-- How many reads failed, before and after a call that ends so.
+abbrev pub CountsStops : {T : Type 0} → Result T Stop → ℕ → ℕ → Type 0
+CountsStops (Ok x) before after = after ≡ before
+CountsStops (Err (Fault fault)) before after = CountsRead fault before after
+CountsStops (Err BadEntry) before after = after ≡ before

@@ -6,6 +6,7 @@ ghost use Rattle.std.specs.Fmt.{decimal};
 ghost use Rattle.field_bounds.specs.Schema.{SchemaValue};
 ghost use Rattle.central_rules.specs.Verdict.{verdict_of};
 ghost use Rattle.script_input.specs.Streams.{HasFailed, GaveNothing, HasRefused, AppendsFront};
+ghost use Rattle.script_input.specs.Faults.{CountsReads, CountsWrites};
 ghost use Rattle.escrow_audit.specs.Reading.{Tells, FaultsIn};
 ghost use Rattle.escrow_audit.specs.Audit.{rule_text, verdict_text, end_of, bad_entry_text, Audits, Fails};
 
@@ -127,6 +128,7 @@ fn answer<R: Source>(
     ensures fault { IfErr result (FaultsIn (R.bytes reader.old) (R.bytes reader.new)
         (R.last reader.new)) }
     ensures read { IfErr result (λ fault. fault ≡ ScriptFault.Read → HasFailed (R.last reader.new)) }
+    ensures reads { CountsReads result (R.failures reader.old) (R.failures reader.new) }
 {
     let mut reading = Reading::new(alloc);
     match reading.read_all(reader) {
@@ -146,6 +148,7 @@ fn write_out<W: Sink>(writer: &mut W, bytes: &[u8]) -> Result<(), ScriptFault>
         bytes.now) }
     ensures fault { IfErr result (λ fault. fault ≡ ScriptFault.Write) }
     ensures refused { OnErr result (HasRefused (W.last writer.new)) }
+    ensures writes { CountsWrites result (W.refusals writer.old) (W.refusals writer.new) }
 {
     if writer.write_all(bytes).is_err() {
         return Err(ScriptFault::Write);
@@ -174,8 +177,8 @@ fn write_out<W: Sink>(writer: &mut W, bytes: &[u8]) -> Result<(), ScriptFault>
 /// kind, which isn't tried again. At each of them nothing is written. `Write` comes where a write
 /// answers an error of any kind or takes no byte; then a front of the answer was written.
 ///
-/// Reader and writer are handed in watched, so that the contract can tell how their last calls ended;
-/// make each anew for an audit, by `Watched::new`.
+/// Reader and writer tell the contract how their calls end, and how many failed; `Watched::new` makes
+/// such ones of std's. No call is made again after one that failed.
 ///
 /// With `fields` the entries are judged field by field, by threads, and else in one pass: the answer is
 /// the same.
@@ -208,6 +211,12 @@ pub fn audit_text<R: Source, W: Sink>(
 
     // A write fault comes only where a write failed, or took none of its bytes.
     ensures write { IfErr result (λ fault. fault ≡ ScriptFault.Write → HasRefused (W.last writer.new)) }
+
+    // One read failed in this call at a read fault, and else none.
+    ensures reads { CountsReads result (R.failures reader.old) (R.failures reader.new) }
+
+    // One write was refused in this call at a write fault, and else none.
+    ensures writes { CountsWrites result (W.refusals writer.old) (W.refusals writer.new) }
 {
     let (end, text) = answer(rt, alloc, fields, reader)?;
     write_out(writer, text.as_bytes())?;

@@ -7,5 +7,6 @@ pub mod AimLemmas
 pub mod AnswerLemmas
 pub mod TextLemmas
 pub mod RunLemmas
+pub mod CountLemmas
 pub mod PieceLemmas
 pub mod OneText

@@ -1,7 +1,8 @@
 //! The loop of a script: pieces of input in, whole lines to the machine, pieces of output out.
 
 ghost use Rattle.std.specs.Prelude.{◌≡◌, ◌≢◌, ℕ, ◌+◌, ◌-◌, ◌^◌, ◌<◌, ◌≤◌, [], ◌∷◌, ◌++◌, length, take, All, OnOk, OnErr, IfOk, IfErr, MatchOption, vec_len, ◌↔◌, IsTrue, IsSome};
-ghost use Rattle.escrow_script.specs.Run.{Answers, Fails};
+ghost use Rattle.escrow_script.specs.Run.{Answers, Fails, CountsRunReads};
+ghost use Rattle.script_input.specs.Faults.{CountsReads, CountsWrites};
 ghost use Rattle.script_input.specs.Streams.{HasFailed, GaveNothing, HasRefused};
 
 use crate::machine::{Machine, add_line};
@@ -91,6 +92,7 @@ impl Script {
             (W.bytes writer.old) (W.bytes writer.new) self.old.out.items) }
         ensures fault { IfErr result (λ fault. fault ≡ ScriptFault.Write) }
         ensures refused { OnErr result (HasRefused (W.last writer.new)) }
+        ensures writes { CountsWrites result (W.refusals writer.old) (W.refusals writer.new) }
     {
         if writer.write_all(self.out.as_slice()).is_err() {
             return Err(ScriptFault::Write);
@@ -143,6 +145,7 @@ impl Script {
             (W.bytes writer.old) (W.bytes writer.new) (line.now ++ 10 ∷ [])) }
         ensures lines { OnOk result (self.new.lines ≡ self.old.lines + 1) }
         ensures refused { IfErr result (λ fault. fault ≡ ScriptFault.Write → HasRefused (W.last writer.new)) }
+        ensures writes { CountsWrites result (W.refusals writer.old) (W.refusals writer.new) }
         ensures not_read { IfErr result (λ fault. fault ≢ ScriptFault.Read) }
     {
         self.end_with(line)?;
@@ -161,6 +164,7 @@ impl Script {
             (W.bytes writer.old) (W.bytes writer.new) piece.now) }
         ensures lines { OnOk result (self.new.lines ≤ 1000000) }
         ensures refused { IfErr result (λ fault. fault ≡ ScriptFault.Write → HasRefused (W.last writer.new)) }
+        ensures writes { CountsWrites result (W.refusals writer.old) (W.refusals writer.new) }
         ensures not_read { IfErr result (λ fault. fault ≢ ScriptFault.Read) }
     {
         let mut rest = piece;
@@ -221,6 +225,8 @@ impl Script {
         ensures within { IfOk result (λ count. bytes + count ≤ 268435456) }
         ensures refused { IfErr result (λ fault. fault ≡ ScriptFault.Write → HasRefused (W.last writer.new)) }
         ensures failed { IfErr result (λ fault. fault ≡ ScriptFault.Read → HasFailed (R.last reader.new)) }
+        ensures reads { CountsReads result (R.failures reader.old) (R.failures reader.new) }
+        ensures writes { CountsWrites result (W.refusals writer.old) (W.refusals writer.new) }
     {
         self.write_out(writer)?;
         let count = match reader.read(buffer) {
@@ -253,6 +259,8 @@ impl Script {
         ensures end { OnOk result (GaveNothing (R.last reader.new)) }
         ensures refused { IfErr result (λ fault. fault ≡ ScriptFault.Write → HasRefused (W.last writer.new)) }
         ensures failed { IfErr result (λ fault. fault ≡ ScriptFault.Read → HasFailed (R.last reader.new)) }
+        ensures reads { CountsReads result (R.failures reader.old) (R.failures reader.new) }
+        ensures writes { CountsWrites result (W.refusals writer.old) (W.refusals writer.new) }
     {
         let mut buffer = new_buffer(self.alloc)?;
         let mut bytes = 0u64;
@@ -295,8 +303,8 @@ impl Script {
 /// written, and at `Header` nothing. `Write` comes where a write answers an error of any kind or
 /// takes no byte; then a front of the text was written.
 ///
-/// Reader and writer are handed in watched, so that the contract can tell how their last calls
-/// ended; make each anew for a run, by `Watched::new`.
+/// Reader and writer tell the contract how their calls end, and how many failed; `Watched::new`
+/// makes such ones of std's. No call is made again after one that failed.
 ///
 /// Output is written before each read, once 64 KiB of it have gathered behind a line, and at the
 /// end. Costs 64 KiB for input and somewhat more for output, and memory for the world, which keeps
@@ -326,6 +334,12 @@ pub fn run_script<R: Source, W: Sink>(
 
     // A write fault comes only where a write failed, or took none of its bytes.
     ensures write { IfErr result (λ fault. fault ≡ ScriptFault.Write → HasRefused (W.last writer.new)) }
+
+    // One read failed in this call at a read fault, and else none; a write fault may follow one.
+    ensures reads { CountsRunReads result (R.failures reader.old) (R.failures reader.new) }
+
+    // One write was refused in this call at a write fault, and else none.
+    ensures writes { CountsWrites result (W.refusals writer.old) (W.refusals writer.new) }
 {
     let mut script = Script::new(alloc);
     let Err(fault) = script.run_to_end(reader, writer) else {

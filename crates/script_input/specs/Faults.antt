@@ -1,5 +1,5 @@
 -- The faults of a script (this project).
-use Rattle.std.specs.Prelude.{◌≡◌, ◌≢◌, ◌<◌, ◌≤◌, ◌⊎◌, ℕ, List, [], ◌∷◌, length, Option, Result, Err}
+use Rattle.std.specs.Prelude.{◌≡◌, ◌≢◌, ◌<◌, ◌≤◌, ◌⊎◌, ℕ, List, [], ◌∷◌, length, Option, Result, Ok, Err}
 use Rattle.std.specs.Io.KnownBytes.{IsAtEnd}
 use Rattle.field_bounds.specs.Schema.{SchemaValue}
 use Rattle.field_bounds.specs.Header.{schema_of}
@@ -10,6 +10,7 @@ use Rattle.script_input.specs.declared.fault.ScriptFault.TheVariants as faults
 use Rattle.script_input.specs.declared.streams.End.{End}
 use Rattle.script_input.specs.declared.streams.End.TheVariants.{Nothing}
 use Rattle.script_input.specs.Lines.{whole_lines}
+use Rattle.script_input.specs.Streams.{one_more}
 
 -- How a fault of the schema is told: want of memory as such, any other as the header's fault.
 abbrev pub header_fault : SchemaFault → ScriptFault
@@ -41,3 +42,29 @@ Explains faults.NoMemory front back ended = Unit {0}
 -- The input has ended: no known byte is left, and the last read gave nothing.
 abbrev pub HasEndedAt : Option (List ℕ) → End → Type 0
 HasEndedAt to last = IsAtEnd to × (last ≡ Nothing)
+
+-- How many reads failed, before and after a call that this fault ends: one more at a read fault, and else as many.
+abbrev pub CountsRead : ScriptFault → ℕ → ℕ → Type 0
+CountsRead faults.Read before after = after ≡ one_more before
+CountsRead faults.TooLong before after = after ≡ before
+CountsRead faults.Write before after = after ≡ before
+CountsRead (faults.Header fault) before after = after ≡ before
+CountsRead faults.NoMemory before after = after ≡ before
+
+-- How many reads failed, before and after a call that ends so.
+abbrev pub CountsReads : {T : Type 0} → Result T ScriptFault → ℕ → ℕ → Type 0
+CountsReads (Ok x) before after = after ≡ before
+CountsReads (Err fault) before after = CountsRead fault before after
+
+-- How many writes were refused, before and after a call that this fault ends: one more at a write fault, and else as many.
+abbrev pub CountsWrite : ScriptFault → ℕ → ℕ → Type 0
+CountsWrite faults.Read before after = after ≡ before
+CountsWrite faults.TooLong before after = after ≡ before
+CountsWrite faults.Write before after = after ≡ one_more before
+CountsWrite (faults.Header fault) before after = after ≡ before
+CountsWrite faults.NoMemory before after = after ≡ before
+
+-- How many writes were refused, before and after a call that ends so.
+abbrev pub CountsWrites : {T : Type 0} → Result T ScriptFault → ℕ → ℕ → Type 0
+CountsWrites (Ok x) before after = after ≡ before
+CountsWrites (Err fault) before after = CountsWrite fault before after

@@ -1,4 +1,4 @@
-use Rattle.std.proofs.Common.{arith}
+use Rattle.std.proofs.Common.{refl, ◌∙◌, arith}
 use Rattle.std.proofs.lemmas.Result.{err_from_is_err_and, IfErr-weaker, on_ok_weaker}
 use Rattle.escrow_script.proofs.PieceLemmas.{Stops-weaker, Stands-start, Stops-memory}
 use Rattle.escrow_script.proofs.script.Script.run_to_end.Goals as goal
@@ -14,6 +14,8 @@ pieces-init g c = record {
   bound = omega arith;
   within = rw c.requires.lines (omega arith);
   stands = Stands-start _ _ _ c.requires;
+  reads = refl;
+  writes = refl;
 }
 
 pub pieces-preserved : goal.pieces-preserved
@@ -22,6 +24,8 @@ pieces-preserved g c = record {
   bound = c.in_ok-count.ensures.within;
   within = c.in_ok-count.ensures.lines;
   stands = (c.in_ok-count.ensures.ok _ _ c.pieces.invariant.stands).0;
+  reads = c.in_ok-count.ensures.reads ∙ c.pieces.invariant.reads;
+  writes = c.in_ok-count.ensures.writes ∙ c.pieces.invariant.writes;
 }
 
 pub returns-in_err-count-clause-err : goal.returns-in_err-count-clause-err

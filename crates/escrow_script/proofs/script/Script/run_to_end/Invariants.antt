@@ -9,6 +9,8 @@ invariant-pieces g l = record {
   within : l.self.lines ≤ 1000000;
   stands : Stands (g.R.Source.bytes l.initial.reader) (g.R.Source.bytes l.reader)
       (g.W.Sink.bytes l.initial.writer) (g.W.Sink.bytes l.writer) l.self l.bytes;
+  reads : g.R.Source.failures l.reader ≡ g.R.Source.failures l.initial.reader;
+  writes : g.W.Sink.refusals l.writer ≡ g.W.Sink.refusals l.initial.writer;
 }
 
 abbrev pub decreases-pieces : goal.decreases-pieces

@@ -32,6 +32,7 @@ lines-preserved g c =
           ∙ sym (append_assoc inv.done (line ++ 10 ∷ []) after);
       goes = λ read before at. At-along _ _ _ _ _ (append_assoc read inv.done (line ++ 10 ∷ []))
           (c.in_ok-take_line.ensures.ok (read ++ inv.done) before (inv.goes read before at));
+      writes = c.in_ok-take_line.ensures.writes ∙ inv.writes;
     }
 
 pub returns-then-self-ge-MOST_LINES-2-clause-err :

@@ -8,6 +8,7 @@ invariant-lines g l = record {
   done : List ℕ;
   split : l.piece ≡ done ++ l.rest;
   goes : GoesOn l.initial.self l.self (g.W.Sink.bytes l.initial.writer) (g.W.Sink.bytes l.writer) done;
+  writes : g.W.Sink.refusals l.writer ≡ g.W.Sink.refusals l.initial.writer;
 }
 
 abbrev pub decreases-lines : goal.decreases-lines
