@@ -1,33 +1,27 @@
 -- How many reads failed, and how many writes were refused, in a run that writes once more at its end.
-use Rattle.std.proofs.Common.{◌≡◌, ◌≢◌, ℕ, ◌⊎◌, Result, Ok, Err, IfErr, inl, inr, refl, sym, ap, ◌∙◌, subst}
+use Rattle.std.proofs.Common.{◌≡◌, ◌≢◌, ℕ, ◌<◌, List, [], length, Result, Ok, Err, IfErr, refl, sym, ap, ◌∙◌, subst, arith}
 use Rattle.script_input.specs.declared.fault.ScriptFault.{ScriptFault}
 use Rattle.script_input.specs.declared.fault.ScriptFault.TheVariants.{Read, TooLong, Write, Header, NoMemory}
 use Rattle.script_input.specs.Streams.{one_more}
-use Rattle.script_input.specs.Faults.{CountsRead, CountsWrite}
-use Rattle.escrow_script.specs.Run.{CountsRunReads}
+use Rattle.script_input.specs.Faults.{CountsRead, CountsReads, CountsWrite}
+
+none_long : (out : List ℕ) → out ≡ [] → 0 < length out → ⊥
+none_long out none some = let long : length out ≡ 0 = ap length none in absurd (omega (arith, long, some))
 
 -- the last write ends a run in which no read failed
 pub reads_written : {T : Type 0} (r : Result T ScriptFault) (before after : ℕ) → IfErr r (λ fault. fault ≡ Write) → after ≡ before
-    → CountsRunReads r before after
+    → CountsReads r before after
 reads_written {T} (Ok x) before after is same = same
-reads_written {T} (Err fault) before after is same = subst (λ f. CountsRunReads {T = T} (Err f) before after) (sym is) (inl same)
+reads_written {T} (Err fault) before after is same = subst (λ f. CountsReads {T = T} (Err f) before after) (sym is) same
 
--- a write was refused after a fault
-pub reads_again : (fault : ScriptFault) (before after : ℕ) → CountsRead fault before after → (after ≡ before) ⊎ (after ≡ one_more before)
-reads_again Read before after more = inr more
-reads_again TooLong before after same = inl same
-reads_again Write before after same = inl same
-reads_again (Header fault) before after same = inl same
-reads_again NoMemory before after same = inl same
-
--- what was answered before a fault is written
-pub reads_other : (fault : ScriptFault) (before after : ℕ) → fault ≢ Write → CountsRead fault before after
-    → CountsRunReads {T = Unit {0}} (Err fault) before after
-reads_other Write before after other = absurd (other refl)
-reads_other Read before after other = λ counts. counts
-reads_other TooLong before after other = λ counts. counts
-reads_other (Header fault) before after other = λ counts. counts
-reads_other NoMemory before after other = λ counts. counts
+-- a write was refused after a fault: no read failed before it, since behind one that fails nothing is left to be written
+pub reads_again : (fault : ScriptFault) (out : List ℕ) (before after : ℕ) → (fault ≡ Read → out ≡ []) → 0 < length out
+    → CountsRead fault before after → after ≡ before
+reads_again Read out before after empty some = absurd (none_long out (empty refl) some)
+reads_again TooLong out before after empty some = λ same. same
+reads_again Write out before after empty some = λ same. same
+reads_again (Header fault) out before after empty some = λ same. same
+reads_again NoMemory out before after empty some = λ same. same
 
 none_refused : (fault : ScriptFault) (before after : ℕ) → fault ≢ Write → CountsWrite fault before after → after ≡ before
 none_refused Write before after other = absurd (other refl)

@@ -1,5 +1,5 @@
 -- What the parts of a run do to its state, and what a run reads and writes (this project).
-use Rattle.std.specs.Prelude.{◌≡◌, ℕ, ◌+◌, ◌-◌, ◌<◌, ◌≤◌, List, [], ◌∷◌, ◌++◌, length, take, ◌⊎◌, Option, None, Some, IsNone, Result, Ok, Err, reverse}
+use Rattle.std.specs.Prelude.{◌≡◌, ℕ, ◌+◌, ◌-◌, ◌<◌, ◌≤◌, List, [], ◌∷◌, ◌++◌, length, take, ◌⊎◌, Option, None, Some, IsNone, Ok, Err, reverse}
 use Rattle.std.specs.Io.KnownBytes.{Appends, Consumes, IsAtEnd}
 use Rattle.field_bounds.specs.Schema.{SchemaValue}
 use Rattle.field_bounds.specs.Header.{schema_of}
@@ -16,8 +16,8 @@ use Rattle.world_steps.specs.declared.step.WorldStep.TheVariants.{Do, Deliver}
 use Rattle.field_bounds.specs.declared.entry.Entry.{Entry}
 use Rattle.world_steps.specs.View.{WorldValue}
 use Rattle.script_input.specs.Lines.{whole_lines, last_part, script_lines}
-use Rattle.script_input.specs.Faults.{HasEndedAt, Explains, CountsReads}
-use Rattle.script_input.specs.Streams.{AppendsFront, one_more}
+use Rattle.script_input.specs.Faults.{HasEndedAt, Explains}
+use Rattle.script_input.specs.Streams.{AppendsFront}
 
 -- A line with the next bytes: all of them in a header line, and else as many as tell that the line is too long.
 abbrev pub with_piece : Option Machine → List ℕ → List ℕ → List ℕ
@@ -245,9 +245,3 @@ pub record Fails (from to before after : Option (List ℕ)) (last : End) (fault 
   pub consumed : Consumes from to (front ++ back)
   pub why : Explains fault front back (HasEndedAt to last)
   pub written : WritesFor fault before after front back
-
--- How many reads failed, before and after a run that ends so. What was answered before a failed read is written, and that
--- write may be refused: so at a write fault one may have failed, or none.
-abbrev pub CountsRunReads : {T : Type 0} → Result T ScriptFault → ℕ → ℕ → Type 0
-CountsRunReads (Err Write) before after = (after ≡ before) ⊎ (after ≡ one_more before)
-CountsRunReads result before after = CountsReads result before after

@@ -1,7 +1,7 @@
 //! The loop of a script: pieces of input in, whole lines to the machine, pieces of output out.
 
 ghost use Rattle.std.specs.Prelude.{◌≡◌, ◌≢◌, ℕ, ◌+◌, ◌-◌, ◌^◌, ◌<◌, ◌≤◌, [], ◌∷◌, ◌++◌, length, take, All, OnOk, OnErr, IfOk, IfErr, MatchOption, vec_len, ◌↔◌, IsTrue, IsSome};
-ghost use Rattle.escrow_script.specs.Run.{Answers, Fails, CountsRunReads};
+ghost use Rattle.escrow_script.specs.Run.{Answers, Fails};
 ghost use Rattle.script_input.specs.Faults.{CountsReads, CountsWrites};
 ghost use Rattle.script_input.specs.Streams.{HasFailed, GaveNothing, HasRefused};
 
@@ -91,6 +91,7 @@ impl Script {
         ensures front { OnErr result (AppendsFront
             (W.bytes writer.old) (W.bytes writer.new) self.old.out.items) }
         ensures fault { IfErr result (λ fault. fault ≡ ScriptFault.Write) }
+        ensures some { OnErr result (0 < length self.old.out.items) }
         ensures refused { OnErr result (HasRefused (W.last writer.new)) }
         ensures writes { CountsWrites result (W.refusals writer.old) (W.refusals writer.new) }
     {
@@ -227,6 +228,7 @@ impl Script {
         ensures failed { IfErr result (λ fault. fault ≡ ScriptFault.Read → HasFailed (R.last reader.new)) }
         ensures reads { CountsReads result (R.failures reader.old) (R.failures reader.new) }
         ensures writes { CountsWrites result (W.refusals writer.old) (W.refusals writer.new) }
+        ensures empty { IfErr result (λ fault. fault ≡ ScriptFault.Read → self.new.out.items ≡ []) }
     {
         self.write_out(writer)?;
         let count = match reader.read(buffer) {
@@ -261,6 +263,7 @@ impl Script {
         ensures failed { IfErr result (λ fault. fault ≡ ScriptFault.Read → HasFailed (R.last reader.new)) }
         ensures reads { CountsReads result (R.failures reader.old) (R.failures reader.new) }
         ensures writes { CountsWrites result (W.refusals writer.old) (W.refusals writer.new) }
+        ensures empty { IfErr result (λ fault. fault ≡ ScriptFault.Read → self.new.out.items ≡ []) }
     {
         let mut buffer = new_buffer(self.alloc)?;
         let mut bytes = 0u64;
@@ -335,8 +338,8 @@ pub fn run_script<R: Source, W: Sink>(
     // A write fault comes only where a write failed, or took none of its bytes.
     ensures write { IfErr result (λ fault. fault ≡ ScriptFault.Write → HasRefused (W.last writer.new)) }
 
-    // One read failed in this call at a read fault, and else none; a write fault may follow one.
-    ensures reads { CountsRunReads result (R.failures reader.old) (R.failures reader.new) }
+    // One read failed in this call at a read fault, and else none.
+    ensures reads { CountsReads result (R.failures reader.old) (R.failures reader.new) }
 
     // One write was refused in this call at a write fault, and else none.
     ensures writes { CountsWrites result (W.refusals writer.old) (W.refusals writer.new) }

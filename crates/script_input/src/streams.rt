@@ -80,10 +80,12 @@ pub trait Sink {
         ensures refusals { Counts result (refusals self.old) (refusals self.new) };
 
     /// Writes the piece in as many writes as it takes. The first that is refused ends it, and is not
-    /// tried again: then a front of the piece was taken. Costs no memory.
+    /// tried again: then a front of the piece was taken. Where there are no bytes, none is refused.
+    /// Costs no memory.
     final fn write_all(&mut self, piece: &[u8]) -> Result<(), CallFailed>
         ensures ok { OnOk result (Appends (bytes self.old) (bytes self.new) piece.now) }
         ensures front { OnErr result (AppendsFront (bytes self.old) (bytes self.new) piece.now) }
+        ensures some { OnErr result (0 < length piece.now) }
         ensures refused { OnErr result (HasRefused (last self.new)) }
         ensures refusals { Counts result (refusals self.old) (refusals self.new) }
     {

@@ -1,6 +1,6 @@
 use Rattle.std.proofs.lemmas.Result.{err_from_is_err_and}
 use Rattle.escrow_script.proofs.PieceLemmas.{Answers-written, Fails-last, Fails-again, Fails-other, on_ok, on_write}
-use Rattle.escrow_script.proofs.CountLemmas.{reads_written, reads_again, reads_other, writes_again, writes_other}
+use Rattle.escrow_script.proofs.CountLemmas.{reads_written, reads_again, writes_again, writes_other}
 use Rattle.escrow_script.proofs.script.run_script.Goals as goal
 
 pub returns-in_default-clause-ok : goal.returns-in_default-clause-ok
@@ -23,7 +23,7 @@ returns-in_err-write_out g c =
       fault = Fails-again c.in-Err.fault _ _ _ _ _ c.run_to_end.new.self _ c.in_default-fault.not-Write c.in-Err.ensures.err c.in_err-write_out.ensures.front;
       read = λ h. cc;
       write = λ _. c.in_err-write_out.ensures.refused;
-      reads = reads_again c.in-Err.fault _ _ c.in-Err.ensures.reads;
+      reads = reads_again c.in-Err.fault _ _ _ c.in-Err.ensures.empty c.in_err-write_out.ensures.some c.in-Err.ensures.reads;
       writes = writes_again c.in-Err.fault _ _ _ _ c.in_default-fault.not-Write c.in-Err.ensures.writes c.in_err-write_out.ensures.fault c.in_err-write_out.ensures.writes;
     })
 
@@ -34,6 +34,6 @@ returns g c = record {
   fault = Fails-other c.in-Err.fault _ _ _ _ _ c.run_to_end.new.self _ c.in_default-fault.not-Write c.in-Err.ensures.err c.in_ok-write_out.ensures.ok.1;
   read = c.in-Err.ensures.failed;
   write = λ h. absurd (c.in_default-fault.not-Write h);
-  reads = reads_other c.in-Err.fault _ _ c.in_default-fault.not-Write c.in-Err.ensures.reads;
+  reads = c.in-Err.ensures.reads;
   writes = writes_other c.in-Err.fault _ _ _ c.in-Err.ensures.writes c.in_ok-write_out.ensures.writes;
 }
