@@ -1,0 +1,129 @@
+//! A desk of site 0 with one pass: four calls, its close, and the check of its receipts.
+
+ghost use Rattle.std.specs.Prelude.{◌≡◌, ◌<◌};
+
+use super::commands::{BEGUN, COMMIT, SHARE, SPENT, TAKE_TWENTY};
+use super::schema::stock_of_two;
+use field_bounds::{Command, Reply, SiteNo};
+use kept_records::MemoryMedium;
+use site_desk::{Blank, Closed, Desk, DeskFault, Pass, Receipt, ReceiptFault, check_receipts};
+use site_step::OpenFault;
+use std::alloc::Global;
+use std::marker::Brand;
+use std::sync::Wait;
+use std::sync::ledger::Ledger;
+
+/// The calls, and what each is answered.
+const CALLS: [(Command, Reply); 4] = [
+    (Command::Begin, BEGUN),
+    (TAKE_TWENTY, Reply::Granted),
+    (COMMIT, Reply::Committed),
+    (SHARE, SPENT),
+];
+
+/// A desk over an empty medium, with its passes.
+fn fresh_desk<L: Ledger>(
+    alloc: Global,
+    blank: Blank,
+) -> Result<(Desk<L, MemoryMedium>, Vec<Pass<L>>), OpenFault>
+    requires name { blank.name ≡ L.name }
+    requires parts { blank.parts ≡ L.parts }
+    requires some { 0 < blank.parts }
+{
+    let Some(schema) = stock_of_two(alloc) else {
+        return Err(OpenFault::NoMemory);
+    };
+    if schema.sites() == 0 {
+        return Err(OpenFault::Device);
+    }
+    let medium = MemoryMedium::new(Vec::new(alloc));
+    Desk::new(alloc, blank, &schema, SiteNo(0), medium)
+}
+
+/// The receipt of a call, of two tries: one that was refused memory leaves the pass as it was. None
+/// where it doesn't.
+fn receipt_of<L: Ledger, R: Wait>(
+    rt: &R,
+    alloc: Global,
+    desk: &Desk<L, MemoryMedium>,
+    pass: &mut Pass<L>,
+    command: Command,
+) -> Option<Receipt> {
+    let before = (pass.count(), pass.last());
+    for _ in 0..2 {
+        match desk.call(rt, alloc, pass, command) {
+            Ok(receipt) => return Some(receipt),
+            Err(DeskFault::NoMemory) => {}
+            Err(DeskFault::WentBack { length: _ } | DeskFault::GateTurns) => return None,
+        }
+        if (pass.count(), pass.last()) != before {
+            return None;
+        }
+    }
+    None
+}
+
+/// What the check of these receipts finds, of two tries.
+fn found(
+    alloc: Global,
+    closed: &Closed<MemoryMedium>,
+    receipts: &[Receipt],
+) -> Result<(), ReceiptFault> {
+    match check_receipts(alloc, closed, receipts) {
+        Err(ReceiptFault::NoMemory) => check_receipts(alloc, closed, receipts),
+        told => told,
+    }
+}
+
+/// Whether the receipts are those of the closed site, one is missing without the third, and one is
+/// there twice with the second again.
+fn are_told(alloc: Global, closed: &Closed<MemoryMedium>, receipts: &[Receipt]) -> bool {
+    let [first, second, third, fourth] = receipts else {
+        return false;
+    };
+    let site = SiteNo(0);
+    found(alloc, closed, receipts) == Ok(())
+        && found(alloc, closed, &[*first, *second, *fourth])
+            == Err(ReceiptFault::Missing { site, number: 3 })
+        && found(alloc, closed, &[*first, *second, *second, *third, *fourth])
+            == Err(ReceiptFault::Twice { site, number: 2 })
+}
+
+/// How many calls are answered as told, from the first on, and whether the desk closes and its receipts
+/// are told so. None where memory was refused before the first call.
+fn count_over<L: Ledger, R: Wait>(rt: &R, alloc: Global, blank: Blank) -> Option<(usize, bool)>
+    requires name { blank.name ≡ L.name }
+    requires parts { blank.parts ≡ L.parts }
+    requires some { 0 < blank.parts }
+{
+    let (desk, mut passes) = match fresh_desk::<L>(alloc, blank) {
+        Ok(made) => made,
+        Err(OpenFault::NoMemory) => return None,
+        Err(_) => return Some((0, false)),
+    };
+    let mut receipts = Vec::with_capacity(alloc, CALLS.len()).ok()?;
+    let mut pass = passes.pop()?;
+    for (at, (command, wanted)) in CALLS.iter().enumerate() {
+        let Some(receipt) = receipt_of(rt, alloc, &desk, &mut pass, *command) else {
+            return Some((at, false));
+        };
+        if receipt.entry().reply != *wanted || receipts.push(receipt).is_err() {
+            return Some((at, false));
+        }
+    }
+    passes.push(pass).ok()?;
+    let Ok(closed) = desk.close(passes) else {
+        return Some((CALLS.len(), false));
+    };
+    Some((CALLS.len(), are_told(alloc, &closed, &receipts)))
+}
+
+/// The same, of two tries with a desk each.
+pub fn count_told<R: Wait>(rt: &R, alloc: Global) -> Option<(usize, bool)> {
+    for _ in 0..2 {
+        if let Some(told) = count_over::<Brand, R>(rt, alloc, Blank::new(1)) {
+            return Some(told);
+        }
+    }
+    None
+}

@@ -1,0 +1,72 @@
+//! A gift that is made at one site and taken in at the other, each at work in a thread of its own.
+
+use super::commands::GIVE_FIVE;
+use super::schema::{STOCK, stock_of_two};
+use field_bounds::{Command, Entry, Kind, Reply, Schema, SiteNo, Statement};
+use site_desk::FreeGate;
+use site_workers::{WorkFault, run_workers, scripts_fit};
+use std::alloc::{AllocError, Global};
+use std::sync::Wait;
+use std::thread::Threads;
+
+/// What site 0 does.
+const GIVEN: Entry = Entry {
+    site: SiteNo(0),
+    command: GIVE_FIVE,
+    reply: Reply::Given { total: 5 },
+};
+
+/// What site 1 does.
+const ACCEPTED: Entry = Entry {
+    site: SiteNo(1),
+    command: Command::Accept(Statement {
+        from: SiteNo(0),
+        to: SiteNo(1),
+        field: STOCK,
+        kind: Kind::Lower,
+        total: 5,
+    }),
+    reply: Reply::Accepted { gain: 5 },
+};
+
+/// Site 0 gives, and site 1 is asked nothing.
+fn scripts(alloc: Global) -> Result<Vec<Vec<Command>>, AllocError> {
+    Ok(vec![in alloc; vec![in alloc; GIVE_FIVE]?, Vec::new(alloc)]?)
+}
+
+/// The histories of the two sites.
+fn histories<R: Threads + Wait + Sync>(
+    rt: &R,
+    alloc: Global,
+    schema: &Schema,
+) -> Result<Vec<Vec<Entry>>, WorkFault> {
+    let scripts = scripts(alloc)?;
+    if !scripts_fit(schema, scripts.as_slice()) {
+        return Err(WorkFault::GateTurns);
+    }
+    run_workers(rt, alloc, schema, scripts, &FreeGate)
+}
+
+/// Whether site 0 gave and site 1 accepted, and nothing else was done.
+fn is_told(histories: &[Vec<Entry>]) -> bool {
+    match histories {
+        [zero, one] => zero.as_slice() == [GIVEN].as_slice()
+            && one.as_slice() == [ACCEPTED].as_slice(),
+        _ => false,
+    }
+}
+
+/// Whether the histories are as told, of two tries: one that was refused memory tells so.
+pub fn are_told<R: Threads + Wait + Sync>(rt: &R, alloc: Global) -> bool {
+    let Some(schema) = stock_of_two(alloc).or_else(|| stock_of_two(alloc)) else {
+        return false;
+    };
+    for _ in 0..2 {
+        match histories(rt, alloc, &schema) {
+            Ok(histories) => return is_told(&histories),
+            Err(WorkFault::NoMemory) => {}
+            Err(_) => return false,
+        }
+    }
+    false
+}
