@@ -1,0 +1,388 @@
+-- The state of a reading, step by step.
+use Rattle.std.proofs.Common.{◌≡◌, ◌≢◌, ℕ, suc, ◌+◌, ◌<◌, ◌≤◌, List, [], ◌∷◌, ◌++◌, Option, None, Some, Err, length, refl, sym, ap, ◌∙◌, subst, append_assoc, append-nil, inl, inr, ◌⊎◌, eqb, cond, true, false, arith}
+use Rattle.std.proofs.lemmas.List.{length_push, length-append}
+use Rattle.std.specs.List.{All}
+use Rattle.std.proofs.lemmas.Option.{same_Some}
+use Rattle.std.specs.Option.{IsNone, IsSome}
+use Rattle.field_bounds.specs.Header.{schema_of}
+use Rattle.field_bounds.specs.declared.fault.SchemaFault.{SchemaFault}
+use Rattle.entry_text.specs.Lines.{max_line}
+use Rattle.script_input.specs.declared.fault.ScriptFault.{ScriptFault}
+use Rattle.script_input.specs.declared.fault.ScriptFault.TheVariants.{Read, TooLong, Write, Header, NoMemory}
+use Rattle.script_input.specs.Lines.{whole_lines_after, last_part_after, whole_lines, last_part, last_line, with_header, lines_of, script_lines}
+use Rattle.script_input.specs.Faults.{BeginsWithBreak, Explains}
+use Rattle.script_input.proofs.LineLemmas.{whole_lines_after-append, last_part_after-append, whole_lines-unbroken, last_part-unbroken, whole_lines-broken, last_part-broken, last_part_after-none, last_line-some, with_header-last, with_header-some}
+use Rattle.field_bounds.specs.Schema.{SchemaValue}
+use Rattle.site_workers.specs.Scripts.{scripts_of}
+use Rattle.escrow_work.specs.declared.reading.Stop.{Stop}
+use Rattle.escrow_work.specs.declared.reading.Stop.TheVariants.{Fault, BadLine}
+use Rattle.escrow_work.specs.declared.reading.Reading.{Reading}
+use Rattle.escrow_work.specs.declared.scripts.Scripts.{Scripts}
+use Rattle.escrow_work.specs.Scripts.{IsBadLine, IsFirstBad}
+use Rattle.escrow_work.specs.Work.{FindsBad, FaultIn}
+use Rattle.escrow_work.specs.Reading.{HasKept, KeepStop, LineStop, HasEnded, HasNoted, StandsFor, At, Stops, Holds}
+use Rattle.escrow_work.proofs.Asked.{StandsFor-next, StandsFor-along, good_stands, none_lines, first_line, moved_some}
+
+-- with a piece that has no LF
+pub At-kept : (read piece : List ℕ) (old new : Reading) → All (λ b. b ≢ 10) piece → At read old → HasKept old new piece
+    → At (read ++ piece) new
+At-kept read piece old new unbroken at step =
+    let same = whole_lines-unbroken read piece unbroken in record {
+      stands = StandsFor-along _ _ _ _ (sym step.scripts) (sym same) at.stands;
+      line = step.line ∙ ap (λ l. l ++ piece) at.line ∙ sym (last_part-unbroken read piece unbroken);
+      lines = step.lines ∙ at.lines ∙ ap length (sym same);
+    }
+
+-- with an LF
+pub At-ended : (read : List ℕ) (old new : Reading) → At read old → HasEnded old new → At (read ++ 10 ∷ []) new
+At-ended read old new at step =
+    let more = whole_lines-broken read in
+    let stands : StandsFor new.scripts (whole_lines read ++ old.line.items ∷ []) =
+    StandsFor-next old.scripts new.scripts (whole_lines read) old.line.items at.stands step.moves in record {
+      stands = subst (StandsFor new.scripts) (ap (λ l. whole_lines read ++ l ∷ []) at.line ∙ sym more) stands;
+      line = step.line ∙ sym (last_part-broken read);
+      lines = step.lines ∙ ap (λ n. n + 1) at.lines ∙ sym (length_push (whole_lines read) (last_part read)) ∙ ap length (sym more);
+    }
+
+pub At-along : (read other : List ℕ) (r : Reading) → read ≡ other → At read r → At other r
+At-along read other r e at = subst (λ l. At l r) e at
+
+-- the last part of bytes with a line behind those of which no part of a line was left
+pub whole_last : (read line : List ℕ) → All (λ b. b ≢ 10) line → last_part read ≡ [] → last_part (read ++ line) ≡ line
+whole_last read line unbroken none = last_part-unbroken read line unbroken ∙ ap (λ l. l ++ line) none
+
+-- with a line of which nothing was kept
+pub At-whole : (read line : List ℕ) (old new : Reading) → All (λ b. b ≢ 10) line → old.line.items ≡ [] → At read old → HasNoted old new line
+    → At (read ++ (line ++ 10 ∷ [])) new
+At-whole read line old new unbroken empty at step =
+    let last : last_part (read ++ line) ≡ line = whole_last read line unbroken (sym at.line ∙ empty) in
+    let more : whole_lines ((read ++ line) ++ 10 ∷ []) ≡ whole_lines read ++ line ∷ [] =
+    whole_lines-broken (read ++ line) ∙ ap (λ ls. ls ++ last_part (read ++ line) ∷ []) (whole_lines-unbroken read line unbroken)
+    ∙ ap (λ l. whole_lines read ++ l ∷ []) last in
+    At-along _ _ _ (append_assoc read line (10 ∷ [])) (record {
+      stands = subst (StandsFor new.scripts) (sym more)
+          (StandsFor-next old.scripts new.scripts (whole_lines read) line at.stands step.moves);
+      line = step.kept ∙ empty ∙ sym (last_part-broken (read ++ line));
+      lines = step.lines ∙ ap (λ n. n + 1) at.lines ∙ sym (length_push (whole_lines read) line) ∙ ap length (sym more);
+    })
+
+-- ---- the lines of bytes that go on
+
+lines_on : (a more : List ℕ) → lines_of (a ++ more) ≡ whole_lines a ++ (whole_lines_after (last_part a) more ++ last_line
+    (last_part_after (last_part a) more))
+lines_on a more =
+    ap (λ (l : List (List ℕ)). l ++ last_line (last_part (a ++ more))) (whole_lines_after-append [] a more)
+    ∙ append_assoc (whole_lines a) (whole_lines_after (last_part a) more) (last_line (last_part (a ++ more)))
+    ∙ ap (λ (l : List ℕ). whole_lines a ++ (whole_lines_after (last_part a) more ++ last_line l)) (last_part_after-append [] a more)
+
+script_on : (s : Option Scripts) (lines more all : List (List ℕ)) → IsSome s → StandsFor s lines
+    → all ≡ lines ++ more → with_header all ≡ lines ++ more
+script_on s lines more all some stands e =
+    let (header, (behind, parts)) = first_line s lines some stands in
+    ap with_header e ∙ with_header-some lines more header behind parts
+
+-- a line behind good lines is the first bad entry
+first_bad : (s : Option Scripts) (front : List (List ℕ)) (line : List ℕ) (back lines : List (List ℕ))
+    → StandsFor s front → IsSome s → ((w : Scripts) → s ≡ Some w → IsBadLine w.schema line)
+    → lines ≡ front ++ line ∷ back → IsFirstBad lines (length front + 1)
+first_bad None front line back lines stands some bad e = cc
+first_bad (Some w) front line back lines stands some bad e = record {
+  schema = w.schema;
+  header = w.header.items;
+  scripts = scripts_of w.rows.items;
+  front = front;
+  line = line;
+  back = back;
+  parts = e;
+  good = stands;
+  bad = bad w refl;
+  place = refl;
+}
+
+-- a line that isn't ended goes on, and may be ended later
+abbrev Ends : List ℕ → List ℕ → Type 0
+Ends part more = (rest : List ℕ) × ((back : List (List ℕ)) × (whole_lines_after part more ≡ (part ++ rest) ∷ back))
+
+part_on : (part more : List ℕ) → Ends part more ⊎ ((whole_lines_after part more ≡ []) × (last_part_after part more ≡ part ++ more))
+part_on part [] = inr (refl, sym (append-nil part))
+part_on part (b ∷ bs) =
+    elim (eqb b 10) as (λ v. ((rest : List ℕ) × ((back : List (List ℕ)) × (cond v (part ∷ whole_lines_after [] bs) (whole_lines_after
+    (part ++ b ∷ []) bs) ≡ (part ++ rest) ∷ back)))
+    ⊎ ((cond v (part ∷ whole_lines_after [] bs) (whole_lines_after (part ++ b ∷ []) bs)
+    ≡ []) × (cond v (last_part_after [] bs) (last_part_after (part ++ b ∷ []) bs) ≡ part ++ b ∷ bs))) [
+      | true ↦ inl ([], (whole_lines_after [] bs, ap (λ l. l ∷ whole_lines_after [] bs) (sym (append-nil part))))
+      | false ↦ elim (part_on (part ++ b ∷ []) bs) [
+        | inl ends ↦ inl (b ∷ ends.0, (ends.1.0, ends.1.1 ∙ ap (λ l. l ∷ ends.1.0) (append_assoc part (b ∷ []) ends.0)))
+        | inr on ↦ inr (on.0, on.1 ∙ append_assoc part (b ∷ []) bs)
+      ]
+    ]
+
+long_some : (part more : List ℕ) → max_line < length part → part ++ more ≡ [] → ⊥
+long_some [] more long e = omega (arith, long)
+long_some (b ∷ part) more long e = cc
+
+-- a line behind the whole lines, that goes on or is ended, is the first bad entry
+pub bad_goes_on : (stop_at : ℕ) (a more : List ℕ) (s : Option Scripts) (ended : Type 0)
+    → StandsFor s (whole_lines a) → IsSome s → stop_at ≡ length (whole_lines a) → max_line < length (last_part a)
+    → ((w : Scripts) (rest : List ℕ) → s ≡ Some w → IsBadLine w.schema (last_part a ++ rest))
+    → FindsBad (a ++ more) (stop_at + 1) ended
+bad_goes_on stop_at a more s ended stands some at long bad =
+    let w = whole_lines a in
+    let p = last_part a in
+    elim (part_on p more) [
+      | inl ends ↦
+          let lines : lines_of (a ++ more) ≡ w ++ (p ++ ends.0) ∷ (ends.1.0 ++ last_line (last_part_after p more)) =
+          lines_on a more ∙ ap (λ (l : List (List ℕ)). w ++ (l ++ last_line (last_part_after p more))) ends.1.1 in
+          let whole : whole_lines (a ++ more) ≡ w ++ (p ++ ends.0) ∷ ends.1.0 =
+          whole_lines_after-append [] a more ∙ ap (λ (l : List (List ℕ)). w ++ l) ends.1.1 in
+          let count : length (whole_lines (a ++ more)) ≡ length w + suc (length ends.1.0) =
+          ap length whole ∙ length-append w ((p ++ ends.0) ∷ ends.1.0) in record {
+            first = subst (λ (n : ℕ). IsFirstBad (script_lines (a ++ more)) n) (ap (λ n. n + 1) (sym at))
+                (first_bad s w (p ++ ends.0) _ _ stands some (λ schema e. bad schema ends.0 e) (script_on s w _ _ some stands lines));
+            reached = inl (omega (arith, count, at));
+          }
+      | inr on ↦
+          let lines : lines_of (a ++ more) ≡ w ++ (p ++ more) ∷ [] =
+          lines_on a more ∙ ap (λ (l : List (List ℕ)). w ++ (l ++ last_line (last_part_after p more))) on.0
+          ∙ ap (λ (l : List ℕ). w ++ last_line l) on.1 ∙ ap (λ (l : List (List ℕ)). w ++ l) (last_line-some (p ++ more)
+          (long_some p more long)) in
+          let last : last_part (a ++ more) ≡ p ++ more = last_part_after-append [] a more ∙ on.1 in record {
+            first = subst (λ (n : ℕ). IsFirstBad (script_lines (a ++ more)) n) (ap (λ n. n + 1) (sym at))
+                (first_bad s w (p ++ more) [] _ stands some (λ schema e. bad schema more e) (script_on s w _ _ some stands lines));
+            reached = inr (inl (omega (arith, ap length last, length-append p more, long)));
+          }
+    ]
+
+-- a line that an LF ends
+pub bad_ended : (stop_at : ℕ) (a more : List ℕ) (s : Option Scripts) (ended : Type 0)
+    → StandsFor s (whole_lines a) → IsSome s → stop_at ≡ length (whole_lines a)
+    → ((w : Scripts) → s ≡ Some w → IsBadLine w.schema (last_part a))
+    → FindsBad (a ++ 10 ∷ more) (stop_at + 1) ended
+bad_ended stop_at a more s ended stands some at bad =
+    let w = whole_lines a in
+    let p = last_part a in
+    let lines : lines_of (a ++ 10 ∷ more) ≡ w ++ p ∷ (whole_lines more ++ last_line (last_part more)) = lines_on a (10 ∷ more) in
+    let whole : whole_lines (a ++ 10 ∷ more) ≡ w ++ p ∷ whole_lines more = whole_lines_after-append [] a (10 ∷ more) in
+    let count : length (whole_lines (a ++ 10 ∷ more)) ≡ length w + suc (length (whole_lines more)) =
+    ap length whole ∙ length-append w (p ∷ whole_lines more) in record {
+      first = subst (λ (n : ℕ). IsFirstBad (script_lines (a ++ 10 ∷ more)) n) (ap (λ n. n + 1) (sym at))
+          (first_bad s w p _ _ stands some bad (script_on s w _ _ some stands lines));
+      reached = inl (omega (arith, count, at));
+    }
+
+-- a last line that the end of the input ends
+pub bad_last : (stop_at : ℕ) (a : List ℕ) (s : Option Scripts) (ended : Type 0)
+    → StandsFor s (whole_lines a) → IsSome s → stop_at ≡ length (whole_lines a) → (last_part a ≡ [] → ⊥)
+    → ((w : Scripts) → s ≡ Some w → IsBadLine w.schema (last_part a)) → ended
+    → FindsBad a (stop_at + 1) ended
+bad_last stop_at a s ended stands some at not_none bad is =
+    let w = whole_lines a in
+    let p = last_part a in
+    let lines : lines_of a ≡ w ++ p ∷ [] = ap (λ (l : List (List ℕ)). w ++ l) (last_line-some p not_none) in record {
+      first = subst (λ (n : ℕ). IsFirstBad (script_lines a) n) (ap (λ n. n + 1) (sym at))
+          (first_bad s w p [] _ stands some bad (script_on s w _ _ some stands lines));
+      reached = inr (inr is);
+    }
+
+-- ---- where the reading stops
+
+-- a line that is too long is bad, whatever it says
+long_is_bad : (schema : SchemaValue) (line : List ℕ) → max_line < length line → IsBadLine schema line
+long_is_bad schema line long = λ site command is. omega (arith, is.short, long)
+
+-- the header line of bytes in which no line ended
+all_of : (read : List ℕ) → whole_lines read ≡ [] → last_part read ≡ read
+all_of read none = last_part_after-none [] read none
+
+stops_no_memory : (read : List ℕ) (ended : Type 0) → FaultIn NoMemory read ended
+stops_no_memory read ended = record { front = []; back = read; parts = refl; why = tt; good = inl refl; other = λ h. cc }
+
+-- a piece that isn't kept
+pub Stops-keep : (stop : Stop) (read piece more : List ℕ) (old new : Reading) (ended : Type 0) → All (λ b. b ≢ 10) piece → At read old
+    → KeepStop old piece stop → new.lines ≡ old.lines → Stops (read ++ (piece ++ more)) new.lines ended stop
+Stops-keep (Fault (Header e)) read piece more old new ended unbroken at why same =
+    let keeps = whole_lines-unbroken read piece unbroken in
+    let none = none_lines old.scripts (whole_lines read) why.1 at.stands in
+    let all : old.line.items ≡ read = at.line ∙ all_of read none in record {
+      front = read ++ piece;
+      back = more;
+      parts = append_assoc read piece more;
+      why = (keeps ∙ none, inr (why.0, rw (length-append read piece) (subst (λ l. 65536 < length l + length piece) all why.2)));
+      good = inl (keeps ∙ none);
+      other = λ h. cc;
+    }
+Stops-keep (Fault NoMemory) read piece more old new ended unbroken at why same = stops_no_memory (read ++ (piece ++ more)) ended
+Stops-keep (Fault Read) read piece more old new ended unbroken at why same = absurd why
+Stops-keep (Fault TooLong) read piece more old new ended unbroken at why same = absurd why
+Stops-keep (Fault Write) read piece more old new ended unbroken at why same = absurd why
+Stops-keep BadLine read piece more old new ended unbroken at why same =
+    let a = read ++ piece in
+    let keeps : whole_lines a ≡ whole_lines read = whole_lines-unbroken read piece unbroken in
+    let last : last_part a ≡ last_part read ++ piece = last_part-unbroken read piece unbroken in
+    let long : max_line < length (last_part a) =
+    omega (arith, why.1, ap length last, length-append (last_part read) piece, ap length at.line) in
+    subst (λ (l : List ℕ). FindsBad l (new.lines + 1) ended) (append_assoc read piece more)
+    (bad_goes_on new.lines a more old.scripts ended
+    (subst (StandsFor old.scripts) (sym keeps) at.stands) why.0 (same ∙ at.lines ∙ ap length (sym keeps)) long
+    (λ scripts rest e. long_is_bad scripts.schema (last_part a ++ rest) (omega (arith, long, length-append (last_part a) rest))))
+
+line_is_bad : (s : Option Scripts) (line : List ℕ) → LineStop s line BadLine → IsSome s × ((w : Scripts) → s ≡ Some w
+    → IsBadLine w.schema line)
+line_is_bad None line bad = absurd bad
+line_is_bad (Some scripts) line bad = (refl, λ other e. subst (λ (t : Scripts). IsBadLine t.schema line) (same_Some scripts other e) bad)
+
+-- a header line that tells no schema
+stops_header : (e : SchemaFault) (read back : List ℕ) (s : Option Scripts) (ended : Type 0) → IsNone s → schema_of (last_part read) ≡ Err e
+    → StandsFor s (whole_lines read) → (BeginsWithBreak back ⊎ ((back ≡ []) × ended)) → FaultIn (Header e) (read ++ back) ended
+stops_header e read back s ended is_none told stands breaks =
+    let none = none_lines s (whole_lines read) is_none stands in record {
+      front = read;
+      back = back;
+      parts = refl;
+      why = (none, inl (ap schema_of (sym (all_of read none)) ∙ told, breaks));
+      good = inl none;
+      other = λ h. cc;
+    }
+
+-- a line that an LF ends and that isn't taken in
+pub Stops-broken : (stop : Stop) (read more : List ℕ) (s : Option Scripts) (lines : ℕ) (ended : Type 0)
+    → StandsFor s (whole_lines read) → lines ≡ length (whole_lines read) → LineStop s (last_part read) stop
+    → Stops (read ++ 10 ∷ more) lines ended stop
+Stops-broken (Fault (Header e)) read more s lines ended stands at why =
+    stops_header e read (10 ∷ more) s ended why.0 why.1 stands (inl (more, refl))
+Stops-broken (Fault NoMemory) read more s lines ended stands at why = stops_no_memory (read ++ 10 ∷ more) ended
+Stops-broken (Fault Read) read more s lines ended stands at why = absurd why
+Stops-broken (Fault TooLong) read more s lines ended stands at why = absurd why
+Stops-broken (Fault Write) read more s lines ended stands at why = absurd why
+Stops-broken BadLine read more s lines ended stands at why =
+    let bad = line_is_bad s (last_part read) why in bad_ended lines read more s ended stands bad.0 at bad.1
+
+-- a last line that isn't taken in
+pub Stops-last : (stop : Stop) (read : List ℕ) (s : Option Scripts) (lines : ℕ) (ended : Type 0)
+    → StandsFor s (whole_lines read) → lines ≡ length (whole_lines read) → (IsSome s → last_part read ≡ [] → ⊥)
+    → LineStop s (last_part read) stop → ended → Stops read lines ended stop
+Stops-last (Fault (Header e)) read s lines ended stands at some why is =
+    subst (λ (l : List ℕ). FaultIn (Header e) l ended) (append-nil read) (stops_header e read [] s ended why.0 why.1 stands (inr
+    (refl, is)))
+Stops-last (Fault NoMemory) read s lines ended stands at some why is = stops_no_memory read ended
+Stops-last (Fault Read) read s lines ended stands at some why is = absurd why
+Stops-last (Fault TooLong) read s lines ended stands at some why is = absurd why
+Stops-last (Fault Write) read s lines ended stands at some why is = absurd why
+Stops-last BadLine read s lines ended stands at some why is =
+    let bad = line_is_bad s (last_part read) why in bad_last lines read s ended stands bad.0 at (some bad.0) bad.1 is
+
+-- a line of which nothing was kept, and that isn't taken in
+pub Stops-whole : (stop : Stop) (read line more : List ℕ) (old new : Reading) (ended : Type 0) → All (λ b. b ≢ 10) line
+    → old.line.items ≡ [] → At read old
+    → LineStop old.scripts line stop → new.lines ≡ old.lines → Stops (read ++ (line ++ 10 ∷ more)) new.lines ended stop
+Stops-whole stop read line more old new ended unbroken empty at why same =
+    let keeps : whole_lines (read ++ line) ≡ whole_lines read = whole_lines-unbroken read line unbroken in
+    let last : last_part (read ++ line) ≡ line = whole_last read line unbroken (sym at.line ∙ empty) in
+    subst (λ (l : List ℕ). Stops l new.lines ended stop) (append_assoc read line (10 ∷ more))
+    (Stops-broken stop (read ++ line) more old.scripts new.lines ended
+    (subst (StandsFor old.scripts) (sym keeps) at.stands) (same ∙ at.lines ∙ ap length (sym keeps))
+    (subst (λ (l : List ℕ). LineStop old.scripts l stop) (sym last) why))
+
+pub Stops-along : (stop : Stop) (read other : List ℕ) (lines : ℕ) (ended : Type 0) → read ≡ other → Stops read lines ended stop
+    → Stops other lines ended stop
+Stops-along stop read other lines ended e stops = subst (λ (l : List ℕ). Stops l lines ended stop) e stops
+
+-- more lines than the limit
+pub Stops-full : (read back : List ℕ) (r : Reading) (lines : ℕ) (ended : Type 0) → 1000000 ≤ r.lines → back ≢ [] → At read r
+    → Stops (read ++ back) lines ended (Fault TooLong)
+Stops-full read back r lines ended full some at = record {
+  front = read;
+  back = back;
+  parts = refl;
+  why = (some, inl (subst (λ n. 1000000 ≤ n) at.lines full));
+  good = good_stands r.scripts (whole_lines read) at.stands;
+  other = λ h. cc;
+}
+
+-- more bytes than the limit
+pub Stops-past : (read piece more : List ℕ) (r : Reading) (lines : ℕ) (ended : Type 0) → 268435456 ≤ length (read ++ piece) → more ≢ []
+    → At (read ++ piece) r
+    → Stops (read ++ (piece ++ more)) lines ended (Fault TooLong)
+Stops-past read piece more r lines ended long some at = record {
+  front = read ++ piece;
+  back = more;
+  parts = append_assoc read piece more;
+  why = (some, inr long);
+  good = good_stands r.scripts (whole_lines (read ++ piece)) at.stands;
+  other = λ h. cc;
+}
+
+pub Stops-read : (read : List ℕ) (r : Reading) (lines : ℕ) (ended : Type 0) → At read r → Stops read lines ended (Fault Read)
+Stops-read read r lines ended at = record {
+  front = read;
+  back = [];
+  parts = append-nil read;
+  why = refl;
+  good = good_stands r.scripts (whole_lines read) at.stands;
+  other = λ h. cc;
+}
+
+pub Stops-memory : (read : List ℕ) (lines : ℕ) (ended : Type 0) → Stops read lines ended (Fault NoMemory)
+Stops-memory read lines ended = stops_no_memory read ended
+
+explains_weaker : (fault : ScriptFault) (front back : List ℕ) (P Q : Type 0) → (P → Q) → Explains fault front back P
+    → Explains fault front back Q
+explains_weaker (Header e) front back P Q f why = (
+  why.0,
+  elim why.1 [
+    | inl h ↦ inl (h.0, elim h.1 [ inl k ↦ inl k | inr k ↦ inr (k.0, f k.1) ])
+    | inr h ↦ inr h
+  ],
+)
+explains_weaker Read front back P Q f why = why
+explains_weaker TooLong front back P Q f why = why
+explains_weaker Write front back P Q f why = why
+explains_weaker NoMemory front back P Q f why = why
+
+-- a stop that tells less of the end
+pub Stops-weaker : (stop : Stop) (read : List ℕ) (lines : ℕ) (P Q : Type 0) → (P → Q) → Stops read lines P stop → Stops read lines Q stop
+Stops-weaker (Fault fault) read lines P Q f stops = record {
+  front = stops.front;
+  back = stops.back;
+  parts = stops.parts;
+  why = explains_weaker fault stops.front stops.back P Q f stops.why;
+  good = stops.good;
+  other = stops.other;
+}
+Stops-weaker BadLine read lines P Q f finds = record {
+  first = finds.first;
+  reached = elim finds.reached [
+    | inl h ↦ inl h
+    | inr h ↦ elim h [ inl k ↦ inr (inl k) | inr k ↦ inr (inr (f k)) ]
+  ];
+}
+
+-- ---- the end of the input
+
+pub Holds-between : (read : List ℕ) (r : Reading) → IsSome r.scripts → r.line.items ≡ [] → At read r → Holds r (script_lines read)
+Holds-between read r some empty at =
+    let w = whole_lines read in
+    let none : last_part read ≡ [] = sym at.line ∙ empty in
+    let lines : lines_of read ≡ w ++ [] = ap (λ (l : List ℕ). w ++ last_line l) none in
+    let same : script_lines read ≡ w = script_on r.scripts w [] (lines_of read) some at.stands lines ∙ append-nil w in
+    (some, subst (StandsFor r.scripts) (sym same) at.stands)
+
+last_lines : (s : Option Scripts) (w : List (List ℕ)) (p : List ℕ) → StandsFor s w → (IsSome s → p ≡ [] → ⊥)
+    → with_header (w ++ last_line p) ≡ w ++ p ∷ []
+last_lines None w p stands some =
+    ap (λ (l : List (List ℕ)). with_header (l ++ last_line p)) stands ∙ with_header-last p
+    ∙ ap (λ (l : List (List ℕ)). l ++ p ∷ []) (sym stands)
+last_lines (Some scripts) w p stands some =
+    with_header-some w (last_line p) scripts.header.items stands.behind stands.parts
+    ∙ ap (λ (l : List (List ℕ)). w ++ l) (last_line-some p (some refl))
+
+pub Holds-ended : (read : List ℕ) (old new : Reading) → (IsSome old.scripts → old.line.items ≡ [] → ⊥) → At read old → HasEnded old new
+    → Holds new (script_lines read)
+Holds-ended read old new not_both at step =
+    let w = whole_lines read in
+    let p = last_part read in
+    let same : script_lines read ≡ w ++ p ∷ [] = last_lines old.scripts w p at.stands (λ some e. not_both some (at.line ∙ e)) in (
+      moved_some old.scripts new.scripts old.line.items step.moves,
+      subst (StandsFor new.scripts) (ap (λ (l : List ℕ). w ++ l ∷ []) at.line ∙ sym same)
+          (StandsFor-next old.scripts new.scripts w old.line.items at.stands step.moves),
+    )

@@ -1,0 +1,94 @@
+-- What is told of a reading.
+use Rattle.std.proofs.Common.{◌≡◌, ℕ, ◌+◌, List, [], ◌∷◌, ◌++◌, Option, Some, length, take, get_or, ◌<◌, refl, sym, ap, ◌∙◌, subst, append_assoc}
+use Rattle.std.proofs.lemmas.List.{take_more}
+use Rattle.field_bounds.specs.Schema.{SchemaValue}
+use Rattle.field_bounds.specs.declared.entry.Command.{Command}
+use Rattle.field_bounds.specs.declared.entry.Entry.{Entry}
+use Rattle.entry_text.specs.Spelling.{entry_text}
+use Rattle.script_input.specs.declared.fault.ScriptFault.{ScriptFault}
+use Rattle.script_input.specs.declared.watched.End.{End}
+use Rattle.script_input.specs.Lines.{script_lines}
+use Rattle.script_input.specs.Faults.{HasEndedAt}
+use Rattle.site_workers.specs.Scripts.{scripts_of, ScriptsFit}
+use Rattle.escrow_work.specs.declared.fault.WorkTextFault.{WorkTextFault}
+use Rattle.escrow_work.specs.declared.fault.WorkTextFault.TheVariants as ends
+use Rattle.escrow_work.specs.declared.reading.Reading.{Reading}
+use Rattle.escrow_work.specs.declared.scripts.Scripts.{Scripts}
+use Rattle.escrow_work.specs.Work.{entries_text, work_text, TellsOf, MakesNone, FaultsIn}
+use Rattle.escrow_work.specs.Reading.{StandsFor, ReadsThrough}
+use Rattle.escrow_work.proofs.Dealt.{dealt_fit}
+use Rattle.escrow_work.proofs.States.{Stops-memory}
+
+-- ---- the text
+
+entries_more : (schema : SchemaValue) (es : List Entry) (e : Entry) → entries_text schema (es ++ e ∷ [])
+    ≡ entries_text schema es ++ (entry_text schema e ++ 10 ∷ [])
+entries_more schema [] e = refl
+entries_more schema (f ∷ es) e =
+    ap (λ (l : List ℕ). entry_text schema f ++ (10 ∷ l)) (entries_more schema es e)
+    ∙ sym (append_assoc (entry_text schema f) (10 ∷ entries_text schema es) (entry_text schema e ++ 10 ∷ []))
+
+-- one entry more
+pub text_more : (schema : SchemaValue) (header : List ℕ) (es : List Entry) (i : ℕ) (d : Entry) (out mid next : List ℕ) → i < length es
+    → out ≡ work_text schema header (take i es)
+    → mid ≡ out ++ entry_text schema (get_or es i d) → next ≡ mid ++ 10 ∷ [] → next ≡ work_text schema header (take (i + 1) es)
+text_more schema header es i d out mid next below so_far line ended =
+    let e = get_or es i d in
+    let front = header ++ (10 ∷ entries_text schema (take i es)) in
+    ended ∙ ap (λ (l : List ℕ). l ++ 10 ∷ []) (line ∙ ap (λ (l : List ℕ). l ++ entry_text schema e) so_far)
+    ∙ append_assoc front (entry_text schema e) (10 ∷ [])
+    ∙ append_assoc header (10 ∷ entries_text schema (take i es)) (entry_text schema e ++ 10 ∷ [])
+    ∙ ap (λ (l : List ℕ). header ++ (10 ∷ l)) (sym (entries_more schema (take i es) e)
+    ∙ ap (entries_text schema) (sym (take_more es i d below)))
+
+-- ---- what is made
+
+pub fit_through : (from to : Option (List ℕ)) (last : End) (r : Reading) (w : Scripts) → ReadsThrough from to last r
+    → r.scripts ≡ Some w → ScriptsFit w.schema (scripts_of w.rows.items)
+fit_through from to last r w through is =
+    let stands : StandsFor (Some w) (script_lines through.0) = subst (λ (x : Option Scripts). StandsFor x
+    (script_lines through.0)) is through.1.1.1.1 in
+    subst (λ (l : List (List Command)). ScriptsFit w.schema l) (sym stands.dealt)
+    (dealt_fit w.schema stands.behind stands.asked stands.each)
+
+pub faults_through : (from to : Option (List ℕ)) (last : End) (r : Reading) (w : Scripts) (fault : WorkTextFault)
+    → ReadsThrough from to last r → r.scripts ≡ Some w
+    → MakesNone w.schema (scripts_of w.rows.items) fault → FaultsIn from to last fault
+faults_through from to last r w fault through is none =
+    (through.0, (through.1.0, told fault none))
+  where
+    told : (fault : WorkTextFault) → MakesNone w.schema (scripts_of w.rows.items) fault → TellsOf fault through.0 (HasEndedAt to last)
+    told (ends.Script fault) none = subst (λ (f : ScriptFault). TellsOf (ends.Script f) through.0 (HasEndedAt to last)) (sym none)
+        (Stops-memory through.0 0 (HasEndedAt to last))
+    told (ends.BadLine number) none = absurd none
+    told (ends.Work fault) none = (
+      none,
+      (
+        w.schema,
+        (
+          scripts_of w.rows.items,
+          record {
+            header = w.header.items;
+            good = subst (λ
+                (x : Option Scripts). StandsFor x (script_lines through.0)) is through.1.1.1.1;
+            at = through.1.1.0;
+          },
+        ),
+      ),
+    )
+    told ends.Stuck none = (
+      w.schema,
+      (
+        scripts_of w.rows.items,
+        (
+          record {
+            header = w.header.items;
+            good = subst (λ
+                (x : Option Scripts). StandsFor x (script_lines through.0)) is through.1.1.1.1;
+            at = through.1.1.0;
+          },
+          none,
+        ),
+      ),
+    )
+    told ends.Illegal none = absurd none

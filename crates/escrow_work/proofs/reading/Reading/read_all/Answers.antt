@@ -1,0 +1,61 @@
+use Rattle.std.proofs.Common.{arith}
+use Rattle.std.proofs.lemmas.Result.{err_from_is_err_and, IfErr-weaker, on_ok_weaker}
+use Rattle.escrow_work.proofs.States.{Stops-weaker}
+use Rattle.escrow_work.proofs.Pieces.{Stands-start, nothing_read}
+use Rattle.escrow_work.proofs.reading.Reading.read_all.Goals as goal
+
+pub returns-in_err-buffer-clause-err : goal.returns-in_err-buffer-clause-err
+returns-in_err-buffer-clause-err g c =
+    let p = err_from_is_err_and c.from_residual.result c.from_residual.ensures.1 in
+    rw (p.1, p.2) (nothing_read _ c.args.self.now _)
+
+pub pieces-init : goal.pieces-init
+pieces-init g c = record {
+  size = c.in_ok-buffer.ensures.length;
+  bound = omega arith;
+  within = rw c.requires.lines (omega arith);
+  stands = Stands-start _ _ c.requires;
+}
+
+pub pieces-preserved : goal.pieces-preserved
+pieces-preserved g c = record {
+  size = c.pieces.invariant.size;
+  bound = c.in_ok-count.ensures.within;
+  within = c.in_ok-count.ensures.lines;
+  stands = (c.in_ok-count.ensures.ok _ c.pieces.invariant.stands).0;
+}
+
+pub returns-in_err-count-clause-err : goal.returns-in_err-count-clause-err
+returns-in_err-count-clause-err g c =
+    let p = err_from_is_err_and c.from_residual-in_err-count.result c.from_residual-in_err-count.ensures.1 in
+    rw (p.1, p.2) (c.in_err-count.ensures.err _ c.pieces.invariant.stands)
+
+pub returns-clause-err : goal.returns-clause-err
+returns-clause-err g c =
+    let next = c.in_ok-count.ensures.ok _ c.pieces.invariant.stands in
+    IfErr-weaker c.end_input.result _ _
+    (λ stop stops. (
+      next.0.read,
+      (
+        next.0.consumed,
+        Stops-weaker stop _ _ _ _ (λ _. next.1 c.if-count-eq0.true)
+            (stops next.0.read next.0.at),
+      ),
+    ))
+    c.end_input.ensures.err
+
+pub returns-clause-ok : goal.returns-clause-ok
+returns-clause-ok g c =
+    let next = c.in_ok-count.ensures.ok _ c.pieces.invariant.stands in
+    on_ok_weaker c.end_input.result (λ finishes. (
+      next.0.read,
+      (
+        next.0.consumed,
+        (
+          next.1 c.if-count-eq0.true,
+          finishes next.0.read
+              next.0.at,
+        ),
+      ),
+    ))
+    c.end_input.ensures.ok

@@ -1,0 +1,147 @@
+-- What workers are asked, what they make of it, and what is written (this project).
+use Rattle.std.specs.Prelude.{◌≡◌, ◌≢◌, ℕ, ◌<◌, ◌≤◌, ◌⊎◌, List, [], ◌∷◌, ◌++◌, length, reverse, Option}
+use Rattle.std.specs.Io.KnownBytes.{Appends, Consumes}
+use Rattle.field_bounds.specs.Schema.{SchemaValue}
+use Rattle.field_bounds.specs.Central.{IsCentral}
+use Rattle.field_bounds.specs.declared.entry.Command.{Command}
+use Rattle.field_bounds.specs.declared.entry.Entry.{Entry}
+use Rattle.entry_text.specs.Spelling.{entry_text}
+use Rattle.entry_text.specs.Lines.{max_line}
+use Rattle.central_rules.specs.declared.verdict.Verdict.TheVariants.{Legal}
+use Rattle.central_rules.specs.Verdict.{verdict_of}
+use Rattle.site_workers.specs.declared.fault.WorkFault.{WorkFault}
+use Rattle.site_workers.specs.declared.fault.WorkFault.TheVariants as work_faults
+use Rattle.site_workers.specs.Scripts.{AllWorked}
+use Rattle.trace_weave.specs.Weave.{WeavesLowest, NoneWeaves}
+use Rattle.script_input.specs.declared.fault.ScriptFault.{ScriptFault}
+use Rattle.script_input.specs.declared.fault.ScriptFault.TheVariants as faults
+use Rattle.script_input.specs.declared.watched.End.{End}
+use Rattle.script_input.specs.Lines.{whole_lines, last_part, script_lines}
+use Rattle.script_input.specs.Faults.{Explains, HasEndedAt}
+use Rattle.script_input.specs.Watched.{AppendsFront}
+use Rattle.escrow_work.specs.declared.fault.WorkTextFault.{WorkTextFault}
+use Rattle.escrow_work.specs.declared.fault.WorkTextFault.TheVariants as ends
+use Rattle.escrow_work.specs.Scripts.{HasScripts, IsFirstBad}
+
+-- ---- what workers make
+
+-- Entries, the oldest first, are woven of histories that the workers of these scripts made. Each history is a run of owed
+-- replies on its site's fresh base, and its commands without its accepts are its script.
+pub record Works (schema : SchemaValue) (scripts : List (List Command)) (entries : List Entry) : Type 0 where
+  pub histories : List (List Entry)
+  pub worked : AllWorked schema scripts histories
+  pub woven : WeavesLowest histories (reverse entries)
+
+-- The judge's verdict on them is Legal, so they are a run of one central store.
+pub record WorksLegally (schema : SchemaValue) (scripts : List (List Command)) (entries : List Entry) : Type 0 where
+  pub works : Works schema scripts entries
+  pub legal : verdict_of schema entries ≡ Legal
+  pub central : IsCentral schema (reverse entries)
+
+-- Workers of these scripts may make histories that no trace weaves.
+pub record Sticks (schema : SchemaValue) (scripts : List (List Command)) : Type 0 where
+  pub histories : List (List Entry)
+  pub worked : AllWorked schema scripts histories
+  pub none : NoneWeaves histories
+
+-- ---- what is written
+
+-- Entries, a line each.
+abbrev pub entries_text : SchemaValue → List Entry → List ℕ
+entries_text schema [] = []
+entries_text schema (e ∷ es) = entry_text schema e ++ (10 ∷ entries_text schema es)
+
+-- The header line as it was read, and the entries.
+abbrev pub work_text : SchemaValue → List ℕ → List Entry → List ℕ
+work_text schema header entries = header ++ (10 ∷ entries_text schema entries)
+
+-- Lines and what is written of them: they are a header and plain commands, and the text is that header and the entries that
+-- the workers of their scripts made.
+pub record IsWorkOf (lines : List (List ℕ)) (text : List ℕ) : Type 0 where
+  pub schema : SchemaValue
+  pub header : List ℕ
+  pub scripts : List (List Command)
+  pub entries : List Entry
+  pub good : HasScripts schema header scripts lines
+  pub made : WorksLegally schema scripts entries
+  pub told : text ≡ work_text schema header entries
+
+-- The work of all that was read is written, and the input has ended.
+pub record WritesWork (from to before after : Option (List ℕ)) (last : End) : Type 0 where
+  pub read : List ℕ
+  pub text : List ℕ
+  pub consumed : Consumes from to read
+  pub ended : HasEndedAt to last
+  pub work : IsWorkOf (script_lines read) text
+  pub written : Appends before after text
+
+-- ---- faults
+
+-- The bytes have a bad line, and this is the first. Of it was read: its LF, or more than 256 bytes, or all up to the end of
+-- the input.
+pub record FindsBad (read : List ℕ) (number : ℕ) (ended : Type 0) : Type 0 where
+  pub first : IsFirstBad (script_lines read) number
+  pub reached : (number ≤ length (whole_lines read)) ⊎ ((max_line < length (last_part read)) ⊎ ended)
+
+-- No line, or a header with plain commands behind it.
+abbrev pub IsGood : List (List ℕ) → Type 0
+IsGood lines = (lines ≡ []) ⊎ ((schema : SchemaValue) × ((header : List ℕ) × ((scripts : List (List Command))
+    × HasScripts schema header scripts lines)))
+
+-- A fault of the script: what was read is the front and the back, where it came, and the whole lines of the front are good.
+pub record FaultIn (fault : ScriptFault) (read : List ℕ) (ended : Type 0) : Type 0 where
+  pub front : List ℕ
+  pub back : List ℕ
+  pub parts : front ++ back ≡ read
+  pub why : Explains fault front back ended
+  pub good : IsGood (whole_lines front)
+  pub other : fault ≢ faults.Write
+
+-- All lines are good, and the input has ended.
+pub record IsAsked (schema : SchemaValue) (scripts : List (List Command)) (read : List ℕ) (ended : Type 0) : Type 0 where
+  pub header : List ℕ
+  pub good : HasScripts schema header scripts (script_lines read)
+  pub at : ended
+
+-- Want of memory in the work is told as such.
+abbrev pub IsWorkFault : WorkFault → Type 0
+IsWorkFault work_faults.NoMemory = ⊥
+IsWorkFault fault = Unit {0}
+
+-- What a fault says of the bytes that were read. That a verdict is other than Legal never comes.
+abbrev pub TellsOf : WorkTextFault → List ℕ → Type 0 → Type 0
+TellsOf (ends.Script fault) read ended = FaultIn fault read ended
+TellsOf (ends.BadLine number) read ended = FindsBad read number ended
+TellsOf (ends.Work fault) read ended = IsWorkFault fault × ((schema : SchemaValue) × ((scripts : List (List Command))
+    × IsAsked schema scripts read ended))
+TellsOf ends.Stuck read ended = (schema : SchemaValue) × ((scripts : List (List Command)) × (IsAsked schema scripts read ended
+    × Sticks schema scripts))
+TellsOf ends.Illegal read ended = ⊥
+
+-- Why workers of these scripts make no trace.
+abbrev pub MakesNone : SchemaValue → List (List Command) → WorkTextFault → Type 0
+MakesNone schema scripts (ends.Script fault) = fault ≡ faults.NoMemory
+MakesNone schema scripts (ends.BadLine number) = ⊥
+MakesNone schema scripts (ends.Work fault) = IsWorkFault fault
+MakesNone schema scripts ends.Stuck = Sticks schema scripts
+MakesNone schema scripts ends.Illegal = ⊥
+
+-- The text of the work of all that was read, at whose end the input has ended.
+abbrev pub Tells : Option (List ℕ) → Option (List ℕ) → End → List ℕ → Type 0
+Tells from to last text = (read : List ℕ) × (Consumes from to read × (HasEndedAt to last × IsWorkOf (script_lines read) text))
+
+-- The fault came in what was read.
+abbrev pub FaultsIn : Option (List ℕ) → Option (List ℕ) → End → WorkTextFault → Type 0
+FaultsIn from to last fault = (read : List ℕ) × (Consumes from to read × TellsOf fault read (HasEndedAt to last))
+
+-- At a write fault a front of a text that Ok allows is written. At every other fault nothing is.
+abbrev pub FailsIn : WorkTextFault → List ℕ → Type 0 → Option (List ℕ) → Option (List ℕ) → Type 0
+FailsIn (ends.Script faults.Write) read ended before after = ended × ((text : List ℕ) × (IsWorkOf (script_lines read) text
+    × AppendsFront before after text))
+FailsIn fault read ended before after = TellsOf fault read ended × Appends before after []
+
+-- A fault comes for a reason in what was read, and nothing but a front of a text that Ok allows is written.
+pub record Fails (from to before after : Option (List ℕ)) (last : End) (fault : WorkTextFault) : Type 0 where
+  pub read : List ℕ
+  pub consumed : Consumes from to read
+  pub told : FailsIn fault read (HasEndedAt to last) before after

@@ -1,0 +1,18 @@
+//! Scripts of all sites at work at the same time, over any reader and writer: plain commands in,
+//! and out the one trace that is woven of what the sites made of them.
+#![tactic(auto)]
+
+mod dealing;
+mod fault;
+mod reading;
+mod scripts;
+mod text;
+mod woven;
+
+pub use fault::WorkTextFault;
+pub use script_input::{End, ScriptFault, Watched};
+pub use site_workers::WorkFault;
+pub use text::work_text;
+
+#[cfg(test)]
+mod tests;

@@ -1,0 +1,157 @@
+//! What a work reads and writes.
+
+ghost use Rattle.std.specs.Prelude.{◌≡◌, ℕ, ◌++◌, ◌∷◌, [], List, IfOk, IfErr, OnOk, OnErr};
+ghost use Rattle.std.specs.Io.KnownBytes.{Appends};
+ghost use Rattle.site_workers.specs.Scripts.{scripts_of, ScriptsFit};
+ghost use Rattle.script_input.specs.Watched.{known, last_of, HasFailed, GaveNothing, HasRefused, AppendsFront};
+ghost use Rattle.escrow_work.specs.Scripts.{HasScripts};
+ghost use Rattle.escrow_work.specs.Work.{work_text, MakesNone, IsWorkOf, WritesWork, Fails, Tells, FaultsIn};
+ghost use Rattle.escrow_work.specs.declared.fault.WorkTextFault.TheVariants.{Script};
+
+use crate::fault::WorkTextFault;
+use crate::reading::{Reading, Stop};
+use crate::scripts::Scripts;
+use crate::woven::work_woven;
+use entry_text::append_entry;
+use field_bounds::{Entry, Schema};
+use script_input::{ScriptFault, Watched};
+use site_desk::FreeGate;
+use std::alloc::{AllocError, Global};
+use std::io::{Read, Write};
+use std::sync::Wait;
+use std::thread::Threads;
+
+// The header line, and a line for each entry.
+fn text_of(
+    alloc: Global,
+    schema: &Schema,
+    header: Vec<u8>,
+    entries: &[Entry],
+) -> Result<Vec<u8>, AllocError>
+    ensures { IfOk result (λ text. text.items ≡ work_text schema.now header.items entries.now) }
+{
+    let mut out = header;
+    out.push(b'\n')?;
+    let mut line = String::new(alloc);
+    for entry in entries {
+        append_entry(&mut out, &mut line, schema, *entry)?;
+        out.push(b'\n')?;
+    }
+    Ok(out)
+}
+
+// The text of what workers make of the scripts.
+fn made(
+    rt: &(impl Threads + Wait + Sync),
+    alloc: Global,
+    scripts: Scripts,
+) -> Result<Vec<u8>, WorkTextFault>
+    requires fit { ScriptsFit scripts.schema (scripts_of scripts.rows.items) }
+    ensures ok { IfOk result (λ text. (lines : List (List ℕ)) →
+        HasScripts scripts.schema scripts.header.items (scripts_of scripts.rows.items) lines →
+        IsWorkOf lines text.items) }
+    ensures fault { IfErr result (MakesNone scripts.schema (scripts_of scripts.rows.items)) }
+{
+    let Scripts {
+        schema,
+        header,
+        rows,
+    } = scripts;
+    let entries = work_woven(rt, alloc, &schema, rows, &FreeGate)?;
+    Ok(text_of(alloc, &schema, header, entries.as_slice())?)
+}
+
+// Reads the input, and tells the text of its work.
+fn answer<R: Read>(
+    rt: &(impl Threads + Wait + Sync),
+    alloc: Global,
+    reader: &mut Watched<R>,
+) -> Result<Vec<u8>, WorkTextFault>
+    ensures ok { IfOk result (λ text.
+        Tells (known R.remaining reader.old) (known R.remaining reader.new) (last_of reader.new) text.items) }
+    ensures fault { IfErr result
+        (FaultsIn (known R.remaining reader.old) (known R.remaining reader.new) (last_of reader.new)) }
+    ensures read { IfErr result (λ fault. fault ≡ Script ScriptFault.Read → HasFailed reader.new) }
+{
+    let mut reading = Reading::new(alloc);
+    match reading.read_all(reader) {
+        Ok(()) => made(rt, alloc, reading.into_scripts()),
+        Err(Stop::BadLine) => Err(WorkTextFault::BadLine(reading.next_line())),
+        Err(Stop::Fault(fault)) => Err(WorkTextFault::Script(fault)),
+    }
+}
+
+// Writes the text.
+fn write_out<W: Write>(writer: &mut Watched<W>, bytes: &[u8]) -> Result<(), WorkTextFault>
+    ensures ok { OnOk result
+        (Appends (known W.contents writer.old) (known W.contents writer.new) bytes.now) }
+    ensures front { OnErr result
+        (AppendsFront (known W.contents writer.old) (known W.contents writer.new) bytes.now) }
+    ensures fault { IfErr result (λ fault. fault ≡ Script ScriptFault.Write) }
+    ensures refused { OnErr result (HasRefused writer.new) }
+{
+    if writer.write_all(bytes).is_err() {
+        return Err(WorkTextFault::Script(ScriptFault::Write));
+    }
+    Ok(())
+}
+
+/// Sets all sites to work on their scripts at the same time, each in threads of its own, and takes
+/// what one states to the other. Writes the header line as it was read, and one trace of all that
+/// the sites did, woven of their histories.
+///
+/// Line 1 is a header. Every other line is a command at a site of the schema, `SITE COMMAND`,
+/// other than an accept and without a luck: site s's script is its lines in their order. A line
+/// ends with LF; a last line without LF counts where it has at least one byte.
+///
+/// What is written at Ok is the header line and a line for each entry, `COMMAND -> REPLY`. The
+/// trace is woven of histories, one for each site, each a run of owed replies on the site's fresh
+/// base, whose commands without its accepts are its script. It is judged legal, and so is a run of
+/// one central store. Which of such traces comes is the threads' doing.
+///
+/// The faults are those of the input, line by line: `Header` and `NoMemory`; `TooLong` where a
+/// byte follows the 1,000,000th line or the 268,435,456th byte; `Read` where a read answers an
+/// error of any kind, which isn't tried again; `BadLine` at the first line that is no such
+/// command, as any line of more than 256 bytes, behind which nothing is read. Then those of the
+/// work: `Work` where the workers come to a fault, `Stuck` where no trace weaves their histories;
+/// `Illegal` never comes. At each of them nothing is written. `Write` comes where a write answers
+/// an error of any kind or takes no byte; then a front of such a text was written.
+///
+/// Reader and writer are handed in watched, so that the contract can tell how their last calls
+/// ended; make each anew for a work, by `Watched::new`.
+///
+/// Costs 64 KiB for input, two threads and an inbox of 1,024 letters for each site, memory for the
+/// scripts, for the histories and their receipts and for the text, and time in proportion to the
+/// input.
+///
+/// Source: O'Neil 1986 for escrows and the central store, Balegas and others 2015 for sites that
+/// act alone on rights that they hold, this project for workers and weaving.
+pub fn work_text<R: Read, W: Write>(
+    rt: &(impl Threads + Wait + Sync),
+    alloc: Global,
+    reader: &mut Watched<R>,
+    writer: &mut Watched<W>,
+) -> Result<(), WorkTextFault>
+    // The work of what was read is written, up to the input's end.
+    ensures ok { OnOk result (WritesWork
+        (known R.remaining reader.old) (known R.remaining reader.new)
+        (known W.contents writer.old) (known W.contents writer.new) (last_of reader.new)) }
+
+    // It ends well only after a read that had room and gave nothing.
+    ensures end { OnOk result (GaveNothing reader.new) }
+
+    // A fault comes for a reason, and nothing but a front of such a text is written.
+    ensures fault { IfErr result (Fails
+        (known R.remaining reader.old) (known R.remaining reader.new)
+        (known W.contents writer.old) (known W.contents writer.new) (last_of reader.new)) }
+
+    // A read fault comes only where a read failed.
+    ensures read { IfErr result (λ fault. fault ≡ Script ScriptFault.Read → HasFailed reader.new) }
+
+    // A write fault comes only where a write failed, or took none of its bytes.
+    ensures write { IfErr result (λ fault.
+        fault ≡ Script ScriptFault.Write → HasRefused writer.new) }
+{
+    let text = answer(rt, alloc, reader)?;
+    write_out(writer, text.as_slice())
+}
