@@ -4,8 +4,8 @@ use Rattle.std.proofs.lemmas.List.{length-append, length-take-le}
 use Rattle.std.specs.Io.KnownBytes.{Consumes, IsAtEnd}
 use Rattle.std.proofs.KnownBytes.{Consumes-trans, Consumes-nil}
 use Rattle.script_input.specs.declared.fault.ScriptFault.TheVariants.{TooLong, NoMemory}
-use Rattle.script_input.specs.declared.watched.End.{End}
-use Rattle.script_input.specs.declared.watched.End.TheVariants.{Nothing}
+use Rattle.script_input.specs.declared.streams.End.{End}
+use Rattle.script_input.specs.declared.streams.End.TheVariants.{Nothing}
 use Rattle.script_input.specs.Faults.{HasEndedAt}
 use Rattle.script_input.proofs.LineLemmas.{split_piece, rest_some}
 use Rattle.escrow_work.specs.declared.reading.Stop.{Stop}

@@ -6,7 +6,7 @@ use Rattle.field_bounds.specs.declared.entry.Command.{Command}
 use Rattle.field_bounds.specs.declared.entry.Entry.{Entry}
 use Rattle.entry_text.specs.Spelling.{entry_text}
 use Rattle.script_input.specs.declared.fault.ScriptFault.{ScriptFault}
-use Rattle.script_input.specs.declared.watched.End.{End}
+use Rattle.script_input.specs.declared.streams.End.{End}
 use Rattle.script_input.specs.Lines.{script_lines}
 use Rattle.script_input.specs.Faults.{HasEndedAt}
 use Rattle.site_workers.specs.Scripts.{scripts_of, ScriptsFit}

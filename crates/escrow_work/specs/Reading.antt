@@ -8,7 +8,7 @@ use Rattle.field_bounds.specs.declared.fault.SchemaFault.TheVariants as schema_f
 use Rattle.entry_text.specs.Lines.{max_line}
 use Rattle.script_input.specs.declared.fault.ScriptFault.{ScriptFault}
 use Rattle.script_input.specs.declared.fault.ScriptFault.TheVariants as faults
-use Rattle.script_input.specs.declared.watched.End.{End}
+use Rattle.script_input.specs.declared.streams.End.{End}
 use Rattle.script_input.specs.Lines.{whole_lines, last_part, script_lines}
 use Rattle.script_input.specs.Faults.{HasEndedAt}
 use Rattle.site_workers.specs.Scripts.{scripts_of}

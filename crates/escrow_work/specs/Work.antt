@@ -15,10 +15,10 @@ use Rattle.site_workers.specs.Scripts.{AllWorked}
 use Rattle.trace_weave.specs.Weave.{WeavesLowest, NoneWeaves}
 use Rattle.script_input.specs.declared.fault.ScriptFault.{ScriptFault}
 use Rattle.script_input.specs.declared.fault.ScriptFault.TheVariants as faults
-use Rattle.script_input.specs.declared.watched.End.{End}
+use Rattle.script_input.specs.declared.streams.End.{End}
 use Rattle.script_input.specs.Lines.{whole_lines, last_part, script_lines}
 use Rattle.script_input.specs.Faults.{Explains, HasEndedAt}
-use Rattle.script_input.specs.Watched.{AppendsFront}
+use Rattle.script_input.specs.Streams.{AppendsFront}
 use Rattle.escrow_work.specs.declared.fault.WorkTextFault.{WorkTextFault}
 use Rattle.escrow_work.specs.declared.fault.WorkTextFault.TheVariants as ends
 use Rattle.escrow_work.specs.Scripts.{HasScripts, IsFirstBad}

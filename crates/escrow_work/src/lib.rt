@@ -10,7 +10,7 @@ mod text;
 mod woven;
 
 pub use fault::WorkTextFault;
-pub use script_input::{End, ScriptFault, Watched};
+pub use script_input::{CallFailed, End, ScriptFault, Sink, Source, Watched};
 pub use site_workers::WorkFault;
 pub use text::work_text;
 

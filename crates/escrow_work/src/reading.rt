@@ -1,14 +1,13 @@
 //! The reading of an input: pieces in, whole lines to the scripts.
 
 ghost use Rattle.std.specs.Prelude.{◌≡◌, ◌≢◌, ℕ, ◌+◌, ◌-◌, ◌^◌, ◌<◌, ◌≤◌, [], ◌∷◌, ◌++◌, length, All, OnOk, OnErr, IfOk, IfErr, ◌↔◌, IsTrue, IsSome, Some};
-ghost use Rattle.script_input.specs.Watched.{known, last_of, HasFailed, GaveNothing};
+ghost use Rattle.script_input.specs.Streams.{HasFailed, GaveNothing};
 
 use crate::scripts::Scripts;
 use entry_text::MAX_LINE;
 use field_bounds::{MAX_HEADER, SchemaFault};
-use script_input::{MOST_BYTES, MOST_LINES, ScriptFault, Watched, front, new_buffer, split_line};
+use script_input::{MOST_BYTES, MOST_LINES, ScriptFault, Source, front, new_buffer, split_line};
 use std::alloc::{AllocError, Global};
-use std::io::Read;
 
 /// Why the reading ended before the input did: a fault, or a line that is no plain command.
 #[derive(Clone, Copy, Debug, Drop)]
@@ -183,23 +182,23 @@ impl Reading {
 
     // Reads the next piece and takes it. The answer is the piece's length, and 0 at the end of the
     // input.
-    fn take_next<R: Read>(
+    fn take_next<R: Source>(
         &mut self,
         buffer: &mut [u8],
         bytes: u64,
-        reader: &mut Watched<R>,
+        reader: &mut R,
     ) -> Result<u64, Stop>
         requires some { 0 < length buffer.old }
         requires bytes { bytes ≤ 268435456 }
         requires lines { self.old.lines ≤ 1000000 }
         ensures ok { IfOk result (StandsNext
-            (known R.remaining reader.old) (known R.remaining reader.new) self.old self.new (last_of reader.new) bytes) }
+            (R.bytes reader.old) (R.bytes reader.new) self.old self.new (R.last reader.new) bytes) }
         ensures err { IfErr result (StopsNext
-            (known R.remaining reader.old) (known R.remaining reader.new) self.old self.new (last_of reader.new) bytes) }
+            (R.bytes reader.old) (R.bytes reader.new) self.old self.new (R.last reader.new) bytes) }
         ensures lines { OnOk result (self.new.lines ≤ 1000000) }
         ensures within { IfOk result (λ count. bytes + count ≤ 268435456) }
         ensures failed { IfErr result (λ stop.
-            stop ≡ Fault ScriptFault.Read → HasFailed reader.new) }
+            stop ≡ Fault ScriptFault.Read → HasFailed (R.last reader.new)) }
     {
         let count = match reader.read(buffer) {
             Ok(count) => count,
@@ -237,14 +236,14 @@ impl Reading {
     }
 
     /// Reads the whole input, up to a line that is no plain command.
-    pub(crate) fn read_all<R: Read>(&mut self, reader: &mut Watched<R>) -> Result<(), Stop>
+    pub(crate) fn read_all<R: Source>(&mut self, reader: &mut R) -> Result<(), Stop>
         requires { IsFresh self.old }
         ensures ok { OnOk result (ReadsThrough
-            (known R.remaining reader.old) (known R.remaining reader.new) (last_of reader.new) self.new) }
+            (R.bytes reader.old) (R.bytes reader.new) (R.last reader.new) self.new) }
         ensures err { IfErr result (StopsAfter
-            (known R.remaining reader.old) (known R.remaining reader.new) (last_of reader.new) self.new) }
+            (R.bytes reader.old) (R.bytes reader.new) (R.last reader.new) self.new) }
         ensures failed { IfErr result (λ stop.
-            stop ≡ Fault ScriptFault.Read → HasFailed reader.new) }
+            stop ≡ Fault ScriptFault.Read → HasFailed (R.last reader.new)) }
     {
         let mut buffer = new_buffer(self.alloc)?;
         let mut bytes = 0u64;

@@ -3,7 +3,7 @@
 ghost use Rattle.std.specs.Prelude.{◌≡◌, ℕ, ◌++◌, ◌∷◌, [], List, IfOk, IfErr, OnOk, OnErr};
 ghost use Rattle.std.specs.Io.KnownBytes.{Appends};
 ghost use Rattle.site_workers.specs.Scripts.{scripts_of, ScriptsFit};
-ghost use Rattle.script_input.specs.Watched.{known, last_of, HasFailed, GaveNothing, HasRefused, AppendsFront};
+ghost use Rattle.script_input.specs.Streams.{HasFailed, GaveNothing, HasRefused, AppendsFront};
 ghost use Rattle.escrow_work.specs.Scripts.{HasScripts};
 ghost use Rattle.escrow_work.specs.Work.{work_text, MakesNone, IsWorkOf, WritesWork, Fails, Tells, FaultsIn};
 ghost use Rattle.escrow_work.specs.declared.fault.WorkTextFault.TheVariants.{Script};
@@ -14,10 +14,9 @@ use crate::scripts::Scripts;
 use crate::woven::work_woven;
 use entry_text::append_entry;
 use field_bounds::{Entry, Schema};
-use script_input::{ScriptFault, Watched};
+use script_input::{ScriptFault, Sink, Source};
 use site_desk::FreeGate;
 use std::alloc::{AllocError, Global};
-use std::io::{Read, Write};
 use std::sync::Wait;
 use std::thread::Threads;
 
@@ -62,16 +61,16 @@ fn made(
 }
 
 // Reads the input, and tells the text of its work.
-fn answer<R: Read>(
+fn answer<R: Source>(
     rt: &(impl Threads + Wait + Sync),
     alloc: Global,
-    reader: &mut Watched<R>,
+    reader: &mut R,
 ) -> Result<Vec<u8>, WorkTextFault>
     ensures ok { IfOk result (λ text.
-        Tells (known R.remaining reader.old) (known R.remaining reader.new) (last_of reader.new) text.items) }
+        Tells (R.bytes reader.old) (R.bytes reader.new) (R.last reader.new) text.items) }
     ensures fault { IfErr result
-        (FaultsIn (known R.remaining reader.old) (known R.remaining reader.new) (last_of reader.new)) }
-    ensures read { IfErr result (λ fault. fault ≡ Script ScriptFault.Read → HasFailed reader.new) }
+        (FaultsIn (R.bytes reader.old) (R.bytes reader.new) (R.last reader.new)) }
+    ensures read { IfErr result (λ fault. fault ≡ Script ScriptFault.Read → HasFailed (R.last reader.new)) }
 {
     let mut reading = Reading::new(alloc);
     match reading.read_all(reader) {
@@ -82,13 +81,13 @@ fn answer<R: Read>(
 }
 
 // Writes the text.
-fn write_out<W: Write>(writer: &mut Watched<W>, bytes: &[u8]) -> Result<(), WorkTextFault>
+fn write_out<W: Sink>(writer: &mut W, bytes: &[u8]) -> Result<(), WorkTextFault>
     ensures ok { OnOk result
-        (Appends (known W.contents writer.old) (known W.contents writer.new) bytes.now) }
+        (Appends (W.bytes writer.old) (W.bytes writer.new) bytes.now) }
     ensures front { OnErr result
-        (AppendsFront (known W.contents writer.old) (known W.contents writer.new) bytes.now) }
+        (AppendsFront (W.bytes writer.old) (W.bytes writer.new) bytes.now) }
     ensures fault { IfErr result (λ fault. fault ≡ Script ScriptFault.Write) }
-    ensures refused { OnErr result (HasRefused writer.new) }
+    ensures refused { OnErr result (HasRefused (W.last writer.new)) }
 {
     if writer.write_all(bytes).is_err() {
         return Err(WorkTextFault::Script(ScriptFault::Write));
@@ -117,8 +116,8 @@ fn write_out<W: Write>(writer: &mut Watched<W>, bytes: &[u8]) -> Result<(), Work
 /// `Illegal` never comes. At each of them nothing is written. `Write` comes where a write answers
 /// an error of any kind or takes no byte; then a front of such a text was written.
 ///
-/// Reader and writer are handed in watched, so that the contract can tell how their last calls
-/// ended; make each anew for a work, by `Watched::new`.
+/// Reader and writer tell the contract how their calls end, and how many failed; `Watched::new`
+/// makes such ones of std's. No call is made again after one that failed.
 ///
 /// Costs 64 KiB for input, two threads and an inbox of 1,024 letters for each site, memory for the
 /// scripts, for the histories and their receipts and for the text, and time in proportion to the
@@ -126,31 +125,31 @@ fn write_out<W: Write>(writer: &mut Watched<W>, bytes: &[u8]) -> Result<(), Work
 ///
 /// Source: O'Neil 1986 for escrows and the central store, Balegas and others 2015 for sites that
 /// act alone on rights that they hold, this project for workers and weaving.
-pub fn work_text<R: Read, W: Write>(
+pub fn work_text<R: Source, W: Sink>(
     rt: &(impl Threads + Wait + Sync),
     alloc: Global,
-    reader: &mut Watched<R>,
-    writer: &mut Watched<W>,
+    reader: &mut R,
+    writer: &mut W,
 ) -> Result<(), WorkTextFault>
     // The work of what was read is written, up to the input's end.
     ensures ok { OnOk result (WritesWork
-        (known R.remaining reader.old) (known R.remaining reader.new)
-        (known W.contents writer.old) (known W.contents writer.new) (last_of reader.new)) }
+        (R.bytes reader.old) (R.bytes reader.new)
+        (W.bytes writer.old) (W.bytes writer.new) (R.last reader.new)) }
 
     // It ends well only after a read that had room and gave nothing.
-    ensures end { OnOk result (GaveNothing reader.new) }
+    ensures end { OnOk result (GaveNothing (R.last reader.new)) }
 
     // A fault comes for a reason, and nothing but a front of such a text is written.
     ensures fault { IfErr result (Fails
-        (known R.remaining reader.old) (known R.remaining reader.new)
-        (known W.contents writer.old) (known W.contents writer.new) (last_of reader.new)) }
+        (R.bytes reader.old) (R.bytes reader.new)
+        (W.bytes writer.old) (W.bytes writer.new) (R.last reader.new)) }
 
     // A read fault comes only where a read failed.
-    ensures read { IfErr result (λ fault. fault ≡ Script ScriptFault.Read → HasFailed reader.new) }
+    ensures read { IfErr result (λ fault. fault ≡ Script ScriptFault.Read → HasFailed (R.last reader.new)) }
 
     // A write fault comes only where a write failed, or took none of its bytes.
     ensures write { IfErr result (λ fault.
-        fault ≡ Script ScriptFault.Write → HasRefused writer.new) }
+        fault ≡ Script ScriptFault.Write → HasRefused (W.last writer.new)) }
 {
     let text = answer(rt, alloc, reader)?;
     write_out(writer, text.as_slice())

@@ -1,6 +1,5 @@
 use Rattle.std.proofs.Common.{◌≡◌, ◌-◌, ◌≤◌, vec_len}
 use Rattle.escrow_work.specs.Reading.{Stands}
-use Rattle.script_input.specs.Watched.{known}
 use Rattle.escrow_work.proofs.reading.Reading.read_all.Given as goal
 
 abbrev pub invariant-pieces : goal.invariant-pieces
@@ -8,7 +7,7 @@ invariant-pieces g l = record {
   size : vec_len l.buffer ≡ 65536;
   bound : l.bytes ≤ 268435456;
   within : l.self.lines ≤ 1000000;
-  stands : Stands (known g.R.Read.remaining l.initial.reader) (known g.R.Read.remaining l.reader) l.self l.bytes;
+  stands : Stands (g.R.Source.bytes l.initial.reader) (g.R.Source.bytes l.reader) l.self l.bytes;
 }
 
 abbrev pub decreases-pieces : goal.decreases-pieces
