@@ -1,5 +1,5 @@
 -- What the parts of the reading do to its state (this project).
-use Rattle.std.specs.Prelude.{◌≡◌, ℕ, ◌+◌, ◌<◌, List, [], ◌++◌, length, Option, None, Some, IsNone, IsSome, Ok, Err}
+use Rattle.std.specs.Prelude.{◌≡◌, ℕ, ◌+◌, ◌<◌, List, [], ◌++◌, length, Option, None, Some, IsNone, IsSome, Result, Ok, Err}
 use Rattle.std.specs.Io.KnownBytes.{Consumes}
 use Rattle.field_bounds.specs.Header.{schema_of}
 use Rattle.field_bounds.specs.declared.id.SiteNo.{SiteNo}
@@ -10,7 +10,7 @@ use Rattle.script_input.specs.declared.fault.ScriptFault.{ScriptFault}
 use Rattle.script_input.specs.declared.fault.ScriptFault.TheVariants as faults
 use Rattle.script_input.specs.declared.streams.End.{End}
 use Rattle.script_input.specs.Lines.{whole_lines, last_part, script_lines}
-use Rattle.script_input.specs.Faults.{HasEndedAt}
+use Rattle.script_input.specs.Faults.{HasEndedAt, CountsRead}
 use Rattle.site_workers.specs.Scripts.{scripts_of}
 use Rattle.escrow_work.specs.declared.reading.Stop.{Stop}
 use Rattle.escrow_work.specs.declared.reading.Stop.TheVariants.{Fault, BadLine}
@@ -164,3 +164,9 @@ StandsNext middle to old new last bytes count =
 abbrev pub StopsNext : Option (List ℕ) → Option (List ℕ) → Reading → Reading → End → ℕ → Stop → Type 0
 StopsNext middle to old new last bytes stop =
     (from : Option (List ℕ)) → Stands from middle old bytes → StopsAfter from to last new stop
+
+-- How many reads failed, before and after a call that ends so.
+abbrev pub CountsStops : {T : Type 0} → Result T Stop → ℕ → ℕ → Type 0
+CountsStops (Ok x) before after = after ≡ before
+CountsStops (Err (Fault fault)) before after = CountsRead fault before after
+CountsStops (Err BadLine) before after = after ≡ before

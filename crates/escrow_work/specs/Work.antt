@@ -1,5 +1,5 @@
 -- What workers are asked, what they make of it, and what is written (this project).
-use Rattle.std.specs.Prelude.{◌≡◌, ◌≢◌, ℕ, ◌<◌, ◌≤◌, ◌⊎◌, List, [], ◌∷◌, ◌++◌, length, reverse, Option}
+use Rattle.std.specs.Prelude.{◌≡◌, ◌≢◌, ℕ, ◌<◌, ◌≤◌, ◌⊎◌, List, [], ◌∷◌, ◌++◌, length, reverse, Option, Result, Ok, Err}
 use Rattle.std.specs.Io.KnownBytes.{Appends, Consumes}
 use Rattle.field_bounds.specs.Schema.{SchemaValue}
 use Rattle.field_bounds.specs.Central.{IsCentral}
@@ -17,7 +17,7 @@ use Rattle.script_input.specs.declared.fault.ScriptFault.{ScriptFault}
 use Rattle.script_input.specs.declared.fault.ScriptFault.TheVariants as faults
 use Rattle.script_input.specs.declared.streams.End.{End}
 use Rattle.script_input.specs.Lines.{whole_lines, last_part, script_lines}
-use Rattle.script_input.specs.Faults.{Explains, HasEndedAt}
+use Rattle.script_input.specs.Faults.{Explains, HasEndedAt, CountsRead, CountsWrite}
 use Rattle.script_input.specs.Streams.{AppendsFront}
 use Rattle.escrow_work.specs.declared.fault.WorkTextFault.{WorkTextFault}
 use Rattle.escrow_work.specs.declared.fault.WorkTextFault.TheVariants as ends
@@ -145,3 +145,21 @@ pub record Fails (from to before after : Option (List ℕ)) (last : End) (fault 
   pub read : List ℕ
   pub consumed : Consumes from to read
   pub told : FailsIn fault read (HasEndedAt to last) before after
+
+-- How many reads failed, before and after a work that ends so: one more at a read fault, and else as many.
+abbrev pub CountsWorkReads : {T : Type 0} → Result T WorkTextFault → ℕ → ℕ → Type 0
+CountsWorkReads (Ok x) before after = after ≡ before
+CountsWorkReads (Err (ends.Script fault)) before after = CountsRead fault before after
+CountsWorkReads (Err (ends.BadLine number)) before after = after ≡ before
+CountsWorkReads (Err (ends.Work fault)) before after = after ≡ before
+CountsWorkReads (Err ends.Stuck) before after = after ≡ before
+CountsWorkReads (Err ends.Illegal) before after = after ≡ before
+
+-- How many writes were refused: one more at a write fault, and else as many.
+abbrev pub CountsWorkWrites : {T : Type 0} → Result T WorkTextFault → ℕ → ℕ → Type 0
+CountsWorkWrites (Ok x) before after = after ≡ before
+CountsWorkWrites (Err (ends.Script fault)) before after = CountsWrite fault before after
+CountsWorkWrites (Err (ends.BadLine number)) before after = after ≡ before
+CountsWorkWrites (Err (ends.Work fault)) before after = after ≡ before
+CountsWorkWrites (Err ends.Stuck) before after = after ≡ before
+CountsWorkWrites (Err ends.Illegal) before after = after ≡ before

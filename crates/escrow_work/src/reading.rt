@@ -49,7 +49,7 @@ pub(crate) struct Reading {
 }
 
 impl Reading {
-    ghost use Rattle.escrow_work.specs.Reading.{HasKept, KeepStop, LineStop, HasEnded, HasNoted, GoesOn, StopsIn, Finishes, StopsAtEnd, IsFresh, ReadsThrough, StopsAfter, StandsNext, StopsNext};
+    ghost use Rattle.escrow_work.specs.Reading.{HasKept, KeepStop, LineStop, HasEnded, HasNoted, GoesOn, StopsIn, Finishes, StopsAtEnd, IsFresh, ReadsThrough, StopsAfter, StandsNext, StopsNext, CountsStops};
     ghost use Rattle.escrow_work.specs.declared.reading.Stop.TheVariants.{Fault};
 
     pub(crate) fn new(alloc: Global) -> Reading
@@ -199,6 +199,7 @@ impl Reading {
         ensures within { IfOk result (λ count. bytes + count ≤ 268435456) }
         ensures failed { IfErr result (λ stop.
             stop ≡ Fault ScriptFault.Read → HasFailed (R.last reader.new)) }
+        ensures reads { CountsStops result (R.failures reader.old) (R.failures reader.new) }
     {
         let count = match reader.read(buffer) {
             Ok(count) => count,
@@ -244,6 +245,7 @@ impl Reading {
             (R.bytes reader.old) (R.bytes reader.new) (R.last reader.new) self.new) }
         ensures failed { IfErr result (λ stop.
             stop ≡ Fault ScriptFault.Read → HasFailed (R.last reader.new)) }
+        ensures reads { CountsStops result (R.failures reader.old) (R.failures reader.new) }
     {
         let mut buffer = new_buffer(self.alloc)?;
         let mut bytes = 0u64;

@@ -1,11 +1,11 @@
 //! What a work reads and writes.
 
-ghost use Rattle.std.specs.Prelude.{◌≡◌, ℕ, ◌++◌, ◌∷◌, [], List, IfOk, IfErr, OnOk, OnErr};
+ghost use Rattle.std.specs.Prelude.{◌≡◌, ◌≢◌, ℕ, ◌++◌, ◌∷◌, [], List, IfOk, IfErr, OnOk, OnErr};
 ghost use Rattle.std.specs.Io.KnownBytes.{Appends};
 ghost use Rattle.site_workers.specs.Scripts.{scripts_of, ScriptsFit};
 ghost use Rattle.script_input.specs.Streams.{HasFailed, GaveNothing, HasRefused, AppendsFront};
 ghost use Rattle.escrow_work.specs.Scripts.{HasScripts};
-ghost use Rattle.escrow_work.specs.Work.{work_text, MakesNone, IsWorkOf, WritesWork, Fails, Tells, FaultsIn};
+ghost use Rattle.escrow_work.specs.Work.{work_text, MakesNone, IsWorkOf, WritesWork, Fails, Tells, FaultsIn, CountsWorkReads, CountsWorkWrites};
 ghost use Rattle.escrow_work.specs.declared.fault.WorkTextFault.TheVariants.{Script};
 
 use crate::fault::WorkTextFault;
@@ -71,6 +71,8 @@ fn answer<R: Source>(
     ensures fault { IfErr result
         (FaultsIn (R.bytes reader.old) (R.bytes reader.new) (R.last reader.new)) }
     ensures read { IfErr result (λ fault. fault ≡ Script ScriptFault.Read → HasFailed (R.last reader.new)) }
+    ensures reads { CountsWorkReads result (R.failures reader.old) (R.failures reader.new) }
+    ensures not_written { IfErr result (λ fault. fault ≢ Script ScriptFault.Write) }
 {
     let mut reading = Reading::new(alloc);
     match reading.read_all(reader) {
@@ -88,6 +90,7 @@ fn write_out<W: Sink>(writer: &mut W, bytes: &[u8]) -> Result<(), WorkTextFault>
         (AppendsFront (W.bytes writer.old) (W.bytes writer.new) bytes.now) }
     ensures fault { IfErr result (λ fault. fault ≡ Script ScriptFault.Write) }
     ensures refused { OnErr result (HasRefused (W.last writer.new)) }
+    ensures writes { CountsWorkWrites result (W.refusals writer.old) (W.refusals writer.new) }
 {
     if writer.write_all(bytes).is_err() {
         return Err(WorkTextFault::Script(ScriptFault::Write));
@@ -150,6 +153,12 @@ pub fn work_text<R: Source, W: Sink>(
     // A write fault comes only where a write failed, or took none of its bytes.
     ensures write { IfErr result (λ fault.
         fault ≡ Script ScriptFault.Write → HasRefused (W.last writer.new)) }
+
+    // One read failed in this call at a read fault, and else none.
+    ensures reads { CountsWorkReads result (R.failures reader.old) (R.failures reader.new) }
+
+    // One write was refused in this call at a write fault, and else none.
+    ensures writes { CountsWorkWrites result (W.refusals writer.old) (W.refusals writer.new) }
 {
     let text = answer(rt, alloc, reader)?;
     write_out(writer, text.as_slice())

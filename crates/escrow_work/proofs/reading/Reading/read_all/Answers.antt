@@ -1,4 +1,4 @@
-use Rattle.std.proofs.Common.{arith}
+use Rattle.std.proofs.Common.{refl, ◌∙◌, arith}
 use Rattle.std.proofs.lemmas.Result.{err_from_is_err_and, IfErr-weaker, on_ok_weaker}
 use Rattle.escrow_work.proofs.States.{Stops-weaker}
 use Rattle.escrow_work.proofs.Pieces.{Stands-start, nothing_read}
@@ -15,6 +15,7 @@ pieces-init g c = record {
   bound = omega arith;
   within = rw c.requires.lines (omega arith);
   stands = Stands-start _ _ c.requires;
+  reads = refl;
 }
 
 pub pieces-preserved : goal.pieces-preserved
@@ -23,6 +24,7 @@ pieces-preserved g c = record {
   bound = c.in_ok-count.ensures.within;
   within = c.in_ok-count.ensures.lines;
   stands = (c.in_ok-count.ensures.ok _ c.pieces.invariant.stands).0;
+  reads = c.in_ok-count.ensures.reads ∙ c.pieces.invariant.reads;
 }
 
 pub returns-in_err-count-clause-err : goal.returns-in_err-count-clause-err

@@ -8,6 +8,7 @@ invariant-pieces g l = record {
   bound : l.bytes ≤ 268435456;
   within : l.self.lines ≤ 1000000;
   stands : Stands (g.R.Source.bytes l.initial.reader) (g.R.Source.bytes l.reader) l.self l.bytes;
+  reads : g.R.Source.failures l.reader ≡ g.R.Source.failures l.initial.reader;
 }
 
 abbrev pub decreases-pieces : goal.decreases-pieces
