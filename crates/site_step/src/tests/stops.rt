@@ -1,5 +1,7 @@
 //! Worked rows of stops: each expected answer is worked out by hand.
 
+mod hostile;
+
 use super::*;
 use field_bounds::Last;
 use kept_records::{Mishap, TornMedium};
