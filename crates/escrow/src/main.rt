@@ -1,11 +1,12 @@
-//! The program `escrow`: a script of commands on standard input and its answers on standard output, or
-//! such answers and their audit.
+//! The program `escrow`: a script of commands on standard input and its answers on standard output, all
+//! sites at work at the same time, or such answers and their audit.
 #![tactic(auto)]
 
 use clap::error::ErrorKind;
 use clap::{Arg, ArgAction, Command, Error};
 use escrow_audit::{AuditEnd, audit_text};
 use escrow_script::{ScriptFault, Watched, run_script};
+use escrow_work::{WorkTextFault, work_text};
 use std::alloc::{AllocError, Global};
 use std::process::ExitCode;
 use std::rt::Env;
@@ -19,11 +20,13 @@ quantities aside before it commits, so no outcome can pass either bound.
 
 Example:
   escrow run < script.txt > answers.txt
+  escrow work < commands.txt > answers.txt
   escrow audit < answers.txt
 
 Statuses: 0 done; 1 a read or write failed, or the input is too long;
-2 the command line or the header is refused; 3 the audit found an entry that
-is illegal, or a line that is no entry; 4 out of memory.";
+2 the command line, the header or a line of `work` is refused; 3 the audit found
+an entry that is illegal, or a line that is no entry, or `work` came to no trace;
+4 out of memory.";
 
 const RUN_ABOUT: &str = "Answers the script on standard input, line by line";
 
@@ -66,10 +69,29 @@ Its output, behind the header line:
   0 commit 0.1 -> committed
   0 read stock -> between 20 20";
 
+const WORK_ABOUT: &str = "Runs the commands on standard input, all sites at the same time";
+
+const WORK_EXAMPLE: &str = "\
+Line 1 is the header, as for `escrow run`. Each other line is a command of `run`
+at a site, SITE COMMAND; `torn`, `deliver`, `level` and `reach` aren't taken. Each
+site does its own lines in their order, in a thread of its own, and every gift is
+told to its receiver, which accepts it.
+
+The header is written, and then what all sites did, as one trace that `escrow
+audit` finds legal. Its order may differ from run to run.
+
+Example input:
+  {\"sites\":2,\"fields\":[{\"name\":\"stock\",\"floor\":0,\"ceiling\":100,\"value\":40}]}
+  0 give 1 stock lower 5
+
+Its output, behind the header line:
+  0 give 1 stock lower 5 -> given 5
+  1 accept 0 1 stock lower 5 -> accepted 5";
+
 const AUDIT_ABOUT: &str = "Judges the answers of a run on standard input";
 
 const AUDIT_EXAMPLE: &str = "\
-The input is what `escrow run` wrote, or a trace from elsewhere in that form:
+The input is what `escrow run` or `escrow work` wrote, or a trace from elsewhere in that form:
 line 1 is the header, and each other line an entry, COMMAND -> REPLY. The remarks
 of a run are skipped: `bad line`, a delivery of no statement, and what stands
 ahead of the gifts of `level` and of the steps of `reach`.
@@ -96,6 +118,7 @@ const FIELDS_HELP: &str = "Judges field by field, in threads; the answer is the 
 #[derive(Clone, Copy)]
 enum Task {
     Run,
+    Work,
     Audit { fields: bool },
 }
 
@@ -103,6 +126,9 @@ fn program<'a>(alloc: Global) -> Result<Command<'a>, AllocError> {
     let run = Command::new(alloc, "run")
         .about(RUN_ABOUT)
         .after_help(RUN_EXAMPLE);
+    let work = Command::new(alloc, "work")
+        .about(WORK_ABOUT)
+        .after_help(WORK_EXAMPLE);
     let fields = Arg::new(alloc, "fields")
         .long("fields")
         .help(FIELDS_HELP)
@@ -117,6 +143,7 @@ fn program<'a>(alloc: Global) -> Result<Command<'a>, AllocError> {
         .subcommand_required(true)
         .arg_required_else_help(true)
         .subcommand(run)?
+        .subcommand(work)?
         .subcommand(audit)
 }
 
@@ -134,6 +161,7 @@ fn read_task(rt: &(impl Env + AllocGlobal)) -> Result<Task, Error> {
     let matches = command.try_get_matches_from(words.as_slice())?;
     match matches.subcommand() {
         Some(("run", _)) => Ok(Task::Run),
+        Some(("work", _)) => Ok(Task::Work),
         Some(("audit", asked)) => Ok(Task::Audit {
             fields: asked.get_flag("fields"),
         }),
@@ -149,19 +177,27 @@ fn status_of(fault: ScriptFault) -> u8 {
     }
 }
 
+fn status_of_work(fault: WorkTextFault) -> u8 {
+    match fault {
+        WorkTextFault::Script(fault) => status_of(fault),
+        WorkTextFault::BadLine(_) => 2,
+        WorkTextFault::Work(_) | WorkTextFault::Stuck | WorkTextFault::Illegal => 3,
+    }
+}
+
 /// Tells a fault on standard error. A write that fails there changes nothing.
-fn tell(rt: &impl Eprint, fault: ScriptFault) -> u8 {
+fn tell(rt: &impl Eprint, fault: WorkTextFault) -> u8 {
     let _ = eprintln!(rt; "escrow: {fault}");
-    status_of(fault)
+    status_of_work(fault)
 }
 
 /// Tells why the command line asks for no task, and gives help where it asks for that.
 fn tell_refused(rt: &(impl Print + Eprint), error: &Error) -> u8 {
     if error.kind() == ErrorKind::OutOfMemory {
-        return tell(rt, ScriptFault::NoMemory);
+        return tell(rt, WorkTextFault::Script(ScriptFault::NoMemory));
     }
     if error.print(rt).is_err() && !error.use_stderr() {
-        return tell(rt, ScriptFault::Write);
+        return tell(rt, WorkTextFault::Script(ScriptFault::Write));
     }
     if error.use_stderr() { 2 } else { 0 }
 }
@@ -183,10 +219,13 @@ fn main(rt: HostRuntime) -> ExitCode {
     let mut reader = Watched::new(rt.stdin());
     let mut writer = Watched::new(rt.stdout());
     let ended = match task {
-        Task::Run => run_script(alloc, &mut reader, &mut writer).map(|()| 0),
-        Task::Audit { fields } => {
-            audit_text(&rt, alloc, fields, &mut reader, &mut writer).map(status_of_end)
-        }
+        Task::Run => run_script(alloc, &mut reader, &mut writer)
+            .map(|()| 0)
+            .map_err(WorkTextFault::Script),
+        Task::Work => work_text(&rt, alloc, &mut reader, &mut writer).map(|()| 0),
+        Task::Audit { fields } => audit_text(&rt, alloc, fields, &mut reader, &mut writer)
+            .map(status_of_end)
+            .map_err(WorkTextFault::Script),
     };
     match ended {
         Ok(status) => ExitCode::from(status),
