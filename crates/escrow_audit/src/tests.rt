@@ -1,5 +1,8 @@
 //! What no clause says: the texts, whole audits, and readers and writers that fail.
 
+mod faults;
+mod hostile;
+
 use crate::{AuditEnd, ScriptFault, Watched, audit_text};
 use field_bounds::SchemaFault;
 use std::alloc::{AllocError, Global};

@@ -1,6 +1,8 @@
 //! What no clause says: the texts, whole runs, and readers and writers that fail.
 
 mod bad_lines;
+mod faults;
+mod hostile;
 mod levels;
 mod reaches;
 
