@@ -3,6 +3,7 @@
 ghost use Rattle.std.specs.Prelude.{◌≡◌, ◌<◌};
 
 use super::commands::{BEGUN, COMMIT, SHARE, SPENT, TAKE_TWENTY};
+use super::refused::Refusals;
 use super::schema::stock_of_two;
 use field_bounds::{Command, Reply, SiteNo};
 use kept_records::MemoryMedium;
@@ -48,12 +49,13 @@ fn receipt_of<L: Ledger, R: Wait>(
     desk: &Desk<L, MemoryMedium>,
     pass: &mut Pass<L>,
     command: Command,
+    refusals: &mut Refusals,
 ) -> Option<Receipt> {
     let before = (pass.count(), pass.last());
     for _ in 0..2 {
         match desk.call(rt, alloc, pass, command) {
             Ok(receipt) => return Some(receipt),
-            Err(DeskFault::NoMemory) => {}
+            Err(DeskFault::NoMemory) => refusals.note(),
             Err(DeskFault::WentBack { length: _ } | DeskFault::GateTurns) => return None,
         }
         if (pass.count(), pass.last()) != before {
@@ -68,30 +70,46 @@ fn found(
     alloc: Global,
     closed: &Closed<MemoryMedium>,
     receipts: &[Receipt],
+    refusals: &mut Refusals,
 ) -> Result<(), ReceiptFault> {
     match check_receipts(alloc, closed, receipts) {
-        Err(ReceiptFault::NoMemory) => check_receipts(alloc, closed, receipts),
+        Err(ReceiptFault::NoMemory) => {
+            refusals.note();
+            check_receipts(alloc, closed, receipts)
+        }
         told => told,
     }
 }
 
 /// Whether the receipts are those of the closed site, one is missing without the third, and one is
 /// there twice with the second again.
-fn are_told(alloc: Global, closed: &Closed<MemoryMedium>, receipts: &[Receipt]) -> bool {
+fn are_told(
+    alloc: Global,
+    closed: &Closed<MemoryMedium>,
+    receipts: &[Receipt],
+    refusals: &mut Refusals,
+) -> bool {
     let [first, second, third, fourth] = receipts else {
         return false;
     };
     let site = SiteNo(0);
-    found(alloc, closed, receipts) == Ok(())
-        && found(alloc, closed, &[*first, *second, *fourth])
+    let without_third = [*first, *second, *fourth];
+    let second_twice = [*first, *second, *second, *third, *fourth];
+    found(alloc, closed, receipts, refusals) == Ok(())
+        && found(alloc, closed, &without_third, refusals)
             == Err(ReceiptFault::Missing { site, number: 3 })
-        && found(alloc, closed, &[*first, *second, *second, *third, *fourth])
+        && found(alloc, closed, &second_twice, refusals)
             == Err(ReceiptFault::Twice { site, number: 2 })
 }
 
 /// How many calls are answered as told, from the first on, and whether the desk closes and its receipts
 /// are told so. None where memory was refused before the first call.
-fn count_over<L: Ledger, R: Wait>(rt: &R, alloc: Global, blank: Blank) -> Option<(usize, bool)>
+fn count_over<L: Ledger, R: Wait>(
+    rt: &R,
+    alloc: Global,
+    blank: Blank,
+    refusals: &mut Refusals,
+) -> Option<(usize, bool)>
     requires name { blank.name ≡ L.name }
     requires parts { blank.parts ≡ L.parts }
     requires some { 0 < blank.parts }
@@ -104,7 +122,7 @@ fn count_over<L: Ledger, R: Wait>(rt: &R, alloc: Global, blank: Blank) -> Option
     let mut receipts = Vec::with_capacity(alloc, CALLS.len()).ok()?;
     let mut pass = passes.pop()?;
     for (at, (command, wanted)) in CALLS.iter().enumerate() {
-        let Some(receipt) = receipt_of(rt, alloc, &desk, &mut pass, *command) else {
+        let Some(receipt) = receipt_of(rt, alloc, &desk, &mut pass, *command, refusals) else {
             return Some((at, false));
         };
         if receipt.entry().reply != *wanted || receipts.push(receipt).is_err() {
@@ -115,15 +133,20 @@ fn count_over<L: Ledger, R: Wait>(rt: &R, alloc: Global, blank: Blank) -> Option
     let Ok(closed) = desk.close(passes) else {
         return Some((CALLS.len(), false));
     };
-    Some((CALLS.len(), are_told(alloc, &closed, &receipts)))
+    Some((CALLS.len(), are_told(alloc, &closed, &receipts, refusals)))
 }
 
 /// The same, of two tries with a desk each.
-pub fn count_told<R: Wait>(rt: &R, alloc: Global) -> Option<(usize, bool)> {
+pub fn count_told<R: Wait>(
+    rt: &R,
+    alloc: Global,
+    refusals: &mut Refusals,
+) -> Option<(usize, bool)> {
     for _ in 0..2 {
-        if let Some(told) = count_over::<Brand, R>(rt, alloc, Blank::new(1)) {
+        if let Some(told) = count_over::<Brand, R>(rt, alloc, Blank::new(1), refusals) {
             return Some(told);
         }
+        refusals.note();
     }
     None
 }

@@ -1,34 +1,38 @@
 //! Takes worked steps by library calls while memory is refused now and then: after a call that was
 //! refused, a world and a site show what they showed before it, and the call taken again is answered as
-//! told. So one refusal, wherever it falls, leaves the output as it is.
+//! told. So one refusal, wherever it falls, leaves the output as it is, but for its last line: it tells
+//! how many calls were refused.
 #![tactic(auto)]
 
 mod commands;
 mod desk;
 mod moves;
+mod refused;
 mod schema;
 mod site;
 mod workers;
 mod world;
 
+use refused::Refusals;
 use std::io;
 
 fn main(rt: HostRuntime) -> io::Result<()> {
     let alloc = rt.alloc();
+    let mut refusals = Refusals::new();
     for (name, row) in &world::ROWS {
-        println!(rt;
-            "world, {name}: {} steps as told",
-            world::count_told(alloc, *row)
-        )?;
+        let count = world::count_told(alloc, *row, &mut refusals).unwrap_or(0);
+        println!(rt; "world, {name}: {count} steps as told")?;
     }
     for (name, log, row) in &site::ROWS {
-        println!(rt;
-            "site, {name}: {} answers as told",
-            site::count_told(alloc, *log, *row).unwrap_or(0)
-        )?;
+        let count = site::count_told(alloc, *log, *row, &mut refusals).unwrap_or(0);
+        println!(rt; "site, {name}: {count} answers as told")?;
     }
-    let (count, told) = desk::count_told(&rt, alloc).unwrap_or((0, false));
+    let (count, told) = desk::count_told(&rt, alloc, &mut refusals).unwrap_or((0, false));
     println!(rt; "desk, a commit: {count} receipts as told, closed and checked: {told}")?;
-    println!(rt; "moves: {}", moves::are_told(alloc))?;
-    println!(rt; "workers, a gift: {}", workers::are_told(&rt, alloc))
+    println!(rt; "moves: {}", moves::are_told(alloc, &mut refusals))?;
+    println!(rt;
+        "workers, a gift: {}",
+        workers::are_told(&rt, alloc, &mut refusals)
+    )?;
+    println!(rt; "calls refused memory: {}", refusals.count())
 }

@@ -1,5 +1,6 @@
 //! The plan that levels shares.
 
+use super::refused::Refusals;
 use rebalance::{Move, plan_even};
 use std::alloc::Global;
 
@@ -15,11 +16,12 @@ fn is_told(plan: &[Move]) -> bool {
 }
 
 /// Whether the first plan that wasn't refused memory is the one gift, of two tries.
-pub fn are_told(alloc: Global) -> bool {
+pub fn are_told(alloc: Global, refusals: &mut Refusals) -> bool {
     for _ in 0..2 {
         if let Ok(plan) = plan_even(alloc, &SHARES) {
             return is_told(&plan);
         }
+        refusals.note();
     }
     false
 }

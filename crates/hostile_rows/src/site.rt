@@ -4,6 +4,7 @@ use super::commands::{
     ABORT, ACCEPT_FIVE, BEGUN, BETWEEN, COMMIT, DOWN, FOUND_KEPT, FOUND_LOST, FOUND_NOTHING, FREE,
     GIVE_FIVE, READ, RESTATE, SHARE, SPARE, SPENT, TAKE_TWENTY, TIGHTEN_FIVE,
 };
+use super::refused::Refusals;
 use super::schema::{STOCK, stock_of_two};
 use field_bounds::{Command, Last, Reply, SiteNo, TxnId};
 use kept_records::{Medium, Mishap, TornMedium};
@@ -205,7 +206,7 @@ const WITHOUT_SUMMARY: [Step; 4] = [
 ];
 
 /// The text of a log. None where memory was refused.
-fn text_of(alloc: Global, log: Log) -> Option<Vec<u8>> {
+fn spelled(alloc: Global, log: Log) -> Option<Vec<u8>> {
     let (restarts, records) = log;
     let mut text = String::new(alloc);
     for epoch in 0..restarts {
@@ -215,9 +216,26 @@ fn text_of(alloc: Global, log: Log) -> Option<Vec<u8>> {
     Some(text.into_bytes())
 }
 
-/// A medium that holds these bytes. None where memory was refused.
-fn medium_over(alloc: Global, bytes: &[u8]) -> Option<TornMedium> {
-    Some(TornMedium::new(Vec::from_slice(alloc, bytes).ok()?))
+/// The text of a log, of two tries.
+fn text_of(alloc: Global, log: Log, refusals: &mut Refusals) -> Option<Vec<u8>> {
+    for _ in 0..2 {
+        if let Some(text) = spelled(alloc, log) {
+            return Some(text);
+        }
+        refusals.note();
+    }
+    None
+}
+
+/// A medium that holds these bytes, of two tries.
+fn medium_over(alloc: Global, bytes: &[u8], refusals: &mut Refusals) -> Option<TornMedium> {
+    for _ in 0..2 {
+        if let Ok(held) = Vec::from_slice(alloc, bytes) {
+            return Some(TornMedium::new(held));
+        }
+        refusals.note();
+    }
+    None
 }
 
 /// Site 0 over the medium.
@@ -236,11 +254,12 @@ fn open_over(
 
 /// Site 0 over these bytes, of two tries: after one that was refused memory the medium that came back
 /// holds the bytes as before. None where it doesn't.
-fn site_over(alloc: Global, bytes: &[u8]) -> Option<Site<TornMedium>> {
-    let medium = medium_over(alloc, bytes).or_else(|| medium_over(alloc, bytes))?;
+fn site_over(alloc: Global, bytes: &[u8], refusals: &mut Refusals) -> Option<Site<TornMedium>> {
+    let medium = medium_over(alloc, bytes, refusals)?;
     match open_over(alloc, medium) {
         Ok(site) => Some(site),
         Err((OpenFault::NoMemory, back)) => {
+            refusals.note();
             let mut medium = back;
             let held = medium.read_all(alloc).ok()?;
             if held.as_slice() != bytes {
@@ -268,11 +287,12 @@ fn reply_of(
     site: &mut Site<TornMedium>,
     twin: &Site<TornMedium>,
     command: Command,
+    refusals: &mut Refusals,
 ) -> Option<Reply> {
     for _ in 0..2 {
         match site.apply(alloc, command) {
             Ok(reply) => return Some(reply),
-            Err(AllocError) => {}
+            Err(AllocError) => refusals.note(),
         }
         if !look_alike(site, twin) {
             return None;
@@ -281,20 +301,40 @@ fn reply_of(
     None
 }
 
+/// Whether the twin answers the command too, of two tries.
+fn follows(
+    alloc: Global,
+    twin: &mut Site<TornMedium>,
+    command: Command,
+    refusals: &mut Refusals,
+) -> bool {
+    for _ in 0..2 {
+        match twin.apply(alloc, command) {
+            Ok(_) => return true,
+            Err(AllocError) => refusals.note(),
+        }
+    }
+    false
+}
+
 /// How many of the steps are answered as told, from the first on, by a site over the log and then by its
-/// twin. None where neither could be opened.
-pub fn count_told(alloc: Global, log: Log, steps: &[Step]) -> Option<usize> {
-    let text = text_of(alloc, log).or_else(|| text_of(alloc, log))?;
-    let mut site = site_over(alloc, &text)?;
-    let mut twin = site_over(alloc, &text)?;
+/// twin. None where one of them couldn't be opened.
+pub fn count_told(
+    alloc: Global,
+    log: Log,
+    steps: &[Step],
+    refusals: &mut Refusals,
+) -> Option<usize> {
+    let text = text_of(alloc, log, refusals)?;
+    let mut site = site_over(alloc, &text, refusals)?;
+    let mut twin = site_over(alloc, &text, refusals)?;
     for (at, (mishap, command, wanted)) in steps.iter().enumerate() {
         site.arm(*mishap);
         twin.arm(*mishap);
-        if reply_of(alloc, &mut site, &twin, *command) != Some(*wanted) {
+        if reply_of(alloc, &mut site, &twin, *command, refusals) != Some(*wanted) {
             return Some(at);
         }
-        let taken = twin.apply(alloc, *command).is_ok() || twin.apply(alloc, *command).is_ok();
-        if !taken || !look_alike(&site, &twin) {
+        if !follows(alloc, &mut twin, *command, refusals) || !look_alike(&site, &twin) {
             return Some(at);
         }
     }

@@ -1,6 +1,7 @@
 //! A gift that is made at one site and taken in at the other, each at work in a thread of its own.
 
 use super::commands::GIVE_FIVE;
+use super::refused::Refusals;
 use super::schema::{STOCK, stock_of_two};
 use field_bounds::{Command, Entry, Kind, Reply, Schema, SiteNo, Statement};
 use site_desk::FreeGate;
@@ -47,6 +48,17 @@ fn histories<R: Threads + Wait + Sync>(
     run_workers(rt, alloc, schema, scripts, &FreeGate)
 }
 
+/// A schema, of two tries.
+fn schema(alloc: Global, refusals: &mut Refusals) -> Option<Schema> {
+    for _ in 0..2 {
+        if let Some(schema) = stock_of_two(alloc) {
+            return Some(schema);
+        }
+        refusals.note();
+    }
+    None
+}
+
 /// Whether site 0 gave and site 1 accepted, and nothing else was done.
 fn is_told(histories: &[Vec<Entry>]) -> bool {
     match histories {
@@ -57,14 +69,14 @@ fn is_told(histories: &[Vec<Entry>]) -> bool {
 }
 
 /// Whether the histories are as told, of two tries: one that was refused memory tells so.
-pub fn are_told<R: Threads + Wait + Sync>(rt: &R, alloc: Global) -> bool {
-    let Some(schema) = stock_of_two(alloc).or_else(|| stock_of_two(alloc)) else {
+pub fn are_told<R: Threads + Wait + Sync>(rt: &R, alloc: Global, refusals: &mut Refusals) -> bool {
+    let Some(schema) = schema(alloc, refusals) else {
         return false;
     };
     for _ in 0..2 {
         match histories(rt, alloc, &schema) {
             Ok(histories) => return is_told(&histories),
-            Err(WorkFault::NoMemory) => {}
+            Err(WorkFault::NoMemory) => refusals.note(),
             Err(_) => return false,
         }
     }

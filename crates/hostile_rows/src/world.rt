@@ -6,6 +6,7 @@ use super::commands::{
     RESTATE, SHARE, SHORT, SPENT, TAKE_TWENTY, TAKE_TWENTY_FIVE, TIGHTEN_ALL_RAISES, TIGHTEN_FIVE,
     TIGHTEN_SIXTEEN, TIGHTENED,
 };
+use super::refused::Refusals;
 use super::schema::{STOCK, stock_of_two};
 use field_bounds::{Command, Refusal, Reply, SiteNo};
 use kept_state::Luck;
@@ -125,13 +126,14 @@ fn read_told(told: Told) -> (WorldStep, Option<Reply>) {
 }
 
 /// A world in which no step was taken, of two tries.
-fn fresh_world(alloc: Global) -> Option<World> {
+fn fresh_world(alloc: Global, refusals: &mut Refusals) -> Option<World> {
     for _ in 0..2 {
         if let Some(schema) = stock_of_two(alloc)
             && let Ok(world) = World::new(alloc, schema)
         {
             return Some(world);
         }
+        refusals.note();
     }
     None
 }
@@ -171,12 +173,13 @@ fn reply_of(
     world: &mut World,
     twin: &World,
     step: WorldStep,
+    refusals: &mut Refusals,
 ) -> Option<Option<Reply>> {
     for _ in 0..2 {
         match take_step(alloc, world, step)? {
             Ok(StepReply::Made(entry)) => return Some(Some(entry.reply)),
             Ok(StepReply::NoStatement) => return Some(None),
-            Err(AllocError) => {}
+            Err(AllocError) => refusals.note(),
         }
         if !look_alike(world, twin) {
             return None;
@@ -185,21 +188,30 @@ fn reply_of(
     None
 }
 
-/// How many steps of the row are answered as told, from the first on, by a world and then by its twin.
-pub fn count_told(alloc: Global, row: &[Told]) -> usize {
-    let (Some(mut world), Some(mut twin)) = (fresh_world(alloc), fresh_world(alloc)) else {
-        return 0;
-    };
-    for (at, told) in row.iter().enumerate() {
-        let (step, wanted) = read_told(*told);
-        if reply_of(alloc, &mut world, &twin, step) != Some(wanted) {
-            return at;
-        }
-        let taken = take_step(alloc, &mut twin, step).is_some_and(|taken| taken.is_ok())
-            || take_step(alloc, &mut twin, step).is_some_and(|taken| taken.is_ok());
-        if !taken || !look_alike(&world, &twin) {
-            return at;
+/// Whether the twin takes the step too, of two tries.
+fn follows(alloc: Global, twin: &mut World, step: WorldStep, refusals: &mut Refusals) -> bool {
+    for _ in 0..2 {
+        match take_step(alloc, twin, step) {
+            None => return false,
+            Some(Ok(_)) => return true,
+            Some(Err(AllocError)) => refusals.note(),
         }
     }
-    row.len()
+    false
+}
+
+/// How many steps of the row are answered as told, from the first on, by a world and then by its twin.
+pub fn count_told(alloc: Global, row: &[Told], refusals: &mut Refusals) -> Option<usize> {
+    let mut world = fresh_world(alloc, refusals)?;
+    let mut twin = fresh_world(alloc, refusals)?;
+    for (at, told) in row.iter().enumerate() {
+        let (step, wanted) = read_told(*told);
+        if reply_of(alloc, &mut world, &twin, step, refusals) != Some(wanted) {
+            return Some(at);
+        }
+        if !follows(alloc, &mut twin, step, refusals) || !look_alike(&world, &twin) {
+            return Some(at);
+        }
+    }
+    Some(row.len())
 }
