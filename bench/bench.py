@@ -2,7 +2,7 @@
 """Measures `escrow run` on long scripts, `escrow audit` on what that writes, and desks that threads call, each
 beside a plain Rust program of the same shape.
 
-    bench/bench.py [LINES [TURNS]] [--audit | --restarts | --desk]
+    bench/bench.py [LINES [TURNS]] [--audit | --restarts | --desk | --work]
 
 LINES is the length of the input, its header line included (1,000,000 if left out, which is the
 most that `run` takes), and TURNS how often each program runs (5). It prints, for the best turn of
@@ -37,6 +37,10 @@ The scripts:
   all: a begin, an escrow, a commit and a read, over and over. The two programs run in turn, and tell
   the time themselves; each row has the best of each, and the load of the machine when it was done.
   With --desk these alone.
+- work: counters over 4 sites, of which `escrow work` does each site's lines in threads of its own: on all processors,
+  on one, and beside `escrow run` of the same lines in one thread, at a tenth of the length and at the whole
+  length. A work reads all lines before it begins, and then weaves and judges what was done. With --work these
+  alone.
 """
 
 import filecmp
@@ -317,6 +321,37 @@ def restarts(lines, folder, program, turns):
         print(f"a restart behind {gifts:,} gifts takes {(with_them - without) / count * 1e6:.0f} microseconds")
 
 
+def counters(lines, sites):
+    """At each site in turn a begin, an escrow, a commit and a read, and a gift behind every fiftieth round."""
+    yield header(sites, ["stock"], 0, 1_000_000_000, 500_000_000)
+    done, number = 1, 0
+    while done < lines:
+        site, round_no = number % sites, number // sites + 1
+        change = -20 if round_no % 2 else 20
+        rows = ["begin", f"escrow 0.{round_no} stock {change}", f"commit 0.{round_no}", "read stock"]
+        if number % 50 == 49:
+            rows.append(f"give {(site + 1) % sites} stock lower 1")
+        for row in rows[: lines - done]:
+            yield f"{site} {row}\n"
+        done, number = done + len(rows), number + 1
+
+
+def works(lines, folder, program, turns):
+    one_core = ["taskset", "-c", str(min(os.sched_getaffinity(0)))]
+    # Each gift makes an acceptance more, and all entries with the header are to stay within the limit of lines.
+    for asked in (lines // 10, lines - lines // 200):
+        source, target = (os.path.join(folder, part) for part in ("script", "written"))
+        with open(source, "w", encoding="ascii") as file:
+            file.writelines(counters(asked, 4))
+        print(f"work: {asked:,} lines over 4 sites, best of {turns}")
+        measure("run", [program, "run"], source, target, asked, turns)
+        measure("work, one processor", [*one_core, program, "work"], source, target, asked, turns)
+        measure("work", [program, "work"], source, target, asked, turns)
+        with open(target, "rb") as file:
+            verdict = subprocess.run([program, "audit"], stdin=file, capture_output=True, text=True)
+        print(f"         {verdict.stdout.strip()}")
+
+
 def build_desks():
     """The program of desks."""
     folder = os.path.join(TOP, "crates", "desk_bench")
@@ -362,6 +397,9 @@ def main():
         if "--audit" in sys.argv:
             audits(lines, folder, programs, turns)
             return
+        if "--work" in sys.argv:
+            works(lines, folder, programs[0], turns)
+            return
         if "--restarts" in sys.argv:
             restarts(lines, folder, programs[0], turns)
             return
@@ -375,6 +413,7 @@ def main():
         audits(lines, folder, programs, turns)
         restarts(lines, folder, programs[0], turns)
         desks(lines, programs[1], turns)
+        works(lines, folder, programs[0], turns)
 
 
 if __name__ == "__main__":
