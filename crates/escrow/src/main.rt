@@ -51,6 +51,8 @@ divided evenly among the sites. Each other line is a command at a site:
   deliver K                     the K-th statement that was issued reaches its
                                 receiver, which accepts it
   level FIELD KIND              evens out free rights among the sites that are up
+  reach SITE FIELD TARGET       takes steps at the other sites, after which the
+                                field's committed value is TARGET
 
 ` torn N` behind a line tears what it appends after N bytes. Each line is
 answered by its command, an arrow and the reply. Any other line is answered by
