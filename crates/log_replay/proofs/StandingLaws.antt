@@ -50,20 +50,22 @@ takes_none schema old r new none cannot =
       stands = λ answer. cc;
       held = λ answer. cc;
       takes_ = λ can. absurd (cannot can);
+      only = λ plain answer. cc;
     }
 
 -- a record that may stand is taken in
 pub takes_one : (schema : SchemaValue) (old : Standing) (r : Record) (new : Standing)
     → ((s : ℕ) (rs : List Record) → Lawful schema s rs → Stands schema s rs old → may_stand schema s rs r ≡ true)
     → ((s : ℕ) (rs : List Record) → Lawful schema s rs → Stands schema s rs old → may_stand schema s rs r ≡ true → Stands schema s (rs ++ r ∷ []) new)
-    → ((f : ℕ) (k : Kind) → f < length old.rights → held_at new.rights f k ≡ held_at old.rights f k)
+    → ((f : ℕ) (k : Kind) → f < length old.rights → held_at new.rights f k ≡ held_at old.rights f k) → CanTakeIn schema old r
     → TakesIn schema old r true new
-takes_one schema old r new may stands held =
+takes_one schema old r new may stands held can =
     record {
       answered = λ s rs lawful was. sym (may s rs lawful was.for_);
       stands = λ answer s rs lawful was. stands s rs lawful was (may s rs lawful was);
       held = λ answer. held;
       takes_ = λ can. refl;
+      only = λ plain answer. can;
     }
 
 -- what a standing for some records has, it has for the site that its ledger names
@@ -451,6 +453,7 @@ commit_taken schema old txn es places same fields free =
     rw (eq-eqb txn.epoch (greatest rs) (same ∙ was.epoch), may_commit_all schema s rs old.rights old.ledger old.epoch lawful was es fields free) refl)
     (λ s rs lawful was may. stands_commit schema s rs old.rights old.ledger old.epoch lawful was txn es (fields_in_range schema old.rights es places.count fields) free may)
     (held_committed old.rights es (fields_in_range schema old.rights es places.count fields))
+    (same, fields, free)
 
 -- a gift that may stand
 pub gift_taken : (schema : SchemaValue) (old : Standing) (at : SiteNo) (field : FieldNo) (kind : Kind) (total amount : ℕ) → HasPlaces schema old.rights old.ledger
@@ -471,6 +474,7 @@ gift_taken schema old at field kind total amount places here more is enough =
     let there : (is_other_site schema s at.0 && is_field schema field.0) ≡ true = subst (λ (n : ℕ). (is_other_site schema n at.0 && is_field schema field.0) ≡ true) was.site here in
     stands_gift schema s rs old.rights old.ledger old.epoch lawful was at field kind (is_other schema s at.0 field.0 there) total may more amount is enough)
     (λ f k l. held_at-dropped old.rights field.0 f kind k amount (omega (arith, places.count, (is_other schema old.ledger.site at.0 field.0 here).field_in)))
+    (here, more, omega (arith, is, enough))
 
 -- an acceptance that may not stand
 pub accept_none : (schema : SchemaValue) (old : Standing) (at : SiteNo) (field : FieldNo) (kind : Kind) (total : ℕ) (new : Standing)
@@ -510,6 +514,7 @@ accept_taken schema old at field kind total gain places here more is enough =
     let there : (is_other_site schema s at.0 && is_field schema field.0) ≡ true = subst (λ (n : ℕ). (is_other_site schema n at.0 && is_field schema field.0) ≡ true) was.site here in
     stands_accept schema s rs old.rights old.ledger old.epoch lawful was at field kind (is_other schema s at.0 field.0 there) total may gain is)
     (λ f k l. held_at-added old.rights field.0 f kind k gain (omega (arith, places.count, (is_other schema old.ledger.site at.0 field.0 here).field_in)))
+    (here, more, omega (arith, is, enough))
 
 -- a tightening that may not stand
 tighten_none : (schema : SchemaValue) (old : Standing) (field : FieldNo) (kind : Kind) (total : ℕ) (new : Standing)
@@ -547,6 +552,7 @@ tighten_taken schema old field kind total amount places field_in more is enough 
     ) refl)
     (λ s rs lawful was may. stands_tighten schema s rs old.rights old.ledger old.epoch lawful was field kind total l may amount is enough)
     (λ f k k_. held_at-tightened old.rights field.0 f kind k amount l)
+    (lt-ltb field.0 (length schema.fields) field_in, more, omega (arith, is, enough))
 
 -- a restart that may stand
 pub restart_taken : (schema : SchemaValue) (old : Standing) (new : ℕ) → old.epoch < new → TakesIn schema old (Restart new) true (record { rights = old.rights; ledger = old.ledger; epoch = new })
@@ -555,6 +561,7 @@ restart_taken schema old new later =
     (λ s rs lawful was. lt-ltb (greatest rs) new (omega (arith, was.epoch, later)))
     (λ s rs lawful was may. stands_restart schema s rs old.rights old.ledger old.epoch lawful was new may)
     (λ f k l. refl)
+    later
 
 -- the same, where what was answered and what is left are told by equations
 pub takes_as : (schema : SchemaValue) (old : Standing) (r : Record) (answer : Bool) (rows rows' : List FieldRights) (ledger ledger' : LedgerValue) (epoch : ℕ) → answer ≡ true → rows ≡ rows' → ledger ≡ ledger'

@@ -1,5 +1,5 @@
 -- When a site's rights, ledger and epoch are what records stand for (this project).
-use Rattle.std.specs.Prelude.{◌≡◌, ◌≢◌, ℕ, ◌-◌, ◌<◌, ◌≤◌, Bool, true, ◌&&◌, List, [], ◌∷◌, ◌++◌, length, sum_by}
+use Rattle.std.specs.Prelude.{◌≡◌, ◌≢◌, ℕ, ◌-◌, ◌<◌, ◌≤◌, Bool, true, false, ◌&&◌, List, [], ◌∷◌, ◌++◌, length, sum_by}
 use Rattle.std.specs.List.{list_all}
 use Rattle.field_bounds.specs.declared.kind.Kind.{Kind}
 use Rattle.field_bounds.specs.declared.entry.Escrow.{Escrow}
@@ -8,7 +8,7 @@ use Rattle.field_bounds.specs.Parts.{field_at, width_of}
 use Rattle.field_bounds.specs.Effects.{takes}
 use Rattle.kept_records.specs.declared.record.Record.{Record}
 use Rattle.kept_records.specs.declared.record.Record.TheVariants.{Commit, Gift, Accept, Tighten, Restart, Summary}
-use Rattle.kept_records.specs.Stands.{greatest, given_in, accepted_in, cut_in, own_in, is_field, is_other_site, may_stand, Lawful}
+use Rattle.kept_records.specs.Stands.{greatest, given_in, accepted_in, cut_in, own_in, is_field, is_other_site, is_summary, may_stand, Lawful}
 use Rattle.site_rights.specs.declared.field_rights.FieldRights.{FieldRights}
 use Rattle.site_rights.specs.Rights.{row_at, free_at, held_at, own_at, cut_at, room_at}
 use Rattle.gift_ledger.specs.Ledger.{LedgerValue, total_at, accepted_at, IsPlace}
@@ -78,9 +78,11 @@ CanTakeIn schema old (Summary v) = ⊥
 
 -- Whether a record is taken in, and what that leaves. Where nothing is held, it is taken in exactly where it may stand
 -- behind those before it (answered). Where it is, the new standing is for the old records and for it, whichever lawful
--- records the old one is for (stands), and what is held stays held (held). A record that can be taken in is (takes_).
+-- records the old one is for (stands), and what is held stays held (held). Whatever is held, a record that can be taken
+-- in is (takes_), and no other is but a summary (only).
 pub record TakesIn (schema : SchemaValue) (old : Standing) (r : Record) (answer : Bool) (new : Standing) : Type 0 where
   pub answered : (s : ℕ) (rs : List Record) → Lawful schema s rs → IsStandingFor schema s rs old → answer ≡ may_stand schema s rs r
   pub stands : answer ≡ true → (s : ℕ) (rs : List Record) → Lawful schema s rs → Stands schema s rs old → Stands schema s (rs ++ r ∷ []) new
   pub held : answer ≡ true → (f : ℕ) (k : Kind) → f < length old.rights → held_at new.rights f k ≡ held_at old.rights f k
   pub takes_ : CanTakeIn schema old r → answer ≡ true
+  pub only : is_summary r ≡ false → answer ≡ true → CanTakeIn schema old r

@@ -82,10 +82,11 @@ impl Standing {
         })
     }
 
-    /// Takes in the next record, and answers whether it did. Where no rights are held, it does exactly
-    /// where the record may stand behind those before it. In any case it does where what the record
-    /// spends is free and what it adds has room. The standing is then for the old records and for
-    /// this one, and what was held stays held. Where it doesn't, nothing is claimed of what is left.
+    /// Takes in the next record, and answers whether it did. It does exactly where a commit is of the
+    /// standing's epoch, a restart's epoch and each total are above the one before, what the record
+    /// spends is free and what it adds has room. Where no rights are held, that is exactly where the
+    /// record may stand behind those before it. The standing is then for the old records and for this
+    /// one, and what was held stays held. Where it doesn't, nothing is claimed of what is left.
     ///
     /// The schema is the one that the standing was made for, and the record's numbers lie in the
     /// ranges that `Record` tells. It is no summary: a summary is compared with what the records before

@@ -22,6 +22,7 @@ returns-in-Summary c =
             stands = λ answer s rs lawful was. stands_summary schema s rs v old.rights old.ledger old.epoch was;
             held = λ answer f k l. refl;
             takes_ = λ can. absurd can;
+            only = λ plain. cc;
           }))
           c.tells.ensures;
     }
