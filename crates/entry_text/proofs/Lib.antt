@@ -1,5 +1,6 @@
 pub mod FieldLemmas
 pub mod WordKinds
+pub mod Tables
 pub mod Commands
 pub mod Replies
 pub mod Entries

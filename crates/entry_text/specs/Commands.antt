@@ -1,107 +1,55 @@
 -- What words spell a command, as functions on lists of words (this project).
-use Rattle.std.specs.Prelude.{ℕ, ◌^◌, List, [], ◌∷◌, Option, Some, codes}
+use Rattle.std.specs.Prelude.{ℕ, ◌^◌, List, [], ◌∷◌, ◌++◌, Option, Some, codes}
 use Rattle.field_bounds.specs.Schema.{SchemaValue}
 use Rattle.field_bounds.specs.declared.id.SiteNo.{SiteNo}
+use Rattle.field_bounds.specs.declared.id.FieldNo.{FieldNo}
+use Rattle.field_bounds.specs.declared.kind.Kind.{Kind}
 use Rattle.field_bounds.specs.declared.entry.Command.{Command}
-use Rattle.field_bounds.specs.declared.entry.Command.TheVariants as commands
+use Rattle.field_bounds.specs.declared.entry.Command.TheVariants.{Begin, Escrow, Commit, Abort, Give, Restate, Spare, Tighten, Accept, Read, Share, Restart}
 use Rattle.line_words.specs.Words.{words}
-use Rattle.line_words.specs.Reading.{◌>>=◌, number_of, signed_of, beside, word_at, ended}
-use Rattle.entry_text.specs.declared.verb.Verb.{Verb}
-use Rattle.entry_text.specs.declared.verb.Verb.TheVariants as verbs
-use Rattle.entry_text.specs.Reading.{site_of, id_of, kind_of, field_of}
+use Rattle.line_words.specs.Reading.{◌>>=◌, number_of, signed_of, word_at, ended}
+use Rattle.entry_text.specs.Reading.{site_of, id_of, kind_of, field_of, Reader, no_word, one_word, three_words, four_words, five_words, table_at}
 
--- The commands by their words.
-abbrev pub verb_table : List (List ℕ × Verb)
-verb_table = (codes "begin", verbs.Begin) ∷ (codes "escrow", verbs.Escrow) ∷ (codes "commit", verbs.Commit)
-    ∷ (codes "abort", verbs.Abort) ∷ (codes "give", verbs.Give) ∷ (codes "restate", verbs.Restate) ∷ (codes "spare", verbs.Spare)
-    ∷ (codes "tighten", verbs.Tighten) ∷ (codes "accept", verbs.Accept)
-    ∷ (codes "read", verbs.Read) ∷ (codes "share", verbs.Share) ∷ (codes "restart", verbs.Restart) ∷ []
+-- Commands by their names, each with what its words after the name are: those of a transaction.
+abbrev pub transaction_commands : SchemaValue → List (List ℕ × Reader Command)
+transaction_commands schema =
+    (codes "begin", no_word Begin)
+    ∷ (codes "escrow", three_words id_of (field_of schema) signed_of Escrow)
+    ∷ (codes "commit", one_word id_of Commit)
+    ∷ (codes "abort", one_word id_of Abort)
+    ∷ []
 
--- The command that the word names.
-unfoldable pub verb_of : List ℕ → Option Verb
-verb_of w = beside verb_table w
+-- Those that give rights to another site.
+abbrev pub gift_commands : SchemaValue → List (List ℕ × Reader Command)
+gift_commands schema =
+    (codes "give", four_words site_of (field_of schema) kind_of (number_of (2 ^ 64)) Give)
+    ∷ (codes "restate", three_words site_of (field_of schema) kind_of Restate)
+    ∷ (codes "spare", four_words site_of (field_of schema) kind_of (number_of (2 ^ 64)) Spare)
+    ∷ []
 
--- An escrow's transaction, field and change, and the words after them.
-unfoldable pub escrow_at : SchemaValue → List (List ℕ) → Option (Command × List (List ℕ))
-escrow_at schema ws = do
-  txn ← word_at id_of ws
-  field ← word_at (field_of schema) txn.1
-  change ← word_at signed_of field.1
-  Some (commands.Escrow txn.0 field.0 change.0, change.1)
+-- The acceptance of the statement of these parts.
+abbrev pub accept : SiteNo → SiteNo → FieldNo → Kind → ℕ → Command
+accept from to field kind total = Accept (record { from = from; to = to; field = field; kind = kind; total = total })
 
--- A gift's receiver, field, kind and amount, and the words after them.
-unfoldable pub give_at : SchemaValue → List (List ℕ) → Option (Command × List (List ℕ))
-give_at schema ws = do
-  to ← word_at site_of ws
-  field ← word_at (field_of schema) to.1
-  kind ← word_at kind_of field.1
-  amount ← word_at (number_of (2 ^ 64)) kind.1
-  Some (commands.Give to.0 field.0 kind.0 amount.0, amount.1)
+-- Those that change or tell what the site itself has.
+abbrev pub own_commands : SchemaValue → List (List ℕ × Reader Command)
+own_commands schema =
+    (codes "accept", five_words site_of site_of (field_of schema) kind_of (number_of (2 ^ 64)) accept)
+    ∷ (codes "tighten", three_words (field_of schema) kind_of (number_of (2 ^ 64)) Tighten)
+    ∷ (codes "read", one_word (field_of schema) Read)
+    ∷ (codes "share", one_word (field_of schema) Share)
+    ∷ (codes "restart", no_word Restart)
+    ∷ []
 
--- The receiver, field and kind of gifts, and the words after them.
-unfoldable pub restate_at : SchemaValue → List (List ℕ) → Option (Command × List (List ℕ))
-restate_at schema ws = do
-  to ← word_at site_of ws
-  field ← word_at (field_of schema) to.1
-  kind ← word_at kind_of field.1
-  Some (commands.Restate to.0 field.0 kind.0, kind.1)
-
--- A spare's receiver, field, kind and what is wanted, and the words after them.
-unfoldable pub spare_at : SchemaValue → List (List ℕ) → Option (Command × List (List ℕ))
-spare_at schema ws = do
-  to ← word_at site_of ws
-  field ← word_at (field_of schema) to.1
-  kind ← word_at kind_of field.1
-  want ← word_at (number_of (2 ^ 64)) kind.1
-  Some (commands.Spare to.0 field.0 kind.0 want.0, want.1)
-
--- A tightening's field, kind and amount, and the words after them.
-unfoldable pub tighten_at : SchemaValue → List (List ℕ) → Option (Command × List (List ℕ))
-tighten_at schema ws = do
-  field ← word_at (field_of schema) ws
-  kind ← word_at kind_of field.1
-  amount ← word_at (number_of (2 ^ 64)) kind.1
-  Some (commands.Tighten field.0 kind.0 amount.0, amount.1)
-
--- A statement's giver, receiver, field, kind and total, and the words after them.
-unfoldable pub accept_at : SchemaValue → List (List ℕ) → Option (Command × List (List ℕ))
-accept_at schema ws = do
-  from ← word_at site_of ws
-  to ← word_at site_of from.1
-  field ← word_at (field_of schema) to.1
-  kind ← word_at kind_of field.1
-  total ← word_at (number_of (2 ^ 64)) kind.1
-  Some (commands.Accept (record { from = from.0; to = to.0; field = field.0; kind = kind.0; total = total.0 }), total.1)
-
--- The command of a name with its arguments, and the words after them.
-unfoldable pub arguments_at : SchemaValue → Verb → List (List ℕ) → Option (Command × List (List ℕ))
-arguments_at schema verbs.Begin ws = Some (commands.Begin, ws)
-arguments_at schema verbs.Escrow ws = escrow_at schema ws
-arguments_at schema verbs.Commit ws = do
-  txn ← word_at id_of ws
-  Some (commands.Commit txn.0, txn.1)
-arguments_at schema verbs.Abort ws = do
-  txn ← word_at id_of ws
-  Some (commands.Abort txn.0, txn.1)
-arguments_at schema verbs.Give ws = give_at schema ws
-arguments_at schema verbs.Restate ws = restate_at schema ws
-arguments_at schema verbs.Spare ws = spare_at schema ws
-arguments_at schema verbs.Tighten ws = tighten_at schema ws
-arguments_at schema verbs.Accept ws = accept_at schema ws
-arguments_at schema verbs.Read ws = do
-  field ← word_at (field_of schema) ws
-  Some (commands.Read field.0, field.1)
-arguments_at schema verbs.Share ws = do
-  field ← word_at (field_of schema) ws
-  Some (commands.Share field.0, field.1)
-arguments_at schema verbs.Restart ws = Some (commands.Restart, ws)
+-- The commands by their names.
+abbrev pub command_table : SchemaValue → List (List ℕ × Reader Command)
+command_table schema = transaction_commands schema ++ gift_commands schema ++ own_commands schema
 
 -- The site and the command of a list of words, and the words after them.
-unfoldable pub command_at : SchemaValue → List (List ℕ) → Option ((SiteNo × Command) × List (List ℕ))
+unfoldable pub command_at : SchemaValue → Reader (SiteNo × Command)
 command_at schema ws = do
   site ← word_at site_of ws
-  verb ← word_at verb_of site.1
-  command ← arguments_at schema verb.0 verb.1
+  command ← table_at (command_table schema) site.1
   Some ((site.0, command.0), command.1)
 
 -- The site and the command that a line spells.

@@ -1,131 +1,115 @@
 //! Commands as text.
 
-ghost use Rattle.std.specs.Prelude.{◌≡◌, IfSome, Some};
+ghost use Rattle.std.specs.Prelude.{◌≡◌, ◌++◌, IfSome, Some};
 ghost use Rattle.field_bounds.specs.declared.id.SiteNo.{SiteNo as Site};
 ghost use Rattle.field_bounds.specs.declared.entry.Command.{Command as CommandType};
 ghost use Rattle.line_words.specs.Reading.{Gives};
 ghost use Rattle.entry_text.specs.Spelling.{command_text};
 ghost use Rattle.entry_text.specs.Ranges.{SiteFits, CommandFits};
-ghost use Rattle.entry_text.specs.Commands.{escrow_at, give_at, restate_at, spare_at, tighten_at, accept_at, arguments_at, command_at};
+ghost use Rattle.entry_text.specs.Reading.{read_beside, table_at};
+ghost use Rattle.entry_text.specs.Commands.{gift_commands, own_commands, command_table, command_at};
 
-use crate::verb::{Verb, verb_at};
-use crate::word::{Fields, field_at, kind_at, number_at, signed_at, site_at, txn_at};
+use crate::word::{Fields, field_at, is_text, kind_at, number_at, signed_at, site_at, txn_at};
 use field_bounds::{Command, Schema, SiteNo, Statement};
 use line_words::Words;
 
-#[tactic(auto, unfolding(crate::specs::Commands::escrow_at))]
-fn escrow(line: &mut Words<'_>, fields: &Fields<'_>) -> Option<Command>
-    ensures { Gives result line.new (escrow_at fields.now line.old) }
+// Takes what follows the name of a command that changes or tells what the site itself has.
+fn own_command(line: &mut Words<'_>, fields: &Fields<'_>, name: &[u8]) -> Option<Command>
+    ensures { Gives result line.new (read_beside (own_commands fields.now) name.now line.old) }
 {
-    let txn = txn_at(line)?;
-    let field = field_at(line, fields)?;
-    let change = signed_at(line)?;
-    Some(Command::Escrow { txn, field, change })
+    if is_text(name, "accept") {
+        let from = site_at(line)?;
+        let to = site_at(line)?;
+        let field = field_at(line, fields)?;
+        let kind = kind_at(line)?;
+        let total = number_at(line)?;
+        Some(Command::Accept(Statement {
+            from,
+            to,
+            field,
+            kind,
+            total,
+        }))
+    } else if is_text(name, "tighten") {
+        let field = field_at(line, fields)?;
+        let kind = kind_at(line)?;
+        let amount = number_at(line)?;
+        Some(Command::Tighten {
+            field,
+            kind,
+            amount,
+        })
+    } else if is_text(name, "read") {
+        let field = field_at(line, fields)?;
+        Some(Command::Read { field })
+    } else if is_text(name, "share") {
+        let field = field_at(line, fields)?;
+        Some(Command::Share { field })
+    } else if is_text(name, "restart") {
+        Some(Command::Restart)
+    } else {
+        None
+    }
 }
 
-#[tactic(auto, unfolding(crate::specs::Commands::give_at))]
-fn give(line: &mut Words<'_>, fields: &Fields<'_>) -> Option<Command>
-    ensures { Gives result line.new (give_at fields.now line.old) }
+// The same, where the command may also give rights to a site.
+fn gift_or_own_command(line: &mut Words<'_>, fields: &Fields<'_>, name: &[u8]) -> Option<Command>
+    ensures { Gives result line.new
+        (read_beside (gift_commands fields.now ++ own_commands fields.now) name.now line.old) }
 {
-    let to = site_at(line)?;
-    let field = field_at(line, fields)?;
-    let kind = kind_at(line)?;
-    let amount = number_at(line)?;
-    Some(Command::Give {
-        to,
-        field,
-        kind,
-        amount,
-    })
+    if is_text(name, "give") {
+        let to = site_at(line)?;
+        let field = field_at(line, fields)?;
+        let kind = kind_at(line)?;
+        let amount = number_at(line)?;
+        Some(Command::Give {
+            to,
+            field,
+            kind,
+            amount,
+        })
+    } else if is_text(name, "restate") {
+        let to = site_at(line)?;
+        let field = field_at(line, fields)?;
+        let kind = kind_at(line)?;
+        Some(Command::Restate { to, field, kind })
+    } else if is_text(name, "spare") {
+        let to = site_at(line)?;
+        let field = field_at(line, fields)?;
+        let kind = kind_at(line)?;
+        let want = number_at(line)?;
+        Some(Command::Spare {
+            to,
+            field,
+            kind,
+            want,
+        })
+    } else {
+        own_command(line, fields, name)
+    }
 }
 
-#[tactic(auto, unfolding(crate::specs::Commands::restate_at))]
-fn restate(line: &mut Words<'_>, fields: &Fields<'_>) -> Option<Command>
-    ensures { Gives result line.new (restate_at fields.now line.old) }
+// Takes a command: its name, and what follows it.
+#[tactic(auto, unfolding(crate::specs::Reading::table_at))]
+fn any_command(line: &mut Words<'_>, fields: &Fields<'_>) -> Option<Command>
+    ensures { Gives result line.new (table_at (command_table fields.now) line.old) }
 {
-    let to = site_at(line)?;
-    let field = field_at(line, fields)?;
-    let kind = kind_at(line)?;
-    Some(Command::Restate { to, field, kind })
-}
-
-#[tactic(auto, unfolding(crate::specs::Commands::spare_at))]
-fn spare(line: &mut Words<'_>, fields: &Fields<'_>) -> Option<Command>
-    ensures { Gives result line.new (spare_at fields.now line.old) }
-{
-    let to = site_at(line)?;
-    let field = field_at(line, fields)?;
-    let kind = kind_at(line)?;
-    let want = number_at(line)?;
-    Some(Command::Spare {
-        to,
-        field,
-        kind,
-        want,
-    })
-}
-
-#[tactic(auto, unfolding(crate::specs::Commands::tighten_at))]
-fn tighten(line: &mut Words<'_>, fields: &Fields<'_>) -> Option<Command>
-    ensures { Gives result line.new (tighten_at fields.now line.old) }
-{
-    let field = field_at(line, fields)?;
-    let kind = kind_at(line)?;
-    let amount = number_at(line)?;
-    Some(Command::Tighten {
-        field,
-        kind,
-        amount,
-    })
-}
-
-#[tactic(auto, unfolding(crate::specs::Commands::accept_at))]
-fn accept(line: &mut Words<'_>, fields: &Fields<'_>) -> Option<Command>
-    ensures { Gives result line.new (accept_at fields.now line.old) }
-{
-    let from = site_at(line)?;
-    let to = site_at(line)?;
-    let field = field_at(line, fields)?;
-    let kind = kind_at(line)?;
-    let total = number_at(line)?;
-    Some(Command::Accept(Statement {
-        from,
-        to,
-        field,
-        kind,
-        total,
-    }))
-}
-
-#[tactic(auto, unfolding(crate::specs::Commands::arguments_at))]
-fn arguments(line: &mut Words<'_>, fields: &Fields<'_>, verb: Verb) -> Option<Command>
-    ensures { Gives result line.new (arguments_at fields.now verb line.old) }
-{
-    match verb {
-        Verb::Begin => Some(Command::Begin),
-        Verb::Escrow => escrow(line, fields),
-        Verb::Commit => {
-            let txn = txn_at(line)?;
-            Some(Command::Commit { txn })
-        }
-        Verb::Abort => {
-            let txn = txn_at(line)?;
-            Some(Command::Abort { txn })
-        }
-        Verb::Give => give(line, fields),
-        Verb::Restate => restate(line, fields),
-        Verb::Spare => spare(line, fields),
-        Verb::Tighten => tighten(line, fields),
-        Verb::Accept => accept(line, fields),
-        Verb::Read => {
-            let field = field_at(line, fields)?;
-            Some(Command::Read { field })
-        }
-        Verb::Share => {
-            let field = field_at(line, fields)?;
-            Some(Command::Share { field })
-        }
-        Verb::Restart => Some(Command::Restart),
+    let name = line.next()?;
+    if is_text(name, "begin") {
+        Some(Command::Begin)
+    } else if is_text(name, "escrow") {
+        let txn = txn_at(line)?;
+        let field = field_at(line, fields)?;
+        let change = signed_at(line)?;
+        Some(Command::Escrow { txn, field, change })
+    } else if is_text(name, "commit") {
+        let txn = txn_at(line)?;
+        Some(Command::Commit { txn })
+    } else if is_text(name, "abort") {
+        let txn = txn_at(line)?;
+        Some(Command::Abort { txn })
+    } else {
+        gift_or_own_command(line, fields, name)
     }
 }
 
@@ -135,8 +119,7 @@ pub(crate) fn command(line: &mut Words<'_>, fields: &Fields<'_>) -> Option<(Site
     ensures { Gives result line.new (command_at fields.now line.old) }
 {
     let site = site_at(line)?;
-    let verb = verb_at(line)?;
-    let command = arguments(line, fields, verb)?;
+    let command = any_command(line, fields)?;
     Some((site, command))
 }
 

@@ -14,7 +14,6 @@ mod entry;
 mod laws;
 mod refusal;
 mod reply;
-mod verb;
 mod word;
 mod writing;
 

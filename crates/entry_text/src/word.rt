@@ -36,29 +36,10 @@ fn medium(word: &[u8]) -> Option<u32>
 }
 
 #[inline(always)]
-#[tactic(auto, unfolding(crate::specs::Reading::site_of))]
-fn site(word: &[u8]) -> Option<SiteNo>
-    ensures { result ≡ site_of word.now }
-{
-    Some(SiteNo(small(word)?))
-}
-
-#[inline(always)]
 fn place_of_dot(bytes: &[u8]) -> Option<usize>
     ensures { result ≡ position (λ b. b == 46) bytes.now }
 {
     bytes.iter().position(|b| *b == b'.')
-}
-
-#[inline(always)]
-#[tactic(auto, unfolding(crate::specs::Reading::id_of))]
-fn txn(word: &[u8]) -> Option<TxnId>
-    ensures { result ≡ id_of word.now }
-{
-    let dot = place_of_dot(word)?;
-    let epoch = medium(&word[..dot])?;
-    let number = medium(&word[dot + 1..])?;
-    Some(TxnId { epoch, number })
 }
 
 /// The fields of a schema, with their number at hand. Contracts see the schema.
@@ -107,13 +88,6 @@ impl<'a> Fields<'a> {
             _ => self.schema.field_no_of(word),
         }
     }
-}
-
-#[tactic(auto, unfolding(line_words::specs::Reading::only_of))]
-fn only(word: &[u8], text: &str) -> Option<()>
-    ensures { result ≡ only_of text.now word.now }
-{
-    if is_text(word, text) { Some(()) } else { None }
 }
 
 /// The kind that the word spells: `lower` or `raise`. None where it spells none. Costs no memory.
@@ -175,20 +149,24 @@ pub fn signed_at(line: &mut Words<'_>) -> Option<i64>
 /// Takes the next word as a site, a number up to 65535, or tells None where it is no site or no word
 /// is left. Costs a pass over the word, and no memory.
 #[inline(always)]
-#[tactic(auto, unfolding(line_words::specs::Reading::word_at))]
+#[tactic(auto, unfolding(line_words::specs::Reading::word_at, crate::specs::Reading::site_of))]
 pub fn site_at(line: &mut Words<'_>) -> Option<SiteNo>
     ensures word { Gives result line.new (word_at site_of line.old) }
 {
-    site(line.next()?)
+    Some(SiteNo(small(line.next()?)?))
 }
 
 /// Takes a transaction: `EPOCH.NUMBER`, each a number of u32.
 #[inline(always)]
-#[tactic(auto, unfolding(line_words::specs::Reading::word_at))]
+#[tactic(auto, unfolding(line_words::specs::Reading::word_at, crate::specs::Reading::id_of))]
 pub(crate) fn txn_at(line: &mut Words<'_>) -> Option<TxnId>
     ensures { Gives result line.new (word_at id_of line.old) }
 {
-    txn(line.next()?)
+    let word = line.next()?;
+    let dot = place_of_dot(word)?;
+    let epoch = medium(&word[..dot])?;
+    let number = medium(&word[dot + 1..])?;
+    Some(TxnId { epoch, number })
 }
 
 /// Takes the next word as a kind, `lower` or `raise`, or tells None where it is no kind or no word is
@@ -212,9 +190,13 @@ pub fn field_at(line: &mut Words<'_>, fields: &Fields<'_>) -> Option<FieldNo>
 
 /// Takes the next word where it is this text, or tells None where it is another or no word is left.
 /// Costs a pass over the word, and no memory.
-#[tactic(auto, unfolding(line_words::specs::Reading::word_at))]
+#[tactic(auto, unfolding(line_words::specs::Reading::word_at, line_words::specs::Reading::only_of))]
 pub fn expect(line: &mut Words<'_>, text: &str) -> Option<()>
     ensures word { Gives result line.new (word_at (only_of text.now) line.old) }
 {
-    only(line.next()?, text)
+    if is_text(line.next()?, text) {
+        Some(())
+    } else {
+        None
+    }
 }
