@@ -1,5 +1,5 @@
 -- Commands are read as they are spelled.
-use Rattle.std.proofs.Common.{◌≡◌, ℕ, List, ◌∷◌, ◌++◌, Option, Some, refl, sym, ap, ◌∙◌}
+use Rattle.std.proofs.Common.{◌≡◌, ℕ, List, [], ◌∷◌, ◌++◌, Option, Some, refl, sym, ap, ◌∙◌}
 use Rattle.std.specs.Prelude.{codes, IfSome}
 use Rattle.std.specs.List.{AllByRecursion}
 use Rattle.field_bounds.specs.declared.id.SiteNo.{SiteNo}
@@ -15,92 +15,28 @@ use Rattle.line_words.proofs.Lines.{line_found, line_fits, line_only}
 use Rattle.entry_text.specs.Spelling.{command_words, command_text, site_text}
 use Rattle.entry_text.specs.Ranges.{CommandFits, SiteFits}
 use Rattle.entry_text.specs.Reading.{table_at}
-use Rattle.entry_text.specs.Commands.{command_table, command_at, command_of}
+use Rattle.entry_text.specs.Commands.{accept, command_table, command_at, command_of}
 use Rattle.entry_text.proofs.WordKinds.{site_read, id_read, kind_read, field_read}
-use Rattle.entry_text.proofs.Tables.{IsTable, table_takes}
+use Rattle.entry_text.proofs.Tables.{IsTable, ◌&◌, table_takes, phrase_row, one_row, three_row, four_row, five_row}
 
 -- ---- from the name on
 
--- a command that was put together is the one that was found
-made_command : {ws : List (List ℕ)} (schema : SchemaValue) (b c : Command) (after rest : List (List ℕ))
-    → found b after ≡ found c rest → CommandFits b → ws ≡ command_words schema b ++ after → CommandFits c × (ws ≡ command_words schema c ++ rest)
-made_command {ws} schema b c after rest e fits is = made_of CommandFits (command_words schema) ws b c after rest e fits is
-
-command_readers : (schema : SchemaValue) → IsSchema schema → IsTable CommandFits (command_words schema) (command_table schema)
-command_readers schema is = (
-  (λ ws c rest e. made_command schema Begin c ws rest e tt refl),
-  (
-    (λ ws c rest e.
-        taking id_read _ ws _ e (λ txn r1 f1 w1 e1.
-        taking (field_read schema is) _ r1 _ e1 (λ field r2 f2 w2 e2.
-        taking signed_read _ r2 _ e2 (λ change r3 f3 w3 e3.
-        made_command schema (Escrow txn field change) c r3 rest e3 (f1, f2, f3) (cc (w1, w2, w3)))))),
-    (
-      (λ ws c rest e.
-          taking id_read _ ws _ e (λ txn r1 f1 w1 e1.
-          made_command schema (Commit txn) c r1 rest e1 f1 (cc w1))),
-      (
-        (λ ws c rest e.
-            taking id_read _ ws _ e (λ txn r1 f1 w1 e1.
-            made_command schema (Abort txn) c r1 rest e1 f1 (cc w1))),
-        (
-          (λ ws c rest e.
-              taking site_read _ ws _ e (λ to r1 f1 w1 e1.
-              taking (field_read schema is) _ r1 _ e1 (λ field r2 f2 w2 e2.
-              taking kind_read _ r2 _ e2 (λ kind r3 f3 w3 e3.
-              taking number_read _ r3 _ e3 (λ amount r4 f4 w4 e4.
-              made_command schema (Give to field kind amount) c r4 rest e4 (f1, f2, f4) (cc (w1, w2, w3, w4))))))),
-          (
-            (λ ws c rest e.
-                taking site_read _ ws _ e (λ to r1 f1 w1 e1.
-                taking (field_read schema is) _ r1 _ e1 (λ field r2 f2 w2 e2.
-                taking kind_read _ r2 _ e2 (λ kind r3 f3 w3 e3.
-                made_command schema (Restate to field kind) c r3 rest e3 (f1, f2) (cc (w1, w2, w3)))))),
-            (
-              (λ ws c rest e.
-                  taking site_read _ ws _ e (λ to r1 f1 w1 e1.
-                  taking (field_read schema is) _ r1 _ e1 (λ field r2 f2 w2 e2.
-                  taking kind_read _ r2 _ e2 (λ kind r3 f3 w3 e3.
-                  taking number_read _ r3 _ e3 (λ want r4 f4 w4 e4.
-                  made_command schema (Spare to field kind want) c r4 rest e4 (f1, f2, f4) (cc (w1, w2, w3, w4))))))),
-              (
-                (λ ws c rest e.
-                    taking site_read _ ws _ e (λ from r1 f1 w1 e1.
-                    taking site_read _ r1 _ e1 (λ to r2 f2 w2 e2.
-                    taking (field_read schema is) _ r2 _ e2 (λ field r3 f3 w3 e3.
-                    taking kind_read _ r3 _ e3 (λ kind r4 f4 w4 e4.
-                    taking number_read _ r4 _ e4 (λ total r5 f5 w5 e5.
-                    made_command schema (Accept (record { from = from; to = to; field = field; kind = kind; total = total })) c r5 rest e5 (f1, f2, f3, f5)
-                    (cc (w1, w2, w3, w4, w5)))))))),
-                (
-                  (λ ws c rest e.
-                      taking (field_read schema is) _ ws _ e (λ field r1 f1 w1 e1.
-                      taking kind_read _ r1 _ e1 (λ kind r2 f2 w2 e2.
-                      taking number_read _ r2 _ e2 (λ amount r3 f3 w3 e3.
-                      made_command schema (Tighten field kind amount) c r3 rest e3 (f1, f3) (cc (w1, w2, w3)))))),
-                  (
-                    (λ ws c rest e.
-                        taking (field_read schema is) _ ws _ e (λ field r1 f1 w1 e1.
-                        made_command schema (Read field) c r1 rest e1 f1 (cc w1))),
-                    (
-                      (λ ws c rest e.
-                          taking (field_read schema is) _ ws _ e (λ field r1 f1 w1 e1.
-                          made_command schema (Share field) c r1 rest e1 f1 (cc w1))),
-                      (
-                        (λ ws c rest e. made_command schema Restart c ws rest e tt refl),
-                        tt,
-                      ),
-                    ),
-                  ),
-                ),
-              ),
-            ),
-          ),
-        ),
-      ),
-    ),
-  ),
-)
+command_rows : (schema : SchemaValue) → IsSchema schema → IsTable CommandFits (command_words schema) (command_table schema)
+command_rows schema is =
+    phrase_row _ _ Begin (codes "begin") [] refl tt refl
+    & three_row _ _ id_read (field_read schema is) signed_read Escrow (λ txn field change f g h. ((f, g, h), refl))
+    & one_row _ _ id_read Commit (λ txn f. (f, refl))
+    & one_row _ _ id_read Abort (λ txn f. (f, refl))
+    & four_row _ _ site_read (field_read schema is) kind_read number_read Give (λ to field kind amount f g h i. ((f, g, i), refl))
+    & three_row _ _ site_read (field_read schema is) kind_read Restate (λ to field kind f g h. ((f, g), refl))
+    & four_row _ _ site_read (field_read schema is) kind_read number_read Spare (λ to field kind want f g h i. ((f, g, i), refl))
+    & five_row _ _ site_read site_read (field_read schema is) kind_read number_read accept
+    (λ from to field kind total f g h i j. ((f, g, h, j), refl))
+    & three_row _ _ (field_read schema is) kind_read number_read Tighten (λ field kind amount f g h. ((f, h), refl))
+    & one_row _ _ (field_read schema is) Read (λ field f. (f, refl))
+    & one_row _ _ (field_read schema is) Share (λ field f. (f, refl))
+    & phrase_row _ _ Restart (codes "restart") [] refl tt refl
+    & tt
 
 -- the words of a command give it again
 named_again : (schema : SchemaValue) → IsSchema schema → (c : Command) (rest : List (List ℕ)) → CommandFits c
@@ -129,22 +65,34 @@ named_again schema is (Share field) rest fits = word_again (field_read schema is
 named_again schema is Restart rest fits = refl
 
 named_plain : (schema : SchemaValue) → IsSchema schema → (c : Command) → CommandFits c → AllByRecursion IsWord (command_words schema c)
-named_plain schema is Begin fits = (word_from_test (codes "begin") refl, tt)
-named_plain schema is (Escrow txn field change) fits = (word_from_test (codes "escrow") refl, (id_read.plain txn fits.0, ((field_read schema is).plain field fits.1, (signed_read.plain change fits.2, tt))))
-named_plain schema is (Commit txn) fits = (word_from_test (codes "commit") refl, (id_read.plain txn fits, tt))
-named_plain schema is (Abort txn) fits = (word_from_test (codes "abort") refl, (id_read.plain txn fits, tt))
-named_plain schema is (Give to field kind amount) fits = (word_from_test (codes "give") refl, (site_read.plain to fits.0, ((field_read schema is).plain field fits.1, (kind_read.plain kind tt, (number_read.plain amount fits.2, tt)))))
-named_plain schema is (Restate to field kind) fits = (word_from_test (codes "restate") refl, (site_read.plain to fits.0, ((field_read schema is).plain field fits.1, (kind_read.plain kind tt, tt))))
-named_plain schema is (Spare to field kind want) fits = (word_from_test (codes "spare") refl, (site_read.plain to fits.0, ((field_read schema is).plain field fits.1, (kind_read.plain kind tt, (number_read.plain want fits.2, tt)))))
-named_plain schema is (Tighten field kind amount) fits = (word_from_test (codes "tighten") refl, ((field_read schema is).plain field fits.0, (kind_read.plain kind tt, (number_read.plain amount fits.1, tt))))
-named_plain schema is (Accept s) fits = (word_from_test (codes "accept") refl, (site_read.plain s.from fits.0, (site_read.plain s.to fits.1, ((field_read schema is).plain s.field fits.2, (kind_read.plain s.kind tt, (number_read.plain s.total fits.3, tt))))))
-named_plain schema is (Read field) fits = (word_from_test (codes "read") refl, ((field_read schema is).plain field fits, tt))
-named_plain schema is (Share field) fits = (word_from_test (codes "share") refl, ((field_read schema is).plain field fits, tt))
-named_plain schema is Restart fits = (word_from_test (codes "restart") refl, tt)
+named_plain schema is Begin fits = word_from_test (codes "begin") refl & tt
+named_plain schema is (Escrow txn field change) fits =
+    word_from_test (codes "escrow") refl & id_read.plain txn fits.0 & (field_read schema is).plain field fits.1
+    & signed_read.plain change fits.2 & tt
+named_plain schema is (Commit txn) fits = word_from_test (codes "commit") refl & id_read.plain txn fits & tt
+named_plain schema is (Abort txn) fits = word_from_test (codes "abort") refl & id_read.plain txn fits & tt
+named_plain schema is (Give to field kind amount) fits =
+    word_from_test (codes "give") refl & site_read.plain to fits.0 & (field_read schema is).plain field fits.1
+    & kind_read.plain kind tt & number_read.plain amount fits.2 & tt
+named_plain schema is (Restate to field kind) fits =
+    word_from_test (codes "restate") refl & site_read.plain to fits.0 & (field_read schema is).plain field fits.1
+    & kind_read.plain kind tt & tt
+named_plain schema is (Spare to field kind want) fits =
+    word_from_test (codes "spare") refl & site_read.plain to fits.0 & (field_read schema is).plain field fits.1
+    & kind_read.plain kind tt & number_read.plain want fits.2 & tt
+named_plain schema is (Tighten field kind amount) fits =
+    word_from_test (codes "tighten") refl & (field_read schema is).plain field fits.0 & kind_read.plain kind tt
+    & number_read.plain amount fits.1 & tt
+named_plain schema is (Accept s) fits =
+    word_from_test (codes "accept") refl & site_read.plain s.from fits.0 & site_read.plain s.to fits.1
+    & (field_read schema is).plain s.field fits.2 & kind_read.plain s.kind tt & number_read.plain s.total fits.3 & tt
+named_plain schema is (Read field) fits = word_from_test (codes "read") refl & (field_read schema is).plain field fits & tt
+named_plain schema is (Share field) fits = word_from_test (codes "share") refl & (field_read schema is).plain field fits & tt
+named_plain schema is Restart fits = word_from_test (codes "restart") refl & tt
 
 named_form : (schema : SchemaValue) → IsSchema schema → IsForm CommandFits (command_words schema) (table_at (command_table schema))
 named_form schema is = record {
-  takes = table_takes CommandFits (command_words schema) (command_table schema) (command_readers schema is);
+  takes = table_takes CommandFits (command_words schema) (command_table schema) (command_rows schema is);
   again = named_again schema is;
   plain = named_plain schema is;
 }
@@ -177,7 +125,8 @@ command_form schema is = record {
   plain = λ x fits. (site_read.plain x.0 fits.0, named_plain schema is x.1 fits.1);
 }
 
-pub command_only : (schema : SchemaValue) → IsSchema schema → (x : SiteNo × Command) → SiteFits x.0 → CommandFits x.1 → command_of schema (command_text schema x.0 x.1) ≡ Some x
+pub command_only : (schema : SchemaValue) → IsSchema schema → (x : SiteNo × Command) → SiteFits x.0 → CommandFits x.1
+    → command_of schema (command_text schema x.0 x.1) ≡ Some x
 unfolding command_of
 command_only schema is x s c = line_only (command_form schema is) x (site_text x.0) (command_words schema x.1) refl (s, c)
 

@@ -11,84 +11,41 @@ use Rattle.field_bounds.specs.declared.entry.Refusal.TheVariants.{Down, NoSite, 
 use Rattle.field_bounds.specs.declared.entry.Reply.{Reply}
 use Rattle.field_bounds.specs.declared.entry.Reply.TheVariants.{Begun, Granted, Committed, Aborted, Given, Stated, Spared, Tightened, Accepted, Between, Shares, Restarted, Unsure, StillDown, Refused}
 use Rattle.line_words.proofs.WordLemmas.{IsWord, word_from_test}
-use Rattle.line_words.proofs.Forms.{IsRead, IsForm, found, taking, word_again, taking_form, form_again, made_of}
+use Rattle.line_words.proofs.Forms.{IsRead, IsForm, found, word_again, form_again}
 use Rattle.line_words.proofs.WordKinds.{number_read, signed_read, below_read, only_read, table_read}
 use Rattle.entry_text.specs.Spelling.{last_text, refusal_words, reply_words}
 use Rattle.entry_text.specs.Ranges.{RefusalFits, ReplyFits}
 use Rattle.entry_text.specs.Reading.{table_at}
 use Rattle.entry_text.specs.Replies.{refusal_table, refusal_at, last_of, last_table, reply_table, reply_at}
 use Rattle.entry_text.proofs.WordKinds.{id_read}
-use Rattle.entry_text.proofs.Tables.{IsTable, table_takes, phrase_takes, phrase_again, words_from_test}
+use Rattle.entry_text.proofs.Tables.{IsTable, ◌&◌, table_takes, phrase_row, phrase_again, words_from_test, map_row, one_row, two_row, three_row}
 
 -- ---- refusals
 
--- a refusal that was put together is the one that was found
-made_refusal : {ws : List (List ℕ)} (b v : Refusal) (after rest : List (List ℕ))
-    → found b after ≡ found v rest → RefusalFits b → ws ≡ refusal_words b ++ after → RefusalFits v × (ws ≡ refusal_words v ++ rest)
-made_refusal {ws} b v after rest e fits is = made_of RefusalFits refusal_words ws b v after rest e fits is
-
-refusal_readers : IsTable RefusalFits refusal_words refusal_table
-refusal_readers = (
-  phrase_takes RefusalFits refusal_words Down (codes "1") (codes "down" ∷ []) refl tt refl,
-  (
-    phrase_takes RefusalFits refusal_words NoSite (codes "2") (codes "no" ∷ codes "site" ∷ []) refl tt refl,
-    (
-      phrase_takes RefusalFits refusal_words NoField (codes "3") (codes "no" ∷ codes "field" ∷ []) refl tt refl,
-      (
-        phrase_takes RefusalFits refusal_words NoTransaction (codes "4") (codes "no" ∷ codes "transaction" ∷ []) refl tt refl,
-        (
-          phrase_takes RefusalFits refusal_words Zero (codes "5") (codes "zero" ∷ []) refl tt refl,
-          (
-            phrase_takes RefusalFits refusal_words TooLarge (codes "6") (codes "too" ∷ codes "large" ∷ []) refl tt refl,
-            (
-              (λ ws v rest e.
-                  taking (only_read (codes "short") refl) _ ws _ e (λ a r1 f1 w1 e1.
-                  taking number_read _ r1 _ e1 (λ share r2 f2 w2 e2.
-                  made_refusal (Short share) v r2 rest e2 f2 (cc (w1, w2))))),
-              (
-                phrase_takes RefusalFits refusal_words SelfGift (codes "8") (codes "self" ∷ codes "gift" ∷ []) refl tt refl,
-                (
-                  (λ ws v rest e.
-                      taking (only_read (codes "ledger") refl) _ ws _ e (λ a r1 f1 w1 e1.
-                      taking (only_read (codes "full") refl) _ r1 _ e1 (λ b r2 f2 w2 e2.
-                      taking number_read _ r2 _ e2 (λ total r3 f3 w3 e3.
-                      made_refusal (LedgerFull total) v r3 rest e3 f3 (cc (w1, w2, w3)))))),
-                  (
-                    phrase_takes RefusalFits refusal_words NotYours (codes "10") (codes "not" ∷ codes "yours" ∷ []) refl tt refl,
-                    (
-                      (λ ws v rest e.
-                          taking (only_read (codes "forged") refl) _ ws _ e (λ a r1 f1 w1 e1.
-                          taking number_read _ r1 _ e1 (λ room r2 f2 w2 e2.
-                          made_refusal (Forged room) v r2 rest e2 f2 (cc (w1, w2))))),
-                      (
-                        phrase_takes RefusalFits refusal_words TooManyOpen (codes "12") (codes "too" ∷ codes "many" ∷ codes "open" ∷ []) refl tt refl,
-                        (
-                          phrase_takes RefusalFits refusal_words TooManyEscrows (codes "13") (codes "too" ∷ codes "many" ∷ codes "escrows" ∷ []) refl tt refl,
-                          (
-                            phrase_takes RefusalFits refusal_words NumbersFull (codes "14") (codes "numbers" ∷ codes "full" ∷ []) refl tt refl,
-                            (
-                              phrase_takes RefusalFits refusal_words NothingGiven (codes "15") (codes "nothing" ∷ codes "given" ∷ []) refl tt refl,
-                              tt,
-                            ),
-                          ),
-                        ),
-                      ),
-                    ),
-                  ),
-                ),
-              ),
-            ),
-          ),
-        ),
-      ),
-    ),
-  ),
-)
+refusal_rows : IsTable RefusalFits refusal_words refusal_table
+refusal_rows =
+    phrase_row _ _ Down (codes "1") (codes "down" ∷ []) refl tt refl
+    & phrase_row _ _ NoSite (codes "2") (codes "no" ∷ codes "site" ∷ []) refl tt refl
+    & phrase_row _ _ NoField (codes "3") (codes "no" ∷ codes "field" ∷ []) refl tt refl
+    & phrase_row _ _ NoTransaction (codes "4") (codes "no" ∷ codes "transaction" ∷ []) refl tt refl
+    & phrase_row _ _ Zero (codes "5") (codes "zero" ∷ []) refl tt refl
+    & phrase_row _ _ TooLarge (codes "6") (codes "too" ∷ codes "large" ∷ []) refl tt refl
+    & two_row _ _ (only_read (codes "short") refl) number_read (λ a share. Short share) (λ a share f g. (g, refl))
+    & phrase_row _ _ SelfGift (codes "8") (codes "self" ∷ codes "gift" ∷ []) refl tt refl
+    & three_row _ _ (only_read (codes "ledger") refl) (only_read (codes "full") refl) number_read (λ a b total. LedgerFull total)
+    (λ a b total f g h. (h, refl))
+    & phrase_row _ _ NotYours (codes "10") (codes "not" ∷ codes "yours" ∷ []) refl tt refl
+    & two_row _ _ (only_read (codes "forged") refl) number_read (λ a room. Forged room) (λ a room f g. (g, refl))
+    & phrase_row _ _ TooManyOpen (codes "12") (codes "too" ∷ codes "many" ∷ codes "open" ∷ []) refl tt refl
+    & phrase_row _ _ TooManyEscrows (codes "13") (codes "too" ∷ codes "many" ∷ codes "escrows" ∷ []) refl tt refl
+    & phrase_row _ _ NumbersFull (codes "14") (codes "numbers" ∷ codes "full" ∷ []) refl tt refl
+    & phrase_row _ _ NothingGiven (codes "15") (codes "nothing" ∷ codes "given" ∷ []) refl tt refl
+    & tt
 
 refusal_takes : (ws : List (List ℕ)) (v : Refusal) (rest : List (List ℕ)) → refusal_at ws ≡ found v rest
     → RefusalFits v × (ws ≡ refusal_words v ++ rest)
 unfolding refusal_at
-refusal_takes = table_takes RefusalFits refusal_words refusal_table refusal_readers
+refusal_takes = table_takes RefusalFits refusal_words refusal_table refusal_rows
 
 refusal_again : (v : Refusal) (rest : List (List ℕ)) → RefusalFits v → refusal_at (refusal_words v ++ rest) ≡ found v rest
 unfolding refusal_at table_at
@@ -100,7 +57,9 @@ refusal_again Zero rest fits = phrase_again (codes "zero" ∷ []) refl Zero rest
 refusal_again TooLarge rest fits = phrase_again (codes "too" ∷ codes "large" ∷ []) refl TooLarge rest
 refusal_again (Short share) rest fits = word_again (only_read (codes "short") refl) _ tt _ tt ∙ word_again number_read _ share rest fits
 refusal_again SelfGift rest fits = phrase_again (codes "self" ∷ codes "gift" ∷ []) refl SelfGift rest
-refusal_again (LedgerFull total) rest fits = word_again (only_read (codes "ledger") refl) _ tt _ tt ∙ word_again (only_read (codes "full") refl) _ tt _ tt ∙ word_again number_read _ total rest fits
+refusal_again (LedgerFull total) rest fits =
+    word_again (only_read (codes "ledger") refl) _ tt _ tt ∙ word_again (only_read (codes "full") refl) _ tt _ tt
+    ∙ word_again number_read _ total rest fits
 refusal_again NotYours rest fits = phrase_again (codes "not" ∷ codes "yours" ∷ []) refl NotYours rest
 refusal_again (Forged room) rest fits = word_again (only_read (codes "forged") refl) _ tt _ tt ∙ word_again number_read _ room rest fits
 refusal_again TooManyOpen rest fits = phrase_again (codes "too" ∷ codes "many" ∷ codes "open" ∷ []) refl TooManyOpen rest
@@ -115,11 +74,15 @@ refusal_plain NoField fits = words_from_test (refusal_words NoField) refl
 refusal_plain NoTransaction fits = words_from_test (refusal_words NoTransaction) refl
 refusal_plain Zero fits = words_from_test (refusal_words Zero) refl
 refusal_plain TooLarge fits = words_from_test (refusal_words TooLarge) refl
-refusal_plain (Short share) fits = (word_from_test (codes "7") refl, (word_from_test (codes "short") refl, (number_read.plain share fits, tt)))
+refusal_plain (Short share) fits =
+    word_from_test (codes "7") refl & word_from_test (codes "short") refl & number_read.plain share fits & tt
 refusal_plain SelfGift fits = words_from_test (refusal_words SelfGift) refl
-refusal_plain (LedgerFull total) fits = (word_from_test (codes "9") refl, (word_from_test (codes "ledger") refl, (word_from_test (codes "full") refl, (number_read.plain total fits, tt))))
+refusal_plain (LedgerFull total) fits =
+    word_from_test (codes "9") refl & word_from_test (codes "ledger") refl & word_from_test (codes "full") refl
+    & number_read.plain total fits & tt
 refusal_plain NotYours fits = words_from_test (refusal_words NotYours) refl
-refusal_plain (Forged room) fits = (word_from_test (codes "11") refl, (word_from_test (codes "forged") refl, (number_read.plain room fits, tt)))
+refusal_plain (Forged room) fits =
+    word_from_test (codes "11") refl & word_from_test (codes "forged") refl & number_read.plain room fits & tt
 refusal_plain TooManyOpen fits = words_from_test (refusal_words TooManyOpen) refl
 refusal_plain TooManyEscrows fits = words_from_test (refusal_words TooManyEscrows) refl
 refusal_plain NumbersFull fits = words_from_test (refusal_words NumbersFull) refl
@@ -148,86 +111,29 @@ epoch_read = below_read (2 ^ 32) (omega arith)
 
 -- ---- replies
 
--- a reply that was put together is the one that was found
-made_reply : {ws : List (List ℕ)} (b v : Reply) (after rest : List (List ℕ))
-    → found b after ≡ found v rest → ReplyFits b → ws ≡ reply_words b ++ after → ReplyFits v × (ws ≡ reply_words v ++ rest)
-made_reply {ws} b v after rest e fits is = made_of ReplyFits reply_words ws b v after rest e fits is
+reply_rows : IsTable ReplyFits reply_words reply_table
+reply_rows =
+    one_row _ _ id_read Begun (λ txn f. (f, refl))
+    & phrase_row _ _ Granted (codes "granted") [] refl tt refl
+    & phrase_row _ _ Committed (codes "committed") [] refl tt refl
+    & phrase_row _ _ Aborted (codes "aborted") [] refl tt refl
+    & two_row _ _ signed_read signed_read Between (λ lo hi f g. ((f, g), refl))
+    & two_row _ _ epoch_read last_read Restarted (λ epoch found f g. (f, refl))
+    & phrase_row _ _ Unsure (codes "unsure") [] refl tt refl
+    & phrase_row _ _ StillDown (codes "still") (codes "down" ∷ []) refl tt refl
+    & map_row _ _ refusal_form Refused (λ refusal f. (f, refl))
+    & one_row _ _ number_read Given (λ total f. (f, refl))
+    & one_row _ _ number_read Stated (λ total f. (f, refl))
+    & two_row _ _ number_read number_read Spared (λ amount total f g. ((f, g), refl))
+    & one_row _ _ number_read Tightened (λ total f. (f, refl))
+    & one_row _ _ number_read Accepted (λ gain f. (f, refl))
+    & two_row _ _ number_read number_read Shares (λ lower raise f g. ((f, g), refl))
+    & tt
 
-reply_readers : IsTable ReplyFits reply_words reply_table
-reply_readers = (
-  (λ ws v rest e.
-      taking id_read _ ws _ e (λ txn r1 f1 w1 e1.
-      made_reply (Begun txn) v r1 rest e1 f1 (cc w1))),
-  (
-    (λ ws v rest e. made_reply Granted v ws rest e tt refl),
-    (
-      (λ ws v rest e. made_reply Committed v ws rest e tt refl),
-      (
-        (λ ws v rest e. made_reply Aborted v ws rest e tt refl),
-        (
-          (λ ws v rest e.
-              taking signed_read _ ws _ e (λ lo r1 f1 w1 e1.
-              taking signed_read _ r1 _ e1 (λ hi r2 f2 w2 e2.
-              made_reply (Between lo hi) v r2 rest e2 (f1, f2) (cc (w1, w2))))),
-          (
-            (λ ws v rest e.
-                taking epoch_read _ ws _ e (λ epoch r1 f1 w1 e1.
-                taking last_read _ r1 _ e1 (λ found r2 f2 w2 e2.
-                made_reply (Restarted epoch found) v r2 rest e2 f1 (cc (w1, w2))))),
-            (
-              (λ ws v rest e. made_reply Unsure v ws rest e tt refl),
-              (
-                phrase_takes ReplyFits reply_words StillDown (codes "still") (codes "down" ∷ []) refl tt refl,
-                (
-                  (λ ws v rest e.
-                      taking_form refusal_form _ ws _ e (λ refusal r1 f1 w1 e1.
-                      made_reply (Refused refusal) v r1 rest e1 f1 (cc w1))),
-                  (
-                    (λ ws v rest e.
-                        taking number_read _ ws _ e (λ total r1 f1 w1 e1.
-                        made_reply (Given total) v r1 rest e1 f1 (cc w1))),
-                    (
-                      (λ ws v rest e.
-                          taking number_read _ ws _ e (λ total r1 f1 w1 e1.
-                          made_reply (Stated total) v r1 rest e1 f1 (cc w1))),
-                      (
-                        (λ ws v rest e.
-                            taking number_read _ ws _ e (λ amount r1 f1 w1 e1.
-                            taking number_read _ r1 _ e1 (λ total r2 f2 w2 e2.
-                            made_reply (Spared amount total) v r2 rest e2 (f1, f2) (cc (w1, w2))))),
-                        (
-                          (λ ws v rest e.
-                              taking number_read _ ws _ e (λ total r1 f1 w1 e1.
-                              made_reply (Tightened total) v r1 rest e1 f1 (cc w1))),
-                          (
-                            (λ ws v rest e.
-                                taking number_read _ ws _ e (λ gain r1 f1 w1 e1.
-                                made_reply (Accepted gain) v r1 rest e1 f1 (cc w1))),
-                            (
-                              (λ ws v rest e.
-                                  taking number_read _ ws _ e (λ lower r1 f1 w1 e1.
-                                  taking number_read _ r1 _ e1 (λ raise r2 f2 w2 e2.
-                                  made_reply (Shares lower raise) v r2 rest e2 (f1, f2) (cc (w1, w2))))),
-                              tt,
-                            ),
-                          ),
-                        ),
-                      ),
-                    ),
-                  ),
-                ),
-              ),
-            ),
-          ),
-        ),
-      ),
-    ),
-  ),
-)
-
-reply_takes : (ws : List (List ℕ)) (v : Reply) (rest : List (List ℕ)) → reply_at ws ≡ found v rest → ReplyFits v × (ws ≡ reply_words v ++ rest)
+reply_takes : (ws : List (List ℕ)) (v : Reply) (rest : List (List ℕ)) → reply_at ws ≡ found v rest
+    → ReplyFits v × (ws ≡ reply_words v ++ rest)
 unfolding reply_at
-reply_takes = table_takes ReplyFits reply_words reply_table reply_readers
+reply_takes = table_takes ReplyFits reply_words reply_table reply_rows
 
 reply_again : (v : Reply) (rest : List (List ℕ)) → ReplyFits v → reply_at (reply_words v ++ rest) ≡ found v rest
 unfolding reply_at table_at
@@ -248,21 +154,23 @@ reply_again StillDown rest fits = word_again (only_read (codes "down") refl) _ t
 reply_again (Refused refusal) rest fits = form_again refusal_form _ refusal rest fits
 
 reply_plain : (v : Reply) → ReplyFits v → AllByRecursion IsWord (reply_words v)
-reply_plain (Begun txn) fits = (word_from_test (codes "begun") refl, (id_read.plain txn fits, tt))
+reply_plain (Begun txn) fits = word_from_test (codes "begun") refl & id_read.plain txn fits & tt
 reply_plain Granted fits = words_from_test (reply_words Granted) refl
 reply_plain Committed fits = words_from_test (reply_words Committed) refl
 reply_plain Aborted fits = words_from_test (reply_words Aborted) refl
-reply_plain (Given total) fits = (word_from_test (codes "given") refl, (number_read.plain total fits, tt))
-reply_plain (Stated total) fits = (word_from_test (codes "stated") refl, (number_read.plain total fits, tt))
-reply_plain (Spared amount total) fits = (word_from_test (codes "spared") refl, (number_read.plain amount fits.0, (number_read.plain total fits.1, tt)))
-reply_plain (Tightened total) fits = (word_from_test (codes "tightened") refl, (number_read.plain total fits, tt))
-reply_plain (Accepted gain) fits = (word_from_test (codes "accepted") refl, (number_read.plain gain fits, tt))
-reply_plain (Between lo hi) fits = (word_from_test (codes "between") refl, (signed_read.plain lo fits.0, (signed_read.plain hi fits.1, tt)))
-reply_plain (Shares lower raise) fits = (word_from_test (codes "share") refl, (number_read.plain lower fits.0, (number_read.plain raise fits.1, tt)))
-reply_plain (Restarted epoch found) fits = (word_from_test (codes "restarted") refl, (epoch_read.plain epoch fits, (last_word found, tt)))
+reply_plain (Given total) fits = word_from_test (codes "given") refl & number_read.plain total fits & tt
+reply_plain (Stated total) fits = word_from_test (codes "stated") refl & number_read.plain total fits & tt
+reply_plain (Spared amount total) fits =
+    word_from_test (codes "spared") refl & number_read.plain amount fits.0 & number_read.plain total fits.1 & tt
+reply_plain (Tightened total) fits = word_from_test (codes "tightened") refl & number_read.plain total fits & tt
+reply_plain (Accepted gain) fits = word_from_test (codes "accepted") refl & number_read.plain gain fits & tt
+reply_plain (Between lo hi) fits = word_from_test (codes "between") refl & signed_read.plain lo fits.0 & signed_read.plain hi fits.1 & tt
+reply_plain (Shares lower raise) fits =
+    word_from_test (codes "share") refl & number_read.plain lower fits.0 & number_read.plain raise fits.1 & tt
+reply_plain (Restarted epoch found) fits = word_from_test (codes "restarted") refl & epoch_read.plain epoch fits & last_word found & tt
 reply_plain Unsure fits = words_from_test (reply_words Unsure) refl
 reply_plain StillDown fits = words_from_test (reply_words StillDown) refl
-reply_plain (Refused refusal) fits = (word_from_test (codes "refused") refl, refusal_plain refusal fits)
+reply_plain (Refused refusal) fits = word_from_test (codes "refused") refl & refusal_plain refusal fits
 
 pub reply_form : IsForm ReplyFits reply_words reply_at
 reply_form = record { takes = reply_takes; again = reply_again; plain = reply_plain }
