@@ -1,8 +1,8 @@
 -- What a courier has done after one letter more.
-use Rattle.std.proofs.Common.{◌≡◌, ◌≢◌, ℕ, ◌+◌, ◌<◌, Bool, true, false, true≢false, List, [], ◌∷◌, ◌++◌, length, set, sym, refl, ap, ◌∙◌, subst, arith, slice_index_or, append-nil, append_assoc, get_or-set_other, take}
-use Rattle.std.proofs.lemmas.List.{take_more}
+use Rattle.std.proofs.Common.{◌≡◌, ◌≢◌, ℕ, ◌+◌, ◌<◌, ◌≤◌, Bool, true, false, true≢false, List, [], ◌∷◌, ◌++◌, length, set, sym, refl, ap, ◌∙◌, subst, arith, slice_index_or, append-nil, append_assoc, get_or-set_other, take, ⊎_elim}
+use Rattle.std.proofs.lemmas.List.{take_more, get_or-set_same, length-set}
 use Rattle.std.specs.List.{Contains}
-use Rattle.std.proofs.lemmas.List.Elements.{Contains-append_left, Contains-push}
+use Rattle.std.proofs.lemmas.List.Elements.{Contains-append_left, Contains-push, Contains-push_cases}
 use native.Mathlib.Decide.{ℕ_discrete}
 use mathlib.Core.Logic.{dite}
 use Rattle.field_bounds.specs.declared.id.SiteNo.{SiteNo}
@@ -13,7 +13,7 @@ use Rattle.site_desk.specs.declared.kept.Receipt.{Receipt}
 use Rattle.site_workers.specs.declared.inbox.Letter.{Letter}
 use Rattle.site_workers.specs.declared.inbox.Letter.TheVariants.{Stated, End}
 use Rattle.site_workers.specs.Inboxes.{site_no}
-use Rattle.site_workers.specs.Carried.{accepts_of, commands_of, Carries, Progress}
+use Rattle.site_workers.specs.Carried.{accepts_of, commands_of, Carries, StopsShort, Progress}
 
 accepts_stated : (xs : List Letter) (s : Statement) → accepts_of (xs ++ Stated s ∷ []) ≡ accepts_of xs ++ Accept s ∷ []
 accepts_stated [] s = refl
@@ -29,13 +29,36 @@ commands_more : (rs : List Receipt) (r : Receipt) → commands_of (rs ++ r ∷ [
 commands_more [] r = refl
 commands_more (q ∷ rs) r = ap (λ l. q.entry.command ∷ l) (commands_more rs r)
 
+no_letter : (x : Letter) → Contains [] x → ⊥
+no_letter x has = omega (arith, has.1)
+
 pub begins : (taken : List Letter) (ended : List Bool) → ((n : ℕ) → slice_index_or ended n false ≡ false) → Progress taken taken ended []
 begins taken ended none = record {
   gained = [];
   taken = sym (append-nil taken);
   accepted = refl;
   marked = λ n marked. absurd (true≢false (sym marked ∙ none n));
+  no_other = λ n below off has. no_letter (End (site_no n)) has;
 }
+
+-- which letters a longer list lacks
+is_end : Letter → Bool
+is_end (Stated s) = false
+is_end (End site) = true
+
+end_of : Letter → ℕ
+end_of (Stated s) = 0
+end_of (End site) = site.0
+
+stated_no_end : (gained : List Letter) (s : Statement) (n : ℕ) → (Contains gained (End (site_no n)) → ⊥) → Contains (gained ++ Stated s ∷ []) (End (site_no n)) → ⊥
+unfolding is_end
+stated_no_end gained s n none has =
+    ⊎_elim (λ (before : Contains gained (End (site_no n))). none before) (λ (last : Stated s ≡ End (site_no n)). true≢false (sym (ap is_end last))) (Contains-push_cases gained (Stated s) (End (site_no n)) has)
+
+end_of_other : (gained : List Letter) (site : SiteNo) (n : ℕ) → n ≢ site.0 → (Contains gained (End (site_no n)) → ⊥) → Contains (gained ++ End site ∷ []) (End (site_no n)) → ⊥
+unfolding end_of
+end_of_other gained site n other none has =
+    ⊎_elim (λ (before : Contains gained (End (site_no n))). none before) (λ (last : End site ≡ End (site_no n)). other (sym (ap end_of last))) (Contains-push_cases gained (End site) (End (site_no n)) has)
 
 pub accepts : (start now : List Letter) (ended : List Bool) (rs : List Receipt) (s : Statement) (r : Receipt) → Progress start now ended rs → r.entry.command ≡ Accept s
     → Progress start (now ++ Stated s ∷ []) ended (rs ++ r ∷ [])
@@ -44,32 +67,47 @@ accepts start now ended rs s r p is = record {
   taken = ap (λ l. l ++ Stated s ∷ []) p.taken ∙ append_assoc start p.gained (Stated s ∷ []);
   accepted = commands_more rs r ∙ (ap (λ c. commands_of rs ++ c ∷ []) is ∙ (ap (λ l. l ++ Accept s ∷ []) p.accepted ∙ sym (accepts_stated p.gained s)));
   marked = λ n marked. Contains-append_left p.gained (Stated s ∷ []) (End (site_no n)) (p.marked n marked);
+  no_other = λ n below off. stated_no_end p.gained s n (p.no_other n below off);
 }
 
-pub skips : (start now : List Letter) (ended : List Bool) (rs : List Receipt) (site : SiteNo) → Progress start now ended rs → Progress start (now ++ End site ∷ []) ended rs
-skips start now ended rs site p = record {
+-- an End of no site that is marked
+pub skips : (start now : List Letter) (ended : List Bool) (rs : List Receipt) (site : SiteNo) → length ended ≤ site.0 → Progress start now ended rs → Progress start (now ++ End site ∷ []) ended rs
+skips start now ended rs site past p = record {
   gained = p.gained ++ End site ∷ [];
   taken = ap (λ l. l ++ End site ∷ []) p.taken ∙ append_assoc start p.gained (End site ∷ []);
   accepted = p.accepted ∙ sym (accepts_end p.gained site);
   marked = λ n marked. Contains-append_left p.gained (End site ∷ []) (End (site_no n)) (p.marked n marked);
+  no_other = λ n below off. end_of_other p.gained site n (λ (same : n ≡ site.0). absurd (omega arith)) (p.no_other n below off);
 }
 
-pub ends : (start now : List Letter) (ended : List Bool) (rs : List Receipt) (site : SiteNo) → Progress start now ended rs → Progress start (now ++ End site ∷ []) (set ended site.0 true) rs
-unfolding skips
-ends start now ended rs site p =
-    let q = skips start now ended rs site p in record {
-      gained = q.gained;
-      taken = q.taken;
-      accepted = q.accepted;
-      marked = λ n marked.
-          dite (ℕ_discrete n site.0)
-          (λ (same : n ≡ site.0). subst (λ (k : ℕ). Contains q.gained (End (site_no k))) (sym same) (Contains-push p.gained (End site)))
-          (λ (other : n ≢ site.0). q.marked n (sym (get_or-set_other ended site.0 n true false other) ∙ marked));
-    }
+pub ends : (start now : List Letter) (ended : List Bool) (rs : List Receipt) (site : SiteNo) → site.0 < length ended → Progress start now ended rs → Progress start (now ++ End site ∷ []) (set ended site.0 true) rs
+ends start now ended rs site within p = record {
+  gained = p.gained ++ End site ∷ [];
+  taken = ap (λ l. l ++ End site ∷ []) p.taken ∙ append_assoc start p.gained (End site ∷ []);
+  accepted = p.accepted ∙ sym (accepts_end p.gained site);
+  marked = λ n marked.
+      dite (ℕ_discrete n site.0)
+      (λ (same : n ≡ site.0). subst (λ (k : ℕ). Contains (p.gained ++ End site ∷ []) (End (site_no k))) (sym same) (Contains-push p.gained (End site)))
+      (λ (other : n ≢ site.0). Contains-append_left p.gained (End site ∷ []) (End (site_no n)) (p.marked n (sym (get_or-set_other ended site.0 n true false other) ∙ marked)));
+  no_other = λ n below off.
+      let in_old : n < length ended = omega (arith, below, length-set ended site.0 true) in
+      dite (ℕ_discrete n site.0)
+      (λ (same : n ≡ site.0). absurd (true≢false (sym (get_or-set_same ended site.0 true false within) ∙ (ap (λ (k : ℕ). slice_index_or (set ended site.0 true) k false) (sym same) ∙ off))))
+      (λ (other : n ≢ site.0). end_of_other p.gained site n other (p.no_other n in_old (sym (get_or-set_other ended site.0 n true false other) ∙ off)));
+}
 
 pub finishes : (sites : ℕ) (start now : List Letter) (ended : List Bool) (rs : List Receipt) → length ended ≡ sites → Progress start now ended rs → ((n : ℕ) → n < length ended → slice_index_or ended n false ≡ true)
     → Carries sites start now rs
 finishes sites start now ended rs len p all = (p.gained, p.taken, p.accepted, λ n below. p.marked n (all n (omega arith)))
+
+stops : (sites : ℕ) (start now : List Letter) (ended : List Bool) (rs : List Receipt) → length ended ≡ sites → Progress start now ended rs → (n : ℕ) × (n < length ended) × (slice_index_or ended n false ≡ false)
+    → StopsShort sites start now rs
+stops sites start now ended rs len p lacking =
+    let below : lacking.0 < length ended = lacking.1 in (p.gained, p.taken, p.accepted, lacking.0, omega arith, p.no_other lacking.0 below lacking.2)
+
+pub stops_at : (sites : ℕ) (start now after : List Letter) (ended : List Bool) (rs : List Receipt) → after ≡ now → length ended ≡ sites → Progress start now ended rs → (n : ℕ) × (n < length ended) × (slice_index_or ended n false ≡ false)
+    → StopsShort sites start after rs
+stops_at sites start now after ended rs same len p lacking = subst (λ (l : List Letter). StopsShort sites start l rs) (sym same) (stops sites start now ended rs len p lacking)
 
 -- the same, as the loop of a courier has it: it took x, which it found to be a letter of that kind
 pub begins_at : (taken : List Letter) (ended : List Bool) (rs : List Receipt) → rs ≡ [] → ((n : ℕ) → slice_index_or ended n false ≡ false) → Progress taken taken ended rs
@@ -81,16 +119,16 @@ accepts_at start now after ended rs rs' x s r taken kind grown command p =
     subst (λ (l : List Letter). Progress start l ended rs') (sym (taken ∙ ap (λ (y : Letter). now ++ y ∷ []) kind))
     (subst (λ (q : List Receipt). Progress start (now ++ Stated s ∷ []) ended q) (sym grown) (accepts start now ended rs s r p command))
 
-pub ends_at : (start now after : List Letter) (ended : List Bool) (rs : List Receipt) (x : Letter) (site : SiteNo) (place : ℕ) → after ≡ now ++ x ∷ [] → x ≡ End site → place ≡ site.0
+pub ends_at : (start now after : List Letter) (ended : List Bool) (rs : List Receipt) (x : Letter) (site : SiteNo) (place : ℕ) → after ≡ now ++ x ∷ [] → x ≡ End site → place ≡ site.0 → place < length ended
     → Progress start now ended rs → Progress start after (set ended place true) rs
-ends_at start now after ended rs x site place taken kind at p =
+ends_at start now after ended rs x site place taken kind at within p =
     subst (λ (l : List Letter). Progress start l (set ended place true) rs) (sym (taken ∙ ap (λ (y : Letter). now ++ y ∷ []) kind))
-    (subst (λ (k : ℕ). Progress start (now ++ End site ∷ []) (set ended k true) rs) (sym at) (ends start now ended rs site p))
+    (subst (λ (k : ℕ). Progress start (now ++ End site ∷ []) (set ended k true) rs) (sym at) (ends start now ended rs site (omega (arith, at, within)) p))
 
-pub skips_at : (start now after : List Letter) (ended : List Bool) (rs : List Receipt) (x : Letter) (site : SiteNo) → after ≡ now ++ x ∷ [] → x ≡ End site
+pub skips_at : (start now after : List Letter) (ended : List Bool) (rs : List Receipt) (x : Letter) (site : SiteNo) (place : ℕ) → after ≡ now ++ x ∷ [] → x ≡ End site → place ≡ site.0 → length ended ≤ place
     → Progress start now ended rs → Progress start after ended rs
-skips_at start now after ended rs x site taken kind p =
-    subst (λ (l : List Letter). Progress start l ended rs) (sym (taken ∙ ap (λ (y : Letter). now ++ y ∷ []) kind)) (skips start now ended rs site p)
+skips_at start now after ended rs x site place taken kind at past p =
+    subst (λ (l : List Letter). Progress start l ended rs) (sym (taken ∙ ap (λ (y : Letter). now ++ y ∷ []) kind)) (skips start now ended rs site (omega (arith, at, past)) p)
 
 pub commands_more_at : (rs rs' : List Receipt) (r : Receipt) (c : Command) → rs' ≡ rs ++ r ∷ [] → r.entry.command ≡ c → commands_of rs' ≡ commands_of rs ++ c ∷ []
 commands_more_at rs rs' r c grown is = ap commands_of grown ∙ (commands_more rs r ∙ ap (λ (d : Command). commands_of rs ++ d ∷ []) is)

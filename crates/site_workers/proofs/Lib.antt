@@ -6,3 +6,4 @@ pub mod Traffic
 pub mod Lowest
 pub mod Teams
 pub mod Fits
+pub mod Faults

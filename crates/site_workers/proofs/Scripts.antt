@@ -22,7 +22,7 @@ use Rattle.site_step.specs.Site.{SiteValue, base_of}
 use Rattle.site_workers.specs.declared.fault.WorkFault.{WorkFault}
 use Rattle.site_workers.specs.declared.inbox.Letter.{Letter}
 use Rattle.site_workers.specs.declared.inbox.Letter.TheVariants.{Stated, End}
-use Rattle.site_workers.specs.Carried.{commands_of, accepts_of, Carries}
+use Rattle.site_workers.specs.Carried.{commands_of, accepts_of, Carries, StopsShort}
 use Rattle.site_workers.specs.Scripts.{is_accept, without_accepts, HasNoAccept, AreAccepts, IsRising, IsClosed, IsWorked}
 
 -- the receipts' numbers rise from above n
@@ -177,9 +177,9 @@ accepts_only [] = tt
 accepts_only (Stated s ∷ xs) = (refl, accepts_only xs)
 accepts_only (End site ∷ xs) = accepts_only xs
 
-pub if_accepts : (sites : ℕ) (before after : List Letter) (r : Result (Vec Receipt) WorkFault) → IfOk r (λ (rs : Vec Receipt). Carries sites before after rs.items) → IfOk r (λ (rs : Vec Receipt). AreAccepts (commands_of rs.items))
-if_accepts sites before after (Ok rs) c = subst (λ (l : List Command). AreAccepts l) (sym c.2) (accepts_only c.0)
-if_accepts sites before after (Err e) c = tt
+pub delivered_accepts : (sites : ℕ) (before after : List Letter) (whole : Bool) (rs : List Receipt) → (whole ≡ true → Carries sites before after rs) → (whole ≡ false → StopsShort sites before after rs) → AreAccepts (commands_of rs)
+delivered_accepts sites before after true rs carries stops = let c = carries refl in subst (λ (l : List Command). AreAccepts l) (sym c.2) (accepts_only c.0)
+delivered_accepts sites before after false rs carries stops = let c = stops refl in subst (λ (l : List Command). AreAccepts l) (sym c.2) (accepts_only c.0)
 
 -- ---- a closed site
 
@@ -191,21 +191,25 @@ of_right : (s : ℕ) (a b : List Entry) → AreOf s (a ++ b) → AreOf s b
 of_right s [] b all = all
 of_right s (e ∷ a) b all = of_right s a b all.1
 
-of_reversed : (s : ℕ) (h : List Entry) → AreOf s (reverse h) → AreOf s h
+pub of_reversed : (s : ℕ) (h : List Entry) → AreOf s (reverse h) → AreOf s h
 of_reversed s [] all = tt
 of_reversed s (e ∷ h) all =
     let split : AreOf s (reverse h ++ e ∷ []) = subst (λ (l : List Entry). AreOf s l) (reverse-append (e ∷ []) h) all in
     let last : AreOf s (e ∷ []) = of_right s (reverse h) (e ∷ []) split in
     (last.0, of_reversed s h (of_left s (reverse h) (e ∷ []) split))
 
+pub on_fresh : (v : SiteValue) (schema : SchemaValue) (site : SiteNo) → v.schema ≡ schema → v.site ≡ site → v.fresh ≡ true → IsRun v.schema v.site.0 (base_of v) v.history → IsRun schema site.0 (fresh schema site.0) v.history
+on_fresh v schema site of number freshly run =
+    let based : IsRun v.schema v.site.0 (fresh v.schema v.site.0) v.history = subst (λ (b : Bool). IsRun v.schema v.site.0 (base_of (record v { fresh = b })) v.history) freshly run in
+    let in_schema : IsRun schema v.site.0 (fresh schema v.site.0) v.history = subst (λ (s : SchemaValue). IsRun s v.site.0 (fresh s v.site.0) v.history) of based in
+    subst (λ (n : SiteNo). IsRun schema n.0 (fresh schema n.0) v.history) number in_schema
+
 pub is_closed : (v : SiteValue) (schema : SchemaValue) (site : SiteNo) (shown h : List Entry) (rs : List Receipt) → reverse shown ≡ v.history → v.schema ≡ schema → v.site ≡ site → v.fresh ≡ true
     → IsRun v.schema v.site.0 (base_of v) v.history → AreOf v.site.0 v.history → AreReceiptsOf v.site (reverse v.history) rs → h ≡ shown → IsClosed schema site h rs
 is_closed v schema site shown h rs showing of number freshly run own checked copied =
     let turned : v.history ≡ reverse h = sym showing ∙ ap (λ (l : List Entry). reverse l) (sym copied) in
     let back : reverse v.history ≡ h = ap (λ (l : List Entry). reverse l) turned ∙ reverse-reverse h in
-    let on_fresh : IsRun v.schema v.site.0 (fresh v.schema v.site.0) v.history = subst (λ (b : Bool). IsRun v.schema v.site.0 (base_of (record v { fresh = b })) v.history) freshly run in
-    let in_schema : IsRun schema v.site.0 (fresh schema v.site.0) v.history = subst (λ (s : SchemaValue). IsRun s v.site.0 (fresh s v.site.0) v.history) of on_fresh in
-    let at_site : IsRun schema site.0 (fresh schema site.0) v.history = subst (λ (n : SiteNo). IsRun schema n.0 (fresh schema n.0) v.history) number in_schema in
+    let at_site : IsRun schema site.0 (fresh schema site.0) v.history = on_fresh v schema site of number freshly run in
     let mine : AreOf site.0 v.history = subst (λ (n : SiteNo). AreOf n.0 v.history) number own in
     let held : AreReceiptsOf site (reverse v.history) rs = subst (λ (n : SiteNo). AreReceiptsOf n (reverse v.history) rs) number checked in record {
       run = subst (λ (l : List Entry). IsRun schema site.0 (fresh schema site.0) l) turned at_site;

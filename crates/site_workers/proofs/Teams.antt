@@ -86,6 +86,16 @@ joins_more schema all old new o j hs hs' h popped is pushed one jn =
     let grown : histories_of hs' ≡ histories_of hs ++ h.items ∷ [] = ap histories_of pushed ∙ map-append (λ (w : Vec Entry). w.items) hs (h ∷ []) in
     subst (λ (l : List (List Entry)). AreJoined schema all new l) (sym grown) (joins_next schema all new j (histories_of hs) h.items jn.done jn.left jn.split jn.worked running one)
 
+-- the thread that is joined next has this schema
+pub job_schema : (schema : SchemaValue) (all : List (List Command)) (old new : List (Option Job)) (o : Option Job) (j : Job) (hs : List (List Entry)) → old ≡ new ++ o ∷ [] → o ≡ Some j → AreJoined schema all old hs → j.schema ≡ schema
+job_schema schema all old new o j hs popped is jn =
+    let turned : reverse old ≡ Some j ∷ reverse new = ap (λ (l : List (Option Job)). reverse l) popped ∙ (reverse-append new (o ∷ []) ∙ ap (λ (x : Option Job). x ∷ reverse new) is) in
+    first jn.left (subst (λ (l : List (Option Job)). AreJobs schema (length jn.done) jn.left l) turned jn.running)
+  where
+    first : (left : List (List Command)) → AreJobs schema (length jn.done) left (Some j ∷ reverse new) → j.schema ≡ schema
+    first [] running = absurd running
+    first (s ∷ left) running = running.0.0
+
 pub joined_all : (schema : SchemaValue) (all : List (List Command)) (jobs : List (Option Job)) (hs : List (List Entry)) → length jobs ≡ 0 → AreJoined schema all jobs hs → AreWorked schema 0 all hs
 joined_all schema all (j ∷ jobs) hs none jn = absurd (omega arith)
 joined_all schema all [] hs none jn = ends jn.left jn.running jn.split
@@ -94,7 +104,7 @@ joined_all schema all [] hs none jn = ends jn.left jn.running jn.split
     ends [] running split = subst (λ (l : List (List Command)). AreWorked schema 0 l hs) (sym (split ∙ append-nil jn.done)) jn.worked
     ends (s ∷ left) running split = absurd running
 
-worked_count : (schema : SchemaValue) (n : ℕ) (ss : List (List Command)) (hs : List (List Entry)) → AreWorked schema n ss hs → length hs ≡ length ss
+pub worked_count : (schema : SchemaValue) (n : ℕ) (ss : List (List Command)) (hs : List (List Entry)) → AreWorked schema n ss hs → length hs ≡ length ss
 worked_count schema n [] [] all = refl
 worked_count schema n [] (h ∷ hs) all = absurd all
 worked_count schema n (s ∷ ss) [] all = absurd all

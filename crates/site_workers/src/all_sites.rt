@@ -1,9 +1,11 @@
 //! All sites, each in a thread of its own.
 
-ghost use Rattle.std.specs.Prelude.{◌≡◌, ◌<◌, [], List, IfOk, IfSome};
+ghost use Rattle.std.specs.Prelude.{◌≡◌, ◌<◌, [], List, IfOk, IfErr, IfSome};
 ghost use Rattle.field_bounds.specs.declared.entry.Command.{Command as CommandSeen};
 ghost use Rattle.field_bounds.specs.Schema.{SchemaValue};
 ghost use Rattle.site_workers.specs.Jobs.{AreJoined};
+ghost use Rattle.site_workers.specs.Faults.{IsSiteFault, site_named, TellsForeign, TellsLost, TellsDiffers};
+ghost use Rattle.site_workers.specs.declared.fault.WorkFault.TheVariants.{NoMemory};
 ghost use Rattle.site_workers.specs.Scripts.{scripts_of, histories_of, HasNoAccept, ScriptsFit, AreWorked, AllWorked};
 
 use crate::crossing::{foreign, lost};
@@ -24,7 +26,9 @@ use std::thread::Threads;
 pub(crate) fn open_all(
     alloc: Global,
     sites: u16,
-) -> Result<(Vec<Vec<Post>>, Vec<Mail>, Vec<Spare>), WorkFault> {
+) -> Result<(Vec<Vec<Post>>, Vec<Mail>, Vec<Spare>), WorkFault>
+    ensures { IfErr result (λ fault. fault ≡ NoMemory) }
+{
     let mut posts = Vec::new(alloc);
     for _i in 0..sites {
         posts.push(Vec::new(alloc))?;
@@ -82,8 +86,10 @@ fn join_all<'x, R: Threads>(
     alloc: Global,
     handles: Vec<Option<Running<'x>>>,
 ) -> Result<Vec<Vec<Entry>>, WorkFault>
-    ensures { (schema : SchemaValue) (all : List (List CommandSeen)) → AreJoined schema all handles.entry.items [] →
+    ensures worked { (schema : SchemaValue) (all : List (List CommandSeen)) → AreJoined schema all handles.entry.items [] →
         IfOk result (λ hs. AreWorked schema 0 all (histories_of hs.items)) }
+    ensures fault { (schema : SchemaValue) (all : List (List CommandSeen)) → AreJoined schema all handles.entry.items [] →
+        IfErr result (IsSiteFault schema) }
 {
     let mut handles = handles;
     let mut histories = Vec::new(alloc);
@@ -109,14 +115,16 @@ fn run_threads<'x, R: Threads + Wait + Sync, G: Gate>(
     gate: &'x G,
 ) -> Result<Vec<Vec<Entry>>, WorkFault>
     requires fit { ScriptsFit schema.now (scripts_of scripts.items) }
-    ensures { IfOk result (λ hs. AreWorked schema.now 0 (scripts_of scripts.items) (histories_of hs.items)) }
+    ensures worked { IfOk result (λ hs. AreWorked schema.now 0 (scripts_of scripts.items) (histories_of hs.items)) }
+    ensures fault { IfErr result (IsSiteFault schema.now) }
 {
     thread::scope(
         thread::scope_env(),
         rt,
         move |scope| -> Result<Vec<Vec<Entry>>, WorkFault>
             requires fit { ScriptsFit schema.now (scripts_of scripts.items) }
-            ensures { IfOk result (λ hs. AreWorked schema.entry.now 0 (scripts_of scripts.items) (histories_of hs.items)) }
+            ensures worked { IfOk result (λ hs. AreWorked schema.entry.now 0 (scripts_of scripts.items) (histories_of hs.items)) }
+            ensures fault { IfErr result (IsSiteFault schema.entry.now) }
         {
             let mut left = scripts;
             let mut posts = posts;
@@ -173,8 +181,8 @@ fn run_threads<'x, R: Threads + Wait + Sync, G: Gate>(
 ///
 /// Give one script for each site, with no accept in them: `scripts_fit` tests it. Of several faults the
 /// one of the lowest site is answered, the worker's before the courier's: `GateTurns`, `WentBack`,
-/// `Passes`, `Receipts`, `Lost` of an inbox that was closed, `NoMemory`. Where there is none, `Foreign`
-/// and then `Lost` name the lowest site whose history shows it.
+/// `Passes`, `Receipts`, `NoMemory`. Where there is none, `Foreign` and then `Lost` name the lowest site
+/// whose history shows it.
 ///
 /// Costs two threads a site, an inbox of 1,024 letters for each, memory for the histories twice, for
 /// their receipts and for the statements, and time in proportion to the scripts.
@@ -190,6 +198,18 @@ pub fn run_workers<'x, R: Threads + Wait + Sync, G: Gate>(
 ) -> Result<Vec<Vec<Entry>>, WorkFault>
     requires fit { ScriptsFit schema.now (scripts_of scripts.items) }
     ensures ok { IfOk result (λ hs. AllWorked schema.now (scripts_of scripts.items) (histories_of hs.items)) }
+
+    // Foreign names the lowest site of such histories that accepts a statement which wasn't issued.
+    ensures foreign { IfErr result (TellsForeign schema.now (scripts_of scripts.items)) }
+
+    // Lost names the lowest site of such histories, none of them foreign, that lacks an accept.
+    ensures lost { IfErr result (TellsLost schema.now (scripts_of scripts.items)) }
+
+    // Receipts tells how the receipts of a site of the schema differ from a history of it.
+    ensures receipts { IfErr result (TellsDiffers schema.now) }
+
+    // A fault that names a site names one of the schema.
+    ensures site { IfErr result (λ fault. IfSome (site_named fault) (λ site. site.0 < schema.now.sites)) }
 {
     let (posts, mails, spares) = open_all(alloc, schema.sites())?;
     let histories = run_threads(rt, alloc, schema, scripts, posts, mails, spares, gate)?;

@@ -2,6 +2,7 @@
 
 ghost use Rattle.std.specs.Prelude.{◌≡◌, IfErr};
 ghost use Rattle.site_workers.specs.declared.fault.WorkFault.TheVariants.{NoMemory};
+ghost use Rattle.site_workers.specs.Faults.{fault_of_call, fault_of_receipts};
 
 use field_bounds::SiteNo;
 use site_desk::{DeskFault, ReceiptFault};
@@ -31,8 +32,8 @@ pub enum WorkFault {
     /// This site, the lowest such, accepted a statement that the site which it names didn't issue.
     #[error("site {site:?} accepted a statement that wasn't issued")]
     Foreign { site: SiteNo },
-    /// This site, the lowest such, didn't accept a statement that was issued to it; or its inbox was
-    /// closed before each worker had ended.
+    /// This site, the lowest such, didn't accept a statement that was issued to it. Of a courier that is
+    /// called alone: its inbox was closed before each worker had ended.
     #[error("site {site:?} lacks a statement that was issued to it")]
     Lost { site: SiteNo },
     /// Memory is wanting, or a thread couldn't be made.
@@ -60,7 +61,9 @@ impl From<AllocError> for WorkFault {
 }
 
 /// How a fault of a desk's call is told.
-pub(crate) fn fault_of_call(site: SiteNo, fault: DeskFault) -> WorkFault {
+pub(crate) fn fault_of_call(site: SiteNo, fault: DeskFault) -> WorkFault
+    ensures { result ≡ fault_of_call site fault }
+{
     match fault {
         DeskFault::NoMemory => WorkFault::NoMemory,
         DeskFault::WentBack { length } => WorkFault::WentBack { site, length },
@@ -69,7 +72,9 @@ pub(crate) fn fault_of_call(site: SiteNo, fault: DeskFault) -> WorkFault {
 }
 
 /// How a fault of receipts is told.
-pub(crate) fn fault_of_receipts(fault: ReceiptFault) -> WorkFault {
+pub(crate) fn fault_of_receipts(fault: ReceiptFault) -> WorkFault
+    ensures { result ≡ fault_of_receipts fault }
+{
     match fault {
         ReceiptFault::NoMemory => WorkFault::NoMemory,
         other => WorkFault::Receipts(other),

@@ -1,12 +1,13 @@
 //! One site: its desk, its worker and its courier.
 
-ghost use Rattle.std.specs.Prelude.{◌≡◌, ◌<◌, ◌++◌, ◌∷◌, [], Some, IfOk, IfSome, length, vec_len, map, reverse};
+ghost use Rattle.std.specs.Prelude.{◌≡◌, ◌<◌, ◌++◌, ◌∷◌, [], Some, IfOk, IfErr, IfSome, length, vec_len, map, reverse};
 ghost use Rattle.crossbeam_channel.specs.Claims.{view, IsSeatAt};
 ghost use Rattle.crossbeam_channel.specs.Ends.{sends_on, receives_on};
 ghost use Rattle.site_workers.specs.Carried.{commands_of};
+ghost use Rattle.site_workers.specs.Faults.{IsCourierFault, IsFaultAt, IsSiteFault};
 ghost use Rattle.site_workers.specs.Scripts.{HasNoAccept, AreAccepts, IsRising, IsClosed, IsWorked};
 
-use crate::courier::carry;
+use crate::courier::{Delivery, deliver};
 use crate::fault::{WorkFault, fault_of_call, fault_of_receipts};
 use crate::post::{Mail, Post, end_all};
 use field_bounds::{Command, Entry, Schema, SiteNo, statement_of};
@@ -42,6 +43,7 @@ fn work<L: Ledger, R: Wait, G: Gate>(
 ) -> Result<Vec<Receipt>, WorkFault>
     ensures calls { IfOk result (λ receipts. commands_of receipts.items ≡ script.now) }
     ensures rising { IfOk result (λ receipts. IsRising pass.old.last receipts.items pass.new.last) }
+    ensures fault { IfErr result (IsFaultAt desk.now.schema desk.now.site) }
 {
     let mut receipts = Vec::new(alloc);
     for command in script {
@@ -61,7 +63,9 @@ fn work<L: Ledger, R: Wait, G: Gate>(
     Ok(receipts)
 }
 
-/// Carries the mail, and lets go of the inbox.
+/// Carries the mail, and lets go of the inbox. The caller keeps an end of each inbox until the threads
+/// are joined, so none is closed while its courier runs; and were it, what is lost by it is seen in the
+/// histories.
 fn carry_mail<L: Ledger, R: Wait>(
     rt: &R,
     alloc: Global,
@@ -70,19 +74,23 @@ fn carry_mail<L: Ledger, R: Wait>(
     desk: &Desk<L, MemoryMedium>,
     pass: &mut Pass<L>,
 ) -> Result<Vec<Receipt>, WorkFault>
-    ensures { IfOk result (λ receipts. AreAccepts (commands_of receipts.items)) }
+    ensures accepts { IfOk result (λ receipts. AreAccepts (commands_of receipts.items)) }
+    ensures fault { IfErr result (IsCourierFault desk.now.site) }
 {
     let Mail { inbox, way } = mail;
     let mut way = way;
-    carry(rt, alloc, &inbox, &mut way, schema, desk, pass)
+    let Delivery { receipts, whole: _ } = deliver(rt, alloc, &inbox, &mut way, schema, desk, pass)?;
+    Ok(receipts)
 }
 
-/// What a courier's thread promises of its receipts.
+/// What the courier's thread of a site promises of its receipts, or of its fault.
 #[derive(Clone, Copy)]
-struct Couriers;
+struct Courier {
+    site: SiteNo,
+}
 
-impl<L: Ledger> Promise<(Result<Vec<Receipt>, WorkFault>, Pass<L>)> for Couriers {
-    ghost kept_by = { λ p r. IfOk r.0 (λ receipts. AreAccepts (commands_of receipts.items)) };
+impl<L: Ledger> Promise<(Result<Vec<Receipt>, WorkFault>, Pass<L>)> for Courier {
+    ghost kept_by = { λ p r. IfOk r.0 (λ receipts. AreAccepts (commands_of receipts.items)) × IfErr r.0 (IsCourierFault p.site) };
 }
 
 /// The worker on this thread and the courier on one of its own.
@@ -105,6 +113,8 @@ fn run_both<'x, L: Ledger + Send + Sync, R: Threads + Wait + Sync, G: Gate>(
     ensures calls { IfOk result.0 (λ receipts. commands_of receipts.items ≡ script.items) }
     ensures rising { IfOk result.0 (λ receipts. IsRising first.last receipts.items result.1.last) }
     ensures accepts { IfSome result.2 (λ carried. IfOk carried.0 (λ receipts. AreAccepts (commands_of receipts.items))) }
+    ensures worker_fault { IfErr result.0 (IsFaultAt desk.now.schema desk.now.site) }
+    ensures courier_fault { IfSome result.2 (λ carried. IfErr carried.0 (IsCourierFault desk.now.site)) }
 {
     thread::scope(
         thread::scope_env(),
@@ -117,10 +127,13 @@ fn run_both<'x, L: Ledger + Send + Sync, R: Threads + Wait + Sync, G: Gate>(
             ensures calls { IfOk result.0 (λ receipts. commands_of receipts.items ≡ script.items) }
             ensures rising { IfOk result.0 (λ receipts. IsRising first.last receipts.items result.1.last) }
             ensures accepts { IfSome result.2 (λ carried. IfOk carried.0 (λ receipts. AreAccepts (commands_of receipts.items))) }
+            ensures worker_fault { IfErr result.0 (IsFaultAt desk.entry.now.schema desk.entry.now.site) }
+            ensures courier_fault { IfSome result.2 (λ carried. IfErr carried.0 (IsCourierFault desk.entry.now.site)) }
         {
             let mut first = first;
             let mut posts = posts;
-            let spawned = scope.spawn_with(Couriers, move || {
+            let site = desk.site();
+            let spawned = scope.spawn_with(Courier { site }, move || {
                 let mut pass = second;
                 let carried = carry_mail(rt, alloc, mail, schema, desk, &mut pass);
                 (carried, pass)
@@ -157,7 +170,8 @@ fn finish<L: Ledger>(
     second: Pass<L>,
     receipts: &[Receipt],
 ) -> Result<Vec<Entry>, WorkFault>
-    ensures { IfOk result (λ history. IsClosed desk.schema desk.site history.items receipts.now) }
+    ensures closed { IfOk result (λ history. IsClosed desk.schema desk.site history.items receipts.now) }
+    ensures fault { IfErr result (IsFaultAt desk.schema desk.site) }
 {
     let site = desk.site();
     let mut passes = Vec::new(alloc);
@@ -169,11 +183,12 @@ fn finish<L: Ledger>(
     if !closed.on_fresh_base() {
         return Err(WorkFault::Passes { site });
     }
+    let entries = closed.history();
     if let Err(fault) = check_receipts(alloc, &closed, receipts) {
         return Err(fault_of_receipts(fault));
     }
     let mut history = Vec::new(alloc);
-    for entry in closed.history() {
+    for entry in entries {
         history.push(*entry)?;
     }
     Ok(history)
@@ -193,7 +208,8 @@ fn run_over<'x, L: Ledger + Send + Sync, R: Threads + Wait + Sync, G: Gate>(
     requires some { 0 < blank.parts }
     requires in_schema { seat.site.0 < schema.now.sites }
     requires plain { HasNoAccept seat.script.items }
-    ensures { IfOk result (λ history. IsWorked schema.now seat.site seat.script.items history.items) }
+    ensures worked { IfOk result (λ history. IsWorked schema.now seat.site seat.script.items history.items) }
+    ensures fault { IfErr result (IsSiteFault schema.now) }
 {
     let Seat {
         site,
@@ -235,7 +251,8 @@ pub(crate) fn run_site<'x, R: Threads + Wait + Sync, G: Gate>(
 ) -> Result<Vec<Entry>, WorkFault>
     requires in_schema { seat.site.0 < schema.now.sites }
     requires plain { HasNoAccept seat.script.items }
-    ensures { IfOk result (λ history. IsWorked schema.now seat.site seat.script.items history.items) }
+    ensures worked { IfOk result (λ history. IsWorked schema.now seat.site seat.script.items history.items) }
+    ensures fault { IfErr result (IsSiteFault schema.now) }
 {
     run_over::<Brand, R, G>(rt, alloc, Blank::new(2), schema, seat, gate)
 }

@@ -1,6 +1,7 @@
 //! The thread of one site, and what it promises.
 
-ghost use Rattle.std.specs.Prelude.{◌≡◌, IfOk};
+ghost use Rattle.std.specs.Prelude.{◌≡◌, IfOk, IfErr};
+ghost use Rattle.site_workers.specs.Faults.{IsSiteFault};
 ghost use Rattle.site_workers.specs.Scripts.{IsWorked};
 
 use crate::fault::WorkFault;
@@ -9,7 +10,7 @@ use std::marker::Model;
 use std::snapshot::Snapshot;
 use std::thread::{Promise, PromisedHandle, Threads};
 
-/// What a site's thread promises of the history that it hands back.
+/// What a site's thread promises of the history that it hands back, or of its fault.
 #[derive(Drop)]
 pub(crate) struct Task<'x> {
     pub schema: &'x Schema,
@@ -18,7 +19,7 @@ pub(crate) struct Task<'x> {
 }
 
 impl<'x> Promise<Result<Vec<Entry>, WorkFault>> for Task<'x> {
-    ghost kept_by = { λ p r. IfOk r (λ history. IsWorked p.schema.now p.site p.script.value.items history.items) };
+    ghost kept_by = { λ p r. IfOk r (λ history. IsWorked p.schema.now p.site p.script.value.items history.items) × IfErr r (IsSiteFault p.schema.now) };
 }
 
 /// A site's thread. Contracts see what it was given.
@@ -45,7 +46,8 @@ impl<'x> Running<'x> {
     }
 
     pub fn join<R: Threads>(self, rt: &R) -> Result<Vec<Entry>, WorkFault>
-        ensures { IfOk result (λ history. IsWorked self.entry.schema self.entry.site self.entry.script history.items) }
+        ensures worked { IfOk result (λ history. IsWorked self.entry.schema self.entry.site self.entry.script history.items) }
+        ensures fault { IfErr result (IsSiteFault self.entry.schema) }
     {
         let Running { handle } = self;
         handle.join(rt)

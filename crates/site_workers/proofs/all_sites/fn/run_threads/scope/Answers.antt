@@ -44,5 +44,7 @@ loop-script-preserved g c =
 
 pub returns : goal.returns
 returns g c =
-    c.join_all.ensures c.captures.schema.now (scripts_of c.captures.scripts.items)
-    (joins c.captures.schema.now (scripts_of c.captures.scripts.items) c.loop-script.left.items c.loop-script.handles.items (sym c.loop-script.left.ok.0 ∙ c.in_default.ensures.cases.0) c.loop-script.invariant.started)
+    let all = joins c.captures.schema.now (scripts_of c.captures.scripts.items) c.loop-script.left.items c.loop-script.handles.items (sym c.loop-script.left.ok.0 ∙ c.in_default.ensures.cases.0) c.loop-script.invariant.started in record {
+      worked = c.join_all.ensures.worked c.captures.schema.now (scripts_of c.captures.scripts.items) all;
+      fault = c.join_all.ensures.fault c.captures.schema.now (scripts_of c.captures.scripts.items) all;
+    }

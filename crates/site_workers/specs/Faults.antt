@@ -1,0 +1,120 @@
+-- What a fault of workers says (this project). A history has the oldest entry first.
+use Rattle.std.specs.Prelude.{◌≡◌, ◌≢◌, ℕ, ◌<◌, List, length, reverse, Option, Some, None}
+use Rattle.field_bounds.specs.declared.id.SiteNo.{SiteNo}
+use Rattle.field_bounds.specs.declared.entry.Command.{Command}
+use Rattle.field_bounds.specs.declared.entry.Entry.{Entry}
+use Rattle.field_bounds.specs.Schema.{SchemaValue}
+use Rattle.field_bounds.specs.Effects.{fresh}
+use Rattle.field_bounds.specs.Owed.{IsRun}
+use Rattle.field_bounds.specs.Central.{AreOf}
+use Rattle.site_desk.specs.declared.fault.DeskFault.{DeskFault}
+use Rattle.site_desk.specs.declared.fault.DeskFault.TheVariants as desk_faults
+use Rattle.site_desk.specs.declared.kept.Receipt.{Receipt}
+use Rattle.site_desk.specs.declared.receipts.ReceiptFault.{ReceiptFault}
+use Rattle.site_desk.specs.declared.receipts.ReceiptFault.TheVariants as receipt_faults
+use Rattle.site_desk.specs.ReceiptFaults.{TellsReceipts}
+use Rattle.site_workers.specs.declared.fault.WorkFault.{WorkFault}
+use Rattle.site_workers.specs.declared.fault.WorkFault.TheVariants.{GateTurns, WentBack, Passes, Receipts, Foreign, Lost, NoMemory}
+use Rattle.site_workers.specs.declared.inbox.Letter.{Letter}
+use Rattle.site_workers.specs.Carried.{StopsShort}
+use Rattle.site_workers.specs.Scripts.{AreWorked, NoneForeign}
+use Rattle.site_workers.specs.Crossing.{IsLowestForeign, IsLowestLost}
+
+-- ---- one site
+
+-- How a fault of a desk's call is told of its site.
+abbrev pub fault_of_call : SiteNo → DeskFault → WorkFault
+fault_of_call site desk_faults.NoMemory = NoMemory
+fault_of_call site (desk_faults.WentBack length) = WentBack site length
+fault_of_call site desk_faults.GateTurns = GateTurns
+
+-- How a fault of receipts is told; want of memory is told as such.
+abbrev pub fault_of_receipts : ReceiptFault → WorkFault
+fault_of_receipts receipt_faults.NoMemory = NoMemory
+fault_of_receipts fault = Receipts fault
+
+-- A courier's call of its desk failed: the fault names the desk's site, and there is no gate.
+abbrev pub IsCourierFault : SiteNo → WorkFault → Type 0
+IsCourierFault site NoMemory = Unit {0}
+IsCourierFault site (WentBack named length) = named ≡ site
+IsCourierFault site fault = ⊥
+
+-- Lost names the desk's site, and comes only where the letters taken lack an End of some site.
+abbrev pub TellsShort : ℕ → SiteNo → List Letter → List Letter → WorkFault → Type 0
+TellsShort sites site before after (Lost named) = (named ≡ site) × (receipts : List Receipt) × StopsShort sites before after receipts
+TellsShort sites site before after fault = IsCourierFault site fault
+
+-- A run of owed replies on the site's fresh base, and receipts that aren't its entries for this reason.
+pub record Differs (schema : SchemaValue) (site : SiteNo) (fault : ReceiptFault) : Type 0 where
+  pub history : List Entry
+  pub receipts : List Receipt
+  pub run : IsRun schema site.0 (fresh schema site.0) (reverse history)
+  pub own : AreOf site.0 history
+  pub told : TellsReceipts site history receipts fault
+  pub known : fault ≢ receipt_faults.NoMemory
+
+-- A fault of one site's worker or courier, or of its close: it names that site. What goes from site to site isn't asked.
+abbrev pub IsFaultAt : SchemaValue → SiteNo → WorkFault → Type 0
+IsFaultAt schema site GateTurns = Unit {0}
+IsFaultAt schema site (WentBack named length) = named ≡ site
+IsFaultAt schema site (Passes named) = named ≡ site
+IsFaultAt schema site (Receipts fault) = Differs schema site fault
+IsFaultAt schema site (Foreign named) = ⊥
+IsFaultAt schema site (Lost named) = ⊥
+IsFaultAt schema site NoMemory = Unit {0}
+
+-- ---- all sites
+
+-- Of some site of the schema.
+pub record ShowsDiffers (schema : SchemaValue) (fault : ReceiptFault) : Type 0 where
+  pub site : SiteNo
+  pub known : site.0 < schema.sites
+  pub differs : Differs schema site fault
+
+-- A fault of some site's threads: one that names a site names one of the schema.
+abbrev pub IsSiteFault : SchemaValue → WorkFault → Type 0
+IsSiteFault schema GateTurns = Unit {0}
+IsSiteFault schema (WentBack named length) = named.0 < schema.sites
+IsSiteFault schema (Passes named) = named.0 < schema.sites
+IsSiteFault schema (Receipts fault) = ShowsDiffers schema fault
+IsSiteFault schema (Foreign named) = ⊥
+IsSiteFault schema (Lost named) = ⊥
+IsSiteFault schema NoMemory = Unit {0}
+
+-- Workers of these scripts may make histories of which this site's, and no lower one's, accepts a statement that wasn't
+-- issued.
+pub record ShowsForeign (schema : SchemaValue) (scripts : List (List Command)) (site : ℕ) : Type 0 where
+  pub histories : List (List Entry)
+  pub sites : length histories ≡ schema.sites
+  pub worked : AreWorked schema 0 scripts histories
+  pub lowest : IsLowestForeign histories site
+
+-- Workers of these scripts may make histories which accept no statement that wasn't issued, and of which this site's, and
+-- no lower one's, lacks the accept of a statement that was issued to it.
+pub record ShowsLost (schema : SchemaValue) (scripts : List (List Command)) (site : ℕ) : Type 0 where
+  pub histories : List (List Entry)
+  pub sites : length histories ≡ schema.sites
+  pub worked : AreWorked schema 0 scripts histories
+  pub none_foreign : NoneForeign histories
+  pub lowest : IsLowestLost histories site
+
+-- Foreign comes only of such histories; so does Lost, and Receipts of such receipts.
+abbrev pub TellsForeign : SchemaValue → List (List Command) → WorkFault → Type 0
+TellsForeign schema scripts (Foreign site) = ShowsForeign schema scripts site.0
+TellsForeign schema scripts fault = Unit {0}
+
+abbrev pub TellsLost : SchemaValue → List (List Command) → WorkFault → Type 0
+TellsLost schema scripts (Lost site) = ShowsLost schema scripts site.0
+TellsLost schema scripts fault = Unit {0}
+
+abbrev pub TellsDiffers : SchemaValue → WorkFault → Type 0
+TellsDiffers schema (Receipts fault) = ShowsDiffers schema fault
+TellsDiffers schema fault = Unit {0}
+
+-- The site that a fault names, where it names one.
+abbrev pub site_named : WorkFault → Option SiteNo
+site_named (WentBack site length) = Some site
+site_named (Passes site) = Some site
+site_named (Foreign site) = Some site
+site_named (Lost site) = Some site
+site_named fault = None
