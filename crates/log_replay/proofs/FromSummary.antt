@@ -18,7 +18,7 @@ use Rattle.kept_records.specs.Logs.{HasNoLf, IsLog}
 use Rattle.kept_records.specs.ReadingBack.{with_summary}
 use Rattle.kept_records.specs.declared.reading_back.ReadBack.{ReadBack}
 use Rattle.kept_records.specs.Summary.{SummaryValue, rights_told, told_more, told, cut_told, rights_of}
-use Rattle.kept_records.specs.Stands.{is_summary, since_summary, count_behind, summary_of, may_stand, Lawful}
+use Rattle.kept_records.specs.Stands.{is_summary, since_summary, count_behind, may_stand, Lawful}
 use Rattle.kept_records.specs.Summaries.{TellsOf, IsPlaced}
 use Rattle.kept_records.proofs.Summaries.{since_push, same_sums, same_summary_push, own_same}
 use Rattle.site_rights.specs.declared.field_rights.FieldRights.{FieldRights}
@@ -28,10 +28,10 @@ use Rattle.gift_ledger.specs.Ledger.{LedgerValue, IsPlace, total_at, accepted_at
 use Rattle.gift_ledger.proofs.LedgerLaws.{place_stays, fresh_place, fresh_account, total_at-with_total, accepted_at-with_total, total_at-with_accepted, accepted_at-with_accepted}
 use Rattle.log_replay.specs.declared.standing.Standing.{Standing}
 use Rattle.log_replay.specs.Standing.{StandsFor, NoneHeld, IsStandingFor}
-use Rattle.log_replay.specs.Resuming.{NotesGifts, NotesAccepts, IsEnd, up_to, BeginsAt, Walks, MayStandNext}
+use Rattle.log_replay.specs.Resuming.{NotesGifts, NotesAccepts, IsEnd, up_to, BeginsAt, Walks}
 use Rattle.kept_records.proofs.Pushes.{lawful_push, lawful_at}
 use Rattle.kept_records.proofs.Covering.{own_within}
-use Rattle.kept_records.proofs.Told.{lawful_tells, summary_tells, summary_fits, rights_length, rights_told_at}
+use Rattle.kept_records.proofs.Told.{lawful_tells, summary_fits, rights_length, rights_told_at}
 use Rattle.kept_records.proofs.Cursors.{next_in, none_in}
 
 abbrev pub no_total : Total
@@ -308,12 +308,3 @@ module _ (schema : SchemaValue) (s : ℕ) (all : List Record) (read : ReadBack) 
           subst (λ (x : List Record). IsStandingFor schema s x standing) all_is walks.stands,
           omega (arith, walks.count, ap length found_is, since, since_up_to end_.holds.last.before read.summary end_.holds.last.all, ap since_summary whole),
         )
-
--- ---- one record more, from the summary of a standing on
-
-pub begun : (schema : SchemaValue) (standing after : Standing) (s : ℕ) (v : SummaryValue) (rs : List Record) (r : Record) → s ≡ standing.ledger.site → MayStandNext schema standing rs r → v ≡ summary_of schema standing.ledger.site rs
-    → ((rs : List Record) → TellsOf schema s v rs → IsStandingFor schema s rs after) → Lawful schema s rs × (may_stand schema s rs r ≡ true) × IsStandingFor schema s rs after
-begun schema standing after s v rs r here next is begins =
-    let three = subst (λ (n : ℕ). Lawful schema n rs × (may_stand schema n rs r ≡ true) × TellsOf schema n (summary_of schema n rs) rs) (sym here) (next.lawful, next.may, summary_tells schema standing.ledger.site rs) in
-    let same : v ≡ summary_of schema s rs = is ∙ ap (λ (n : ℕ). summary_of schema n rs) (sym here) in
-    (three.0, three.1, begins rs (subst (λ (x : SummaryValue). TellsOf schema s x rs) (sym same) three.2))

@@ -2,3 +2,4 @@ pub mod StandingLaws
 pub mod FromSummary
 pub mod Told
 pub mod Rising
+pub mod SummaryThen

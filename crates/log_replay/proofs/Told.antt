@@ -28,7 +28,7 @@ site_same F G r (suc m) h =
     let rest = site_same F G r m (λ f k below. h f k (omega (arith, below))) in
     rw (rest, low, high) refl
 
-totals_same : (F G : ℕ → ℕ → Kind → ℕ) (s m n : ℕ) → ((r f : ℕ) (k : Kind) → r < n → r ≢ s → f < m → F r f k ≡ G r f k) → totals_of F s m n ≡ totals_of G s m n
+pub totals_same : (F G : ℕ → ℕ → Kind → ℕ) (s m n : ℕ) → ((r f : ℕ) (k : Kind) → r < n → r ≢ s → f < m → F r f k ≡ G r f k) → totals_of F s m n ≡ totals_of G s m n
 unfolding totals_of
 totals_same F G s m zero h = refl
 totals_same F G s m (suc n) h =
@@ -39,7 +39,7 @@ totals_same F G s m (suc n) h =
     by true is = refl
     by false is = site_same F G n m (λ f k in_. h n f k (omega arith) (eqb-false n s is) in_)
 
-rights_same : (F G : ℕ → Kind → ℕ) (m : ℕ) → ((f : ℕ) (k : Kind) → f < m → F f k ≡ G f k) → rights_of F m ≡ rights_of G m
+pub rights_same : (F G : ℕ → Kind → ℕ) (m : ℕ) → ((f : ℕ) (k : Kind) → f < m → F f k ≡ G f k) → rights_of F m ≡ rights_of G m
 unfolding rights_of
 rights_same F G zero h = refl
 rights_same F G (suc m) h =
@@ -51,7 +51,7 @@ rights_same F G (suc m) h =
 one_cut_same : (F G : ℕ → Kind → ℕ) (f : ℕ) (k : Kind) → F f k ≡ G f k → one_cut F f k ≡ one_cut G f k
 one_cut_same F G f k h = ap (λ (n : ℕ). cond (n == 0) [] (record { field = record { 0 = f }; kind = k; total = n } ∷ [])) h
 
-cuts_same : (F G : ℕ → Kind → ℕ) (m : ℕ) → ((f : ℕ) (k : Kind) → f < m → F f k ≡ G f k) → cuts_of F m ≡ cuts_of G m
+pub cuts_same : (F G : ℕ → Kind → ℕ) (m : ℕ) → ((f : ℕ) (k : Kind) → f < m → F f k ≡ G f k) → cuts_of F m ≡ cuts_of G m
 unfolding cuts_of
 cuts_same F G zero h = refl
 cuts_same F G (suc m) h =

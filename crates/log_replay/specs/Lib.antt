@@ -2,3 +2,4 @@ pub mod Standing
 pub mod Replayed
 pub mod Resuming
 pub mod Telling
+pub mod After

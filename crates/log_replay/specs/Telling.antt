@@ -1,5 +1,5 @@
 -- The summary of a standing (this project).
-use Rattle.std.specs.Prelude.{ℕ, ◌==◌, if◌then◌else◌, Bool, true, false, List, [], ◌∷◌, length}
+use Rattle.std.specs.Prelude.{ℕ, ◌==◌, if◌then◌else◌, Bool, true, false, List, [], ◌∷◌, Option, Some, None, length}
 use Rattle.field_bounds.specs.declared.kind.Kind.{Kind}
 use Rattle.field_bounds.specs.declared.id.SiteNo.{SiteNo}
 use Rattle.field_bounds.specs.declared.id.FieldNo.{FieldNo}
@@ -8,7 +8,8 @@ use Rattle.kept_records.specs.declared.record.Record.{Record}
 use Rattle.kept_records.specs.declared.record.Record.TheVariants.{Summary}
 use Rattle.kept_records.specs.declared.total.Total.{Total}
 use Rattle.kept_records.specs.declared.total.Cut.{Cut}
-use Rattle.kept_records.specs.Summary.{SummaryValue, rights_of, totals_of, cuts_of}
+use Rattle.kept_records.specs.Summary.{SummaryValue, rights_of, totals_of, cuts_of, told_more, cut_told_more}
+use Rattle.site_rights.specs.declared.field_rights.FieldRights.{FieldRights}
 use Rattle.site_rights.specs.Rights.{own_at, cut_at}
 use Rattle.gift_ledger.specs.Ledger.{LedgerValue, total_at, accepted_at}
 use Rattle.log_replay.specs.declared.standing.Standing.{Standing}
@@ -21,6 +22,16 @@ record_of v = Summary v
 abbrev pub side : Bool → LedgerValue → ℕ → ℕ → Kind → ℕ
 side true ledger r f k = total_at ledger r f k
 side false ledger r f k = accepted_at ledger r f k
+
+-- The same, where one of them is told anew.
+abbrev pub side_with : Option Total → Bool → LedgerValue → ℕ → ℕ → Kind → ℕ
+side_with None given ledger r f k = side given ledger r f k
+side_with (Some t) given ledger r f k = told_more r f k (side given ledger r f k) t
+
+-- The totals given up, where one of them is told anew.
+abbrev pub cut_with : Option Cut → List FieldRights → ℕ → Kind → ℕ
+cut_with None rows f k = cut_at rows f k
+cut_with (Some t) rows f k = cut_told_more f k (cut_at rows f k) t
 
 -- A total, where it is above 0.
 abbrev pub told_if : SiteNo → FieldNo → Kind → ℕ → List Total

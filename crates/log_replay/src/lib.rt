@@ -7,17 +7,19 @@
 //! totals given and accepted; this project for the rules of a log.
 #![tactic(auto)]
 
+mod after;
 mod log;
 mod ranges;
 mod resuming;
 mod standing;
 mod telling;
 
+pub use after::summary_after;
 pub use log::{Replayed, replay};
 pub use ranges::{summary_may_be_written, totals_rise};
 pub use resuming::{Resumed, resume};
 pub use standing::Standing;
-pub use telling::{summary, summary_after};
+pub use telling::summary;
 
 #[cfg(test)]
 mod tests;

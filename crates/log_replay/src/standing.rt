@@ -236,7 +236,7 @@ fn note_accepts(ledger: &mut Ledger, accepts: &[Total])
 }
 
 /// The total given up of a field and a kind, told after the one before.
-fn cut_or(told: &Cut, field: FieldNo, kind: Kind, before: u64) -> u64
+pub(crate) fn cut_or(told: &Cut, field: FieldNo, kind: Kind, before: u64) -> u64
     ensures value { result ≡ cut_told_more field.0 kind before told.now }
 {
     if told.field.0 == field.0 && told.kind == kind {

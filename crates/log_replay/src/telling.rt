@@ -1,21 +1,19 @@
 //! The summary of what was taken in.
 
-ghost use Rattle.std.specs.Prelude.{◌≡◌, ◌++◌, ◌∷◌, ◌≤◌, ◌<◌, ◌≢◌, [], ℕ, false, IfOk, OnOk, List, length};
+ghost use Rattle.std.specs.Prelude.{◌≡◌, ◌++◌, ◌≤◌, ◌<◌, ◌≢◌, ℕ, IfOk, OnOk, List, length};
 ghost use Rattle.kept_records.specs.declared.record.Record.{Record};
-ghost use Rattle.kept_records.specs.Stands.{is_summary, summary_of, may_stand};
-ghost use Rattle.kept_records.specs.Text.{IsRecord};
-ghost use Rattle.kept_records.specs.Summary.{rights_of, totals_of, totals_of_site, cuts_of, same_rights, same_totals, same_total, same_cuts, same_cut, same_summary};
+ghost use Rattle.kept_records.specs.Stands.{summary_of, may_stand};
+ghost use Rattle.kept_records.specs.Summary.{rights_of, totals_of, totals_of_site, cuts_of, told_more, same_rights, same_totals, same_total, same_cuts, same_cut, same_summary};
 ghost use Rattle.field_bounds.specs.Kind.{same_kind};
-ghost use Rattle.site_rights.specs.Rights.{own_at, cut_at};
+ghost use Rattle.site_rights.specs.Rights.{own_at};
 ghost use Rattle.gift_ledger.specs.Ledger.{IsPlace};
 ghost use Rattle.log_replay.specs.Standing.{HasPlaces, Stands};
-ghost use Rattle.log_replay.specs.Resuming.{MayStandNext};
-ghost use Rattle.log_replay.specs.Telling.{record_of, side, told_if, cut_if, summary_now};
+ghost use Rattle.log_replay.specs.Telling.{record_of, side, side_with, cut_with, told_if, cut_if, summary_now};
 
-use crate::standing::Standing;
+use crate::standing::{Standing, cut_or};
 use field_bounds::{FieldNo, Kind, Schema, SiteNo};
 use gift_ledger::Ledger;
-use kept_records::{Cut, Record, Summary, Total};
+use kept_records::{Cut, Summary, Total};
 use site_rights::Rights;
 use std::alloc::{AllocError, Global};
 
@@ -51,42 +49,75 @@ fn total_on_side(ledger: &Ledger, given: bool, site: SiteNo, field: FieldNo, kin
     }
 }
 
+/// The total that is told of a site, a field and a kind, where it is told, else the one before.
+fn told_or(told: Total, site: SiteNo, field: FieldNo, kind: Kind, before: u64) -> u64
+    ensures { result ≡ told_more site.0 field.0 kind before told }
+{
+    if told.site.0 == site.0 && told.field.0 == field.0 && told.kind == kind {
+        told.total
+    } else {
+        before
+    }
+}
+
+/// The total given or accepted, where one may be told anew.
+fn total_with(
+    ledger: &Ledger,
+    given: bool,
+    anew: Option<Total>,
+    site: SiteNo,
+    field: FieldNo,
+    kind: Kind,
+) -> u64
+    requires place { IsPlace ledger.now site.0 field.0 }
+    ensures value { result ≡ side_with anew given ledger.now site.0 field.0 kind }
+{
+    let before = total_on_side(ledger, given, site, field, kind);
+    match anew {
+        Some(told) => told_or(told, site, field, kind, before),
+        None => before,
+    }
+}
+
 /// Adds the totals of one site, field by field.
 fn push_site(
     totals: &mut Vec<Total>,
     ledger: &Ledger,
     given: bool,
+    anew: Option<Total>,
     site: SiteNo,
     fields: u16,
 ) -> Result<(), AllocError>
     requires places { (f : ℕ) → f < fields → IsPlace ledger.now site.0 f }
-    ensures { OnOk result (totals.new.items ≡ totals.old.items ++ totals_of_site (side given ledger.now) site.0 fields) }
+    ensures { OnOk result (totals.new.items ≡ totals.old.items ++ totals_of_site (side_with anew given ledger.now) site.0 fields) }
 {
     for number in 0..fields {
         let field = FieldNo(number);
-        let lower = total_on_side(ledger, given, site, field, Kind::Lower);
+        let lower = total_with(ledger, given, anew, site, field, Kind::Lower);
         push_total(totals, site, field, Kind::Lower, lower)?;
-        let raise = total_on_side(ledger, given, site, field, Kind::Raise);
+        let raise = total_with(ledger, given, anew, site, field, Kind::Raise);
         push_total(totals, site, field, Kind::Raise, raise)?;
     }
     Ok(())
 }
 
-/// The totals given or accepted, site by site.
-fn totals_on_side(
+/// The totals given or accepted, site by site, where one may be told anew.
+pub(crate) fn totals_on_side(
     alloc: Global,
     schema: &Schema,
     ledger: &Ledger,
     given: bool,
+    anew: Option<Total>,
 ) -> Result<Vec<Total>, AllocError>
     requires places { (r f : ℕ) → r < schema.now.sites → r ≢ ledger.now.site → f < length schema.now.fields → IsPlace ledger.now r f }
-    ensures { IfOk result (λ totals. totals.items ≡ totals_of (side given ledger.now) ledger.now.site (length schema.now.fields) schema.now.sites) }
+    ensures { IfOk result (λ totals. totals.items ≡ totals_of (side_with anew given ledger.now) ledger.now.site (length schema.now.fields) schema.now.sites) }
 {
     let mut totals = Vec::new(alloc);
     let own = ledger.site();
     for number in 0..schema.sites() {
         if number != own.0 {
-            push_site(&mut totals, ledger, given, SiteNo(number), schema.fields())?;
+            let site = SiteNo(number);
+            push_site(&mut totals, ledger, given, anew, site, schema.fields())?;
         }
     }
     Ok(totals)
@@ -118,17 +149,34 @@ fn push_cut(totals: &mut Vec<Cut>, field: FieldNo, kind: Kind, total: u64) -> Re
     Ok(())
 }
 
-/// What was given up for good, field by field.
-fn given_up(alloc: Global, rights: &Rights, fields: u16) -> Result<Vec<Cut>, AllocError>
+/// What was given up for good of a kind on a field, where one total may be told anew.
+fn cut_with(rights: &Rights, anew: Option<Cut>, field: FieldNo, kind: Kind) -> u64
+    requires in_schema { field.0 < length rights.now }
+    ensures value { result ≡ cut_with anew rights.now field.0 kind }
+{
+    let before = rights.tightened(field, kind);
+    match anew {
+        Some(told) => cut_or(&told, field, kind, before),
+        None => before,
+    }
+}
+
+/// What was given up for good, field by field, where one total may be told anew.
+pub(crate) fn given_up(
+    alloc: Global,
+    rights: &Rights,
+    anew: Option<Cut>,
+    fields: u16,
+) -> Result<Vec<Cut>, AllocError>
     requires count { fields ≤ length rights.now }
-    ensures { IfOk result (λ told. told.items ≡ cuts_of (cut_at rights.now) fields) }
+    ensures { IfOk result (λ told. told.items ≡ cuts_of (cut_with anew rights.now) fields) }
 {
     let mut told = Vec::new(alloc);
     for number in 0..fields {
         let field = FieldNo(number);
-        let lower = rights.tightened(field, Kind::Lower);
+        let lower = cut_with(rights, anew, field, Kind::Lower);
         push_cut(&mut told, field, Kind::Lower, lower)?;
-        let raise = rights.tightened(field, Kind::Raise);
+        let raise = cut_with(rights, anew, field, Kind::Raise);
         push_cut(&mut told, field, Kind::Raise, raise)?;
     }
     Ok(told)
@@ -145,35 +193,10 @@ pub fn summary(alloc: Global, schema: &Schema, standing: &Standing) -> Result<Su
     ensures told { IfOk result (λ summary. (s : ℕ) (rs : List Record) → Stands schema.now s rs standing.now → summary ≡ summary_of schema.now s rs) }
 {
     let rights = own_rights(alloc, &standing.rights, schema.fields())?;
-    let gifts = totals_on_side(alloc, schema, &standing.ledger, true)?;
-    let accepts = totals_on_side(alloc, schema, &standing.ledger, false)?;
-    let tightenings = given_up(alloc, &standing.rights, schema.fields())?;
+    let gifts = totals_on_side(alloc, schema, &standing.ledger, true, None)?;
+    let accepts = totals_on_side(alloc, schema, &standing.ledger, false, None)?;
+    let tightenings = given_up(alloc, &standing.rights, None, schema.fields())?;
     Ok(Summary::new(standing.epoch, rights, gifts, accepts, tightenings))
-}
-
-/// The summary that tells what stands after one record more, which may stand behind those that the
-/// standing is for. The standing stays as it is, rights that are held included: so the summary that is
-/// appended behind a record in one piece is there before either is. The error is want of memory. Costs
-/// two passes over the rights and the ledger, and memory for two summaries and a standing.
-///
-/// Source: this project.
-pub fn summary_after(
-    alloc: Global,
-    schema: &Schema,
-    standing: &Standing,
-    next: &Record,
-) -> Result<Summary, AllocError>
-    requires in_range { IsRecord next.now }
-    requires plain { is_summary next.now ≡ false }
-    requires may { (rs : List Record) × MayStandNext schema.now standing.now rs next.now }
-    ensures after { IfOk result (λ summary. (rs : List Record) → MayStandNext schema.now standing.now rs next.now → summary ≡ summary_of schema.now standing.now.ledger.site (rs ++ next.now ∷ [])) }
-{
-    let _sites = schema.sites();
-    let now = summary(alloc, schema, standing)?;
-    let mut after = Standing::of_summary(alloc, schema, standing.ledger.site(), &now)?;
-    let took = after.take_in(schema, next);
-    prove!(took);
-    summary(alloc, schema, &after)
 }
 
 /// Whether two lists of rights are the same.

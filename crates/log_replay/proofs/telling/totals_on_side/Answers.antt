@@ -1,12 +1,12 @@
 use Rattle.std.proofs.Common.{◌≡◌, ◌∙◌, ap, sym, ◌++◌, ℕ, length, arith}
 use Rattle.kept_records.specs.Summary.{totals_of, totals_of_site}
-use Rattle.log_replay.specs.Telling.{side}
+use Rattle.log_replay.specs.Telling.{side_with}
 use Rattle.log_replay.proofs.Told.{sites_none, sites_more, sites_same}
 use Rattle.log_replay.proofs.telling.totals_on_side.Goals as goal
 use Rattle.log_replay.proofs.telling.totals_on_side.Goals.{then-number-own+in_ok-push_site, else-number-own}
 
 pub loop-number-init : goal.loop-number-init
-loop-number-init c = c.new-totals.ensures.items ∙ sym (sites_none (side c.args.given c.args.ledger.now) c.args.ledger.now.site (length c.args.schema.now.fields))
+loop-number-init c = c.new-totals.ensures.items ∙ sym (sites_none (side_with c.args.anew c.args.given c.args.ledger.now) c.args.ledger.now.site (length c.args.schema.now.fields))
 
 pub push_site-requires : goal.push_site-requires
 push_site-requires c =
@@ -19,7 +19,7 @@ push_site-requires c =
 
 pub loop-number-preserved : goal.loop-number-preserved
 loop-number-preserved c =
-    let F = side c.args.given c.args.ledger.now in
+    let F = side_with c.args.anew c.args.given c.args.ledger.now in
     let s = c.args.ledger.now.site in
     let m = length c.args.schema.now.fields in
     let n = c.loop-number.number in
