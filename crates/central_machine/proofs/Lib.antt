@@ -4,7 +4,6 @@ pub mod Small
 pub mod Given
 pub mod Row
 pub mod Central_rules
-pub mod Lists
 pub mod Rows
 pub mod Puts
 pub mod Ending

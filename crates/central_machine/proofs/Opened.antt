@@ -15,36 +15,14 @@ use Rattle.field_bounds.proofs.Stops.{closed_by_stop, stop_closes_all}
 use Rattle.central_machine.specs.declared.journal.OpenTransaction.{OpenTransaction}
 use Rattle.central_machine.specs.Open.{txns_of, has_row, escrows_at, IsOpened, IsAdded, IsClosed}
 use Rattle.central_machine.specs.Running.{taken}
-use Rattle.central_machine.proofs.Lists.{reverse-cons, list_any-reverse, sum_by-reverse, filter-reverse, list_any-map, filter-agree, filter-and}
+use Rattle.field_bounds.proofs.Opening.{any_open}
+use Rattle.field_bounds.proofs.Lists.{reverse-cons, list_any-reverse, sum_by-reverse, filter-reverse, list_any-map, filter-agree, filter-and}
 use Rattle.central_machine.proofs.Rows.{none_at}
 
 -- the rows are those of the open transactions
 pub record AreOpen (es : List Effect) (rows : List OpenTransaction) : Type 0 where
   pub txns : txns_of rows ≡ reverse (open_txns es)
   pub escrows : (t : TxnId) → is_begun t es ≡ true → is_open t es ≡ true → escrows_at t rows ≡ reverse (escrows_of t es)
-
-any_open : (t : TxnId) (es all : List Effect) → list_any (λ u. same_txn u t) (filter (λ id. is_open id all) (begun es)) ≡ (is_begun t es && is_open t all)
-any_open t [] all = refl
-any_open t (Begins txn ∷ es) all =
-    elim (cases_Bool (is_open txn all)) [
-      | inl opened ↦ rw opened (ap (λ b. same_txn txn t || b) (any_open t es all) ∙ joined (same_txn txn t) (is_begun t es) (is_open t all) (λ same. ap (λ (x : TxnId). is_open x all) (sym (same_txn-true txn t same)) ∙ opened))
-      | inr closed ↦ rw closed (any_open t es all ∙ passed (same_txn txn t) (is_begun t es) (is_open t all) (λ same. ap (λ (x : TxnId). is_open x all) (sym (same_txn-true txn t same)) ∙ closed))
-    ]
-  where
-    joined : (s b o : Bool) → (s ≡ true → o ≡ true) → (s || (b && o)) ≡ ((s || b) && o)
-    joined true b o h = sym (h refl)
-    joined false b o h = refl
-
-    passed : (s b o : Bool) → (s ≡ true → o ≡ false) → (b && o) ≡ ((s || b) && o)
-    passed true true o h = refl
-    passed true false o h = sym (h refl)
-    passed false b o h = refl
-any_open t (Grants txn field change ∷ es) all = any_open t es all
-any_open t (Commits txn ∷ es) all = any_open t es all
-any_open t (Aborts txn ∷ es) all = any_open t es all
-any_open t (Gives to field kind amount ∷ es) all = any_open t es all
-any_open t (Accepts from field kind total ∷ es) all = any_open t es all
-any_open t (Stops ∷ es) all = any_open t es all
 
 module _ (es : List Effect) (rows : List OpenTransaction) (are : AreOpen es rows) where
   -- a transaction has a row exactly where it is open

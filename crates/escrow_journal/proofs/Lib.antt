@@ -1,3 +1,2 @@
 pub mod JournalLaws
-pub mod Lists
 mod Views

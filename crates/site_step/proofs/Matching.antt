@@ -23,7 +23,8 @@ use Rattle.site_rights.proofs.RightsLaws.{length-by_escrow, length-by_escrows, h
 use Rattle.escrow_journal.specs.Journal.{Row, stands, escrows_at, with_escrow, added, without}
 use Rattle.site_step.specs.State.{row_of, journal_of, SetsAside}
 use Rattle.site_step.proofs.Reading.{Matches}
-use Rattle.escrow_journal.proofs.Lists.{reverse-cons, list_any-reverse, sum_by-reverse, filter-reverse, All-reverse, list_any-map, map-agree, map-map, filter-agree, filter-and, filter-map}
+use Rattle.field_bounds.proofs.Opening.{any_open}
+use Rattle.field_bounds.proofs.Lists.{reverse-cons, list_any-reverse, sum_by-reverse, filter-reverse, All-reverse, list_any-map, map-agree, map-map, filter-agree, filter-and, filter-map}
 
 -- ---- what is read of the journal
 
@@ -33,29 +34,6 @@ length-journal_of es = length-map (reverse (open_txns es)) (row_of es) ∙ lengt
 found_here : (a o b : Bool) → (a ≡ true → o ≡ b) → (a && b) ≡ (a && o)
 found_here true o b h = sym (h refl)
 found_here false o b h = refl
-
-any_open : (t : TxnId) (es all : List Effect) → list_any (λ u. same_txn u t) (filter (λ id. is_open id all) (begun es)) ≡ (is_begun t es && is_open t all)
-any_open t [] all = refl
-any_open t (Begins txn ∷ es) all =
-    elim (cases_Bool (is_open txn all)) [
-      | inl opened ↦ rw opened (ap (λ b. same_txn txn t || b) (any_open t es all) ∙ joined (same_txn txn t) (is_begun t es) (is_open t all) (λ same. ap (λ (x : TxnId). is_open x all) (sym (same_txn-true txn t same)) ∙ opened))
-      | inr closed ↦ rw closed (any_open t es all ∙ passed (same_txn txn t) (is_begun t es) (is_open t all) (λ same. ap (λ (x : TxnId). is_open x all) (sym (same_txn-true txn t same)) ∙ closed))
-    ]
-  where
-    joined : (s b o : Bool) → (s ≡ true → o ≡ true) → (s || (b && o)) ≡ ((s || b) && o)
-    joined true b o h = sym (h refl)
-    joined false b o h = refl
-
-    passed : (s b o : Bool) → (s ≡ true → o ≡ false) → (b && o) ≡ ((s || b) && o)
-    passed true true o h = refl
-    passed true false o h = sym (h refl)
-    passed false b o h = refl
-any_open t (Grants txn field change ∷ es) all = any_open t es all
-any_open t (Commits txn ∷ es) all = any_open t es all
-any_open t (Aborts txn ∷ es) all = any_open t es all
-any_open t (Gives to field kind amount ∷ es) all = any_open t es all
-any_open t (Accepts from field kind total ∷ es) all = any_open t es all
-any_open t (Stops ∷ es) all = any_open t es all
 
 pub stands-journal_of : (t : TxnId) (es : List Effect) → stands t (journal_of es) ≡ (is_begun t es && is_open t es)
 stands-journal_of t es =
