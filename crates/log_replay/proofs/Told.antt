@@ -1,10 +1,12 @@
 -- The summary of a standing is that of the records that it is for.
-use Rattle.std.proofs.Common.{◌≡◌, ◌≢◌, ℕ, zero, suc, ◌+◌, ◌<◌, ◌==◌, Bool, true, false, cond, List, [], ◌∷◌, ◌++◌, length, take, get_or, append_assoc, refl, sym, ◌∙◌, ap, arith}
+use Rattle.std.proofs.Common.{◌≡◌, ◌≢◌, ℕ, zero, suc, ◌+◌, ◌<◌, ◌==◌, ◌&&◌, Bool, true, false, cond, List, [], ◌∷◌, ◌++◌, length, take, get_or, append_assoc, refl, sym, ◌∙◌, ap, arith}
+use Rattle.std.specs.Prelude.{Option, Some, None}
 use Rattle.std.proofs.lemmas.Bool.{eqb-false, eq-eqb, ne_eqb}
 use Rattle.std.proofs.lemmas.List.{append-nil}
 use Rattle.std.proofs.lemmas.List.Sums.{fold_more}
 use Rattle.field_bounds.specs.declared.kind.Kind.{Kind}
 use Rattle.field_bounds.specs.declared.kind.Kind.TheVariants.{Lower, Raise}
+use Rattle.field_bounds.specs.Kind.{same_kind}
 use Rattle.field_bounds.specs.Schema.{SchemaValue}
 use Rattle.kept_records.specs.declared.record.Record.{Record}
 use Rattle.kept_records.specs.declared.total.Total.{Total}
@@ -12,9 +14,10 @@ use Rattle.kept_records.specs.declared.total.Cut.{Cut}
 use Rattle.kept_records.specs.Summary.{SummaryValue, same_rights, same_totals, same_cuts, one_total, one_cut, totals_of_site, totals_of, cuts_of, rights_of, cut_told_more, cut_told}
 use Rattle.kept_records.specs.Stands.{greatest, own_in, given_in, accepted_in, cut_in, summary_of}
 use Rattle.site_rights.specs.Rights.{own_at, cut_at}
+use Rattle.gift_ledger.specs.Ledger.{LedgerValue}
 use Rattle.log_replay.specs.declared.standing.Standing.{Standing}
 use Rattle.log_replay.specs.Standing.{IsOther, Stands}
-use Rattle.log_replay.specs.Telling.{side, summary_now}
+use Rattle.log_replay.specs.Telling.{side, side_with, is_of_site, summary_now}
 
 one_same : (F G : ℕ → ℕ → Kind → ℕ) (r f : ℕ) (k : Kind) → F r f k ≡ G r f k → one_total F r f k ≡ one_total G r f k
 one_same F G r f k h = ap (λ (n : ℕ). cond (n == 0) [] (record { site = record { 0 = r }; field = record { 0 = f }; kind = k; total = n } ∷ [])) h
@@ -27,6 +30,19 @@ site_same F G r (suc m) h =
     let high = one_same F G r m Raise (h m Raise (omega arith)) in
     let rest = site_same F G r m (λ f k below. h f k (omega (arith, below))) in
     rw (rest, low, high) refl
+
+-- a total told anew changes none of another site
+of_other : (anew : Option Total) (given : Bool) (ledger : LedgerValue) (r f : ℕ) (k : Kind) → is_of_site anew r ≡ false
+    → side given ledger r f k ≡ side_with anew given ledger r f k
+of_other None given ledger r f k off = refl
+of_other (Some t) given ledger r f k off =
+    ap (λ (c : Bool). cond (c && (t.field.0 == f) && same_kind t.kind k) t.total (side given ledger r f k)) (sym off)
+
+pub other_site : (anew : Option Total) (given : Bool) (ledger : LedgerValue) (r m : ℕ) (start : List Total) → is_of_site anew r ≡ false
+    → start ++ totals_of_site (side given ledger) r m ≡ start ++ totals_of_site (side_with anew given ledger) r m
+other_site anew given ledger r m start off =
+    ap (λ (l : List Total). start ++ l)
+    (site_same (side given ledger) (side_with anew given ledger) r m (λ f k below. of_other anew given ledger r f k off))
 
 pub totals_same : (F G : ℕ → ℕ → Kind → ℕ) (s m n : ℕ) → ((r f : ℕ) (k : Kind) → r < n → r ≢ s → f < m → F r f k ≡ G r f k) → totals_of F s m n ≡ totals_of G s m n
 unfolding totals_of

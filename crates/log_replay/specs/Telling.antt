@@ -28,6 +28,11 @@ abbrev pub side_with : Option Total → Bool → LedgerValue → ℕ → ℕ →
 side_with None given ledger r f k = side given ledger r f k
 side_with (Some t) given ledger r f k = told_more r f k (side given ledger r f k) t
 
+-- A total is told anew, and it is one of this site.
+abbrev pub is_of_site : Option Total → ℕ → Bool
+is_of_site None r = false
+is_of_site (Some t) r = t.site.0 == r
+
 -- The totals given up, where one of them is told anew.
 abbrev pub cut_with : Option Cut → List FieldRights → ℕ → Kind → ℕ
 cut_with None rows f k = cut_at rows f k

@@ -8,7 +8,7 @@ ghost use Rattle.field_bounds.specs.Kind.{same_kind};
 ghost use Rattle.site_rights.specs.Rights.{own_at};
 ghost use Rattle.gift_ledger.specs.Ledger.{IsPlace};
 ghost use Rattle.log_replay.specs.Standing.{HasPlaces, Stands};
-ghost use Rattle.log_replay.specs.Telling.{record_of, side, side_with, cut_with, told_if, cut_if, summary_now};
+ghost use Rattle.log_replay.specs.Telling.{record_of, side, side_with, is_of_site, cut_with, told_if, cut_if, summary_now};
 
 use crate::standing::{Standing, cut_or};
 use field_bounds::{FieldNo, Kind, Schema, SiteNo};
@@ -84,6 +84,27 @@ fn push_site(
     totals: &mut Vec<Total>,
     ledger: &Ledger,
     given: bool,
+    site: SiteNo,
+    fields: u16,
+) -> Result<(), AllocError>
+    requires places { (f : ℕ) → f < fields → IsPlace ledger.now site.0 f }
+    ensures { OnOk result (totals.new.items ≡ totals.old.items ++ totals_of_site (side given ledger.now) site.0 fields) }
+{
+    for number in 0..fields {
+        let field = FieldNo(number);
+        let lower = total_on_side(ledger, given, site, field, Kind::Lower);
+        push_total(totals, site, field, Kind::Lower, lower)?;
+        let raise = total_on_side(ledger, given, site, field, Kind::Raise);
+        push_total(totals, site, field, Kind::Raise, raise)?;
+    }
+    Ok(())
+}
+
+/// The same, where one of them may be told anew.
+fn push_site_with(
+    totals: &mut Vec<Total>,
+    ledger: &Ledger,
+    given: bool,
     anew: Option<Total>,
     site: SiteNo,
     fields: u16,
@@ -99,6 +120,35 @@ fn push_site(
         push_total(totals, site, field, Kind::Raise, raise)?;
     }
     Ok(())
+}
+
+/// Whether a total is told anew, and is one of this site.
+fn is_of_site(anew: Option<Total>, site: SiteNo) -> bool
+    ensures { result ≡ is_of_site anew site.0 }
+{
+    match anew {
+        Some(told) => told.site.0 == site.0,
+        None => false,
+    }
+}
+
+/// Adds the totals of one site: the total that is told anew is looked for where it is one of them.
+fn push_any_site(
+    totals: &mut Vec<Total>,
+    ledger: &Ledger,
+    given: bool,
+    anew: Option<Total>,
+    site: SiteNo,
+    fields: u16,
+) -> Result<(), AllocError>
+    requires places { (f : ℕ) → f < fields → IsPlace ledger.now site.0 f }
+    ensures { OnOk result (totals.new.items ≡ totals.old.items ++ totals_of_site (side_with anew given ledger.now) site.0 fields) }
+{
+    if is_of_site(anew, site) {
+        push_site_with(totals, ledger, given, anew, site, fields)
+    } else {
+        push_site(totals, ledger, given, site, fields)
+    }
 }
 
 /// The totals given or accepted, site by site, where one may be told anew.
@@ -117,7 +167,7 @@ pub(crate) fn totals_on_side(
     for number in 0..schema.sites() {
         if number != own.0 {
             let site = SiteNo(number);
-            push_site(&mut totals, ledger, given, anew, site, schema.fields())?;
+            push_any_site(&mut totals, ledger, given, anew, site, schema.fields())?;
         }
     }
     Ok(totals)

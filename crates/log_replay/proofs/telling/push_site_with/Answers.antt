@@ -1,0 +1,22 @@
+use Rattle.std.proofs.Common.{◌≡◌, ◌∙◌, ap, ◌++◌, ℕ}
+use Rattle.field_bounds.specs.declared.kind.Kind.TheVariants.{Lower, Raise}
+use Rattle.field_bounds.specs.declared.id.FieldNo.{FieldNo}
+use Rattle.kept_records.specs.Summary.{one_total}
+use Rattle.log_replay.specs.Telling.{side_with, told_if}
+use Rattle.log_replay.proofs.Told.{site_none, site_more}
+use Rattle.log_replay.proofs.telling.push_site_with.Goals as goal
+
+pub loop-number-init : goal.loop-number-init
+loop-number-init c = site_none (side_with c.args.anew c.args.given c.args.ledger.now) c.args.site.0 c.args.totals.now.items
+
+pub loop-number-preserved : goal.loop-number-preserved
+loop-number-preserved c =
+    let F = side_with c.args.anew c.args.given c.args.ledger.now in
+    let r = c.args.site.0 in
+    let m = c.loop-number.number in
+    let field : FieldNo = record { 0 = m } in
+    let low : c.push_total.new.totals.items ≡ c.loop-number.totals.items ++ one_total F r m Lower =
+    c.in_ok-push_total.ensures ∙ ap (λ (n : ℕ). c.loop-number.totals.items ++ told_if c.args.site field Lower n) c.total_with-lower.ensures.value in
+    let high : c.push_total-in-loop-number.new.totals.items ≡ c.push_total.new.totals.items ++ one_total F r m Raise =
+    c.in_ok-push_total-2.ensures ∙ ap (λ (n : ℕ). c.push_total.new.totals.items ++ told_if c.args.site field Raise n) c.total_with-raise.ensures.value in
+    site_more F r m c.args.totals.now.items c.loop-number.totals.items c.push_total.new.totals.items c.push_total-in-loop-number.new.totals.items c.loop-number.invariant low high
