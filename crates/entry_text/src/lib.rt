@@ -1,8 +1,8 @@
 //! Commands, replies and entries as text, both ways: each value has one text, and each text is of at
 //! most one value.
 //!
-//! A text is words with one space between them. Commands, replies and entries are readers of words,
-//! one after another, so that a new command or reply is a few lines in each file.
+//! A text is words with one space between them. The first word of a command, a reply or a refusal
+//! says which it is, and the arm of that word reads the words after it.
 //!
 //! Source: this project.
 #![tactic(auto)]
