@@ -11,7 +11,7 @@ use Rattle.field_bounds.specs.declared.entry.Entry.{Entry}
 use Rattle.field_bounds.specs.Schema.{SchemaValue}
 use Rattle.field_bounds.specs.Limits.{IsSchema}
 use Rattle.field_bounds.specs.Parts.{field_at}
-use Rattle.field_bounds.specs.Central.{committed, inf, sup, open_sizes, shares, cuts, floor_in, ceiling_in, in_flight, IsConserved}
+use Rattle.field_bounds.specs.Central.{committed_value, inf, sup, open_sizes, shares, cuts, floor_in, ceiling_in, in_flight, IsConserved}
 use Rattle.field_bounds.proofs.Conserved.{is_conserved}
 use Rattle.central_rules.specs.declared.verdict.Verdict.TheVariants.{Legal}
 use Rattle.central_rules.specs.Verdict.{within_bound, verdict_back}
@@ -32,5 +32,5 @@ module _ (schema : SchemaValue) (good : IsSchema schema) (t : List Entry) (legal
   granted_test f q Lower = same_from_decides _ _ (below_is (floor_in schema t f) (inf schema t f) (shares schema t f Lower + in_flight schema t f Lower) q (law.lowering f)) (le_z_is (floor_in schema t f) (inf schema t f -ℤ pos q))
   granted_test f q Raise = same_from_decides _ _ (above_is (ceiling_in schema t f) (sup schema t f) (shares schema t f Raise + in_flight schema t f Raise) q (law.raising f)) (le_z_is (sup schema t f +ℤ pos q) (ceiling_in schema t f))
 
-  pub committed_at : (f n : ℕ) (F : ℤ) → F ≡ (field_at schema f).floor → n ≡ (shares schema t f Lower + in_flight schema t f Lower) + open_sizes schema t f Lower + cuts schema t f Lower → F +ℤ (pos n -ℤ pos 0) ≡ committed schema t f
+  pub committed_at : (f n : ℕ) (F : ℤ) → F ≡ (field_at schema f).floor → n ≡ (shares schema t f Lower + in_flight schema t f Lower) + open_sizes schema t f Lower + cuts schema t f Lower → F +ℤ (pos n -ℤ pos 0) ≡ committed_value schema t f
   committed_at f n F floor sum = omega (arith, ints, law.lowering f, floor, sum)

@@ -8,11 +8,11 @@ use Rattle.field_bounds.specs.declared.entry.Reply.{Reply}
 use Rattle.field_bounds.specs.declared.entry.Reply.TheVariants.{Restarted, Unsure, StillDown, Refused}
 use Rattle.field_bounds.specs.declared.entry.Refusal.{Refusal}
 use Rattle.field_bounds.specs.Schema.{SchemaValue}
-use Rattle.field_bounds.specs.Effects.{Base, with_effect, effect_of, after, effects, kept_before, says_kept}
+use Rattle.field_bounds.specs.Effects.{Base, with_effect, effect_of, after, effects, doubt_kept_before, says_doubt_kept}
 use Rattle.field_bounds.specs.Owed.{IsRun, Fits, RestartFits, AnswerFits, place, is_up, up_after, first, refusals}
 use Rattle.field_bounds.proofs.Refused.{match_cases, is_restart, up_there}
 use Rattle.field_bounds.proofs.Doubt.{nothing_in_doubt, after_kept, after_refused}
-use Rattle.central_machine.specs.Running.{doubt, doubt_after, settled}
+use Rattle.central_machine.specs.Running.{doubt, doubt_after, settled_effect}
 
 nothing_step : (base : Base) (o : List Entry) (d : Option Effect) (r : Reply) → (is_up base o ≡ true → doubt base o ≡ None) → up_after (is_up base o) r ≡ true → doubt_after d r (doubt base o) ≡ None
 nothing_step base o d (Restarted epoch found) ih up = refl
@@ -33,11 +33,11 @@ dropped (Some e) es = refl
 module _ (schema : SchemaValue) (s : ℕ) (base : Base) (o : List Entry) (ih : effects base true o ≡ with_effect true (doubt base o) (effects base false o)) where
   abbrev Apart : Command → Reply → Type 0
   Apart c r =
-      after base true c r (effects base (kept_before true r) o)
-      ≡ with_effect true (doubt_after (effect_of base (effects base false o) c r) r (doubt base o)) (after base false c r (effects base (kept_before false r) o))
+      after base true c r (effects base (doubt_kept_before true r) o)
+      ≡ with_effect true (doubt_after (effect_of base (effects base false o) c r) r (doubt base o)) (after base false c r (effects base (doubt_kept_before false r) o))
 
   when_up : (c : Command) (r : Reply) → is_up base o ≡ true → Apart c r
-  when_up c (Restarted epoch found) up = after_kept base true c (Restarted epoch found) (effects base (says_kept found) o) refl
+  when_up c (Restarted epoch found) up = after_kept base true c (Restarted epoch found) (effects base (says_doubt_kept found) o) refl
   when_up c Unsure up =
       ap (λ (es : List Effect). after base true c Unsure es) (nothing_in_doubt base true o up)
       ∙ ap (λ (es : List Effect). with_effect true (effect_of base (effects base false o) c Unsure) es) (sym (dropped (effect_of base (effects base false o) c Unsure) (effects base false o)))
@@ -73,6 +73,6 @@ doubt_apart schema s base (e ∷ o) run = apart schema s base o (doubt_apart sch
 
 -- so a restart makes at most two effects: what was in doubt, where it was kept, and the stop
 pub restart_settles : (schema : SchemaValue) (s : ℕ) (base : Base) (o : List Entry) → IsRun schema s base o → (kept : Bool)
-    → effects base kept o ≡ with_effect true (settled kept (doubt base o)) (effects base false o)
+    → effects base kept o ≡ with_effect true (settled_effect kept (doubt base o)) (effects base false o)
 restart_settles schema s base o run true = doubt_apart schema s base o run
 restart_settles schema s base o run false = refl

@@ -12,14 +12,14 @@ use Rattle.field_bounds.specs.declared.effect.Effect.{Effect}
 use Rattle.field_bounds.specs.declared.effect.Effect.TheVariants.{Begins, Grants, Commits, Aborts, Gives, Accepts, Stops}
 use Rattle.field_bounds.specs.Kind.{same_kind, kind_of}
 use Rattle.field_bounds.specs.Schema.{SchemaValue}
-use Rattle.field_bounds.specs.Effects.{Base, is_begun, is_open, takes, given, accepted, cut, share, held}
+use Rattle.field_bounds.specs.Effects.{Base, is_begun, is_open, takes, total_given, total_accepted, cut, share, held_rights}
 use Rattle.field_bounds.proofs.Lawful.{IsLawful}
 use Rattle.field_bounds.proofs.Steps.{of_txn, share_grant, held_grant, share_commit, held_commit, share_abort, held_abort, share_accept}
 use Rattle.field_bounds.proofs.Stops.{share_stop, held_stop}
 use Rattle.central_machine.specs.declared.numbers.Numbers.{Numbers}
-use Rattle.central_machine.specs.Amounts.{amount, has_place, capped}
+use Rattle.central_machine.specs.Amounts.{amount, has_slot, capped_sum}
 use Rattle.central_machine.specs.Open.{escrows_at}
-use Rattle.central_machine.specs.Running.{Describes, IsSmall, KeepsLedgers, Opens, SetsAside, Ends, StopsAll, taken, turned, Takes}
+use Rattle.central_machine.specs.Running.{Describes, IsSmall, KeepsLedgers, Opens, SetsAside, Ends, StopsAll, sizes_taken, kind_after, Takes}
 use Rattle.central_machine.proofs.Puts.{less_here, more_here, fitting, describes_give, describes_cut, describes_accept}
 use Rattle.central_machine.proofs.Opened.{AreOpen, open_begin, open_grant, open_commit, open_abort, open_stop, taken_at}
 
@@ -40,11 +40,11 @@ module _ (schema : SchemaValue) (base : Base) (es : List Effect) (n m : Numbers)
   -- the free and the held rights and the rows may have changed, and the ledgers have not
   kept : (e : Effect) → KeepsLedgers n m
       → ((f : ℕ) (k : Kind) → cut base f k (e ∷ es) ≡ cut base f k es)
-      → ((r f : ℕ) (k : Kind) → given base r f k (e ∷ es) ≡ given base r f k es)
-      → ((r f : ℕ) (k : Kind) → accepted base r f k (e ∷ es) ≡ accepted base r f k es)
-      → ((g : ℕ) → has_place m.free g ≡ has_place n.free g) → ((g : ℕ) → has_place m.held g ≡ has_place n.held g)
+      → ((r f : ℕ) (k : Kind) → total_given base r f k (e ∷ es) ≡ total_given base r f k es)
+      → ((r f : ℕ) (k : Kind) → total_accepted base r f k (e ∷ es) ≡ total_accepted base r f k es)
+      → ((g : ℕ) → has_slot m.free g ≡ has_slot n.free g) → ((g : ℕ) → has_slot m.held g ≡ has_slot n.held g)
       → ((f : ℕ) (k : Kind) → f < length schema.fields → amount m.free f k ≡ share base f k (e ∷ es))
-      → ((f : ℕ) (k : Kind) → f < length schema.fields → amount m.held f k ≡ held f k (e ∷ es))
+      → ((f : ℕ) (k : Kind) → f < length schema.fields → amount m.held f k ≡ held_rights f k (e ∷ es))
       → AreOpen (e ∷ es) m.journal.rows.items → Describes schema base (e ∷ es) m
   kept e rest cuts gives accepts free_places held_places free_is held_is open_rows = record {
     stride = rest.stride ∙ is.stride;
@@ -64,7 +64,7 @@ module _ (schema : SchemaValue) (base : Base) (es : List Effect) (n m : Numbers)
 
   describes_begin : (txn : TxnId) → IsLawful schema base (Begins txn ∷ es) → Opens n m txn → Describes schema base (Begins txn ∷ es) m
   describes_begin txn lawful took =
-      kept (Begins txn) took.rest (λ f k. refl) (λ r f k. refl) (λ r f k. refl) (λ g. ap (λ a. has_place a g) took.free) (λ g. ap (λ a. has_place a g) took.held)
+      kept (Begins txn) took.rest (λ f k. refl) (λ r f k. refl) (λ r f k. refl) (λ g. ap (λ a. has_slot a g) took.free) (λ g. ap (λ a. has_slot a g) took.held)
       (λ f k l. rw (took.free) (is.free f k l)) (λ f k l. rw (took.held) (is.held f k l))
       (open_begin es n.journal.rows.items rows schema base txn m.journal.rows.items lawful took.open_rows)
 
@@ -91,15 +91,15 @@ module _ (schema : SchemaValue) (base : Base) (es : List Effect) (n m : Numbers)
 
   module _ (before : IsSmall base es) where
     end_free : (f : ℕ) (k : Kind) (added after : ℕ) → f < length schema.fields → after ≤ 18446744073709551615 → after ≡ share base f k es + added
-        → amount m.free f k ≡ capped (amount n.free f k + added) → amount m.free f k ≡ after
+        → amount m.free f k ≡ capped_sum (amount n.free f k + added) → amount m.free f k ≡ after
     end_free f k added after l small sum more = omega (arith, is.free f k l, small, sum, more)
 
     describes_end : (e : Effect) (txn : TxnId) (committed : Bool) → is_begun txn es ≡ true → is_open txn es ≡ true → Ends n m txn committed
         → ((f : ℕ) (k : Kind) → cut base f k (e ∷ es) ≡ cut base f k es)
-        → ((r f : ℕ) (k : Kind) → given base r f k (e ∷ es) ≡ given base r f k es)
-        → ((r f : ℕ) (k : Kind) → accepted base r f k (e ∷ es) ≡ accepted base r f k es)
-        → ((f : ℕ) (k : Kind) → share base f k (e ∷ es) ≡ share base f k es + of_txn txn f (turned committed k) es)
-        → ((f : ℕ) (k : Kind) → held f k (e ∷ es) + of_txn txn f k es ≡ held f k es)
+        → ((r f : ℕ) (k : Kind) → total_given base r f k (e ∷ es) ≡ total_given base r f k es)
+        → ((r f : ℕ) (k : Kind) → total_accepted base r f k (e ∷ es) ≡ total_accepted base r f k es)
+        → ((f : ℕ) (k : Kind) → share base f k (e ∷ es) ≡ share base f k es + of_txn txn f (kind_after committed k) es)
+        → ((f : ℕ) (k : Kind) → held_rights f k (e ∷ es) + of_txn txn f k es ≡ held_rights f k es)
         → IsSmall base (e ∷ es) → AreOpen (e ∷ es) m.journal.rows.items → Describes schema base (e ∷ es) m
     describes_end e txn committed begun opened took cuts gives accepts share_is held_is small open_rows =
         let escrows = taken_at es n.journal.rows.items rows txn begun opened in
@@ -107,7 +107,7 @@ module _ (schema : SchemaValue) (base : Base) (es : List Effect) (n m : Numbers)
         (λ f k l.
         let fits = before.free f k in
         let more = took.free f k (is.free_in f l) (omega (arith, is.free f k l, fits)) in
-        end_free f k (taken f (turned committed k) (escrows_at txn n.journal.rows.items)) (share base f k (e ∷ es)) l (small.free f k) (omega (arith, share_is f k, escrows f (turned committed k))) more)
+        end_free f k (sizes_taken f (kind_after committed k) (escrows_at txn n.journal.rows.items)) (share base f k (e ∷ es)) l (small.free f k) (omega (arith, share_is f k, escrows f (kind_after committed k))) more)
         (λ f k l. omega (arith, took.held f k (is.held_in f l), is.held f k l, escrows f k, held_is f k))
         open_rows
 
@@ -133,18 +133,18 @@ module _ (schema : SchemaValue) (base : Base) (es : List Effect) (n m : Numbers)
         (λ f k l. took.held f k (omega (arith, l, is.stride)) (is.held_in f l) ∙ sym (held_stop schema base es lawful f k))
         (open_stop es n.journal.rows.items rows m.journal.rows.items took.open_rows)
 
-gives_own : (base : Base) (to : SiteNo) (field : FieldNo) (kind : Kind) (size : ℕ) (es : List Effect) → given base to.0 field.0 kind (Gives (Some to) field kind size ∷ es) ≡ given base to.0 field.0 kind es + size
+gives_own : (base : Base) (to : SiteNo) (field : FieldNo) (kind : Kind) (size : ℕ) (es : List Effect) → total_given base to.0 field.0 kind (Gives (Some to) field kind size ∷ es) ≡ total_given base to.0 field.0 kind es + size
 gives_own base to field kind size es = rw (eqb_refl field.0, same_refl kind, eqb_refl to.0) (omega arith)
 
 cuts_own : (base : Base) (field : FieldNo) (kind : Kind) (size : ℕ) (es : List Effect) → cut base field.0 kind (Gives None field kind size ∷ es) ≡ cut base field.0 kind es + size
 cuts_own base field kind size es = rw (eqb_refl field.0, same_refl kind) (omega arith)
 
 accepts_own : (schema : SchemaValue) (base : Base) (from : SiteNo) (field : FieldNo) (kind : Kind) (total : ℕ) (es : List Effect) → IsLawful schema base (Accepts from field kind total ∷ es)
-    → share base field.0 kind (Accepts from field kind total ∷ es) ≡ share base field.0 kind es + (total - accepted base from.0 field.0 kind es)
+    → share base field.0 kind (Accepts from field kind total ∷ es) ≡ share base field.0 kind es + (total - total_accepted base from.0 field.0 kind es)
 accepts_own schema base from field kind total es lawful =
     share_accept schema base es lawful.0 field.0 kind from field kind total
     ∙ ap (λ (n : ℕ). share base field.0 kind es + n)
-    (ap (λ (b : Bool). cond (b && same_kind kind kind) (total - accepted base from.0 field.0 kind es) 0) (eqb_refl field.0) ∙ ap (λ (b : Bool). cond b (total - accepted base from.0 field.0 kind es) 0) (same_refl kind))
+    (ap (λ (b : Bool). cond (b && same_kind kind kind) (total - total_accepted base from.0 field.0 kind es) 0) (eqb_refl field.0) ∙ ap (λ (b : Bool). cond b (total - total_accepted base from.0 field.0 kind es) 0) (same_refl kind))
 
 -- every effect keeps the numbers
 pub describes : (schema : SchemaValue) (base : Base) (es : List Effect) (e : Effect) → IsLawful schema base (e ∷ es) → (n m : Numbers) → IsSmall base es → IsSmall base (e ∷ es) → Takes e n m

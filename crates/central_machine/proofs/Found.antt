@@ -14,7 +14,7 @@ use Rattle.central_rules.specs.declared.verdict.Rule.{Rule}
 use Rattle.central_rules.specs.declared.verdict.Rule.TheVariants.{Reply as Owed}
 use Rattle.central_rules.specs.declared.verdict.Verdict.{Verdict}
 use Rattle.central_rules.specs.declared.verdict.Verdict.TheVariants.{Legal, Illegal}
-use Rattle.central_rules.specs.Verdict.{broken, verdict_back, verdict_more, test_of}
+use Rattle.central_rules.specs.Verdict.{broken_rule, verdict_back, verdict_more, test_of}
 use Rattle.central_rules.specs.Replies.{reply_test}
 use Rattle.central_rules.proofs.Fronts.{whole}
 use Rattle.central_rules.proofs.Verdicts.{legal_is_sound}
@@ -22,7 +22,7 @@ use Rattle.central_machine.specs.declared.site_totals.SiteTotals.{SiteTotals}
 use Rattle.central_machine.specs.declared.faults.Part.{Part}
 use Rattle.central_machine.specs.declared.faults.Part.TheVariants.{AtSite}
 use Rattle.central_machine.specs.Running.{IsSite}
-use Rattle.central_machine.specs.Parts.{front_of, own_count, ArePlaces, part_test, IsFault}
+use Rattle.central_machine.specs.Parts.{front_of, own_count, AreNumbers, part_test, IsFault}
 use Rattle.central_machine.proofs.Places.{some_is, front_next, count_at, later}
 use Rattle.central_machine.proofs.Steps.{GoesOn, site_more}
 use Rattle.central_machine.proofs.Totals_more.{own_few}
@@ -34,9 +34,9 @@ legal_split Legal None n h = (refl, refl)
 legal_split Legal (Some rule) n h = cc
 legal_split (Illegal at rule) o n h = cc
 
-pub legal_parts : (schema : SchemaValue) (e : Entry) (t : List Entry) → verdict_back schema (e ∷ t) ≡ Legal → (verdict_back schema t ≡ Legal) × (broken schema t e ≡ None)
+pub legal_parts : (schema : SchemaValue) (e : Entry) (t : List Entry) → verdict_back schema (e ∷ t) ≡ Legal → (verdict_back schema t ≡ Legal) × (broken_rule schema t e ≡ None)
 unfolding verdict_back
-legal_parts schema e t h = legal_split (verdict_back schema t) (broken schema t e) (length t + 1) h
+legal_parts schema e t h = legal_split (verdict_back schema t) (broken_rule schema t e) (length t + 1) h
 
 legal_stays : (schema : SchemaValue) (later t : List Entry) → verdict_back schema (later ++ t) ≡ Legal → verdict_back schema t ≡ Legal
 legal_stays schema [] t h = h
@@ -87,7 +87,7 @@ module _ (schema : SchemaValue) (entries : List Entry) (part : Part) where
 
 -- ---- the part of one site
 
-module _ (schema : SchemaValue) (good : IsSchema schema) (s : ℕ) (entries : List Entry) (few : length entries ≤ 230584300921369395) (places : List ℕ) (are : ArePlaces s entries (length entries) places) where
+module _ (schema : SchemaValue) (good : IsSchema schema) (s : ℕ) (entries : List Entry) (few : length entries ≤ 230584300921369395) (places : List ℕ) (are : AreNumbers s entries (length entries) places) where
   -- an entry of another site passes
   elsewhere : (t : List Entry) (e : Entry) → e.site.0 ≢ s → part_test schema t e (AtSite s) ≡ true
   elsewhere t e apart = ap (λ (b : Bool). cond b (test_of schema t e Owed) true) (ne_eqb e.site.0 s apart)

@@ -11,10 +11,10 @@ use Rattle.field_bounds.specs.Limits.{IsSchema}
 use Rattle.central_rules.specs.declared.verdict.Rule.{Rule}
 use Rattle.central_rules.specs.declared.verdict.Rule.TheVariants.{Site, Grant, Shortage, Interval, Statement as Told, Reply as Owed}
 use Rattle.central_rules.specs.declared.verdict.Verdict.TheVariants.{Legal, Illegal}
-use Rattle.central_rules.specs.Verdict.{broken, first_broken, verdict_back, verdict_of, test_of}
+use Rattle.central_rules.specs.Verdict.{broken_rule, first_broken, verdict_back, verdict_of, test_of}
 use Rattle.central_rules.proofs.Verdicts.{none_broken, stop_here}
 use Rattle.central_machine.specs.declared.faults.Part.TheVariants.{Statements, AtSite}
-use Rattle.central_machine.specs.Parts.{rest_tests, field_broken, name_of, named, front_of, part_test, part_at, IsBefore, IsFault, earlier, earliest, is_at, first_is_at}
+use Rattle.central_machine.specs.Parts.{rest_tests, field_broken, name_of, rule_named, front_of, part_test, part_at, IsBefore, IsFault, earlier, earliest, is_at, first_is_at}
 use Rattle.central_machine.proofs.Rest.{rest_is_all}
 use Rattle.central_machine.proofs.Places.{some_is, front_next}
 use Rattle.central_machine.proofs.Totals_more.{legal_next}
@@ -102,7 +102,7 @@ named_is None told owed false h1 h2 = rw ((h2 refl).0, (h2 refl).1) refl
 
 by_site : (site : Bool) (schema : SchemaValue) (t : List Entry) (e : Entry) (untold : Bool) → test_of schema t e Site ≡ site
     → (site ≡ true → (untold ≡ true → test_of schema t e Told ≡ false) × (untold ≡ false → (test_of schema t e Told ≡ true) × (test_of schema t e Owed ≡ false)))
-    → broken schema t e ≡ Some (named schema t e untold)
+    → broken_rule schema t e ≡ Some (rule_named schema t e untold)
 by_site false schema t e untold is h = rw is refl
 by_site true schema t e untold is h =
     rw is (fields_first (test_of schema t e Grant) (test_of schema t e Shortage) (test_of schema t e Interval) ((test_of schema t e Told, Told) ∷ (test_of schema t e Owed, Owed) ∷ [])
@@ -129,7 +129,7 @@ module _ (schema : SchemaValue) (good : IsSchema schema) (entries : List Entry) 
       (r.0, r.1, subst (λ p. IsFault schema entries p r.0) (part_of_site s) r.2)
 
   -- an entry before all faults breaks no rule
-  unbroken : (i : ℕ) (e : Entry) → slice_get entries i ≡ Some e → IsBefore i (earliest None faults) → verdict_back schema (front_of entries i) ≡ Legal → broken schema (front_of entries i) e ≡ None
+  unbroken : (i : ℕ) (e : Entry) → slice_get entries i ≡ Some e → IsBefore i (earliest None faults) → verdict_back schema (front_of entries i) ≡ Legal → broken_rule schema (front_of entries i) e ≡ None
   unbroken i e at before legal =
       let t = front_of entries i in
       let first = answered 0 (omega arith) in
@@ -217,7 +217,7 @@ module _ (schema : SchemaValue) (good : IsSchema schema) (entries : List Entry) 
           at_part k false h fails = own_test (k - 1) (eqb e.site.0 (k - 1)) refl fails
 
       -- the rule that is named is the first that is broken
-      pub rule_is : (untold : Bool) → untold ≡ first_is_at faults p → broken schema t e ≡ Some (named schema t e untold)
+      pub rule_is : (untold : Bool) → untold ≡ first_is_at faults p → broken_rule schema t e ≡ Some (rule_named schema t e untold)
       rule_is untold is =
           let first_part = answered 0 (omega arith) in
           let says = passed_or_not first_part.0 first_part.2 (λ i less. before_each i None faults (subst (λ (f : Fault). IsBefore i f) (sym first) less) 0 first_part.0 first_part.1) in
@@ -240,10 +240,10 @@ module _ (schema : SchemaValue) (good : IsSchema schema) (entries : List Entry) 
           isnt_told true b h1 h2 = h2
           isnt_told false b h1 h2 = cc
 
-      pub one_found : (untold : Bool) → untold ≡ first_is_at faults p → Illegal (p + 1) (named schema t e untold) ≡ verdict_of schema entries
+      pub one_found : (untold : Bool) → untold ≡ first_is_at faults p → Illegal (p + 1) (rule_named schema t e untold) ≡ verdict_of schema entries
       one_found untold is =
-          stop_here schema entries p e inside legal_front_there (named schema t e untold)
-          (ap (λ (x : Entry). broken schema t x) (get_or_from_slice_get entries p e e at) ∙ rule_is untold is)
+          stop_here schema entries p e inside legal_front_there (rule_named schema t e untold)
+          (ap (λ (x : Entry). broken_rule schema t x) (get_or_from_slice_get entries p e e at) ∙ rule_is untold is)
 
 pub zip_weaker : {P Q : ℕ → Fault → Type 0} (xs : List ℕ) (ys : List Fault) → ((x : ℕ) (y : Fault) → P x y → Q x y) → AllZip P xs ys → AllZip Q xs ys
 zip_weaker [] [] f h = tt

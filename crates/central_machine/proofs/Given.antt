@@ -11,24 +11,24 @@ use Rattle.field_bounds.specs.declared.entry.Command.{Command}
 use Rattle.field_bounds.specs.declared.entry.Command.TheVariants.{Begin, Escrow, Commit, Abort, Give, Restate, Spare, Tighten, Accept, Read, Share, Restart}
 use Rattle.field_bounds.specs.Kind.{same_kind}
 use Rattle.field_bounds.specs.Schema.{SchemaValue}
-use Rattle.field_bounds.specs.Effects.{Base, given, with_effect, after, effects}
-use Rattle.field_bounds.specs.Owed.{place, refusals, first, answer, epoch_of, count_since, count_after, is_begun_reply, spared_of, max_total, IsRun}
+use Rattle.field_bounds.specs.Effects.{Base, total_given, with_effect, after, effects}
+use Rattle.field_bounds.specs.Owed.{place, refusals, first, answer, epoch_of, count_since, count_after, is_begun_reply, spare_of, max_total, IsRun}
 use Rattle.field_bounds.specs.declared.entry.Reply.TheVariants.{Unsure}
 use Rattle.field_bounds.proofs.Lawful.{same_kind-true}
 use Rattle.field_bounds.proofs.Refused.{none_holds}
 use Rattle.field_bounds.proofs.Doubt.{IsKeptBy, run_holds}
 
 abbrev Fit : Base → ℕ → ℕ → List Effect → Type 0
-Fit base epoch count es = (r f : ℕ) (k : Kind) → given base r f k es ≤ max_total
+Fit base epoch count es = (r f : ℕ) (k : Kind) → total_given base r f k es ≤ max_total
 
-more_fits : (base : Base) (es : List Effect) (to : SiteNo) (field : FieldNo) (kind : Kind) (amount : ℕ) → given base to.0 field.0 kind es + amount ≤ max_total
-    → ((r f : ℕ) (k : Kind) → given base r f k es ≤ max_total) → (r f : ℕ) (k : Kind) → given base r f k (Gives (Some to) field kind amount ∷ es) ≤ max_total
+more_fits : (base : Base) (es : List Effect) (to : SiteNo) (field : FieldNo) (kind : Kind) (amount : ℕ) → total_given base to.0 field.0 kind es + amount ≤ max_total
+    → ((r f : ℕ) (k : Kind) → total_given base r f k es ≤ max_total) → (r f : ℕ) (k : Kind) → total_given base r f k (Gives (Some to) field kind amount ∷ es) ≤ max_total
 more_fits base es to field kind amount fits was r f k =
     elim (cases_Bool (eqb field.0 f && same_kind kind k && eqb to.0 r)) [
       | inl is ↦
           let first_two = and_parts (eqb field.0 f && same_kind kind k) (eqb to.0 r) is in
           let last_two = and_parts (eqb field.0 f) (same_kind kind k) first_two.0 in
-          let same : given base to.0 field.0 kind es ≡ given base r f k es = cc (eqb-true field.0 f last_two.0, same_kind-true kind k last_two.1, eqb-true to.0 r first_two.1) in
+          let same : total_given base to.0 field.0 kind es ≡ total_given base r f k es = cc (eqb-true field.0 f last_two.0, same_kind-true kind k last_two.1, eqb-true to.0 r first_two.1) in
           rw is (omega (arith, fits, same))
       | inr isnt ↦ rw isnt (omega (arith, was r f k))
     ]
@@ -38,12 +38,12 @@ nowhere true n = refl
 nowhere false n = refl
 
 cut_fits : (base : Base) (es : List Effect) (field : FieldNo) (kind : Kind) (amount : ℕ)
-    → ((r f : ℕ) (k : Kind) → given base r f k es ≤ max_total) → (r f : ℕ) (k : Kind) → given base r f k (Gives None field kind amount ∷ es) ≤ max_total
+    → ((r f : ℕ) (k : Kind) → total_given base r f k es ≤ max_total) → (r f : ℕ) (k : Kind) → total_given base r f k (Gives None field kind amount ∷ es) ≤ max_total
 cut_fits base es field kind amount was r f k = omega (arith, was r f k, nowhere (eqb field.0 f && same_kind kind k) amount)
 
 module _ (schema : SchemaValue) (s : ℕ) (base : Base) where
-  in_doubt : (kept : Bool) (es : List Effect) (e : Effect) → ((r f : ℕ) (k : Kind) → given base r f k (e ∷ es) ≤ max_total) → ((r f : ℕ) (k : Kind) → given base r f k es ≤ max_total)
-      → (r f : ℕ) (k : Kind) → given base r f k (with_effect kept (Some e) es) ≤ max_total
+  in_doubt : (kept : Bool) (es : List Effect) (e : Effect) → ((r f : ℕ) (k : Kind) → total_given base r f k (e ∷ es) ≤ max_total) → ((r f : ℕ) (k : Kind) → total_given base r f k es ≤ max_total)
+      → (r f : ℕ) (k : Kind) → total_given base r f k (with_effect kept (Some e) es) ≤ max_total
   in_doubt true es e more was = more
   in_doubt false es e more was = was
 
@@ -52,13 +52,13 @@ module _ (schema : SchemaValue) (s : ℕ) (base : Base) where
       Fit base (epoch_of base o) (count_after is_begun_reply (count_since is_begun_reply o) (answer (place schema s base o) c)) (after base kept c (answer (place schema s base o) c) (effects base false o))
       × Fit base (epoch_of base o) (count_since is_begun_reply o) (after base kept c Unsure (effects base false o))
 
-  at : (o : List Entry) (c : Command) → first (refusals (place schema s base o) c) ≡ None → (kept : Bool) → ((r f : ℕ) (k : Kind) → given base r f k (effects base false o) ≤ max_total) → Then o c kept
+  at : (o : List Entry) (c : Command) → first (refusals (place schema s base o) c) ≡ None → (kept : Bool) → ((r f : ℕ) (k : Kind) → total_given base r f k (effects base false o) ≤ max_total) → Then o c kept
   at o (Give to field kind amount) none kept was =
       let fits = ltb-false _ _ (none_holds (refusals (place schema s base o) (Give to field kind amount)) none).1.1.1.1.1.1.1.0 in
       let more = more_fits base (effects base false o) to field kind amount fits was in
       (more, in_doubt kept (effects base false o) _ more was)
   at o (Spare to field kind want) none kept was =
-      let amount = spared_of (place schema s base o) field kind want in
+      let amount = spare_of (place schema s base o) field kind want in
       let fits = ltb-false _ _ (none_holds (refusals (place schema s base o) (Spare to field kind want)) none).1.1.1.1.1.1.1.0 in
       let more = more_fits base (effects base false o) to field kind amount fits was in
       (more, in_doubt kept (effects base false o) _ more was)
@@ -84,5 +84,5 @@ module _ (schema : SchemaValue) (s : ℕ) (base : Base) where
     carried = λ o c none kept was. at o c none kept was;
   }
 
-pub given_fits : (schema : SchemaValue) (s : ℕ) (base : Base) → ((r f : ℕ) (k : Kind) → base.given r f k ≤ max_total) → (o : List Entry) → IsRun schema s base o → (kept : Bool) → (r f : ℕ) (k : Kind) → given base r f k (effects base kept o) ≤ max_total
+pub given_fits : (schema : SchemaValue) (s : ℕ) (base : Base) → ((r f : ℕ) (k : Kind) → base.given r f k ≤ max_total) → (o : List Entry) → IsRun schema s base o → (kept : Bool) → (r f : ℕ) (k : Kind) → total_given base r f k (effects base kept o) ≤ max_total
 given_fits schema s base begins o run kept = run_holds schema s base (Fit base) (kept_fit schema s base begins) o run kept

@@ -8,13 +8,13 @@ use Rattle.field_bounds.specs.declared.entry.Escrow.{Escrow}
 use Rattle.field_bounds.specs.Schema.{SchemaValue}
 use Rattle.field_bounds.specs.declared.effect.Effect.{Effect}
 use Rattle.field_bounds.specs.declared.effect.Effect.TheVariants.{Begins, Grants, Commits, Aborts, Gives, Accepts, Stops}
-use Rattle.field_bounds.specs.Effects.{Base, same_txn, begun, open_txns, is_begun, is_committed, is_dropped, is_open, escrows_of, takes}
+use Rattle.field_bounds.specs.Effects.{Base, same_txn, begun_txns, open_txns, is_begun, is_committed, is_dropped, is_open, escrows_of, takes}
 use Rattle.field_bounds.proofs.Lawful.{IsLawful, same_txn-true}
 use Rattle.field_bounds.proofs.Steps.{same_txn-sym, of_txn, of_txn_is, new_is_unused}
 use Rattle.field_bounds.proofs.Stops.{closed_by_stop, stop_closes_all}
 use Rattle.central_machine.specs.declared.journal.OpenTransaction.{OpenTransaction}
 use Rattle.central_machine.specs.Open.{txns_of, has_row, escrows_at, IsOpened, IsAdded, IsClosed}
-use Rattle.central_machine.specs.Running.{taken}
+use Rattle.central_machine.specs.Running.{sizes_taken}
 use Rattle.field_bounds.proofs.Opening.{any_open}
 use Rattle.field_bounds.proofs.Lists.{reverse-cons, list_any-reverse, sum_by-reverse, filter-reverse, list_any-map, filter-agree, filter-and}
 use Rattle.central_machine.proofs.Rows.{none_at}
@@ -38,12 +38,12 @@ module _ (es : List Effect) (rows : List OpenTransaction) (are : AreOpen es rows
   both_are false b h1 h2 = cc
 
   pub has_row_there : (t : TxnId) → is_begun t es ≡ true → is_open t es ≡ true → has_row t rows ≡ true
-  has_row_there t begun opened = has_row_open t ∙ both_are (is_begun t es) (is_open t es) begun opened
+  has_row_there t begun_txns opened = has_row_open t ∙ both_are (is_begun t es) (is_open t es) begun_txns opened
 
   -- the escrows in a row take what its transaction holds
-  pub taken_at : (t : TxnId) → is_begun t es ≡ true → is_open t es ≡ true → (f : ℕ) (k : Kind) → taken f k (escrows_at t rows) ≡ of_txn t f k es
-  taken_at t begun opened f k =
-      ap (λ (xs : List Escrow). taken f k xs) (are.escrows t begun opened) ∙ sum_by-reverse (takes f k) (escrows_of t es) ∙ sym (of_txn_is t f k es)
+  pub taken_at : (t : TxnId) → is_begun t es ≡ true → is_open t es ≡ true → (f : ℕ) (k : Kind) → sizes_taken f k (escrows_at t rows) ≡ of_txn t f k es
+  taken_at t begun_txns opened f k =
+      ap (λ (xs : List Escrow). sizes_taken f k xs) (are.escrows t begun_txns opened) ∙ sum_by-reverse (takes f k) (escrows_of t es) ∙ sym (of_txn_is t f k es)
 
   module _ (schema : SchemaValue) (base : Base) where
     pub open_begin : (txn : TxnId) (more : List OpenTransaction) → IsLawful schema base (Begins txn ∷ es) → IsOpened rows more txn → AreOpen (Begins txn ∷ es) more
@@ -54,27 +54,27 @@ module _ (es : List Effect) (rows : List OpenTransaction) (are : AreOpen es rows
         let none : has_row txn rows ≡ false = has_row_open txn ∙ ap (λ (b : Bool). b && is_open txn es) lawful.1 in
         record {
           txns = took.txns ∙ ap (λ (ts : List TxnId). ts ++ txn ∷ []) are.txns ∙ sym (reverse-cons txn (open_txns es)) ∙ ap reverse (sym first);
-          escrows = λ t begun is_opened.
+          escrows = λ t begun_txns is_opened.
               took.escrows t
-              ∙ at t (is_begun t es) refl begun is_opened (none_at txn rows none) unused.no_escrow;
+              ∙ at t (is_begun t es) refl begun_txns is_opened (none_at txn rows none) unused.no_escrow;
         }
       where
         at : (t : TxnId) (b : Bool) → is_begun t es ≡ b → (same_txn txn t || is_begun t es) ≡ true → is_open t es ≡ true → escrows_at txn rows ≡ [] → escrows_of txn es ≡ [] → escrows_at t rows ≡ reverse (escrows_of t es)
-        at t true e begun opened empty none = are.escrows t e opened
-        at t false e begun opened empty none =
+        at t true e begun_txns opened empty none = are.escrows t e opened
+        at t false e begun_txns opened empty none =
             elim (cases_Bool (same_txn txn t)) [
               | inl same ↦ let is = same_txn-true txn t same in ap (λ (x : TxnId). escrows_at x rows) (sym is) ∙ empty ∙ ap reverse (sym none) ∙ ap (λ (x : TxnId). reverse (escrows_of x es)) is
-              | inr apart ↦ absurd (false≢true (sym (ap (λ (b : Bool). b || is_begun t es) apart ∙ e) ∙ begun))
+              | inr apart ↦ absurd (false≢true (sym (ap (λ (b : Bool). b || is_begun t es) apart ∙ e) ∙ begun_txns))
             ]
 
   pub open_grant : (txn : TxnId) (e : Escrow) (more : List OpenTransaction) → is_begun txn es ≡ true → is_open txn es ≡ true → IsAdded rows more txn e → AreOpen (Grants txn e.field e.change ∷ es) more
-  open_grant txn e more begun opened took = record {
+  open_grant txn e more begun_txns opened took = record {
     txns = took.txns ∙ are.txns;
     escrows = λ t t_begun t_opened.
         elim (cases_Bool (same_txn t txn)) [
           | inl same ↦
               let is = same_txn-true t txn same in
-              ap (λ (x : TxnId). escrows_at x more) is ∙ took.here (has_row_there txn begun opened) ∙ ap (λ (xs : List Escrow). xs ++ e ∷ []) (are.escrows txn begun opened)
+              ap (λ (x : TxnId). escrows_at x more) is ∙ took.here (has_row_there txn begun_txns opened) ∙ ap (λ (xs : List Escrow). xs ++ e ∷ []) (are.escrows txn begun_txns opened)
               ∙ sym (reverse-cons e (escrows_of txn es)) ∙ ap (λ (x : TxnId). reverse (e ∷ escrows_of x es)) (sym is) ∙ ap (λ (b : Bool). reverse (cond b (e ∷ escrows_of t es) (escrows_of t es))) (sym same)
           | inr apart ↦
               took.there t (same_txn-sym txn t ∙ apart) ∙ are.escrows t t_begun t_opened ∙ ap (λ (b : Bool). reverse (cond b (e ∷ escrows_of t es) (escrows_of t es))) (sym apart)
@@ -102,14 +102,14 @@ module _ (es : List Effect) (rows : List OpenTransaction) (are : AreOpen es rows
   not_true false h = refl
 
   -- an end of a transaction closes it, and no other
-  closes : (e : Effect) (txn : TxnId) (more : List OpenTransaction) → begun (e ∷ es) ≡ begun es → ((u : TxnId) → is_open u (e ∷ es) ≡ (is_open u es && not (same_txn txn u)))
+  closes : (e : Effect) (txn : TxnId) (more : List OpenTransaction) → begun_txns (e ∷ es) ≡ begun_txns es → ((u : TxnId) → is_open u (e ∷ es) ≡ (is_open u es && not (same_txn txn u)))
       → ((t : TxnId) → is_begun t (e ∷ es) ≡ is_begun t es) → ((t : TxnId) → escrows_of t (e ∷ es) ≡ escrows_of t es) → IsClosed rows more txn → AreOpen (e ∷ es) more
   closes e txn more same_begun then_open same_is_begun same_escrows took =
       let then : (u : TxnId) → is_open u (e ∷ es) ≡ (is_open u es && not (same_txn u txn)) = λ u. then_open u ∙ ap (λ (b : Bool). is_open u es && not b) (same_txn-sym txn u) in
       let left : open_txns (e ∷ es) ≡ filter (λ u. not (same_txn u txn)) (open_txns es) =
       ap (filter (λ id. is_open id (e ∷ es))) same_begun
-      ∙ filter-agree (λ id. is_open id (e ∷ es)) (λ id. is_open id es && not (same_txn id txn)) then (begun es)
-      ∙ filter-and (λ id. is_open id es) (λ id. not (same_txn id txn)) (begun es) in
+      ∙ filter-agree (λ id. is_open id (e ∷ es)) (λ id. is_open id es && not (same_txn id txn)) then (begun_txns es)
+      ∙ filter-and (λ id. is_open id es) (λ id. not (same_txn id txn)) (begun_txns es) in
       record {
         txns = took.txns ∙ ap (filter (λ id. not (same_txn id txn))) are.txns ∙ filter-reverse (λ u. not (same_txn u txn)) (open_txns es) ∙ ap reverse (sym left);
         escrows = λ t t_begun t_opened.

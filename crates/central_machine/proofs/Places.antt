@@ -8,7 +8,7 @@ use Rattle.field_bounds.specs.declared.entry.Entry.{Entry}
 use Rattle.field_bounds.specs.Central.{own}
 use Rattle.central_rules.proofs.Fronts.{front_more}
 use Rattle.central_machine.specs.declared.faults.Places.{Places}
-use Rattle.central_machine.specs.Parts.{front_of, own_count, ArePlaces, AreAllPlaces, IsNoted}
+use Rattle.central_machine.specs.Parts.{front_of, own_count, AreNumbers, AreAllNumbers, IsNoted}
 use Rattle.central_machine.proofs.Row.{one_behind, set_here, set_there, set_long}
 
 pub some_is : {X : Type 0} (a b : X) → Some a ≡ Some b → a ≡ b
@@ -61,7 +61,7 @@ module _ (s : ℕ) (entries : List Entry) where
 -- ---- the lists of places
 
 module _ (entries : List Entry) (i : ℕ) (e : Entry) (at : slice_get entries i ≡ Some e) where
-  noted_here : (places more : List ℕ) → more ≡ places ++ i ∷ [] → ArePlaces e.site.0 entries i places → ArePlaces e.site.0 entries (i + 1) more
+  noted_here : (places more : List ℕ) → more ≡ places ++ i ∷ [] → AreNumbers e.site.0 entries i places → AreNumbers e.site.0 entries (i + 1) more
   noted_here places more is was = record {
     each = λ j p found.
         elim (one_behind places i p j (subst (λ xs. slice_get xs j ≡ Some p) is found)) [
@@ -76,19 +76,19 @@ module _ (entries : List Entry) (i : ℕ) (e : Entry) (at : slice_get entries i 
     all = ap length is ∙ length-append places (i ∷ []) ∙ omega (arith, was.all, count_at e.site.0 entries i e at refl);
   }
 
-  noted_there : (s : ℕ) (places : List ℕ) → s ≢ e.site.0 → ArePlaces s entries i places → ArePlaces s entries (i + 1) places
+  noted_there : (s : ℕ) (places : List ℕ) → s ≢ e.site.0 → AreNumbers s entries i places → AreNumbers s entries (i + 1) places
   noted_there s places apart was = record {
     each = λ j p found. let old = was.each j p found in (omega (arith, old.0), old.1);
     here = was.here;
     all = was.all ∙ ap length (sym (own_past s entries i e at (λ same. apart (sym same))));
   }
 
-  pub all_noted : (before after : List Places) → IsNoted before after e.site.0 i → AreAllPlaces entries i before → AreAllPlaces entries (i + 1) after
+  pub all_noted : (before after : List Places) → IsNoted before after e.site.0 i → AreAllNumbers entries i before → AreAllNumbers entries (i + 1) after
   all_noted before after noted was s y found =
       elim (cases_eq s e.site.0) [
         | inl same ↦
             let put = noted.here y (subst (λ n. slice_get after n ≡ Some y) same found) in
-            subst (λ n. ArePlaces n entries (i + 1) y.list.items) (sym same) (noted_here put.0.list.items y.list.items put.2 (was e.site.0 put.0 put.1))
+            subst (λ n. AreNumbers n entries (i + 1) y.list.items) (sym same) (noted_here put.0.list.items y.list.items put.2 (was e.site.0 put.0 put.1))
         | inr apart ↦ noted_there s y.list.items apart (was s y (sym (noted.there s apart) ∙ found))
       ]
 
@@ -97,7 +97,7 @@ none_there zero p [] e h = cc
 none_there (suc j) p [] e h = cc
 none_there j p (y ∷ ys) e h = cc
 
-pub none_placed : (entries : List Entry) (s : ℕ) (places : List ℕ) → places ≡ [] → ArePlaces s entries 0 places
+pub none_placed : (entries : List Entry) (s : ℕ) (places : List ℕ) → places ≡ [] → AreNumbers s entries 0 places
 none_placed entries s places none = record {
   each = λ j p found. absurd (none_there j p places none found);
   here = λ j p e found item. absurd (none_there j p places none found);

@@ -7,7 +7,7 @@ use Rattle.field_bounds.specs.declared.entry.Entry.{Entry}
 use Rattle.field_bounds.specs.Schema.{SchemaValue}
 use Rattle.central_rules.specs.declared.verdict.Rule.{Rule}
 use Rattle.central_rules.specs.declared.verdict.Verdict.TheVariants.{Legal, Illegal}
-use Rattle.central_rules.specs.Verdict.{broken, verdict_back, verdict_of}
+use Rattle.central_rules.specs.Verdict.{broken_rule, verdict_back, verdict_of}
 use Rattle.central_rules.proofs.Fronts.{front_more}
 use Rattle.central_rules.proofs.Verdicts.{stop_here, go_on}
 
@@ -32,15 +32,15 @@ module _ (schema : SchemaValue) (entries xs : List Entry) (same : xs ≡ entries
     shorter m few = let long = length-reverse (take i entries) ∙ length-take-le i entries (omega (arith, inside)) in omega (arith, long, few, inside)
 
     module _ (legal : verdict_back schema (reverse (take i entries)) ≡ Legal) where
-      pub stops : (rule : Rule) → broken schema (reverse (take i entries)) e ≡ Some rule → Illegal j rule ≡ verdict_of schema entries
+      pub stops : (rule : Rule) → broken_rule schema (reverse (take i entries)) e ≡ Some rule → Illegal j rule ≡ verdict_of schema entries
       stops rule breaks =
           ap (λ (n : ℕ). Illegal n rule) next
-          ∙ stop_here schema entries i e inside legal rule (ap (λ (x : Entry). broken schema (reverse (take i entries)) x) there ∙ breaks)
+          ∙ stop_here schema entries i e inside legal rule (ap (λ (x : Entry). broken_rule schema (reverse (take i entries)) x) there ∙ breaks)
 
-      pub goes_on : broken schema (reverse (take i entries)) e ≡ None → verdict_back schema (reverse (take j entries)) ≡ Legal
+      pub goes_on : broken_rule schema (reverse (take i entries)) e ≡ None → verdict_back schema (reverse (take j entries)) ≡ Legal
       goes_on good =
           ap (λ (n : ℕ). verdict_back schema (reverse (take n entries))) next
-          ∙ go_on schema entries i e inside legal (ap (λ (x : Entry). broken schema (reverse (take i entries)) x) there ∙ good)
+          ∙ go_on schema entries i e inside legal (ap (λ (x : Entry). broken_rule schema (reverse (take i entries)) x) there ∙ good)
 
   pub ends : o ≡ None → i ≤ length entries → (i ≡ length entries) × (j ≡ length entries)
   ends none within =

@@ -10,12 +10,12 @@ use Rattle.field_bounds.specs.Central.{own}
 use Rattle.field_bounds.proofs.Sound.{sound_more}
 use Rattle.field_bounds.proofs.Headline.{sound_is_central}
 use Rattle.central_rules.specs.declared.verdict.Verdict.TheVariants.{Legal}
-use Rattle.central_rules.specs.Verdict.{broken, verdict_back, first_broken}
+use Rattle.central_rules.specs.Verdict.{broken_rule, verdict_back, first_broken}
 use Rattle.central_machine.specs.Parts.{rest_tests}
 use Rattle.central_rules.proofs.Decided.{fits_is, statement_is}
 use Rattle.central_rules.proofs.Verdicts.{all_hold, legal_is_sound, good_is_unbroken}
 
-pub rest_is_all : (schema : SchemaValue) → IsSchema schema → (t : List Entry) (e : Entry) → verdict_back schema t ≡ Legal → first_broken (rest_tests schema t e) ≡ None → broken schema t e ≡ None
+pub rest_is_all : (schema : SchemaValue) → IsSchema schema → (t : List Entry) (e : Entry) → verdict_back schema t ≡ Legal → first_broken (rest_tests schema t e) ≡ None → broken_rule schema t e ≡ None
 rest_is_all schema good t e legal rest =
     let all = all_hold (rest_tests schema t e) rest in
     let sound = (legal_is_sound schema t legal).0 in

@@ -4,7 +4,7 @@ use Rattle.std.proofs.lemmas.Bool.{ltb-true}
 use Rattle.std.proofs.lemmas.Option.{slice_get-get_or}
 use Rattle.std.specs.Prelude.{slice_get, ◌⊎◌}
 use Rattle.std.proofs.lemmas.Nat.{row_fits}
-use Rattle.central_machine.specs.Running.{place_at}
+use Rattle.central_machine.specs.Running.{slot_at}
 
 some_same : {X : Type 0} (a b : X) → Some a ≡ Some b → a ≡ b
 some_same a b e = cc
@@ -39,7 +39,7 @@ one_behind (x ∷ xs) y z (suc s) h =
       | inr last ↦ inr (ap suc last.0, last.1)
     ]
 
-pub in_ledger : (k n a b r f : ℕ) → a ≡ n → b ≡ k → r < n → f < k → place_at k r f < a * b
+pub in_ledger : (k n a b r f : ℕ) → a ≡ n → b ≡ k → r < n → f < k → slot_at k r f < a * b
 in_ledger k n a b r f rows columns lr lf = rw (rows, columns) (let fits = row_fits r k n k lr (omega arith) in omega (arith, fits, lf))
 
 -- an item that was looked up, at a number that is equal

@@ -9,7 +9,7 @@ use Rattle.field_bounds.specs.Effects.{same_txn}
 use Rattle.field_bounds.proofs.Lawful.{same_txn-true}
 use Rattle.field_bounds.proofs.Steps.{same_txn-sym}
 use Rattle.central_machine.specs.declared.journal.OpenTransaction.{OpenTransaction}
-use Rattle.central_machine.specs.Open.{txns_of, has_row, place_of, escrows_at, IsOpened, IsAdded, IsClosed}
+use Rattle.central_machine.specs.Open.{txns_of, has_row, index_of, escrows_at, IsOpened, IsAdded, IsClosed}
 
 pub position_or_len-none : {X : Type 0} (p : X → Bool) (xs : List X) → ((k : ℕ) (d : X) → k < length xs → p (get_or xs k d) ≡ false) → position_or_len p xs ≡ length xs
 position_or_len-none p [] h = refl
@@ -19,14 +19,14 @@ position_or_len-none p (x ∷ xs) h =
 abbrev is_of : TxnId → OpenTransaction → Bool
 is_of t r = same_txn r.txn t
 
-place-here : (t : TxnId) (r : OpenTransaction) (rs : List OpenTransaction) → same_txn r.txn t ≡ true → place_of t (r ∷ rs) ≡ 0
+place-here : (t : TxnId) (r : OpenTransaction) (rs : List OpenTransaction) → same_txn r.txn t ≡ true → index_of t (r ∷ rs) ≡ 0
 place-here t r rs h = rw h refl
 
-place-there : (t : TxnId) (r : OpenTransaction) (rs : List OpenTransaction) → same_txn r.txn t ≡ false → place_of t (r ∷ rs) ≡ suc (place_of t rs)
+place-there : (t : TxnId) (r : OpenTransaction) (rs : List OpenTransaction) → same_txn r.txn t ≡ false → index_of t (r ∷ rs) ≡ suc (index_of t rs)
 place-there t r rs h = rw h (omega arith)
 
 -- a transaction that has a row has it at its place
-pub has_place : (t : TxnId) (rows : List OpenTransaction) → has_row t rows ≡ true → place_of t rows < length rows
+pub has_place : (t : TxnId) (rows : List OpenTransaction) → has_row t rows ≡ true → index_of t rows < length rows
 has_place t [] h = absurd (false≢true h)
 has_place t (r ∷ rs) h =
     elim (cases_Bool (same_txn r.txn t)) [
@@ -34,13 +34,13 @@ has_place t (r ∷ rs) h =
       | inr there ↦ rw (place-there t r rs there) (omega (arith, has_place t rs (rw there at h)))
     ]
 
-pub has_none : (t : TxnId) (rows : List OpenTransaction) → has_row t rows ≡ false → place_of t rows ≡ length rows
+pub has_none : (t : TxnId) (rows : List OpenTransaction) → has_row t rows ≡ false → index_of t rows ≡ length rows
 has_none t [] h = refl
 has_none t (r ∷ rs) h =
     let parts = or_parts (same_txn r.txn t) (has_row t rs) h in
     rw (place-there t r rs parts.0, has_none t rs parts.1) refl
 
-pub row_at : (t : TxnId) (rows : List OpenTransaction) (d : OpenTransaction) → has_row t rows ≡ true → (get_or rows (place_of t rows) d).escrows.items ≡ escrows_at t rows
+pub row_at : (t : TxnId) (rows : List OpenTransaction) (d : OpenTransaction) → has_row t rows ≡ true → (get_or rows (index_of t rows) d).escrows.items ≡ escrows_at t rows
 row_at t [] d h = absurd (false≢true h)
 row_at t (r ∷ rs) d h =
     elim (cases_Bool (same_txn r.txn t)) [
@@ -73,7 +73,7 @@ opened_is rows r none = record {
 -- ---- one more escrow
 
 module _ (t : TxnId) (y : OpenTransaction) where
-  pub set_txns : (rows : List OpenTransaction) (d : OpenTransaction) → y.txn ≡ (get_or rows (place_of t rows) d).txn → txns_of (set rows (place_of t rows) y) ≡ txns_of rows
+  pub set_txns : (rows : List OpenTransaction) (d : OpenTransaction) → y.txn ≡ (get_or rows (index_of t rows) d).txn → txns_of (set rows (index_of t rows) y) ≡ txns_of rows
   set_txns [] d same = refl
   set_txns (r ∷ rs) d same =
       elim (cases_Bool (same_txn r.txn t)) [
@@ -81,7 +81,7 @@ module _ (t : TxnId) (y : OpenTransaction) where
         | inr there ↦ let at = place-there t r rs there in let same' = rw at at same in rw at (ap (λ xs. r.txn ∷ xs) (set_txns rs d same'))
       ]
 
-  pub set_escrows : (rows : List OpenTransaction) (d : OpenTransaction) → has_row t rows ≡ true → y.txn ≡ (get_or rows (place_of t rows) d).txn → escrows_at t (set rows (place_of t rows) y) ≡ y.escrows.items
+  pub set_escrows : (rows : List OpenTransaction) (d : OpenTransaction) → has_row t rows ≡ true → y.txn ≡ (get_or rows (index_of t rows) d).txn → escrows_at t (set rows (index_of t rows) y) ≡ y.escrows.items
   set_escrows [] d h same = absurd (false≢true h)
   set_escrows (r ∷ rs) d h same =
       elim (cases_Bool (same_txn r.txn t)) [
@@ -89,7 +89,7 @@ module _ (t : TxnId) (y : OpenTransaction) where
         | inr there ↦ let at = place-there t r rs there in let same' = rw at at same in rw (at, there) (set_escrows rs d (rw there at h) same')
       ]
 
-  pub set_others : (rows : List OpenTransaction) (d : OpenTransaction) (u : TxnId) → same_txn t u ≡ false → y.txn ≡ (get_or rows (place_of t rows) d).txn → escrows_at u (set rows (place_of t rows) y) ≡ escrows_at u rows
+  pub set_others : (rows : List OpenTransaction) (d : OpenTransaction) (u : TxnId) → same_txn t u ≡ false → y.txn ≡ (get_or rows (index_of t rows) d).txn → escrows_at u (set rows (index_of t rows) y) ≡ escrows_at u rows
   set_others [] d u apart same = refl
   set_others (r ∷ rs) d u apart same =
       elim (cases_Bool (same_txn r.txn t)) [
@@ -129,24 +129,24 @@ closed_is txn rows = record {
 
 -- ---- what is looked up at the place
 
-pub has_row_is : (t : TxnId) (rows : List OpenTransaction) → ltb (place_of t rows) (length rows) ≡ has_row t rows
+pub has_row_is : (t : TxnId) (rows : List OpenTransaction) → ltb (index_of t rows) (length rows) ≡ has_row t rows
 has_row_is t rows =
     elim (cases_Bool (has_row t rows)) [
-      | inl there ↦ lt-ltb (place_of t rows) (length rows) (has_place t rows there) ∙ sym there
+      | inl there ↦ lt-ltb (index_of t rows) (length rows) (has_place t rows there) ∙ sym there
       | inr none ↦
-          elim (cases_Bool (ltb (place_of t rows) (length rows))) [
-            | inl below ↦ absurd (let less = ltb-true (place_of t rows) (length rows) below in omega (arith, less, has_none t rows none))
+          elim (cases_Bool (ltb (index_of t rows) (length rows))) [
+            | inl below ↦ absurd (let less = ltb-true (index_of t rows) (length rows) below in omega (arith, less, has_none t rows none))
             | inr past ↦ past ∙ sym none
           ]
     ]
 
 -- ds and ps are the items, and i is the place
-module _ (items ds ps : List OpenTransaction) (t : TxnId) (ds_is : ds ≡ items) (ps_is : ps ≡ items) (i : ℕ) (at : i ≡ place_of t ps) where
-  here_is : i ≡ place_of t items
-  here_is = at ∙ ap (place_of t) ps_is
+module _ (items ds ps : List OpenTransaction) (t : TxnId) (ds_is : ds ≡ items) (ps_is : ps ≡ items) (i : ℕ) (at : i ≡ index_of t ps) where
+  here_is : i ≡ index_of t items
+  here_is = at ∙ ap (index_of t) ps_is
 
   pub looked : (b : Bool) → b ≡ ltb i (length ds) → b ≡ has_row t items
-  looked b e = e ∙ ap (λ (n : ℕ). ltb n (length ds)) here_is ∙ ap (λ (xs : List OpenTransaction). ltb (place_of t items) (length xs)) ds_is ∙ has_row_is t items
+  looked b e = e ∙ ap (λ (n : ℕ). ltb n (length ds)) here_is ∙ ap (λ (xs : List OpenTransaction). ltb (index_of t items) (length xs)) ds_is ∙ has_row_is t items
 
   pub found : (x : OpenTransaction) → true ≡ ltb i (length ds) → x ≡ get_or ds i x → x.escrows.items ≡ escrows_at t items
   found x below e =
@@ -155,7 +155,7 @@ module _ (items ds ps : List OpenTransaction) (t : TxnId) (ds_is : ds ≡ items)
 
   pub added_is : (e : Escrow) (x y : OpenTransaction) → true ≡ ltb i (length ds) → x ≡ get_or ds i x → y.txn ≡ x.txn → y.escrows.items ≡ x.escrows.items ++ e ∷ [] → IsAdded items (set items i y) t e
   added_is e x y below ex et es =
-      let same : y.txn ≡ (get_or items (place_of t items) x).txn =
+      let same : y.txn ≡ (get_or items (index_of t items) x).txn =
       et ∙ ap (λ (r : OpenTransaction). r.txn) (ex ∙ ap (λ (xs : List OpenTransaction). get_or xs i x) ds_is ∙ ap (λ (n : ℕ). get_or items n x) here_is) in
       subst (λ (n : ℕ). IsAdded items (set items n y) t e) (sym here_is) (record {
         txns = set_txns t y items x same;

@@ -15,13 +15,13 @@ use Rattle.field_bounds.specs.declared.entry.Reply.{Reply}
 use Rattle.field_bounds.specs.declared.entry.Reply.TheVariants.{Begun, Granted, Committed, Aborted, Given, Stated, Spared, Tightened, Accepted, Between, Shares, Restarted, Unsure, StillDown, Refused}
 use Rattle.field_bounds.specs.declared.entry.Last.{Last}
 use Rattle.field_bounds.specs.Schema.{SchemaValue}
-use Rattle.field_bounds.specs.Effects.{Base, with_effect, effect_of, after, effects, kept_before, says_kept, spared, share}
+use Rattle.field_bounds.specs.Effects.{Base, with_effect, effect_of, after, effects, doubt_kept_before, says_doubt_kept, spare_amount, share}
 use Rattle.field_bounds.specs.Owed.{Place, IsRun, Fits, AnswerFits, place, answer, first, refusals}
 use Rattle.field_bounds.proofs.Refused.{match_cases, none_holds}
 use Rattle.field_bounds.proofs.Lawful.{IsLawful}
 use Rattle.central_machine.specs.declared.numbers.Numbers.{Numbers}
 use Rattle.central_machine.specs.Amounts.{amount}
-use Rattle.central_machine.specs.Running.{Describes, IsSmall, Takes, MayTake, NumbersAfter, effect_by, doubt, settled}
+use Rattle.central_machine.specs.Running.{Describes, IsSmall, Takes, MayTake, NumbersAfter, effect_by, doubt, settled_effect}
 use Rattle.central_machine.proofs.Doubts.{dropped, restart_settles}
 use Rattle.central_machine.proofs.Ended.{describes}
 
@@ -61,7 +61,7 @@ module _ (schema : SchemaValue) (s : ℕ) (base : Base) (o : List Entry) (shares
         | inl refused ↦ absurd (let clash : false ≡ true = ap is_refused refused.2 in cc)
         | inr met ↦
             let inside : field.0 < length schema.fields = leb-false _ _ (none_holds (refusals (place schema s base o) (Spare to field kind want)) met.0).1.1.0 in
-            ap (λ (n : ℕ). Some (Gives (Some to) field kind (spared n want))) (are field.0 kind inside)
+            ap (λ (n : ℕ). Some (Gives (Some to) field kind (spare_amount n want))) (are field.0 kind inside)
       ]
 
   -- what the numbers tell of an effect is what it is
@@ -103,8 +103,8 @@ module _ (schema : SchemaValue) (base : Base) where
   module _ (s : ℕ) (o : List Entry) (before : IsSmall base (effects base false o)) (n m : Numbers) (is : Describes schema base (effects base false o) n) where
     abbrev Next : Command → Reply → Type 0
     Next c r =
-        IsLawful schema base (after base false c r (effects base (kept_before false r) o)) → IsSmall base (effects base (kept_before false r) o) → IsSmall base (after base false c r (effects base (kept_before false r) o))
-        → NumbersAfter (effect_by (amount n.free) c r) r (doubt base o) n m → Describes schema base (after base false c r (effects base (kept_before false r) o)) m
+        IsLawful schema base (after base false c r (effects base (doubt_kept_before false r) o)) → IsSmall base (effects base (doubt_kept_before false r) o) → IsSmall base (after base false c r (effects base (doubt_kept_before false r) o))
+        → NumbersAfter (effect_by (amount n.free) c r) r (doubt base o) n m → Describes schema base (after base false c r (effects base (doubt_kept_before false r) o)) m
 
     -- what is answered takes effect
     sure : (c : Command) (r : Reply) (d : Option Effect) → effect_by (amount n.free) c r ≡ d → IsLawful schema base (with_effect true d (effects base false o)) → IsSmall base (with_effect true d (effects base false o))
@@ -112,12 +112,12 @@ module _ (schema : SchemaValue) (base : Base) where
     sure c r d same lawful small took = may_describe (effects base false o) d n m lawful before small (subst (λ (x : Option Effect). MayTake x n m) same took) is
 
     restart : (kept : Bool) → IsRun schema s base o → IsLawful schema base (Stops ∷ effects base kept o) → IsSmall base (effects base kept o) → IsSmall base (Stops ∷ effects base kept o)
-        → (mid : Numbers) → MayTake (settled kept (doubt base o)) n mid → Takes Stops mid m → Describes schema base (Stops ∷ effects base kept o) m
+        → (mid : Numbers) → MayTake (settled_effect kept (doubt base o)) n mid → Takes Stops mid m → Describes schema base (Stops ∷ effects base kept o) m
     restart kept run lawful small last mid first_took then_took =
         let same = restart_settles schema s base o run kept in
         let middle : Describes schema base (effects base kept o) mid =
         subst (λ (x : List Effect). Describes schema base x mid) (sym same)
-        (may_describe (effects base false o) (settled kept (doubt base o)) n mid (subst (λ (x : List Effect). IsLawful schema base x) same lawful.0) before (subst (λ (x : List Effect). IsSmall base x) same small) first_took is) in
+        (may_describe (effects base false o) (settled_effect kept (doubt base o)) n mid (subst (λ (x : List Effect). IsLawful schema base x) same lawful.0) before (subst (λ (x : List Effect). IsSmall base x) same small) first_took is) in
         describes schema base (effects base kept o) Stops lawful mid m small last then_took middle
 
     -- any reply but a restart's
@@ -141,7 +141,7 @@ module _ (schema : SchemaValue) (base : Base) where
     by_reply c (Refused refusal) plain same = λ lawful kept small took. sure c (Refused refusal) (effect_of base (effects base false o) c (Refused refusal)) same lawful small took
 
     pub numbers_more : (c : Command) (r : Reply) → IsRun schema s base o → Fits (place schema s base o) c r → effect_by (amount n.free) c r ≡ effect_of base (effects base false o) c r → Next c r
-    numbers_more Restart (Restarted epoch found) run fits same = λ lawful kept small took. restart (says_kept found) run lawful kept small took.0 took.1 took.2
+    numbers_more Restart (Restarted epoch found) run fits same = λ lawful kept small took. restart (says_doubt_kept found) run lawful kept small took.0 took.1 took.2
     numbers_more Begin (Restarted epoch found) run fits same = absurd (let no_way = never_restarted (place schema s base o) Begin epoch found fits in cc)
     numbers_more (Escrow txn field change) (Restarted epoch found) run fits same = absurd (let no_way = never_restarted (place schema s base o) (Escrow txn field change) epoch found fits in cc)
     numbers_more (Commit txn) (Restarted epoch found) run fits same = absurd (let no_way = never_restarted (place schema s base o) (Commit txn) epoch found fits in cc)

@@ -11,7 +11,7 @@ use Rattle.field_bounds.specs.declared.entry.Reply.{Reply}
 use Rattle.field_bounds.specs.declared.entry.Reply.TheVariants.{Restarted}
 use Rattle.field_bounds.specs.Schema.{SchemaValue}
 use Rattle.field_bounds.specs.Limits.{IsSchema}
-use Rattle.field_bounds.specs.Effects.{Base, fresh, after, effects, kept_before, says_kept, share, held, cut}
+use Rattle.field_bounds.specs.Effects.{Base, fresh, after, effects, doubt_kept_before, says_doubt_kept, share, held_rights, cut}
 use Rattle.field_bounds.specs.Owed.{place, is_up, epoch_of, count_since, is_begun_reply, is_still_down, is_unsure, Fits, IsRun}
 use Rattle.field_bounds.specs.Central.{own, at_site, IsSound}
 use Rattle.field_bounds.proofs.Lawful.{IsLawful}
@@ -29,12 +29,12 @@ pub small_at : (schema : SchemaValue) → IsSchema schema → (t : List Entry) �
 small_at schema good t sound s below = record {
   free = λ f k. let fit = rights_fit schema good t sound s below f in elim k as (λ j. share (fresh schema s) f j (at_site schema t s) ≤ 18446744073709551615) [ Lower ↦ omega (arith, fit) | Raise ↦ omega (arith, fit) ];
   cut = λ f k. let fit = rights_fit schema good t sound s below f in elim k as (λ j. cut (fresh schema s) f j (at_site schema t s) ≤ 18446744073709551615) [ Lower ↦ omega (arith, fit) | Raise ↦ omega (arith, fit) ];
-  held = λ f k. let fit = rights_fit schema good t sound s below f in elim k as (λ j. held f j (at_site schema t s) ≤ 18446744073709551615) [ Lower ↦ omega (arith, fit) | Raise ↦ omega (arith, fit) ];
+  held = λ f k. let fit = rights_fit schema good t sound s below f in elim k as (λ j. held_rights f j (at_site schema t s) ≤ 18446744073709551615) [ Lower ↦ omega (arith, fit) | Raise ↦ omega (arith, fit) ];
   given = λ r f k. let fit = given_fits schema s (fresh schema s) (λ a b j. omega arith) (own s t) (sound.runs s below) false r f k in omega (arith, fit);
 }
 
 -- what is kept fits where what stands after the stop does
-small_before : (schema : SchemaValue) (base : Base) (es : List Effect) → IsLawful schema base es → IsSmall base (Stops ∷ es) → ((f : ℕ) (k : Kind) → held f k es ≤ share base f k (Stops ∷ es)) → IsSmall base es
+small_before : (schema : SchemaValue) (base : Base) (es : List Effect) → IsLawful schema base es → IsSmall base (Stops ∷ es) → ((f : ℕ) (k : Kind) → held_rights f k es ≤ share base f k (Stops ∷ es)) → IsSmall base es
 small_before schema base es lawful small less = record {
   free = λ f k. omega (arith, small.free f k, share_stop schema base es lawful f k);
   held = λ f k. omega (arith, small.free f k, less f k);
@@ -42,10 +42,10 @@ small_before schema base es lawful small less = record {
   given = λ r f k. small.given r f k;
 }
 
-small_kept : (schema : SchemaValue) (s : ℕ) (base : Base) (o : List Entry) (c : Command) (r : Reply) → IsRun schema s base o → IsSmall base (effects base false o) → IsSmall base (after base false c r (effects base (kept_before false r) o)) → Fits (place schema s base o) c r → IsSmall base (effects base (kept_before false r) o)
+small_kept : (schema : SchemaValue) (s : ℕ) (base : Base) (o : List Entry) (c : Command) (r : Reply) → IsRun schema s base o → IsSmall base (effects base false o) → IsSmall base (after base false c r (effects base (doubt_kept_before false r) o)) → Fits (place schema s base o) c r → IsSmall base (effects base (doubt_kept_before false r) o)
 small_kept schema s base o Restart (Restarted epoch found) run before then fits =
-    let es = effects base (says_kept found) o in
-    let lawful = run_is_lawful schema s base o run (says_kept found) in
+    let es = effects base (says_doubt_kept found) o in
+    let lawful = run_is_lawful schema s base o run (says_doubt_kept found) in
     small_before schema base es lawful then (λ f k. omega (arith, share_stop schema base es lawful f k))
 small_kept schema s base o c (Restarted epoch found) run before then fits = then
 small_kept schema s base o c r run before then fits = before
@@ -54,11 +54,11 @@ small_kept schema s base o c r run before then fits = before
 pub record GoesOn (e : Entry) (x y : SiteTotals) : Type 0 where
   pub numbers : NumbersAfter (effect_by (amount x.numbers.free) e.command e.reply) e.reply x.doubt x.numbers y.numbers
   pub doubt : y.doubt ≡ doubt_after (effect_by (amount x.numbers.free) e.command e.reply) e.reply x.doubt
-  pub up : (base : Base) (o : List Entry) → x.standing.up ≡ is_up base o → y.standing.up ≡ is_up base (e ∷ o)
-  pub epoch : (base : Base) (o : List Entry) → x.standing.epoch ≡ epoch_of base o → y.standing.epoch ≡ epoch_of base (e ∷ o)
-  pub begun : (o : List Entry) → length o < 18446744073709551615 → x.standing.begun ≡ count_since is_begun_reply o → y.standing.begun ≡ count_since is_begun_reply (e ∷ o)
-  pub still_down : (o : List Entry) → length o < 18446744073709551615 → x.standing.still_down ≡ count_since is_still_down o → y.standing.still_down ≡ count_since is_still_down (e ∷ o)
-  pub unsure : (o : List Entry) → length o < 18446744073709551615 → x.standing.unsure ≡ count_since is_unsure o → y.standing.unsure ≡ count_since is_unsure (e ∷ o)
+  pub up : (base : Base) (o : List Entry) → x.site_counts.up ≡ is_up base o → y.site_counts.up ≡ is_up base (e ∷ o)
+  pub epoch : (base : Base) (o : List Entry) → x.site_counts.epoch ≡ epoch_of base o → y.site_counts.epoch ≡ epoch_of base (e ∷ o)
+  pub begun : (o : List Entry) → length o < 18446744073709551615 → x.site_counts.begun ≡ count_since is_begun_reply o → y.site_counts.begun ≡ count_since is_begun_reply (e ∷ o)
+  pub still_down : (o : List Entry) → length o < 18446744073709551615 → x.site_counts.still_down ≡ count_since is_still_down o → y.site_counts.still_down ≡ count_since is_still_down (e ∷ o)
+  pub unsure : (o : List Entry) → length o < 18446744073709551615 → x.site_counts.unsure ≡ count_since is_unsure o → y.site_counts.unsure ≡ count_since is_unsure (e ∷ o)
 
 pub site_more : (schema : SchemaValue) → IsSchema schema → (e : Entry) (t : List Entry) → IsSound schema (e ∷ t) → length (own e.site.0 t) < 18446744073709551615 → (x y : SiteTotals)
     → IsSite schema e.site.0 (own e.site.0 t) x → GoesOn e x y → IsSite schema e.site.0 (own e.site.0 (e ∷ t)) y

@@ -14,7 +14,7 @@ use Rattle.central_machine.specs.declared.site_totals.SiteTotals.{SiteTotals}
 use Rattle.central_machine.specs.declared.totals.Totals.{Totals}
 use Rattle.central_machine.specs.Amounts.{amount}
 use Rattle.field_bounds.specs.Effects.{Base}
-use Rattle.central_rules.specs.Verdict.{broken, verdict_back}
+use Rattle.central_rules.specs.Verdict.{broken_rule, verdict_back}
 use Rattle.central_machine.specs.Running.{IsSite, AreTotals, NumbersAfter, effect_by, doubt_after}
 use Rattle.central_rules.proofs.Verdicts.{legal_is_sound}
 use Rattle.central_machine.proofs.Row.{set_here, set_there, set_long}
@@ -23,11 +23,11 @@ use Rattle.central_machine.proofs.Steps.{GoesOn, site_more}
 pub goes_on : {T E : Type 0} (r : Result T E) (e : Entry) (x y : SiteTotals)
     → OnOk r (NumbersAfter (effect_by (amount x.numbers.free) e.command e.reply) e.reply x.doubt x.numbers y.numbers)
     → OnOk r (y.doubt ≡ doubt_after (effect_by (amount x.numbers.free) e.command e.reply) e.reply x.doubt)
-    → OnOk r ((base : Base) (o : List Entry) → x.standing.up ≡ is_up base o → y.standing.up ≡ is_up base (e ∷ o))
-    → OnOk r ((base : Base) (o : List Entry) → x.standing.epoch ≡ epoch_of base o → y.standing.epoch ≡ epoch_of base (e ∷ o))
-    → OnOk r ((o : List Entry) → length o < 18446744073709551615 → x.standing.begun ≡ count_since is_begun_reply o → y.standing.begun ≡ count_since is_begun_reply (e ∷ o))
-    → OnOk r ((o : List Entry) → length o < 18446744073709551615 → x.standing.still_down ≡ count_since is_still_down o → y.standing.still_down ≡ count_since is_still_down (e ∷ o))
-    → OnOk r ((o : List Entry) → length o < 18446744073709551615 → x.standing.unsure ≡ count_since is_unsure o → y.standing.unsure ≡ count_since is_unsure (e ∷ o))
+    → OnOk r ((base : Base) (o : List Entry) → x.site_counts.up ≡ is_up base o → y.site_counts.up ≡ is_up base (e ∷ o))
+    → OnOk r ((base : Base) (o : List Entry) → x.site_counts.epoch ≡ epoch_of base o → y.site_counts.epoch ≡ epoch_of base (e ∷ o))
+    → OnOk r ((o : List Entry) → length o < 18446744073709551615 → x.site_counts.begun ≡ count_since is_begun_reply o → y.site_counts.begun ≡ count_since is_begun_reply (e ∷ o))
+    → OnOk r ((o : List Entry) → length o < 18446744073709551615 → x.site_counts.still_down ≡ count_since is_still_down o → y.site_counts.still_down ≡ count_since is_still_down (e ∷ o))
+    → OnOk r ((o : List Entry) → length o < 18446744073709551615 → x.site_counts.unsure ≡ count_since is_unsure o → y.site_counts.unsure ≡ count_since is_unsure (e ∷ o))
     → OnOk r (GoesOn e x y)
 goes_on (Ok v) e x y numbers doubt up epoch begun still_down unsure = record { numbers = numbers; doubt = doubt; up = up; epoch = epoch; begun = begun; still_down = still_down; unsure = unsure }
 goes_on (Err v) e x y numbers doubt up epoch begun still_down unsure = numbers
@@ -40,11 +40,11 @@ own_few s (e ∷ t) = at (eqb e.site.0 s) (own_few s t)
     at true h = omega (arith, h)
     at false h = omega (arith, h)
 
-pub legal_next : (schema : SchemaValue) (e : Entry) (t : List Entry) → verdict_back schema t ≡ Legal → broken schema t e ≡ None → verdict_back schema (e ∷ t) ≡ Legal
+pub legal_next : (schema : SchemaValue) (e : Entry) (t : List Entry) → verdict_back schema t ≡ Legal → broken_rule schema t e ≡ None → verdict_back schema (e ∷ t) ≡ Legal
 unfolding verdict_back
 legal_next schema e t legal good = rw (legal, good) refl
 
-pub totals_more : (schema : SchemaValue) → IsSchema schema → (e : Entry) (t : List Entry) → length t < 230584300921369395 → verdict_back schema t ≡ Legal → broken schema t e ≡ None
+pub totals_more : (schema : SchemaValue) → IsSchema schema → (e : Entry) (t : List Entry) → length t < 230584300921369395 → verdict_back schema t ≡ Legal → broken_rule schema t e ≡ None
     → (before after : Totals) (x y : SiteTotals) → slice_get before.sites.items e.site.0 ≡ Some x → after.sites.items ≡ set before.sites.items e.site.0 y
     → AreTotals schema t before → GoesOn e x y → AreTotals schema (e ∷ t) after
 totals_more schema good e t few legal unbroken before after x y there put is took =

@@ -29,8 +29,8 @@ name_of None other = other
 name_of (Some rule) other = rule
 
 -- The rule that names what is wrong with a bad entry, where it is known whether it takes in a statement that wasn't issued.
-abbrev pub named : SchemaValue → List Entry → Entry → Bool → Rule
-named schema t e untold =
+abbrev pub rule_named : SchemaValue → List Entry → Entry → Bool → Rule
+rule_named schema t e untold =
     if test_of schema t e Site
     then name_of (field_broken schema t e) (if untold then Told else Owed)
     else Site
@@ -46,14 +46,14 @@ abbrev pub own_count : ℕ → List Entry → ℕ → ℕ
 own_count s entries n = length (own s (front_of entries n))
 
 -- The places of the entries of site s among the first n, in order: the j-th has j entries of the site before it.
-pub record ArePlaces (s : ℕ) (entries : List Entry) (n : ℕ) (places : List ℕ) : Type 0 where
+pub record AreNumbers (s : ℕ) (entries : List Entry) (n : ℕ) (places : List ℕ) : Type 0 where
   pub each : (j p : ℕ) → slice_get places j ≡ Some p → (p < n) × (own_count s entries p ≡ j)
   pub here : (j p : ℕ) (e : Entry) → slice_get places j ≡ Some p → slice_get entries p ≡ Some e → e.site.0 ≡ s
   pub all : length places ≡ own_count s entries n
 
 -- The places of the entries of each site, among the first n.
-abbrev pub AreAllPlaces : List Entry → ℕ → List Places → Type 0
-AreAllPlaces entries n lists = (s : ℕ) (y : Places) → slice_get lists s ≡ Some y → ArePlaces s entries n y.list.items
+abbrev pub AreAllNumbers : List Entry → ℕ → List Places → Type 0
+AreAllNumbers entries n lists = (s : ℕ) (y : Places) → slice_get lists s ≡ Some y → AreNumbers s entries n y.list.items
 
 -- A place stands behind the others in the list of its site, and no other list has changed.
 pub record IsNoted (before after : List Places) (s place : ℕ) : Type 0 where

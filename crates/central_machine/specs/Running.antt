@@ -12,54 +12,54 @@ use Rattle.field_bounds.specs.declared.entry.Reply.TheVariants.{Begun, Granted, 
 use Rattle.field_bounds.specs.declared.entry.Entry.{Entry}
 use Rattle.field_bounds.specs.Kind.{other, kind_of}
 use Rattle.field_bounds.specs.Schema.{SchemaValue}
-use Rattle.field_bounds.specs.Effects.{Base, fresh, is_begun, is_open, open_txns, escrows_of, takes, given, accepted, cut, share, held, spared, says_kept, effect_of, effects}
+use Rattle.field_bounds.specs.Effects.{Base, fresh, is_begun, is_open, open_txns, escrows_of, takes, total_given, total_accepted, cut, share, held_rights, spare_amount, says_doubt_kept, effect_of, effects}
 use Rattle.field_bounds.specs.Owed.{Place, place, is_up, epoch_of, count_since, is_begun_reply, is_still_down, is_unsure}
 use Rattle.field_bounds.specs.Central.{own}
 use Rattle.central_machine.specs.declared.numbers.Numbers.{Numbers}
 use Rattle.central_machine.specs.declared.site_totals.SiteTotals.{SiteTotals}
 use Rattle.central_machine.specs.declared.totals.Totals.{Totals}
 use Rattle.central_machine.specs.declared.running.Running.{Running}
-use Rattle.central_machine.specs.Amounts.{amount, has_place, IsPut, capped}
+use Rattle.central_machine.specs.Amounts.{amount, has_slot, IsPut, capped_sum}
 use Rattle.statement_set.specs.Issued.{HasIssued}
 use Rattle.central_machine.specs.Open.{txns_of, escrows_at, IsOpened, IsAdded, IsClosed}
 
 -- ---- the numbers of one site
 
 -- To which kind rights go when a transaction ends.
-abbrev pub turned : Bool → Kind → Kind
-turned true k = other k
-turned false k = k
+abbrev pub kind_after : Bool → Kind → Kind
+kind_after true k = other k
+kind_after false k = k
 
 -- What escrows take of the rights of a kind on a field.
-abbrev pub taken : ℕ → Kind → List EscrowOf → ℕ
-taken f k escrows = sum_by (takes f k) escrows
+abbrev pub sizes_taken : ℕ → Kind → List EscrowOf → ℕ
+sizes_taken f k escrows = sum_by (takes f k) escrows
 
 -- The place of a site and a field in a ledger.
-abbrev pub place_at : ℕ → ℕ → ℕ → ℕ
-place_at stride r f = r * stride + f
+abbrev pub slot_at : ℕ → ℕ → ℕ → ℕ
+slot_at stride r f = r * stride + f
 
 -- The numbers are those of what took effect.
 pub record Describes (schema : SchemaValue) (base : Base) (es : List Effect) (n : Numbers) : Type 0 where
   pub stride : n.stride ≡ length schema.fields
-  pub free_in : (f : ℕ) → f < length schema.fields → has_place n.free f ≡ true
-  pub held_in : (f : ℕ) → f < length schema.fields → has_place n.held f ≡ true
-  pub cut_in : (f : ℕ) → f < length schema.fields → has_place n.cut f ≡ true
-  pub given_in : (r f : ℕ) → r < schema.sites → f < length schema.fields → has_place n.given (place_at n.stride r f) ≡ true
-  pub accepted_in : (r f : ℕ) → r < schema.sites → f < length schema.fields → has_place n.accepted (place_at n.stride r f) ≡ true
+  pub free_in : (f : ℕ) → f < length schema.fields → has_slot n.free f ≡ true
+  pub held_in : (f : ℕ) → f < length schema.fields → has_slot n.held f ≡ true
+  pub cut_in : (f : ℕ) → f < length schema.fields → has_slot n.cut f ≡ true
+  pub given_in : (r f : ℕ) → r < schema.sites → f < length schema.fields → has_slot n.given (slot_at n.stride r f) ≡ true
+  pub accepted_in : (r f : ℕ) → r < schema.sites → f < length schema.fields → has_slot n.accepted (slot_at n.stride r f) ≡ true
   pub free : (f : ℕ) (k : Kind) → f < length schema.fields → amount n.free f k ≡ share base f k es
-  pub held : (f : ℕ) (k : Kind) → f < length schema.fields → amount n.held f k ≡ held f k es
+  pub held : (f : ℕ) (k : Kind) → f < length schema.fields → amount n.held f k ≡ held_rights f k es
   pub cut : (f : ℕ) (k : Kind) → f < length schema.fields → amount n.cut f k ≡ cut base f k es
-  pub given : (r f : ℕ) (k : Kind) → r < schema.sites → f < length schema.fields → amount n.given (place_at n.stride r f) k ≡ given base r f k es
-  pub accepted : (r f : ℕ) (k : Kind) → r < schema.sites → f < length schema.fields → amount n.accepted (place_at n.stride r f) k ≡ accepted base r f k es
+  pub given : (r f : ℕ) (k : Kind) → r < schema.sites → f < length schema.fields → amount n.given (slot_at n.stride r f) k ≡ total_given base r f k es
+  pub accepted : (r f : ℕ) (k : Kind) → r < schema.sites → f < length schema.fields → amount n.accepted (slot_at n.stride r f) k ≡ total_accepted base r f k es
   pub txns : txns_of n.journal.rows.items ≡ reverse (open_txns es)
   pub escrows : (t : TxnId) → is_begun t es ≡ true → is_open t es ≡ true → escrows_at t n.journal.rows.items ≡ reverse (escrows_of t es)
 
 -- The numbers fit.
 pub record IsSmall (base : Base) (es : List Effect) : Type 0 where
   pub free : (f : ℕ) (k : Kind) → share base f k es ≤ 18446744073709551615
-  pub held : (f : ℕ) (k : Kind) → held f k es ≤ 18446744073709551615
+  pub held : (f : ℕ) (k : Kind) → held_rights f k es ≤ 18446744073709551615
   pub cut : (f : ℕ) (k : Kind) → cut base f k es ≤ 18446744073709551615
-  pub given : (r f : ℕ) (k : Kind) → given base r f k es ≤ 18446744073709551615
+  pub given : (r f : ℕ) (k : Kind) → total_given base r f k es ≤ 18446744073709551615
 
 -- ---- what one more effect does to the numbers
 
@@ -78,24 +78,24 @@ pub record Opens (n m : Numbers) (txn : TxnId) : Type 0 where
 
 pub record SetsAside (n m : Numbers) (txn : TxnId) (escrow : EscrowOf) : Type 0 where
   pub free : IsPut n.free m.free escrow.field.0 (kind_of escrow.change) (amount n.free escrow.field.0 (kind_of escrow.change) - unsigned_abs escrow.change)
-  pub held : IsPut n.held m.held escrow.field.0 (kind_of escrow.change) (capped (amount n.held escrow.field.0 (kind_of escrow.change) + unsigned_abs escrow.change))
+  pub held : IsPut n.held m.held escrow.field.0 (kind_of escrow.change) (capped_sum (amount n.held escrow.field.0 (kind_of escrow.change) + unsigned_abs escrow.change))
   pub open_rows : IsAdded n.journal.rows.items m.journal.rows.items txn escrow
   pub rest : KeepsLedgers n m
 
 pub record Ends (n m : Numbers) (txn : TxnId) (committed : Bool) : Type 0 where
-  pub held : (f : ℕ) (k : Kind) → has_place n.held f ≡ true → amount m.held f k ≡ amount n.held f k - taken f k (escrows_at txn n.journal.rows.items)
-  pub free : (f : ℕ) (k : Kind) → has_place n.free f ≡ true → amount n.free f k ≤ 18446744073709551615 → amount m.free f k ≡ capped (amount n.free f k + taken f (turned committed k) (escrows_at txn n.journal.rows.items))
-  pub held_places : (g : ℕ) → has_place m.held g ≡ has_place n.held g
-  pub free_places : (g : ℕ) → has_place m.free g ≡ has_place n.free g
+  pub held : (f : ℕ) (k : Kind) → has_slot n.held f ≡ true → amount m.held f k ≡ amount n.held f k - sizes_taken f k (escrows_at txn n.journal.rows.items)
+  pub free : (f : ℕ) (k : Kind) → has_slot n.free f ≡ true → amount n.free f k ≤ 18446744073709551615 → amount m.free f k ≡ capped_sum (amount n.free f k + sizes_taken f (kind_after committed k) (escrows_at txn n.journal.rows.items))
+  pub held_places : (g : ℕ) → has_slot m.held g ≡ has_slot n.held g
+  pub free_places : (g : ℕ) → has_slot m.free g ≡ has_slot n.free g
   pub open_rows : IsClosed n.journal.rows.items m.journal.rows.items txn
   pub rest : KeepsLedgers n m
 
 -- All that is held goes free, and nothing is open.
 pub record StopsAll (n m : Numbers) : Type 0 where
-  pub held : (f : ℕ) (k : Kind) → f < n.stride → has_place n.held f ≡ true → amount m.held f k ≡ 0
-  pub free : (f : ℕ) (k : Kind) → f < n.stride → has_place n.free f ≡ true → has_place n.held f ≡ true → amount m.free f k ≡ capped (amount n.free f k + amount n.held f k)
-  pub held_places : (g : ℕ) → has_place m.held g ≡ has_place n.held g
-  pub free_places : (g : ℕ) → has_place m.free g ≡ has_place n.free g
+  pub held : (f : ℕ) (k : Kind) → f < n.stride → has_slot n.held f ≡ true → amount m.held f k ≡ 0
+  pub free : (f : ℕ) (k : Kind) → f < n.stride → has_slot n.free f ≡ true → has_slot n.held f ≡ true → amount m.free f k ≡ capped_sum (amount n.free f k + amount n.held f k)
+  pub held_places : (g : ℕ) → has_slot m.held g ≡ has_slot n.held g
+  pub free_places : (g : ℕ) → has_slot m.free g ≡ has_slot n.free g
   pub open_rows : m.journal.rows.items ≡ []
   pub rest : KeepsLedgers n m
 
@@ -109,17 +109,17 @@ pub record Leaves (n m : Numbers) (field : ℕ) (kind : Kind) (size : ℕ) : Typ
 
 pub record GoesTo (n m : Numbers) (to field : ℕ) (kind : Kind) (size : ℕ) : Type 0 where
   pub left : Leaves n m field kind size
-  pub given : IsPut n.given m.given (place_at n.stride to field) kind (capped (amount n.given (place_at n.stride to field) kind + size))
+  pub given : IsPut n.given m.given (slot_at n.stride to field) kind (capped_sum (amount n.given (slot_at n.stride to field) kind + size))
   pub cut : m.cut ≡ n.cut
 
 pub record GoesForGood (n m : Numbers) (field : ℕ) (kind : Kind) (size : ℕ) : Type 0 where
   pub left : Leaves n m field kind size
-  pub cut : IsPut n.cut m.cut field kind (capped (amount n.cut field kind + size))
+  pub cut : IsPut n.cut m.cut field kind (capped_sum (amount n.cut field kind + size))
   pub given : m.given ≡ n.given
 
 pub record TakesIn (n m : Numbers) (from field : ℕ) (kind : Kind) (total : ℕ) : Type 0 where
-  pub free : IsPut n.free m.free field kind (capped (amount n.free field kind + (total - amount n.accepted (place_at n.stride from field) kind)))
-  pub accepted : IsPut n.accepted m.accepted (place_at n.stride from field) kind (max total (amount n.accepted (place_at n.stride from field) kind))
+  pub free : IsPut n.free m.free field kind (capped_sum (amount n.free field kind + (total - amount n.accepted (slot_at n.stride from field) kind)))
+  pub accepted : IsPut n.accepted m.accepted (slot_at n.stride from field) kind (max total (amount n.accepted (slot_at n.stride from field) kind))
   pub stride : m.stride ≡ n.stride
   pub held : m.held ≡ n.held
   pub cut : m.cut ≡ n.cut
@@ -156,7 +156,7 @@ effect_by shares (Give to field kind amount) Unsure = Some (Gives (Some to) fiel
 effect_by shares (Give to field kind amount) reply = None
 effect_by shares (Restate to field kind) reply = None
 effect_by shares (Spare to field kind want) (Spared amount total) = Some (Gives (Some to) field kind amount)
-effect_by shares (Spare to field kind want) Unsure = Some (Gives (Some to) field kind (spared (shares field.0 kind) want))
+effect_by shares (Spare to field kind want) Unsure = Some (Gives (Some to) field kind (spare_amount (shares field.0 kind) want))
 effect_by shares (Spare to field kind want) reply = None
 effect_by shares (Tighten field kind amount) (Tightened total) = Some (Gives None field kind amount)
 effect_by shares (Tighten field kind amount) Unsure = Some (Gives None field kind amount)
@@ -193,9 +193,9 @@ doubt base [] = None
 doubt base (e ∷ o) = doubt_after (effect_of base (effects base false o) e.command e.reply) e.reply (doubt base o)
 
 -- What a restart puts into effect before it stops the site.
-abbrev pub settled : Bool → Option Effect → Option Effect
-settled true d = d
-settled false d = None
+abbrev pub settled_effect : Bool → Option Effect → Option Effect
+settled_effect true d = d
+settled_effect false d = None
 
 abbrev pub MayTake : Option Effect → Numbers → Numbers → Type 0
 MayTake None n m = m ≡ n
@@ -214,7 +214,7 @@ NumbersAfter effect (Tightened total) d n m = MayTake effect n m
 NumbersAfter effect (Accepted gain) d n m = MayTake effect n m
 NumbersAfter effect (Between lo hi) d n m = MayTake effect n m
 NumbersAfter effect (Shares lower raise) d n m = MayTake effect n m
-NumbersAfter effect (Restarted epoch found) d n m = (mid : Numbers) × MayTake (settled (says_kept found) d) n mid × MayTake effect mid m
+NumbersAfter effect (Restarted epoch found) d n m = (mid : Numbers) × MayTake (settled_effect (says_doubt_kept found) d) n mid × MayTake effect mid m
 NumbersAfter effect Unsure d n m = m ≡ n
 NumbersAfter effect StillDown d n m = MayTake effect n m
 NumbersAfter effect (Refused refusal) d n m = MayTake effect n m
@@ -223,11 +223,11 @@ NumbersAfter effect (Refused refusal) d n m = MayTake effect n m
 
 -- A site's totals are those of its entries.
 pub record IsSite (schema : SchemaValue) (s : ℕ) (o : List Entry) (x : SiteTotals) : Type 0 where
-  pub up : x.standing.up ≡ is_up (fresh schema s) o
-  pub epoch : x.standing.epoch ≡ epoch_of (fresh schema s) o
-  pub begun : x.standing.begun ≡ count_since is_begun_reply o
-  pub still_down : x.standing.still_down ≡ count_since is_still_down o
-  pub unsure : x.standing.unsure ≡ count_since is_unsure o
+  pub up : x.site_counts.up ≡ is_up (fresh schema s) o
+  pub epoch : x.site_counts.epoch ≡ epoch_of (fresh schema s) o
+  pub begun : x.site_counts.begun ≡ count_since is_begun_reply o
+  pub still_down : x.site_counts.still_down ≡ count_since is_still_down o
+  pub unsure : x.site_counts.unsure ≡ count_since is_unsure o
   pub numbers : Describes schema (fresh schema s) (effects (fresh schema s) false o) x.numbers
   pub doubt : x.doubt ≡ doubt (fresh schema s) o
 

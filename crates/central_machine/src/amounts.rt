@@ -3,7 +3,7 @@
 ghost use Rattle.std.specs.Prelude.{◌≡◌, ◌<◌, ℕ, true, IfOk, length, slice_index_or};
 ghost use Rattle.field_bounds.specs.declared.kind.Kind.{Kind};
 ghost use Rattle.field_bounds.specs.Parts.{part_of};
-ghost use Rattle.central_machine.specs.Amounts.{amount, has_place, IsPut};
+ghost use Rattle.central_machine.specs.Amounts.{amount, has_slot, IsPut};
 
 use field_bounds::{FieldNo, Kind, Schema, SiteNo};
 use std::alloc::{AllocError, Global};
@@ -19,7 +19,7 @@ impl Amounts {
     /// So many places with nothing.
     pub fn zeros(alloc: Global, n: usize) -> Result<Amounts, AllocError>
         ensures { IfOk result (λ made. (g : ℕ) (k : Kind) → g < n →
-            (has_place made g ≡ true) × (amount made g k ≡ 0)) }
+            (has_slot made g ≡ true) × (amount made g k ≡ 0)) }
     {
         Ok(Amounts {
             lower: Vec::from_elem(alloc, 0u64, n)?,
@@ -49,7 +49,7 @@ impl Amounts {
     pub fn parts(alloc: Global, schema: &Schema, site: SiteNo) -> Result<Amounts, AllocError>
         requires site_in { site.0 < schema.now.sites }
         ensures { IfOk result (λ made. (f : ℕ) (k : Kind) → f < length schema.now.fields →
-            (has_place made f ≡ true) × (amount made f k ≡ part_of schema.now site.0 f k)) }
+            (has_slot made f ≡ true) × (amount made f k ≡ part_of schema.now site.0 f k)) }
     {
         Ok(Amounts {
             lower: Amounts::parts_of(alloc, schema, site, Kind::Lower)?,

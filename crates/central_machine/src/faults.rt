@@ -4,12 +4,12 @@ ghost use Rattle.std.specs.Prelude.{◌≡◌, ◌<◌, ◌+◌, ℕ, IfOk, OnOk
 ghost use Rattle.std.specs.List.{AllZip};
 ghost use Rattle.rayon.specs.Numbers.{nat_range};
 ghost use Rattle.field_bounds.specs.declared.entry.Entry.{Entry};
-ghost use Rattle.central_machine.specs.Parts.{IsNoted, AreAllPlaces, ArePlaces, IsFault, part_at, part_test, earlier, earliest, first_is_at};
+ghost use Rattle.central_machine.specs.Parts.{IsNoted, AreAllNumbers, AreNumbers, IsFault, part_at, part_test, earlier, earliest, first_is_at};
 ghost use Rattle.statement_set.specs.Issued.{HasIssued};
 ghost use Rattle.central_machine.specs.declared.faults.Part.TheVariants.{Statements, AtSite};
 
-use crate::counted::length_of;
-use crate::issued;
+use crate::judging::length_of;
+use crate::statements;
 use crate::site_totals::SiteTotals;
 use crate::totals::reply_fits;
 use field_bounds::{Entry, Schema, SiteNo};
@@ -35,7 +35,7 @@ pub struct Places {
 fn no_places(alloc: Global, schema: &Schema) -> Result<Vec<Places>, AllocError>
     ensures count { IfOk result (λ lists. length lists.items ≡ schema.now.sites) }
     ensures places { IfOk result (λ lists. (entries : List Entry) →
-        AreAllPlaces entries 0 lists.items) }
+        AreAllNumbers entries 0 lists.items) }
 {
     let mut lists = Vec::new(alloc);
     for site in 0..schema.sites() {
@@ -63,7 +63,7 @@ fn note_place(lists: &mut Vec<Places>, site: SiteNo, place: usize) -> Result<(),
 /// The places of each site's entries.
 fn places_of(alloc: Global, schema: &Schema, entries: &[Entry]) -> Result<Vec<Places>, AllocError>
     ensures count { IfOk result (λ lists. length lists.items ≡ schema.now.sites) }
-    ensures places { IfOk result (λ lists. AreAllPlaces entries.now (length entries.now) lists.items) }
+    ensures places { IfOk result (λ lists. AreAllNumbers entries.now (length entries.now) lists.items) }
 {
     let mut lists = no_places(alloc, schema)?;
     for (i, entry) in entries.iter().enumerate() {
@@ -77,7 +77,7 @@ fn statements_hold(issued: &StatementSet, schema: &Schema, entry: Entry) -> bool
     ensures { (t : List Entry) → HasIssued issued.now t →
         result ≡ part_test schema.now t entry Statements }
 {
-    entry.site.0 < schema.sites() && issued::holds(issued, entry)
+    entry.site.0 < schema.sites() && statements::holds(issued, entry)
 }
 
 /// The first entry of a site that isn't in the schema, or that takes in a statement that wasn't
@@ -94,7 +94,7 @@ fn statements_fault(
         if !statements_hold(&issued, schema, *entry) {
             return Ok(Some(i));
         }
-        issued::note(&mut issued, entry)?;
+        statements::note(&mut issued, entry)?;
     }
     Ok(None)
 }
@@ -108,7 +108,7 @@ fn site_fault(
     places: &[usize],
 ) -> Result<Option<usize>, AllocError>
     requires site_in { site.0 < schema.now.sites }
-    ensures { IfOk result (λ fault. ArePlaces site.0 entries.now (length entries.now) places.now →
+    ensures { IfOk result (λ fault. AreNumbers site.0 entries.now (length entries.now) places.now →
         IsFault schema.now entries.now (AtSite site.0) fault) }
 {
     let _few = length_of(entries);
@@ -134,7 +134,7 @@ fn fault_of(
     lists: &[Places],
     site: usize,
 ) -> Result<Option<usize>, AllocError>
-    ensures { IfOk result (λ fault. AreAllPlaces entries.now (length entries.now) lists.now →
+    ensures { IfOk result (λ fault. AreAllNumbers entries.now (length entries.now) lists.now →
         length lists.now ≡ schema.now.sites → site < schema.now.sites →
         IsFault schema.now entries.now (AtSite site) fault) }
 {
@@ -155,7 +155,7 @@ fn listed_faults(
     entries: &[Entry],
     lists: &[Places],
 ) -> Result<Vec<Option<usize>>, AllocError>
-    ensures { IfOk result (λ faults. AllZip (λ site fault. AreAllPlaces entries.now (length entries.now) lists.now →
+    ensures { IfOk result (λ faults. AllZip (λ site fault. AreAllNumbers entries.now (length entries.now) lists.now →
         length lists.now ≡ schema.now.sites → site < schema.now.sites →
         IsFault schema.now entries.now (AtSite site) fault) (nat_range 0 schema.now.sites) faults.items) }
 {
@@ -165,7 +165,7 @@ fn listed_faults(
         .with_min_len(1)
         .map(
             |site: usize| -> Result<Option<usize>, AllocError>
-                ensures { IfOk result (λ fault. AreAllPlaces entries.entry.now (length entries.entry.now) lists.entry.now →
+                ensures { IfOk result (λ fault. AreAllNumbers entries.entry.now (length entries.entry.now) lists.entry.now →
                     length lists.entry.now ≡ schema.entry.now.sites →
                     site < schema.entry.now.sites →
                     IsFault schema.entry.now entries.entry.now (AtSite site) fault) }

@@ -1,7 +1,7 @@
 //! The open transactions of a site, each in a row of its own.
 
 ghost use Rattle.std.specs.Prelude.{◌≡◌, ◌≤◌, [], length, is_some, OnOk, IfSome};
-ghost use Rattle.central_machine.specs.Open.{has_row, place_of, escrows_at, IsOpened, IsAdded, IsClosed};
+ghost use Rattle.central_machine.specs.Open.{has_row, index_of, escrows_at, IsOpened, IsAdded, IsClosed};
 
 use central_rules::same_txn;
 use field_bounds::{Escrow, TxnId};
@@ -22,7 +22,7 @@ pub struct Journal {
 
 /// The place of a transaction's row, or how many rows there are where it has none.
 fn place(rows: &[OpenTransaction], txn: TxnId) -> usize
-    ensures value { result ≡ place_of txn rows.now }
+    ensures value { result ≡ index_of txn rows.now }
 {
     for (i, row) in rows.iter().enumerate() {
         if same_txn(row.txn, txn) {

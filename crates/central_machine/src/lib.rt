@@ -6,9 +6,9 @@
 #![tactic(auto)]
 
 mod amounts;
-mod counted;
+mod judging;
 mod faults;
-mod issued;
+mod statements;
 mod journal;
 mod numbers;
 mod owed;
@@ -18,7 +18,7 @@ mod site_totals;
 mod totals;
 
 pub use central_rules::{Rule, Verdict, judge_plain, verdict_is_exact};
-pub use counted::{judge, judge_counted};
+pub use judging::{judge, judge_counted};
 pub use parts::judge_fields;
 
 #[cfg(test)]

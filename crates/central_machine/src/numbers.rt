@@ -3,9 +3,9 @@
 ghost use Rattle.std.specs.Prelude.{◌≡◌, ℕ, ◌+◌, ◌-◌, ◌<◌, ◌≤◌, max, true, unsigned_abs, OnOk};
 ghost use Rattle.field_bounds.specs.declared.kind.Kind.{Kind};
 ghost use Rattle.field_bounds.specs.Kind.{kind_of};
-ghost use Rattle.central_machine.specs.Amounts.{amount, has_place, IsPut, capped};
+ghost use Rattle.central_machine.specs.Amounts.{amount, has_slot, IsPut, capped_sum};
 ghost use Rattle.central_machine.specs.Open.{escrows_at};
-ghost use Rattle.central_machine.specs.Running.{place_at, taken, turned, Takes, MayTake, Opens, SetsAside, Ends, StopsAll, Leaves, GoesTo, GoesForGood, TakesIn};
+ghost use Rattle.central_machine.specs.Running.{slot_at, sizes_taken, kind_after, Takes, MayTake, Opens, SetsAside, Ends, StopsAll, Leaves, GoesTo, GoesForGood, TakesIn};
 
 use crate::amounts::Amounts;
 use crate::journal::Journal;
@@ -28,7 +28,7 @@ pub struct Numbers {
 
 /// The place of a site and a field in a ledger with so many fields for each site.
 pub fn place_at(stride: u16, site: SiteNo, field: FieldNo) -> usize
-    ensures { result ≡ place_at stride site.0 field.0 }
+    ensures { result ≡ slot_at stride site.0 field.0 }
 {
     usize::from(site.0) * usize::from(stride) + usize::from(field.0)
 }
@@ -37,7 +37,7 @@ pub fn place_at(stride: u16, site: SiteNo, field: FieldNo) -> usize
 /// other.
 fn settle(free: &mut Amounts, held: &mut Amounts, escrow: Escrow, committed: bool)
     ensures held { IsPut held.old held.new escrow.field.0 (kind_of escrow.change) (amount held.old escrow.field.0 (kind_of escrow.change) - unsigned_abs escrow.change) }
-    ensures free { IsPut free.old free.new escrow.field.0 (turned committed (kind_of escrow.change)) (capped (amount free.old escrow.field.0 (turned committed (kind_of escrow.change)) + unsigned_abs escrow.change)) }
+    ensures free { IsPut free.old free.new escrow.field.0 (kind_after committed (kind_of escrow.change)) (capped_sum (amount free.old escrow.field.0 (kind_after committed (kind_of escrow.change)) + unsigned_abs escrow.change)) }
 {
     let kind = Kind::of(escrow.change);
     let size = escrow.change.unsigned_abs();
@@ -51,13 +51,13 @@ fn settle(free: &mut Amounts, held: &mut Amounts, escrow: Escrow, committed: boo
 
 /// Ends escrows, one after another.
 fn settle_all(free: &mut Amounts, held: &mut Amounts, escrows: &[Escrow], committed: bool)
-    ensures held { (f : ℕ) (k : Kind) → has_place held.old f ≡ true →
-        amount held.new f k ≡ amount held.old f k - taken f k escrows.now }
-    ensures free { (f : ℕ) (k : Kind) → has_place free.old f ≡ true →
+    ensures held { (f : ℕ) (k : Kind) → has_slot held.old f ≡ true →
+        amount held.new f k ≡ amount held.old f k - sizes_taken f k escrows.now }
+    ensures free { (f : ℕ) (k : Kind) → has_slot free.old f ≡ true →
         amount free.old f k ≤ 18446744073709551615 → amount free.new f k
-        ≡ capped (amount free.old f k + taken f (turned committed k) escrows.now) }
-    ensures held_places { (g : ℕ) → has_place held.new g ≡ has_place held.old g }
-    ensures free_places { (g : ℕ) → has_place free.new g ≡ has_place free.old g }
+        ≡ capped_sum (amount free.old f k + sizes_taken f (kind_after committed k) escrows.now) }
+    ensures held_places { (g : ℕ) → has_slot held.new g ≡ has_slot held.old g }
+    ensures free_places { (g : ℕ) → has_slot free.new g ≡ has_slot free.old g }
 {
     for escrow in escrows {
         settle(free, held, *escrow, committed);
@@ -67,7 +67,7 @@ fn settle_all(free: &mut Amounts, held: &mut Amounts, escrows: &[Escrow], commit
 /// What is held of a kind at a place goes free.
 fn release(free: &mut Amounts, held: &mut Amounts, place: usize, kind: Kind)
     ensures held { IsPut held.old held.new place kind 0 }
-    ensures free { IsPut free.old free.new place kind (capped (amount free.old place kind + amount held.old place kind)) }
+    ensures free { IsPut free.old free.new place kind (capped_sum (amount free.old place kind + amount held.old place kind)) }
 {
     let more = free.at(place, kind).saturating_add(held.at(place, kind));
     free.put(place, kind, more);
@@ -76,13 +76,13 @@ fn release(free: &mut Amounts, held: &mut Amounts, place: usize, kind: Kind)
 
 /// All that is held at so many places goes free.
 fn release_all(free: &mut Amounts, held: &mut Amounts, places: u16)
-    ensures held { (f : ℕ) (k : Kind) → f < places → has_place held.old f ≡ true →
+    ensures held { (f : ℕ) (k : Kind) → f < places → has_slot held.old f ≡ true →
         amount held.new f k ≡ 0 }
-    ensures free { (f : ℕ) (k : Kind) → f < places → has_place free.old f ≡ true →
-        has_place held.old f ≡ true →
-        amount free.new f k ≡ capped (amount free.old f k + amount held.old f k) }
-    ensures held_places { (g : ℕ) → has_place held.new g ≡ has_place held.old g }
-    ensures free_places { (g : ℕ) → has_place free.new g ≡ has_place free.old g }
+    ensures free { (f : ℕ) (k : Kind) → f < places → has_slot free.old f ≡ true →
+        has_slot held.old f ≡ true →
+        amount free.new f k ≡ capped_sum (amount free.old f k + amount held.old f k) }
+    ensures held_places { (g : ℕ) → has_slot held.new g ≡ has_slot held.old g }
+    ensures free_places { (g : ℕ) → has_slot free.new g ≡ has_slot free.old g }
 {
     for place in 0..places {
         release(free, held, usize::from(place), Kind::Lower);

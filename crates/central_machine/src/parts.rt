@@ -5,9 +5,9 @@ ghost use Rattle.field_bounds.specs.declared.entry.Entry.{Entry};
 ghost use Rattle.central_rules.specs.declared.verdict.Verdict.TheVariants.{Legal};
 ghost use Rattle.central_rules.specs.Verdict.{verdict_of, verdict_back};
 ghost use Rattle.central_machine.specs.Running.{AreTotals};
-ghost use Rattle.central_machine.specs.Parts.{named};
+ghost use Rattle.central_machine.specs.Parts.{rule_named};
 
-use crate::counted::length_of;
+use crate::judging::length_of;
 use crate::faults::{earliest, faults_of, first_is_at};
 use crate::totals::Totals;
 use central_rules::{Rule, Verdict};
@@ -32,7 +32,7 @@ fn totals_of(alloc: Global, schema: &Schema, front: &[Entry]) -> Result<Totals, 
 /// wasn't issued.
 fn rule_of(totals: &Totals, schema: &Schema, entry: Entry, untold: bool) -> Rule
     ensures { (t : List Entry) → AreTotals schema.now t totals.now →
-        verdict_back schema.now t ≡ Legal → result ≡ named schema.now t entry untold }
+        verdict_back schema.now t ≡ Legal → result ≡ rule_named schema.now t entry untold }
 {
     if entry.site.0 >= schema.sites() {
         return Rule::Site;

@@ -4,10 +4,10 @@ ghost use Rattle.std.specs.Prelude.{◌≡◌, ◌<◌, length, List, ◌∷◌,
 ghost use Rattle.field_bounds.specs.declared.entry.Entry.{Entry};
 ghost use Rattle.central_rules.specs.declared.verdict.Verdict.TheVariants.{Legal};
 ghost use Rattle.central_rules.specs.declared.verdict.Rule.TheVariants.{Statement as Told};
-ghost use Rattle.central_rules.specs.Verdict.{broken, verdict_back, test_of};
+ghost use Rattle.central_rules.specs.Verdict.{broken_rule, verdict_back, test_of};
 ghost use Rattle.central_machine.specs.Running.{AreRunning};
 
-use crate::issued;
+use crate::statements;
 use crate::totals::Totals;
 use central_rules::Rule;
 use field_bounds::{Entry, Schema};
@@ -37,14 +37,14 @@ impl Running {
             result ≡ test_of schema.now t entry Told }
     {
         let _sites = schema.sites();
-        issued::holds(&self.issued, entry)
+        statements::holds(&self.issued, entry)
     }
 
     /// The first rule that the next entry breaks, of a site of the schema.
-    fn named(&self, schema: &Schema, entry: Entry) -> Option<Rule>
+    fn rule_named(&self, schema: &Schema, entry: Entry) -> Option<Rule>
         requires site_in { entry.site.0 < schema.now.sites }
         ensures { (t : List Entry) → AreRunning schema.now t self.now →
-            verdict_back schema.now t ≡ Legal → result ≡ broken schema.now t entry }
+            verdict_back schema.now t ≡ Legal → result ≡ broken_rule schema.now t entry }
     {
         if let Some(rule) = self.totals.field_broken(schema, entry) {
             return Some(rule);
@@ -60,9 +60,9 @@ impl Running {
 
     /// The first rule that the next entry breaks. One of a site of the schema, whose statement was issued
     /// and whose reply is owed, breaks none.
-    fn broken(&self, schema: &Schema, entry: Entry) -> Option<Rule>
+    fn broken_rule(&self, schema: &Schema, entry: Entry) -> Option<Rule>
         ensures { (t : List Entry) → AreRunning schema.now t self.now →
-            verdict_back schema.now t ≡ Legal → result ≡ broken schema.now t entry }
+            verdict_back schema.now t ≡ Legal → result ≡ broken_rule schema.now t entry }
     {
         if entry.site.0 >= schema.sites() {
             return Some(Rule::Site);
@@ -70,17 +70,17 @@ impl Running {
         if self.statement_holds(schema, entry) && self.totals.reply_holds(schema, entry) {
             return None;
         }
-        self.named(schema, entry)
+        self.rule_named(schema, entry)
     }
 
     /// Takes the totals of a front to those of the front with the next entry.
     fn step(&mut self, alloc: Global, schema: &Schema, entry: Entry) -> Result<(), AllocError>
         ensures { OnOk result ((t : List Entry) → length t < 230584300921369395 →
             AreRunning schema.now t self.old → verdict_back schema.now t ≡ Legal →
-            broken schema.now t entry ≡ None → AreRunning schema.now (entry ∷ t) self.new) }
+            broken_rule schema.now t entry ≡ None → AreRunning schema.now (entry ∷ t) self.new) }
     {
         let _sites = schema.sites();
-        issued::note(&mut self.issued, &entry)?;
+        statements::note(&mut self.issued, &entry)?;
         self.totals.step(alloc, schema, entry)
     }
 
@@ -92,12 +92,12 @@ impl Running {
         entry: Entry,
     ) -> Result<Option<Rule>, AllocError>
         ensures rule { IfOk result (λ rule. (t : List Entry) → AreRunning schema.now t self.old →
-            verdict_back schema.now t ≡ Legal → rule ≡ broken schema.now t entry) }
+            verdict_back schema.now t ≡ Legal → rule ≡ broken_rule schema.now t entry) }
         ensures totals { IfOk result (λ rule. (t : List Entry) → length t < 230584300921369395 →
             AreRunning schema.now t self.old → verdict_back schema.now t ≡ Legal → rule ≡ None →
             AreRunning schema.now (entry ∷ t) self.new) }
     {
-        if let Some(rule) = self.broken(schema, entry) {
+        if let Some(rule) = self.broken_rule(schema, entry) {
             return Ok(Some(rule));
         }
         self.step(alloc, schema, entry)?;

@@ -4,15 +4,15 @@ ghost use Rattle.std.specs.Prelude.{◌≡◌, ◌<◌, ◌∷◌, [], IfOk, OnO
 ghost use Rattle.field_bounds.specs.declared.effect.Effect.TheVariants.{Gives};
 ghost use Rattle.field_bounds.specs.declared.entry.Command.TheVariants.{Spare};
 ghost use Rattle.field_bounds.specs.declared.entry.Entry.{Entry};
-ghost use Rattle.field_bounds.specs.Effects.{Base, says_kept};
+ghost use Rattle.field_bounds.specs.Effects.{Base, says_doubt_kept};
 ghost use Rattle.field_bounds.specs.Owed.{is_up, epoch_of, count_since, is_begun_reply, is_still_down, is_unsure};
 ghost use Rattle.central_machine.specs.Amounts.{amount};
-ghost use Rattle.central_machine.specs.Running.{NumbersAfter, effect_by, doubt_after, settled, IsSite};
+ghost use Rattle.central_machine.specs.Running.{NumbersAfter, effect_by, doubt_after, settled_effect, IsSite};
 
 use crate::amounts::Amounts;
 use crate::journal::Journal;
 use crate::numbers::Numbers;
-use central_rules::{Standing, spared};
+use central_rules::{SiteCounts, spared_amount};
 use field_bounds::{
     Command, Effect, Entry, FieldNo, Kind, Last, Reply, Schema, SiteNo, by_command,
 };
@@ -21,7 +21,7 @@ use std::alloc::{AllocError, Global};
 /// A site's numbers, with where it stands and what is in doubt.
 #[derive(Drop)]
 pub struct SiteTotals {
-    pub standing: Standing,
+    pub site_counts: SiteCounts,
     pub numbers: Numbers,
     pub doubt: Option<Effect>,
 }
@@ -63,7 +63,7 @@ fn spare_by(
         Reply::Spared { amount, .. } => left(true, Some(to), field, kind, amount),
         Reply::Unsure => {
             let share = shares.at(usize::from(field.0), kind);
-            left(true, Some(to), field, kind, spared(u128::from(share), want))
+            left(true, Some(to), field, kind, spared_amount(u128::from(share), want))
         }
         _ => None,
     }
@@ -111,7 +111,7 @@ fn doubt_after(effect: Option<Effect>, reply: Reply, before: Option<Effect>) -> 
 }
 
 fn settled(last: Last, doubt: Option<Effect>) -> Option<Effect>
-    ensures { result ≡ settled (says_kept last) doubt }
+    ensures { result ≡ settled_effect (says_doubt_kept last) doubt }
 {
     match last {
         Last::Kept => doubt,
@@ -165,7 +165,7 @@ impl SiteTotals {
             accepted,
         };
         Ok(SiteTotals {
-            standing: Standing::new(),
+            site_counts: SiteCounts::new(),
             numbers,
             doubt: None,
         })
@@ -177,24 +177,24 @@ impl SiteTotals {
         ensures doubt { OnOk result (self.new.doubt
             ≡ doubt_after (effect_by (amount self.old.numbers.free) entry.command entry.reply) entry.reply self.old.doubt) }
         ensures up { OnOk result ((base : Base) (o : List Entry) →
-            self.old.standing.up ≡ is_up base o → self.new.standing.up ≡ is_up base (entry ∷ o)) }
+            self.old.site_counts.up ≡ is_up base o → self.new.site_counts.up ≡ is_up base (entry ∷ o)) }
         ensures epoch { OnOk result ((base : Base) (o : List Entry) →
-            self.old.standing.epoch ≡ epoch_of base o →
-            self.new.standing.epoch ≡ epoch_of base (entry ∷ o)) }
+            self.old.site_counts.epoch ≡ epoch_of base o →
+            self.new.site_counts.epoch ≡ epoch_of base (entry ∷ o)) }
         ensures begun { OnOk result ((o : List Entry) → length o < 18446744073709551615 →
-            self.old.standing.begun ≡ count_since is_begun_reply o →
-            self.new.standing.begun ≡ count_since is_begun_reply (entry ∷ o)) }
+            self.old.site_counts.begun ≡ count_since is_begun_reply o →
+            self.new.site_counts.begun ≡ count_since is_begun_reply (entry ∷ o)) }
         ensures still_down { OnOk result ((o : List Entry) → length o < 18446744073709551615 →
-            self.old.standing.still_down ≡ count_since is_still_down o →
-            self.new.standing.still_down ≡ count_since is_still_down (entry ∷ o)) }
+            self.old.site_counts.still_down ≡ count_since is_still_down o →
+            self.new.site_counts.still_down ≡ count_since is_still_down (entry ∷ o)) }
         ensures unsure { OnOk result ((o : List Entry) → length o < 18446744073709551615 →
-            self.old.standing.unsure ≡ count_since is_unsure o →
-            self.new.standing.unsure ≡ count_since is_unsure (entry ∷ o)) }
+            self.old.site_counts.unsure ≡ count_since is_unsure o →
+            self.new.site_counts.unsure ≡ count_since is_unsure (entry ∷ o)) }
     {
         let effect = effect_by(&self.numbers.free, entry.command, entry.reply);
         self.numbers.after(alloc, effect, entry.reply, self.doubt)?;
         self.doubt = doubt_after(effect, entry.reply, self.doubt);
-        self.standing = self.standing.after(entry);
+        self.site_counts = self.site_counts.after(entry);
         Ok(())
     }
 }

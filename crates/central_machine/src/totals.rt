@@ -3,12 +3,12 @@
 ghost use Rattle.std.specs.Prelude.{◌≡◌, ◌<◌, ◌≤◌, ◌-◌, ◌&&◌, int_le, length, List, ◌∷◌, [], OnOk, IfOk, None};
 ghost use Rattle.field_bounds.specs.declared.entry.Entry.{Entry};
 ghost use Rattle.field_bounds.specs.declared.kind.Kind.TheVariants.{Lower};
-ghost use Rattle.field_bounds.specs.Effects.{fresh, share, held, cut};
+ghost use Rattle.field_bounds.specs.Effects.{fresh, share, held_rights, cut};
 ghost use Rattle.field_bounds.specs.Parts.{sum_below};
-ghost use Rattle.field_bounds.specs.Central.{at_site, committed, open_sizes, shares, cuts, in_flight, given_between, accepted_between, IsSound};
+ghost use Rattle.field_bounds.specs.Central.{at_site, committed_value, open_sizes, shares, cuts, in_flight, given_between, accepted_between, IsSound};
 ghost use Rattle.central_rules.specs.declared.verdict.Verdict.TheVariants.{Legal};
 ghost use Rattle.central_rules.specs.declared.verdict.Rule.TheVariants.{Site, Grant, Shortage, Interval, Statement as Told, Reply as Owed};
-ghost use Rattle.central_rules.specs.Verdict.{broken, verdict_back, within_bound, test_of, true_share};
+ghost use Rattle.central_rules.specs.Verdict.{broken_rule, verdict_back, within_bound, test_of, true_share};
 ghost use Rattle.central_machine.specs.Parts.{field_broken};
 ghost use Rattle.central_machine.specs.Running.{AreTotals, IsSite};
 ghost use Rattle.central_rules.specs.Replies.{reply_test};
@@ -78,7 +78,7 @@ impl Totals {
     fn held_at(&self, schema: &Schema, site: u16, field: FieldNo, kind: Kind) -> u64
         ensures { (t : List Entry) → AreTotals schema.now t self.now → site < schema.now.sites →
             field.0 < length schema.now.fields →
-            result ≡ held field.0 kind (at_site schema.now t site) }
+            result ≡ held_rights field.0 kind (at_site schema.now t site) }
     {
         let _sites = schema.sites();
         match self.sites.get(usize::from(site)) {
@@ -220,7 +220,7 @@ impl Totals {
         requires field_in { field.0 < length schema.now.fields }
         ensures { (t : List Entry) → AreTotals schema.now t self.now →
             verdict_back schema.now t ≡ Legal → result
-            ≡ (int_le lo (committed schema.now t field.0) && int_le (committed schema.now t field.0) hi) }
+            ≡ (int_le lo (committed_value schema.now t field.0) && int_le (committed_value schema.now t field.0) hi) }
     {
         let _sites = schema.sites();
         let bounds = bounds_of(schema, field);
@@ -355,7 +355,7 @@ impl Totals {
     pub fn step(&mut self, alloc: Global, schema: &Schema, entry: Entry) -> Result<(), AllocError>
         ensures { OnOk result ((t : List Entry) → length t < 230584300921369395 →
             AreTotals schema.now t self.old → verdict_back schema.now t ≡ Legal →
-            broken schema.now t entry ≡ None → AreTotals schema.now (entry ∷ t) self.new) }
+            broken_rule schema.now t entry ≡ None → AreTotals schema.now (entry ∷ t) self.new) }
     {
         let _sites = schema.sites();
         match self.sites.get_mut(usize::from(entry.site.0)) {

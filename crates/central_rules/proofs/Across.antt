@@ -14,8 +14,8 @@ use Rattle.central_rules.specs.Verdict.{within_bound}
 use Rattle.field_bounds.specs.declared.entry.Entry.{Entry}
 use Rattle.field_bounds.specs.Schema.{SchemaValue}
 use Rattle.field_bounds.specs.Parts.{field_at, sum_below}
-use Rattle.field_bounds.specs.Effects.{fresh, granted}
-use Rattle.field_bounds.specs.Central.{own, at_site, sizes, committed, open_sizes, cuts, is_committed_in, IsSound}
+use Rattle.field_bounds.specs.Effects.{fresh, granted_sizes}
+use Rattle.field_bounds.specs.Central.{own, at_site, sizes, committed_value, open_sizes, cuts, is_committed_in, IsSound}
 use Rattle.field_bounds.proofs.Traces.{sizes_split, changes_split, effects_sizes}
 use Rattle.field_bounds.proofs.Sums.{sum_below-same}
 
@@ -24,12 +24,12 @@ abbrev pub above : ℤ → ℤ → ℕ
 above low high = unsigned_abs (high -ℤ low)
 
 module _ (schema : SchemaValue) (t : List Entry) (sound : IsSound schema t) where
-  pub by_sites : (p : ℕ → TxnId → Bool) (f : ℕ) (k : Kind) → sizes p f k t ≡ sum_below schema.sites (λ s. granted (p s) f k (at_site schema t s))
+  pub by_sites : (p : ℕ → TxnId → Bool) (f : ℕ) (k : Kind) → sizes p f k t ≡ sum_below schema.sites (λ s. granted_sizes (p s) f k (at_site schema t s))
   by_sites p f k =
       sizes_split p f k schema t sound.sites
-      ∙ sum_below-same schema.sites (λ s. sizes (λ _. p s) f k (own s t)) (λ s. granted (p s) f k (at_site schema t s)) (λ s below. sym (effects_sizes (fresh schema s) (p s) f k false (own s t)))
+      ∙ sum_below-same schema.sites (λ s. sizes (λ _. p s) f k (own s t)) (λ s. granted_sizes (p s) f k (at_site schema t s)) (λ s below. sym (effects_sizes (fresh schema s) (p s) f k false (own s t)))
 
-pub committed_is : (schema : SchemaValue) (t : List Entry) (f : ℕ) → committed schema t f ≡ (field_at schema f).value +ℤ (pos (sizes (is_committed_in schema t) f Raise t) -ℤ pos (sizes (is_committed_in schema t) f Lower t))
+pub committed_is : (schema : SchemaValue) (t : List Entry) (f : ℕ) → committed_value schema t f ≡ (field_at schema f).value +ℤ (pos (sizes (is_committed_in schema t) f Raise t) -ℤ pos (sizes (is_committed_in schema t) f Lower t))
 committed_is schema t f = ap (λ (x : ℤ). (field_at schema f).value +ℤ x) (changes_split (is_committed_in schema t) f t)
 
 -- ---- a test of whole numbers as one of numbers without sign
@@ -60,7 +60,7 @@ high_test C V r l h q c below = same_from_decides _ _ (high_is C V r l h q c bel
 
 module _ (schema : SchemaValue) (t : List Entry) (f : ℕ) (b : Bounds) (r l h q c : ℕ)
     (raised : r ≡ sizes (is_committed_in schema t) f Raise t) (lowered : l ≡ sizes (is_committed_in schema t) f Lower t) (value : b.value ≡ (field_at schema f).value) where
-  pub value_is : b.value +ℤ (pos r -ℤ pos l) ≡ committed schema t f
+  pub value_is : b.value +ℤ (pos r -ℤ pos l) ≡ committed_value schema t f
   value_is = rw (value, raised, lowered) (sym (committed_is schema t f))
 
   pub low_rule : b.floor ≡ (field_at schema f).floor → h ≡ open_sizes schema t f Lower → c ≡ cuts schema t f Lower

@@ -22,10 +22,10 @@ use Rattle.field_bounds.specs.declared.entry.Entry.{Entry}
 use Rattle.field_bounds.specs.Schema.{SchemaValue}
 use Rattle.field_bounds.specs.Kind.{same_kind, kind_of}
 use Rattle.field_bounds.specs.Effects.{fresh, same_txn, share}
-use Rattle.field_bounds.specs.Owed.{Place, first, refusals, answer, writes, epoch_of, count_since, is_unsure, max_epoch, last_epoch, RestartFits, Fits}
-use Rattle.field_bounds.specs.Central.{at_site, committed, inf, sup, floor_in, ceiling_in, MayBeGranted, GrantRule, IsShortage, ShortageRule, IntervalRule, StatementRule}
+use Rattle.field_bounds.specs.Owed.{Place, first, refusals, answer, writes, epoch_of, count_since, is_unsure, max_epoch, greatest_epoch, RestartFits, Fits}
+use Rattle.field_bounds.specs.Central.{at_site, committed_value, inf, sup, floor_in, ceiling_in, MayBeGranted, GrantRule, IsShortage, ShortageRule, IntervalRule, StatementRule}
 use Rattle.field_bounds.specs.Statements.{statement_of, IsIssued}
-use Rattle.central_rules.specs.Replies.{same_refusal, same_last, same_reply, last_test, answer_test, reply_test}
+use Rattle.central_rules.specs.Replies.{same_refusal, same_found, same_reply, found_test, answer_test, reply_test}
 use Rattle.central_rules.specs.Verdict.{on_field, within_bound, grant_test, true_share, shortage_test, interval_test, same_statement, is_told_by, is_issued, statement_test}
 use Rattle.field_bounds.proofs.Lawful.{same_txn-true}
 
@@ -64,7 +64,7 @@ refusal_Decides NumbersFull NumbersFull = always refl
 refusal_Decides NothingGiven NothingGiven = always refl
 refusal_Decides a b = (λ h. cc, λ h. cc)
 
-last_Decides : (a b : Last) → Decides (same_last a b) (a ≡ b)
+last_Decides : (a b : Last) → Decides (same_found a b) (a ≡ b)
 last_Decides Nothing Nothing = always refl
 last_Decides Kept Kept = always refl
 last_Decides Lost Lost = always refl
@@ -94,7 +94,7 @@ reply_Decides (Between a x) (Between b y) =
 reply_Decides (Shares a x) (Shares b y) =
     Decides-like (eqb a b && eqb x y) (λ (h : (a ≡ b) × (x ≡ y)). cc (h.0, h.1)) (λ e. (cc, cc)) (Decides-and (eqb a b) (eqb x y) (Decides-eqb a b) (Decides-eqb x y))
 reply_Decides (Restarted a x) (Restarted b y) =
-    Decides-like (eqb a b && same_last x y) (λ (h : (a ≡ b) × (x ≡ y)). cc (h.0, h.1)) (λ e. (cc, cc)) (Decides-and (eqb a b) (same_last x y) (Decides-eqb a b) (last_Decides x y))
+    Decides-like (eqb a b && same_found x y) (λ (h : (a ≡ b) × (x ≡ y)). cc (h.0, h.1)) (λ e. (cc, cc)) (Decides-and (eqb a b) (same_found x y) (Decides-eqb a b) (last_Decides x y))
 reply_Decides Unsure Unsure = always refl
 reply_Decides StillDown StillDown = always refl
 reply_Decides (Refused a) (Refused b) = Decides-like (same_refusal a b) (λ e. ap Refused e) (λ e. cc) (refusal_Decides a b)
@@ -102,16 +102,16 @@ reply_Decides a b = (λ h. cc, λ h. cc)
 
 -- ---- the reply that is owed
 
-last_case : (n : ℕ) (b : Bool) (found : Last) → eqb n 0 ≡ b → Decides (cond b (same_last found Nothing) (not (same_last found Nothing))) ((n ≡ 0 → found ≡ Nothing) × (found ≡ Nothing → n ≡ 0))
+last_case : (n : ℕ) (b : Bool) (found : Last) → eqb n 0 ≡ b → Decides (cond b (same_found found Nothing) (not (same_found found Nothing))) ((n ≡ 0 → found ≡ Nothing) × (found ≡ Nothing → n ≡ 0))
 last_case n true found e =
     let zero_is : n ≡ 0 = eqb-true n 0 e in
     (λ h. (λ _. (last_Decides found Nothing).0 h, λ _. zero_is), λ h. (last_Decides found Nothing).1 (h.0 zero_is))
 last_case n false found e =
     let isnt : (n ≡ 0) → false ≡ true = λ z. cc (eq-eqb n 0 z) in
-    let no = Decides-not (same_last found Nothing) (last_Decides found Nothing) in
+    let no = Decides-not (same_found found Nothing) (last_Decides found Nothing) in
     (λ h. (λ z. absurd (true≢false (cc (isnt z))), λ f. absurd (no.0 h f)), λ h. no.1 (λ f. true≢false (cc (isnt (h.1 f)))))
 
-last_is : (n : ℕ) (found : Last) → Decides (last_test n found) ((n ≡ 0 → found ≡ Nothing) × (found ≡ Nothing → n ≡ 0))
+last_is : (n : ℕ) (found : Last) → Decides (found_test n found) ((n ≡ 0 → found ≡ Nothing) × (found ≡ Nothing → n ≡ 0))
 last_is n found = last_case n (eqb n 0) found refl
 
 restart_is : (at : Place) (reply : Reply) → Decides (reply_test at Restart reply) (RestartFits at reply)
@@ -120,9 +120,9 @@ restart_is at (Refused refusal) = Decides-and _ _ (refusal_Decides refusal Numbe
 restart_is at (Restarted next found) =
     let e = epoch_of at.base at.entries in
     let u = count_since is_unsure at.entries in
-    let two = Decides-and (leb next max_epoch) (last_test u found) (le_is next max_epoch) (last_is u found) in
-    let three = Decides-and (leb next (last_epoch at + 1)) (leb next max_epoch && last_test u found) (le_is next (last_epoch at + 1)) two in
-    let four = Decides-and (leb (e + 1) next) (leb next (last_epoch at + 1) && (leb next max_epoch && last_test u found)) (le_is (e + 1) next) three in
+    let two = Decides-and (leb next max_epoch) (found_test u found) (le_is next max_epoch) (last_is u found) in
+    let three = Decides-and (leb next (greatest_epoch at + 1)) (leb next max_epoch && found_test u found) (le_is next (greatest_epoch at + 1)) two in
+    let four = Decides-and (leb (e + 1) next) (leb next (greatest_epoch at + 1) && (leb next max_epoch && found_test u found)) (le_is (e + 1) next) three in
     (λ h. let p = four.0 h in (p.0, p.1.0, p.1.1.0, p.1.1.1), λ h. four.1 (h.0, (h.1, (h.2, h.3))))
 restart_is at reply = (λ h. cc, λ h. absurd h)
 
@@ -185,7 +185,7 @@ shortage_is schema t s command reply = always tt
 
 pub interval_is : (schema : SchemaValue) (t : List Entry) (command : Command) (reply : Reply) → Decides (interval_test schema t command reply) (IntervalRule schema t command reply)
 interval_is schema t (Read field) (Between lo hi) =
-    let v = committed schema t field.0 in
+    let v = committed_value schema t field.0 in
     on_field_is schema field _ _ (Decides-and (le_z lo v) (le_z v hi) (le_z_is lo v) (le_z_is v hi))
 interval_is schema t command reply = always tt
 

@@ -12,7 +12,7 @@ use Rattle.field_bounds.specs.Schema.{SchemaValue}
 use Rattle.field_bounds.specs.Effects.{fresh}
 use Rattle.field_bounds.specs.Owed.{Fits, place}
 use Rattle.field_bounds.specs.Central.{own, IsSound, IsCentral, KeepsRules}
-use Rattle.central_rules.specs.Verdict.{first_broken, rules, broken, verdict_more, verdict_back, verdict_of, IsFirstBad}
+use Rattle.central_rules.specs.Verdict.{first_broken, rules, broken_rule, verdict_more, verdict_back, verdict_of, IsFirstBad}
 use Rattle.central_rules.proofs.Decided.{fits_is, grant_is, shortage_is, interval_is, statement_is}
 use Rattle.field_bounds.proofs.Sound.{sound_more}
 use Rattle.field_bounds.proofs.Traces.{sound_front, sound_fits}
@@ -44,7 +44,7 @@ pub record Good (schema : SchemaValue) (t : List Entry) (e : Entry) : Type 0 whe
   pub keeps : KeepsRules schema t e
   pub fits : Fits (place schema e.site.0 (fresh schema e.site.0) (own e.site.0 t)) e.command e.reply
 
-pub unbroken_is_good : (schema : SchemaValue) (t : List Entry) (e : Entry) → broken schema t e ≡ None → Good schema t e
+pub unbroken_is_good : (schema : SchemaValue) (t : List Entry) (e : Entry) → broken_rule schema t e ≡ None → Good schema t e
 unbroken_is_good schema t e h =
     let all = all_hold (rules schema t e) h in
     record {
@@ -58,7 +58,7 @@ unbroken_is_good schema t e h =
       fits = (fits_is (place schema e.site.0 (fresh schema e.site.0) (own e.site.0 t)) e.command e.reply).0 all.1.1.1.1.1.0;
     }
 
-pub good_is_unbroken : (schema : SchemaValue) (t : List Entry) (e : Entry) → Good schema t e → broken schema t e ≡ None
+pub good_is_unbroken : (schema : SchemaValue) (t : List Entry) (e : Entry) → Good schema t e → broken_rule schema t e ≡ None
 good_is_unbroken schema t e good =
     none_broken (rules schema t e) (
       lt-ltb e.site.0 schema.sites good.keeps.site,
@@ -81,7 +81,7 @@ pub legal_is_sound : (schema : SchemaValue) (t : List Entry) → verdict_back sc
 unfolding verdict_back
 legal_is_sound schema [] h = (record { sites = tt; statements = tt; runs = λ s lt. tt }, tt)
 legal_is_sound schema (e ∷ t) h =
-    let p = legal_more (verdict_back schema t) (broken schema t e) (length t + 1) h in
+    let p = legal_more (verdict_back schema t) (broken_rule schema t e) (length t + 1) h in
     let rest = legal_is_sound schema t p.0 in
     let good = unbroken_is_good schema t e p.1 in
     (sound_more schema e t rest.0 good.keeps.site good.keeps.statement good.fits, (rest.1, good.keeps))
@@ -113,7 +113,7 @@ pub illegal_is : (schema : SchemaValue) (t : List Entry) (at : ℕ) (rule : Rule
 unfolding verdict_back
 illegal_is schema [] at rule h = cc
 illegal_is schema (e ∷ t) at rule h =
-    elim (bad_step schema e t (verdict_back schema t) (broken schema t e) at rule h) [
+    elim (bad_step schema e t (verdict_back schema t) (broken_rule schema t e) at rule h) [
       | inl now ↦ record { front = t; entry = e; later = []; parts = refl; place = now.2; sound = legal_is_sound schema t now.0; breaks = now.1 }
       | inr before ↦
           let found = illegal_is schema t at rule before in
@@ -131,7 +131,7 @@ illegal_is schema (e ∷ t) at rule h =
 -- ---- a loop over the entries, oldest first
 
 module _ (schema : SchemaValue) (entries : List Entry) (i : ℕ) (d : Entry) (h : i < length entries) (legal : verdict_back schema (reverse (take i entries)) ≡ Legal) where
-  pub stop_here : (rule : Rule) → broken schema (reverse (take i entries)) (get_or entries i d) ≡ Some rule → Illegal (i + 1) rule ≡ verdict_of schema entries
+  pub stop_here : (rule : Rule) → broken_rule schema (reverse (take i entries)) (get_or entries i d) ≡ Some rule → Illegal (i + 1) rule ≡ verdict_of schema entries
   unfolding verdict_back
   stop_here rule found =
       let t = reverse (take i entries) in
@@ -140,6 +140,6 @@ module _ (schema : SchemaValue) (entries : List Entry) (i : ℕ) (d : Entry) (h 
       let there : verdict_back schema (reverse (take (i + 1) entries)) ≡ Illegal (i + 1) rule = rw (front_more entries i d h) here in
       sym (ap (λ (x : List Entry). verdict_back schema x) (whole entries (i + 1)) ∙ bad_stays schema (reverse (drop (i + 1) entries)) (reverse (take (i + 1) entries)) (i + 1) rule there)
 
-  pub go_on : broken schema (reverse (take i entries)) (get_or entries i d) ≡ None → verdict_back schema (reverse (take (i + 1) entries)) ≡ Legal
+  pub go_on : broken_rule schema (reverse (take i entries)) (get_or entries i d) ≡ None → verdict_back schema (reverse (take (i + 1) entries)) ≡ Legal
   unfolding verdict_back
   go_on found = rw (front_more entries i d h) (rw (legal, found) refl)

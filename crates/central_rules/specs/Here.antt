@@ -7,7 +7,7 @@ use Rattle.field_bounds.specs.Schema.{SchemaValue}
 use Rattle.field_bounds.specs.Effects.{fresh}
 use Rattle.field_bounds.specs.Owed.{Place, place, is_up, epoch_of, count_since, is_begun_reply, is_still_down, is_unsure}
 use Rattle.field_bounds.specs.Central.{own}
-use Rattle.central_rules.specs.declared.standing.Standing.{Standing}
+use Rattle.central_rules.specs.declared.site_counts.SiteCounts.{SiteCounts}
 
 -- Where a site stands after a front, the newest entry first.
 abbrev pub place_in : SchemaValue → ℕ → List Entry → Place
@@ -23,13 +23,13 @@ abbrev pub here : Seen → Place
 here v = place_in v.schema v.site.0 v.front
 
 -- What is kept of the place is what the definitions say.
-pub record Shows (at : Place) (standing : Standing) (list : List Effect) : Type 0 where
+pub record Shows (at : Place) (site_counts : SiteCounts) (list : List Effect) : Type 0 where
   pub site_in : at.site < at.schema.sites
-  pub up : standing.up ≡ is_up at.base at.entries
-  pub epoch : standing.epoch ≡ epoch_of at.base at.entries
-  pub begun : standing.begun ≡ count_since is_begun_reply at.entries
-  pub still_down : standing.still_down ≡ count_since is_still_down at.entries
-  pub unsure : standing.unsure ≡ count_since is_unsure at.entries
-  pub few : (standing.begun ≤ 230584300921369395) × (standing.still_down ≤ 230584300921369395) × (standing.unsure ≤ 230584300921369395)
+  pub up : site_counts.up ≡ is_up at.base at.entries
+  pub epoch : site_counts.epoch ≡ epoch_of at.base at.entries
+  pub begun : site_counts.begun ≡ count_since is_begun_reply at.entries
+  pub still_down : site_counts.still_down ≡ count_since is_still_down at.entries
+  pub unsure : site_counts.unsure ≡ count_since is_unsure at.entries
+  pub few : (site_counts.begun ≤ 230584300921369395) × (site_counts.still_down ≤ 230584300921369395) × (site_counts.unsure ≤ 230584300921369395)
   pub made : reverse list ≡ at.effects
   pub few_made : length list ≤ 230584300921369395

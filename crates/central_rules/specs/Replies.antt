@@ -46,13 +46,13 @@ same_refusal NumbersFull b = false
 same_refusal NothingGiven NothingGiven = true
 same_refusal NothingGiven b = false
 
-abbrev pub same_last : Last → Last → Bool
-same_last Nothing Nothing = true
-same_last Nothing b = false
-same_last Kept Kept = true
-same_last Kept b = false
-same_last Lost Lost = true
-same_last Lost b = false
+abbrev pub same_found : Last → Last → Bool
+same_found Nothing Nothing = true
+same_found Nothing b = false
+same_found Kept Kept = true
+same_found Kept b = false
+same_found Lost Lost = true
+same_found Lost b = false
 
 abbrev pub same_reply : Reply → Reply → Bool
 same_reply (Begun a) (Begun b) = same_txn a b
@@ -77,7 +77,7 @@ same_reply (Between a x) (Between b y) = int_eq a b && int_eq x y
 same_reply (Between a x) b = false
 same_reply (Shares a x) (Shares b y) = (a == b) && (x == y)
 same_reply (Shares a x) b = false
-same_reply (Restarted a x) (Restarted b y) = (a == b) && same_last x y
+same_reply (Restarted a x) (Restarted b y) = (a == b) && same_found x y
 same_reply (Restarted a x) b = false
 same_reply Unsure Unsure = true
 same_reply Unsure b = false
@@ -89,8 +89,8 @@ same_reply (Refused a) b = false
 -- ---- the reply that is owed
 
 -- A restart tells that nothing was in doubt exactly where no reply since the last restart was.
-abbrev pub last_test : ℕ → Last → Bool
-last_test unsure found = if unsure == 0 then same_last found Nothing else not (same_last found Nothing)
+abbrev pub found_test : ℕ → Last → Bool
+found_test unsure found = if unsure == 0 then same_found found Nothing else not (same_found found Nothing)
 
 -- What a restart may answer, in an epoch, with so many restarts that failed and so many replies in doubt since the last one.
 abbrev pub restart_test : ℕ → ℕ → ℕ → Reply → Bool
@@ -106,7 +106,7 @@ restart_test epoch still unsure (Accepted gain) = false
 restart_test epoch still unsure (Between lo hi) = false
 restart_test epoch still unsure (Shares lower raise) = false
 restart_test epoch still unsure (Restarted next found) =
-    nat_le (epoch + 1) next && (nat_le next (epoch + still + 1) && (nat_le next max_epoch && last_test unsure found))
+    nat_le (epoch + 1) next && (nat_le next (epoch + still + 1) && (nat_le next max_epoch && found_test unsure found))
 restart_test epoch still unsure Unsure = false
 restart_test epoch still unsure StillDown = true
 restart_test epoch still unsure (Refused refusal) = same_refusal refusal NumbersFull && nat_le max_epoch (epoch + still)

@@ -18,7 +18,7 @@ use Rattle.field_bounds.specs.Schema.{SchemaValue}
 use Rattle.field_bounds.specs.Kind.{same_kind, kind_of}
 use Rattle.field_bounds.specs.Effects.{fresh, share}
 use Rattle.field_bounds.specs.Owed.{place}
-use Rattle.field_bounds.specs.Central.{own, at_site, IsSound, IsCentral, committed, inf, sup, floor_in, ceiling_in}
+use Rattle.field_bounds.specs.Central.{own, at_site, IsSound, IsCentral, committed_value, inf, sup, floor_in, ceiling_in}
 use Rattle.field_bounds.specs.Statements.{statement_of}
 use Rattle.central_rules.specs.Replies.{reply_test}
 
@@ -86,7 +86,7 @@ interval_test schema t (Spare to field kind want) reply = true
 interval_test schema t (Tighten field kind amount) reply = true
 interval_test schema t (Accept told) reply = true
 interval_test schema t (Read field) (Between lo hi) =
-    on_field schema field (int_le lo (committed schema t field.0) && int_le (committed schema t field.0) hi)
+    on_field schema field (int_le lo (committed_value schema t field.0) && int_le (committed_value schema t field.0) hi)
 interval_test schema t (Read field) reply = true
 interval_test schema t (Share field) reply = true
 interval_test schema t Restart reply = true
@@ -144,8 +144,8 @@ first_broken [] = None
 first_broken (test ∷ rest) = if test.0 then first_broken rest else Some test.1
 
 -- The first rule that an entry breaks over the front before it.
-abbrev pub broken : SchemaValue → List Entry → Entry → Option Rule
-broken schema t e = first_broken (rules schema t e)
+abbrev pub broken_rule : SchemaValue → List Entry → Entry → Option Rule
+broken_rule schema t e = first_broken (rules schema t e)
 
 -- The verdict with one more entry, the n-th: the first bad entry stays the first.
 abbrev pub verdict_more : Verdict → Option Rule → ℕ → Verdict
@@ -156,7 +156,7 @@ verdict_more (Illegal at rule) found n = Illegal at rule
 -- The verdict on a trace, the newest entry first.
 unfoldable pub verdict_back : SchemaValue → List Entry → Verdict
 verdict_back schema [] = Legal
-verdict_back schema (e ∷ t) = verdict_more (verdict_back schema t) (broken schema t e) (length t + 1)
+verdict_back schema (e ∷ t) = verdict_more (verdict_back schema t) (broken_rule schema t e) (length t + 1)
 
 -- The verdict on entries, the oldest first: the first bad entry, counted from 1, and the first rule that it breaks.
 abbrev pub verdict_of : SchemaValue → List Entry → Verdict
@@ -175,4 +175,4 @@ pub record IsFirstBad (schema : SchemaValue) (trace : List Entry) (at : ℕ) (ru
   pub parts : trace ≡ later ++ (entry ∷ front)
   pub place : at ≡ length front + 1
   pub sound : IsSound schema front × IsCentral schema front
-  pub breaks : broken schema front entry ≡ Some rule
+  pub breaks : broken_rule schema front entry ≡ Some rule

@@ -4,7 +4,7 @@ ghost use Rattle.std.specs.Prelude.{◌≡◌, ◌≤◌, ◌*◌, ℕ, ◌<◌,
 ghost use Rattle.field_bounds.specs.Schema.{SchemaValue};
 ghost use Rattle.field_bounds.specs.Parts.{part_of};
 ghost use Rattle.field_bounds.specs.Kind.{kind_of, same_kind, other};
-ghost use Rattle.field_bounds.specs.Effects.{same_txn, is_begun, is_committed, is_dropped, granted, gifts, gains, accepted, cut, share, fresh, Base, escrows_of, begun, is_open};
+ghost use Rattle.field_bounds.specs.Effects.{same_txn, is_begun, is_committed, is_dropped, granted_sizes, gifts, gains, total_accepted, cut, share, fresh, Base, escrows_of, begun_txns, is_open};
 ghost use Rattle.field_bounds.specs.Owed.{count_open, count_escrows};
 ghost use Rattle.field_bounds.specs.declared.effect.Effect.{Effect};
 ghost use Rattle.central_rules.specs.Fates.{passes, goes_to};
@@ -104,8 +104,8 @@ fn passes(which: Which, effects: &[Effect], id: TxnId) -> bool
 /// The size of the escrow that the effect grants, if it passes.
 fn size(effects: &[Effect], which: Which, field: FieldNo, kind: Kind, effect: Effect) -> u64
     ensures value { (es : List Effect) →
-        granted (passes which (reverse effects.now)) field.0 kind (effect ∷ es)
-        ≡ result + granted (passes which (reverse effects.now)) field.0 kind es }
+        granted_sizes (passes which (reverse effects.now)) field.0 kind (effect ∷ es)
+        ≡ result + granted_sizes (passes which (reverse effects.now)) field.0 kind es }
     ensures small { result ≤ 9223372036854775808 }
 {
     match effect {
@@ -125,8 +125,8 @@ fn size(effects: &[Effect], which: Which, field: FieldNo, kind: Kind, effect: Ef
 }
 
 /// The sizes of the escrows that pass.
-pub fn granted(effects: &[Effect], which: Which, field: FieldNo, kind: Kind) -> u128
-    ensures value { result ≡ granted (passes which (reverse effects.now)) field.0 kind (reverse effects.now) }
+pub fn granted_sizes(effects: &[Effect], which: Which, field: FieldNo, kind: Kind) -> u128
+    ensures value { result ≡ granted_sizes (passes which (reverse effects.now)) field.0 kind (reverse effects.now) }
     ensures small { result ≤ length effects.now * 9223372036854775808 }
 {
     let mut sum: u128 = 0;
@@ -181,8 +181,8 @@ pub fn gifts(effects: &[Effect], whom: Whom, field: FieldNo, kind: Kind) -> u128
 }
 
 fn accepted_after(before: u64, from: SiteNo, field: FieldNo, kind: Kind, effect: Effect) -> u64
-    ensures { (base : Base) (es : List Effect) → before ≡ accepted base from.0 field.0 kind es →
-        result ≡ accepted base from.0 field.0 kind (effect ∷ es) }
+    ensures { (base : Base) (es : List Effect) → before ≡ total_accepted base from.0 field.0 kind es →
+        result ≡ total_accepted base from.0 field.0 kind (effect ∷ es) }
 {
     match effect {
         Effect::Accepts {
@@ -202,9 +202,9 @@ fn accepted_after(before: u64, from: SiteNo, field: FieldNo, kind: Kind, effect:
 }
 
 /// The greatest total accepted from a site, on a fresh base.
-pub fn accepted(effects: &[Effect], from: SiteNo, field: FieldNo, kind: Kind) -> u64
+pub fn total_accepted(effects: &[Effect], from: SiteNo, field: FieldNo, kind: Kind) -> u64
     ensures { (schema : SchemaValue) (site : ℕ) →
-        result ≡ accepted (fresh schema site) from.0 field.0 kind (reverse effects.now) }
+        result ≡ total_accepted (fresh schema site) from.0 field.0 kind (reverse effects.now) }
 {
     let mut total = 0;
     for effect in effects {
@@ -227,7 +227,7 @@ fn gain(before: &[Effect], field: FieldNo, kind: Kind, effect: Effect) -> u64
             total,
         } => {
             if on.0 == field.0 && same_kind(of, kind) {
-                total.saturating_sub(accepted(before, from, field, kind))
+                total.saturating_sub(total_accepted(before, from, field, kind))
             } else {
                 0
             }
@@ -269,10 +269,10 @@ pub fn share(schema: &Schema, site: SiteNo, effects: &[Effect], field: FieldNo, 
     ensures value { result ≡ share (fresh schema.now site.0) field.0 kind (reverse effects.now) }
 {
     let gained = u128::from(part(schema, site, field, kind))
-        + granted(effects, Which::Aborted, field, kind)
-        + granted(effects, Which::Committed, field, kind.other())
+        + granted_sizes(effects, Which::Aborted, field, kind)
+        + granted_sizes(effects, Which::Committed, field, kind.other())
         + gains(effects, field, kind);
-    let spent = granted(effects, Which::All, field, kind)
+    let spent = granted_sizes(effects, Which::All, field, kind)
         + gifts(effects, Whom::Anyone, field, kind);
     gained.saturating_sub(spent)
 }
@@ -289,8 +289,8 @@ pub fn cut(effects: &[Effect], field: FieldNo, kind: Kind) -> u128
 /// One where the effect begins a transaction that is open after all effects.
 fn opens(effects: &[Effect], effect: Effect) -> usize
     ensures value { (es : List Effect) →
-        length (filter (λ id. is_open id (reverse effects.now)) (begun (effect ∷ es)))
-        ≡ result + length (filter (λ id. is_open id (reverse effects.now)) (begun es)) }
+        length (filter (λ id. is_open id (reverse effects.now)) (begun_txns (effect ∷ es)))
+        ≡ result + length (filter (λ id. is_open id (reverse effects.now)) (begun_txns es)) }
     ensures small { result ≤ 1 }
 {
     match effect {

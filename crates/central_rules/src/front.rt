@@ -1,19 +1,19 @@
 //! What the entries of a front make of one site, made afresh.
 
 ghost use Rattle.std.specs.Prelude.{◌≡◌, ◌≤◌, ◌<◌, reverse, length, IfOk, false, List, ◌∷◌, ◌+◌, int_le, nat_lt, nat_le, ◌-◌, ◌&&◌, if◌then◌else◌, Some, None, ◌≤ℤ◌, pos, ◌+ℤ◌, ◌-ℤ◌};
-ghost use Rattle.field_bounds.specs.Effects.{effects, effect_of, counts, spared, fresh};
+ghost use Rattle.field_bounds.specs.Effects.{effects, effect_of, counts, spare_amount, fresh};
 ghost use Rattle.field_bounds.specs.declared.effect.Effect.{Effect};
 ghost use Rattle.field_bounds.specs.declared.effect.Effect.TheVariants.{Gives};
 ghost use Rattle.field_bounds.specs.declared.entry.Command.TheVariants.{Spare};
-ghost use Rattle.field_bounds.specs.Central.{own, sizes, at_site, committed, open_sizes, cuts, IsSound};
+ghost use Rattle.field_bounds.specs.Central.{own, sizes, at_site, committed_value, open_sizes, cuts, IsSound};
 ghost use Rattle.field_bounds.specs.Parts.{field_at};
 ghost use Rattle.field_bounds.specs.Owed.{is_up, epoch_of, count_since, is_begun_reply, is_still_down, is_unsure};
 ghost use Rattle.central_rules.specs.Verdict.{within_bound, true_share};
 ghost use Rattle.central_rules.specs.Fates.{passes};
-ghost use Rattle.central_rules.specs.Kept.{kept_next};
+ghost use Rattle.central_rules.specs.Kept.{doubt_kept_next};
 
-use crate::afresh::{Which, cut, granted, share};
-use crate::standing::Standing;
+use crate::afresh::{Which, cut, granted_sizes, share};
+use crate::site_counts::SiteCounts;
 use field_bounds::{
     Command, Effect, Entry, FieldNo, Kind, Last, Reply, Schema, SiteNo, by_command,
 };
@@ -53,7 +53,7 @@ pub fn has(schema: &Schema, field: FieldNo) -> bool
 
 /// Whether the site's next restart among these entries says that what was in doubt is kept.
 fn is_kept(entries: &[Entry], site: SiteNo) -> bool
-    ensures { result ≡ kept_next site.0 entries.now }
+    ensures { result ≡ doubt_kept_next site.0 entries.now }
 {
     for entry in entries {
         if entry.site.0 == site.0 {
@@ -76,9 +76,9 @@ fn counts(kept: bool, reply: Reply) -> bool
 }
 
 /// What a site spares of its share where so much is wanted.
-pub fn spared(share: u128, want: u64) -> u64
+pub fn spared_amount(share: u128, want: u64) -> u64
     requires small { share < 42535295865117307932921825928971026432 }
-    ensures { result ≡ spared share want }
+    ensures { result ≡ spare_amount share want }
 {
     let half = (share + 1) / 2;
     if u128::from(want) <= half {
@@ -129,7 +129,7 @@ fn spare_of(
     match reply {
         Reply::Spared { amount, .. } => left(true, Some(to), field, kind, amount),
         Reply::Unsure => {
-            let amount = spared(share(schema, site, made, field, kind), want);
+            let amount = spared_amount(share(schema, site, made, field, kind), want);
             left(true, Some(to), field, kind, amount)
         }
         _ => None,
@@ -220,7 +220,7 @@ pub fn total(
     let mut sum: u128 = 0;
     for site in 0..schema.sites() {
         let made = effects(alloc, schema, front, SiteNo(site))?;
-        sum += granted(&made, which, field, kind);
+        sum += granted_sizes(&made, which, field, kind);
     }
     Ok(sum)
 }
@@ -375,7 +375,7 @@ pub fn between(
     requires sound { IsSound schema.now (reverse front.now) }
     requires in_schema { field.0 < length schema.now.fields }
     ensures { IfOk result (λ holds. holds
-        ≡ (int_le lo (committed schema.now (reverse front.now) field.0) && int_le (committed schema.now (reverse front.now) field.0) hi)) }
+        ≡ (int_le lo (committed_value schema.now (reverse front.now) field.0) && int_le (committed_value schema.now (reverse front.now) field.0) hi)) }
 {
     let bounds = bounds_of(schema, field);
     let raised = total(alloc, schema, front, Which::Committed, field, Kind::Raise)?;
@@ -384,7 +384,7 @@ pub fn between(
 }
 
 /// Where a site on a fresh base stands after the front.
-pub fn standing_at(schema: &Schema, front: &[Entry], site: SiteNo) -> Standing
+pub fn site_counts_at(schema: &Schema, front: &[Entry], site: SiteNo) -> SiteCounts
     requires few { length front.now ≤ 230584300921369395 }
     ensures up { result.up ≡ is_up (fresh schema.now site.0) (own site.0 (reverse front.now)) }
     ensures epoch { result.epoch ≡ epoch_of (fresh schema.now site.0) (own site.0 (reverse front.now)) }
@@ -395,7 +395,7 @@ pub fn standing_at(schema: &Schema, front: &[Entry], site: SiteNo) -> Standing
         × (result.unsure ≤ 230584300921369395) }
 {
     let _sites = schema.sites();
-    let mut now = Standing::new();
+    let mut now = SiteCounts::new();
     for entry in front {
         if entry.site.0 == site.0 {
             now = now.after(*entry);

@@ -3,11 +3,11 @@
 ghost use Rattle.std.specs.Prelude.{◌≡◌, ◌<◌, ◌≤◌, length, reverse, IfOk};
 
 use crate::afresh::{
-    Which, Whom, accepted, count_escrows, count_open, cut, fate_of, gifts, granted, share,
+    Which, Whom, total_accepted, count_escrows, count_open, cut, fate_of, gifts, granted_sizes, share,
 };
-use crate::front::{effects, has, standing_at};
+use crate::front::{effects, has, site_counts_at};
 use crate::ladder::AtPlace;
-use crate::standing::Standing;
+use crate::site_counts::SiteCounts;
 use field_bounds::{Effect, Entry, FieldNo, Kind, Schema, SiteNo, Statement, TxnId};
 use std::alloc::{AllocError, Global};
 use std::marker::Model;
@@ -18,7 +18,7 @@ pub struct Here<'a> {
     schema: &'a Schema,
     site: SiteNo,
     front: &'a [Entry],
-    standing: Standing,
+    site_counts: SiteCounts,
     made: Vec<Effect>,
 }
 
@@ -32,7 +32,7 @@ impl<'a> Model for Here<'a> {
 
     ghost view = { λ h. record { schema = h.schema.now; site = h.site; front = reverse h.front.now } };
 
-    ghost invariant = { λ h. Shows (place_in h.schema.now h.site.0 (reverse h.front.now)) h.standing h.made.items };
+    ghost invariant = { λ h. Shows (place_in h.schema.now h.site.0 (reverse h.front.now)) h.site_counts h.made.items };
 }
 
 impl<'a> Here<'a> {
@@ -48,13 +48,13 @@ impl<'a> Here<'a> {
         ensures { IfOk result (λ here. here
             ≡ record { schema = schema.now; site = site; front = reverse front.now }) }
     {
-        let standing = standing_at(schema, front, site);
+        let site_counts = site_counts_at(schema, front, site);
         let made = effects(alloc, schema, front, site)?;
         Ok(Here {
             schema,
             site,
             front,
-            standing,
+            site_counts,
             made,
         })
     }
@@ -74,8 +74,8 @@ impl<'a> AtPlace for Here<'a> {
         self.site
     }
 
-    fn standing(&self) -> Standing {
-        self.standing
+    fn site_counts(&self) -> SiteCounts {
+        self.site_counts
     }
 
     fn open_count(&self) -> usize {
@@ -95,9 +95,9 @@ impl<'a> AtPlace for Here<'a> {
         share(self.schema, self.site, &self.made, field, kind)
     }
 
-    fn owned(&self, field: FieldNo, kind: Kind) -> u128 {
+    fn own_rights(&self, field: FieldNo, kind: Kind) -> u128 {
         share(self.schema, self.site, &self.made, field, kind)
-            + granted(&self.made, Which::Open, field, kind)
+            + granted_sizes(&self.made, Which::Open, field, kind)
     }
 
     fn cut(&self, field: FieldNo, kind: Kind) -> u128 {
@@ -110,6 +110,6 @@ impl<'a> AtPlace for Here<'a> {
 
     fn gain(&self, told: Statement) -> u64 {
         told.total
-            .saturating_sub(accepted(&self.made, told.from, told.field, told.kind))
+            .saturating_sub(total_accepted(&self.made, told.from, told.field, told.kind))
     }
 }

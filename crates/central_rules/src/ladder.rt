@@ -3,17 +3,17 @@
 ghost use Rattle.std.specs.Prelude.{◌≡◌, ◌<◌, ◌≤◌, ◌&&◌, ◌==◌, nat_lt, length, is_some, IfSome};
 ghost use Rattle.field_bounds.specs.declared.entry.Command.TheVariants.{Begin, Escrow, Commit, Abort, Give, Restate, Spare, Tighten, Accept, Read, Share, Restart};
 ghost use Rattle.field_bounds.specs.Parts.{field_at};
-ghost use Rattle.field_bounds.specs.Owed.{Place, is_up, epoch_of, count_since, is_begun_reply, is_still_down, is_unsure, count_open, count_escrows, free, owned, cut_so_far, guarded, told_so_far, spared_of, gain_of, room};
+ghost use Rattle.field_bounds.specs.Owed.{Place, is_up, epoch_of, count_since, is_begun_reply, is_still_down, is_unsure, count_open, count_escrows, free, own_rights_at, cut_so_far, guarded_rights, told_so_far, spare_of, gain_of, room};
 ghost use Rattle.central_rules.specs.Ladder.{is_open_at};
 ghost use Rattle.central_rules.specs.Replies.{reply_test};
 
-use crate::front::{Bounds, bounds_of, spared};
+use crate::front::{Bounds, bounds_of, spared_amount};
 use crate::same::{
     is_aborted, is_accepted, is_begun, is_between, is_committed, is_forged, is_full, is_given,
     is_granted, is_refused, is_shares, is_short, is_spared, is_stated, is_tightened, is_unsure,
     same_last, same_refusal,
 };
-use crate::standing::Standing;
+use crate::site_counts::SiteCounts;
 use field_bounds::{
     Command, FieldNo, Kind, Last, MAX_CHANGE, MAX_EPOCH, MAX_ESCROWS, MAX_NUMBER, MAX_OPEN,
     MAX_TOTAL, Refusal, Reply, Schema, SiteNo, Statement, TxnId, by_command,
@@ -37,7 +37,7 @@ pub trait AtPlace {
         ensures value { (at : Place) → is_at self.now at → result.0 ≡ at.site };
 
     /// Where the site stands. Costs no memory.
-    fn standing(&self) -> Standing
+    fn site_counts(&self) -> SiteCounts
         ensures up { (at : Place) → is_at self.now at → result.up ≡ is_up at.base at.entries }
         ensures epoch { (at : Place) → is_at self.now at →
             result.epoch ≡ epoch_of at.base at.entries }
@@ -65,9 +65,9 @@ pub trait AtPlace {
         ensures small { result < 42535295865117307932921825928971026432 };
 
     /// The rights of a kind on a field of the schema that the site owns, free and held.
-    fn owned(&self, field: FieldNo, kind: Kind) -> u128
+    fn own_rights(&self, field: FieldNo, kind: Kind) -> u128
         ensures value { (at : Place) → is_at self.now at → field.0 < length at.schema.fields →
-            result ≡ owned at field kind }
+            result ≡ own_rights_at at field kind }
         ensures small { result ≤ 63802943797675961899382738893456539648 };
 
     /// The rights of a kind on a field of the schema that the site has given up for good.
@@ -93,7 +93,7 @@ pub trait AtPlace {
 fn is_up<P: AtPlace>(here: &P) -> bool
     ensures { (at : Place) → P.is_at here.now at → result ≡ is_up at.base at.entries }
 {
-    here.standing().up
+    here.site_counts().up
 }
 
 fn has<P: AtPlace>(here: &P, field: FieldNo) -> bool
@@ -116,12 +116,12 @@ fn is_here<P: AtPlace>(here: &P, site: SiteNo) -> bool
 }
 
 /// What the site guards of a field of the schema.
-fn guarded<P: AtPlace>(here: &P, field: FieldNo, kind: Kind) -> u128
+fn rights_guarded<P: AtPlace>(here: &P, field: FieldNo, kind: Kind) -> u128
     ensures value { (at : Place) → P.is_at here.now at → field.0 < length at.schema.fields →
-        result ≡ guarded at field kind }
+        result ≡ guarded_rights at field kind }
     ensures small { result ≤ 85070591730234615865843651857942052864 }
 {
-    here.cut(field, kind) + here.owned(field, kind)
+    here.cut(field, kind) + here.own_rights(field, kind)
 }
 
 /// The floor and the ceiling of a field of the schema.
@@ -148,7 +148,7 @@ fn room<P: AtPlace>(here: &P, field: FieldNo) -> u128
         result ≡ room at field }
 {
     let bounds = bounds(here, field);
-    let own = guarded(here, field, Kind::Lower) + guarded(here, field, Kind::Raise);
+    let own = rights_guarded(here, field, Kind::Lower) + rights_guarded(here, field, Kind::Raise);
     u128::from(bounds.ceiling.abs_diff(bounds.floor)).saturating_sub(own)
 }
 
@@ -161,11 +161,11 @@ fn fits_begin<P: AtPlace>(here: &P, reply: Reply) -> bool
     if here.open_count() >= MAX_OPEN {
         return is_refused(reply, Refusal::TooManyOpen);
     }
-    let standing = here.standing();
-    if standing.begun >= u64::from(MAX_NUMBER) {
+    let site_counts = here.site_counts();
+    if site_counts.begun >= u64::from(MAX_NUMBER) {
         return is_refused(reply, Refusal::NumbersFull);
     }
-    is_begun(reply, standing.epoch, standing.begun + 1)
+    is_begun(reply, site_counts.epoch, site_counts.begun + 1)
 }
 
 fn fits_escrow<P: AtPlace>(here: &P, txn: TxnId, field: FieldNo, change: i64, reply: Reply) -> bool
@@ -320,7 +320,7 @@ fn fits_spare<P: AtPlace>(
     if is_here(here, to) {
         return is_refused(reply, Refusal::SelfGift);
     }
-    let amount = spared(free, want);
+    let amount = spared_amount(free, want);
     let so_far = here.told_so_far(to, field, kind);
     let total = so_far + u128::from(amount);
     if total > u128::from(MAX_TOTAL) {
@@ -397,8 +397,8 @@ fn fits_read<P: AtPlace>(here: &P, field: FieldNo, reply: Reply) -> bool
         return is_refused(reply, Refusal::NoField);
     }
     let bounds = bounds(here, field);
-    let lower = guarded(here, field, Kind::Lower);
-    let raise = guarded(here, field, Kind::Raise);
+    let lower = rights_guarded(here, field, Kind::Lower);
+    let raise = rights_guarded(here, field, Kind::Raise);
     is_between(reply, bounds.floor, bounds.ceiling, lower, raise)
 }
 
@@ -421,9 +421,9 @@ fn fits_share<P: AtPlace>(here: &P, field: FieldNo, reply: Reply) -> bool
 fn fits_restart<P: AtPlace>(here: &P, reply: Reply) -> bool
     ensures { (at : Place) → P.is_at here.now at → result ≡ reply_test at Restart reply }
 {
-    let standing = here.standing();
-    let epoch = u64::from(standing.epoch);
-    let last_epoch = epoch.saturating_add(standing.still_down);
+    let site_counts = here.site_counts();
+    let epoch = u64::from(site_counts.epoch);
+    let last_epoch = epoch.saturating_add(site_counts.still_down);
     match reply {
         Reply::StillDown => true,
         Reply::Refused(refusal) => {
@@ -435,7 +435,7 @@ fn fits_restart<P: AtPlace>(here: &P, reply: Reply) -> bool
             epoch < next
                 && next <= last_epoch.saturating_add(1)
                 && next <= u64::from(MAX_EPOCH)
-                && if standing.unsure == 0 {
+                && if site_counts.unsure == 0 {
                     nothing
                 } else {
                     !nothing

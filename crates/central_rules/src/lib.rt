@@ -13,13 +13,13 @@ mod ladder;
 mod laws;
 mod plain;
 mod same;
-mod standing;
+mod site_counts;
 mod verdict;
 
 pub use afresh::same_txn;
-pub use front::{Bounds, bounds_of, has, lies_between, spared};
+pub use front::{Bounds, bounds_of, has, lies_between, spared_amount};
 pub use ladder::{AtPlace, fits};
 pub use laws::verdict_is_exact;
 pub use plain::judge_plain;
-pub use standing::Standing;
+pub use site_counts::SiteCounts;
 pub use verdict::{Rule, Verdict};

@@ -1,6 +1,6 @@
 //! The judge that sums afresh over each front.
 ghost use Rattle.std.specs.Prelude.{◌≡◌, ◌≤◌, ◌<◌, IfOk, reverse, length, Option, Some, None};
-ghost use Rattle.central_rules.specs.Verdict.{verdict_of, broken, statement_test, is_issued, is_told_by, same_statement, verdict_back, grant_test, shortage_test, interval_test, test_of};
+ghost use Rattle.central_rules.specs.Verdict.{verdict_of, broken_rule, statement_test, is_issued, is_told_by, same_statement, verdict_back, grant_test, shortage_test, interval_test, test_of};
 ghost use Rattle.central_rules.specs.declared.verdict.Verdict.TheVariants.{Legal};
 ghost use Rattle.field_bounds.specs.Statements.{statement_of};
 ghost use Rattle.field_bounds.specs.Central.{IsSound};
@@ -27,7 +27,7 @@ pub fn judge_plain(alloc: Global, schema: &Schema, entries: &[Entry]) -> Result<
 {
     let _few = length_of(entries);
     for (i, entry) in entries.iter().enumerate() {
-        if let Some(rule) = broken(alloc, schema, &entries[..i], *entry)? {
+        if let Some(rule) = broken_rule(alloc, schema, &entries[..i], *entry)? {
             return Ok(Verdict::Illegal {
                 at: (i + 1) as u64,
                 rule,
@@ -213,7 +213,7 @@ fn reply_holds(
 }
 
 /// The first rule that the entry breaks over the front before it.
-fn broken(
+fn broken_rule(
     alloc: Global,
     schema: &Schema,
     front: &[Entry],
@@ -221,7 +221,7 @@ fn broken(
 ) -> Result<Option<Rule>, AllocError>
     requires few { length front.now ≤ 230584300921369395 }
     requires legal { verdict_back schema.now (reverse front.now) ≡ Legal }
-    ensures { IfOk result (λ rule. rule ≡ broken schema.now (reverse front.now) entry) }
+    ensures { IfOk result (λ rule. rule ≡ broken_rule schema.now (reverse front.now) entry) }
 {
     if entry.site.0 >= schema.sites() {
         return Ok(Some(Rule::Site));

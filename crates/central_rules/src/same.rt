@@ -5,7 +5,7 @@ ghost use Rattle.std.specs.Ordering.{int_eq};
 ghost use Rattle.field_bounds.specs.declared.entry.Reply.TheVariants.{Begun, Granted, Committed, Aborted, Given, Stated, Spared, Tightened, Accepted, Between, Shares, Unsure, Refused};
 ghost use Rattle.field_bounds.specs.declared.entry.Refusal.TheVariants.{Short, LedgerFull, Forged};
 ghost use Rattle.field_bounds.specs.Owed.{is_unsure};
-ghost use Rattle.central_rules.specs.Replies.{same_refusal, same_last, same_reply};
+ghost use Rattle.central_rules.specs.Replies.{same_refusal, same_found, same_reply};
 
 use field_bounds::{Last, Refusal, Reply};
 
@@ -33,7 +33,7 @@ pub fn same_refusal(a: Refusal, b: Refusal) -> bool
 }
 
 pub fn same_last(a: Last, b: Last) -> bool
-    ensures { result ≡ same_last a b }
+    ensures { result ≡ same_found a b }
 {
     matches!(
         (a, b),

@@ -104,7 +104,7 @@ fn served_over<L: Ledger + Send + Sync, R: Threads + Wait + Sync>(
     Some((desk.close(passes).ok()?, sum))
 }
 
-fn served<R: Threads + Wait + Sync>(
+fn serve_desk<R: Threads + Wait + Sync>(
     rt: &R,
     alloc: Global,
     schema: &Schema,
@@ -152,7 +152,7 @@ fn run<R: Threads + Wait + Sync + Env + Clock + Print + Eprint + AllocGlobal>(
         rt,
         alloc,
         desks,
-        &|number| served(rt, alloc, own, number, plan),
+        &|number| serve_desk(rt, alloc, own, number, plan),
     )
     .ok()?;
     let passed = start.elapsed(rt).ok()?.as_nanos();

@@ -20,7 +20,7 @@ use Rattle.line_words.proofs.WordLemmas.{IsWord, decimal_word}
 use Rattle.line_words.proofs.WordKinds.{below_takes, below_again}
 use Rattle.entry_text.specs.Spelling.{field_text}
 use Rattle.entry_text.specs.Ranges.{FieldFits}
-use Rattle.entry_text.specs.Reading.{named, field_of}
+use Rattle.entry_text.specs.Reading.{field_named, field_of}
 
 -- ---- names
 
@@ -99,11 +99,11 @@ mapped f None y e = absurd cc
 abbrev numbered : ℕ → FieldNo
 numbered k = record { 0 = k }
 
-pub named_is : (schema : SchemaValue) (w : List ℕ) (o : Option FieldNo) → option_map (λ n. n.0) o ≡ position (λ f. bytes_eq w f.name) schema.fields → o ≡ named schema w
+pub named_is : (schema : SchemaValue) (w : List ℕ) (o : Option FieldNo) → option_map (λ n. n.0) o ≡ position (λ f. bytes_eq w f.name) schema.fields → o ≡ field_named schema w
 named_is schema w None e = ap (λ (p : Option ℕ). option_map numbered p) e
 named_is schema w (Some f) e = ap (λ (p : Option ℕ). option_map numbered p) e
 
-named_takes : (schema : SchemaValue) (w : List ℕ) (f : FieldNo) → named schema w ≡ Some f → (f.0 < length schema.fields) × ((get_or schema.fields f.0 no_field).name ≡ w)
+named_takes : (schema : SchemaValue) (w : List ℕ) (f : FieldNo) → field_named schema w ≡ Some f → (f.0 < length schema.fields) × ((get_or schema.fields f.0 no_field).name ≡ w)
 named_takes schema w f e =
     let fs = schema.fields in
     let b = mapped numbered (position (has_name w) fs) f e in
@@ -112,7 +112,7 @@ named_takes schema w f e =
     let same : w ≡ (get_or fs b.0 no_field).name = (bytes_eq-Decides w (get_or fs b.0 no_field).name).0 p.1 in
     (subst (λ (k : ℕ). k < length fs) k-is p.0, subst (λ (k : ℕ). (get_or fs k no_field).name ≡ w) k-is (sym same))
 
-named_again : (schema : SchemaValue) → IsSchema schema → (f : FieldNo) → f.0 < length schema.fields → named schema (get_or schema.fields f.0 no_field).name ≡ Some f
+named_again : (schema : SchemaValue) → IsSchema schema → (f : FieldNo) → f.0 < length schema.fields → field_named schema (get_or schema.fields f.0 no_field).name ≡ Some f
 named_again schema is f lt =
     let fs = schema.fields in
     let w = (get_or fs f.0 no_field).name in
@@ -131,7 +131,7 @@ in_schema schema f lt = cond-true (ltb f.0 (length schema.fields)) _ _ (lt-ltb f
 pub past_schema : (schema : SchemaValue) (f : FieldNo) → length schema.fields ≤ f.0 → field_text schema f ≡ 35 ∷ decimal f.0
 past_schema schema f le = cond-false (ltb f.0 (length schema.fields)) _ _ (le-ltb f.0 (length schema.fields) le)
 
-by_name : (schema : SchemaValue) → IsSchema schema → (w : List ℕ) (f : FieldNo) → named schema w ≡ Some f → FieldFits f × (w ≡ field_text schema f)
+by_name : (schema : SchemaValue) → IsSchema schema → (w : List ℕ) (f : FieldNo) → field_named schema w ≡ Some f → FieldFits f × (w ≡ field_text schema f)
 by_name schema is w f e =
     let t = named_takes schema w f e in
     (omega (arith, t.0, is.few_fields), sym t.1 ∙ sym (in_schema schema f t.0))
@@ -145,7 +145,7 @@ field_takes schema is [] f e = by_name schema is [] f e
 field_takes schema is (c ∷ w) f e =
     let count = length schema.fields in
     let by_number = λ (n : ℕ). if nat_lt n count then None else some_field n in
-    elim (chosen (eqb c 35) (below (2 ^ 16) w >>= by_number) (named schema (c ∷ w)) (Some f) e) [
+    elim (chosen (eqb c 35) (below (2 ^ 16) w >>= by_number) (field_named schema (c ∷ w)) (Some f) e) [
       | inl h ↦
           let b = bind_some (below (2 ^ 16) w) by_number f h.1 in
           let t = below_takes (2 ^ 16) w b.0 b.1 in
@@ -158,7 +158,7 @@ field_takes schema is (c ∷ w) f e =
       | inr h ↦ by_name schema is (c ∷ w) f h.1
     ]
 
-pub plain_field : (schema : SchemaValue) (w : List ℕ) → (get_or w 0 0 ≡ 35 → ⊥) → field_of schema w ≡ named schema w
+pub plain_field : (schema : SchemaValue) (w : List ℕ) → (get_or w 0 0 ≡ 35 → ⊥) → field_of schema w ≡ field_named schema w
 unfolding field_of
 plain_field schema [] ne = refl
 plain_field schema (c ∷ w) ne = cond-false (eqb c 35) _ _ (ne_eqb c 35 ne)

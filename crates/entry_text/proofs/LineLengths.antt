@@ -26,7 +26,7 @@ use Rattle.field_bounds.specs.Limits.{is_name, is_name_length, is_name_byte, IsF
 use Rattle.field_bounds.specs.Parts.{no_field}
 use Rattle.line_words.specs.Words.{line}
 use Rattle.line_words.proofs.WordLemmas.{IsWord}
-use Rattle.entry_text.specs.Spelling.{id_text, kind_text, last_text, field_text, site_text, command_words, refusal_words, reply_words, entry_words}
+use Rattle.entry_text.specs.Spelling.{id_text, kind_text, found_text, field_text, site_text, command_words, refusal_words, reply_words, entry_words}
 use Rattle.entry_text.specs.Ranges.{IdFits, FieldFits, CommandFits, RefusalFits, ReplyFits}
 use Rattle.entry_text.specs.Lines.{CommandsAreLines, EntriesAreLines}
 use Rattle.entry_text.proofs.FieldLemmas.{in_schema, past_schema}
@@ -85,7 +85,7 @@ kind_width : (k : Kind) → length (kind_text k) ≤ 5
 kind_width Lower = omega arith
 kind_width Raise = omega arith
 
-last_width : (l : Last) → length (last_text l) ≤ 7
+last_width : (l : Last) → length (found_text l) ≤ 7
 last_width Nothing = omega arith
 last_width Kept = omega arith
 last_width Lost = omega arith

@@ -13,10 +13,10 @@ use Rattle.field_bounds.specs.declared.entry.Reply.TheVariants.{Begun, Granted, 
 use Rattle.line_words.proofs.WordLemmas.{IsWord, word_from_test}
 use Rattle.line_words.proofs.Forms.{IsRead, IsForm, found, word_again, form_again}
 use Rattle.line_words.proofs.WordKinds.{number_read, signed_read, below_read, only_read, table_read}
-use Rattle.entry_text.specs.Spelling.{last_text, refusal_words, reply_words}
+use Rattle.entry_text.specs.Spelling.{found_text, refusal_words, reply_words}
 use Rattle.entry_text.specs.Ranges.{RefusalFits, ReplyFits}
 use Rattle.entry_text.specs.Reading.{table_at}
-use Rattle.entry_text.specs.Replies.{refusal_table, refusal_at, last_of, last_table, reply_table, reply_at}
+use Rattle.entry_text.specs.Replies.{refusal_table, refusal_at, found_of, found_table, reply_table, reply_at}
 use Rattle.entry_text.proofs.WordKinds.{id_read}
 use Rattle.entry_text.proofs.Tables.{IsTable, ◌&◌, table_takes, phrase_row, phrase_again, words_from_test, map_row, one_row, two_row, three_row}
 
@@ -93,17 +93,17 @@ refusal_form = record { takes = refusal_takes; again = refusal_again; plain = re
 
 -- ---- what a restart found
 
-last_again : (l : Last) → last_of (last_text l) ≡ Some l
-unfolding last_of
+last_again : (l : Last) → found_of (found_text l) ≡ Some l
+unfolding found_of
 last_again Nothing = refl
 last_again Kept = refl
 last_again Lost = refl
 
-last_read : IsRead (λ (l : Last). Unit {0}) last_text last_of
-unfolding last_of
-last_read = table_read last_text last_table (refl, (refl, (refl, tt))) refl last_again
+last_read : IsRead (λ (l : Last). Unit {0}) found_text found_of
+unfolding found_of
+last_read = table_read found_text found_table (refl, (refl, (refl, tt))) refl last_again
 
-last_word : (l : Last) → IsWord (last_text l)
+last_word : (l : Last) → IsWord (found_text l)
 last_word l = last_read.plain l tt
 
 epoch_read : IsRead (λ (n : ℕ). n < 2 ^ 32) decimal (below (2 ^ 32))

@@ -7,7 +7,7 @@ use Rattle.field_bounds.specs.declared.kind.Kind.{Kind}
 use Rattle.field_bounds.specs.declared.entry.Command.{Command}
 use Rattle.field_bounds.specs.declared.entry.Command.TheVariants.{Begin, Escrow, Commit, Abort, Give, Restate, Spare, Tighten, Accept, Read, Share, Restart}
 use Rattle.line_words.specs.Words.{words}
-use Rattle.line_words.specs.Reading.{◌>>=◌, number_of, signed_of, word_at, ended}
+use Rattle.line_words.specs.Reading.{◌>>=◌, number_of, signed_of, word_at, only_value}
 use Rattle.entry_text.specs.Reading.{site_of, id_of, kind_of, field_of, Reader, no_word, one_word, three_words, four_words, five_words, table_at}
 
 -- Commands by their names, each with what its words after the name are: those of a transaction.
@@ -56,4 +56,4 @@ command_at schema ws = do
 unfoldable pub command_of : SchemaValue → List ℕ → Option (SiteNo × Command)
 command_of schema bytes = do
   command ← command_at schema (words bytes)
-  ended command
+  only_value command

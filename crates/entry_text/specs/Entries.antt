@@ -3,7 +3,7 @@ use Rattle.std.specs.Prelude.{ℕ, List, Option, Some, codes}
 use Rattle.field_bounds.specs.Schema.{SchemaValue}
 use Rattle.field_bounds.specs.declared.entry.Entry.{Entry}
 use Rattle.line_words.specs.Words.{words}
-use Rattle.line_words.specs.Reading.{◌>>=◌, only_of, word_at, ended}
+use Rattle.line_words.specs.Reading.{◌>>=◌, only_of, word_at, only_value}
 use Rattle.entry_text.specs.Commands.{command_at}
 use Rattle.entry_text.specs.Replies.{reply_at}
 
@@ -19,4 +19,4 @@ entry_at schema ws = do
 unfoldable pub entry_of : SchemaValue → List ℕ → Option Entry
 entry_of schema bytes = do
   entry ← entry_at schema (words bytes)
-  ended entry
+  only_value entry

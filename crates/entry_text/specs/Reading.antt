@@ -31,17 +31,17 @@ unfoldable pub kind_of : List ℕ → Option Kind
 kind_of w = beside kind_table w
 
 -- The field of a name.
-abbrev pub named : SchemaValue → List ℕ → Option FieldNo
-named schema w = option_map (λ k. record { 0 = k }) (position (λ f. bytes_eq w f.name) schema.fields)
+abbrev pub field_named : SchemaValue → List ℕ → Option FieldNo
+field_named schema w = option_map (λ k. record { 0 = k }) (position (λ f. bytes_eq w f.name) schema.fields)
 
 -- The field that the word names: a name, or a sharp (35) and a number that is no field's.
 unfoldable pub field_of : SchemaValue → List ℕ → Option FieldNo
-field_of schema [] = named schema []
+field_of schema [] = field_named schema []
 field_of schema (c ∷ w) = if c == 35
     then (do
       n ← below (2 ^ 16) w
       if nat_lt n (length schema.fields) then None else Some (record { 0 = n }))
-    else named schema (c ∷ w)
+    else field_named schema (c ∷ w)
 
 -- ---- readers of words
 

@@ -47,12 +47,12 @@ refusal_at ws = table_at refusal_table ws
 -- ---- replies
 
 -- What restarts find, by their words.
-abbrev pub last_table : List (List ℕ × Last)
-last_table = (codes "nothing", Nothing) ∷ (codes "kept", Kept) ∷ (codes "lost", Lost) ∷ []
+abbrev pub found_table : List (List ℕ × Last)
+found_table = (codes "nothing", Nothing) ∷ (codes "kept", Kept) ∷ (codes "lost", Lost) ∷ []
 
 -- What a restart found, as the word tells it.
-unfoldable pub last_of : List ℕ → Option Last
-last_of w = beside last_table w
+unfoldable pub found_of : List ℕ → Option Last
+found_of w = beside found_table w
 
 -- Replies by their first words, each with what its words after that are: those that tell of rights.
 abbrev pub right_replies : List (List ℕ × Reader Reply)
@@ -73,7 +73,7 @@ other_replies =
     ∷ (codes "committed", no_word Committed)
     ∷ (codes "aborted", no_word Aborted)
     ∷ (codes "between", two_words signed_of signed_of Between)
-    ∷ (codes "restarted", two_words (below (2 ^ 32)) last_of Restarted)
+    ∷ (codes "restarted", two_words (below (2 ^ 32)) found_of Restarted)
     ∷ (codes "unsure", no_word Unsure)
     ∷ (codes "still", phrase (codes "down" ∷ []) StillDown)
     ∷ (codes "refused", map_at refusal_at Refused)

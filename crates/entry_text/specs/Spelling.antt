@@ -35,10 +35,10 @@ kind_text Lower = codes "lower"
 kind_text Raise = codes "raise"
 
 -- What a restart found.
-abbrev pub last_text : Last → List ℕ
-last_text Nothing = codes "nothing"
-last_text Kept = codes "kept"
-last_text Lost = codes "lost"
+abbrev pub found_text : Last → List ℕ
+found_text Nothing = codes "nothing"
+found_text Kept = codes "kept"
+found_text Lost = codes "lost"
 
 -- A field: its name, or a sharp (35) and its number where the schema has no field of the number.
 abbrev pub field_text : SchemaValue → FieldNo → List ℕ
@@ -98,7 +98,7 @@ reply_words (Tightened total) = codes "tightened" ∷ decimal total ∷ []
 reply_words (Accepted gain) = codes "accepted" ∷ decimal gain ∷ []
 reply_words (Between lo hi) = codes "between" ∷ signed_decimal lo ∷ signed_decimal hi ∷ []
 reply_words (Shares lower raise) = codes "share" ∷ decimal lower ∷ decimal raise ∷ []
-reply_words (Restarted epoch found) = codes "restarted" ∷ decimal epoch ∷ last_text found ∷ []
+reply_words (Restarted epoch found) = codes "restarted" ∷ decimal epoch ∷ found_text found ∷ []
 reply_words Unsure = codes "unsure" ∷ []
 reply_words StillDown = codes "still" ∷ codes "down" ∷ []
 reply_words (Refused refusal) = codes "refused" ∷ refusal_words refusal

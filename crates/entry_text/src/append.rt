@@ -4,7 +4,7 @@
 ghost use Rattle.std.specs.Prelude.{◌≡◌, ◌++◌, ◌∷◌, [], OnOk, OnErr, length, take, codes};
 ghost use Rattle.std.specs.Fmt.{decimal, signed_decimal};
 ghost use Rattle.line_words.specs.Words.{line};
-ghost use Rattle.entry_text.specs.Spelling.{id_text, last_text, refusal_words, reply_text};
+ghost use Rattle.entry_text.specs.Spelling.{id_text, found_text, refusal_words, reply_text};
 
 use field_bounds::{Last, Refusal, Reply, TxnId};
 use itoa::Buffer;
@@ -97,7 +97,7 @@ fn push_shares(out: &mut Vec<u8>, lower: u64, raise: u64) -> Result<(), AllocErr
 }
 
 fn last_word(last: Last) -> &'static [u8]
-    ensures { result.now ≡ last_text last }
+    ensures { result.now ≡ found_text last }
 {
     match last {
         Last::Nothing => b"nothing",
@@ -108,7 +108,7 @@ fn last_word(last: Last) -> &'static [u8]
 
 fn push_restarted(out: &mut Vec<u8>, epoch: u32, last: Last) -> Result<(), AllocError>
     ensures ok { OnOk result (out.new.items
-        ≡ out.old.items ++ line (codes "restarted" ∷ decimal epoch ∷ last_text last ∷ [])) }
+        ≡ out.old.items ++ line (codes "restarted" ∷ decimal epoch ∷ found_text last ∷ [])) }
     ensures err { OnErr result (take (length out.old.items) out.new.items ≡ out.old.items) }
 {
     out.extend_from_slice(b"restarted ")?;

@@ -2,7 +2,7 @@
 
 ghost use Rattle.std.specs.Prelude.{Some};
 ghost use Rattle.line_words.specs.Words.{line};
-ghost use Rattle.entry_text.specs.Spelling.{id_text, kind_text, last_text, field_text, command_text, refusal_words, reply_text};
+ghost use Rattle.entry_text.specs.Spelling.{id_text, kind_text, found_text, field_text, command_text, refusal_words, reply_text};
 
 use field_bounds::{Command, FieldNo, Kind, Last, Refusal, Reply, Schema, SiteNo, TxnId};
 use std::fmt;
@@ -152,7 +152,7 @@ impl fmt::Display for CommandText<'_> {
 struct LastText(Last);
 
 impl fmt::Display for LastText {
-    ghost output = { λ l. Some (last_text l.0) };
+    ghost output = { λ l. Some (found_text l.0) };
 
     fn fmt<W: fmt::Write>(&self, f: &mut fmt::Formatter<W>) -> fmt::Result {
         match self.0 {

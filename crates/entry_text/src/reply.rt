@@ -2,7 +2,7 @@
 
 ghost use Rattle.line_words.specs.Reading.{Gives, word_at};
 ghost use Rattle.entry_text.specs.Reading.{read_beside};
-ghost use Rattle.entry_text.specs.Replies.{last_of, right_replies, reply_at};
+ghost use Rattle.entry_text.specs.Replies.{found_of, right_replies, reply_at};
 
 use crate::refusal::refusal;
 use crate::word::{epoch_at, expect, is_text, number_at, signed_at, txn_at};
@@ -10,9 +10,9 @@ use field_bounds::{Last, Reply};
 use line_words::Words;
 
 // Takes what a restart found.
-#[tactic(auto, unfolding(line_words::specs::Reading::word_at, crate::specs::Replies::last_of))]
+#[tactic(auto, unfolding(line_words::specs::Reading::word_at, crate::specs::Replies::found_of))]
 fn last_at(line: &mut Words<'_>) -> Option<Last>
-    ensures { Gives result line.new (word_at last_of line.old) }
+    ensures { Gives result line.new (word_at found_of line.old) }
 {
     let word = line.next()?;
     if is_text(word, "nothing") {

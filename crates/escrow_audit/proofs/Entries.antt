@@ -5,7 +5,7 @@ use Rattle.field_bounds.specs.Schema.{SchemaValue}
 use Rattle.field_bounds.specs.Header.{schema_of}
 use Rattle.field_bounds.specs.declared.entry.Entry.{Entry}
 use Rattle.escrow_audit.specs.Audit.{AreEntries, HasEntries, IsGood}
-use Rattle.escrow_audit.specs.Reading.{Notes, Moves, StandsFor}
+use Rattle.escrow_audit.specs.Reading.{Notes, Moves, IsAfterLines}
 
 -- a line behind entries that begin with one
 notes_behind : (schema : SchemaValue) (line : List ℕ) (entry : Entry) (later old new : List Entry) → old ≡ entry ∷ later → Notes schema line old new
@@ -44,7 +44,7 @@ HasEntries-start schema line start = record { header = line; behind = []; parts 
 
 -- the schema and the entries after one more line
 pub StandsFor-next : (before after : Option SchemaValue) (lines : List (List ℕ)) (line : List ℕ) (old new : List Entry)
-    → StandsFor before old lines → Moves before line after old new → StandsFor after new (lines ++ line ∷ [])
+    → IsAfterLines before old lines → Moves before line after old new → IsAfterLines after new (lines ++ line ∷ [])
 StandsFor-next None None lines line old new stands moves = absurd moves
 StandsFor-next None (Some schema) lines line old new stands moves =
     let first : lines ++ line ∷ [] ≡ line ∷ [] = ap (λ l. l ++ line ∷ []) stands.0 in
@@ -54,20 +54,20 @@ StandsFor-next (Some schema) None lines line old new stands moves = absurd moves
 StandsFor-next (Some schema) (Some same) lines line old new stands moves =
     subst (λ (s : SchemaValue). HasEntries s new (lines ++ line ∷ [])) (sym moves.0) (HasEntries-more schema lines line old new stands moves.1)
 
-pub StandsFor-along : (s t : Option SchemaValue) (a b : List Entry) (ks ls : List (List ℕ)) → s ≡ t → a ≡ b → ks ≡ ls → StandsFor s a ks → StandsFor t b ls
+pub StandsFor-along : (s t : Option SchemaValue) (a b : List Entry) (ks ls : List (List ℕ)) → s ≡ t → a ≡ b → ks ≡ ls → IsAfterLines s a ks → IsAfterLines t b ls
 StandsFor-along s t a b ks ls es ee el stands =
-    subst (λ x. StandsFor x b ls) es (subst (λ x. StandsFor s x ls) ee (subst (λ x. StandsFor s a x) el stands))
+    subst (λ x. IsAfterLines x b ls) es (subst (λ x. IsAfterLines s x ls) ee (subst (λ x. IsAfterLines s a x) el stands))
 
-pub good_stands : (s : Option SchemaValue) (entries : List Entry) (lines : List (List ℕ)) → StandsFor s entries lines → IsGood lines
+pub good_stands : (s : Option SchemaValue) (entries : List Entry) (lines : List (List ℕ)) → IsAfterLines s entries lines → IsGood lines
 good_stands None entries lines stands = inl stands.0
 good_stands (Some schema) entries lines stands = inr (schema, (entries, stands))
 
-pub none_lines : (s : Option SchemaValue) (entries : List Entry) (lines : List (List ℕ)) → IsNone s → StandsFor s entries lines → lines ≡ []
+pub none_lines : (s : Option SchemaValue) (entries : List Entry) (lines : List (List ℕ)) → IsNone s → IsAfterLines s entries lines → lines ≡ []
 none_lines None entries lines none stands = stands.0
 none_lines (Some schema) entries lines none stands = cc
 
 -- a header line came, so there are lines
-pub first_line : (s : Option SchemaValue) (entries : List Entry) (lines : List (List ℕ)) → IsSome s → StandsFor s entries lines
+pub first_line : (s : Option SchemaValue) (entries : List Entry) (lines : List (List ℕ)) → IsSome s → IsAfterLines s entries lines
     → (header : List ℕ) × ((behind : List (List ℕ)) × (lines ≡ header ∷ behind))
 first_line None entries lines some stands = cc
 first_line (Some schema) entries lines some stands = (stands.header, (stands.behind, stands.parts))

@@ -18,7 +18,7 @@ use Rattle.escrow_audit.specs.declared.reading.Stop.{Stop}
 use Rattle.escrow_audit.specs.declared.reading.Stop.TheVariants.{Fault, BadEntry}
 use Rattle.escrow_audit.specs.declared.reading.Reading.{Reading}
 use Rattle.escrow_audit.specs.Audit.{IsBadEntry, IsFirstBad, FindsBad}
-use Rattle.escrow_audit.specs.Reading.{HasKept, KeepStop, LineStop, HasEnded, HasNoted, StandsFor, At, FaultIn, Stops, Holds}
+use Rattle.escrow_audit.specs.Reading.{HasKept, KeepStop, LineStop, HasEnded, HasNoted, IsAfterLines, At, FaultIn, Stops, Holds}
 use Rattle.escrow_audit.proofs.Entries.{StandsFor-next, StandsFor-along, good_stands, none_lines, first_line, moved_some}
 
 -- with a piece that has no LF
@@ -34,9 +34,9 @@ At-kept read piece old new unbroken at step =
 pub At-ended : (read : List ℕ) (old new : Reading) → At read old → HasEnded old new → At (read ++ 10 ∷ []) new
 At-ended read old new at step =
     let more = whole_lines-broken read in
-    let stands : StandsFor new.schema new.entries.items (whole_lines read ++ old.line.items ∷ []) =
+    let stands : IsAfterLines new.schema new.entries.items (whole_lines read ++ old.line.items ∷ []) =
     StandsFor-next old.schema new.schema (whole_lines read) old.line.items old.entries.items new.entries.items at.stands step.moves in record {
-      stands = subst (StandsFor new.schema new.entries.items) (ap (λ l. whole_lines read ++ l ∷ []) at.line ∙ sym more) stands;
+      stands = subst (IsAfterLines new.schema new.entries.items) (ap (λ l. whole_lines read ++ l ∷ []) at.line ∙ sym more) stands;
       line = step.line ∙ sym (last_part-broken read);
       lines = step.lines ∙ ap (λ n. n + 1) at.lines ∙ sym (length_push (whole_lines read) (last_part read)) ∙ ap length (sym more);
     }
@@ -57,7 +57,7 @@ At-whole read line old new unbroken empty at step =
     whole_lines-broken (read ++ line) ∙ ap (λ ls. ls ++ last_part (read ++ line) ∷ []) (whole_lines-unbroken read line unbroken)
     ∙ ap (λ l. whole_lines read ++ l ∷ []) last in
     At-along _ _ _ (append_assoc read line (10 ∷ [])) (record {
-      stands = subst (StandsFor new.schema new.entries.items) (sym more)
+      stands = subst (IsAfterLines new.schema new.entries.items) (sym more)
           (StandsFor-next old.schema new.schema (whole_lines read) line old.entries.items new.entries.items at.stands step.moves);
       line = step.kept ∙ empty ∙ sym (last_part-broken (read ++ line));
       lines = step.lines ∙ ap (λ n. n + 1) at.lines ∙ sym (length_push (whole_lines read) line) ∙ ap length (sym more);
@@ -71,7 +71,7 @@ lines_on a more =
     ∙ append_assoc (whole_lines a) (whole_lines_after (last_part a) more) (last_line (last_part (a ++ more)))
     ∙ ap (λ (l : List ℕ). whole_lines a ++ (whole_lines_after (last_part a) more ++ last_line l)) (last_part_after-append [] a more)
 
-script_on : (s : Option SchemaValue) (entries : List Entry) (lines more all : List (List ℕ)) → IsSome s → StandsFor s entries lines
+script_on : (s : Option SchemaValue) (entries : List Entry) (lines more all : List (List ℕ)) → IsSome s → IsAfterLines s entries lines
     → all ≡ lines ++ more → with_header all ≡ lines ++ more
 script_on s entries lines more all some stands e =
     let (header, (behind, parts)) = first_line s entries lines some stands in
@@ -79,7 +79,7 @@ script_on s entries lines more all some stands e =
 
 -- a line behind good lines is the first bad entry
 first_bad : (s : Option SchemaValue) (entries : List Entry) (front : List (List ℕ)) (line : List ℕ) (back lines : List (List ℕ))
-    → StandsFor s entries front → IsSome s → ((schema : SchemaValue) → s ≡ Some schema → IsBadEntry schema line)
+    → IsAfterLines s entries front → IsSome s → ((schema : SchemaValue) → s ≡ Some schema → IsBadEntry schema line)
     → lines ≡ front ++ line ∷ back → IsFirstBad lines (length front + 1)
 first_bad None entries front line back lines stands some bad e = cc
 first_bad (Some schema) entries front line back lines stands some bad e = record {
@@ -116,7 +116,7 @@ long_some (b ∷ part) more long e = cc
 
 -- a line behind the whole lines, that goes on or is ended, is the first bad entry
 pub bad_goes_on : (stop_at : ℕ) (a more : List ℕ) (s : Option SchemaValue) (entries : List Entry) (ended : Type 0)
-    → StandsFor s entries (whole_lines a) → IsSome s → stop_at ≡ length (whole_lines a) → max_line < length (last_part a)
+    → IsAfterLines s entries (whole_lines a) → IsSome s → stop_at ≡ length (whole_lines a) → max_line < length (last_part a)
     → ((schema : SchemaValue) (rest : List ℕ) → s ≡ Some schema → IsBadEntry schema (last_part a ++ rest))
     → FindsBad (a ++ more) (stop_at + 1) ended
 bad_goes_on stop_at a more s entries ended stands some at long bad =
@@ -147,7 +147,7 @@ bad_goes_on stop_at a more s entries ended stands some at long bad =
 
 -- a line that an LF ends
 pub bad_ended : (stop_at : ℕ) (a more : List ℕ) (s : Option SchemaValue) (entries : List Entry) (ended : Type 0)
-    → StandsFor s entries (whole_lines a) → IsSome s → stop_at ≡ length (whole_lines a)
+    → IsAfterLines s entries (whole_lines a) → IsSome s → stop_at ≡ length (whole_lines a)
     → ((schema : SchemaValue) → s ≡ Some schema → IsBadEntry schema (last_part a))
     → FindsBad (a ++ 10 ∷ more) (stop_at + 1) ended
 bad_ended stop_at a more s entries ended stands some at bad =
@@ -164,7 +164,7 @@ bad_ended stop_at a more s entries ended stands some at bad =
 
 -- a last line that the end of the input ends
 pub bad_last : (stop_at : ℕ) (a : List ℕ) (s : Option SchemaValue) (entries : List Entry) (ended : Type 0)
-    → StandsFor s entries (whole_lines a) → IsSome s → stop_at ≡ length (whole_lines a) → (last_part a ≡ [] → ⊥)
+    → IsAfterLines s entries (whole_lines a) → IsSome s → stop_at ≡ length (whole_lines a) → (last_part a ≡ [] → ⊥)
     → ((schema : SchemaValue) → s ≡ Some schema → IsBadEntry schema (last_part a)) → ended
     → FindsBad a (stop_at + 1) ended
 bad_last stop_at a s entries ended stands some at not_none bad is =
@@ -218,7 +218,7 @@ Stops-keep BadEntry read piece more old new ended unbroken at why same =
     omega (arith, why.1, ap length last, length-append (last_part read) piece, ap length at.line) in
     subst (λ (l : List ℕ). FindsBad l (new.lines + 1) ended) (append_assoc read piece more)
     (bad_goes_on new.lines a more old.schema old.entries.items ended
-    (subst (StandsFor old.schema old.entries.items) (sym keeps) at.stands) why.0 (same ∙ at.lines ∙ ap length (sym keeps)) long
+    (subst (IsAfterLines old.schema old.entries.items) (sym keeps) at.stands) why.0 (same ∙ at.lines ∙ ap length (sym keeps)) long
     (λ schema rest e. long_is_bad schema (last_part a ++ rest) (omega (arith, long, length-append (last_part a) rest))))
 
 line_is_bad : (s : Option SchemaValue) (line : List ℕ) → LineStop s line BadEntry → IsSome s × ((schema : SchemaValue) → s ≡ Some schema → IsBadEntry schema line)
@@ -227,7 +227,7 @@ line_is_bad (Some schema) line bad = (refl, λ other e. subst (λ (t : SchemaVal
 
 -- a header line that tells no schema
 stops_header : (e : SchemaFault) (read back : List ℕ) (s : Option SchemaValue) (entries : List Entry) (ended : Type 0) → IsNone s → schema_of (last_part read) ≡ Err e
-    → StandsFor s entries (whole_lines read) → (BeginsWithBreak back ⊎ ((back ≡ []) × ended)) → FaultIn (Header e) (read ++ back) ended
+    → IsAfterLines s entries (whole_lines read) → (BeginsWithBreak back ⊎ ((back ≡ []) × ended)) → FaultIn (Header e) (read ++ back) ended
 stops_header e read back s entries ended is_none told stands breaks =
     let none = none_lines s entries (whole_lines read) is_none stands in record {
       front = read;
@@ -240,7 +240,7 @@ stops_header e read back s entries ended is_none told stands breaks =
 
 -- a line that an LF ends and that isn't taken in
 pub Stops-broken : (stop : Stop) (read more : List ℕ) (s : Option SchemaValue) (entries : List Entry) (lines : ℕ) (ended : Type 0)
-    → StandsFor s entries (whole_lines read) → lines ≡ length (whole_lines read) → LineStop s (last_part read) stop
+    → IsAfterLines s entries (whole_lines read) → lines ≡ length (whole_lines read) → LineStop s (last_part read) stop
     → Stops (read ++ 10 ∷ more) lines ended stop
 Stops-broken (Fault (Header e)) read more s entries lines ended stands at why =
     stops_header e read (10 ∷ more) s entries ended why.0 why.1 stands (inl (more, refl))
@@ -253,7 +253,7 @@ Stops-broken BadEntry read more s entries lines ended stands at why =
 
 -- a last line that isn't taken in
 pub Stops-last : (stop : Stop) (read : List ℕ) (s : Option SchemaValue) (entries : List Entry) (lines : ℕ) (ended : Type 0)
-    → StandsFor s entries (whole_lines read) → lines ≡ length (whole_lines read) → (IsSome s → last_part read ≡ [] → ⊥)
+    → IsAfterLines s entries (whole_lines read) → lines ≡ length (whole_lines read) → (IsSome s → last_part read ≡ [] → ⊥)
     → LineStop s (last_part read) stop → ended → Stops read lines ended stop
 Stops-last (Fault (Header e)) read s entries lines ended stands at some why is =
     subst (λ (l : List ℕ). FaultIn (Header e) l ended) (append-nil read) (stops_header e read [] s entries ended why.0 why.1 stands (inr (refl, is)))
@@ -272,7 +272,7 @@ Stops-whole stop read line more old new ended unbroken empty at why same =
     let last : last_part (read ++ line) ≡ line = whole_last read line unbroken (sym at.line ∙ empty) in
     subst (λ (l : List ℕ). Stops l new.lines ended stop) (append_assoc read line (10 ∷ more))
     (Stops-broken stop (read ++ line) more old.schema old.entries.items new.lines ended
-    (subst (StandsFor old.schema old.entries.items) (sym keeps) at.stands) (same ∙ at.lines ∙ ap length (sym keeps))
+    (subst (IsAfterLines old.schema old.entries.items) (sym keeps) at.stands) (same ∙ at.lines ∙ ap length (sym keeps))
     (subst (λ (l : List ℕ). LineStop old.schema l stop) (sym last) why))
 
 pub Stops-along : (stop : Stop) (read other : List ℕ) (lines : ℕ) (ended : Type 0) → read ≡ other → Stops read lines ended stop → Stops other lines ended stop
@@ -354,9 +354,9 @@ Holds-between read r some empty at =
     let none : last_part read ≡ [] = sym at.line ∙ empty in
     let lines : lines_of read ≡ w ++ [] = ap (λ (l : List ℕ). w ++ last_line l) none in
     let same : script_lines read ≡ w = script_on r.schema r.entries.items w [] (lines_of read) some at.stands lines ∙ append-nil w in
-    (some, subst (StandsFor r.schema r.entries.items) (sym same) at.stands)
+    (some, subst (IsAfterLines r.schema r.entries.items) (sym same) at.stands)
 
-last_lines : (s : Option SchemaValue) (entries : List Entry) (w : List (List ℕ)) (p : List ℕ) → StandsFor s entries w → (IsSome s → p ≡ [] → ⊥)
+last_lines : (s : Option SchemaValue) (entries : List Entry) (w : List (List ℕ)) (p : List ℕ) → IsAfterLines s entries w → (IsSome s → p ≡ [] → ⊥)
     → with_header (w ++ last_line p) ≡ w ++ p ∷ []
 last_lines None entries w p stands some =
     ap (λ (l : List (List ℕ)). with_header (l ++ last_line p)) stands.0 ∙ with_header-last p ∙ ap (λ (l : List (List ℕ)). l ++ p ∷ []) (sym stands.0)
@@ -369,6 +369,6 @@ Holds-ended read old new not_both at step =
     let p = last_part read in
     let same : script_lines read ≡ w ++ p ∷ [] = last_lines old.schema old.entries.items w p at.stands (λ some e. not_both some (at.line ∙ e)) in (
       moved_some old.schema new.schema old.line.items old.entries.items new.entries.items step.moves,
-      subst (StandsFor new.schema new.entries.items) (ap (λ (l : List ℕ). w ++ l ∷ []) at.line ∙ sym same)
+      subst (IsAfterLines new.schema new.entries.items) (ap (λ (l : List ℕ). w ++ l ∷ []) at.line ∙ sym same)
           (StandsFor-next old.schema new.schema w old.line.items old.entries.items new.entries.items at.stands step.moves),
     )

@@ -11,14 +11,14 @@ use Rattle.script_input.specs.declared.fault.ScriptFault.TheVariants.{Write, NoM
 use Rattle.script_input.specs.declared.streams.End.{End}
 use Rattle.script_input.specs.Lines.{script_lines}
 use Rattle.script_input.specs.Faults.{HasEndedAt}
-use Rattle.script_input.specs.Streams.{AppendsFront}
+use Rattle.script_input.specs.Streams.{AppendsPrefix}
 use Rattle.escrow_audit.specs.declared.answer.AuditEnd.{AuditEnd}
 use Rattle.escrow_audit.specs.declared.answer.AuditEnd.TheVariants as ends
 use Rattle.escrow_audit.specs.declared.reading.Reading.{Reading}
 use Rattle.escrow_audit.specs.declared.reading.Stop.{Stop}
 use Rattle.escrow_audit.specs.declared.reading.Stop.TheVariants.{BadEntry}
 use Rattle.escrow_audit.specs.Audit.{verdict_text, end_of, bad_entry_text, IsJudged, IsAudit, Fails}
-use Rattle.escrow_audit.specs.Reading.{StandsFor, ReadsThrough, StopsAfter, Tells, FaultsIn}
+use Rattle.escrow_audit.specs.Reading.{IsAfterLines, ReadsThrough, StopsAfter, Tells, FaultsIn}
 use Rattle.escrow_audit.proofs.States.{Stops-memory}
 
 -- a verdict ends an audit at the end of the input
@@ -26,7 +26,7 @@ by_verdict : (v : Verdict) (end : AuditEnd) (read : List ℕ) (ended : Type 0) (
 by_verdict verdicts.Legal end read ended text e told = subst (λ (x : AuditEnd). ended × IsJudged (script_lines read) x text → IsAudit x read ended text) (sym e) (λ h. h) told
 by_verdict (verdicts.Illegal at rule) end read ended text e told = subst (λ (x : AuditEnd). ended × IsJudged (script_lines read) x text → IsAudit x read ended text) (sym e) (λ h. h) told
 
-judged_audit : (s : Option SchemaValue) (entries : List Entry) (end : AuditEnd) (read text : List ℕ) (ended : Type 0) → IsSome s → StandsFor s entries (script_lines read)
+judged_audit : (s : Option SchemaValue) (entries : List Entry) (end : AuditEnd) (read text : List ℕ) (ended : Type 0) → IsSome s → IsAfterLines s entries (script_lines read)
     → ((schema : SchemaValue) → s ≡ Some schema → end ≡ end_of (verdict_of schema entries))
     → ((schema : SchemaValue) → s ≡ Some schema → text ≡ verdict_text (verdict_of schema entries) (length entries))
     → ended → IsAudit end read ended text
@@ -56,12 +56,12 @@ FaultsIn-bad from to last r stop stops = (stops.0, (stops.1.0, Stops-memory stop
 
 -- the answer wasn't written whole
 pub Fails-write : (from to before after : Option (List ℕ)) (last : End) (end : AuditEnd) (text bytes : List ℕ) → Tells from to last end text → bytes ≡ text
-    → AppendsFront before after bytes → Fails from to before after last Write
+    → AppendsPrefix before after bytes → Fails from to before after last Write
 Fails-write from to before after last end text bytes tells same front =
     let (read, (consumed, audit)) = tells in record {
       front = read;
       back = [];
       consumed = subst (Consumes from to) (sym (append-nil read)) consumed;
       why = tt;
-      written = (end, (text, (refl, (audit, subst (AppendsFront before after) same front))));
+      written = (end, (text, (refl, (audit, subst (AppendsPrefix before after) same front))));
     }

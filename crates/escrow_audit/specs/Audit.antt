@@ -18,7 +18,7 @@ use Rattle.script_input.specs.declared.fault.ScriptFault.TheVariants as faults
 use Rattle.script_input.specs.declared.streams.End.{End}
 use Rattle.script_input.specs.Lines.{whole_lines, last_part, script_lines}
 use Rattle.script_input.specs.Faults.{Explains, HasEndedAt}
-use Rattle.script_input.specs.Streams.{AppendsFront}
+use Rattle.script_input.specs.Streams.{AppendsPrefix}
 use Rattle.escrow_audit.specs.declared.answer.AuditEnd.{AuditEnd}
 use Rattle.escrow_audit.specs.declared.answer.AuditEnd.TheVariants as ends
 use Rattle.escrow_audit.specs.Remarks.{IsRemark}
@@ -130,7 +130,7 @@ IsGood lines = (lines ≡ []) ⊎ ((schema : SchemaValue) × ((entries : List En
 -- bad entry.
 abbrev pub LeavesFor : ScriptFault → Option (List ℕ) → Option (List ℕ) → List ℕ → List ℕ → Type 0 → Type 0
 LeavesFor faults.Write before after front back ended =
-    (end : AuditEnd) × ((text : List ℕ) × ((back ≡ []) × (IsAudit end front ended text × AppendsFront before after text)))
+    (end : AuditEnd) × ((text : List ℕ) × ((back ≡ []) × (IsAudit end front ended text × AppendsPrefix before after text)))
 LeavesFor fault before after front back ended = IsGood (whole_lines front) × Appends before after []
 
 -- What was read is the front and the back, where the fault came.

@@ -77,13 +77,13 @@ pub record HasNoted (old new : Reading) (line : List ℕ) : Type 0 where
   pub lines : new.lines ≡ old.lines + 1
 
 -- The schema and the entries of lines.
-abbrev pub StandsFor : Option SchemaValue → List Entry → List (List ℕ) → Type 0
-StandsFor None entries lines = (lines ≡ []) × (entries ≡ [])
-StandsFor (Some schema) entries lines = HasEntries schema entries lines
+abbrev pub IsAfterLines : Option SchemaValue → List Entry → List (List ℕ) → Type 0
+IsAfterLines None entries lines = (lines ≡ []) × (entries ≡ [])
+IsAfterLines (Some schema) entries lines = HasEntries schema entries lines
 
 -- The state after these bytes.
 pub record At (read : List ℕ) (r : Reading) : Type 0 where
-  pub stands : StandsFor r.schema r.entries.items (whole_lines read)
+  pub stands : IsAfterLines r.schema r.entries.items (whole_lines read)
   pub line : r.line.items ≡ last_part read
   pub lines : r.lines ≡ length (whole_lines read)
 
@@ -111,7 +111,7 @@ StopsIn old new bytes stop = (read more : List ℕ) → At read old → Stops (r
 
 -- At the end of the input the entries are those of all lines.
 abbrev pub Holds : Reading → List (List ℕ) → Type 0
-Holds r lines = IsSome r.schema × StandsFor r.schema r.entries.items lines
+Holds r lines = IsSome r.schema × IsAfterLines r.schema r.entries.items lines
 
 abbrev pub Finishes : Reading → Reading → Type 0
 Finishes old new = (read : List ℕ) → At read old → Holds new (script_lines read)
@@ -121,7 +121,7 @@ abbrev pub StopsAtEnd : Reading → Reading → Stop → Type 0
 StopsAtEnd old new stop = (read : List ℕ) → At read old → Stops read new.lines (Unit {0}) stop
 
 -- The known bytes of a reader lose what was read, and the state is that after it.
-pub record Stands (from to : Option (List ℕ)) (r : Reading) (bytes : ℕ) : Type 0 where
+pub record HasRead (from to : Option (List ℕ)) (r : Reading) (bytes : ℕ) : Type 0 where
   pub read : List ℕ
   pub consumed : Consumes from to read
   pub at : At read r
@@ -143,14 +143,14 @@ abbrev pub StopsAfter : Option (List ℕ) → Option (List ℕ) → End → Read
 StopsAfter from to last r stop = (read : List ℕ) × (Consumes from to read × Stops read r.lines (HasEndedAt to last) stop)
 
 -- After one more piece: with a count of 0 the input has ended.
-abbrev pub StandsNext : Option (List ℕ) → Option (List ℕ) → Reading → Reading → End → ℕ → ℕ → Type 0
-StandsNext middle to old new last bytes count =
-    (from : Option (List ℕ)) → Stands from middle old bytes → Stands from to new (bytes + count) × (count ≡ 0 → HasEndedAt to last)
+abbrev pub ReadsNext : Option (List ℕ) → Option (List ℕ) → Reading → Reading → End → ℕ → ℕ → Type 0
+ReadsNext middle to old new last bytes count =
+    (from : Option (List ℕ)) → HasRead from middle old bytes → HasRead from to new (bytes + count) × (count ≡ 0 → HasEndedAt to last)
 
 -- The reading stopped in the next piece, or at its read.
 abbrev pub StopsNext : Option (List ℕ) → Option (List ℕ) → Reading → Reading → End → ℕ → Stop → Type 0
 StopsNext middle to old new last bytes stop =
-    (from : Option (List ℕ)) → Stands from middle old bytes → StopsAfter from to last new stop
+    (from : Option (List ℕ)) → HasRead from middle old bytes → StopsAfter from to last new stop
 
 -- What is answered of all that was read.
 abbrev pub Tells : Option (List ℕ) → Option (List ℕ) → End → AuditEnd → List ℕ → Type 0

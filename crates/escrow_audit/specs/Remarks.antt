@@ -4,7 +4,7 @@ use Rattle.std.specs.Int.{w64}
 use Rattle.std.specs.Fmt.{decimal, signed_decimal}
 use Rattle.field_bounds.specs.Schema.{SchemaValue}
 use Rattle.line_words.specs.Words.{words, line}
-use Rattle.line_words.specs.Reading.{◌>>=◌, number_of, signed_of, only_of, beside, word_at, ended}
+use Rattle.line_words.specs.Reading.{◌>>=◌, number_of, signed_of, only_of, beside, word_at, only_value}
 use Rattle.entry_text.specs.Spelling.{site_text, field_text, kind_text}
 use Rattle.entry_text.specs.Ranges.{SiteFits, FieldFits}
 use Rattle.entry_text.specs.Reading.{site_of, field_of, kind_of}
@@ -172,4 +172,4 @@ remark_at schema ws = do
 unfoldable pub remark_of : SchemaValue → List ℕ → Option Remark
 remark_of schema bytes = do
   remark ← remark_at schema (words bytes)
-  ended remark
+  only_value remark

@@ -5,7 +5,7 @@ ghost use Rattle.std.specs.Io.KnownBytes.{Appends};
 ghost use Rattle.std.specs.Fmt.{decimal};
 ghost use Rattle.field_bounds.specs.Schema.{SchemaValue};
 ghost use Rattle.central_rules.specs.Verdict.{verdict_of};
-ghost use Rattle.script_input.specs.Streams.{HasFailed, GaveNothing, HasRefused, AppendsFront};
+ghost use Rattle.script_input.specs.Streams.{HasFailed, GaveNothing, HasRefused, AppendsPrefix};
 ghost use Rattle.script_input.specs.Faults.{CountsReads, CountsWrites};
 ghost use Rattle.escrow_audit.specs.Reading.{Tells, FaultsIn};
 ghost use Rattle.escrow_audit.specs.Audit.{rule_text, verdict_text, end_of, bad_entry_text, Audits, Fails};
@@ -96,7 +96,7 @@ fn verdict(
 }
 
 // Judges the entries that were read.
-fn judged(
+fn judge_all(
     rt: &(impl Threads + Sync),
     alloc: Global,
     fields: bool,
@@ -132,7 +132,7 @@ fn answer<R: Source>(
 {
     let mut reading = Reading::new(alloc);
     match reading.read_all(reader) {
-        Ok(()) => Ok(judged(rt, alloc, fields, &reading)?),
+        Ok(()) => Ok(judge_all(rt, alloc, fields, &reading)?),
         Err(Stop::BadEntry) => {
             let line = bad_entry_line(alloc, reading.next_line())?;
             Ok((AuditEnd::BadEntry, line))
@@ -144,7 +144,7 @@ fn answer<R: Source>(
 // Writes what is answered.
 fn write_out<W: Sink>(writer: &mut W, bytes: &[u8]) -> Result<(), ScriptFault>
     ensures ok { OnOk result (Appends (W.bytes writer.old) (W.bytes writer.new) bytes.now) }
-    ensures front { OnErr result (AppendsFront (W.bytes writer.old) (W.bytes writer.new)
+    ensures front { OnErr result (AppendsPrefix (W.bytes writer.old) (W.bytes writer.new)
         bytes.now) }
     ensures fault { IfErr result (λ fault. fault ≡ ScriptFault.Write) }
     ensures refused { OnErr result (HasRefused (W.last writer.new)) }

@@ -79,7 +79,7 @@ pub(crate) struct Reading {
 }
 
 impl Reading {
-    ghost use Rattle.escrow_audit.specs.Reading.{HasKept, KeepStop, LineStop, HasEnded, HasNoted, GoesOn, StopsIn, Finishes, StopsAtEnd, IsFresh, ReadsThrough, StopsAfter, StandsNext, StopsNext, CountsStops};
+    ghost use Rattle.escrow_audit.specs.Reading.{HasKept, KeepStop, LineStop, HasEnded, HasNoted, GoesOn, StopsIn, Finishes, StopsAtEnd, IsFresh, ReadsThrough, StopsAfter, ReadsNext, StopsNext, CountsStops};
     ghost use Rattle.escrow_audit.specs.declared.reading.Stop.TheVariants.{Fault};
 
     pub(crate) fn new(alloc: Global) -> Reading
@@ -221,7 +221,7 @@ impl Reading {
         requires some { 0 < length buffer.old }
         requires bytes { bytes ≤ 268435456 }
         requires lines { self.old.lines ≤ 1000000 }
-        ensures ok { IfOk result (StandsNext (R.bytes reader.old) (R.bytes reader.new)
+        ensures ok { IfOk result (ReadsNext (R.bytes reader.old) (R.bytes reader.new)
             self.old self.new (R.last reader.new) bytes) }
         ensures err { IfErr result (StopsNext (R.bytes reader.old) (R.bytes reader.new)
             self.old self.new (R.last reader.new) bytes) }

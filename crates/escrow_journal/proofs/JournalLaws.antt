@@ -13,7 +13,7 @@ use Rattle.field_bounds.specs.Effects.{same_txn}
 use Rattle.field_bounds.specs.Owed.{max_open, max_escrows}
 use Rattle.field_bounds.proofs.Lawful.{same_txn-true}
 use Rattle.field_bounds.proofs.Steps.{same_txn-sym}
-use Rattle.escrow_journal.specs.Journal.{Row, stands, escrows_at, with_escrow, added, without, AreDistinct, IsShort, IsJournal}
+use Rattle.escrow_journal.specs.Journal.{Row, is_listed, escrows_at, with_escrow, rows_with, without, AreDistinct, IsShort, IsJournal}
 
 pub position_or_len-none : {X : Type 0} (p : X → Bool) (xs : List X) → ((k : ℕ) (d : X) → k < length xs → p (get_or xs k d) ≡ false) → position_or_len p xs ≡ length xs
 position_or_len-none p [] h = refl
@@ -51,40 +51,40 @@ map-remove h (x ∷ xs) zero = refl
 map-remove h (x ∷ xs) (suc i) = ap (λ ys. h x ∷ ys) (map-remove h xs i)
 
 -- a transaction that isn't there
-without-none : (t : TxnId) (rows : List Row) → stands t rows ≡ false → without t rows ≡ rows
+without-none : (t : TxnId) (rows : List Row) → is_listed t rows ≡ false → without t rows ≡ rows
 without-none t [] h = refl
 without-none t (r ∷ rs) h =
-    let parts = or_parts (same_txn r.0 t) (stands t rs) h in
+    let parts = or_parts (same_txn r.0 t) (is_listed t rs) h in
     rw parts.0 (ap (λ ys. r ∷ ys) (without-none t rs parts.1))
 
-added-none : (t : TxnId) (e : Escrow) (rows : List Row) → stands t rows ≡ false → added t e rows ≡ rows
+added-none : (t : TxnId) (e : Escrow) (rows : List Row) → is_listed t rows ≡ false → rows_with t e rows ≡ rows
 added-none t e [] h = refl
 added-none t e (r ∷ rs) h =
-    let parts = or_parts (same_txn r.0 t) (stands t rs) h in
+    let parts = or_parts (same_txn r.0 t) (is_listed t rs) h in
     rw parts.0 (ap (λ ys. r ∷ ys) (added-none t e rs parts.1))
 
 -- the place of a transaction in rows
 abbrev pub place_in : TxnId → List Row → ℕ
 place_in t rows = position_or_len (λ r. same_txn r.0 t) rows
 
-pub remove-is : (t : TxnId) (rows : List Row) → AreDistinct rows → stands t rows ≡ true → remove rows (place_in t rows) ≡ without t rows
+pub remove-is : (t : TxnId) (rows : List Row) → AreDistinct rows → is_listed t rows ≡ true → remove rows (place_in t rows) ≡ without t rows
 remove-is t [] d h = absurd (false≢true h)
 remove-is t (r ∷ rs) d h =
     elim (cases_Bool (same_txn r.0 t)) [
       | inl here ↦
-          let none : stands t rs ≡ false = subst (λ u. stands u rs ≡ false) (same_txn-true r.0 t here) d.0 in
+          let none : is_listed t rs ≡ false = subst (λ u. is_listed u rs ≡ false) (same_txn-true r.0 t here) d.0 in
           rw (position_or_len-here (λ (r : Row). same_txn r.0 t) r rs here, here) (sym (without-none t rs none))
       | inr there ↦
           rw (position_or_len-there (λ (r : Row). same_txn r.0 t) r rs there, there)
           (ap (λ ys. r ∷ ys) (remove-is t rs d.1 (rw there at h)))
     ]
 
-pub set-is : (t : TxnId) (e : Escrow) (rows : List Row) (y d0 : Row) → AreDistinct rows → stands t rows ≡ true → y ≡ with_escrow t e (get_or rows (place_in t rows) d0) → set rows (place_in t rows) y ≡ added t e rows
+pub set-is : (t : TxnId) (e : Escrow) (rows : List Row) (y d0 : Row) → AreDistinct rows → is_listed t rows ≡ true → y ≡ with_escrow t e (get_or rows (place_in t rows) d0) → set rows (place_in t rows) y ≡ rows_with t e rows
 set-is t e [] y d0 d h w = absurd (false≢true h)
 set-is t e (r ∷ rs) y d0 d h w =
     elim (cases_Bool (same_txn r.0 t)) [
       | inl here ↦
-          let none : stands t rs ≡ false = subst (λ u. stands u rs ≡ false) (same_txn-true r.0 t here) d.0 in
+          let none : is_listed t rs ≡ false = subst (λ u. is_listed u rs ≡ false) (same_txn-true r.0 t here) d.0 in
           let at = position_or_len-here (λ (r : Row). same_txn r.0 t) r rs here in
           let w' = rw at at w in
           rw at (ap (λ z. z ∷ rs) w' ∙ ap (λ ys. with_escrow t e r ∷ ys) (sym (added-none t e rs none)))
@@ -94,7 +94,7 @@ set-is t e (r ∷ rs) y d0 d h w =
           rw (at, there) (ap (λ ys. r ∷ ys) (set-is t e rs y d0 d.1 (rw there at h) w'))
     ]
 
-pub escrows_at-place : (t : TxnId) (rows : List Row) (d : Row) → stands t rows ≡ true → (get_or rows (place_in t rows) d).1 ≡ escrows_at t rows
+pub escrows_at-place : (t : TxnId) (rows : List Row) (d : Row) → is_listed t rows ≡ true → (get_or rows (place_in t rows) d).1 ≡ escrows_at t rows
 escrows_at-place t [] d h = absurd (false≢true h)
 escrows_at-place t (r ∷ rs) d h =
     elim (cases_Bool (same_txn r.0 t)) [
@@ -106,12 +106,12 @@ escrows_at-place t (r ∷ rs) d h =
 list_any-push : {X : Type 0} (p : X → Bool) (xs : List X) (x : X) → list_any p (xs ++ x ∷ []) ≡ (list_any p xs || p x)
 list_any-push p xs x = list_any-append p xs (x ∷ []) ∙ ap (λ b. list_any p xs || b) (or-false (p x))
 
-stands-remove : (u : TxnId) (rows : List Row) (i : ℕ) → stands u rows ≡ false → stands u (remove rows i) ≡ false
+stands-remove : (u : TxnId) (rows : List Row) (i : ℕ) → is_listed u rows ≡ false → is_listed u (remove rows i) ≡ false
 stands-remove u [] zero h = refl
 stands-remove u [] (suc i) h = refl
-stands-remove u (r ∷ rs) zero h = (or_parts (same_txn r.0 u) (stands u rs) h).1
+stands-remove u (r ∷ rs) zero h = (or_parts (same_txn r.0 u) (is_listed u rs) h).1
 stands-remove u (r ∷ rs) (suc i) h =
-    let parts = or_parts (same_txn r.0 u) (stands u rs) h in
+    let parts = or_parts (same_txn r.0 u) (is_listed u rs) h in
     rw parts.0 (stands-remove u rs i parts.1)
 
 pub AreDistinct-remove : (rows : List Row) (i : ℕ) → AreDistinct rows → AreDistinct (remove rows i)
@@ -135,28 +135,28 @@ All-remove P (x ∷ xs) (suc i) h = All-cons P x (remove xs i) (All-head P x xs 
 key-with_escrow : (t : TxnId) (e : Escrow) (r : Row) → (with_escrow t e r).0 ≡ r.0
 key-with_escrow t e r = elim (cases_Bool (same_txn r.0 t)) [ inl here ↦ rw here refl | inr there ↦ rw there refl ]
 
-pub stands-added : (t : TxnId) (e : Escrow) (u : TxnId) (rows : List Row) → stands u (added t e rows) ≡ stands u rows
+pub stands-added : (t : TxnId) (e : Escrow) (u : TxnId) (rows : List Row) → is_listed u (rows_with t e rows) ≡ is_listed u rows
 stands-added t e u [] = refl
 stands-added t e u (r ∷ rs) =
-    ap (λ k. same_txn k u || stands u (added t e rs)) (key-with_escrow t e r) ∙ ap (λ b. same_txn r.0 u || b) (stands-added t e u rs)
+    ap (λ k. same_txn k u || is_listed u (rows_with t e rs)) (key-with_escrow t e r) ∙ ap (λ b. same_txn r.0 u || b) (stands-added t e u rs)
 
-pub AreDistinct-added : (t : TxnId) (e : Escrow) (rows : List Row) → AreDistinct rows → AreDistinct (added t e rows)
+pub AreDistinct-added : (t : TxnId) (e : Escrow) (rows : List Row) → AreDistinct rows → AreDistinct (rows_with t e rows)
 AreDistinct-added t e [] d = tt
 AreDistinct-added t e (r ∷ rs) d =
-    (ap (λ k. stands k (added t e rs)) (key-with_escrow t e r) ∙ stands-added t e r.0 rs ∙ d.0, AreDistinct-added t e rs d.1)
+    (ap (λ k. is_listed k (rows_with t e rs)) (key-with_escrow t e r) ∙ stands-added t e r.0 rs ∙ d.0, AreDistinct-added t e rs d.1)
 
-stands-push : (u : TxnId) (rows : List Row) (r : Row) → stands u (rows ++ r ∷ []) ≡ (stands u rows || same_txn r.0 u)
+stands-push : (u : TxnId) (rows : List Row) (r : Row) → is_listed u (rows ++ r ∷ []) ≡ (is_listed u rows || same_txn r.0 u)
 stands-push u rows r = list_any-push (λ (r : Row). same_txn r.0 u) rows r
 
-pub AreDistinct-push : (rows : List Row) (r : Row) → AreDistinct rows → stands r.0 rows ≡ false → AreDistinct (rows ++ r ∷ [])
+pub AreDistinct-push : (rows : List Row) (r : Row) → AreDistinct rows → is_listed r.0 rows ≡ false → AreDistinct (rows ++ r ∷ [])
 AreDistinct-push [] r d h = (refl, tt)
 AreDistinct-push (x ∷ xs) r d h =
-    let parts = or_parts (same_txn x.0 r.0) (stands r.0 xs) h in
+    let parts = or_parts (same_txn x.0 r.0) (is_listed r.0 xs) h in
     (stands-push x.0 xs r ∙ ap (λ b. b || same_txn r.0 x.0) d.0 ∙ same_txn-sym r.0 x.0 ∙ parts.0, AreDistinct-push xs r d.1 parts.1)
 
 -- ---- what keeps the rows a journal: one more transaction, one fewer, one more escrow
 
-pub begun_is : (rows : List Row) (t : TxnId) → IsJournal rows → stands t rows ≡ false → length rows < max_open → IsJournal (rows ++ (t, []) ∷ [])
+pub begun_is : (rows : List Row) (t : TxnId) → IsJournal rows → is_listed t rows ≡ false → length rows < max_open → IsJournal (rows ++ (t, []) ∷ [])
 begun_is rows t was closed room =
     record {
       distinct = AreDistinct-push rows (t, []) was.distinct closed;
@@ -172,22 +172,22 @@ removed_is rows i was =
       short = All-remove IsShort rows i was.short;
     }
 
-pub added-short : (t : TxnId) (e : Escrow) (rows : List Row) → AreDistinct rows → All IsShort rows → length (escrows_at t rows) < max_escrows → All IsShort (added t e rows)
+pub added-short : (t : TxnId) (e : Escrow) (rows : List Row) → AreDistinct rows → All IsShort rows → length (escrows_at t rows) < max_escrows → All IsShort (rows_with t e rows)
 added-short t e [] d short room = All-nil IsShort
 added-short t e (r ∷ rs) d short room =
     elim (cases_Bool (same_txn r.0 t)) [
       | inl here ↦
-          let none : stands t rs ≡ false = subst (λ u. stands u rs ≡ false) (same_txn-true r.0 t here) d.0 in
+          let none : is_listed t rs ≡ false = subst (λ u. is_listed u rs ≡ false) (same_txn-true r.0 t here) d.0 in
           let few : length r.1 < max_escrows = rw here at room in
           let row : with_escrow t e r ≡ (r.0, r.1 ++ e ∷ []) = rw here refl in
-          let rest : All IsShort (added t e rs) = rw (added-none t e rs none) (All-tail IsShort r rs short) in
-          All-cons IsShort (with_escrow t e r) (added t e rs) (rw row (omega (arith, length-append r.1 (e ∷ [])))) rest
+          let rest : All IsShort (rows_with t e rs) = rw (added-none t e rs none) (All-tail IsShort r rs short) in
+          All-cons IsShort (with_escrow t e r) (rows_with t e rs) (rw row (omega (arith, length-append r.1 (e ∷ [])))) rest
       | inr there ↦
           let row : with_escrow t e r ≡ r = rw there refl in
-          All-cons IsShort (with_escrow t e r) (added t e rs) (rw row (All-head IsShort r rs short)) (added-short t e rs d.1 (All-tail IsShort r rs short) (rw there at room))
+          All-cons IsShort (with_escrow t e r) (rows_with t e rs) (rw row (All-head IsShort r rs short)) (added-short t e rs d.1 (All-tail IsShort r rs short) (rw there at room))
     ]
 
-pub added_is : (rows : List Row) (t : TxnId) (e : Escrow) → IsJournal rows → length (escrows_at t rows) < max_escrows → IsJournal (added t e rows)
+pub added_is : (rows : List Row) (t : TxnId) (e : Escrow) → IsJournal rows → length (escrows_at t rows) < max_escrows → IsJournal (rows_with t e rows)
 added_is rows t e was room =
     record {
       distinct = AreDistinct-added t e rows was.distinct;

@@ -11,8 +11,8 @@ use Rattle.field_bounds.specs.declared.id.TxnId.{TxnId}
 use Rattle.field_bounds.specs.declared.entry.Escrow.{Escrow}
 use Rattle.field_bounds.specs.Effects.{same_txn}
 use Rattle.field_bounds.specs.Owed.{max_open, max_escrows}
-use Rattle.escrow_journal.specs.Journal.{Row, stands, escrows_at, with_escrow, added, without, IsJournal}
-use Rattle.escrow_journal.specs.Kept.{rows_of, place_of}
+use Rattle.escrow_journal.specs.Journal.{Row, is_listed, escrows_at, with_escrow, rows_with, without, IsJournal}
+use Rattle.escrow_journal.specs.Kept.{rows_of, index_of}
 use Rattle.escrow_journal.proofs.JournalLaws.{place_in, position_or_len-map, list_any-place, list_any-no_place, map-remove, remove-is, set-is, escrows_at-place, escrows_at-short, begun_is, removed_is, added_is}
 
 -- at any result, from the fact itself
@@ -26,38 +26,38 @@ row_of r = (r.txn, r.escrows.items)
 -- ---- s is what is seen of the items
 
 module _ (s : List Row) (items : List OpenTransaction) (t : TxnId) (view : rows_of items ≡ s) where
-  pub place_is : place_of t items ≡ place_in t s
+  pub place_is : index_of t items ≡ place_in t s
   place_is = sym (position_or_len-map (λ (r : Row). same_txn r.0 t) row_of items) ∙ ap (place_in t) view
 
   length_is : length s ≡ length items
   length_is = ap length (sym view) ∙ length-map items row_of
 
   -- no place is found
-  pub is_not_there : place_of t items ≡ length items → stands t s ≡ false
+  pub is_not_there : index_of t items ≡ length items → is_listed t s ≡ false
   is_not_there e =
-      elim (cases_Bool (stands t s)) [
+      elim (cases_Bool (is_listed t s)) [
         | inl h ↦ absurd (let l = list_any-place (λ (r : Row). same_txn r.0 t) s h in omega (arith, place_is, length_is))
         | inr h ↦ h
       ]
 
   -- a place is found
-  pub is_there : place_of t items < length items → stands t s ≡ true
+  pub is_there : index_of t items < length items → is_listed t s ≡ true
   is_there l =
-      elim (cases_Bool (stands t s)) [
+      elim (cases_Bool (is_listed t s)) [
         | inl h ↦ h
         | inr h ↦ absurd (let n = list_any-no_place (λ (r : Row). same_txn r.0 t) s h in omega (arith, place_is, length_is))
       ]
 
 -- the place i is found in ds, which are the items
-module _ (s : List Row) (items ds : List OpenTransaction) (t : TxnId) (view : rows_of items ≡ s) (deref : ds ≡ items) (i : ℕ) (within : i < length ds) (at : i ≡ place_of t ds) where
+module _ (s : List Row) (items ds : List OpenTransaction) (t : TxnId) (view : rows_of items ≡ s) (deref : ds ≡ items) (i : ℕ) (within : i < length ds) (at : i ≡ index_of t ds) where
   found : i < length items
   found = omega (arith, ap length deref)
 
   here_is : i ≡ place_in t s
-  here_is = at ∙ ap (place_of t) deref ∙ place_is s items t view
+  here_is = at ∙ ap (index_of t) deref ∙ place_is s items t view
 
-  open_is : stands t s ≡ true
-  open_is = is_there s items t view (omega (arith, found, at, ap (place_of t) deref))
+  open_is : is_listed t s ≡ true
+  open_is = is_there s items t view (omega (arith, found, at, ap (index_of t) deref))
 
   pub item_escrows : (x : OpenTransaction) → x ≡ get_or items i x → x.escrows.items ≡ escrows_at t s
   item_escrows x e =
@@ -77,7 +77,7 @@ module _ (s : List Row) (items ds : List OpenTransaction) (t : TxnId) (view : ro
         ap rows_of e ∙ map-remove row_of items i ∙ ap (λ xs. remove xs i) view ∙ ap (remove s) here_is ∙ remove-is t s seen.distinct open_is
 
     -- the row at the place has one more escrow
-    pub added_view : (x y : OpenTransaction) (e : Escrow) → x ≡ get_or items i x → y.txn ≡ x.txn → y.escrows.items ≡ x.escrows.items ++ e ∷ [] → rows_of (set items i y) ≡ added t e s
+    pub added_view : (x y : OpenTransaction) (e : Escrow) → x ≡ get_or items i x → y.txn ≡ x.txn → y.escrows.items ≡ x.escrows.items ++ e ∷ [] → rows_of (set items i y) ≡ rows_with t e s
     added_view x y e ex et es =
         let here : get_or s (place_in t s) (row_of x) ≡ row_of x =
         ap (λ (k : ℕ). get_or s k (row_of x)) (sym here_is) ∙ ap (λ (xs : List Row). get_or xs i (row_of x)) (sym view) ∙ get_or-map row_of items i x (row_of x) found ∙ ap row_of (sym ex) in
@@ -99,7 +99,7 @@ module _ (s : List Row) (items ds : List OpenTransaction) (t : TxnId) (view : ro
     same_is x y ex et es = subst IsJournal (sym (same_view x y ex et es)) seen
 
 -- one more row, with no escrow
-pub pushed_is : (s : List Row) (items more : List OpenTransaction) (x : OpenTransaction) (t : TxnId) → more ≡ items ++ x ∷ [] → x.txn ≡ t → x.escrows.items ≡ [] → rows_of items ≡ s → IsJournal (rows_of items) → stands t s ≡ false → length s < max_open → IsJournal (rows_of more)
+pub pushed_is : (s : List Row) (items more : List OpenTransaction) (x : OpenTransaction) (t : TxnId) → more ≡ items ++ x ∷ [] → x.txn ≡ t → x.escrows.items ≡ [] → rows_of items ≡ s → IsJournal (rows_of items) → is_listed t s ≡ false → length s < max_open → IsJournal (rows_of more)
 pushed_is s items more x t e same none view was closed room =
     let row : ◌≡◌ {A = Row} (row_of x) (t, []) = ap (λ (u : TxnId). (u, x.escrows.items)) same ∙ ap (λ (xs : List Escrow). (t, xs)) none in
     let seen : rows_of more ≡ s ++ (t, []) ∷ [] =

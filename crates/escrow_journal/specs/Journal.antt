@@ -11,8 +11,8 @@ abbrev pub Row : Type 0
 Row = TxnId × List Escrow
 
 -- A transaction stands among the rows.
-abbrev pub stands : TxnId → List Row → Bool
-stands t rows = list_any (λ r. same_txn r.0 t) rows
+abbrev pub is_listed : TxnId → List Row → Bool
+is_listed t rows = list_any (λ r. same_txn r.0 t) rows
 
 -- The escrows of a transaction, none where it doesn't stand there.
 abbrev pub escrows_at : TxnId → List Row → List Escrow
@@ -24,8 +24,8 @@ abbrev pub with_escrow : TxnId → Escrow → Row → Row
 with_escrow t e r = if same_txn r.0 t then (r.0, r.1 ++ e ∷ []) else r
 
 -- The rows with one more escrow at the transaction.
-abbrev pub added : TxnId → Escrow → List Row → List Row
-added t e rows = map (with_escrow t e) rows
+abbrev pub rows_with : TxnId → Escrow → List Row → List Row
+rows_with t e rows = map (with_escrow t e) rows
 
 -- The rows without the transaction.
 abbrev pub without : TxnId → List Row → List Row
@@ -34,7 +34,7 @@ without t rows = filter (λ r. not (same_txn r.0 t)) rows
 -- No transaction stands twice.
 abbrev pub AreDistinct : List Row → Type 0
 AreDistinct [] = Unit {0}
-AreDistinct (r ∷ rs) = (stands r.0 rs ≡ false) × AreDistinct rs
+AreDistinct (r ∷ rs) = (is_listed r.0 rs ≡ false) × AreDistinct rs
 
 -- A transaction has no more escrows than one may have.
 abbrev pub IsShort : Row → Type 0

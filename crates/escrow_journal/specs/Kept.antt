@@ -11,5 +11,5 @@ abbrev pub rows_of : List OpenTransaction → List Row
 rows_of items = map (λ r. (r.txn, r.escrows.items)) items
 
 -- The place of a transaction, or the length where it isn't there.
-abbrev pub place_of : TxnId → List OpenTransaction → ℕ
-place_of t items = position_or_len (λ r. same_txn r.txn t) items
+abbrev pub index_of : TxnId → List OpenTransaction → ℕ
+index_of t items = position_or_len (λ r. same_txn r.txn t) items

@@ -2,8 +2,8 @@
 
 ghost use Rattle.std.specs.Prelude.{◌≡◌, ◌<◌, ◌≤◌, [], ◌∷◌, ◌++◌, true, false, length, is_some, OnOk, OnErr, OnSome, IfSome, IfNone};
 ghost use Rattle.field_bounds.specs.Owed.{max_open, max_escrows};
-ghost use Rattle.escrow_journal.specs.Journal.{stands, escrows_at, added, without};
-ghost use Rattle.escrow_journal.specs.Kept.{rows_of, place_of};
+ghost use Rattle.escrow_journal.specs.Journal.{is_listed, escrows_at, rows_with, without};
+ghost use Rattle.escrow_journal.specs.Kept.{rows_of, index_of};
 
 use field_bounds::{Escrow, TxnId};
 use std::alloc::{AllocError, Global};
@@ -41,9 +41,9 @@ impl Model for Journal {
 
 /// The place of a transaction, or None where it isn't there.
 fn place(rows: &[OpenTransaction], txn: TxnId) -> Option<usize>
-    ensures there { is_some result ≡ stands txn (rows_of rows.now) }
+    ensures there { is_some result ≡ is_listed txn (rows_of rows.now) }
     ensures within { IfSome result (λ at. at < length rows.now) }
-    ensures first { IfSome result (λ at. at ≡ place_of txn rows.now) }
+    ensures first { IfSome result (λ at. at ≡ index_of txn rows.now) }
 {
     for (i, row) in rows.iter().enumerate() {
         if row.txn == txn {
@@ -73,7 +73,7 @@ impl Journal {
 
     /// Whether a transaction is open. Costs a look through at most 64 rows.
     pub fn is_open(&self, txn: TxnId) -> bool
-        ensures value { result ≡ stands txn self.now }
+        ensures value { result ≡ is_listed txn self.now }
     {
         place(&self.rows, txn).is_some()
     }
@@ -81,7 +81,7 @@ impl Journal {
     /// The escrows of a transaction in order of grant, at most 16, and None exactly where it isn't
     /// open. Costs a look through at most 64 rows.
     pub fn escrows(&self, txn: TxnId) -> Option<&[Escrow]>
-        ensures open { is_some result ≡ stands txn self.now }
+        ensures open { is_some result ≡ is_listed txn self.now }
         ensures value { IfSome result (λ escrows. escrows.now ≡ escrows_at txn self.now) }
         ensures most { IfSome result (λ escrows. length escrows.now ≤ max_escrows) }
     {
@@ -93,7 +93,7 @@ impl Journal {
     /// fewer than 64 may be: `is_open` and `count` tell both. The error is want of memory, and
     /// changes nothing. Costs one row.
     pub fn begin(&mut self, alloc: Global, txn: TxnId) -> Result<(), AllocError>
-        requires closed { stands txn self.old ≡ false }
+        requires closed { is_listed txn self.old ≡ false }
         requires room { length self.old < max_open }
         ensures ok { OnOk result (self.new ≡ self.old ++ (txn, []) ∷ []) }
         ensures err { OnErr result (self.new ≡ self.old) }
@@ -107,9 +107,9 @@ impl Journal {
     /// has to be open with fewer than 16 escrows: `is_open` and `escrows` tell both. The error is
     /// want of memory, and changes nothing. Costs a look through at most 64 rows.
     pub fn add(&mut self, txn: TxnId, escrow: Escrow) -> Result<(), AllocError>
-        requires open { stands txn self.old ≡ true }
+        requires open { is_listed txn self.old ≡ true }
         requires room { length (escrows_at txn self.old) < max_escrows }
-        ensures ok { OnOk result (self.new ≡ added txn escrow self.old) }
+        ensures ok { OnOk result (self.new ≡ rows_with txn escrow self.old) }
         ensures err { OnErr result (self.new ≡ self.old) }
     {
         let at = place(&self.rows, txn).unwrap();
@@ -121,7 +121,7 @@ impl Journal {
     /// order. None exactly where it isn't open, and then nothing has changed. Takes no memory; costs
     /// a look through at most 64 rows, and a step for each row behind it.
     pub fn take_out(&mut self, txn: TxnId) -> Option<Vec<Escrow>>
-        ensures open { is_some result ≡ stands txn self.old }
+        ensures open { is_some result ≡ is_listed txn self.old }
         ensures escrows { IfSome result (λ escrows. escrows.items ≡ escrows_at txn self.old) }
         ensures rest { OnSome result (self.new ≡ without txn self.old) }
         ensures none { IfNone result (self.new ≡ self.old) }

@@ -9,7 +9,7 @@ use Rattle.entry_text.specs.Spelling.{entry_text}
 use Rattle.kept_state.specs.Luck.{entries}
 use Rattle.world_steps.specs.declared.step.WorldStep.{WorldStep}
 use Rattle.world_steps.specs.declared.step.StepReply.TheVariants.{Made, NoStatement}
-use Rattle.world_steps.specs.View.{WorldValue, lived, Answers}
+use Rattle.world_steps.specs.View.{WorldValue, lucky_trace, Answers}
 use Rattle.escrow_script.specs.Text.{line_text, trace, remark_text, Asks, AsksSteps, IsBad, IsReply, AreReplies}
 use Rattle.escrow_script.specs.Run.{Answered, HasTaken}
 
@@ -24,7 +24,7 @@ pub made_reply : (old new : WorldValue) (step : WorldStep) (entry : Entry) → n
     → IsReply old.schema (reverse old.steps) step (line_text (entry_text old.schema entry))
 made_reply old new step entry taken grows = inl (
   entry,
-  ap (λ (l : List WorldStep). trace old.schema l) (sym (reverse-append old.steps (step ∷ []))) ∙ ap (λ (w : WorldValue). entries (lived w)) (sym taken) ∙ ap entries grows,
+  ap (λ (l : List WorldStep). trace old.schema l) (sym (reverse-append old.steps (step ∷ []))) ∙ ap (λ (w : WorldValue). entries (lucky_trace w)) (sym taken) ∙ ap entries grows,
   refl,
 )
 

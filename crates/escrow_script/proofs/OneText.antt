@@ -13,7 +13,7 @@ use Rattle.field_bounds.proofs.Alone.{schema_of-limits}
 use Rattle.entry_text.specs.Spelling.{entry_text}
 use Rattle.kept_state.specs.Luck.{entries}
 use Rattle.world_steps.specs.declared.step.WorldStep.{WorldStep}
-use Rattle.world_steps.specs.World.{asked, luck_of, with_entry, world_of}
+use Rattle.world_steps.specs.World.{question_of, luck_of, with_entry, world_of}
 use Rattle.escrow_script.specs.Text.{line_text, trace, moves_text, Asks, IsBad, IsReply, AreReplies, AsksLevel, AsksSteps, IsCarriedOut, IsAnswer, AreAnswers, HasText}
 use Rattle.escrow_script.specs.Level.{level_gifts}
 use Rattle.escrow_script.proofs.StepLemmas.{head_is, tail_is, one_step}
@@ -82,10 +82,10 @@ all_steps schema is (line ∷ before) steps others text again a b =
 -- and each step has one reply
 
 -- a step that asks no site anything makes no entry
-idle : (schema : SchemaValue) (earlier : List WorldStep) (step : WorldStep) → asked (trace schema earlier) step ≡ None → trace schema (step ∷ earlier) ≡ trace schema earlier
+idle : (schema : SchemaValue) (earlier : List WorldStep) (step : WorldStep) → question_of (trace schema earlier) step ≡ None → trace schema (step ∷ earlier) ≡ trace schema earlier
 idle schema earlier step none = ap (λ (o : Option (SiteNo × Command)). entries (with_entry schema o (luck_of step) (world_of schema earlier))) none
 
-no_growth : (schema : SchemaValue) (earlier : List WorldStep) (step : WorldStep) (entry : Entry) → asked (trace schema earlier) step ≡ None
+no_growth : (schema : SchemaValue) (earlier : List WorldStep) (step : WorldStep) (entry : Entry) → question_of (trace schema earlier) step ≡ None
     → trace schema (step ∷ earlier) ≡ entry ∷ trace schema earlier → ⊥
 no_growth schema earlier step entry none grows =
     let same : trace schema earlier ≡ entry ∷ trace schema earlier = sym (idle schema earlier step none) ∙ grows in

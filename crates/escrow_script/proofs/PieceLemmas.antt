@@ -11,9 +11,9 @@ use Rattle.script_input.specs.declared.streams.End.{End}
 use Rattle.script_input.specs.declared.streams.End.TheVariants.{Nothing}
 use Rattle.script_input.specs.Lines.{whole_lines}
 use Rattle.script_input.specs.Faults.{HasEndedAt}
-use Rattle.script_input.specs.Streams.{AppendsFront}
+use Rattle.script_input.specs.Streams.{AppendsPrefix}
 use Rattle.script_input.proofs.LineLemmas.{split_piece, rest_some}
-use Rattle.escrow_script.specs.Run.{At, HasWritten, Stops, Stands, StopsAfter, IsFresh, RunsThrough, Answers, Fails, Leaves, LeavesAll, WritesText, WritesFor}
+use Rattle.escrow_script.specs.Run.{At, HasWritten, Stops, HasRead, StopsAfter, IsFresh, RunsThrough, Answers, Fails, Leaves, LeavesAll, WritesText, WritesFor}
 use Rattle.escrow_script.proofs.RunLemmas.{At-written, Stops-along, kept-nil, IsTextOf-stands}
 
 -- a fault that tells less of the end
@@ -66,8 +66,8 @@ module _ (from middle to before written after : Option (List ℕ)) (old new : Sc
   -- the read gave nothing
   pub Stands-end : (n : ℕ) (buf : List ℕ) (ended : End) → n ≡ 0 → 0 < length buf
       → Consumes middle to (take n buf) × (n ≡ 0 → 0 < length buf → IsAtEnd to) → (n ≡ 0 → 0 < length buf → ended ≡ Nothing)
-      → HasWritten old new → Appends written after old.out.items → Stands from middle before written old bytes
-      → Stands from to before after new (bytes + 0) × (◌≡◌ {A = ℕ} 0 0 → HasEndedAt to ended)
+      → HasWritten old new → Appends written after old.out.items → HasRead from middle before written old bytes
+      → HasRead from to before after new (bytes + 0) × (◌≡◌ {A = ℕ} 0 0 → HasEndedAt to ended)
   Stands-end n buf ended none room consumed nothing step appended stands =
       let whole : stands.read ++ take n buf ≡ stands.read = ap (λ k. stands.read ++ take k buf) none ∙ append-nil stands.read in (
         record {
@@ -85,8 +85,8 @@ module _ (from middle to before written after : Option (List ℕ)) (old new : Sc
       → bytes + n ≤ 268435456 → Consumes middle to (take n buf)
       → HasWritten old wrote → Appends written wrote_to old.out.items
       → ((read : List ℕ) (b : Option (List ℕ)) → At read wrote b wrote_to → At (read ++ piece) new b after)
-      → Stands from middle before written old bytes
-      → Stands from to before after new (bytes + n)
+      → HasRead from middle before written old bytes
+      → HasRead from to before after new (bytes + n)
   Stands-more wrote wrote_to n buf piece e fits within consumed step appended goes stands = record {
     read = stands.read ++ take n buf;
     consumed = Consumes-trans from middle to stands.read (take n buf) stands.consumed consumed;
@@ -101,7 +101,7 @@ module _ (from middle to before written after : Option (List ℕ)) (old new : Sc
       → piece ≡ take k buf → k ≤ n → Consumes middle to (take n buf)
       → HasWritten old wrote → Appends written wrote_to old.out.items
       → ((read more : List ℕ) (b : Option (List ℕ)) → At read wrote b wrote_to → Stops fault (read ++ (piece ++ more)) new b after ⊥)
-      → Stands from middle before written old bytes
+      → HasRead from middle before written old bytes
       → StopsAfter from to before after new ended fault
   Stops-more wrote wrote_to fault n k buf piece ended e h consumed step appended stops stands =
       let rest = drop k (take n buf) in (
@@ -118,7 +118,7 @@ module _ (from middle to before written after : Option (List ℕ)) (old new : Sc
       → piece ≡ take k buf → k < n → n ≤ length buf → bytes + k ≡ 268435456 → Consumes middle to (take n buf)
       → HasWritten old wrote → Appends written wrote_to old.out.items
       → ((read : List ℕ) (b : Option (List ℕ)) → At read wrote b wrote_to → At (read ++ piece) new b after)
-      → Stands from middle before written old bytes
+      → HasRead from middle before written old bytes
       → StopsAfter from to before after new ended TooLong
   Stops-over wrote wrote_to n k buf piece ended e h fits full consumed step appended goes stands =
       let rest = drop k (take n buf) in
@@ -143,7 +143,7 @@ At-start s w fresh = record {
   lines = fresh.lines;
 }
 
-pub Stands-start : (from before : Option (List ℕ)) (s : Script) → IsFresh s → Stands from from before before s 0
+pub Stands-start : (from before : Option (List ℕ)) (s : Script) → IsFresh s → HasRead from from before before s 0
 Stands-start from before s fresh = record {
   read = [];
   consumed = Consumes-nil from;
@@ -193,7 +193,7 @@ Fails-write from to before after s ended stops =
 
 -- a front of what is known and of what is written after it
 AppendsFront-after : (before middle after : Option (List ℕ)) (written out : List ℕ) → Appends before middle written
-    → AppendsFront middle after out → AppendsFront before after (written ++ out)
+    → AppendsPrefix middle after out → AppendsPrefix before after (written ++ out)
 AppendsFront-after before middle after written out wrote front = (
   length written + front.0,
   subst (Appends before after)
@@ -212,7 +212,7 @@ on_ok (Ok x) P Q f p = f p
 on_ok (Err fault) P Q f p = tt
 
 pub Fails-last : (from to before middle after : Option (List ℕ)) (s : Script) (ended : End)
-    → RunsThrough from to before middle s → AppendsFront middle after s.out.items → Fails from to before after ended Write
+    → RunsThrough from to before middle s → AppendsPrefix middle after s.out.items → Fails from to before after ended Write
 Fails-last from to before middle after s ended runs front =
     let (read, consumed, end, (schema, (steps, (written, wrote, has)))) = runs in record {
       front = read;
@@ -240,7 +240,7 @@ Leaves-other NoMemory out lines before after other = λ h. h
 
 -- the last write failed after a fault
 pub Fails-again : (fault : ScriptFault) (from to before middle after : Option (List ℕ)) (s : Script) (ended : End) → fault ≢ Write
-    → StopsAfter from to before middle s ended fault → AppendsFront middle after s.out.items → Fails from to before after ended Write
+    → StopsAfter from to before middle s ended fault → AppendsPrefix middle after s.out.items → Fails from to before after ended Write
 Fails-again fault from to before middle after s ended other stops front =
     let (read, consumed, st) = stops in
     let (written, wrote, text) = Leaves-other fault s.out.items (whole_lines st.front) before middle other st.text in record {

@@ -15,16 +15,16 @@ use Rattle.field_bounds.specs.Header.{schema_of}
 use Rattle.script_input.specs.Lines.{whole_lines, last_part, last_line, with_header, script_lines}
 use Rattle.escrow_script.specs.Text.{IsTextOf}
 use Rattle.script_input.specs.Faults.{BeginsWithBreak}
-use Rattle.script_input.specs.Streams.{AppendsFront}
-use Rattle.escrow_script.specs.Run.{At, HasKept, CannotKeep, HasEnded, CannotEnd, HasAnswered, HasWritten, Stops, kept, with_piece, Leaves, LeavesFront, StandsFor, Moves, Completes}
+use Rattle.script_input.specs.Streams.{AppendsPrefix}
+use Rattle.escrow_script.specs.Run.{At, HasKept, CannotKeep, HasEnded, CannotEnd, HasAnswered, HasWritten, Stops, line_held, with_piece, Leaves, LeavesPrefix, IsAfterLines, Moves, Completes}
 use Rattle.script_input.proofs.LineLemmas.{whole_lines-unbroken, last_part-unbroken, whole_lines-broken, last_part-broken, last_part_after-none, last_line-some, with_header-last, with_header-some}
 use Rattle.escrow_script.proofs.TextLemmas.{StandsFor-next, StandsFor-more, with_piece-kept}
 
-StandsFor-along : (m n : Option Machine) (ks ls : List (List ℕ)) (s t : List ℕ) → m ≡ n → ks ≡ ls → s ≡ t → StandsFor m ks s → StandsFor n ls t
+StandsFor-along : (m n : Option Machine) (ks ls : List (List ℕ)) (s t : List ℕ) → m ≡ n → ks ≡ ls → s ≡ t → IsAfterLines m ks s → IsAfterLines n ls t
 StandsFor-along m n ks ls s t em el et stands =
-    subst (λ x. StandsFor x ls t) em (subst (λ x. StandsFor m x t) el (subst (λ x. StandsFor m ks x) et stands))
+    subst (λ x. IsAfterLines x ls t) em (subst (λ x. IsAfterLines m x t) el (subst (λ x. IsAfterLines m ks x) et stands))
 
-pub IsTextOf-stands : (m : Option Machine) (lines : List (List ℕ)) (text : List ℕ) → StandsFor m lines text → IsTextOf lines text
+pub IsTextOf-stands : (m : Option Machine) (lines : List (List ℕ)) (text : List ℕ) → IsAfterLines m lines text → IsTextOf lines text
 IsTextOf-stands None lines text stands = inl stands
 IsTextOf-stands (Some m) lines text stands = inr (m.world.schema, (reverse m.world.steps, stands))
 
@@ -37,27 +37,27 @@ At-kept read piece old new before after unbroken at step =
       appended = at.appended;
       stands = StandsFor-along _ _ _ _ _ _ (sym step.machine) (sym same) (ap (λ l. at.written ++ l) (sym step.out)) at.stands;
       line = step.line ∙ ap (λ l. with_piece old.machine l piece) at.line ∙ with_piece-kept old.machine (last_part read) piece
-          ∙ ap (kept old.machine) (sym (last_part-unbroken read piece unbroken)) ∙ ap (λ m. kept m (last_part (read ++ piece))) (sym step.machine);
+          ∙ ap (line_held old.machine) (sym (last_part-unbroken read piece unbroken)) ∙ ap (λ m. line_held m (last_part (read ++ piece))) (sym step.machine);
       lines = step.lines ∙ at.lines ∙ ap length (sym same);
     }
 
-pub kept-nil : (m : Option Machine) → kept m [] ≡ []
+pub kept-nil : (m : Option Machine) → line_held m [] ≡ []
 kept-nil None = refl
 kept-nil (Some m) = refl
 
-kept_of_none : (m : Option Machine) (line : List ℕ) → IsNone m → kept m line ≡ line
+kept_of_none : (m : Option Machine) (line : List ℕ) → IsNone m → line_held m line ≡ line
 kept_of_none None line = λ none. refl
 kept_of_none (Some m) line = λ none. cc
 
-none_lines : (m : Option Machine) (lines : List (List ℕ)) (text : List ℕ) → IsNone m → StandsFor m lines text → lines ≡ []
+none_lines : (m : Option Machine) (lines : List (List ℕ)) (text : List ℕ) → IsNone m → IsAfterLines m lines text → lines ≡ []
 none_lines None lines text none stands = stands.0
 none_lines (Some m) lines text none stands = cc
 
 -- the state of the text once a line ended
 Ended-stands : (read : List ℕ) (old new : Script) (before after : Option (List ℕ)) (at : At read old before after) → HasEnded old new
-    → StandsFor new.machine (whole_lines read ++ last_part read ∷ []) (at.written ++ new.out.items)
+    → IsAfterLines new.machine (whole_lines read ++ last_part read ∷ []) (at.written ++ new.out.items)
 Ended-stands read old new before after at step =
-    let moves : Moves old.machine (kept old.machine (last_part read)) new.machine old.out.items new.out.items =
+    let moves : Moves old.machine (line_held old.machine (last_part read)) new.machine old.out.items new.out.items =
     subst (λ l. Moves old.machine l new.machine old.out.items new.out.items) at.line step.machine in
     StandsFor-more old.machine new.machine (whole_lines read) (last_part read) at.written old.out.items new.out.items at.stands moves
 
@@ -69,8 +69,8 @@ At-ended read old new before after at step =
     record {
       written = at.written;
       appended = at.appended;
-      stands = subst (λ ls. StandsFor new.machine ls (at.written ++ new.out.items)) (sym more) (Ended-stands read old new before after at step);
-      line = step.line ∙ sym (ap (kept new.machine) (last_part-broken read) ∙ kept-nil new.machine);
+      stands = subst (λ ls. IsAfterLines new.machine ls (at.written ++ new.out.items)) (sym more) (Ended-stands read old new before after at step);
+      line = step.line ∙ sym (ap (line_held new.machine) (last_part-broken read) ∙ kept-nil new.machine);
       lines = step.lines ∙ ap (λ n. n + 1) at.lines ∙ sym (length_push (whole_lines read) (last_part read)) ∙ ap length (sym more);
     }
 
@@ -82,13 +82,13 @@ At-written read old new before middle after at step appended = record {
   appended = Appends-trans before middle after at.written old.out.items at.appended appended;
   stands = StandsFor-along _ _ _ _ _ _ (sym step.machine) refl
       (sym (ap (λ l. (at.written ++ old.out.items) ++ l) step.out ∙ append-nil (at.written ++ old.out.items))) at.stands;
-  line = step.line ∙ at.line ∙ ap (λ m. kept m (last_part read)) (sym step.machine);
+  line = step.line ∙ at.line ∙ ap (λ m. line_held m (last_part read)) (sym step.machine);
   lines = step.lines ∙ at.lines;
 }
 
 -- with a front of the output written
 pub At-front : (read : List ℕ) (old : Script) (before middle after : Option (List ℕ))
-    → At read old before middle → AppendsFront middle after old.out.items → LeavesFront before after (whole_lines read)
+    → At read old before middle → AppendsPrefix middle after old.out.items → LeavesPrefix before after (whole_lines read)
 At-front read old before middle after at front = (
   at.written ++ old.out.items,
   IsTextOf-stands old.machine (whole_lines read) (at.written ++ old.out.items) at.stands,
@@ -165,7 +165,7 @@ Stops-end Write read back old new before after ended breaks at step = absurd ste
 
 -- output that can't be written
 pub Stops-write : (fault : ScriptFault) (read back : List ℕ) (old new : Script) (before middle after : Option (List ℕ)) (ended : Type 0)
-    → fault ≡ Write → At read old before middle → AppendsFront middle after old.out.items
+    → fault ≡ Write → At read old before middle → AppendsPrefix middle after old.out.items
     → Stops fault (read ++ back) new before after ended
 Stops-write fault read back old new before middle after ended is at front =
     subst (λ f. Stops f (read ++ back) new before after ended) (sym is)
@@ -192,13 +192,13 @@ Stops-full read back new before after ended full some at = record {
 
 -- ---- the end of the input
 
-kept-empty : (m : Option Machine) (line : List ℕ) → kept m line ≡ [] → line ≡ []
+kept-empty : (m : Option Machine) (line : List ℕ) → line_held m line ≡ [] → line ≡ []
 kept-empty None line = λ e. e
 kept-empty (Some m) [] = λ e. refl
 kept-empty (Some m) (b ∷ bs) = λ e. cc
 
 -- the lines of a script whose last line isn't ended by LF, or is the empty header line
-last_lines : (m : Option Machine) (wl : List (List ℕ)) (lp text : List ℕ) → StandsFor m wl text → (IsSome m → lp ≡ [] → ⊥)
+last_lines : (m : Option Machine) (wl : List (List ℕ)) (lp text : List ℕ) → IsAfterLines m wl text → (IsSome m → lp ≡ [] → ⊥)
     → with_header (wl ++ last_line lp) ≡ wl ++ lp ∷ []
 last_lines None wl lp text stands not_both =
     ap (λ l. with_header (l ++ last_line lp)) stands.0 ∙ with_header-last lp ∙ ap (λ l. l ++ lp ∷ []) (sym stands.0)
@@ -207,11 +207,11 @@ last_lines (Some m) wl lp text stands not_both =
     ∙ ap (λ l. wl ++ l) (last_line-some lp (not_both refl))
 
 Completes-stands : (m : Option Machine) (lines : List (List ℕ)) (before after : Option (List ℕ)) (written out : List ℕ) → IsSome m
-    → Appends before after written → StandsFor m lines (written ++ out) → Completes before after out lines
+    → Appends before after written → IsAfterLines m lines (written ++ out) → Completes before after out lines
 Completes-stands None lines before after written out some appended stands = cc
 Completes-stands (Some m) lines before after written out some appended stands = (m.world.schema, (reverse m.world.steps, (written, appended, stands)))
 
-some_lines : (m : Option Machine) (wl : List (List ℕ)) (text : List ℕ) → IsSome m → StandsFor m wl text → with_header (wl ++ []) ≡ wl
+some_lines : (m : Option Machine) (wl : List (List ℕ)) (text : List ℕ) → IsSome m → IsAfterLines m wl text → with_header (wl ++ []) ≡ wl
 some_lines None wl text some stands = cc
 some_lines (Some m) wl text some stands = with_header-some wl [] stands.header stands.behind stands.parts ∙ append-nil wl
 
@@ -228,9 +228,9 @@ At-whole read line old new before after unbroken empty at step =
     At-along _ _ _ _ _ (append_assoc read line (10 ∷ [])) (record {
       written = at.written;
       appended = at.appended;
-      stands = subst (λ ls. StandsFor new.machine ls (at.written ++ new.out.items)) (sym more)
+      stands = subst (λ ls. IsAfterLines new.machine ls (at.written ++ new.out.items)) (sym more)
           (StandsFor-next old.machine new.machine (whole_lines read) line at.written old.out.items new.out.items at.stands step.machine);
-      line = step.kept ∙ empty ∙ sym (ap (kept new.machine) (last_part-broken (read ++ line)) ∙ kept-nil new.machine);
+      line = step.kept ∙ empty ∙ sym (ap (line_held new.machine) (last_part-broken (read ++ line)) ∙ kept-nil new.machine);
       lines = step.lines ∙ ap (λ n. n + 1) at.lines ∙ sym (length_push (whole_lines read) line) ∙ ap length (sym more);
     })
 
@@ -266,7 +266,7 @@ pub Finishes-ended : (read : List ℕ) (old new : Script) (before after : Option
 Finishes-ended read old new before after not_both at step =
     let wl = whole_lines read in
     let lp = last_part read in
-    let some : IsSome old.machine → lp ≡ [] → ⊥ = λ is e. not_both is (at.line ∙ ap (kept old.machine) e ∙ kept-nil old.machine) in
+    let some : IsSome old.machine → lp ≡ [] → ⊥ = λ is e. not_both is (at.line ∙ ap (line_held old.machine) e ∙ kept-nil old.machine) in
     let same : script_lines read ≡ wl ++ lp ∷ [] = last_lines old.machine wl lp (at.written ++ old.out.items) at.stands some in
     subst (Completes before after new.out.items) (sym same)
     (Completes-stands new.machine (wl ++ lp ∷ []) before after at.written new.out.items

@@ -14,7 +14,7 @@ use Rattle.world_steps.proofs.Sound.{StepsFit}
 use Rattle.world_steps.proofs.Living.{one_store}
 use Rattle.entry_text.specs.Lines.{max_line}
 use Rattle.escrow_script.specs.Text.{line_text, trace, AsksSteps, IsAnswer, AreAnswers, HasText}
-use Rattle.escrow_script.specs.Run.{with_piece, kept, Answered, Moves, StandsFor}
+use Rattle.escrow_script.specs.Run.{with_piece, line_held, Answered, Moves, IsAfterLines}
 use Rattle.escrow_script.proofs.LevelLemmas.{level_fits}
 use Rattle.escrow_script.proofs.AimLemmas.{reach_fits}
 
@@ -70,7 +70,7 @@ take_of_append n xs ys = elim (cases_lt n (length xs)) [
       ∙ sym (take-append-add xs ys (n - length xs)) ∙ ap (λ k. take k (xs ++ ys)) (sym split)
 ]
 
-pub with_piece-kept : (m : Option Machine) (line piece : List ℕ) → with_piece m (kept m line) piece ≡ kept m (line ++ piece)
+pub with_piece-kept : (m : Option Machine) (line piece : List ℕ) → with_piece m (line_held m line) piece ≡ line_held m (line ++ piece)
 with_piece-kept None line piece = refl
 with_piece-kept (Some m) line piece = take_of_append (max_line + 1) line piece
 
@@ -130,7 +130,7 @@ HasText-start schema line start = record {
 
 -- the machine after one more line
 pub StandsFor-next : (m n : Option Machine) (lines : List (List ℕ)) (line written out grown : List ℕ)
-    → StandsFor m lines (written ++ out) → Moves m line n out grown → StandsFor n (lines ++ line ∷ []) (written ++ grown)
+    → IsAfterLines m lines (written ++ out) → Moves m line n out grown → IsAfterLines n (lines ++ line ∷ []) (written ++ grown)
 StandsFor-next None None lines line written out grown stands moves = absurd moves
 StandsFor-next None (Some n) lines line written out grown stands moves =
     let (start, empty, text) = moves in
@@ -146,7 +146,7 @@ StandsFor-next (Some m) (Some n) lines line written out grown stands moves =
     (subst (HasText m.world.schema (reverse n.world.steps) (lines ++ line ∷ [])) text
     (HasText-more m.world.schema (reverse m.world.steps) (reverse n.world.steps) lines line (written ++ out) moves.text stands moves.answer))
 
-Moves-kept : (m n : Option Machine) (line out grown : List ℕ) → Moves m (kept m line) n out grown → Moves m line n out grown
+Moves-kept : (m n : Option Machine) (line out grown : List ℕ) → Moves m (line_held m line) n out grown → Moves m line n out grown
 Moves-kept None None line out grown moves = moves
 Moves-kept None (Some n) line out grown moves = moves
 Moves-kept (Some m) None line out grown moves = moves
@@ -154,6 +154,6 @@ Moves-kept (Some m) (Some n) line out grown moves = Answered-kept line m.world n
 
 -- the same, where the machine has as much of the line as is kept
 pub StandsFor-more : (m n : Option Machine) (lines : List (List ℕ)) (line written out grown : List ℕ)
-    → StandsFor m lines (written ++ out) → Moves m (kept m line) n out grown → StandsFor n (lines ++ line ∷ []) (written ++ grown)
+    → IsAfterLines m lines (written ++ out) → Moves m (line_held m line) n out grown → IsAfterLines n (lines ++ line ∷ []) (written ++ grown)
 StandsFor-more m n lines line written out grown stands moves =
     StandsFor-next m n lines line written out grown stands (Moves-kept m n line out grown moves)

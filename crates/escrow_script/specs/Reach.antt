@@ -5,7 +5,7 @@ use Rattle.std.specs.Int.{w64}
 use Rattle.std.specs.Fmt.{signed_decimal}
 use Rattle.field_bounds.specs.Schema.{SchemaValue}
 use Rattle.line_words.specs.Words.{words, line}
-use Rattle.line_words.specs.Reading.{◌>>=◌, signed_of, only_of, word_at, ended}
+use Rattle.line_words.specs.Reading.{◌>>=◌, signed_of, only_of, word_at, only_value}
 use Rattle.entry_text.specs.Spelling.{site_text, field_text}
 use Rattle.entry_text.specs.Ranges.{SiteFits, FieldFits}
 use Rattle.entry_text.specs.Reading.{site_of, field_of}
@@ -51,7 +51,7 @@ aim_at schema ws = do
 unfoldable pub aim_of : SchemaValue → List ℕ → Option Aim
 aim_of schema bytes = do
   aim ← aim_at schema (words bytes)
-  ended aim
+  only_value aim
 
 -- ---- why it isn't reached
 

@@ -17,7 +17,7 @@ use Rattle.field_bounds.specs.declared.entry.Entry.{Entry}
 use Rattle.world_steps.specs.View.{WorldValue}
 use Rattle.script_input.specs.Lines.{whole_lines, last_part, script_lines}
 use Rattle.script_input.specs.Faults.{HasEndedAt, Explains}
-use Rattle.script_input.specs.Streams.{AppendsFront}
+use Rattle.script_input.specs.Streams.{AppendsPrefix}
 
 -- A line with the next bytes: all of them in a header line, and else as many as tell that the line is too long.
 abbrev pub with_piece : Option Machine → List ℕ → List ℕ → List ℕ
@@ -96,21 +96,21 @@ pub record HasAnswered (old new : Script) (line : List ℕ) : Type 0 where
   pub lines : new.lines ≡ old.lines + 1
 
 -- As much of a line as is kept: all of a header line, and else as much as tells that it is too long.
-abbrev pub kept : Option Machine → List ℕ → List ℕ
-kept None line = line
-kept (Some m) line = take (max_line + 1) line
+abbrev pub line_held : Option Machine → List ℕ → List ℕ
+line_held None line = line
+line_held (Some m) line = take (max_line + 1) line
 
 -- The machine after the lines, whose text this is.
-abbrev pub StandsFor : Option Machine → List (List ℕ) → List ℕ → Type 0
-StandsFor None lines text = (lines ≡ []) × (text ≡ [])
-StandsFor (Some m) lines text = HasText m.world.schema (reverse m.world.steps) lines text
+abbrev pub IsAfterLines : Option Machine → List (List ℕ) → List ℕ → Type 0
+IsAfterLines None lines text = (lines ≡ []) × (text ≡ [])
+IsAfterLines (Some m) lines text = HasText m.world.schema (reverse m.world.steps) lines text
 
 -- The state after these bytes, with the writer's known bytes before and after.
 pub record At (read : List ℕ) (s : Script) (before after : Option (List ℕ)) : Type 0 where
   pub written : List ℕ
   pub appended : Appends before after written
-  pub stands : StandsFor s.machine (whole_lines read) (written ++ s.out.items)
-  pub line : s.line.items ≡ kept s.machine (last_part read)
+  pub stands : IsAfterLines s.machine (whole_lines read) (written ++ s.out.items)
+  pub line : s.line.items ≡ line_held s.machine (last_part read)
   pub lines : s.lines ≡ length (whole_lines read)
 
 -- The output is written.
@@ -125,8 +125,8 @@ abbrev pub Leaves : Option (List ℕ) → Option (List ℕ) → List ℕ → Lis
 Leaves before after out lines = (written : List ℕ) × Appends before after written × IsTextOf lines (written ++ out)
 
 -- The known bytes grow by a front of the text of the lines.
-abbrev pub LeavesFront : Option (List ℕ) → Option (List ℕ) → List (List ℕ) → Type 0
-LeavesFront before after lines = (text : List ℕ) × IsTextOf lines text × AppendsFront before after text
+abbrev pub LeavesPrefix : Option (List ℕ) → Option (List ℕ) → List (List ℕ) → Type 0
+LeavesPrefix before after lines = (text : List ℕ) × IsTextOf lines text × AppendsPrefix before after text
 
 -- The known bytes grow by the text of the lines.
 abbrev pub LeavesAll : Option (List ℕ) → Option (List ℕ) → List (List ℕ) → Type 0
@@ -134,7 +134,7 @@ LeavesAll before after lines = (text : List ℕ) × IsTextOf lines text × Appen
 
 -- At a write fault a front of the text is written, and else all of it but what is in the buffer.
 abbrev pub WritesText : ScriptFault → List ℕ → Option (List ℕ) → Option (List ℕ) → List (List ℕ) → Type 0
-WritesText Write out before after lines = LeavesFront before after lines
+WritesText Write out before after lines = LeavesPrefix before after lines
 WritesText _ out before after lines = Leaves before after out lines
 
 -- The fault came in these bytes, and what is written, with the buffer, is the text of the whole lines in
@@ -182,7 +182,7 @@ StopsAtEnd old new fault =
     (read : List ℕ) (before after : Option (List ℕ)) → At read old before after → Stops fault read new before after (Unit {0})
 
 -- The known bytes of a reader lose what was read, and the state is that after it.
-pub record Stands (from to before after : Option (List ℕ)) (s : Script) (bytes : ℕ) : Type 0 where
+pub record HasRead (from to before after : Option (List ℕ)) (s : Script) (bytes : ℕ) : Type 0 where
   pub read : List ℕ
   pub consumed : Consumes from to read
   pub at : At read s before after
@@ -207,17 +207,17 @@ StopsAfter from to before after s last fault =
     (read : List ℕ) × Consumes from to read × Stops fault read s before after (HasEndedAt to last)
 
 -- After one more piece: with a count of 0 the input has ended.
-abbrev pub StandsNext : Option (List ℕ) → Option (List ℕ) → Option (List ℕ) → Option (List ℕ)
+abbrev pub ReadsNext : Option (List ℕ) → Option (List ℕ) → Option (List ℕ) → Option (List ℕ)
     → Script → Script → End → ℕ → ℕ → Type 0
-StandsNext middle to written after old new last bytes count =
-    (from before : Option (List ℕ)) → Stands from middle before written old bytes
-    → Stands from to before after new (bytes + count) × (count ≡ 0 → HasEndedAt to last)
+ReadsNext middle to written after old new last bytes count =
+    (from before : Option (List ℕ)) → HasRead from middle before written old bytes
+    → HasRead from to before after new (bytes + count) × (count ≡ 0 → HasEndedAt to last)
 
 -- The fault came in the next piece, or at its read or write.
 abbrev pub StopsNext : Option (List ℕ) → Option (List ℕ) → Option (List ℕ) → Option (List ℕ)
     → Script → Script → End → ℕ → ScriptFault → Type 0
 StopsNext middle to written after old new last bytes fault =
-    (from before : Option (List ℕ)) → Stands from middle before written old bytes
+    (from before : Option (List ℕ)) → HasRead from middle before written old bytes
     → StopsAfter from to before after new last fault
 
 -- All known bytes of the reader are read, and the text of their lines is written.
@@ -235,7 +235,7 @@ pub record Answers (from to before after : Option (List ℕ)) : Type 0 where
 -- input, and else the text of the whole lines in front of the fault.
 abbrev pub WritesFor : ScriptFault → Option (List ℕ) → Option (List ℕ) → List ℕ → List ℕ → Type 0
 WritesFor Write before after front back =
-    LeavesFront before after (whole_lines front) ⊎ ((back ≡ []) × LeavesFront before after (script_lines front))
+    LeavesPrefix before after (whole_lines front) ⊎ ((back ≡ []) × LeavesPrefix before after (script_lines front))
 WritesFor _ before after front back = LeavesAll before after (whole_lines front)
 
 -- What was read is the front, with the whole lines that are answered, and the back, where the fault came.

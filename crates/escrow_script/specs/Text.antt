@@ -15,7 +15,7 @@ use Rattle.kept_state.specs.declared.luck.Luck.TheVariants.{Fine, Torn}
 use Rattle.kept_state.specs.Luck.{entries}
 use Rattle.world_steps.specs.declared.step.WorldStep.{WorldStep}
 use Rattle.world_steps.specs.declared.step.WorldStep.TheVariants.{Do, Deliver}
-use Rattle.world_steps.specs.World.{asked, luck_of, StepFits, world_of}
+use Rattle.world_steps.specs.World.{question_of, luck_of, StepFits, world_of}
 use Rattle.world_steps.specs.Promises.{IsOneStore}
 use Rattle.reaching_steps.specs.declared.fault.ReachFault.{ReachFault}
 use Rattle.reaching_steps.specs.Reach.{reach_steps, reach_fault}
@@ -92,7 +92,7 @@ remark_text schema step = plain_text schema step ++ codes " -> refused 16 no sta
 abbrev pub IsReply : SchemaValue → List WorldStep → WorldStep → List ℕ → Type 0
 IsReply schema earlier step text =
     ((entry : Entry) × (trace schema (step ∷ earlier) ≡ entry ∷ trace schema earlier) × (text ≡ line_text (entry_text schema entry)))
-    ⊎ ((asked (trace schema earlier) step ≡ None) × (text ≡ line_text (remark_text schema step)))
+    ⊎ ((question_of (trace schema earlier) step ≡ None) × (text ≡ line_text (remark_text schema step)))
 
 -- What answers steps that come after earlier ones, one after another.
 abbrev pub AreReplies : SchemaValue → List WorldStep → List WorldStep → List ℕ → Type 0

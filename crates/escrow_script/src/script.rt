@@ -26,8 +26,8 @@ struct Script {
 
 impl Script {
     ghost use Rattle.std.specs.Io.KnownBytes.{Appends};
-    ghost use Rattle.escrow_script.specs.Run.{HasKept, CannotKeep, HasEnded, CannotEnd, HasAnswered, EndsWith, CannotEndWith, HasWritten, GoesOn, StopsIn, Finishes, StopsAtEnd, IsFresh, RunsThrough, StopsAfter, StandsNext, StopsNext};
-    ghost use Rattle.script_input.specs.Streams.{AppendsFront};
+    ghost use Rattle.escrow_script.specs.Run.{HasKept, CannotKeep, HasEnded, CannotEnd, HasAnswered, EndsWith, CannotEndWith, HasWritten, GoesOn, StopsIn, Finishes, StopsAtEnd, IsFresh, RunsThrough, StopsAfter, ReadsNext, StopsNext};
+    ghost use Rattle.script_input.specs.Streams.{AppendsPrefix};
 
     fn new(alloc: Global) -> Script
         ensures { IsFresh result }
@@ -88,7 +88,7 @@ impl Script {
     fn write_out<W: Sink>(&mut self, writer: &mut W) -> Result<(), ScriptFault>
         ensures ok { OnOk result (HasWritten self.old self.new
             × Appends (W.bytes writer.old) (W.bytes writer.new) self.old.out.items) }
-        ensures front { OnErr result (AppendsFront
+        ensures front { OnErr result (AppendsPrefix
             (W.bytes writer.old) (W.bytes writer.new) self.old.out.items) }
         ensures fault { IfErr result (λ fault. fault ≡ ScriptFault.Write) }
         ensures some { OnErr result (0 < length self.old.out.items) }
@@ -218,7 +218,7 @@ impl Script {
         requires some { 0 < length buffer.old }
         requires bytes { bytes ≤ 268435456 }
         requires lines { self.old.lines ≤ 1000000 }
-        ensures ok { IfOk result (StandsNext (R.bytes reader.old) (R.bytes reader.new)
+        ensures ok { IfOk result (ReadsNext (R.bytes reader.old) (R.bytes reader.new)
             (W.bytes writer.old) (W.bytes writer.new) self.old self.new (R.last reader.new) bytes) }
         ensures err { IfErr result (StopsNext (R.bytes reader.old) (R.bytes reader.new)
             (W.bytes writer.old) (W.bytes writer.new) self.old self.new (R.last reader.new) bytes) }

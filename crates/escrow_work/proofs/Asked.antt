@@ -9,7 +9,7 @@ use Rattle.site_workers.specs.Scripts.{scripts_of}
 use Rattle.escrow_work.specs.declared.scripts.Scripts.{Scripts}
 use Rattle.escrow_work.specs.Scripts.{IsPlain, AreAsked, HasScripts, scripts_from, with_command}
 use Rattle.escrow_work.specs.Work.{IsGood}
-use Rattle.escrow_work.specs.Reading.{Moves, StandsFor}
+use Rattle.escrow_work.specs.Reading.{Moves, IsAfterLines}
 use Rattle.escrow_work.proofs.Dealt.{dealt_more}
 
 asked_more : (schema : SchemaValue) (lines : List (List ℕ)) (line : List ℕ) (asked : List (SiteNo × Command))
@@ -51,8 +51,8 @@ has_along schema schema' header header' rows rows' lines es eh er has =
     (subst (λ (x : List (List Command)). HasScripts schema header x lines) er has))
 
 -- the scripts after one more line
-pub StandsFor-next : (before after : Option Scripts) (lines : List (List ℕ)) (line : List ℕ) → StandsFor before lines
-    → Moves before line after → StandsFor after (lines ++ line ∷ [])
+pub StandsFor-next : (before after : Option Scripts) (lines : List (List ℕ)) (line : List ℕ) → IsAfterLines before lines
+    → Moves before line after → IsAfterLines after (lines ++ line ∷ [])
 StandsFor-next None None lines line stands moves = absurd moves
 StandsFor-next None (Some new) lines line stands moves =
     let first : lines ++ line ∷ [] ≡ line ∷ [] = ap (λ (l : List (List ℕ)). l ++ line ∷ []) stands in
@@ -65,20 +65,20 @@ StandsFor-next (Some old) (Some new) lines line stands moves =
     (sym moves.rows)
     (has_more old.schema old.header.items (scripts_of old.rows.items) lines line moves.site moves.command stands moves.plain)
 
-pub StandsFor-along : (s t : Option Scripts) (ks ls : List (List ℕ)) → s ≡ t → ks ≡ ls → StandsFor s ks → StandsFor t ls
-StandsFor-along s t ks ls es el stands = subst (λ (x : Option Scripts). StandsFor x ls) es
-    (subst (λ (x : List (List ℕ)). StandsFor s x) el stands)
+pub StandsFor-along : (s t : Option Scripts) (ks ls : List (List ℕ)) → s ≡ t → ks ≡ ls → IsAfterLines s ks → IsAfterLines t ls
+StandsFor-along s t ks ls es el stands = subst (λ (x : Option Scripts). IsAfterLines x ls) es
+    (subst (λ (x : List (List ℕ)). IsAfterLines s x) el stands)
 
-pub good_stands : (s : Option Scripts) (lines : List (List ℕ)) → StandsFor s lines → IsGood lines
+pub good_stands : (s : Option Scripts) (lines : List (List ℕ)) → IsAfterLines s lines → IsGood lines
 good_stands None lines stands = inl stands
 good_stands (Some w) lines stands = inr (w.schema, (w.header.items, (scripts_of w.rows.items, stands)))
 
-pub none_lines : (s : Option Scripts) (lines : List (List ℕ)) → IsNone s → StandsFor s lines → lines ≡ []
+pub none_lines : (s : Option Scripts) (lines : List (List ℕ)) → IsNone s → IsAfterLines s lines → lines ≡ []
 none_lines None lines none stands = stands
 none_lines (Some w) lines none stands = cc
 
 -- a header line came, so there are lines
-pub first_line : (s : Option Scripts) (lines : List (List ℕ)) → IsSome s → StandsFor s lines
+pub first_line : (s : Option Scripts) (lines : List (List ℕ)) → IsSome s → IsAfterLines s lines
     → (header : List ℕ) × ((behind : List (List ℕ)) × (lines ≡ header ∷ behind))
 first_line None lines some stands = cc
 first_line (Some w) lines some stands = (w.header.items, (stands.behind, stands.parts))

@@ -11,7 +11,7 @@ use Rattle.script_input.proofs.LineLemmas.{split_piece, rest_some}
 use Rattle.escrow_work.specs.declared.reading.Stop.{Stop}
 use Rattle.escrow_work.specs.declared.reading.Stop.TheVariants.{Fault}
 use Rattle.escrow_work.specs.declared.reading.Reading.{Reading}
-use Rattle.escrow_work.specs.Reading.{At, Stands, IsFresh, StopsAfter, GoesOn, StopsIn}
+use Rattle.escrow_work.specs.Reading.{At, HasRead, IsFresh, StopsAfter, GoesOn, StopsIn}
 use Rattle.escrow_work.proofs.States.{Stops-along, Stops-weaker, Stops-past, Stops-memory}
 
 -- what is said of an error, and of any
@@ -28,8 +28,8 @@ module _ (from middle to : Option (List ℕ)) (old new : Reading) where
   -- the read gave nothing
   pub Stands-end : (n : ℕ) (buf : List ℕ) (last : End) → n ≡ 0 → 0 < length buf → Consumes middle to (take n buf) × (n ≡ 0
       → 0 < length buf → IsAtEnd to)
-      → (n ≡ 0 → 0 < length buf → last ≡ Nothing) → {bytes : ℕ} → Stands from middle old bytes
-      → Stands from to old (bytes + 0) × (◌≡◌ {A = ℕ} 0 0 → HasEndedAt to last)
+      → (n ≡ 0 → 0 < length buf → last ≡ Nothing) → {bytes : ℕ} → HasRead from middle old bytes
+      → HasRead from to old (bytes + 0) × (◌≡◌ {A = ℕ} 0 0 → HasEndedAt to last)
   Stands-end n buf last none room consumed nothing {bytes} stands =
       let whole : stands.read ++ take n buf ≡ stands.read = ap (λ k. stands.read ++ take k buf) none ∙ append-nil stands.read in (
         record {
@@ -43,7 +43,7 @@ module _ (from middle to : Option (List ℕ)) (old new : Reading) where
 
   -- the read gave a piece, and it was taken
   pub Stands-more : (n : ℕ) (buf piece : List ℕ) → piece ≡ take n buf → n ≤ length buf → Consumes middle to (take n buf)
-      → GoesOn old new piece → {bytes : ℕ} → Stands from middle old bytes → Stands from to new (bytes + n)
+      → GoesOn old new piece → {bytes : ℕ} → HasRead from middle old bytes → HasRead from to new (bytes + n)
   Stands-more n buf piece e fits consumed goes {bytes} stands = record {
     read = stands.read ++ take n buf;
     consumed = Consumes-trans from middle to stands.read (take n buf) stands.consumed consumed;
@@ -53,7 +53,7 @@ module _ (from middle to : Option (List ℕ)) (old new : Reading) where
 
   -- the reading stopped in the piece
   pub Stops-more : (stop : Stop) (n k : ℕ) (buf piece : List ℕ) (last : End) → piece ≡ take k buf → k ≤ n → Consumes middle to (take n buf)
-      → StopsIn old new piece stop → {bytes : ℕ} → Stands from middle old bytes → StopsAfter from to last new stop
+      → StopsIn old new piece stop → {bytes : ℕ} → HasRead from middle old bytes → StopsAfter from to last new stop
   Stops-more stop n k buf piece last e h consumed stops {bytes} stands =
       let rest = drop k (take n buf) in (
         stands.read ++ take n buf,
@@ -68,7 +68,7 @@ module _ (from middle to : Option (List ℕ)) (old new : Reading) where
   -- the piece went past the limit
   pub Stops-over : (n k : ℕ) (buf piece : List ℕ) (last : End) → piece ≡ take k buf → k < n → n ≤ length buf → {bytes : ℕ}
       → bytes + k ≡ 268435456
-      → Consumes middle to (take n buf) → GoesOn old new piece → Stands from middle old bytes → StopsAfter from to last new (Fault TooLong)
+      → Consumes middle to (take n buf) → GoesOn old new piece → HasRead from middle old bytes → StopsAfter from to last new (Fault TooLong)
   Stops-over n k buf piece last e h fits {bytes} full consumed goes stands =
       let rest = drop k (take n buf) in
       let size : length (stands.read ++ piece) ≡ length stands.read + k =
@@ -84,7 +84,7 @@ module _ (from middle to : Option (List ℕ)) (old new : Reading) where
         ),
       )
 
-pub Stands-start : (from : Option (List ℕ)) (r : Reading) → IsFresh r → Stands from from r 0
+pub Stands-start : (from : Option (List ℕ)) (r : Reading) → IsFresh r → HasRead from from r 0
 Stands-start from r fresh = record {
   read = [];
   consumed = Consumes-nil from;

@@ -15,7 +15,7 @@ use Rattle.escrow_work.specs.declared.fault.WorkTextFault.TheVariants as ends
 use Rattle.escrow_work.specs.declared.reading.Reading.{Reading}
 use Rattle.escrow_work.specs.declared.scripts.Scripts.{Scripts}
 use Rattle.escrow_work.specs.Work.{entries_text, work_text, TellsOf, MakesNone, FaultsIn}
-use Rattle.escrow_work.specs.Reading.{StandsFor, ReadsThrough}
+use Rattle.escrow_work.specs.Reading.{IsAfterLines, ReadsThrough}
 use Rattle.escrow_work.proofs.Dealt.{dealt_fit}
 use Rattle.escrow_work.proofs.States.{Stops-memory}
 
@@ -46,7 +46,7 @@ text_more schema header es i d out mid next below so_far line ended =
 pub fit_through : (from to : Option (List ℕ)) (last : End) (r : Reading) (w : Scripts) → ReadsThrough from to last r
     → r.scripts ≡ Some w → ScriptsFit w.schema (scripts_of w.rows.items)
 fit_through from to last r w through is =
-    let stands : StandsFor (Some w) (script_lines through.0) = subst (λ (x : Option Scripts). StandsFor x
+    let stands : IsAfterLines (Some w) (script_lines through.0) = subst (λ (x : Option Scripts). IsAfterLines x
     (script_lines through.0)) is through.1.1.1.1 in
     subst (λ (l : List (List Command)). ScriptsFit w.schema l) (sym stands.dealt)
     (dealt_fit w.schema stands.behind stands.asked stands.each)
@@ -70,7 +70,7 @@ faults_through from to last r w fault through is none =
           record {
             header = w.header.items;
             good = subst (λ
-                (x : Option Scripts). StandsFor x (script_lines through.0)) is through.1.1.1.1;
+                (x : Option Scripts). IsAfterLines x (script_lines through.0)) is through.1.1.1.1;
             at = through.1.1.0;
           },
         ),
@@ -84,7 +84,7 @@ faults_through from to last r w fault through is none =
           record {
             header = w.header.items;
             good = subst (λ
-                (x : Option Scripts). StandsFor x (script_lines through.0)) is through.1.1.1.1;
+                (x : Option Scripts). IsAfterLines x (script_lines through.0)) is through.1.1.1.1;
             at = through.1.1.0;
           },
           none,

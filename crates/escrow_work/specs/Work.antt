@@ -18,7 +18,7 @@ use Rattle.script_input.specs.declared.fault.ScriptFault.TheVariants as faults
 use Rattle.script_input.specs.declared.streams.End.{End}
 use Rattle.script_input.specs.Lines.{whole_lines, last_part, script_lines}
 use Rattle.script_input.specs.Faults.{Explains, HasEndedAt, CountsRead, CountsWrite}
-use Rattle.script_input.specs.Streams.{AppendsFront}
+use Rattle.script_input.specs.Streams.{AppendsPrefix}
 use Rattle.escrow_work.specs.declared.fault.WorkTextFault.{WorkTextFault}
 use Rattle.escrow_work.specs.declared.fault.WorkTextFault.TheVariants as ends
 use Rattle.escrow_work.specs.Scripts.{HasScripts, IsFirstBad}
@@ -137,7 +137,7 @@ FaultsIn from to last fault = (read : List ℕ) × (Consumes from to read × Tel
 -- At a write fault a front of a text that Ok allows is written. At every other fault nothing is.
 abbrev pub FailsIn : WorkTextFault → List ℕ → Type 0 → Option (List ℕ) → Option (List ℕ) → Type 0
 FailsIn (ends.Script faults.Write) read ended before after = ended × ((text : List ℕ) × (IsWorkOf (script_lines read) text
-    × AppendsFront before after text))
+    × AppendsPrefix before after text))
 FailsIn fault read ended before after = TellsOf fault read ended × Appends before after []
 
 -- A fault comes for a reason in what was read, and nothing but a front of a text that Ok allows is written.

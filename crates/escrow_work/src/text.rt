@@ -3,7 +3,7 @@
 ghost use Rattle.std.specs.Prelude.{◌≡◌, ◌≢◌, ℕ, ◌++◌, ◌∷◌, [], List, IfOk, IfErr, OnOk, OnErr};
 ghost use Rattle.std.specs.Io.KnownBytes.{Appends};
 ghost use Rattle.site_workers.specs.Scripts.{scripts_of, ScriptsFit};
-ghost use Rattle.script_input.specs.Streams.{HasFailed, GaveNothing, HasRefused, AppendsFront};
+ghost use Rattle.script_input.specs.Streams.{HasFailed, GaveNothing, HasRefused, AppendsPrefix};
 ghost use Rattle.escrow_work.specs.Scripts.{HasScripts};
 ghost use Rattle.escrow_work.specs.Work.{work_text, MakesNone, IsWorkOf, WritesWork, Fails, Tells, FaultsIn, CountsWorkReads, CountsWorkWrites};
 ghost use Rattle.escrow_work.specs.declared.fault.WorkTextFault.TheVariants.{Script};
@@ -87,7 +87,7 @@ fn write_out<W: Sink>(writer: &mut W, bytes: &[u8]) -> Result<(), WorkTextFault>
     ensures ok { OnOk result
         (Appends (W.bytes writer.old) (W.bytes writer.new) bytes.now) }
     ensures front { OnErr result
-        (AppendsFront (W.bytes writer.old) (W.bytes writer.new) bytes.now) }
+        (AppendsPrefix (W.bytes writer.old) (W.bytes writer.new) bytes.now) }
     ensures fault { IfErr result (λ fault. fault ≡ Script ScriptFault.Write) }
     ensures refused { OnErr result (HasRefused (W.last writer.new)) }
     ensures writes { CountsWorkWrites result (W.refusals writer.old) (W.refusals writer.new) }

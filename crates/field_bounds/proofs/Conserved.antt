@@ -12,7 +12,7 @@ use Rattle.field_bounds.specs.Kind.{other}
 use Rattle.field_bounds.specs.Schema.{FieldValue, SchemaValue}
 use Rattle.field_bounds.specs.Limits.{IsField, IsSchema}
 use Rattle.field_bounds.specs.Parts.{total_of, no_field, field_at, part_of, sum_below}
-use Rattle.field_bounds.specs.Effects.{is_committed, is_open, granted, is_to, gifts, cut, share, fresh}
+use Rattle.field_bounds.specs.Effects.{is_committed, is_open, granted_sizes, is_to, gifts, cut, share, fresh}
 use Rattle.field_bounds.specs.Central.{own, at_site, sizes, is_committed_in, is_open_in, outcome, open_sizes, inf, sup, cuts, shares, in_flight, given_between, accepted_between, IsSound, IsConserved, IsConservedThroughout}
 use Rattle.field_bounds.proofs.Parts.{shares_add_up}
 use Rattle.field_bounds.proofs.Lawful.{IsLawful}
@@ -61,10 +61,10 @@ above_is low high h = omega (arith, ints)
 
 module _ (schema : SchemaValue) (good : IsSchema schema) (t : List Entry) (sound : IsSound schema t) where
   abbrev pub committed_of : ℕ → Kind → ℕ → ℕ
-  committed_of f k s = granted (λ id. is_committed id (at_site schema t s)) f k (at_site schema t s)
+  committed_of f k s = granted_sizes (λ id. is_committed id (at_site schema t s)) f k (at_site schema t s)
 
   abbrev pub open_of : ℕ → Kind → ℕ → ℕ
-  open_of f k s = granted (λ id. is_open id (at_site schema t s)) f k (at_site schema t s)
+  open_of f k s = granted_sizes (λ id. is_open id (at_site schema t s)) f k (at_site schema t s)
 
   abbrev pub free_of : ℕ → Kind → ℕ → ℕ
   free_of f k s = share (fresh schema s) f k (at_site schema t s)
@@ -139,10 +139,10 @@ module _ (schema : SchemaValue) (good : IsSchema schema) (t : List Entry) (sound
       )
 
   -- a sum over the trace is the sum over what took effect at each site
-  pub traced : (p : ℕ → TxnId → Bool) (f : ℕ) (k : Kind) → sizes p f k t ≡ sum_below schema.sites (λ s. granted (p s) f k (at_site schema t s))
+  pub traced : (p : ℕ → TxnId → Bool) (f : ℕ) (k : Kind) → sizes p f k t ≡ sum_below schema.sites (λ s. granted_sizes (p s) f k (at_site schema t s))
   traced p f k =
       sizes_split p f k schema t sound.sites
-      ∙ sum_below-same schema.sites (λ s. sizes (λ _. p s) f k (own s t)) (λ s. granted (p s) f k (at_site schema t s)) (λ s below. sym (effects_sizes (fresh schema s) (p s) f k false (own s t)))
+      ∙ sum_below-same schema.sites (λ s. sizes (λ _. p s) f k (own s t)) (λ s. granted_sizes (p s) f k (at_site schema t s)) (λ s below. sym (effects_sizes (fresh schema s) (p s) f k false (own s t)))
 
   -- what the sites may take, with what is in flight and what was given up, is what is not taken yet
   pub conserved : (f : ℕ) (k : Kind)

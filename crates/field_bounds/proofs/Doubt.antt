@@ -10,7 +10,7 @@ use Rattle.field_bounds.specs.declared.entry.Entry.{Entry}
 use Rattle.field_bounds.specs.declared.effect.Effect.{Effect}
 use Rattle.field_bounds.specs.declared.effect.Effect.TheVariants.{Stops}
 use Rattle.field_bounds.specs.Schema.{SchemaValue}
-use Rattle.field_bounds.specs.Effects.{Base, effect_of, counts, with_effect, after, effects, kept_before, says_kept}
+use Rattle.field_bounds.specs.Effects.{Base, effect_of, counts, with_effect, after, effects, doubt_kept_before, says_doubt_kept}
 use Rattle.field_bounds.specs.Owed.{Place, place, first, refusals, answer, is_up, up_after, is_unsure, is_begun_reply, epoch_of, epoch_after, count_since, count_after, IsRestarted, Fits, RestartFits, AnswerFits, IsRun}
 use Rattle.field_bounds.proofs.Refused.{match_cases, is_restart, up_there}
 
@@ -33,8 +33,8 @@ pub after_refused : (base : Base) (kept : Bool) (c : Command) (x : Refusal) (es 
 after_refused base kept c x es = ap (λ (effect : Option Effect). with_effect true effect es) (refusal_passes base es c x)
 
 up_step : (base : Base) (kept : Bool) (o : List Entry) (c : Command) (r : Reply) → (is_up base o ≡ true → effects base kept o ≡ effects base false o) → up_after (is_up base o) r ≡ true
-    → after base kept c r (effects base (kept_before kept r) o) ≡ after base false c r (effects base (kept_before false r) o)
-up_step base kept o c (Restarted epoch found) before up = after_kept base kept c (Restarted epoch found) (effects base (says_kept found) o) refl
+    → after base kept c r (effects base (doubt_kept_before kept r) o) ≡ after base false c r (effects base (doubt_kept_before false r) o)
+up_step base kept o c (Restarted epoch found) before up = after_kept base kept c (Restarted epoch found) (effects base (says_doubt_kept found) o) refl
 up_step base kept o c Unsure before up = cc
 up_step base kept o c StillDown before up = cc
 up_step base kept o c r before up = after_kept base kept c r (effects base kept o) refl ∙ ap (λ (es : List Effect). after base false c r es) (before up)
@@ -57,7 +57,7 @@ up_none_unsure base (e ∷ o) up = unsure_step (is_up base o) (count_since is_un
 
 -- ---- an answer is no restart's
 
-pub kept_before_answer : (at : Place) (c : Command) (kept : Bool) → kept_before kept (answer at c) ≡ kept
+pub kept_before_answer : (at : Place) (c : Command) (kept : Bool) → doubt_kept_before kept (answer at c) ≡ kept
 kept_before_answer at Begin kept = refl
 kept_before_answer at c kept = refl
 
@@ -68,7 +68,7 @@ epoch_answer at c n = refl
 -- ---- a restart
 
 -- what took effect after a restart is what it found, and the stop
-pub restarted_is : (base : Base) (kept : Bool) (e : Entry) (o : List Entry) (found : Last) → IsRestarted e found → effects base kept (e ∷ o) ≡ Stops ∷ effects base (says_kept found) o
+pub restarted_is : (base : Base) (kept : Bool) (e : Entry) (o : List Entry) (found : Last) → IsRestarted e found → effects base kept (e ∷ o) ≡ Stops ∷ effects base (says_doubt_kept found) o
 restarted_is base kept e o found is =
     rw (is.0, is.2) refl
 
@@ -98,7 +98,7 @@ module _ (schema : SchemaValue) (s : ℕ) (base : Base) (Holds : ℕ → ℕ →
   Before = (kept : Bool) → Holds epoch count (effects base kept o)
 
   abbrev Then : Bool → Command → Reply → Type 0
-  Then kept c r = Holds (epoch_after epoch r) (count_after is_begun_reply count r) (after base kept c r (effects base (kept_before kept r) o))
+  Then kept c r = Holds (epoch_after epoch r) (count_after is_begun_reply count r) (after base kept c r (effects base (doubt_kept_before kept r) o))
 
   same : (es : List Effect) → Holds epoch count es → Holds epoch (0 + count) es
   same es h = subst (λ (n : ℕ). Holds epoch n es) (sym (zero-add count)) h
@@ -130,7 +130,7 @@ module _ (schema : SchemaValue) (s : ℕ) (base : Base) (Holds : ℕ → ℕ →
   restart_holds : (r : Reply) (kept : Bool) → RestartFits here r → Before → Then kept Restart r
   restart_holds StillDown kept fits before = same (effects base kept o) (before kept)
   restart_holds (Refused x) kept fits before = same (effects base kept o) (before kept)
-  restart_holds (Restarted next found) kept fits before = is.stop epoch count next _ (omega (arith, fits.0)) (before (says_kept found))
+  restart_holds (Restarted next found) kept fits before = is.stop epoch count next _ (omega (arith, fits.0)) (before (says_doubt_kept found))
   restart_holds r kept fits before = absurd fits
 
   step_holds : (c : Command) (r : Reply) (kept : Bool) → Fits here c r → Before → Then kept c r

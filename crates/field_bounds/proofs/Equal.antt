@@ -9,7 +9,7 @@ use Rattle.std.specs.Ordering.{int_eq}
 use Rattle.std.specs.declared.alloc.Global.{Global}
 use Rattle.field_bounds.specs.declared.schema.FieldBounds.{FieldBounds}
 use Rattle.field_bounds.specs.Schema.{FieldValue, SchemaValue, same_field, same_schema}
-use Rattle.field_bounds.specs.Kept.{kept_values}
+use Rattle.field_bounds.specs.Kept.{stored_values}
 
 field_is_itself : (f : FieldValue) → same_field f f ≡ true
 field_is_itself f = rw ((bytes_eq-Decides f.name f.name).1 refl, (signed_Decides f.floor f.floor).1 refl, (signed_Decides f.ceiling f.ceiling).1 refl, (signed_Decides f.value f.value).1 refl) refl
@@ -53,7 +53,7 @@ grouped false b c d = refl
 grouped true false c d = refl
 grouped true true c d = refl
 
-pub kept_same : (es fs : List (String Global × FieldBounds)) → pointwise kept_alike es fs ≡ pointwise same_field (kept_values es) (kept_values fs)
+pub kept_same : (es fs : List (String Global × FieldBounds)) → pointwise kept_alike es fs ≡ pointwise same_field (stored_values es) (stored_values fs)
 kept_same [] [] = refl
 kept_same [] (f ∷ fs) = refl
 kept_same (e ∷ es) [] = refl
@@ -62,5 +62,5 @@ kept_same (e ∷ es) (f ∷ fs) =
     rw (here, kept_same es fs) refl
 
 -- so where the numbers of sites are equal, schemas are told equal by their fields
-pub alike_is_same : (a b : SchemaValue) (es fs : List (String Global × FieldBounds)) → a.sites ≡ b.sites → a.fields ≡ kept_values es → b.fields ≡ kept_values fs → pointwise kept_alike es fs ≡ same_schema a b
+pub alike_is_same : (a b : SchemaValue) (es fs : List (String Global × FieldBounds)) → a.sites ≡ b.sites → a.fields ≡ stored_values es → b.fields ≡ stored_values fs → pointwise kept_alike es fs ≡ same_schema a b
 alike_is_same a b es fs sites here there = rw (eq-eqb a.sites b.sites sites, here, there) (kept_same es fs)

@@ -16,7 +16,7 @@ use Rattle.field_bounds.specs.Kind.{kind_of}
 use Rattle.field_bounds.specs.Schema.{SchemaValue}
 use Rattle.field_bounds.specs.Limits.{IsSchema}
 use Rattle.field_bounds.specs.Parts.{field_at}
-use Rattle.field_bounds.specs.Effects.{is_open, granted, own_rights, share, cut, fresh}
+use Rattle.field_bounds.specs.Effects.{is_open, granted_sizes, own_rights, share, cut, fresh}
 use Rattle.field_bounds.specs.Owed.{Place, Test, place, first, refusals, answer, AnswerFits, Fits}
 use Rattle.field_bounds.specs.Central.{own, at_site, is_open_in, open_sizes, inf, sup, shares, cuts, floor_in, ceiling_in, OutcomesAreBounded, MayBeGranted, GrantRule, ShortageRule, IntervalRule, KeepsRules, IsCentral, IsSound, IsConserved}
 use Rattle.field_bounds.proofs.Refused.{match_cases, is_refused, answered, escrow_is_enough, tighten_is_enough}
@@ -99,7 +99,7 @@ module _ (schema : SchemaValue) (good : IsSchema schema) (t : List Entry) (sound
   cut_within : (f : ℕ) (k : Kind) → cut (fresh schema s) f k (at_site schema t s) ≤ cuts schema t f k
   cut_within f k = term_below schema.sites (λ i. cut (fresh schema i) f k (at_site schema t i)) s below
 
-  open_within : (f : ℕ) (k : Kind) → granted (λ id. is_open id (at_site schema t s)) f k (at_site schema t s) ≤ open_sizes schema t f k
+  open_within : (f : ℕ) (k : Kind) → granted_sizes (λ id. is_open id (at_site schema t s)) f k (at_site schema t s) ≤ open_sizes schema t f k
   open_within f k =
       omega (arith, traced schema good t sound (is_open_in schema t) f k, term_below schema.sites (open_of schema good t sound f k) s below)
 

@@ -15,19 +15,19 @@ use Rattle.field_bounds.specs.declared.fault.SchemaFault.{SchemaFault}
 use Rattle.field_bounds.specs.declared.fault.SchemaFault.TheVariants.{Name, NameUsed, Bounds}
 use Rattle.field_bounds.specs.Schema.{FieldValue, SchemaValue}
 use Rattle.field_bounds.specs.Limits.{max_sites, max_fields, is_name, is_used, has_bounds, field_fault, first_fault, or_else, unless, IsField, HasOwnNames, IsSchema}
-use Rattle.field_bounds.specs.Kept.{entry_value, kept_values}
+use Rattle.field_bounds.specs.Kept.{entry_value, stored_values}
 
-pub field_is : (es : List (String Global × FieldBounds)) (i : ℕ) (e : String Global × FieldBounds) (d : FieldValue) → slice_get es i ≡ Some e → slice_index_or (kept_values es) i d ≡ entry_value e
-field_is es i e d h = get_or_from_slice_get (kept_values es) i (entry_value e) d (slice_get-map entry_value es i ∙ ap (λ o. option_map entry_value o) h)
+pub field_is : (es : List (String Global × FieldBounds)) (i : ℕ) (e : String Global × FieldBounds) (d : FieldValue) → slice_get es i ≡ Some e → slice_index_or (stored_values es) i d ≡ entry_value e
+field_is es i e d h = get_or_from_slice_get (stored_values es) i (entry_value e) d (slice_get-map entry_value es i ∙ ap (λ o. option_map entry_value o) h)
 
-prefix_len-kept : (p : List ℕ → Bool) (es : List (String Global × FieldBounds)) → prefix_len (λ k. not (p (string_bytes k))) (keys_of es) ≡ prefix_len (λ f. not (p f.name)) (kept_values es)
+prefix_len-kept : (p : List ℕ → Bool) (es : List (String Global × FieldBounds)) → prefix_len (λ k. not (p (string_bytes k))) (keys_of es) ≡ prefix_len (λ f. not (p f.name)) (stored_values es)
 prefix_len-kept p [] = refl
 prefix_len-kept p (e ∷ es) = ap (λ n. cond (not (p (string_bytes e.0))) (1 + n) 0) (prefix_len-kept p es)
 
-pub place_is : (name : List ℕ) (es : List (String Global × FieldBounds)) → position (λ k. bytes_eq name (string_bytes k)) (keys_of es) ≡ position (λ f. bytes_eq name f.name) (kept_values es)
+pub place_is : (name : List ℕ) (es : List (String Global × FieldBounds)) → position (λ k. bytes_eq name (string_bytes k)) (keys_of es) ≡ position (λ f. bytes_eq name f.name) (stored_values es)
 place_is name es = rw (prefix_len-kept (bytes_eq name) es, length-map es (λ e. e.0), length-map es entry_value) refl
 
-pub clone_is : (D : FieldBounds → FieldBounds → Type 0) → ((x y : FieldBounds) → D x y → y ≡ x) → (es fs : List (String Global × FieldBounds)) → AllZip (λ p q. (string_bytes q.0 ≡ string_bytes p.0) × D p.1 q.1) es fs → kept_values fs ≡ kept_values es
+pub clone_is : (D : FieldBounds → FieldBounds → Type 0) → ((x y : FieldBounds) → D x y → y ≡ x) → (es fs : List (String Global × FieldBounds)) → AllZip (λ p q. (string_bytes q.0 ≡ string_bytes p.0) × D p.1 q.1) es fs → stored_values fs ≡ stored_values es
 clone_is D same [] [] h = refl
 clone_is D same [] (f ∷ fs) h = absurd h
 clone_is D same (e ∷ es) [] h = absurd h
@@ -105,14 +105,14 @@ not_at name key not_text = by (bytes_eq name (string_bytes key)) (bytes_eq-Decid
     by true d = absurd (not_text (subst IsUtf8 (sym (d.0 refl)) (IsUtf8-string_bytes key)))
     by false d = refl
 
-passes_all : (name : List ℕ) (es : List (String Global × FieldBounds)) → ¬ IsUtf8 name → prefix_len (λ f. not (bytes_eq name f.name)) (kept_values es) ≡ length (kept_values es)
+passes_all : (name : List ℕ) (es : List (String Global × FieldBounds)) → ¬ IsUtf8 name → prefix_len (λ f. not (bytes_eq name f.name)) (stored_values es) ≡ length (stored_values es)
 passes_all name [] not_text = refl
 passes_all name (e ∷ es) not_text =
-    ap (λ b. cond (not b) (1 + prefix_len (λ f. not (bytes_eq name f.name)) (kept_values es)) 0) (not_at name e.0 not_text) ∙ omega (arith, passes_all name es not_text)
+    ap (λ b. cond (not b) (1 + prefix_len (λ f. not (bytes_eq name f.name)) (stored_values es)) 0) (not_at name e.0 not_text) ∙ omega (arith, passes_all name es not_text)
 
 -- bytes that are no text name no field
-pub no_place : (name : List ℕ) (es : List (String Global × FieldBounds)) → ¬ IsUtf8 name → position (λ f. bytes_eq name f.name) (kept_values es) ≡ None
+pub no_place : (name : List ℕ) (es : List (String Global × FieldBounds)) → ¬ IsUtf8 name → position (λ f. bytes_eq name f.name) (stored_values es) ≡ None
 no_place name es not_text =
     let all = passes_all name es not_text in
-    let past : ltb (prefix_len (λ f. not (bytes_eq name f.name)) (kept_values es)) (length (kept_values es)) ≡ false = le-ltb _ _ (omega (arith, all)) in
+    let past : ltb (prefix_len (λ f. not (bytes_eq name f.name)) (stored_values es)) (length (stored_values es)) ≡ false = le-ltb _ _ (omega (arith, all)) in
     rw past refl

@@ -10,7 +10,7 @@ use Rattle.field_bounds.specs.declared.effect.Effect.{Effect}
 use Rattle.field_bounds.specs.declared.effect.Effect.TheVariants.{Begins, Grants, Commits, Aborts, Gives, Accepts, Stops}
 use Rattle.field_bounds.specs.Kind.{kind_of, same_kind, other}
 use Rattle.field_bounds.specs.Schema.{SchemaValue}
-use Rattle.field_bounds.specs.Effects.{Base, same_txn, is_begun, is_committed, is_dropped, is_aborted, is_open, granted, rights_in, rights_out, share}
+use Rattle.field_bounds.specs.Effects.{Base, same_txn, is_begun, is_committed, is_dropped, is_aborted, is_open, granted_sizes, rights_in, rights_out, share}
 
 -- what an escrow that is granted keeps to
 pub record MayGrant (schema : SchemaValue) (base : Base) (es : List Effect) (txn : TxnId) (f : ℕ) (change : ℕ) (k : Kind) : Type 0 where
@@ -69,7 +69,7 @@ counted-mono true false q n h = omega arith
 counted-mono true true q n h = rw (h refl) (omega arith)
 
 -- more transactions that pass, a greater sum
-pub granted-mono : (p q : TxnId → Bool) → ((id : TxnId) → p id ≡ true → q id ≡ true) → (f : ℕ) (k : Kind) (es : List Effect) → granted p f k es ≤ granted q f k es
+pub granted-mono : (p q : TxnId → Bool) → ((id : TxnId) → p id ≡ true → q id ≡ true) → (f : ℕ) (k : Kind) (es : List Effect) → granted_sizes p f k es ≤ granted_sizes q f k es
 granted-mono p q h f k [] = omega arith
 granted-mono p q h f k (Grants txn field change ∷ es) =
     omega (arith, granted-mono p q h f k es, counted-mono (eqb field.0 f && same_kind (kind_of change) k) (p txn) (q txn) (unsigned_abs change) (h txn))

@@ -15,8 +15,8 @@ use Rattle.field_bounds.specs.declared.effect.Effect.{Effect}
 use Rattle.field_bounds.specs.declared.effect.Effect.TheVariants.{Gives, Accepts}
 use Rattle.field_bounds.specs.Kind.{same_kind}
 use Rattle.field_bounds.specs.Schema.{SchemaValue}
-use Rattle.field_bounds.specs.Effects.{Base, effect_of, counts, with_effect, after, effects, kept_before, says_kept, is_to, is_for_good, gifts, given, cut, accepted, fresh}
-use Rattle.field_bounds.specs.Owed.{Place, place, is_unsure, spared_of, told_so_far, Fits}
+use Rattle.field_bounds.specs.Effects.{Base, effect_of, counts, with_effect, after, effects, doubt_kept_before, says_doubt_kept, is_to, is_for_good, gifts, total_given, cut, total_accepted, fresh}
+use Rattle.field_bounds.specs.Owed.{Place, place, is_unsure, spare_of, told_so_far, Fits}
 use Rattle.field_bounds.specs.Statements.{told_by, IsIssued}
 use Rattle.field_bounds.specs.Central.{own, at_site, StatementRule, IsSound, cuts, given_between}
 use Rattle.field_bounds.proofs.Lawful.{same_kind-true}
@@ -65,8 +65,8 @@ module _ (base : Base) (p : Option SiteNo → Bool) (f : ℕ) (k : Kind) where
       (more_with (counts false r) (counts true r) (effect_of base more c r) less more (λ _. all_count r) h)
 
   kept_step : (c : Command) (r : Reply) (o : List Entry) → gifts p f k (effects base false o) ≤ gifts p f k (effects base true o)
-      → gifts p f k (after base false c r (effects base (kept_before false r) o)) ≤ gifts p f k (after base true c r (effects base (kept_before true r) o))
-  kept_step c (Restarted epoch found) o before = kept_more c (Restarted epoch found) (effects base (says_kept found) o) (effects base (says_kept found) o) (omega arith)
+      → gifts p f k (after base false c r (effects base (doubt_kept_before false r) o)) ≤ gifts p f k (after base true c r (effects base (doubt_kept_before true r) o))
+  kept_step c (Restarted epoch found) o before = kept_more c (Restarted epoch found) (effects base (says_doubt_kept found) o) (effects base (says_doubt_kept found) o) (omega arith)
   kept_step c r o before = kept_more c r (effects base false o) (effects base true o) before
 
   -- what is kept can only add to what was given
@@ -82,8 +82,8 @@ module _ (base : Base) (p : Option SiteNo → Bool) (f : ℕ) (k : Kind) where
   gifts_after e o =
       omega (
         arith,
-        gifts_grow false e.command e.reply (effects base (kept_before false e.reply) o),
-        any_kept (kept_before false e.reply) o,
+        gifts_grow false e.command e.reply (effects base (doubt_kept_before false e.reply) o),
+        any_kept (doubt_kept_before false e.reply) o,
       )
 
 left_grows : (schema : SchemaValue) (e : Entry) (t : List Entry) (p : Option SiteNo → Bool) (f : ℕ) (k : Kind) (s : ℕ) → gifts p f k (at_site schema t s) ≤ gifts p f k (at_site schema (e ∷ t) s)
@@ -119,7 +119,7 @@ some_same : {A : Type 0} (a b : A) → Some a ≡ Some b → a ≡ b
 some_same a b h = cc
 
 abbrev IsCovered : Place → Command → Reply → Statement → Type 0
-IsCovered at c r told = told.total ≤ given at.base told.to.0 told.field.0 told.kind (after at.base false c r at.effects)
+IsCovered at c r told = told.total ≤ total_given at.base told.to.0 told.field.0 told.kind (after at.base false c r at.effects)
 
 same_kind-refl : (k : Kind) → same_kind k k ≡ true
 same_kind-refl Lower = refl
@@ -142,23 +142,23 @@ told_is_covered at from (Give to field kind amount) (Given total) told fits h =
     let made : Statement = record { from = from; to = to; field = field; kind = kind; total = total } in
     let is = given_total _ _ (answered at (Give to field kind amount) (Given total) fits refl).1 in
     let on = same_here field.0 kind to.0 in
-    let covers : total ≤ given at.base to.0 field.0 kind (Gives (Some to) field kind amount ∷ at.effects) = rw on (omega (arith, is)) in
+    let covers : total ≤ total_given at.base to.0 field.0 kind (Gives (Some to) field kind amount ∷ at.effects) = rw on (omega (arith, is)) in
     subst (λ (x : Statement). (x.from ≡ from) × IsCovered at (Give to field kind amount) (Given total) x) (some_same made told h) (refl, covers)
 told_is_covered at from (Restate to field kind) (Stated total) told fits h =
     let made : Statement = record { from = from; to = to; field = field; kind = kind; total = total } in
     let is = stated_total _ _ (answered at (Restate to field kind) (Stated total) fits refl).1 in
-    let covers : total ≤ given at.base to.0 field.0 kind at.effects = omega (arith, is) in
+    let covers : total ≤ total_given at.base to.0 field.0 kind at.effects = omega (arith, is) in
     subst (λ (x : Statement). (x.from ≡ from) × IsCovered at (Restate to field kind) (Stated total) x) (some_same made told h) (refl, covers)
 told_is_covered at from (Spare to field kind want) (Spared amount total) told fits h =
     let made : Statement = record { from = from; to = to; field = field; kind = kind; total = total } in
-    let spares = spared_of at field kind want in
+    let spares = spare_of at field kind want in
     let is = spared_parts amount total spares (told_so_far at to field kind + spares) (answered at (Spare to field kind want) (Spared amount total) fits refl).1 in
     let on = same_here field.0 kind to.0 in
-    let covers : total ≤ given at.base to.0 field.0 kind (Gives (Some to) field kind amount ∷ at.effects) = rw on (omega (arith, is.0, is.1)) in
+    let covers : total ≤ total_given at.base to.0 field.0 kind (Gives (Some to) field kind amount ∷ at.effects) = rw on (omega (arith, is.0, is.1)) in
     subst (λ (x : Statement). (x.from ≡ from) × IsCovered at (Spare to field kind want) (Spared amount total) x) (some_same made told h) (refl, covers)
 told_is_covered at from c r told fits h = cc
 
-kept_before_told : (from : SiteNo) (c : Command) (r : Reply) (told : Statement) → told_by from c r ≡ Some told → kept_before false r ≡ false
+kept_before_told : (from : SiteNo) (c : Command) (r : Reply) (told : Statement) → told_by from c r ≡ Some told → doubt_kept_before false r ≡ false
 kept_before_told from (Give to field kind amount) (Given total) told h = refl
 kept_before_told from (Restate to field kind) (Stated total) told h = refl
 kept_before_told from (Spare to field kind want) (Spared amount total) told h = refl
@@ -178,7 +178,7 @@ issued_is_covered schema (e ∷ t) sound told (inl now) =
     let s = e.site.0 in
     let base = fresh schema s in
     let told_now = told_is_covered (place schema s base (own s t)) e.site e.command e.reply told (sound_fits schema e t sound) now in
-    let of : List Effect → ℕ = λ es. given base told.to.0 told.field.0 told.kind es in
+    let of : List Effect → ℕ = λ es. total_given base told.to.0 told.field.0 told.kind es in
     let last_was : of (after base false e.command e.reply (effects base false (own s t))) ≡ of (effects base false (e ∷ own s t)) =
     ap (λ (b : Bool). of (after base false e.command e.reply (effects base b (own s t)))) (sym (kept_before_told e.site e.command e.reply told now)) in
     let here : of (effects base false (own s (e ∷ t))) ≡ of (effects base false (e ∷ own s t)) =
@@ -207,11 +207,11 @@ module _ (base : Base) (bound from f : ℕ) (k : Kind) where
         | inr off ↦ rw off low
       ]
 
-  accepted_after : (counted : Bool) (effect : Option Effect) (es : List Effect) → accepted base from f k es ≤ bound → AcceptsWithin bound from f k effect
-      → accepted base from f k (with_effect counted effect es) ≤ bound
+  accepted_after : (counted : Bool) (effect : Option Effect) (es : List Effect) → total_accepted base from f k es ≤ bound → AcceptsWithin bound from f k effect
+      → total_accepted base from f k (with_effect counted effect es) ≤ bound
   accepted_after counted None es low within = low
   accepted_after false (Some effect) es low within = low
-  accepted_after true (Some (Accepts site field kind total)) es low within = merged site field kind total (accepted base from f k es) low within
+  accepted_after true (Some (Accepts site field kind total)) es low within = merged site field kind total (total_accepted base from f k es) low within
   accepted_after true (Some effect) es low within = low
 
 module _ (schema : SchemaValue) (e : Entry) (t : List Entry) (sound : IsSound schema (e ∷ t)) (from f : ℕ) (k : Kind) where
@@ -234,7 +234,7 @@ module _ (schema : SchemaValue) (e : Entry) (t : List Entry) (sound : IsSound sc
 
 -- no site has accepted more than it was given, whatever is kept of what is in doubt
 pub accepted_is_given : (schema : SchemaValue) (t : List Entry) → IsSound schema t → (kept : Bool) (f : ℕ) (k : Kind) (from to : ℕ)
-    → accepted (fresh schema to) from f k (effects (fresh schema to) kept (own to t)) ≤ given_between schema t f k from to
+    → total_accepted (fresh schema to) from f k (effects (fresh schema to) kept (own to t)) ≤ given_between schema t f k from to
 accepted_is_given schema [] sound kept f k from to = omega arith
 accepted_is_given schema (e ∷ t) sound kept f k from to =
     let front = sound_front schema e t sound in
@@ -242,16 +242,16 @@ accepted_is_given schema (e ∷ t) sound kept f k from to =
     elim (cases_eq e.site.0 to) [
       | inl here ↦
           let s = e.site.0 in
-          let IsLow : ℕ → List Entry → Type 0 = λ site o. accepted (fresh schema site) from f k (effects (fresh schema site) kept o) ≤ most site in
-          let was = effects (fresh schema s) (kept_before kept e.reply) (own s t) in
-          let before = accepted_is_given schema t front (kept_before kept e.reply) f k from s in
-          let low : accepted (fresh schema s) from f k was ≤ most s = omega (arith, before, given_grows schema e t f k from s) in
+          let IsLow : ℕ → List Entry → Type 0 = λ site o. total_accepted (fresh schema site) from f k (effects (fresh schema site) kept o) ≤ most site in
+          let was = effects (fresh schema s) (doubt_kept_before kept e.reply) (own s t) in
+          let before = accepted_is_given schema t front (doubt_kept_before kept e.reply) f k from s in
+          let low : total_accepted (fresh schema s) from f k was ≤ most s = omega (arith, before, given_grows schema e t f k from s) in
           let step : IsLow s (e ∷ own s t) =
           accepted_after (fresh schema s) (most s) from f k (counts kept e.reply) (effect_of (fresh schema s) was e.command e.reply) was low
           (accepts_within schema e t sound from f k e.command e.reply (fresh schema s) was (sound_fits schema e t sound) sound.statements.1) in
           subst (λ (x : ℕ). IsLow x (own x (e ∷ t))) here (subst (λ (o : List Entry). IsLow s o) (sym (own_here s e t refl)) step)
       | inr there ↦
           let before = accepted_is_given schema t front kept f k from to in
-          let low : accepted (fresh schema to) from f k (effects (fresh schema to) kept (own to t)) ≤ most to = omega (arith, before, given_grows schema e t f k from to) in
-          subst (λ (o : List Entry). accepted (fresh schema to) from f k (effects (fresh schema to) kept o) ≤ most to) (sym (own_there to e t there)) low
+          let low : total_accepted (fresh schema to) from f k (effects (fresh schema to) kept (own to t)) ≤ most to = omega (arith, before, given_grows schema e t f k from to) in
+          subst (λ (o : List Entry). total_accepted (fresh schema to) from f k (effects (fresh schema to) kept o) ≤ most to) (sym (own_there to e t there)) low
     ]

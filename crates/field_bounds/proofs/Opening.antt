@@ -5,11 +5,11 @@ use Rattle.std.proofs.lemmas.Bool.{cases_Bool}
 use Rattle.field_bounds.specs.declared.id.TxnId.{TxnId}
 use Rattle.field_bounds.specs.declared.effect.Effect.{Effect}
 use Rattle.field_bounds.specs.declared.effect.Effect.TheVariants.{Begins, Grants, Commits, Aborts, Gives, Accepts, Stops}
-use Rattle.field_bounds.specs.Effects.{same_txn, begun, is_begun, is_open}
+use Rattle.field_bounds.specs.Effects.{same_txn, begun_txns, is_begun, is_open}
 use Rattle.field_bounds.proofs.Lawful.{same_txn-true}
 
 -- among the transactions begun that are open after some effects is just the one that was begun and is open after them
-pub any_open : (t : TxnId) (es all : List Effect) → list_any (λ u. same_txn u t) (filter (λ id. is_open id all) (begun es)) ≡ (is_begun t es && is_open t all)
+pub any_open : (t : TxnId) (es all : List Effect) → list_any (λ u. same_txn u t) (filter (λ id. is_open id all) (begun_txns es)) ≡ (is_begun t es && is_open t all)
 any_open t [] all = refl
 any_open t (Begins txn ∷ es) all =
     elim (cases_Bool (is_open txn all)) [

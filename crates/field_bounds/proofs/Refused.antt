@@ -14,7 +14,7 @@ use Rattle.field_bounds.specs.declared.entry.Reply.TheVariants.{Refused, Unsure}
 use Rattle.field_bounds.specs.declared.entry.Refusal.{Refusal}
 use Rattle.field_bounds.specs.Kind.{kind_of}
 use Rattle.field_bounds.specs.Effects.{is_begun, is_open}
-use Rattle.field_bounds.specs.Owed.{Place, Test, first, is_up, is_begun_reply, count_since, count_open, count_escrows, max_change, max_total, max_open, max_escrows, max_number, free, told_so_far, spared_of, gain_of, room, refusals, answer, AnswerFits}
+use Rattle.field_bounds.specs.Owed.{Place, Test, first, is_up, is_begun_reply, count_since, count_open, count_escrows, max_change, max_total, max_open, max_escrows, max_number, free, told_so_far, spare_of, gain_of, room, refusals, answer, AnswerFits}
 
 -- no test of the list holds
 abbrev pub NoneHolds : List Test → Type 0
@@ -162,8 +162,8 @@ module _ (at : Place) where
     pub spare_is_to_another : to.0 ≢ at.site
     spare_is_to_another = eqb-false to.0 at.site (assumption none)
 
-    pub spare_has_room : told_so_far at to field kind + spared_of at field kind want ≤ max_total
-    spare_has_room = ltb-false max_total (told_so_far at to field kind + spared_of at field kind want) (assumption none)
+    pub spare_has_room : told_so_far at to field kind + spare_of at field kind want ≤ max_total
+    spare_has_room = ltb-false max_total (told_so_far at to field kind + spare_of at field kind want) (assumption none)
 
   module _ (field : FieldNo) (kind : Kind) (amount : ℕ) (none : NoneHolds (refusals at (Tighten field kind amount))) where
     pub tighten_is_in_schema : field.0 < length at.schema.fields

@@ -10,7 +10,7 @@ use Rattle.field_bounds.specs.declared.effect.Effect.{Effect}
 use Rattle.field_bounds.specs.declared.effect.Effect.TheVariants.{Begins, Grants, Commits, Aborts, Gives, Accepts, Stops}
 use Rattle.field_bounds.specs.Schema.{SchemaValue}
 use Rattle.field_bounds.specs.Effects.{Base, same_txn, is_begun, is_committed, is_dropped, is_open, after, effects}
-use Rattle.field_bounds.specs.Owed.{Place, place, refusals, first, answer, free, spared_of, epoch_of, count_since, count_after, is_begun_reply, IsRun}
+use Rattle.field_bounds.specs.Owed.{Place, place, refusals, first, answer, free, spare_of, epoch_of, count_since, count_after, is_begun_reply, IsRun}
 use Rattle.field_bounds.proofs.Lawful.{IsLawful, same_txn-true, open_parts}
 use Rattle.field_bounds.proofs.Refused.{none_holds, escrow_is_in_schema, escrow_is_opened, escrow_is_enough, commit_is_opened, abort_is_opened, give_is_to_a_site, give_is_in_schema, give_is_enough, spare_is_to_a_site, spare_is_in_schema, tighten_is_in_schema, tighten_is_enough, accept_is_from_a_site, accept_is_in_schema}
 use Rattle.field_bounds.proofs.Sparing.{spared_is_there}
@@ -140,7 +140,7 @@ module _ (schema : SchemaValue) (s : ℕ) (base : Base) (o : List Entry) where
   carries (Restate to field kind) h kept l = (still es l, l)
   carries (Spare to field kind want) h kept l =
       let none = none_holds (refusals at (Spare to field kind want)) h in
-      let more : List Effect = Gives (Some to) field kind (spared_of at field kind want) ∷ es in
+      let more : List Effect = Gives (Some to) field kind (spare_of at field kind want) ∷ es in
       let may : Now count more =
       record {
         numbered = record { epochs = l.numbered.epochs; numbers = l.numbered.numbers; current = l.numbered.current };

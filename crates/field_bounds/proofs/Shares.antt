@@ -8,7 +8,7 @@ use Rattle.field_bounds.specs.declared.effect.Effect.{Effect}
 use Rattle.field_bounds.specs.declared.effect.Effect.TheVariants.{Begins, Grants, Commits, Aborts, Gives, Accepts, Stops}
 use Rattle.field_bounds.specs.Kind.{kind_of, same_kind, other}
 use Rattle.field_bounds.specs.Schema.{SchemaValue}
-use Rattle.field_bounds.specs.Effects.{Base, is_committed, is_dropped, is_open, granted, is_to, is_for_good, gifts, accepted, gains, share}
+use Rattle.field_bounds.specs.Effects.{Base, is_committed, is_dropped, is_open, granted_sizes, is_to, is_for_good, gifts, total_accepted, gains, share}
 use Rattle.field_bounds.specs.Parts.{sum_below}
 use Rattle.field_bounds.proofs.Lawful.{IsLawful, covered}
 use Rattle.field_bounds.proofs.Sums.{sum_below_bump, sum_below-zero, sum_below-same}
@@ -21,7 +21,7 @@ split_step true false false n = omega arith
 
 -- each granted escrow is aborted, committed or open
 pub granted_split : (c d : TxnId → Bool) (f : ℕ) (k : Kind) (es : List Effect)
-    → granted (λ _. true) f k es ≡ granted (λ id. not (c id) && d id) f k es + granted c f k es + granted (λ id. not (c id) && not (d id)) f k es
+    → granted_sizes (λ _. true) f k es ≡ granted_sizes (λ id. not (c id) && d id) f k es + granted_sizes c f k es + granted_sizes (λ id. not (c id) && not (d id)) f k es
 granted_split c d f k [] = refl
 granted_split c d f k (Grants txn field change ∷ es) =
     omega (arith, granted_split c d f k es, split_step (eqb field.0 f && same_kind (kind_of change) k) (c txn) (d txn) (unsigned_abs change))
@@ -34,8 +34,8 @@ granted_split c d f k (Stops ∷ es) = granted_split c d f k es
 
 -- the rights of one site, without the aborted escrows on either side
 pub balance : (schema : SchemaValue) (base : Base) (es : List Effect) → IsLawful schema base es → (f : ℕ) (k : Kind)
-    → share base f k es + granted (λ id. is_committed id es) f k es + granted (λ id. is_open id es) f k es + gifts (λ _. true) f k es
-    ≡ base.rights f k + granted (λ id. is_committed id es) f (other k) es + gains base f k es
+    → share base f k es + granted_sizes (λ id. is_committed id es) f k es + granted_sizes (λ id. is_open id es) f k es + gifts (λ _. true) f k es
+    ≡ base.rights f k + granted_sizes (λ id. is_committed id es) f (other k) es + gains base f k es
 balance schema base es lawful f k =
     omega (arith, covered schema base es lawful f k, granted_split (λ id. is_committed id es) (λ id. is_dropped id es) f k es)
 
@@ -97,7 +97,7 @@ gain_here false site from total before apart = refl
 
 -- the gains of all are what was accepted from each
 pub gains_split : (schema : SchemaValue) (base : Base) (es : List Effect) → IsLawful schema base es → (f : ℕ) (k : Kind)
-    → gains base f k es + sum_below schema.sites (λ from. base.accepted from f k) ≡ sum_below schema.sites (λ from. accepted base from f k es)
+    → gains base f k es + sum_below schema.sites (λ from. base.accepted from f k) ≡ sum_below schema.sites (λ from. total_accepted base from f k es)
 gains_split schema base [] lawful f k = omega arith
 gains_split schema base (Accepts site field kind total ∷ es) lawful f k =
     let on = eqb field.0 f && same_kind kind k in
@@ -105,11 +105,11 @@ gains_split schema base (Accepts site field kind total ∷ es) lawful f k =
       arith,
       gains_split schema base es lawful.0 f k,
       sum_below_bump schema.sites
-          (λ from. accepted base from f k es)
-          (λ from. accepted base from f k (Accepts site field kind total ∷ es))
-          site.0 (cond on (total - accepted base site.0 f k es) 0) lawful.1.from_site
-          (gain_there on site.0 total (accepted base site.0 f k es))
-          (λ from apart. gain_here on site.0 from total (accepted base from f k es) apart),
+          (λ from. total_accepted base from f k es)
+          (λ from. total_accepted base from f k (Accepts site field kind total ∷ es))
+          site.0 (cond on (total - total_accepted base site.0 f k es) 0) lawful.1.from_site
+          (gain_there on site.0 total (total_accepted base site.0 f k es))
+          (λ from apart. gain_here on site.0 from total (total_accepted base from f k es) apart),
     )
 gains_split schema base (Gives to field kind amount ∷ es) lawful f k = gains_split schema base es lawful.0 f k
 gains_split schema base (Grants txn field change ∷ es) lawful f k = gains_split schema base es lawful.0 f k

@@ -12,7 +12,7 @@ use Rattle.field_bounds.specs.declared.effect.Effect.{Effect}
 use Rattle.field_bounds.specs.declared.effect.Effect.TheVariants.{Begins, Grants, Commits, Aborts, Gives, Accepts, Stops}
 use Rattle.field_bounds.specs.Kind.{kind_of, same_kind, other}
 use Rattle.field_bounds.specs.Schema.{SchemaValue}
-use Rattle.field_bounds.specs.Effects.{Base, same_txn, is_begun, is_committed, is_dropped, is_aborted, is_open, escrows_of, takes, granted, accepted, share, held}
+use Rattle.field_bounds.specs.Effects.{Base, same_txn, is_begun, is_committed, is_dropped, is_aborted, is_open, escrows_of, takes, granted_sizes, total_accepted, share, held_rights}
 use Rattle.field_bounds.proofs.Lawful.{IsLawful, covered, open_parts, same_txn-true}
 
 both_step : (on p q : Bool) (n : ℕ) → (p ≡ true → q ≡ false) → cond (on && (p || q)) n 0 ≡ cond (on && p) n 0 + cond (on && q) n 0
@@ -21,7 +21,7 @@ both_step true true q n h = rw (h refl) (omega arith)
 both_step true false q n h = omega arith
 
 -- what passes either of two tests that exclude each other
-pub granted-or : (p q : TxnId → Bool) → ((id : TxnId) → p id ≡ true → q id ≡ false) → (f : ℕ) (k : Kind) (es : List Effect) → granted (λ id. p id || q id) f k es ≡ granted p f k es + granted q f k es
+pub granted-or : (p q : TxnId → Bool) → ((id : TxnId) → p id ≡ true → q id ≡ false) → (f : ℕ) (k : Kind) (es : List Effect) → granted_sizes (λ id. p id || q id) f k es ≡ granted_sizes p f k es + granted_sizes q f k es
 granted-or p q h f k [] = refl
 granted-or p q h f k (Grants txn field change ∷ es) =
     omega (arith, granted-or p q h f k es, both_step (eqb field.0 f && same_kind (kind_of change) k) (p txn) (q txn) (unsigned_abs change) (h txn))
@@ -33,7 +33,7 @@ granted-or p q h f k (Accepts from field kind total ∷ es) = granted-or p q h f
 granted-or p q h f k (Stops ∷ es) = granted-or p q h f k es
 
 -- tests that agree on what was begun
-pub granted-same : (schema : SchemaValue) (base : Base) (p q : TxnId → Bool) (f : ℕ) (k : Kind) (es : List Effect) → IsLawful schema base es → ((id : TxnId) → is_begun id es ≡ true → p id ≡ q id) → granted p f k es ≡ granted q f k es
+pub granted-same : (schema : SchemaValue) (base : Base) (p q : TxnId → Bool) (f : ℕ) (k : Kind) (es : List Effect) → IsLawful schema base es → ((id : TxnId) → is_begun id es ≡ true → p id ≡ q id) → granted_sizes p f k es ≡ granted_sizes q f k es
 granted-same schema base p q f k [] lawful h = refl
 granted-same schema base p q f k (Grants txn field change ∷ es) lawful h =
     let rest = granted-same schema base p q f k es lawful.0 h in
@@ -70,7 +70,7 @@ same_txn-sym a b = rw (eqb-sym a.epoch b.epoch, eqb-sym a.number b.number) refl
 
 -- the escrows of one transaction
 abbrev pub of_txn : TxnId → ℕ → Kind → List Effect → ℕ
-of_txn txn f k es = granted (λ id. same_txn txn id) f k es
+of_txn txn f k es = granted_sizes (λ id. same_txn txn id) f k es
 
 module _ (schema : SchemaValue) (base : Base) (es : List Effect) (lawful : IsLawful schema base es) (f : ℕ) (k : Kind) where
   pub fate_here : (txn id : TxnId) → is_open txn es ≡ true → same_txn txn id ≡ true → (is_committed id es ≡ false) × (is_dropped id es ≡ false)
@@ -95,7 +95,7 @@ module _ (schema : SchemaValue) (base : Base) (es : List Effect) (lawful : IsLaw
             (λ id begun. commit_aborted (same_txn txn id) (is_committed id es) (is_dropped id es) (λ same. (fate_here txn id opened same).1)),
       )
 
-  pub held_commit : (txn : TxnId) → is_open txn es ≡ true → held f k (Commits txn ∷ es) + of_txn txn f k es ≡ held f k es
+  pub held_commit : (txn : TxnId) → is_open txn es ≡ true → held_rights f k (Commits txn ∷ es) + of_txn txn f k es ≡ held_rights f k es
   held_commit txn opened =
       omega (
         arith,
@@ -131,7 +131,7 @@ module _ (schema : SchemaValue) (base : Base) (es : List Effect) (lawful : IsLaw
   dropped_excludes true false d h = refl
   dropped_excludes false c d h = cc
 
-  pub held_abort : (txn : TxnId) → is_open txn es ≡ true → held f k (Aborts txn ∷ es) + of_txn txn f k es ≡ held f k es
+  pub held_abort : (txn : TxnId) → is_open txn es ≡ true → held_rights f k (Aborts txn ∷ es) + of_txn txn f k es ≡ held_rights f k es
   held_abort txn opened =
       omega (
         arith,
@@ -152,7 +152,7 @@ module _ (schema : SchemaValue) (base : Base) (es : List Effect) (lawful : IsLaw
         weigh_true (eqb e.field.0 f && same_kind (kind_of e.change) k) (unsigned_abs e.change),
       )
 
-  pub held_grant : (txn : TxnId) (e : Escrow) → is_open txn es ≡ true → held f k (Grants txn e.field e.change ∷ es) ≡ held f k es + takes f k e
+  pub held_grant : (txn : TxnId) (e : Escrow) → is_open txn es ≡ true → held_rights f k (Grants txn e.field e.change ∷ es) ≡ held_rights f k es + takes f k e
   held_grant txn e opened =
       omega (arith, weigh_one (eqb e.field.0 f && same_kind (kind_of e.change) k) (is_open txn es) (unsigned_abs e.change) opened)
 
@@ -164,7 +164,7 @@ module _ (schema : SchemaValue) (base : Base) (es : List Effect) (lawful : IsLaw
 
   -- a gain comes to the share
   pub share_accept : (from : SiteNo) (field : FieldNo) (kind : Kind) (total : ℕ)
-      → share base f k (Accepts from field kind total ∷ es) ≡ share base f k es + cond (eqb field.0 f && same_kind kind k) (total - accepted base from.0 f k es) 0
+      → share base f k (Accepts from field kind total ∷ es) ≡ share base f k es + cond (eqb field.0 f && same_kind kind k) (total - total_accepted base from.0 f k es) 0
   share_accept from field kind total = omega (arith, covered schema base es lawful f k)
 
 -- ---- the escrows of one transaction

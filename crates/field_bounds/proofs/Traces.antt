@@ -16,7 +16,7 @@ use Rattle.field_bounds.specs.declared.effect.Effect.TheVariants.{Grants}
 use Rattle.field_bounds.specs.Kind.{kind_of, same_kind}
 use Rattle.field_bounds.specs.Schema.{SchemaValue}
 use Rattle.field_bounds.specs.Parts.{sum_below}
-use Rattle.field_bounds.specs.Effects.{Base, fresh, effect_of, counts, with_effect, after, effects, kept_before, granted}
+use Rattle.field_bounds.specs.Effects.{Base, fresh, effect_of, counts, with_effect, after, effects, doubt_kept_before, granted_sizes}
 use Rattle.field_bounds.specs.Owed.{place, Fits, IsRun}
 use Rattle.field_bounds.specs.Central.{own, size_of, sizes, change_of, changes, IsAtSites, IsSound}
 use Rattle.field_bounds.proofs.Sums.{sum_below_bump, sum_below-zero}
@@ -52,26 +52,26 @@ grants (Some (Grants txn field change)) = true
 grants effect = false
 
 module _ (base : Base) (p : TxnId → Bool) (f : ℕ) (k : Kind) where
-  sizes_pass : (counted : Bool) (effect : Option Effect) (es : List Effect) → grants effect ≡ false → granted p f k (with_effect counted effect es) ≡ granted p f k es
+  sizes_pass : (counted : Bool) (effect : Option Effect) (es : List Effect) → grants effect ≡ false → granted_sizes p f k (with_effect counted effect es) ≡ granted_sizes p f k es
   sizes_pass counted None es h = refl
   sizes_pass counted (Some (Grants txn field change)) es h = cc
   sizes_pass true (Some effect) es h = refl
   sizes_pass false (Some effect) es h = refl
 
   after_sizes : (kept : Bool) (s : ℕ) (c : Command) (r : Reply) (es : List Effect)
-      → granted p f k (after base kept c r es) ≡ size_of (λ _. p) f k s c r + granted p f k es
+      → granted_sizes p f k (after base kept c r es) ≡ size_of (λ _. p) f k s c r + granted_sizes p f k es
   after_sizes kept s (Escrow txn field change) Granted es = refl
-  after_sizes kept s c Granted es = sizes_pass true (effect_of base es c Granted) es refl ∙ sym (zero-add (granted p f k es))
-  after_sizes kept s c r es = sizes_pass (counts kept r) (effect_of base es c r) es refl ∙ sym (zero-add (granted p f k es))
+  after_sizes kept s c Granted es = sizes_pass true (effect_of base es c Granted) es refl ∙ sym (zero-add (granted_sizes p f k es))
+  after_sizes kept s c r es = sizes_pass (counts kept r) (effect_of base es c r) es refl ∙ sym (zero-add (granted_sizes p f k es))
 
   -- what took effect has the escrows that were granted, whatever is kept
-  pub effects_sizes : (kept : Bool) (o : List Entry) → granted p f k (effects base kept o) ≡ sizes (λ _. p) f k o
+  pub effects_sizes : (kept : Bool) (o : List Entry) → granted_sizes p f k (effects base kept o) ≡ sizes (λ _. p) f k o
   effects_sizes kept [] = refl
   effects_sizes kept (e ∷ o) =
       omega (
         arith,
-        after_sizes kept e.site.0 e.command e.reply (effects base (kept_before kept e.reply) o),
-        effects_sizes (kept_before kept e.reply) o,
+        after_sizes kept e.site.0 e.command e.reply (effects base (doubt_kept_before kept e.reply) o),
+        effects_sizes (doubt_kept_before kept e.reply) o,
       )
 
 size_of_site : (p : ℕ → TxnId → Bool) (f : ℕ) (k : Kind) (s : ℕ) (c : Command) (r : Reply) → size_of (λ _. p s) f k s c r ≡ size_of p f k s c r

@@ -15,7 +15,7 @@ use Rattle.field_bounds.specs.declared.effect.Effect.{Effect}
 use Rattle.field_bounds.specs.Kind.{same_kind, kind_of}
 use Rattle.field_bounds.specs.Schema.{SchemaValue}
 use Rattle.field_bounds.specs.Parts.{field_at, sum_below}
-use Rattle.field_bounds.specs.Effects.{fresh, is_committed, is_open, given, cut, accepted, share, effects}
+use Rattle.field_bounds.specs.Effects.{fresh, is_committed, is_open, total_given, cut, total_accepted, share, effects}
 use Rattle.field_bounds.specs.Owed.{IsRun}
 use Rattle.field_bounds.specs.Statements.{IsIssued}
 
@@ -132,8 +132,8 @@ changes p f (e ∷ t) = change_of p f e.site.0 e.command e.reply +ℤ changes p 
 -- ---- committed value, infimum, supremum and outcomes
 
 -- The committed value: the start value and the changes of all escrows whose transaction is committed (O'Neil 1986).
-abbrev pub committed : SchemaValue → List Entry → ℕ → ℤ
-committed schema t f = (field_at schema f).value +ℤ changes (is_committed_in schema t) f t
+abbrev pub committed_value : SchemaValue → List Entry → ℕ → ℤ
+committed_value schema t f = (field_at schema f).value +ℤ changes (is_committed_in schema t) f t
 
 -- The sizes of all escrows of a kind whose transaction is open (O'Neil 1986; each by itself: this project).
 abbrev pub open_sizes : SchemaValue → List Entry → ℕ → Kind → ℕ
@@ -141,11 +141,11 @@ open_sizes schema t f k = sizes (is_open_in schema t) f k t
 
 -- The infimum: the committed value less all open lowerings (O'Neil 1986).
 abbrev pub inf : SchemaValue → List Entry → ℕ → ℤ
-inf schema t f = committed schema t f -ℤ pos (open_sizes schema t f Lower)
+inf schema t f = committed_value schema t f -ℤ pos (open_sizes schema t f Lower)
 
 -- The supremum: the committed value and all open raisings (O'Neil 1986).
 abbrev pub sup : SchemaValue → List Entry → ℕ → ℤ
-sup schema t f = committed schema t f +ℤ pos (open_sizes schema t f Raise)
+sup schema t f = committed_value schema t f +ℤ pos (open_sizes schema t f Raise)
 
 -- Whether a transaction is committed once the chosen open ones are, and the other open ones aborted (O'Neil 1986).
 abbrev pub is_committed_by : SchemaValue → List Entry → (ℕ → TxnId → Bool) → ℕ → TxnId → Bool
@@ -241,7 +241,7 @@ IntervalRule schema t (Spare to field kind want) reply = Unit {0}
 IntervalRule schema t (Tighten field kind amount) reply = Unit {0}
 IntervalRule schema t (Accept told) reply = Unit {0}
 IntervalRule schema t (Read field) (Between lo hi) =
-    field.0 < length schema.fields → (lo ≤ℤ committed schema t field.0) × (committed schema t field.0 ≤ℤ hi)
+    field.0 < length schema.fields → (lo ≤ℤ committed_value schema t field.0) × (committed_value schema t field.0 ≤ℤ hi)
 IntervalRule schema t (Read field) reply = Unit {0}
 IntervalRule schema t (Share field) reply = Unit {0}
 IntervalRule schema t Restart reply = Unit {0}
@@ -299,11 +299,11 @@ pub record IsSound (schema : SchemaValue) (t : List Entry) : Type 0 where
 
 -- The total that one site has given to another, of a kind on a field (Balegas and others 2015).
 abbrev pub given_between : SchemaValue → List Entry → ℕ → Kind → ℕ → ℕ → ℕ
-given_between schema t f k from to = given (fresh schema from) to f k (at_site schema t from)
+given_between schema t f k from to = total_given (fresh schema from) to f k (at_site schema t from)
 
 -- The greatest total that one site has accepted from another (Balegas and others 2015).
 abbrev pub accepted_between : SchemaValue → List Entry → ℕ → Kind → ℕ → ℕ → ℕ
-accepted_between schema t f k from to = accepted (fresh schema to) from f k (at_site schema t to)
+accepted_between schema t f k from to = total_accepted (fresh schema to) from f k (at_site schema t to)
 
 -- The rights in flight: what was given and isn't accepted yet, between any two sites, added up (this project).
 abbrev pub in_flight : SchemaValue → List Entry → ℕ → Kind → ℕ

@@ -63,14 +63,14 @@ abbrev pub is_open : TxnId → List Effect → Bool
 is_open id es = not (is_committed id es) && not (is_dropped id es)
 
 -- The transactions begun, the newest first.
-abbrev pub begun : List Effect → List TxnId
-begun [] = []
-begun (Begins txn ∷ es) = txn ∷ begun es
-begun (_ ∷ es) = begun es
+abbrev pub begun_txns : List Effect → List TxnId
+begun_txns [] = []
+begun_txns (Begins txn ∷ es) = txn ∷ begun_txns es
+begun_txns (_ ∷ es) = begun_txns es
 
 -- The begun transactions that are open.
 abbrev pub open_txns : List Effect → List TxnId
-open_txns es = filter (λ id. is_open id es) (begun es)
+open_txns es = filter (λ id. is_open id es) (begun_txns es)
 
 -- The escrows granted to a transaction, the newest first (O'Neil 1986: each counts by itself).
 abbrev pub escrows_of : TxnId → List Effect → List EscrowOf
@@ -86,11 +86,11 @@ abbrev pub takes : ℕ → Kind → EscrowOf → ℕ
 takes f k e = if (e.field.0 == f) && same_kind (kind_of e.change) k then unsigned_abs e.change else 0
 
 -- The sizes of the granted escrows on field f, of kind k, whose transaction passes.
-abbrev pub granted : (TxnId → Bool) → ℕ → Kind → List Effect → ℕ
-granted p f k [] = 0
-granted p f k (Grants txn field change ∷ es) =
-    (if (field.0 == f) && same_kind (kind_of change) k && p txn then unsigned_abs change else 0) + granted p f k es
-granted p f k (_ ∷ es) = granted p f k es
+abbrev pub granted_sizes : (TxnId → Bool) → ℕ → Kind → List Effect → ℕ
+granted_sizes p f k [] = 0
+granted_sizes p f k (Grants txn field change ∷ es) =
+    (if (field.0 == f) && same_kind (kind_of change) k && p txn then unsigned_abs change else 0) + granted_sizes p f k es
+granted_sizes p f k (_ ∷ es) = granted_sizes p f k es
 
 -- Whether what left went to site s: what left for good went to none.
 abbrev pub is_to : ℕ → Option SiteNo → Bool
@@ -112,23 +112,23 @@ gifts p f k (_ ∷ es) = gifts p f k es
 -- ---- ledgers (Balegas and others 2015: totals that only grow, merged by the greater)
 
 -- The total given to a site.
-abbrev pub given : Base → ℕ → ℕ → Kind → List Effect → ℕ
-given base to f k es = base.given to f k + gifts (is_to to) f k es
+abbrev pub total_given : Base → ℕ → ℕ → Kind → List Effect → ℕ
+total_given base to f k es = base.given to f k + gifts (is_to to) f k es
 
 -- The greatest total accepted from a site.
-abbrev pub accepted : Base → ℕ → ℕ → Kind → List Effect → ℕ
-accepted base from f k [] = base.accepted from f k
-accepted base from f k (Accepts site field kind total ∷ es) =
+abbrev pub total_accepted : Base → ℕ → ℕ → Kind → List Effect → ℕ
+total_accepted base from f k [] = base.accepted from f k
+total_accepted base from f k (Accepts site field kind total ∷ es) =
     if (field.0 == f) && same_kind kind k && (site.0 == from)
-    then max total (accepted base from f k es)
-    else accepted base from f k es
-accepted base from f k (_ ∷ es) = accepted base from f k es
+    then max total (total_accepted base from f k es)
+    else total_accepted base from f k es
+total_accepted base from f k (_ ∷ es) = total_accepted base from f k es
 
 -- What each accepted total had above those accepted before it from its site, added up.
 abbrev pub gains : Base → ℕ → Kind → List Effect → ℕ
 gains base f k [] = 0
 gains base f k (Accepts site field kind total ∷ es) =
-    (if (field.0 == f) && same_kind kind k then total - accepted base site.0 f k es else 0) + gains base f k es
+    (if (field.0 == f) && same_kind kind k then total - total_accepted base site.0 f k es else 0) + gains base f k es
 gains base f k (_ ∷ es) = gains base f k es
 
 -- The cut: what the site has given up for good (this project).
@@ -141,31 +141,31 @@ cut base f k es = base.cut f k + gifts is_for_good f k es
 abbrev pub rights_in : Base → ℕ → Kind → List Effect → ℕ
 rights_in base f k es =
     base.rights f k
-    + granted (λ id. is_aborted id es) f k es
-    + granted (λ id. is_committed id es) f (other k) es
+    + granted_sizes (λ id. is_aborted id es) f k es
+    + granted_sizes (λ id. is_committed id es) f (other k) es
     + gains base f k es
 
 -- What took rights: every escrow that was granted, and all that left.
 abbrev pub rights_out : ℕ → Kind → List Effect → ℕ
-rights_out f k es = granted (λ _. true) f k es + gifts (λ _. true) f k es
+rights_out f k es = granted_sizes (λ _. true) f k es + gifts (λ _. true) f k es
 
 -- The share: the rights that are free.
 abbrev pub share : Base → ℕ → Kind → List Effect → ℕ
 share base f k es = rights_in base f k es - rights_out f k es
 
 -- The rights that open transactions have set aside.
-abbrev pub held : ℕ → Kind → List Effect → ℕ
-held f k es = granted (λ id. is_open id es) f k es
+abbrev pub held_rights : ℕ → Kind → List Effect → ℕ
+held_rights f k es = granted_sizes (λ id. is_open id es) f k es
 
 abbrev pub own_rights : Base → ℕ → Kind → List Effect → ℕ
-own_rights base f k es = share base f k es + held f k es
+own_rights base f k es = share base f k es + held_rights f k es
 
 -- ---- what took effect
 
 -- What a site spares of its share where another wants some: all that is wanted, and at most half of the share, rounded up
 -- (this project).
-abbrev pub spared : ℕ → ℕ → ℕ
-spared share want = min want ((share + 1) / 2)
+abbrev pub spare_amount : ℕ → ℕ → ℕ
+spare_amount share want = min want ((share + 1) / 2)
 
 -- What a command does where it takes effect, behind these effects: with its answer, and in doubt where its answer may be
 -- so. A spare that is in doubt has the amount that it would have been answered (this project).
@@ -184,7 +184,7 @@ effect_of base es (Give to field kind amount) Unsure = Some (Gives (Some to) fie
 effect_of base es (Give to field kind amount) reply = None
 effect_of base es (Restate to field kind) reply = None
 effect_of base es (Spare to field kind want) (Spared amount total) = Some (Gives (Some to) field kind amount)
-effect_of base es (Spare to field kind want) Unsure = Some (Gives (Some to) field kind (spared (share base field.0 kind es) want))
+effect_of base es (Spare to field kind want) Unsure = Some (Gives (Some to) field kind (spare_amount (share base field.0 kind es) want))
 effect_of base es (Spare to field kind want) reply = None
 effect_of base es (Tighten field kind amount) (Tightened total) = Some (Gives None field kind amount)
 effect_of base es (Tighten field kind amount) Unsure = Some (Gives None field kind amount)
@@ -225,30 +225,30 @@ abbrev pub after : Base → Bool → Command → Reply → List Effect → List 
 after base kept command reply es = with_effect (counts kept reply) (effect_of base es command reply) es
 
 -- Whether a restart found that what was in doubt is kept.
-abbrev pub says_kept : Last → Bool
-says_kept Kept = true
-says_kept Nothing = false
-says_kept Lost = false
+abbrev pub says_doubt_kept : Last → Bool
+says_doubt_kept Kept = true
+says_doubt_kept Nothing = false
+says_doubt_kept Lost = false
 
 -- Whether what stands in doubt before this reply was kept, if what stands in doubt after it was.
-abbrev pub kept_before : Bool → Reply → Bool
-kept_before kept (Begun txn) = kept
-kept_before kept Granted = kept
-kept_before kept Committed = kept
-kept_before kept Aborted = kept
-kept_before kept (Given total) = kept
-kept_before kept (Stated total) = kept
-kept_before kept (Spared amount total) = kept
-kept_before kept (Tightened total) = kept
-kept_before kept (Accepted gain) = kept
-kept_before kept (Between lo hi) = kept
-kept_before kept (Shares lower raise) = kept
-kept_before kept (Restarted epoch found) = says_kept found
-kept_before kept Unsure = kept
-kept_before kept StillDown = kept
-kept_before kept (Refused refusal) = kept
+abbrev pub doubt_kept_before : Bool → Reply → Bool
+doubt_kept_before kept (Begun txn) = kept
+doubt_kept_before kept Granted = kept
+doubt_kept_before kept Committed = kept
+doubt_kept_before kept Aborted = kept
+doubt_kept_before kept (Given total) = kept
+doubt_kept_before kept (Stated total) = kept
+doubt_kept_before kept (Spared amount total) = kept
+doubt_kept_before kept (Tightened total) = kept
+doubt_kept_before kept (Accepted gain) = kept
+doubt_kept_before kept (Between lo hi) = kept
+doubt_kept_before kept (Shares lower raise) = kept
+doubt_kept_before kept (Restarted epoch found) = says_doubt_kept found
+doubt_kept_before kept Unsure = kept
+doubt_kept_before kept StillDown = kept
+doubt_kept_before kept (Refused refusal) = kept
 
 -- What took effect at a site; kept says whether the next restart, if any, finds that what is in doubt is kept.
 abbrev pub effects : Base → Bool → List Entry → List Effect
 effects base kept [] = []
-effects base kept (e ∷ o) = after base kept e.command e.reply (effects base (kept_before kept e.reply) o)
+effects base kept (e ∷ o) = after base kept e.command e.reply (effects base (doubt_kept_before kept e.reply) o)

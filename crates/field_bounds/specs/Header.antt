@@ -22,8 +22,8 @@ unit_of (Ok x) = Ok tt
 unit_of (Err e) = Err e
 
 -- The members of an object that has so many keys.
-abbrev pub sized : ℕ → Data → Result Members SchemaFault
-sized n d = do
+abbrev pub members_of_size : ℕ → Data → Result Members SchemaFault
+members_of_size n d = do
   ms ← ok_or (as_object d) Shape
   if members_len ms == n then Ok ms else Err Shape
 
@@ -46,7 +46,7 @@ text_at key d = do
 -- A field that an object tells.
 unfoldable pub field_of : Data → Result FieldValue SchemaFault
 field_of d = do
-  ms ← sized 4 d
+  ms ← members_of_size 4 d
   name ← text_at (codes "name") d
   floor ← whole_at (codes "floor") d
   ceiling ← whole_at (codes "ceiling") d
@@ -64,7 +64,7 @@ fields_of (item d ds) = do
 -- The number of sites and the fields that an object tells.
 unfoldable pub parts_of : Data → Result (ℤ × List FieldValue) SchemaFault
 parts_of d = do
-  ms ← sized 2 d
+  ms ← members_of_size 2 d
   sites ← whole_at (codes "sites") d
   found ← member_at (codes "fields") d
   items ← ok_or (as_array found) Shape

@@ -7,5 +7,5 @@ use Rattle.field_bounds.specs.Schema.{FieldValue}
 abbrev pub entry_value : String Global × FieldBounds → FieldValue
 entry_value e = record { name = string_bytes e.0; floor = e.1.floor; ceiling = e.1.ceiling; value = e.1.value }
 
-abbrev pub kept_values : List (String Global × FieldBounds) → List FieldValue
-kept_values es = map entry_value es
+abbrev pub stored_values : List (String Global × FieldBounds) → List FieldValue
+stored_values es = map entry_value es

@@ -19,7 +19,7 @@ use Rattle.field_bounds.specs.declared.effect.Effect.{Effect}
 use Rattle.field_bounds.specs.Kind.{kind_of}
 use Rattle.field_bounds.specs.Schema.{SchemaValue}
 use Rattle.field_bounds.specs.Parts.{field_at, width_of}
-use Rattle.field_bounds.specs.Effects.{Base, is_begun, is_open, open_txns, escrows_of, given, cut, accepted, share, own_rights, spared, effects}
+use Rattle.field_bounds.specs.Effects.{Base, is_begun, is_open, open_txns, escrows_of, total_given, cut, total_accepted, share, own_rights, spare_amount, effects}
 
 -- ---- up or down, epochs and counts
 
@@ -198,107 +198,107 @@ max_epoch = 1_000_000_000
 abbrev pub free : Place → FieldNo → Kind → ℕ
 free at field kind = share at.base field.0 kind at.effects
 
-abbrev pub owned : Place → FieldNo → Kind → ℕ
-owned at field kind = own_rights at.base field.0 kind at.effects
+abbrev pub own_rights_at : Place → FieldNo → Kind → ℕ
+own_rights_at at field kind = own_rights at.base field.0 kind at.effects
 
 -- What the site has given up for good so far, of a kind on a field.
 abbrev pub cut_so_far : Place → FieldNo → Kind → ℕ
 cut_so_far at field kind = cut at.base field.0 kind at.effects
 
 -- What the site guards of a field's width: the rights of a kind that it owns, and those that it has given up for good.
-abbrev pub guarded : Place → FieldNo → Kind → ℕ
-guarded at field kind = cut_so_far at field kind + owned at field kind
+abbrev pub guarded_rights : Place → FieldNo → Kind → ℕ
+guarded_rights at field kind = cut_so_far at field kind + own_rights_at at field kind
 
 -- The total given so far to a site, of a kind on a field.
 abbrev pub told_so_far : Place → SiteNo → FieldNo → Kind → ℕ
-told_so_far at to field kind = given at.base to.0 field.0 kind at.effects
+told_so_far at to field kind = total_given at.base to.0 field.0 kind at.effects
 
 -- What a site spares where so much is wanted.
-abbrev pub spared_of : Place → FieldNo → Kind → ℕ → ℕ
-spared_of at field kind want = spared (free at field kind) want
+abbrev pub spare_of : Place → FieldNo → Kind → ℕ → ℕ
+spare_of at field kind want = spare_amount (free at field kind) want
 
 -- What a stated total has above the greatest one accepted before from its site.
 abbrev pub gain_of : Place → SiteNo → FieldNo → Kind → ℕ → ℕ
-gain_of at from field kind total = total - accepted at.base from.0 field.0 kind at.effects
+gain_of at from field kind total = total - total_accepted at.base from.0 field.0 kind at.effects
 
 -- The room: what the site's own rights of both kinds, and those that it has given up, leave of the field's width.
 abbrev pub room : Place → FieldNo → ℕ
-room at field = width_of (field_at at.schema field.0) - (guarded at field Lower + guarded at field Raise)
+room at field = width_of (field_at at.schema field.0) - (guarded_rights at field Lower + guarded_rights at field Raise)
 
 -- The tests, each with its refusal.
-abbrev pub down : Place → Test
-down at = when (not (is_up at.base at.entries)) Down
+abbrev pub test_down : Place → Test
+test_down at = when (not (is_up at.base at.entries)) Down
 
-abbrev pub no_site : Place → SiteNo → Test
-no_site at site = when (nat_le at.schema.sites site.0) NoSite
+abbrev pub test_no_site : Place → SiteNo → Test
+test_no_site at site = when (nat_le at.schema.sites site.0) NoSite
 
-abbrev pub no_field : Place → FieldNo → Test
-no_field at field = when (nat_le (length at.schema.fields) field.0) NoField
+abbrev pub test_no_field : Place → FieldNo → Test
+test_no_field at field = when (nat_le (length at.schema.fields) field.0) NoField
 
-abbrev pub no_transaction : Place → TxnId → Test
-no_transaction at txn = when (not (is_begun txn at.effects && is_open txn at.effects)) NoTransaction
+abbrev pub test_no_transaction : Place → TxnId → Test
+test_no_transaction at txn = when (not (is_begun txn at.effects && is_open txn at.effects)) NoTransaction
 
-abbrev pub zero_asked : ℕ → Test
-zero_asked n = when (n == 0) Zero
+abbrev pub test_zero : ℕ → Test
+test_zero n = when (n == 0) Zero
 
-abbrev pub too_large : ℕ → ℕ → Test
-too_large most n = when (nat_lt most n) TooLarge
+abbrev pub test_too_large : ℕ → ℕ → Test
+test_too_large most n = when (nat_lt most n) TooLarge
 
-abbrev pub short : Place → FieldNo → Kind → ℕ → Test
-short at field kind q = when (nat_lt (free at field kind) q) (Short (free at field kind))
+abbrev pub test_short : Place → FieldNo → Kind → ℕ → Test
+test_short at field kind q = when (nat_lt (free at field kind) q) (Short (free at field kind))
 
 -- A spare is short only where there is no share at all.
-abbrev pub no_share : Place → FieldNo → Kind → Test
-no_share at field kind = when (free at field kind == 0) (Short (free at field kind))
+abbrev pub test_no_share : Place → FieldNo → Kind → Test
+test_no_share at field kind = when (free at field kind == 0) (Short (free at field kind))
 
-abbrev pub self_gift : Place → SiteNo → Test
-self_gift at site = when (site.0 == at.site) SelfGift
+abbrev pub test_self_gift : Place → SiteNo → Test
+test_self_gift at site = when (site.0 == at.site) SelfGift
 
-abbrev pub ledger_full : Place → SiteNo → FieldNo → Kind → ℕ → Test
-ledger_full at to field kind amount =
+abbrev pub test_ledger_full : Place → SiteNo → FieldNo → Kind → ℕ → Test
+test_ledger_full at to field kind amount =
     when (nat_lt max_total (told_so_far at to field kind + amount)) (LedgerFull (told_so_far at to field kind))
 
-abbrev pub not_yours : Place → SiteNo → Test
-not_yours at to = when (not (to.0 == at.site)) NotYours
+abbrev pub test_not_yours : Place → SiteNo → Test
+test_not_yours at to = when (not (to.0 == at.site)) NotYours
 
-abbrev pub forged : Place → Statement → Test
-forged at told = when (nat_lt (room at told.field) (gain_of at told.from told.field told.kind told.total)) (Forged (room at told.field))
+abbrev pub test_forged : Place → Statement → Test
+test_forged at told = when (nat_lt (room at told.field) (gain_of at told.from told.field told.kind told.total)) (Forged (room at told.field))
 
-abbrev pub nothing_given : Place → SiteNo → FieldNo → Kind → Test
-nothing_given at to field kind = when (told_so_far at to field kind == 0) NothingGiven
+abbrev pub test_nothing_given : Place → SiteNo → FieldNo → Kind → Test
+test_nothing_given at to field kind = when (told_so_far at to field kind == 0) NothingGiven
 
-abbrev pub too_many_open : Place → Test
-too_many_open at = when (nat_le max_open (count_open at.effects)) TooManyOpen
+abbrev pub test_too_many_open : Place → Test
+test_too_many_open at = when (nat_le max_open (count_open at.effects)) TooManyOpen
 
-abbrev pub too_many_escrows : Place → TxnId → Test
-too_many_escrows at txn = when (nat_le max_escrows (count_escrows txn at.effects)) TooManyEscrows
+abbrev pub test_too_many_escrows : Place → TxnId → Test
+test_too_many_escrows at txn = when (nat_le max_escrows (count_escrows txn at.effects)) TooManyEscrows
 
-abbrev pub numbers_full : Place → Test
-numbers_full at = when (nat_le max_number (count_since is_begun_reply at.entries)) NumbersFull
+abbrev pub test_numbers_full : Place → Test
+test_numbers_full at = when (nat_le max_number (count_since is_begun_reply at.entries)) NumbersFull
 
 -- The ladder: the tests of a command, in their order. What a restart may answer is said apart.
 abbrev pub refusals : Place → Command → List Test
-refusals at Begin = down at ∷ too_many_open at ∷ numbers_full at ∷ []
+refusals at Begin = test_down at ∷ test_too_many_open at ∷ test_numbers_full at ∷ []
 refusals at (Escrow txn field change) =
-    down at ∷ no_field at field ∷ no_transaction at txn ∷ zero_asked (unsigned_abs change)
-    ∷ too_large max_change (unsigned_abs change) ∷ short at field (kind_of change) (unsigned_abs change) ∷ too_many_escrows at txn ∷ []
-refusals at (Commit txn) = down at ∷ no_transaction at txn ∷ []
-refusals at (Abort txn) = down at ∷ no_transaction at txn ∷ []
+    test_down at ∷ test_no_field at field ∷ test_no_transaction at txn ∷ test_zero (unsigned_abs change)
+    ∷ test_too_large max_change (unsigned_abs change) ∷ test_short at field (kind_of change) (unsigned_abs change) ∷ test_too_many_escrows at txn ∷ []
+refusals at (Commit txn) = test_down at ∷ test_no_transaction at txn ∷ []
+refusals at (Abort txn) = test_down at ∷ test_no_transaction at txn ∷ []
 refusals at (Give to field kind amount) =
-    down at ∷ no_site at to ∷ no_field at field ∷ zero_asked amount ∷ too_large max_change amount
-    ∷ short at field kind amount ∷ self_gift at to ∷ ledger_full at to field kind amount ∷ []
+    test_down at ∷ test_no_site at to ∷ test_no_field at field ∷ test_zero amount ∷ test_too_large max_change amount
+    ∷ test_short at field kind amount ∷ test_self_gift at to ∷ test_ledger_full at to field kind amount ∷ []
 refusals at (Restate to field kind) =
-    down at ∷ no_site at to ∷ no_field at field ∷ self_gift at to ∷ nothing_given at to field kind ∷ []
+    test_down at ∷ test_no_site at to ∷ test_no_field at field ∷ test_self_gift at to ∷ test_nothing_given at to field kind ∷ []
 refusals at (Spare to field kind want) =
-    down at ∷ no_site at to ∷ no_field at field ∷ zero_asked want ∷ too_large max_change want
-    ∷ no_share at field kind ∷ self_gift at to ∷ ledger_full at to field kind (spared_of at field kind want) ∷ []
+    test_down at ∷ test_no_site at to ∷ test_no_field at field ∷ test_zero want ∷ test_too_large max_change want
+    ∷ test_no_share at field kind ∷ test_self_gift at to ∷ test_ledger_full at to field kind (spare_of at field kind want) ∷ []
 refusals at (Tighten field kind amount) =
-    down at ∷ no_field at field ∷ zero_asked amount ∷ too_large max_change amount ∷ short at field kind amount ∷ []
+    test_down at ∷ test_no_field at field ∷ test_zero amount ∷ test_too_large max_change amount ∷ test_short at field kind amount ∷ []
 refusals at (Accept told) =
-    down at ∷ no_site at told.from ∷ no_site at told.to ∷ no_field at told.field ∷ zero_asked told.total
-    ∷ too_large max_total told.total ∷ self_gift at told.from ∷ not_yours at told.to ∷ forged at told ∷ []
-refusals at (Read field) = down at ∷ no_field at field ∷ []
-refusals at (Share field) = down at ∷ no_field at field ∷ []
+    test_down at ∷ test_no_site at told.from ∷ test_no_site at told.to ∷ test_no_field at told.field ∷ test_zero told.total
+    ∷ test_too_large max_total told.total ∷ test_self_gift at told.from ∷ test_not_yours at told.to ∷ test_forged at told ∷ []
+refusals at (Read field) = test_down at ∷ test_no_field at field ∷ []
+refusals at (Share field) = test_down at ∷ test_no_field at field ∷ []
 refusals at Restart = []
 
 -- ---- the answer where no refusal holds
@@ -307,7 +307,7 @@ refusals at Restart = []
 -- and has given such up, and as far below the schema's ceiling as it has rights to raise and has given such up.
 abbrev pub interval_at : Place → FieldNo → ℤ × ℤ
 interval_at at field =
-    ((field_at at.schema field.0).floor +ℤ pos (guarded at field Lower), (field_at at.schema field.0).ceiling -ℤ pos (guarded at field Raise))
+    ((field_at at.schema field.0).floor +ℤ pos (guarded_rights at field Lower), (field_at at.schema field.0).ceiling -ℤ pos (guarded_rights at field Raise))
 
 -- The free rights of a field, to lower and to raise it.
 abbrev pub shares_at : Place → FieldNo → ℕ × ℕ
@@ -322,7 +322,7 @@ answer at (Abort txn) = Aborted
 answer at (Give to field kind amount) = Given (told_so_far at to field kind + amount)
 answer at (Restate to field kind) = Stated (told_so_far at to field kind)
 answer at (Spare to field kind want) =
-    Spared (spared_of at field kind want) (told_so_far at to field kind + spared_of at field kind want)
+    Spared (spare_of at field kind want) (told_so_far at to field kind + spare_of at field kind want)
 answer at (Tighten field kind amount) = Tightened (cut_so_far at field kind + amount)
 answer at (Accept told) = Accepted (gain_of at told.from told.field told.kind told.total)
 answer at (Read field) = Between (interval_at at field).0 (interval_at at field).1
@@ -389,13 +389,13 @@ TellsDoubt at found =
     (count_since is_unsure at.entries ≡ 0 → found ≡ Nothing) × (found ≡ Nothing → count_since is_unsure at.entries ≡ 0)
 
 -- The greatest epoch that may be kept: each restart that failed since the last one may have used one up.
-abbrev pub last_epoch : Place → ℕ
-last_epoch at = epoch_of at.base at.entries + count_since is_still_down at.entries
+abbrev pub greatest_epoch : Place → ℕ
+greatest_epoch at = epoch_of at.base at.entries + count_since is_still_down at.entries
 
 -- A restart may be answered with this epoch and this finding.
 abbrev pub MayRestart : Place → ℕ → Last → Type 0
 MayRestart at epoch found =
-    (epoch_of at.base at.entries + 1 ≤ epoch) × (epoch ≤ last_epoch at + 1) × (epoch ≤ max_epoch) × TellsDoubt at found
+    (epoch_of at.base at.entries + 1 ≤ epoch) × (epoch ≤ greatest_epoch at + 1) × (epoch ≤ max_epoch) × TellsDoubt at found
 
 -- What a restart may answer: it may fail at any time, and finds no epoch left only where that may be.
 abbrev pub RestartFits : Place → Reply → Type 0
@@ -413,7 +413,7 @@ RestartFits at (Shares lower raise) = ⊥
 RestartFits at (Restarted epoch found) = MayRestart at epoch found
 RestartFits at Unsure = ⊥
 RestartFits at StillDown = Unit {0}
-RestartFits at (Refused refusal) = (refusal ≡ NumbersFull) × (max_epoch ≤ last_epoch at)
+RestartFits at (Refused refusal) = (refusal ≡ NumbersFull) × (max_epoch ≤ greatest_epoch at)
 
 -- The site may give this reply to this command.
 abbrev pub Fits : Place → Command → Reply → Type 0

@@ -15,13 +15,13 @@ use Rattle.field_bounds.specs.Owed.{place, Fits, IsRun}
 -- ---- schemas
 
 -- A schema of so many sites and one field, named stock.
-abbrev pub divided : ℕ → ℤ → ℤ → ℤ → SchemaValue
-divided sites floor ceiling value =
+abbrev pub divided_among : ℕ → ℤ → ℤ → ℤ → SchemaValue
+divided_among sites floor ceiling value =
     record { sites = sites; fields = record { name = codes "stock"; floor = floor; ceiling = ceiling; value = value } ∷ [] }
 
 -- A schema of one site, which has all rights.
 abbrev pub alone : ℤ → ℤ → ℤ → SchemaValue
-alone floor ceiling value = divided 1 floor ceiling value
+alone floor ceiling value = divided_among 1 floor ceiling value
 
 -- From 0 to 100, at 40.
 abbrev pub shelf : SchemaValue
@@ -36,12 +36,12 @@ abbrev pub widest : SchemaValue
 widest = alone (neg_ℤ (pos 1_000_000_000_000_000)) (pos 1_000_000_000_000_000) (pos 1_000_000_000_000_000)
 
 -- Two sites, and a field from 0 to 100 at 40: each site has 20 rights to lower it and 30 to raise it.
-abbrev pub halved : SchemaValue
-halved = divided 2 (pos 0) (pos 100) (pos 40)
+abbrev pub halved_shelf : SchemaValue
+halved_shelf = divided_among 2 (pos 0) (pos 100) (pos 40)
 
 -- The same at 41, where one right of each kind is left over.
 abbrev pub uneven : SchemaValue
-uneven = divided 2 (pos 0) (pos 100) (pos 41)
+uneven = divided_among 2 (pos 0) (pos 100) (pos 41)
 
 -- One site and two fields, each from 0 to 10, at 5.
 abbrev pub twins : SchemaValue
@@ -81,16 +81,16 @@ abbrev pub raise_by : ℕ → ℕ → Command
 raise_by n change = Escrow (txn n) stock (pos change)
 
 -- An entry of a site.
-abbrev pub asked_at : ℕ → Command → Reply → Entry
-asked_at s command reply = record { site = record { 0 = s }; command = command; reply = reply }
+abbrev pub row_entry_at : ℕ → Command → Reply → Entry
+row_entry_at s command reply = record { site = record { 0 = s }; command = command; reply = reply }
 
 -- An entry of site 0.
-abbrev pub asked : Command → Reply → Entry
-asked command reply = asked_at 0 command reply
+abbrev pub row_entry : Command → Reply → Entry
+row_entry command reply = row_entry_at 0 command reply
 
 -- The field was read to be exactly this.
 abbrev pub read_as : ℤ → Entry
-read_as n = asked (Read stock) (Between n n)
+read_as n = row_entry (Read stock) (Between n n)
 
 -- Each reply of the row was owed, at site 0 on its fresh base.
 abbrev pub IsOwed : SchemaValue → List Entry → Type 0
@@ -103,108 +103,108 @@ IsWrong schema row command reply = ¬ Fits (place schema 0 (fresh schema 0) (rev
 -- ---- rows
 
 -- 20 are taken from 40: the value is still 40 until the commit, and then 20.
-abbrev pub lowered : List Entry
-lowered =
-    asked Begin (Begun (txn 1))
-    ∷ asked (lower_by 1 20) Granted
+abbrev pub row_lowered : List Entry
+row_lowered =
+    row_entry Begin (Begun (txn 1))
+    ∷ row_entry (lower_by 1 20) Granted
     ∷ read_as (pos 40)
-    ∷ asked (Commit (txn 1)) Committed
+    ∷ row_entry (Commit (txn 1)) Committed
     ∷ read_as (pos 20)
     ∷ []
 
 -- 41 can't be taken from 40; 60 are added, up to the ceiling.
-abbrev pub raised : List Entry
-raised =
-    asked Begin (Begun (txn 1))
-    ∷ asked (lower_by 1 41) (Refused (Short 40))
-    ∷ asked (raise_by 1 60) Granted
+abbrev pub row_raised : List Entry
+row_raised =
+    row_entry Begin (Begun (txn 1))
+    ∷ row_entry (lower_by 1 41) (Refused (Short 40))
+    ∷ row_entry (raise_by 1 60) Granted
     ∷ read_as (pos 40)
-    ∷ asked (Commit (txn 1)) Committed
+    ∷ row_entry (Commit (txn 1)) Committed
     ∷ read_as (pos 100)
     ∷ []
 
 -- A field without rights grants nothing, either way.
-abbrev pub unmoved : List Entry
-unmoved =
+abbrev pub row_unmoved : List Entry
+row_unmoved =
     read_as (pos 7)
-    ∷ asked Begin (Begun (txn 1))
-    ∷ asked (raise_by 1 1) (Refused (Short 0))
-    ∷ asked (lower_by 1 1) (Refused (Short 0))
+    ∷ row_entry Begin (Begun (txn 1))
+    ∷ row_entry (raise_by 1 1) (Refused (Short 0))
+    ∷ row_entry (lower_by 1 1) (Refused (Short 0))
     ∷ []
 
 -- The widest field is lowered by all of its width at once; one more is too large, before it is short.
-abbrev pub emptied : List Entry
-emptied =
-    asked Begin (Begun (txn 1))
-    ∷ asked (lower_by 1 2_000_000_000_000_000) Granted
-    ∷ asked (Commit (txn 1)) Committed
+abbrev pub row_emptied : List Entry
+row_emptied =
+    row_entry Begin (Begun (txn 1))
+    ∷ row_entry (lower_by 1 2_000_000_000_000_000) Granted
+    ∷ row_entry (Commit (txn 1)) Committed
     ∷ read_as (neg_ℤ (pos 1_000_000_000_000_000))
-    ∷ asked Begin (Begun (txn 2))
-    ∷ asked (lower_by 2 2_000_000_000_000_001) (Refused TooLarge)
-    ∷ asked (lower_by 2 2_000_000_000_000_000) (Refused (Short 0))
+    ∷ row_entry Begin (Begun (txn 2))
+    ∷ row_entry (lower_by 2 2_000_000_000_000_001) (Refused TooLarge)
+    ∷ row_entry (lower_by 2 2_000_000_000_000_000) (Refused (Short 0))
     ∷ []
 
 -- What an abort gives back is taken again; a change of 0, an unknown transaction and an unknown field are refused.
-abbrev pub given_back : List Entry
-given_back =
-    asked Begin (Begun (txn 1))
-    ∷ asked (lower_by 1 20) Granted
-    ∷ asked (Abort (txn 1)) Aborted
-    ∷ asked Begin (Begun (txn 2))
-    ∷ asked (lower_by 2 20) Granted
-    ∷ asked (raise_by 2 0) (Refused Zero)
-    ∷ asked (Commit (txn 7)) (Refused NoTransaction)
-    ∷ asked (Read unknown) (Refused NoField)
-    ∷ asked (Share unknown) (Refused NoField)
+abbrev pub row_given_back : List Entry
+row_given_back =
+    row_entry Begin (Begun (txn 1))
+    ∷ row_entry (lower_by 1 20) Granted
+    ∷ row_entry (Abort (txn 1)) Aborted
+    ∷ row_entry Begin (Begun (txn 2))
+    ∷ row_entry (lower_by 2 20) Granted
+    ∷ row_entry (raise_by 2 0) (Refused Zero)
+    ∷ row_entry (Commit (txn 7)) (Refused NoTransaction)
+    ∷ row_entry (Read unknown) (Refused NoField)
+    ∷ row_entry (Share unknown) (Refused NoField)
     ∷ []
 
 -- A transaction has sixteen escrows; one more is refused, and as short where the share is less.
 abbrev pub sixteen : List Entry
 sixteen =
-    asked Begin (Begun (txn 1))
-    ∷ replicate 16 (asked (lower_by 1 1) Granted)
-    ++ asked (lower_by 1 1) (Refused TooManyEscrows)
-    ∷ asked (lower_by 1 25) (Refused (Short 24))
+    row_entry Begin (Begun (txn 1))
+    ∷ replicate 16 (row_entry (lower_by 1 1) Granted)
+    ++ row_entry (lower_by 1 1) (Refused TooManyEscrows)
+    ∷ row_entry (lower_by 1 25) (Refused (Short 24))
     ∷ []
 
 -- So many transactions are begun, none of them ended.
 abbrev pub begins : ℕ → List Entry
 begins zero = []
-begins (suc n) = begins n ++ asked Begin (Begun (txn (suc n))) ∷ []
+begins (suc n) = begins n ++ row_entry Begin (Begun (txn (suc n))) ∷ []
 
 -- 64 transactions are open; one more is refused.
-abbrev pub crowded : List Entry
-crowded = begins 64 ++ asked Begin (Refused TooManyOpen) ∷ []
+abbrev pub row_crowded : List Entry
+row_crowded = begins 64 ++ row_entry Begin (Refused TooManyOpen) ∷ []
 
 -- ---- rows of site 0 of two
 
 -- A site lowers by all that it may, 20 of the 40, and what it spent turns into rights to raise.
 abbrev pub half_lowered : List Entry
 half_lowered =
-    asked Begin (Begun (txn 1))
-    ∷ asked (lower_by 1 20) Granted
-    ∷ asked (Read stock) (Between (pos 20) (pos 70))
-    ∷ asked (Commit (txn 1)) Committed
-    ∷ asked (Share stock) (Shares 0 50)
-    ∷ asked (Read stock) (Between (pos 0) (pos 50))
+    row_entry Begin (Begun (txn 1))
+    ∷ row_entry (lower_by 1 20) Granted
+    ∷ row_entry (Read stock) (Between (pos 20) (pos 70))
+    ∷ row_entry (Commit (txn 1)) Committed
+    ∷ row_entry (Share stock) (Shares 0 50)
+    ∷ row_entry (Read stock) (Between (pos 0) (pos 50))
     ∷ []
 
 -- 21 are more than the site's share, though the field stands at 40.
 abbrev pub half_short : List Entry
 half_short =
-    asked Begin (Begun (txn 1))
-    ∷ asked (lower_by 1 21) (Refused (Short 20))
+    row_entry Begin (Begun (txn 1))
+    ∷ row_entry (lower_by 1 21) (Refused (Short 20))
     ∷ []
 
 -- One transaction raises by 5 and lowers by 3.
 abbrev pub half_both : List Entry
 half_both =
-    asked Begin (Begun (txn 1))
-    ∷ asked (raise_by 1 5) Granted
-    ∷ asked (lower_by 1 3) Granted
-    ∷ asked (Commit (txn 1)) Committed
-    ∷ asked (Share stock) (Shares 22 28)
-    ∷ asked (Read stock) (Between (pos 22) (pos 72))
+    row_entry Begin (Begun (txn 1))
+    ∷ row_entry (raise_by 1 5) Granted
+    ∷ row_entry (lower_by 1 3) Granted
+    ∷ row_entry (Commit (txn 1)) Committed
+    ∷ row_entry (Share stock) (Shares 22 28)
+    ∷ row_entry (Read stock) (Between (pos 22) (pos 72))
     ∷ []
 
 -- ---- a row of two fields
@@ -212,13 +212,13 @@ half_both =
 -- The first field is lowered to its floor; the second is raised and lowered by as much.
 abbrev pub two_fields : List Entry
 two_fields =
-    asked Begin (Begun (txn 1))
-    ∷ asked (lower_by 1 5) Granted
-    ∷ asked (Escrow (txn 1) second (pos 5)) Granted
-    ∷ asked (Escrow (txn 1) second (neg_ℤ (pos 5))) Granted
-    ∷ asked (Commit (txn 1)) Committed
-    ∷ asked (Share stock) (Shares 0 10)
-    ∷ asked (Share second) (Shares 5 5)
+    row_entry Begin (Begun (txn 1))
+    ∷ row_entry (lower_by 1 5) Granted
+    ∷ row_entry (Escrow (txn 1) second (pos 5)) Granted
+    ∷ row_entry (Escrow (txn 1) second (neg_ℤ (pos 5))) Granted
+    ∷ row_entry (Commit (txn 1)) Committed
+    ∷ row_entry (Share stock) (Shares 0 10)
+    ∷ row_entry (Share second) (Shares 5 5)
     ∷ []
 
 -- ---- a row of two sites
@@ -227,13 +227,13 @@ two_fields =
 -- own rights alone.
 abbrev pub in_turns : List Entry
 in_turns =
-    asked_at 0 Begin (Begun (txn 1))
-    ∷ asked_at 1 Begin (Begun (txn 1))
-    ∷ asked_at 0 (lower_by 1 20) Granted
-    ∷ asked_at 1 (raise_by 1 30) Granted
-    ∷ asked_at 0 (Commit (txn 1)) Committed
-    ∷ asked_at 1 (Read stock) (Between (pos 20) (pos 70))
-    ∷ asked_at 1 (Commit (txn 1)) Committed
-    ∷ asked_at 0 (Share stock) (Shares 0 50)
-    ∷ asked_at 1 (Share stock) (Shares 50 0)
+    row_entry_at 0 Begin (Begun (txn 1))
+    ∷ row_entry_at 1 Begin (Begun (txn 1))
+    ∷ row_entry_at 0 (lower_by 1 20) Granted
+    ∷ row_entry_at 1 (raise_by 1 30) Granted
+    ∷ row_entry_at 0 (Commit (txn 1)) Committed
+    ∷ row_entry_at 1 (Read stock) (Between (pos 20) (pos 70))
+    ∷ row_entry_at 1 (Commit (txn 1)) Committed
+    ∷ row_entry_at 0 (Share stock) (Shares 0 50)
+    ∷ row_entry_at 1 (Share stock) (Shares 50 0)
     ∷ []

@@ -11,7 +11,7 @@ use Rattle.field_bounds.specs.declared.entry.Refusal.TheVariants.{NoSite, NoFiel
 use Rattle.field_bounds.specs.declared.entry.Entry.{Entry}
 use Rattle.field_bounds.specs.Effects.{Base, fresh}
 use Rattle.field_bounds.specs.Owed.{place, Fits, IsRun}
-use Rattle.field_bounds.specs.Worked.{halved, stock, unknown, txn, lower_by, asked_at, asked}
+use Rattle.field_bounds.specs.Worked.{halved_shelf, stock, unknown, txn, lower_by, row_entry_at, row_entry}
 
 -- ---- how a row is written
 
@@ -31,24 +31,24 @@ abbrev pub spare_raise : ℕ → ℕ → Command
 spare_raise to want = Spare (site to) stock Raise want
 
 -- What site 0 tells site 1 of the lowering rights that it gave.
-abbrev pub told : ℕ → Statement
-told total = record { from = site 0; to = site 1; field = stock; kind = Lower; total = total }
+abbrev pub statement_to : ℕ → Statement
+statement_to total = record { from = site 0; to = site 1; field = stock; kind = Lower; total = total }
 
 -- What site 0 tells itself.
-abbrev pub told_itself : ℕ → Statement
-told_itself total = record { from = site 0; to = site 0; field = stock; kind = Lower; total = total }
+abbrev pub statement_to_itself : ℕ → Statement
+statement_to_itself total = record { from = site 0; to = site 0; field = stock; kind = Lower; total = total }
 
 -- Site 1 takes in what site 0 tells.
 abbrev pub takes_in : ℕ → Reply → Entry
-takes_in total reply = asked_at 1 (Accept (told total)) reply
+takes_in total reply = row_entry_at 1 (Accept (statement_to total)) reply
 
 -- Each reply of the row was owed, at a site of the two on its fresh base.
 abbrev pub IsOwedAt : ℕ → List Entry → Type 0
-IsOwedAt s row = IsRun halved s (fresh halved s) (reverse row)
+IsOwedAt s row = IsRun halved_shelf s (fresh halved_shelf s) (reverse row)
 
 -- After this row the reply is not owed, at a site of the two.
 abbrev pub IsWrongAt : ℕ → List Entry → Command → Reply → Type 0
-IsWrongAt s row command reply = ¬ Fits (place halved s (fresh halved s) (reverse row)) command reply
+IsWrongAt s row command reply = ¬ Fits (place halved_shelf s (fresh halved_shelf s) (reverse row)) command reply
 
 -- ---- rows of the giver, site 0
 
@@ -56,56 +56,56 @@ IsWrongAt s row command reply = ¬ Fits (place halved s (fresh halved s) (revers
 -- nothing was given.
 abbrev pub not_given : List Entry
 not_given =
-    asked (give_lower 1 21) (Refused (Short 20))
-    ∷ asked (give_lower 2 1) (Refused NoSite)
-    ∷ asked (Give (site 1) unknown Lower 1) (Refused NoField)
-    ∷ asked (give_lower 1 0) (Refused Zero)
-    ∷ asked (give_lower 1 2_000_000_000_000_001) (Refused TooLarge)
-    ∷ asked (give_lower 0 1) (Refused SelfGift)
-    ∷ asked (Restate (site 1) stock Raise) (Refused NothingGiven)
-    ∷ asked (Restate (site 0) stock Raise) (Refused SelfGift)
+    row_entry (give_lower 1 21) (Refused (Short 20))
+    ∷ row_entry (give_lower 2 1) (Refused NoSite)
+    ∷ row_entry (Give (site 1) unknown Lower 1) (Refused NoField)
+    ∷ row_entry (give_lower 1 0) (Refused Zero)
+    ∷ row_entry (give_lower 1 2_000_000_000_000_001) (Refused TooLarge)
+    ∷ row_entry (give_lower 0 1) (Refused SelfGift)
+    ∷ row_entry (Restate (site 1) stock Raise) (Refused NothingGiven)
+    ∷ row_entry (Restate (site 0) stock Raise) (Refused SelfGift)
     ∷ []
 
 -- The site gives all its 20 away; its interval becomes the wider for it.
 abbrev pub given_away : List Entry
 given_away =
-    asked (give_lower 1 20) (Given 20)
-    ∷ asked (Share stock) (Shares 0 30)
-    ∷ asked (Read stock) (Between (pos 0) (pos 70))
-    ∷ asked (give_lower 1 1) (Refused (Short 0))
+    row_entry (give_lower 1 20) (Given 20)
+    ∷ row_entry (Share stock) (Shares 0 30)
+    ∷ row_entry (Read stock) (Between (pos 0) (pos 70))
+    ∷ row_entry (give_lower 1 1) (Refused (Short 0))
     ∷ []
 
 -- A second gift is stated with the first, and each kind has its own total.
 abbrev pub given_twice : List Entry
 given_twice =
-    asked (give_lower 1 3) (Given 3)
-    ∷ asked (give_lower 1 2) (Given 5)
-    ∷ asked (Restate (site 1) stock Lower) (Stated 5)
-    ∷ asked (Restate (site 1) stock Raise) (Refused NothingGiven)
-    ∷ asked (Share stock) (Shares 15 30)
+    row_entry (give_lower 1 3) (Given 3)
+    ∷ row_entry (give_lower 1 2) (Given 5)
+    ∷ row_entry (Restate (site 1) stock Lower) (Stated 5)
+    ∷ row_entry (Restate (site 1) stock Raise) (Refused NothingGiven)
+    ∷ row_entry (Share stock) (Shares 15 30)
     ∷ []
 
 -- Of 30 rights the site spares half, of the 15 left half rounded up, and no more than is wanted: each is a gift as any other.
 abbrev pub spared_twice : List Entry
 spared_twice =
-    asked (spare_raise 1 100) (Spared 15 15)
-    ∷ asked (spare_raise 1 100) (Spared 8 23)
-    ∷ asked (spare_raise 1 2) (Spared 2 25)
-    ∷ asked (Restate (site 1) stock Raise) (Stated 25)
-    ∷ asked (Share stock) (Shares 20 5)
+    row_entry (spare_raise 1 100) (Spared 15 15)
+    ∷ row_entry (spare_raise 1 100) (Spared 8 23)
+    ∷ row_entry (spare_raise 1 2) (Spared 2 25)
+    ∷ row_entry (Restate (site 1) stock Raise) (Stated 25)
+    ∷ row_entry (Share stock) (Shares 20 5)
     ∷ []
 
 -- An unknown site or field, nothing, too much, and itself are refused, and so is all once no share is left.
 abbrev pub not_spared : List Entry
 not_spared =
-    asked (spare_lower 2 1) (Refused NoSite)
-    ∷ asked (Spare (site 1) unknown Lower 1) (Refused NoField)
-    ∷ asked (spare_lower 1 0) (Refused Zero)
-    ∷ asked (spare_lower 1 2_000_000_000_000_001) (Refused TooLarge)
-    ∷ asked (spare_lower 0 1) (Refused SelfGift)
-    ∷ asked (give_lower 1 19) (Given 19)
-    ∷ asked (spare_lower 1 5) (Spared 1 20)
-    ∷ asked (spare_lower 1 5) (Refused (Short 0))
+    row_entry (spare_lower 2 1) (Refused NoSite)
+    ∷ row_entry (Spare (site 1) unknown Lower 1) (Refused NoField)
+    ∷ row_entry (spare_lower 1 0) (Refused Zero)
+    ∷ row_entry (spare_lower 1 2_000_000_000_000_001) (Refused TooLarge)
+    ∷ row_entry (spare_lower 0 1) (Refused SelfGift)
+    ∷ row_entry (give_lower 1 19) (Given 19)
+    ∷ row_entry (spare_lower 1 5) (Spared 1 20)
+    ∷ row_entry (spare_lower 1 5) (Refused (Short 0))
     ∷ []
 
 -- A base with 10 rights of each kind, whose totals lack 1 of the greatest.
@@ -121,21 +121,21 @@ nearly_full =
     }
 
 -- The greatest total is reached, and not passed.
-abbrev pub filled : List Entry
-filled =
-    asked (give_lower 1 2) (Refused (LedgerFull 999_999_999_999_999_999))
-    ∷ asked (give_lower 1 1) (Given 1_000_000_000_000_000_000)
-    ∷ asked (give_lower 1 1) (Refused (LedgerFull 1_000_000_000_000_000_000))
+abbrev pub row_filled : List Entry
+row_filled =
+    row_entry (give_lower 1 2) (Refused (LedgerFull 999_999_999_999_999_999))
+    ∷ row_entry (give_lower 1 1) (Given 1_000_000_000_000_000_000)
+    ∷ row_entry (give_lower 1 1) (Refused (LedgerFull 1_000_000_000_000_000_000))
     ∷ []
 
 -- A spare passes the greatest total by what it would spare, and not by what is wanted: of one right left it spares that one.
 abbrev pub spare_filled : List Entry
 spare_filled =
-    asked (spare_lower 1 2) (Refused (LedgerFull 999_999_999_999_999_999))
-    ∷ asked Begin (Begun (txn 1))
-    ∷ asked (lower_by 1 9) Granted
-    ∷ asked (spare_lower 1 100) (Spared 1 1_000_000_000_000_000_000)
-    ∷ asked (spare_lower 1 1) (Refused (Short 0))
+    row_entry (spare_lower 1 2) (Refused (LedgerFull 999_999_999_999_999_999))
+    ∷ row_entry Begin (Begun (txn 1))
+    ∷ row_entry (lower_by 1 9) Granted
+    ∷ row_entry (spare_lower 1 100) (Spared 1 1_000_000_000_000_000_000)
+    ∷ row_entry (spare_lower 1 1) (Refused (Short 0))
     ∷ []
 
 -- ---- rows of the receiver, site 1
@@ -150,17 +150,17 @@ late_and_twice =
     takes_in 5 (Accepted 5)
     ∷ takes_in 3 (Accepted 0)
     ∷ takes_in 5 (Accepted 0)
-    ∷ asked_at 1 (Share stock) (Shares 25 30)
+    ∷ row_entry_at 1 (Share stock) (Shares 25 30)
     ∷ []
 
 -- What is told to another site, what it would tell itself, nothing and too much are refused.
 abbrev pub not_taken_in : List Entry
 not_taken_in =
-    asked_at 1 (Accept (told_itself 5)) (Refused NotYours)
-    ∷ asked_at 1 (Accept (record { from = site 1; to = site 0; field = stock; kind = Lower; total = 5 })) (Refused SelfGift)
-    ∷ asked_at 1 (Accept (record { from = site 2; to = site 1; field = stock; kind = Lower; total = 5 })) (Refused NoSite)
-    ∷ asked_at 1 (Accept (record { from = site 0; to = site 2; field = stock; kind = Lower; total = 5 })) (Refused NoSite)
-    ∷ asked_at 1 (Accept (record { from = site 0; to = site 1; field = unknown; kind = Lower; total = 5 })) (Refused NoField)
+    row_entry_at 1 (Accept (statement_to_itself 5)) (Refused NotYours)
+    ∷ row_entry_at 1 (Accept (record { from = site 1; to = site 0; field = stock; kind = Lower; total = 5 })) (Refused SelfGift)
+    ∷ row_entry_at 1 (Accept (record { from = site 2; to = site 1; field = stock; kind = Lower; total = 5 })) (Refused NoSite)
+    ∷ row_entry_at 1 (Accept (record { from = site 0; to = site 2; field = stock; kind = Lower; total = 5 })) (Refused NoSite)
+    ∷ row_entry_at 1 (Accept (record { from = site 0; to = site 1; field = unknown; kind = Lower; total = 5 })) (Refused NoField)
     ∷ takes_in 0 (Refused Zero)
     ∷ takes_in 1_000_000_000_000_000_001 (Refused TooLarge)
     ∷ []
@@ -171,11 +171,11 @@ not_taken_in =
 -- nothing.
 abbrev pub passed_on : List Entry
 passed_on =
-    asked_at 0 (give_lower 1 5) (Given 5)
-    ∷ asked_at 1 Begin (Begun (txn 1))
-    ∷ asked_at 1 (lower_by 1 25) (Refused (Short 20))
+    row_entry_at 0 (give_lower 1 5) (Given 5)
+    ∷ row_entry_at 1 Begin (Begun (txn 1))
+    ∷ row_entry_at 1 (lower_by 1 25) (Refused (Short 20))
     ∷ takes_in 5 (Accepted 5)
-    ∷ asked_at 1 (lower_by 1 25) Granted
+    ∷ row_entry_at 1 (lower_by 1 25) Granted
     ∷ takes_in 5 (Accepted 0)
     ∷ []
 

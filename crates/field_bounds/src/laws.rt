@@ -9,7 +9,7 @@ ghost use Rattle.field_bounds.specs.declared.entry.Reply.{Reply};
 ghost use Rattle.field_bounds.specs.declared.entry.Entry.{Entry};
 ghost use Rattle.field_bounds.specs.Schema.{SchemaValue};
 ghost use Rattle.field_bounds.specs.Limits.{IsSchema};
-ghost use Rattle.field_bounds.specs.Effects.{Base, open_txns, held, share, own_rights, says_kept, effects, rights_in, rights_out};
+ghost use Rattle.field_bounds.specs.Effects.{Base, open_txns, held_rights, share, own_rights, says_doubt_kept, effects, rights_in, rights_out};
 ghost use Rattle.field_bounds.specs.Owed.{Place, is_up, IsRestarted, Fits, IsRun};
 ghost use Rattle.field_bounds.specs.Central.{AreOf, chosen_by, decided_of, inf, sup, outcome, floor_in, ceiling_in, OutcomesAreBounded, IsCentral, IsSound, IsConservedThroughout};
 
@@ -52,11 +52,11 @@ pub fn restarts_settle()
         IsRestarted e last → open_txns (effects base kept (e ∷ o)) ≡ [] }
     ensures held { (schema : SchemaValue) (s : ℕ) (base : Base) (o : List Entry) (kept : Bool)
         (e : Entry) (last : Last) → IsRun schema s base o → IsRestarted e last →
-        (f : ℕ) (k : Kind) → held f k (effects base kept (e ∷ o)) ≡ 0 }
+        (f : ℕ) (k : Kind) → held_rights f k (effects base kept (e ∷ o)) ≡ 0 }
     ensures share { (schema : SchemaValue) (s : ℕ) (base : Base) (o : List Entry) (kept : Bool)
         (e : Entry) (last : Last) → IsRun schema s base o → IsRestarted e last →
         (f : ℕ) (k : Kind) → share base f k (effects base kept (e ∷ o))
-        ≡ own_rights base f k (effects base (says_kept last) o) }
+        ≡ own_rights base f k (effects base (says_doubt_kept last) o) }
 {}
 
 /// Every sound trace is a run of one central store. If each site gave the replies that it owes

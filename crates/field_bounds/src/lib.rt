@@ -9,7 +9,7 @@ mod field;
 mod gift_rows;
 mod header;
 mod id;
-mod issued;
+mod statements;
 mod kind;
 mod laws;
 mod limits;
@@ -17,7 +17,7 @@ mod macros;
 mod restart_rows;
 mod schema;
 mod tighten_rows;
-mod worked;
+mod site_rows;
 
 pub use effect::Effect;
 pub use entry::{Command, Entry, Escrow, Last, Refusal, Reply, Statement};
@@ -25,7 +25,7 @@ pub use fault::SchemaFault;
 pub use field::FieldSpec;
 pub use gift_rows::{worked_flight, worked_gifts, wrong_gifts};
 pub use id::{FieldNo, SiteNo, TxnId};
-pub use issued::statement_of;
+pub use statements::statement_of;
 pub use kind::Kind;
 pub use laws::{
     bounds_never_loosen, one_central_store, one_reply, outcomes_lie_between, restarts_settle,
@@ -35,7 +35,7 @@ pub use limits::{MAX_CHANGE, MAX_EPOCH, MAX_ESCROWS, MAX_HEADER, MAX_NUMBER, MAX
 pub use restart_rows::{worked_doubt, worked_restarts, wrong_restarts};
 pub use schema::Schema;
 pub use tighten_rows::{worked_bounds, worked_tightenings, wrong_tightenings, wrong_traces};
-pub use worked::{worked_runs, worked_sites, worked_values, wrong_replies, wrong_shares};
+pub use site_rows::{worked_runs, worked_sites, worked_values, wrong_replies, wrong_shares};
 
 #[cfg(test)]
 mod tests;

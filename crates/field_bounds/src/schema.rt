@@ -6,7 +6,7 @@ ghost use Rattle.std.specs.Prelude.{◌≡◌, [], ◌<◌, ◌≤◌, map, IsTr
 ghost use Rattle.field_bounds.specs.Schema.{Gives, same_schema, spec_value};
 ghost use Rattle.field_bounds.specs.Limits.{is_name_byte, is_name_length, is_name, is_used, has_bounds, field_fault, first_fault, unless, count_of, of_parts};
 ghost use Rattle.field_bounds.specs.Header.{schema_of};
-ghost use Rattle.field_bounds.specs.Kept.{entry_value, kept_values};
+ghost use Rattle.field_bounds.specs.Kept.{entry_value, stored_values};
 
 use crate::fault::SchemaFault;
 use crate::field::FieldSpec;
@@ -95,7 +95,7 @@ fn is_name(name: &str) -> bool
 }
 
 fn is_used(fields: &IndexMap<String, FieldBounds>, name: &str) -> bool
-    ensures { result ≡ is_used (kept_values fields.now.entries) name.now }
+    ensures { result ≡ is_used (stored_values fields.now.entries) name.now }
 {
     fields.contains_key(name)
 }
@@ -112,7 +112,7 @@ fn has_bounds(spec: &FieldSpec) -> bool
 
 #[tactic(auto, unfolding(crate::specs::Limits::field_fault))]
 fn check_field(fields: &IndexMap<String, FieldBounds>, spec: &FieldSpec) -> Result<(), SchemaFault>
-    ensures { result ≡ unless (field_fault (kept_values fields.now.entries) (spec_value spec.now)) tt }
+    ensures { result ≡ unless (field_fault (stored_values fields.now.entries) (spec_value spec.now)) tt }
 {
     if !is_name(spec.name.as_str()) {
         return Err(SchemaFault::Name);
@@ -130,7 +130,7 @@ fn keep_fields(
     alloc: Global,
     specs: Vec<FieldSpec>,
 ) -> Result<IndexMap<String, FieldBounds>, SchemaFault>
-    ensures { Gives (λ m. kept_values m.entries) result
+    ensures { Gives (λ m. stored_values m.entries) result
         (unless (first_fault [] (map spec_value specs.items)) (map spec_value specs.items)) }
 {
     let mut fields = IndexMap::new(alloc);

@@ -12,7 +12,7 @@ use Rattle.field_bounds.specs.Owed.{max_total}
 use Rattle.field_bounds.proofs.Lawful.{same_kind-true}
 use Rattle.gift_ledger.specs.declared.account.Account.{Account}
 use Rattle.gift_ledger.specs.declared.account.FieldAccounts.{FieldAccounts}
-use Rattle.gift_ledger.specs.Ledger.{account_of, with_account, no_accounts, account_in, put_in, LedgerValue, accounts_with, account_at, total_at, accepted_at, put_at, with_total, with_accepted, IsPlace, IsWithinTotal, fresh_ledger}
+use Rattle.gift_ledger.specs.Ledger.{account_of, with_account, no_accounts, account_in, put_in, LedgerValue, accounts_with, account_at, total_at, accepted_at, put_at, with_total, with_accepted, IsSlot, IsWithinTotal, fresh_ledger}
 
 -- what stands in a list after a write
 at-set : {X : Type 0} (xs : List X) (i j : ℕ) (x d : X) → i < length xs → get_or (set xs i x) j d ≡ cond (i == j) x (get_or xs j d)
@@ -41,7 +41,7 @@ in-put fields f g kind k account h =
     ]
 
 -- an account after one was replaced: that one is the new one, all others are as they were
-pub account_at-put_at : (ledger : LedgerValue) (s f r g : ℕ) (kind k : Kind) (account : Account) → IsPlace ledger s f
+pub account_at-put_at : (ledger : LedgerValue) (s f r g : ℕ) (kind k : Kind) (account : Account) → IsSlot ledger s f
     → account_at (put_at ledger s f kind account) r g k ≡ cond ((s == r) && (f == g) && same_kind kind k) account (account_at ledger r g k)
 account_at-put_at ledger s f r g kind k account place =
     ap (λ (fields : List FieldAccounts). account_in fields g k) (at-set ledger.rows s r (put_in (accounts_with ledger.rows s) f kind account) [] place.site_in)
@@ -55,7 +55,7 @@ account_at-put_at ledger s f r g kind k account place =
 pub sites-put_at : (ledger : LedgerValue) (s f : ℕ) (kind : Kind) (account : Account) → length (put_at ledger s f kind account).rows ≡ length ledger.rows
 sites-put_at ledger s f kind account = length-set ledger.rows s _
 
-pub fields-put_at : (ledger : LedgerValue) (s f r : ℕ) (kind : Kind) (account : Account) → IsPlace ledger s f
+pub fields-put_at : (ledger : LedgerValue) (s f r : ℕ) (kind : Kind) (account : Account) → IsSlot ledger s f
     → length (accounts_with (put_at ledger s f kind account).rows r) ≡ length (accounts_with ledger.rows r)
 fields-put_at ledger s f r kind account place =
     ap length (at-set ledger.rows s r (put_in (accounts_with ledger.rows s) f kind account) [] place.site_in)
@@ -66,7 +66,7 @@ fields-put_at ledger s f r kind account place =
     ]
 
 -- so a place stays one
-pub place_stays : (ledger : LedgerValue) (s f r g : ℕ) (kind : Kind) (account : Account) → IsPlace ledger s f → IsPlace ledger r g → IsPlace (put_at ledger s f kind account) r g
+pub place_stays : (ledger : LedgerValue) (s f r g : ℕ) (kind : Kind) (account : Account) → IsSlot ledger s f → IsSlot ledger r g → IsSlot (put_at ledger s f kind account) r g
 place_stays ledger s f r g kind account place there =
     record {
       other = there.other;
@@ -96,13 +96,13 @@ chosen_given true a c h g = h
 chosen_given false a c h g = g
 
 -- a total within the greatest leaves all within it
-pub within-put_at : (ledger : LedgerValue) (s f : ℕ) (kind : Kind) (account : Account) → IsPlace ledger s f → account.given ≤ max_total → IsWithinTotal ledger.rows → IsWithinTotal (put_at ledger s f kind account).rows
+pub within-put_at : (ledger : LedgerValue) (s f : ℕ) (kind : Kind) (account : Account) → IsSlot ledger s f → account.given ≤ max_total → IsWithinTotal ledger.rows → IsWithinTotal (put_at ledger s f kind account).rows
 within-put_at ledger s f kind account place small within r g k =
     subst (λ (x : Account). x.given ≤ max_total) (sym (account_at-put_at ledger s f r g kind k account place))
     (chosen_given ((s == r) && (f == g) && same_kind kind k) account (account_at ledger r g k) small (within r g k))
 
 -- what is read of an account after one was replaced
-read_at-put_at : (read : Account → ℕ) (ledger : LedgerValue) (s f r g : ℕ) (kind k : Kind) (account : Account) → IsPlace ledger s f
+read_at-put_at : (read : Account → ℕ) (ledger : LedgerValue) (s f r g : ℕ) (kind k : Kind) (account : Account) → IsSlot ledger s f
     → read (account_at (put_at ledger s f kind account) r g k) ≡ cond ((s == r) && (f == g) && same_kind kind k) (read account) (read (account_at ledger r g k))
 read_at-put_at read ledger s f r g kind k account place = ap read (account_at-put_at ledger s f r g kind k account place) ∙ chosen ((s == r) && (f == g) && same_kind kind k)
   where
@@ -110,12 +110,12 @@ read_at-put_at read ledger s f r g kind k account place = ap read (account_at-pu
     chosen true = refl
     chosen false = refl
 
-pub total_at-with_total : (ledger : LedgerValue) (s f r g : ℕ) (kind k : Kind) (n : ℕ) → IsPlace ledger s f
+pub total_at-with_total : (ledger : LedgerValue) (s f r g : ℕ) (kind k : Kind) (n : ℕ) → IsSlot ledger s f
     → total_at (with_total ledger s f kind n) r g k ≡ cond ((s == r) && (f == g) && same_kind kind k) n (total_at ledger r g k)
 total_at-with_total ledger s f r g kind k n place =
     read_at-put_at (λ x. x.given) ledger s f r g kind k (record { given = n; accepted = accepted_at ledger s f kind }) place
 
-pub accepted_at-with_accepted : (ledger : LedgerValue) (s f r g : ℕ) (kind k : Kind) (n : ℕ) → IsPlace ledger s f
+pub accepted_at-with_accepted : (ledger : LedgerValue) (s f r g : ℕ) (kind k : Kind) (n : ℕ) → IsSlot ledger s f
     → accepted_at (with_accepted ledger s f kind n) r g k ≡ cond ((s == r) && (f == g) && same_kind kind k) n (accepted_at ledger r g k)
 accepted_at-with_accepted ledger s f r g kind k n place =
     read_at-put_at (λ x. x.accepted) ledger s f r g kind k (record { given = total_at ledger s f kind; accepted = n }) place
@@ -127,7 +127,7 @@ same_place s r f g kind k h =
     let places = and_parts (s == r) (f == g) both.0 in
     (eqb-true s r places.0, eqb-true f g places.1, same_kind-true kind k both.1)
 
-stays-put_at : (read : Account → ℕ) (ledger : LedgerValue) (s f r g : ℕ) (kind k : Kind) (account : Account) → IsPlace ledger s f → read account ≡ read (account_at ledger s f kind)
+stays-put_at : (read : Account → ℕ) (ledger : LedgerValue) (s f r g : ℕ) (kind k : Kind) (account : Account) → IsSlot ledger s f → read account ≡ read (account_at ledger s f kind)
     → read (account_at (put_at ledger s f kind account) r g k) ≡ read (account_at ledger r g k)
 stays-put_at read ledger s f r g kind k account place same =
     read_at-put_at read ledger s f r g kind k account place
@@ -136,12 +136,12 @@ stays-put_at read ledger s f r g kind k account place same =
       | inr there ↦ rw there refl
     ]
 
-pub accepted_at-with_total : (ledger : LedgerValue) (s f r g : ℕ) (kind k : Kind) (n : ℕ) → IsPlace ledger s f
+pub accepted_at-with_total : (ledger : LedgerValue) (s f r g : ℕ) (kind k : Kind) (n : ℕ) → IsSlot ledger s f
     → accepted_at (with_total ledger s f kind n) r g k ≡ accepted_at ledger r g k
 accepted_at-with_total ledger s f r g kind k n place =
     stays-put_at (λ x. x.accepted) ledger s f r g kind k (record { given = n; accepted = accepted_at ledger s f kind }) place refl
 
-pub total_at-with_accepted : (ledger : LedgerValue) (s f r g : ℕ) (kind k : Kind) (n : ℕ) → IsPlace ledger s f
+pub total_at-with_accepted : (ledger : LedgerValue) (s f r g : ℕ) (kind k : Kind) (n : ℕ) → IsSlot ledger s f
     → total_at (with_accepted ledger s f kind n) r g k ≡ total_at ledger r g k
 total_at-with_accepted ledger s f r g kind k n place =
     stays-put_at (λ x. x.given) ledger s f r g kind k (record { given = total_at ledger s f kind; accepted = n }) place refl
@@ -149,7 +149,7 @@ total_at-with_accepted ledger s f r g kind k n place =
 -- ---- a fresh ledger
 
 -- every other site and every field of the schema has a place
-pub fresh_place : (schema : SchemaValue) (site s f : ℕ) → s ≢ site → s < schema.sites → f < length schema.fields → IsPlace (fresh_ledger schema site) s f
+pub fresh_place : (schema : SchemaValue) (site s f : ℕ) → s ≢ site → s < schema.sites → f < length schema.fields → IsSlot (fresh_ledger schema site) s f
 fresh_place schema site s f other site_in field_in =
     let row = get_or-replicate schema.sites s (replicate (length schema.fields) no_accounts) [] site_in in
     record {

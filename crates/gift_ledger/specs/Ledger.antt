@@ -67,7 +67,7 @@ abbrev pub with_accepted : LedgerValue → ℕ → ℕ → Kind → ℕ → Ledg
 with_accepted ledger from f k n = put_at ledger from f k (record { given = total_at ledger from f k; accepted = n })
 
 -- Another site and a field, both of the schema that the ledger was made for.
-pub record IsPlace (ledger : LedgerValue) (s f : ℕ) : Type 0 where
+pub record IsSlot (ledger : LedgerValue) (s f : ℕ) : Type 0 where
   pub other : s ≢ ledger.site
   pub site_in : s < length ledger.rows
   pub field_in : f < length (accounts_with ledger.rows s)

@@ -2,7 +2,7 @@
 
 ghost use Rattle.std.specs.Prelude.{◌≡◌, ◌≢◌, ◌+◌, ◌-◌, ◌<◌, ◌≤◌, ◌↔◌, max, ◌==◌, if◌then◌else◌, Some, None, IsErr, IfOk, IfErr, OnOk, OnErr};
 ghost use Rattle.field_bounds.specs.Owed.{max_total};
-ghost use Rattle.gift_ledger.specs.Ledger.{IsPlace, fresh_ledger, account_at, total_at, accepted_at, put_at, with_total, with_accepted};
+ghost use Rattle.gift_ledger.specs.Ledger.{IsSlot, fresh_ledger, account_at, total_at, accepted_at, put_at, with_total, with_accepted};
 
 use crate::account::{Account, LedgerFull};
 use crate::accounts::Accounts;
@@ -57,7 +57,7 @@ impl Ledger {
     /// The total given so far to another site, of a kind on a field, at most
     /// 1,000,000,000,000,000,000.
     pub fn total(&self, to: SiteNo, field: FieldNo, kind: Kind) -> u64
-        requires place { IsPlace self.now to.0 field.0 }
+        requires place { IsSlot self.now to.0 field.0 }
         ensures value { result ≡ total_at self.now to.0 field.0 kind }
         ensures most { result ≤ max_total }
     {
@@ -66,7 +66,7 @@ impl Ledger {
 
     /// The greatest total accepted so far from another site, of a kind on a field; 0 where none was.
     pub fn accepted(&self, from: SiteNo, field: FieldNo, kind: Kind) -> u64
-        requires place { IsPlace self.now from.0 field.0 }
+        requires place { IsSlot self.now from.0 field.0 }
         ensures value { result ≡ accepted_at self.now from.0 field.0 kind }
     {
         self.account(from, field, kind).accepted
@@ -82,7 +82,7 @@ impl Ledger {
         kind: Kind,
         amount: u64,
     ) -> Result<u64, LedgerFull>
-        requires place { IsPlace self.old to.0 field.0 }
+        requires place { IsSlot self.old to.0 field.0 }
         ensures full { IsErr result ↔ (max_total < total_at self.old to.0 field.0 kind + amount) }
         ensures total { IfOk result (λ total. total ≡ total_at self.old to.0 field.0 kind + amount) }
         ensures ok { OnOk result (self.new ≡ with_total self.old to.0 field.0 kind (total_at self.old to.0 field.0 kind + amount)) }
@@ -103,7 +103,7 @@ impl Ledger {
     /// The total given so far to another site, for a statement that tells it again: None exactly
     /// where it is 0, since there is nothing to tell.
     pub fn restate(&self, to: SiteNo, field: FieldNo, kind: Kind) -> Option<u64>
-        requires place { IsPlace self.now to.0 field.0 }
+        requires place { IsSlot self.now to.0 field.0 }
         ensures value { let total = total_at self.now to.0 field.0 kind in
             result ≡ (if total == 0 then None else Some total) }
     {
@@ -115,7 +115,7 @@ impl Ledger {
     /// the greatest one accepted from it before, 0 where it has nothing above that. The greatest of
     /// both is kept.
     pub fn accept(&mut self, from: SiteNo, field: FieldNo, kind: Kind, total: u64) -> u64
-        requires place { IsPlace self.old from.0 field.0 }
+        requires place { IsSlot self.old from.0 field.0 }
         ensures gain { result ≡ total - accepted_at self.old from.0 field.0 kind }
         ensures accepted { self.new ≡ with_accepted self.old from.0 field.0 kind (max total (accepted_at self.old from.0 field.0 kind)) }
     {
@@ -129,7 +129,7 @@ impl Ledger {
     /// Sets the total given so far to another site, whatever it was: at most
     /// 1,000,000,000,000,000,000 rights. Nothing else changes.
     pub fn set_total(&mut self, to: SiteNo, field: FieldNo, kind: Kind, total: u64)
-        requires place { IsPlace self.old to.0 field.0 }
+        requires place { IsSlot self.old to.0 field.0 }
         requires small { total ≤ max_total }
         ensures set { self.new ≡ with_total self.old to.0 field.0 kind total }
     {
@@ -144,7 +144,7 @@ impl Ledger {
     /// Sets the greatest total accepted so far from another site, whatever it was. Nothing else
     /// changes.
     pub fn set_accepted(&mut self, from: SiteNo, field: FieldNo, kind: Kind, total: u64)
-        requires place { IsPlace self.old from.0 field.0 }
+        requires place { IsSlot self.old from.0 field.0 }
         ensures set { self.new ≡ with_accepted self.old from.0 field.0 kind total }
     {
         let account = self.account(from, field, kind);
@@ -156,7 +156,7 @@ impl Ledger {
     }
 
     fn account(&self, site: SiteNo, field: FieldNo, kind: Kind) -> Account
-        requires place { IsPlace self.now site.0 field.0 }
+        requires place { IsSlot self.now site.0 field.0 }
         ensures value { result ≡ account_at self.now site.0 field.0 kind }
         ensures most { result.given ≤ max_total }
     {
@@ -164,7 +164,7 @@ impl Ledger {
     }
 
     fn put(&mut self, site: SiteNo, field: FieldNo, kind: Kind, account: Account)
-        requires place { IsPlace self.old site.0 field.0 }
+        requires place { IsSlot self.old site.0 field.0 }
         requires within { account.given ≤ max_total }
         ensures put { self.new ≡ put_at self.old site.0 field.0 kind account }
     {

@@ -1,6 +1,6 @@
 //! A worked example of a ledger. Every expected value is worked out by hand.
 
-ghost use Rattle.gift_ledger.specs.Ledger.{IsPlace};
+ghost use Rattle.gift_ledger.specs.Ledger.{IsSlot};
 
 use super::*;
 use field_bounds::{FieldNo, FieldSpec, Kind, Schema, SiteNo};
@@ -13,8 +13,8 @@ const OTHER: SiteNo = SiteNo(1);
 /// Gives 3 and then 2 to the other site, and tells it again.
 #[tactic(auto, using(crate::proofs::LedgerLaws::place_stays))]
 fn given_five(ledger: &mut Ledger) -> Option<u64>
-    requires place { IsPlace ledger.old 1 0 }
-    ensures place { IsPlace ledger.new 1 0 }
+    requires place { IsSlot ledger.old 1 0 }
+    ensures place { IsSlot ledger.new 1 0 }
 {
     ledger.give(OTHER, STOCK, Kind::Lower, 3).ok()?;
     ledger.give(OTHER, STOCK, Kind::Lower, 2).ok()?;
@@ -24,8 +24,8 @@ fn given_five(ledger: &mut Ledger) -> Option<u64>
 /// The gains from the totals 5, 3 and 7 of the other site.
 #[tactic(auto, using(crate::proofs::LedgerLaws::place_stays))]
 fn gains(ledger: &mut Ledger) -> (u64, u64, u64)
-    requires place { IsPlace ledger.old 1 0 }
-    ensures place { IsPlace ledger.new 1 0 }
+    requires place { IsSlot ledger.old 1 0 }
+    ensures place { IsSlot ledger.new 1 0 }
 {
     let first = ledger.accept(OTHER, STOCK, Kind::Raise, 5);
     let late = ledger.accept(OTHER, STOCK, Kind::Raise, 3);
@@ -36,7 +36,7 @@ fn gains(ledger: &mut Ledger) -> (u64, u64, u64)
 /// What is answered after 500 gifts that reach the greatest total, to one right more.
 #[tactic(auto, using(crate::proofs::LedgerLaws::place_stays))]
 fn overfull(ledger: &mut Ledger) -> Option<LedgerFull>
-    requires place { IsPlace ledger.old 1 0 }
+    requires place { IsSlot ledger.old 1 0 }
 {
     for _ in 0..500 {
         ledger

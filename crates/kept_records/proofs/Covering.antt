@@ -25,7 +25,7 @@ use Rattle.field_bounds.proofs.Sums.{sum_below-same, sum_below-zero, sum_below_b
 use Rattle.kept_records.specs.declared.record.Record.{Record}
 use Rattle.kept_records.specs.declared.record.Record.TheVariants.{Commit, Gift, Accept, Tighten, Restart, Summary}
 use Rattle.kept_records.specs.Summary.{SummaryValue}
-use Rattle.kept_records.specs.Stands.{greatest, given_in, accepted_in, cut_in, gained_in, spent_in, own_in, guarded_in, is_field, may_commit, room_in, may_stand, LawfulBehind, Lawful}
+use Rattle.kept_records.specs.Stands.{greatest, given_in, accepted_in, cut_in, gained_in, spent_in, own_in, guarded_in, is_field, may_commit, room_in, may_follow, LawfulBehind, Lawful}
 use Rattle.kept_records.proofs.Pushes.{given_none, accepted_none, cut_none, committed_none, given_push, accepted_push, cut_push, committed_push, lawful_push}
 
 -- ---- what a true test says
@@ -206,19 +206,19 @@ module _ (schema : SchemaValue) (s : ℕ) (rs : List Record) where
 
   -- ---- what gifts, acceptances and tightenings may be
 
-  pub gift_parts : (to : SiteNo) (field : FieldNo) (kind : Kind) (total : ℕ) → may_stand schema s rs (Gift to field kind total) ≡ true
+  pub gift_parts : (to : SiteNo) (field : FieldNo) (kind : Kind) (total : ℕ) → may_follow schema s rs (Gift to field kind total) ≡ true
       → (to.0 < schema.sites) × (given_in rs to.0 field.0 kind < total) × (total - given_in rs to.0 field.0 kind ≤ own_in schema s rs field.0 kind)
   gift_parts to field kind total may =
       let parts = five_parts (nat_lt to.0 schema.sites) (not (eqb to.0 s)) (is_field schema field.0) _ _ may in
       (ltb-true _ _ parts.0, ltb-true _ _ parts.3, leb-true _ _ parts.4)
 
-  pub accept_parts : (from : SiteNo) (field : FieldNo) (kind : Kind) (total : ℕ) → may_stand schema s rs (Accept from field kind total) ≡ true
+  pub accept_parts : (from : SiteNo) (field : FieldNo) (kind : Kind) (total : ℕ) → may_follow schema s rs (Accept from field kind total) ≡ true
       → (from.0 < schema.sites) × (accepted_in rs from.0 field.0 kind < total) × (total - accepted_in rs from.0 field.0 kind ≤ room_in schema s rs field.0)
   accept_parts from field kind total may =
       let parts = five_parts (nat_lt from.0 schema.sites) (not (eqb from.0 s)) (is_field schema field.0) _ _ may in
       (ltb-true _ _ parts.0, ltb-true _ _ parts.3, leb-true _ _ parts.4)
 
-  pub tighten_parts : (field : FieldNo) (kind : Kind) (total : ℕ) → may_stand schema s rs (Tighten field kind total) ≡ true
+  pub tighten_parts : (field : FieldNo) (kind : Kind) (total : ℕ) → may_follow schema s rs (Tighten field kind total) ≡ true
       → (cut_in rs field.0 kind < total) × (total - cut_in rs field.0 kind ≤ own_in schema s rs field.0 kind)
   tighten_parts field kind total may =
       let parts = three_parts (is_field schema field.0) _ _ may in
@@ -234,7 +234,7 @@ spent_within true amount own out in_ h is before_ = omega (arith, h refl, is ref
 spent_within false amount own out in_ h is before_ = omega (arith, before_)
 
 module _ (schema : SchemaValue) (s : ℕ) (rs : List Record) (before : IsCovered schema s rs) where
-  covered_push : (r : Record) → may_stand schema s rs r ≡ true → IsCovered schema s (rs ++ r ∷ [])
+  covered_push : (r : Record) → may_follow schema s rs r ≡ true → IsCovered schema s (rs ++ r ∷ [])
   covered_push (Commit txn es) may f k =
       omega (
         arith,
@@ -295,36 +295,36 @@ module _ (schema : SchemaValue) (s : ℕ) (rs : List Record) (lawful : Lawful sc
   pub own_whole : (f : ℕ) (k : Kind) → own_in schema s rs f k + spent_in schema rs f k ≡ gained_in schema s rs f k
   own_whole f k = omega (arith, own_here schema s rs f k, lawful_covered schema s rs lawful f k)
 
-  pushed : (r : Record) → may_stand schema s rs r ≡ true → (f : ℕ) (k : Kind) → own_in schema s (rs ++ r ∷ []) f k + spent_in schema (rs ++ r ∷ []) f k ≡ gained_in schema s (rs ++ r ∷ []) f k
+  pushed : (r : Record) → may_follow schema s rs r ≡ true → (f : ℕ) (k : Kind) → own_in schema s (rs ++ r ∷ []) f k + spent_in schema (rs ++ r ∷ []) f k ≡ gained_in schema s (rs ++ r ∷ []) f k
   pushed r may f k = omega (arith, own_here schema s (rs ++ r ∷ []) f k, covered_push schema s rs (lawful_covered schema s rs lawful) r may f k)
 
   -- a commit takes what it spends and adds what it spends of the other kind
-  pub own_commit : (txn : TxnId) (es : List Escrow) → may_stand schema s rs (Commit txn es) ≡ true → (f : ℕ) (k : Kind)
+  pub own_commit : (txn : TxnId) (es : List Escrow) → may_follow schema s rs (Commit txn es) ≡ true → (f : ℕ) (k : Kind)
       → own_in schema s (rs ++ Commit txn es ∷ []) f k + sum_by (takes f k) es ≡ own_in schema s rs f k + sum_by (takes f (other k)) es
   own_commit txn es may f k = omega (arith, own_whole f k, pushed (Commit txn es) may f k, spent_commit schema s rs txn es f k, gained_commit schema s rs txn es f k)
 
   -- a gift takes what its total has above the one before, of its kind on its field
-  pub own_gift : (to : SiteNo) (field : FieldNo) (kind : Kind) (total : ℕ) → may_stand schema s rs (Gift to field kind total) ≡ true → (f : ℕ) (k : Kind)
+  pub own_gift : (to : SiteNo) (field : FieldNo) (kind : Kind) (total : ℕ) → may_follow schema s rs (Gift to field kind total) ≡ true → (f : ℕ) (k : Kind)
       → own_in schema s (rs ++ Gift to field kind total ∷ []) f k + cond ((field.0 == f) && same_kind kind k) (total - given_in rs to.0 field.0 kind) 0 ≡ own_in schema s rs f k
   own_gift to field kind total may f k =
       let parts = gift_parts schema s rs to field kind total may in
       omega (arith, own_whole f k, pushed (Gift to field kind total) may f k, spent_gift schema s rs to field kind total f k parts.0 parts.1, gained_gift schema s rs to field kind total f k)
 
   -- an acceptance adds it
-  pub own_accept : (from : SiteNo) (field : FieldNo) (kind : Kind) (total : ℕ) → may_stand schema s rs (Accept from field kind total) ≡ true → (f : ℕ) (k : Kind)
+  pub own_accept : (from : SiteNo) (field : FieldNo) (kind : Kind) (total : ℕ) → may_follow schema s rs (Accept from field kind total) ≡ true → (f : ℕ) (k : Kind)
       → own_in schema s (rs ++ Accept from field kind total ∷ []) f k ≡ own_in schema s rs f k + cond ((field.0 == f) && same_kind kind k) (total - accepted_in rs from.0 field.0 kind) 0
   own_accept from field kind total may f k =
       let parts = accept_parts schema s rs from field kind total may in
       omega (arith, own_whole f k, pushed (Accept from field kind total) may f k, spent_accept schema s rs from field kind total f k, gained_accept schema s rs from field kind total f k parts.0 parts.1)
 
   -- a tightening takes what its total has above the one before, and adds it to what was given up
-  pub own_tighten : (field : FieldNo) (kind : Kind) (total : ℕ) → may_stand schema s rs (Tighten field kind total) ≡ true → (f : ℕ) (k : Kind)
+  pub own_tighten : (field : FieldNo) (kind : Kind) (total : ℕ) → may_follow schema s rs (Tighten field kind total) ≡ true → (f : ℕ) (k : Kind)
       → own_in schema s (rs ++ Tighten field kind total ∷ []) f k + cond ((field.0 == f) && same_kind kind k) (total - cut_in rs field.0 kind) 0 ≡ own_in schema s rs f k
   own_tighten field kind total may f k =
       let parts = tighten_parts schema s rs field kind total may in
       omega (arith, own_whole f k, pushed (Tighten field kind total) may f k, spent_tighten schema s rs field kind total f k parts.0, gained_tighten schema s rs field kind total f k)
 
-  pub cut_tighten : (field : FieldNo) (kind : Kind) (total : ℕ) → may_stand schema s rs (Tighten field kind total) ≡ true → (f : ℕ) (k : Kind)
+  pub cut_tighten : (field : FieldNo) (kind : Kind) (total : ℕ) → may_follow schema s rs (Tighten field kind total) ≡ true → (f : ℕ) (k : Kind)
       → cut_in (rs ++ Tighten field kind total ∷ []) f k ≡ cut_in rs f k + cond ((field.0 == f) && same_kind kind k) (total - cut_in rs field.0 kind) 0
   cut_tighten field kind total may f k =
       let parts = tighten_parts schema s rs field kind total may in
@@ -337,11 +337,11 @@ module _ (schema : SchemaValue) (s : ℕ) (rs : List Record) (lawful : Lawful sc
       )
 
   -- a restart changes none
-  pub own_restart : (epoch : ℕ) → may_stand schema s rs (Restart epoch) ≡ true → (f : ℕ) (k : Kind) → own_in schema s (rs ++ Restart epoch ∷ []) f k ≡ own_in schema s rs f k
+  pub own_restart : (epoch : ℕ) → may_follow schema s rs (Restart epoch) ≡ true → (f : ℕ) (k : Kind) → own_in schema s (rs ++ Restart epoch ∷ []) f k ≡ own_in schema s rs f k
   own_restart epoch may f k = omega (arith, own_whole f k, pushed (Restart epoch) may f k, spent_restart schema s rs epoch f k, gained_restart schema s rs epoch f k)
 
   -- and a summary changes none
-  pub own_summary : (v : SummaryValue) → may_stand schema s rs (Summary v) ≡ true → (f : ℕ) (k : Kind) → own_in schema s (rs ++ Summary v ∷ []) f k ≡ own_in schema s rs f k
+  pub own_summary : (v : SummaryValue) → may_follow schema s rs (Summary v) ≡ true → (f : ℕ) (k : Kind) → own_in schema s (rs ++ Summary v ∷ []) f k ≡ own_in schema s rs f k
   own_summary v may f k = omega (arith, own_whole f k, pushed (Summary v) may f k, spent_summary schema s rs v f k, gained_summary schema s rs v f k)
 
 -- ---- what is guarded of both kinds is within the width
@@ -372,7 +372,7 @@ gain_within true Lower gain l r l' r' cut_l cut_r width a b le room = omega (ari
 gain_within true Raise gain l r l' r' cut_l cut_r width a b le room = omega (arith, a, b, le, room refl)
 gain_within false kind gain l r l' r' cut_l cut_r width a b le room = omega (arith, a, b, le)
 
-within_push : (schema : SchemaValue) (s : ℕ) (rs : List Record) → Lawful schema s rs → IsWithin schema s rs → (r : Record) → may_stand schema s rs r ≡ true → IsWithin schema s (rs ++ r ∷ [])
+within_push : (schema : SchemaValue) (s : ℕ) (rs : List Record) → Lawful schema s rs → IsWithin schema s rs → (r : Record) → may_follow schema s rs r ≡ true → IsWithin schema s (rs ++ r ∷ [])
 within_push schema s rs lawful before (Commit txn es) may f =
     let r : Record = Commit txn es in
     omega (arith, before f, own_commit schema s rs lawful txn es may f Lower, own_commit schema s rs lawful txn es may f Raise, cut_push f Lower rs r, cut_push f Raise rs r)
@@ -431,7 +431,7 @@ cut_few schema good s below rs lawful f Raise = omega (arith, own_within schema 
 
 -- so the total of a tightening that may stand is within the range of its record
 pub tighten_few : (schema : SchemaValue) → IsSchema schema → (s : ℕ) → s < schema.sites → (rs : List Record) → Lawful schema s rs → (field : FieldNo) (kind : Kind) (total : ℕ)
-    → may_stand schema s rs (Tighten field kind total) ≡ true → total ≤ max_change
+    → may_follow schema s rs (Tighten field kind total) ≡ true → total ≤ max_change
 tighten_few schema good s below rs lawful field kind total may =
     let r : Record = Tighten field kind total in
     let on : (eqb field.0 field.0 && same_kind kind kind) ≡ true = rw (eq-eqb field.0 field.0 refl, same_kind-refl kind) refl in

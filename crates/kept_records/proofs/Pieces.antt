@@ -10,7 +10,7 @@ use Rattle.kept_records.specs.Summary.{SummaryValue}
 use Rattle.kept_records.specs.Text.{text, IsRecord}
 use Rattle.kept_records.specs.Logs.{IsLog}
 use Rattle.kept_records.specs.Keeping.{with_due}
-use Rattle.kept_records.specs.Summaries.{LeavesFront}
+use Rattle.kept_records.specs.Summaries.{LeavesPrefix}
 use Rattle.kept_records.proofs.Appending.{kept_torn, added}
 
 -- more than a first part
@@ -20,7 +20,7 @@ take_past xs ys k le =
     ap (λ (n : ℕ). take n (xs ++ ys)) whole ∙ take-append-add xs ys (k - length xs)
 
 torn_first : (bytes : List ℕ) (rs : List Record) (r : Record) (ps : List Record) (k : ℕ) → IsLog bytes rs [] → IsRecord r → k < length (text r)
-    → LeavesFront bytes rs (r ∷ ps) k (bytes ++ take k (flat_map text (r ∷ ps)))
+    → LeavesPrefix bytes rs (r ∷ ps) k (bytes ++ take k (flat_map text (r ∷ ps)))
 torn_first bytes rs r ps k log fits few =
     let cut : take k (flat_map text (r ∷ ps)) ≡ take k (text r) = take-append-le k (text r) (flat_map text ps) (omega arith) in
     let left = kept_torn bytes rs r k log fits few in
@@ -38,8 +38,8 @@ torn_first bytes rs r ps k log fits few =
     }
 
 whole_first : (bytes : List ℕ) (rs : List Record) (r : Record) (ps : List Record) (k : ℕ) → length (text r) ≤ k
-    → LeavesFront (bytes ++ text r) (rs ++ r ∷ []) ps (k - length (text r)) ((bytes ++ text r) ++ take (k - length (text r)) (flat_map text ps))
-    → LeavesFront bytes rs (r ∷ ps) k (bytes ++ take k (flat_map text (r ∷ ps)))
+    → LeavesPrefix (bytes ++ text r) (rs ++ r ∷ []) ps (k - length (text r)) ((bytes ++ text r) ++ take (k - length (text r)) (flat_map text ps))
+    → LeavesPrefix bytes rs (r ∷ ps) k (bytes ++ take k (flat_map text (r ∷ ps)))
 whole_first bytes rs r ps k all more =
     let m = k - length (text r) in
     let cut : bytes ++ take k (flat_map text (r ∷ ps)) ≡ (bytes ++ text r) ++ take m (flat_map text ps) =
@@ -57,7 +57,7 @@ whole_first bytes rs r ps k all more =
       whole = λ r' rs' is more'. let same : r ≡ r' = cc in (more.front, ap (λ (x : Record). x ∷ more.front) same);
     }
 
-pub leaves_front : (bytes : List ℕ) (rs ps : List Record) (k : ℕ) → IsLog bytes rs [] → AllByRecursion IsRecord ps → LeavesFront bytes rs ps k (bytes ++ take k (flat_map text ps))
+pub leaves_front : (bytes : List ℕ) (rs ps : List Record) (k : ℕ) → IsLog bytes rs [] → AllByRecursion IsRecord ps → LeavesPrefix bytes rs ps k (bytes ++ take k (flat_map text ps))
 leaves_front bytes rs [] k log fits =
     let none : take k (flat_map text []) ≡ [] = nothing k in
     record {

@@ -5,7 +5,7 @@ use Rattle.std.proofs.lemmas.List.Sums.{fold_push, sum_by_push}
 use Rattle.field_bounds.specs.declared.kind.Kind.{Kind}
 use Rattle.field_bounds.specs.Schema.{SchemaValue}
 use Rattle.kept_records.specs.declared.record.Record.{Record}
-use Rattle.kept_records.specs.Stands.{later, greatest, given_more, given_in, accepted_more, accepted_in, cut_more, cut_in, commits, committed_in, may_stand, LawfulBehind, Lawful}
+use Rattle.kept_records.specs.Stands.{later, greatest, given_more, given_in, accepted_more, accepted_in, cut_more, cut_in, commits, committed_in, may_follow, LawfulBehind, Lawful}
 
 -- ---- no records
 
@@ -52,22 +52,22 @@ unfolding committed_in
 committed_push f k rs r = sum_by_push (commits f k) rs r
 
 -- one lawful record more leaves the records lawful
-behind_push : (schema : SchemaValue) (s : ℕ) (front rs : List Record) (r : Record) → LawfulBehind schema s front rs → may_stand schema s (front ++ rs) r ≡ true → LawfulBehind schema s front (rs ++ r ∷ [])
-behind_push schema s front [] r lawful may = (subst (λ (all : List Record). may_stand schema s all r ≡ true) (append-nil front) may, tt)
+behind_push : (schema : SchemaValue) (s : ℕ) (front rs : List Record) (r : Record) → LawfulBehind schema s front rs → may_follow schema s (front ++ rs) r ≡ true → LawfulBehind schema s front (rs ++ r ∷ [])
+behind_push schema s front [] r lawful may = (subst (λ (all : List Record). may_follow schema s all r ≡ true) (append-nil front) may, tt)
 behind_push schema s front (x ∷ rs) r lawful may =
-    (lawful.0, behind_push schema s (front ++ x ∷ []) rs r lawful.1 (subst (λ (all : List Record). may_stand schema s all r ≡ true) (sym (append_assoc front (x ∷ []) rs)) may))
+    (lawful.0, behind_push schema s (front ++ x ∷ []) rs r lawful.1 (subst (λ (all : List Record). may_follow schema s all r ≡ true) (sym (append_assoc front (x ∷ []) rs)) may))
 
-pub lawful_push : (schema : SchemaValue) (s : ℕ) (rs : List Record) (r : Record) → Lawful schema s rs → may_stand schema s rs r ≡ true → Lawful schema s (rs ++ r ∷ [])
+pub lawful_push : (schema : SchemaValue) (s : ℕ) (rs : List Record) (r : Record) → Lawful schema s rs → may_follow schema s rs r ≡ true → Lawful schema s (rs ++ r ∷ [])
 lawful_push schema s rs r lawful may = behind_push schema s [] rs r lawful may
 
 -- ---- one record of lawful ones
 
-behind_split : (schema : SchemaValue) (s : ℕ) (front as1 : List Record) (r : Record) (bs : List Record) → LawfulBehind schema s front (as1 ++ r ∷ bs) → LawfulBehind schema s front as1 × (may_stand schema s (front ++ as1) r ≡ true)
-behind_split schema s front [] r bs lawful = (tt, subst (λ (all : List Record). may_stand schema s all r ≡ true) (sym (append-nil front)) lawful.0)
+behind_split : (schema : SchemaValue) (s : ℕ) (front as1 : List Record) (r : Record) (bs : List Record) → LawfulBehind schema s front (as1 ++ r ∷ bs) → LawfulBehind schema s front as1 × (may_follow schema s (front ++ as1) r ≡ true)
+behind_split schema s front [] r bs lawful = (tt, subst (λ (all : List Record). may_follow schema s all r ≡ true) (sym (append-nil front)) lawful.0)
 behind_split schema s front (x ∷ as1) r bs lawful =
     let rest = behind_split schema s (front ++ x ∷ []) as1 r bs lawful.1 in
-    ((lawful.0, rest.0), subst (λ (all : List Record). may_stand schema s all r ≡ true) (append_assoc front (x ∷ []) as1) rest.1)
+    ((lawful.0, rest.0), subst (λ (all : List Record). may_follow schema s all r ≡ true) (append_assoc front (x ∷ []) as1) rest.1)
 
 -- those before it are lawful, and it may stand behind them
-pub lawful_at : (schema : SchemaValue) (s : ℕ) (as1 : List Record) (r : Record) (bs : List Record) → Lawful schema s (as1 ++ r ∷ bs) → Lawful schema s as1 × (may_stand schema s as1 r ≡ true)
+pub lawful_at : (schema : SchemaValue) (s : ℕ) (as1 : List Record) (r : Record) (bs : List Record) → Lawful schema s (as1 ++ r ∷ bs) → Lawful schema s as1 × (may_follow schema s as1 r ≡ true)
 lawful_at schema s as1 r bs lawful = behind_split schema s [] as1 r bs lawful

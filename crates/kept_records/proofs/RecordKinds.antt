@@ -10,7 +10,7 @@ use Rattle.field_bounds.specs.declared.id.TxnId.{TxnId}
 use Rattle.field_bounds.specs.declared.entry.Escrow.{Escrow}
 use Rattle.field_bounds.specs.Limits.{max_fields}
 use Rattle.field_bounds.specs.Owed.{max_change, max_total, max_escrows, max_number, max_epoch}
-use Rattle.line_words.specs.Reading.{◌>>=◌, word_at, ended}
+use Rattle.line_words.specs.Reading.{◌>>=◌, word_at, only_value}
 use Rattle.line_words.proofs.Numbers.{bind_some}
 use Rattle.line_words.proofs.WordLemmas.{IsWord}
 use Rattle.line_words.proofs.Forms.{taking, word_again}
@@ -35,7 +35,7 @@ cond_else : {A : Type 0} (b : Bool) (x y : Option A) (z : A) → b ≡ false →
 cond_else true x y z is e = cc
 cond_else false x y z is e = e
 
-ended_is : {A : Type 0} (x : A) (ws : List (List ℕ)) (y : A) → ended (x, ws) ≡ Some y → (ws ≡ []) × (x ≡ y)
+ended_is : {A : Type 0} (x : A) (ws : List (List ℕ)) (y : A) → only_value (x, ws) ≡ Some y → (ws ≡ []) × (x ≡ y)
 ended_is x [] y e = (refl, same_Some x y e)
 ended_is x (w ∷ ws) y e = absurd cc
 
@@ -57,10 +57,10 @@ Fits t = (t.site.0 ≤ max_place) × (t.field.0 ≤ max_place) × IsTotal t.tota
 total_takes : (ws : List (List ℕ)) (t : Total) → total_from ws ≡ Some t → (words_in t ≡ ws) × Fits t
 unfolding total_from
 total_takes ws t e =
-    taking (number_law 0 max_place (omega arith)) (λ other. word_at (number_within 0 max_place) other.1 >>= λ field. word_at kind_of field.1 >>= λ kind. word_at (number_within 1 max_total) kind.1 >>= λ total. ended (made other.0 field.0 kind.0 total.0, total.1)) ws t e (λ other as1 a-fits a-is a-on.
-    taking (number_law 0 max_place (omega arith)) (λ field. word_at kind_of field.1 >>= λ kind. word_at (number_within 1 max_total) kind.1 >>= λ total. ended (made other field.0 kind.0 total.0, total.1)) as1 t a-on (λ field bs b-fits b-is b-on.
-    taking kind_law (λ kind. word_at (number_within 1 max_total) kind.1 >>= λ total. ended (made other field kind.0 total.0, total.1)) bs t b-on (λ kind cs c-fits c-is c-on.
-    taking (number_law 1 max_total (omega arith)) (λ total. ended (made other field kind total.0, total.1)) cs t c-on (λ total ds d-fits d-is d-on.
+    taking (number_law 0 max_place (omega arith)) (λ other. word_at (number_within 0 max_place) other.1 >>= λ field. word_at kind_of field.1 >>= λ kind. word_at (number_within 1 max_total) kind.1 >>= λ total. only_value (made other.0 field.0 kind.0 total.0, total.1)) ws t e (λ other as1 a-fits a-is a-on.
+    taking (number_law 0 max_place (omega arith)) (λ field. word_at kind_of field.1 >>= λ kind. word_at (number_within 1 max_total) kind.1 >>= λ total. only_value (made other field.0 kind.0 total.0, total.1)) as1 t a-on (λ field bs b-fits b-is b-on.
+    taking kind_law (λ kind. word_at (number_within 1 max_total) kind.1 >>= λ total. only_value (made other field kind.0 total.0, total.1)) bs t b-on (λ kind cs c-fits c-is c-on.
+    taking (number_law 1 max_total (omega arith)) (λ total. only_value (made other field kind total.0, total.1)) cs t c-on (λ total ds d-fits d-is d-on.
     let end = ended_is (made other field kind total) ds t d-on in
     let is : ws ≡ words_in (made other field kind total) = a-is ∙ ap (λ (l : List (List ℕ)). decimal other ∷ l) (b-is ∙ ap (λ (l : List (List ℕ)). decimal field ∷ l) (c-is ∙ ap (λ (l : List (List ℕ)). kind_word kind ∷ l) (d-is ∙ ap (λ (l : List (List ℕ)). decimal total ∷ l) end.0))) in
     subst (λ (x : Total). (words_in x ≡ ws) × Fits x) end.1 (sym is, (a-fits.1, b-fits.1, (omega (arith, d-fits.0), d-fits.1)))))))
@@ -110,9 +110,9 @@ words_of_cut t = cut_words t.field t.kind t.total
 cut_takes : (ws : List (List ℕ)) (t : Cut) → cut_from ws ≡ Some t → (words_of_cut t ≡ ws) × IsListedCut t
 unfolding cut_from
 cut_takes ws t e =
-    taking (number_law 0 max_place (omega arith)) (λ field. word_at kind_of field.1 >>= λ kind. word_at (number_within 1 max_change) kind.1 >>= λ total. ended (cut_made field.0 kind.0 total.0, total.1)) ws t e (λ field bs b-fits b-is b-on.
-    taking kind_law (λ kind. word_at (number_within 1 max_change) kind.1 >>= λ total. ended (cut_made field kind.0 total.0, total.1)) bs t b-on (λ kind cs c-fits c-is c-on.
-    taking (number_law 1 max_change (omega arith)) (λ total. ended (cut_made field kind total.0, total.1)) cs t c-on (λ total ds d-fits d-is d-on.
+    taking (number_law 0 max_place (omega arith)) (λ field. word_at kind_of field.1 >>= λ kind. word_at (number_within 1 max_change) kind.1 >>= λ total. only_value (cut_made field.0 kind.0 total.0, total.1)) ws t e (λ field bs b-fits b-is b-on.
+    taking kind_law (λ kind. word_at (number_within 1 max_change) kind.1 >>= λ total. only_value (cut_made field kind.0 total.0, total.1)) bs t b-on (λ kind cs c-fits c-is c-on.
+    taking (number_law 1 max_change (omega arith)) (λ total. only_value (cut_made field kind total.0, total.1)) cs t c-on (λ total ds d-fits d-is d-on.
     let end = ended_is (cut_made field kind total) ds t d-on in
     let is : ws ≡ decimal field ∷ kind_word kind ∷ decimal total ∷ [] = b-is ∙ ap (λ (l : List (List ℕ)). decimal field ∷ l) (c-is ∙ ap (λ (l : List (List ℕ)). kind_word kind ∷ l) (d-is ∙ ap (λ (l : List (List ℕ)). decimal total ∷ l) end.0)) in
     subst (λ (x : Cut). (words_of_cut x ≡ ws) × IsListedCut x) end.1 (sym is, (b-fits.1, (omega (arith, d-fits.0), d-fits.1))))))
@@ -140,13 +140,13 @@ tighten_again t fits = rw (cut_again t fits) refl
 restart_takes : (ws : List (List ℕ)) (r : Record) → restart_from ws ≡ Some r → Spells 82 ws r
 unfolding restart_from
 restart_takes ws r e =
-    taking (number_law 1 max_epoch (omega arith)) (λ epoch. ended (Restart epoch.0, epoch.1)) ws r e (λ epoch rest fits is on.
+    taking (number_law 1 max_epoch (omega arith)) (λ epoch. only_value (Restart epoch.0, epoch.1)) ws r e (λ epoch rest fits is on.
     let end = ended_is (Restart epoch) rest r on in
     subst (Spells 82 ws) end.1 (refl, sym (is ∙ ap (λ (l : List (List ℕ)). decimal epoch ∷ l) end.0), (omega (arith, fits.0), fits.1)))
 
 restart_again : (epoch : ℕ) → IsRecord (Restart epoch) → restart_from (decimal epoch ∷ []) ≡ Some (Restart epoch)
 unfolding restart_from
-restart_again epoch fits = word_again (number_law 1 max_epoch (omega arith)) (λ e. ended (Restart e.0, e.1)) epoch [] (omega (arith, fits.0), fits.1)
+restart_again epoch fits = word_again (number_law 1 max_epoch (omega arith)) (λ e. only_value (Restart e.0, e.1)) epoch [] (omega (arith, fits.0), fits.1)
 
 -- ---- commits
 

@@ -16,7 +16,7 @@ use Rattle.kept_records.specs.declared.record.Record.TheVariants.{Commit, Gift, 
 use Rattle.kept_records.specs.declared.total.Total.{Total}
 use Rattle.kept_records.specs.declared.total.Cut.{Cut}
 use Rattle.kept_records.specs.Summary.{SummaryValue, one_total, totals_of_site, totals_of, one_cut, cuts_of, rights_of, same_rights, same_totals, same_cuts, same_summary}
-use Rattle.kept_records.specs.Stands.{later, greatest, given_more, given_in, accepted_more, accepted_in, cut_more, cut_in, commits, committed_in, own_in, may_commit, may_stand, is_summary, plain, count_behind, since_summary, summary_of, piece, max_behind, LawfulBehind, Lawful}
+use Rattle.kept_records.specs.Stands.{later, greatest, given_more, given_in, accepted_more, accepted_in, cut_more, cut_in, commits, committed_in, own_in, may_commit, may_follow, is_summary, plain, count_behind, since_summary, summary_of, piece, max_behind, LawfulBehind, Lawful}
 use Rattle.kept_records.specs.Summaries.{SameSums}
 use Rattle.kept_records.proofs.Pushes.{lawful_push}
 
@@ -107,7 +107,7 @@ all_same : (p q : Escrow → Bool) → ((e : Escrow) → p e ≡ q e) → (es : 
 all_same p q h [] = refl
 all_same p q h (e ∷ es) = rw (h e, all_same p q h es) refl
 
-pub may_same : (schema : SchemaValue) (s : ℕ) (as1 bs : List Record) → SameSums as1 bs → (r : Record) → may_stand schema s as1 r ≡ may_stand schema s bs r
+pub may_same : (schema : SchemaValue) (s : ℕ) (as1 bs : List Record) → SameSums as1 bs → (r : Record) → may_follow schema s as1 r ≡ may_follow schema s bs r
 may_same schema s as1 bs h (Commit txn es) =
     rw (
       h.epoch,
@@ -177,7 +177,7 @@ pub summary_refl : (v : SummaryValue) → same_summary v v ≡ true
 summary_refl v = rw (eq-eqb v.epoch v.epoch refl, rights_refl v.rights, totals_refl v.gifts, totals_refl v.accepts, cuts_refl v.tightenings) refl
 
 -- so what is appended for a lawful record is lawful
-pub piece_lawful : (schema : SchemaValue) (s : ℕ) (rs : List Record) (r : Record) → Lawful schema s rs → may_stand schema s rs r ≡ true → Lawful schema s (rs ++ piece schema s rs r)
+pub piece_lawful : (schema : SchemaValue) (s : ℕ) (rs : List Record) (r : Record) → Lawful schema s rs → may_follow schema s rs r ≡ true → Lawful schema s (rs ++ piece schema s rs r)
 piece_lawful schema s rs r lawful may = by (nat_le max_behind (since_summary rs + 1))
   where
     all : Record

@@ -16,10 +16,10 @@ use Rattle.kept_records.specs.declared.record.Record.{Record}
 use Rattle.kept_records.specs.declared.record.Record.TheVariants.{Summary}
 use Rattle.kept_records.specs.declared.total.Total.{Total}
 use Rattle.kept_records.specs.declared.total.Cut.{Cut}
-use Rattle.kept_records.specs.Summary.{SummaryValue, one_total, totals_of_site, totals_of, rights_of, one_cut, cuts_of, same_rights, same_totals, same_cuts, same_summary, rights_told, told_more, told, cut_told_more, cut_told}
+use Rattle.kept_records.specs.Summary.{SummaryValue, one_total, totals_of_site, totals_of, rights_of, one_cut, cuts_of, same_rights, same_totals, same_cuts, same_summary, rights_told, told_more, total_told, cut_told_more, cut_told}
 use Rattle.kept_records.specs.Text.{IsSummary, IsRecord}
-use Rattle.kept_records.specs.Stands.{given_in, accepted_in, cut_in, own_in, may_stand, summary_of}
-use Rattle.kept_records.specs.Summaries.{SameSums, IsPlaced, TellsOf}
+use Rattle.kept_records.specs.Stands.{given_in, accepted_in, cut_in, own_in, may_follow, summary_of}
+use Rattle.kept_records.specs.Summaries.{SameSums, IsWhereDue, TellsOf}
 use Rattle.kept_records.proofs.Summaries.{same_sums, same_summary_push, own_same}
 
 -- ---- one total
@@ -146,8 +146,8 @@ module _ (F : ℕ → ℕ → Kind → ℕ) (r f : ℕ) (k : Kind) where
         | inr other ↦ more_sites 0 s m n ∙ skip_apart (n == s) _ n m other ∙ sites_hit s m n (omega (arith, below, other)) apart in_fields
       ]
 
-pub told_is : (F : ℕ → ℕ → Kind → ℕ) (s m n r f : ℕ) (k : Kind) → r < n → r ≢ s → f < m → told (totals_of F s m n) r f k ≡ F r f k
-unfolding told
+pub told_is : (F : ℕ → ℕ → Kind → ℕ) (s m n r f : ℕ) (k : Kind) → r < n → r ≢ s → f < m → total_told (totals_of F s m n) r f k ≡ F r f k
+unfolding total_told
 told_is F s m n r f k below apart in_fields = sites_hit F r f k s m n below apart in_fields
 
 -- ---- those given up, as those of a site
@@ -290,7 +290,7 @@ summary_equal v w h =
 
 module _ (schema : SchemaValue) (s : ℕ) (F : ℕ → ℕ → Kind → ℕ) where
   abbrev Here : Total → Type 0
-  Here t = IsPlaced schema s t
+  Here t = IsWhereDue schema s t
 
   all_append : (as1 bs : List Total) → AllByRecursion Here as1 → AllByRecursion Here bs → AllByRecursion Here (as1 ++ bs)
   all_append [] bs p q = q
@@ -339,7 +339,7 @@ summary_tells schema s rs =
     }
 
 -- a summary that may stand behind records tells what they stand for, and so what they and itself stand for
-pub lawful_tells : (schema : SchemaValue) (s : ℕ) (rs : List Record) (v : SummaryValue) → may_stand schema s rs (Summary v) ≡ true → TellsOf schema s v (rs ++ Summary v ∷ [])
+pub lawful_tells : (schema : SchemaValue) (s : ℕ) (rs : List Record) (v : SummaryValue) → may_follow schema s rs (Summary v) ≡ true → TellsOf schema s v (rs ++ Summary v ∷ [])
 lawful_tells schema s rs v may =
     let before : TellsOf schema s v rs = subst (λ (x : SummaryValue). TellsOf schema s x rs) (sym (summary_equal v (summary_of schema s rs) may)) (summary_tells schema s rs) in
     let same : SameSums (rs ++ Summary v ∷ []) rs = same_summary_push rs rs v (same_sums rs) in

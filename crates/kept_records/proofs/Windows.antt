@@ -17,7 +17,7 @@ use Rattle.kept_records.specs.Medium.{last_bytes}
 use Rattle.kept_records.specs.Stands.{is_summary}
 use Rattle.kept_records.specs.Cursor.{HandsSummary}
 use Rattle.kept_records.specs.Summary.{SummaryValue}
-use Rattle.kept_records.specs.ReadingBack.{told_length, PartsAt, StandBehind, HoldsLast, AreLast, IsWhole, IsSummaryLine, IsLastLine}
+use Rattle.kept_records.specs.ReadingBack.{told_length, PartsAt, AreBehind, HoldsLast, AreLast, IsWhole, IsSummaryLine, IsLastLine}
 use Rattle.kept_records.proofs.Bytes.{Without, one_cut, has_it}
 use Rattle.kept_records.proofs.Lines.{body, body_without, first_text, same_log}
 use Rattle.kept_records.proofs.Places.{inside, log_behind, place_within}
@@ -252,7 +252,7 @@ module _ (bytes window : List ℕ) (most place from size : ℕ) (is_window : win
     kept_behind = (parts.behind, parts.rest, at_place parts.before parts.behind parts.rest parts.log parts.place_is)
 
     module _ (found : List Record) (n : ℕ) (all : AreAll (take (length window - (place - from)) (drop (place - from) window)) found n) where
-      pub stand_behind : StandBehind bytes place found
+      pub stand_behind : AreBehind bytes place found
       stand_behind before behind rest log place_is = (all behind rest (at_place before behind rest log place_is)).0
 
       pub whole_is : n ≡ length (flat_map text found) → IsWhole bytes (place + n)

@@ -63,5 +63,5 @@ starts_with_no_restart [] = false
 starts_with_no_restart (r ∷ rs) = not (is_restart r)
 
 -- A record stands behind so many, and it is no restart.
-abbrev pub stands_behind : ℕ → List Record → Bool
-stands_behind n rs = starts_with_no_restart (drop n rs)
+abbrev pub is_record_behind : ℕ → List Record → Bool
+is_record_behind n rs = starts_with_no_restart (drop n rs)

@@ -42,9 +42,9 @@ pub record IsBadLine (bytes : List ℕ) (n : ℕ) : Type 0 where
 
 -- The records in front of the first line that is the text of no record, where there is such a line, or else all records,
 -- whose texts are the first so many bytes.
-abbrev pub IsFront : List ℕ → List Record → ℕ → Option ℕ → Type 0
-IsFront bytes rs n (Some line) = (bad : IsBadLine bytes line) × (bad.before ≡ rs)
-IsFront bytes rs n None = Reads bytes rs n × AreAll bytes rs n
+abbrev pub AreGoodRecords : List ℕ → List Record → ℕ → Option ℕ → Type 0
+AreGoodRecords bytes rs n (Some line) = (bad : IsBadLine bytes line) × (bad.before ≡ rs)
+AreGoodRecords bytes rs n None = Reads bytes rs n × AreAll bytes rs n
 
 -- A front of the text is the whole text, or no line ends in it.
 abbrev pub TearsClean : List ℕ → Type 0

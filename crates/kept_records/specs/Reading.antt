@@ -5,7 +5,7 @@ use Rattle.field_bounds.specs.Owed.{max_change, max_total, max_escrows, max_numb
 use Rattle.field_bounds.specs.declared.kind.Kind.{Kind}
 use Rattle.field_bounds.specs.declared.kind.Kind.TheVariants.{Lower, Raise}
 use Rattle.field_bounds.specs.declared.entry.Escrow.{Escrow}
-use Rattle.line_words.specs.Reading.{◌>>=◌, number_of, signed_of, word_at, ended}
+use Rattle.line_words.specs.Reading.{◌>>=◌, number_of, signed_of, word_at, only_value}
 use Rattle.kept_records.specs.declared.record.Record.{Record}
 use Rattle.kept_records.specs.declared.record.Record.TheVariants.{Commit, Gift, Accept, Tighten, Restart, Summary}
 use Rattle.kept_records.specs.declared.total.Total.{Total}
@@ -44,7 +44,7 @@ total_from ws = do
   field ← word_at (number_within 0 max_place) other.1
   kind ← word_at kind_of field.1
   total ← word_at (number_within 1 max_total) kind.1
-  ended (record { site = record { 0 = other.0 }; field = record { 0 = field.0 }; kind = kind.0; total = total.0 }, total.1)
+  only_value (record { site = record { 0 = other.0 }; field = record { 0 = field.0 }; kind = kind.0; total = total.0 }, total.1)
 
 -- A gift to the other site.
 unfoldable pub gift_from : List (List ℕ) → Option Record
@@ -64,7 +64,7 @@ cut_from ws = do
   field ← word_at (number_within 0 max_place) ws
   kind ← word_at kind_of field.1
   total ← word_at (number_within 1 max_change) kind.1
-  ended (record { field = record { 0 = field.0 }; kind = kind.0; total = total.0 }, total.1)
+  only_value (record { field = record { 0 = field.0 }; kind = kind.0; total = total.0 }, total.1)
 
 -- A tightening.
 unfoldable pub tighten_from : List (List ℕ) → Option Record
@@ -76,7 +76,7 @@ tighten_from ws = do
 unfoldable pub restart_from : List (List ℕ) → Option Record
 restart_from ws = do
   epoch ← word_at (number_within 1 max_epoch) ws
-  ended (Restart epoch.0, epoch.1)
+  only_value (Restart epoch.0, epoch.1)
 
 -- Pairs of a field and a change, up to the last word.
 unfoldable pub escrows_from : List (List ℕ) → Option (List Escrow)
@@ -183,10 +183,10 @@ record_of (w ∷ ws) = do
   record_from letter ws
 
 -- What a reader of some words answers, with the words that it left, unless memory is wanting.
-abbrev pub TellsFront : {A : Type 0} → Result A LineFault → List (List ℕ) → Option (A × List (List ℕ)) → Type 0
-TellsFront (Ok x) left read = read ≡ Some (x, left)
-TellsFront (Err faults.NoRecord) left read = read ≡ None
-TellsFront (Err faults.NoMemory) left read = Unit {0}
+abbrev pub TellsPrefix : {A : Type 0} → Result A LineFault → List (List ℕ) → Option (A × List (List ℕ)) → Type 0
+TellsPrefix (Ok x) left read = read ≡ Some (x, left)
+TellsPrefix (Err faults.NoRecord) left read = read ≡ None
+TellsPrefix (Err faults.NoMemory) left read = Unit {0}
 
 -- What a reader of a line answers: what is spelled, unless memory is wanting.
 abbrev pub Tells : {A : Type 0} → Result A LineFault → Option A → Type 0

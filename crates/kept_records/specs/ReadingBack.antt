@@ -24,8 +24,8 @@ pub record PartsAt (bytes : List ℕ) (place : ℕ) : Type 0 where
   pub place_is : place ≡ told_length (length (flat_map text before))
 
 -- These are all the records of a log that stand behind the place.
-abbrev pub StandBehind : List ℕ → ℕ → List Record → Type 0
-StandBehind bytes place found =
+abbrev pub AreBehind : List ℕ → ℕ → List Record → Type 0
+AreBehind bytes place found =
     (before behind : List Record) (rest : List ℕ) → IsLog bytes (before ++ behind) rest → place ≡ told_length (length (flat_map text before)) → found ≡ behind
 
 -- These records, behind the summary where there is one.
@@ -77,7 +77,7 @@ pub record EndsAt (bytes : List ℕ) (most place : ℕ) (end : End) : Type 0 whe
 -- What was read of it is what the contract of reading tells.
 pub record ReadsEnd (bytes : List ℕ) (place : ℕ) (read : ReadBack) : Type 0 where
   pub last : AreLast bytes read.summary read.lines
-  pub behind : StandBehind bytes place read.behind.items
+  pub behind : AreBehind bytes place read.behind.items
   pub whole : IsWhole bytes read.whole
   pub present : read.present ≡ length bytes
   pub within : read.whole ≤ read.present

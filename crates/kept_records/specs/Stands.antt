@@ -94,8 +94,8 @@ abbrev pub guarded_in : SchemaValue → ℕ → List Record → ℕ → Kind →
 guarded_in schema s rs f k = cut_in rs f k + own_in schema s rs f k
 
 -- What a site stands on that has read these records (this project).
-abbrev pub stands : SchemaValue → ℕ → Bool → List Record → Base
-stands schema s up rs =
+abbrev pub base_stood_for : SchemaValue → ℕ → Bool → List Record → Base
+base_stood_for schema s up rs =
     record {
       up = up;
       epoch = greatest rs;
@@ -138,28 +138,28 @@ summary_of schema s rs =
 -- A commit is of the epoch of the last restart and spends what is owned; a gift's total is above the one before by
 -- what is owned, and so is a tightening's, an acceptance's by what there is room for; a restart's epoch is above every
 -- one before; a summary tells what the records before it stand for.
-abbrev pub may_stand : SchemaValue → ℕ → List Record → Record → Bool
-may_stand schema s rs (Commit txn escrows) =
+abbrev pub may_follow : SchemaValue → ℕ → List Record → Record → Bool
+may_follow schema s rs (Commit txn escrows) =
     (txn.epoch == greatest rs) && list_all (may_commit schema s rs escrows) escrows
-may_stand schema s rs (Gift to field kind total) =
+may_follow schema s rs (Gift to field kind total) =
     is_other_site schema s to.0 && is_field schema field.0
     && nat_lt (given_in rs to.0 field.0 kind) total
     && nat_le (total - given_in rs to.0 field.0 kind) (own_in schema s rs field.0 kind)
-may_stand schema s rs (Accept from field kind total) =
+may_follow schema s rs (Accept from field kind total) =
     is_other_site schema s from.0 && is_field schema field.0
     && nat_lt (accepted_in rs from.0 field.0 kind) total
     && nat_le (total - accepted_in rs from.0 field.0 kind) (room_in schema s rs field.0)
-may_stand schema s rs (Tighten field kind total) =
+may_follow schema s rs (Tighten field kind total) =
     is_field schema field.0
     && nat_lt (cut_in rs field.0 kind) total
     && nat_le (total - cut_in rs field.0 kind) (own_in schema s rs field.0 kind)
-may_stand schema s rs (Restart epoch) = nat_lt (greatest rs) epoch
-may_stand schema s rs (Summary v) = same_summary v (summary_of schema s rs)
+may_follow schema s rs (Restart epoch) = nat_lt (greatest rs) epoch
+may_follow schema s rs (Summary v) = same_summary v (summary_of schema s rs)
 
 -- Each of these records may stand behind those before it.
 abbrev pub LawfulBehind : SchemaValue → ℕ → List Record → List Record → Type 0
 LawfulBehind schema s front [] = Unit {0}
-LawfulBehind schema s front (r ∷ rs) = (may_stand schema s front r ≡ true) × LawfulBehind schema s (front ++ r ∷ []) rs
+LawfulBehind schema s front (r ∷ rs) = (may_follow schema s front r ≡ true) × LawfulBehind schema s (front ++ r ∷ []) rs
 
 abbrev pub Lawful : SchemaValue → ℕ → List Record → Type 0
 Lawful schema s rs = LawfulBehind schema s [] rs
@@ -172,7 +172,7 @@ pub record BreaksRule (schema : SchemaValue) (s : ℕ) (rs : List Record) (n : �
   pub place : n ≡ length before + 1
   pub parts : rs ≡ before ++ (breaking ∷ behind)
   pub lawful : Lawful schema s before
-  pub broken : may_stand schema s before breaking ≡ false
+  pub broken : may_follow schema s before breaking ≡ false
 
 -- ---- summaries among records (this project)
 

@@ -110,8 +110,8 @@ rights_told rights f Raise = (slice_index_or rights f (0, 0)).1
 abbrev pub told_more : ℕ → ℕ → Kind → ℕ → Total → ℕ
 told_more r f k n t = if (t.site.0 == r) && (t.field.0 == f) && same_kind t.kind k then t.total else n
 
-unfoldable pub told : List Total → ℕ → ℕ → Kind → ℕ
-told ts r f k = fold (told_more r f k) 0 ts
+unfoldable pub total_told : List Total → ℕ → ℕ → Kind → ℕ
+total_told ts r f k = fold (told_more r f k) 0 ts
 
 -- The total given up of a field and a kind: that of the last such one, and 0 where there is none.
 abbrev pub cut_told_more : ℕ → Kind → ℕ → Cut → ℕ

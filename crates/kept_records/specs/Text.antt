@@ -80,8 +80,8 @@ abbrev pub text : Record → List ℕ
 text r = line ((letter_of r ∷ []) ∷ words_of r) ++ 10 ∷ []
 
 -- Words with a space (32) before each.
-abbrev pub spaced : List (List ℕ) → List ℕ
-spaced ws = flat_map (λ w. 32 ∷ w) ws
+abbrev pub words_spaced : List (List ℕ) → List ℕ
+words_spaced ws = flat_map (λ w. 32 ∷ w) ws
 
 -- ---- ranges
 

@@ -8,7 +8,7 @@ ghost use Rattle.kept_records.specs.declared.record.Record.TheVariants.{Restart}
 ghost use Rattle.kept_records.specs.Text.{text, IsRecord};
 ghost use Rattle.kept_records.specs.Logs.{IsLog, Reads, AreAll};
 ghost use Rattle.kept_records.specs.Medium.{CountsRead, AppendFate, ReadFate};
-ghost use Rattle.kept_records.specs.Keeping.{with_due, IsKept, Appends, CutsAndAppends, CutAndAppendFate, stands_behind};
+ghost use Rattle.kept_records.specs.Keeping.{with_due, IsKept, Appends, CutsAndAppends, CutAndAppendFate, is_record_behind};
 
 use crate::log::{RecordFault, read_records};
 use crate::medium::{Device, Medium, MediumFault};
@@ -201,7 +201,7 @@ pub fn append_restart_piece<M: Medium>(
 ///
 /// Source: this project.
 pub fn stands_behind(records: &[Record], place: usize) -> bool
-    ensures { result ≡ stands_behind place records.now }
+    ensures { result ≡ is_record_behind place records.now }
 {
     match records.get(place) {
         None => false,

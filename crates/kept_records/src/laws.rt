@@ -6,8 +6,8 @@ ghost use Rattle.kept_records.specs.declared.record.Record.{Record};
 ghost use Rattle.kept_records.specs.Text.{text, IsRecord};
 ghost use Rattle.field_bounds.specs.Schema.{SchemaValue};
 ghost use Rattle.kept_records.specs.Logs.{IsLog, Reads};
-ghost use Rattle.kept_records.specs.Stands.{may_stand, Lawful, plain, piece, since_summary, max_behind, own_in};
-ghost use Rattle.kept_records.specs.Summaries.{SameSums, LeavesFront, TellsOf};
+ghost use Rattle.kept_records.specs.Stands.{may_follow, Lawful, plain, piece, since_summary, max_behind, own_in};
+ghost use Rattle.kept_records.specs.Summaries.{SameSums, LeavesPrefix, TellsOf};
 ghost use Rattle.kept_records.specs.Summary.{SummaryValue};
 ghost use Rattle.kept_records.specs.declared.record.Record.TheVariants.{Summary};
 ghost use Rattle.field_bounds.specs.declared.kind.Kind.{Kind};
@@ -62,7 +62,7 @@ pub fn summaries_tell_nothing_new()
         own_in schema s (plain rs) f k ≡ own_in schema s rs f k }
     ensures lawful { (schema : SchemaValue) (s : ℕ) (rs : List Record) → Lawful schema s rs → Lawful schema s (plain rs) }
     ensures piece { (schema : SchemaValue) (s : ℕ) (rs : List Record) (r : Record) → Lawful schema s rs →
-        may_stand schema s rs r ≡ true → Lawful schema s (rs ++ piece schema s rs r) }
+        may_follow schema s rs r ≡ true → Lawful schema s (rs ++ piece schema s rs r) }
     ensures bound { (schema : SchemaValue) (s : ℕ) (rs : List Record) (r : Record) →
         since_summary (rs ++ piece schema s rs r) < max_behind }
     ensures one { (rs : List Record) (r : Record) → since_summary (rs ++ r ∷ []) ≤ since_summary rs + 1 }
@@ -75,7 +75,7 @@ pub fn summaries_tell_nothing_new()
 /// Source: this project.
 pub fn torn_piece_leaves_a_front()
     ensures front { (bytes : List ℕ) (rs ps : List Record) (k : ℕ) → IsLog bytes rs [] → AllByRecursion IsRecord ps →
-        LeavesFront bytes rs ps k (bytes ++ take k (flat_map text ps)) }
+        LeavesPrefix bytes rs ps k (bytes ++ take k (flat_map text ps)) }
 {}
 
 /// A summary that may stand behind some records tells what they stand for: its epoch, the own rights of
@@ -84,5 +84,5 @@ pub fn torn_piece_leaves_a_front()
 /// Source: this project.
 pub fn summary_tells_what_stands()
     ensures tells { (schema : SchemaValue) (s : ℕ) (rs : List Record) (v : SummaryValue) →
-        may_stand schema s rs (Summary v) ≡ true → TellsOf schema s v (rs ++ Summary v ∷ []) }
+        may_follow schema s rs (Summary v) ≡ true → TellsOf schema s v (rs ++ Summary v ∷ []) }
 {}

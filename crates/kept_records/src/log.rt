@@ -4,7 +4,7 @@ ghost use Rattle.std.specs.Prelude.{◌≡◌, ◌==◌, IfOk, IfErr, length, po
 ghost use Rattle.std.specs.List.{flat_map};
 ghost use Rattle.kept_records.specs.declared.log.RecordFault.TheVariants.{NoMemory};
 ghost use Rattle.kept_records.specs.Text.{text};
-ghost use Rattle.kept_records.specs.Logs.{Reads, AreAll, IsFront};
+ghost use Rattle.kept_records.specs.Logs.{Reads, AreAll, AreGoodRecords};
 ghost use Rattle.kept_records.specs.Faults.{TellsBadLine, TellsNoLog};
 
 use crate::reading::{LineFault, read_line};
@@ -54,7 +54,7 @@ pub(crate) fn line_feed(bytes: &[u8]) -> Option<usize>
 ///
 /// Source: this project.
 pub fn read_front(alloc: Global, bytes: &[u8]) -> Result<Front, AllocError>
-    ensures front { IfOk result (λ front. IsFront bytes.now front.records.items front.length front.bad_line) }
+    ensures front { IfOk result (λ front. AreGoodRecords bytes.now front.records.items front.length front.bad_line) }
     ensures length { IfOk result (λ front. front.length ≡ length (flat_map text front.records.items)) }
 {
     let mut records = Vec::new(alloc);

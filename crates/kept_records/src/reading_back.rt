@@ -9,7 +9,7 @@ ghost use Rattle.kept_records.specs.Keeping.{IsKept};
 ghost use Rattle.kept_records.specs.Cursor.{HandsSummary};
 ghost use Rattle.kept_records.specs.Stands.{is_summary, plain};
 ghost use Rattle.kept_records.specs.Medium.{CountsRead, ReadFate};
-ghost use Rattle.kept_records.specs.ReadingBack.{PartsAt, StandBehind, AreLast, IsWhole, IsSummaryLine, IsLastLine, EndsAt, ReadsEnd};
+ghost use Rattle.kept_records.specs.ReadingBack.{PartsAt, AreBehind, AreLast, IsWhole, IsSummaryLine, IsLastLine, EndsAt, ReadsEnd};
 
 use crate::cursor::Cursor;
 use crate::log::{RecordFault, read_records};
@@ -171,7 +171,7 @@ pub fn read_back<M: Medium>(
 ) -> Result<ReadBack, MediumFault>
     requires log { PartsAt (M.bytes medium.old) place }
     ensures last { IfOk result (λ read. AreLast (M.bytes medium.old) read.summary read.lines) }
-    ensures behind { IfOk result (λ read. StandBehind (M.bytes medium.old) place read.behind.items) }
+    ensures behind { IfOk result (λ read. AreBehind (M.bytes medium.old) place read.behind.items) }
     ensures whole { IfOk result (λ read. IsWhole (M.bytes medium.old) read.whole) }
     ensures present { IfOk result (λ read. read.present ≡ length (M.bytes medium.old)) }
     ensures within { IfOk result (λ read. read.whole ≤ read.present) }

@@ -2,7 +2,7 @@
 
 ghost use Rattle.std.specs.Prelude.{◌≡◌, ◌∷◌, []};
 ghost use Rattle.line_words.specs.Reading.{Gives};
-ghost use Rattle.kept_records.specs.Reading.{total_from, cut_from, cut_at, rights_from, listed_at, groups_from, summary_from, word_is, is_next_accept, is_next_gift, TellsFront, Tells};
+ghost use Rattle.kept_records.specs.Reading.{total_from, cut_from, cut_at, rights_from, listed_at, groups_from, summary_from, word_is, is_next_accept, is_next_gift, TellsPrefix, Tells};
 ghost use Rattle.kept_records.specs.Summary.{kind_number, is_before, is_cut_before, rises, cuts_rise};
 
 use crate::reading::{LineFault, MAX_PLACE, kind, number, take_number};
@@ -51,7 +51,7 @@ impl Model for Groups {
 
 // So many pairs of rights.
 fn take_rights(alloc: Global, words: &mut Words, count: u64) -> Result<Rows, LineFault>
-    ensures { TellsFront result words.new (rights_from count [] words.old) }
+    ensures { TellsPrefix result words.new (rights_from count [] words.old) }
 {
     let mut held = Vec::new(alloc);
     let mut left = count;
@@ -73,7 +73,7 @@ fn take_rights(alloc: Global, words: &mut Words, count: u64) -> Result<Rows, Lin
 
 // A total of a group, of the words behind its letter.
 #[tactic(auto, unfolding(crate::specs::Reading::total_from, line_words::specs::Reading::word_at))]
-fn listed(other: &[u8], field: &[u8], of_kind: &[u8], total: &[u8]) -> Option<Total>
+fn total_listed(other: &[u8], field: &[u8], of_kind: &[u8], total: &[u8]) -> Option<Total>
     ensures { result ≡ total_from (other.now ∷ field.now ∷ of_kind.now ∷ total.now ∷ []) }
 {
     let other = number(other, 0, MAX_PLACE)?;
@@ -97,7 +97,7 @@ fn take_listed(words: &mut Words) -> Option<Total>
     let field = words.next()?;
     let of_kind = words.next()?;
     let total = words.next()?;
-    listed(other, field, of_kind, total)
+    total_listed(other, field, of_kind, total)
 }
 
 fn is_letter(word: &[u8], letter: u8) -> bool

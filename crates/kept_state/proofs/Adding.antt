@@ -8,13 +8,13 @@ use Rattle.field_bounds.specs.declared.entry.Reply.TheVariants.{Restarted, Unsur
 use Rattle.field_bounds.specs.declared.entry.Entry.{Entry}
 use Rattle.kept_records.specs.declared.record.Record.{Record}
 use Rattle.field_bounds.specs.Schema.{SchemaValue}
-use Rattle.field_bounds.specs.Effects.{Base, kept_before}
+use Rattle.field_bounds.specs.Effects.{Base, doubt_kept_before}
 use Rattle.field_bounds.specs.Owed.{Place, place, answer, writes}
-use Rattle.kept_state.specs.Keeps.{record_at, noted, adds, Keeps}
+use Rattle.kept_state.specs.Keeps.{record_at, record_left, adds, Keeps}
 use Rattle.field_bounds.proofs.Refused.{is_restart}
 
 -- an answer leaves the record of its command
-pub adds_answer : (at : Place) (c : Command) (stood : Bool) (rs : List Record) → is_restart c ≡ false → adds at c (answer at c) stood rs ≡ noted at c
+pub adds_answer : (at : Place) (c : Command) (stood : Bool) (rs : List Record) → is_restart c ≡ false → adds at c (answer at c) stood rs ≡ record_left at c
 adds_answer at Begin stood rs n = refl
 adds_answer at (Escrow txn field change) stood rs n = refl
 adds_answer at (Commit txn) stood rs n = refl
@@ -42,7 +42,7 @@ length_adds : (at : Place) (c : Command) (r : Reply) (stood : Bool) (front : Lis
 length_adds at c (Refused x) stood front = omega arith
 length_adds at c (Restarted epoch found) stood front = omega arith
 length_adds at c StillDown stood front = length_cond stood _
-length_adds at c Unsure stood front = length_stood stood (noted at c) (length_cond (writes at c) (record_at at c))
+length_adds at c Unsure stood front = length_stood stood (record_left at c) (length_cond (writes at c) (record_at at c))
 length_adds at c r stood front = length_cond (writes at c) (record_at at c)
 
 pub keeps_length : (schema : SchemaValue) (s : ℕ) (base : Base) (bs : List Record) (kept : Bool) (o : List Entry) (rs : List Record) → Keeps schema s base bs kept o rs → length rs ≤ length bs + length o
@@ -53,5 +53,5 @@ keeps_length schema s base bs kept (e ∷ o) rs keeps =
       ap length keeps.4,
       length-append keeps.0 (adds (place schema s base o) e.command e.reply keeps.1 keeps.0),
       length_adds (place schema s base o) e.command e.reply keeps.1 keeps.0,
-      keeps_length schema s base bs (kept_before kept e.reply) o keeps.0 keeps.2,
+      keeps_length schema s base bs (doubt_kept_before kept e.reply) o keeps.0 keeps.2,
     )

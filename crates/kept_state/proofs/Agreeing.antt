@@ -14,7 +14,7 @@ use Rattle.field_bounds.specs.Schema.{SchemaValue}
 use Rattle.field_bounds.specs.Kind.{other, same_kind}
 use Rattle.field_bounds.specs.declared.effect.Effect.{Effect}
 use Rattle.field_bounds.specs.declared.effect.Effect.TheVariants.{Begins, Grants, Commits, Aborts, Gives, Accepts, Stops}
-use Rattle.field_bounds.specs.Effects.{Base, escrows_of, takes, is_to, is_for_good, gifts, given, cut, accepted, own_rights}
+use Rattle.field_bounds.specs.Effects.{Base, escrows_of, takes, is_to, is_for_good, gifts, total_given, cut, total_accepted, own_rights}
 use Rattle.field_bounds.specs.Owed.{count_escrows}
 use Rattle.kept_records.specs.Stands.{given_in, accepted_in, cut_in, committed_in, own_in, gained_in, spent_in}
 use Rattle.kept_state.specs.Keeps.{IsBase}
@@ -49,8 +49,8 @@ of_txn-none txn f k es h = of_txn_is txn f k es ∙ sum_of_none f k (escrows_of 
 
 -- the totals and the committed sizes of the effects are those of the records
 pub record Agree (base : Base) (bs : List Record) (es : List Effect) (rs : List Record) : Type 0 where
-  pub gives : (to f : ℕ) (k : Kind) → given base to f k es ≡ given_in rs to f k
-  pub accepts : (from f : ℕ) (k : Kind) → accepted base from f k es ≡ accepted_in rs from f k
+  pub gives : (to f : ℕ) (k : Kind) → total_given base to f k es ≡ given_in rs to f k
+  pub accepts : (from f : ℕ) (k : Kind) → total_accepted base from f k es ≡ accepted_in rs from f k
   pub cuts : (f : ℕ) (k : Kind) → cut base f k es ≡ cut_in rs f k
   pub commits : (f : ℕ) (k : Kind) → committed_in f k bs + kept_sizes f k es ≡ committed_in f k rs
 
@@ -100,13 +100,13 @@ module _ (base : Base) (bs : List Record) (es : List Effect) (rs : List Record) 
         commits = λ f k. omega (arith, agree.commits f k, of_txn-none txn f k es none);
       }
 
-  pub agree_give : (to : SiteNo) (field : FieldNo) (kind : Kind) (amount total : ℕ) → total ≡ given base to.0 field.0 kind es + amount
+  pub agree_give : (to : SiteNo) (field : FieldNo) (kind : Kind) (amount total : ℕ) → total ≡ total_given base to.0 field.0 kind es + amount
       → Agree base bs (Gives (Some to) field kind amount ∷ es) (rs ++ Gift to field kind total ∷ [])
   agree_give to field kind amount total is =
       let r : Record = Gift to field kind total in
       record {
         gives = λ site f k. give_step (key field.0 kind to.0 f k site) amount (given_in rs site f k) total (gifts (is_to site) f k es) (base.given site f k)
-            (λ on. omega (arith, is, at_key (λ x y z. given base x y z es) field.0 kind to.0 f k site on, agree.gives site f k)) (agree.gives site f k)
+            (λ on. omega (arith, is, at_key (λ x y z. total_given base x y z es) field.0 kind to.0 f k site on, agree.gives site f k)) (agree.gives site f k)
             ∙ sym (given_push site f k rs r);
         accepts = λ from f k. agree.accepts from f k ∙ sym (accepted_push from f k rs r);
         cuts = λ f k. omega (arith, agree.cuts f k, cut_push f k rs r, no_weight (eqb field.0 f && same_kind kind k) amount);
@@ -143,13 +143,13 @@ module _ (base : Base) (bs : List Record) (es : List Effect) (rs : List Record) 
         commits = λ f k. omega (arith, agree.commits f k, committed_push f k rs r);
       }
 
-  pub agree_repeat : (from : SiteNo) (field : FieldNo) (kind : Kind) (total : ℕ) → total ≤ accepted base from.0 field.0 kind es
+  pub agree_repeat : (from : SiteNo) (field : FieldNo) (kind : Kind) (total : ℕ) → total ≤ total_accepted base from.0 field.0 kind es
       → Agree base bs (Accepts from field kind total ∷ es) rs
   agree_repeat from field kind total old =
       record {
         gives = λ to f k. agree.gives to f k;
-        accepts = λ site f k. accept_step (key field.0 kind from.0 f k site) total (accepted base site f k es)
-            (λ on. omega (arith, old, at_key (λ x y z. accepted base x y z es) field.0 kind from.0 f k site on)) ∙ agree.accepts site f k;
+        accepts = λ site f k. accept_step (key field.0 kind from.0 f k site) total (total_accepted base site f k es)
+            (λ on. omega (arith, old, at_key (λ x y z. total_accepted base x y z es) field.0 kind from.0 f k site on)) ∙ agree.accepts site f k;
         cuts = λ f k. agree.cuts f k;
         commits = λ f k. agree.commits f k;
       }
@@ -193,10 +193,10 @@ module _ (base : Base) (bs : List Record) (es : List Effect) (rs : List Record) 
         is.rights f k,
         agree.cuts f k,
         is.cut f k,
-        sum_below-same schema.sites (λ to. given base to f k es) (λ to. given_in rs to f k) (λ to below. agree.gives to f k),
+        sum_below-same schema.sites (λ to. total_given base to f k es) (λ to. given_in rs to f k) (λ to below. agree.gives to f k),
         sum_below-same schema.sites (λ to. base.given to f k) (λ to. given_in bs to f k) (λ to below. is.given to f k),
         sum_below-add schema.sites (λ to. base.given to f k) (λ to. gifts (is_to to) f k es),
-        sum_below-same schema.sites (λ from. accepted base from f k es) (λ from. accepted_in rs from f k) (λ from below. agree.accepts from f k),
+        sum_below-same schema.sites (λ from. total_accepted base from f k es) (λ from. accepted_in rs from f k) (λ from below. agree.accepts from f k),
         sum_below-same schema.sites (λ from. base.accepted from f k) (λ from. accepted_in bs from f k) (λ from below. is.accepted from f k),
       )
 

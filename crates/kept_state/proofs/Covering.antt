@@ -3,12 +3,12 @@ use Rattle.std.proofs.Common.{ℕ, Bool, List, [], refl, sym, arith}
 use Rattle.field_bounds.specs.Schema.{SchemaValue}
 use Rattle.field_bounds.specs.Effects.{fresh}
 use Rattle.kept_records.specs.declared.record.Record.{Record}
-use Rattle.kept_records.specs.Stands.{Lawful, stands}
+use Rattle.kept_records.specs.Stands.{Lawful, base_stood_for}
 use Rattle.kept_records.proofs.Pushes.{greatest_none, given_none, accepted_none, cut_none}
 use Rattle.kept_records.proofs.Covering.{spent_none, gained_none, own_whole}
 use Rattle.kept_state.specs.Keeps.{IsBase}
 
-pub stands_is_base : (schema : SchemaValue) (s : ℕ) (up : Bool) (rs : List Record) → Lawful schema s rs → IsBase schema s (stands schema s up rs) rs
+pub stands_is_base : (schema : SchemaValue) (s : ℕ) (up : Bool) (rs : List Record) → Lawful schema s rs → IsBase schema s (base_stood_for schema s up rs) rs
 stands_is_base schema s up rs lawful =
     record {
       epoch = refl;

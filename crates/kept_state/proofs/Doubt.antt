@@ -14,11 +14,11 @@ use Rattle.field_bounds.specs.declared.entry.Entry.{Entry}
 use Rattle.kept_records.specs.declared.record.Record.{Record}
 use Rattle.kept_records.specs.declared.record.Record.TheVariants as records
 use Rattle.field_bounds.specs.Schema.{SchemaValue}
-use Rattle.field_bounds.specs.Effects.{Base, kept_before}
+use Rattle.field_bounds.specs.Effects.{Base, doubt_kept_before}
 use Rattle.field_bounds.specs.Owed.{Place, place, first, refusals, answer, writes, is_unsure, count_since, count_after, Fits, RestartFits, AnswerFits, IsRun}
 use Rattle.kept_records.specs.Stands.{greatest}
-use Rattle.kept_state.specs.Keeps.{record_at, noted, adds, Tells, Keeps}
-use Rattle.kept_records.specs.Keeping.{is_restart as is_restart_record, starts_with_no_restart, stands_behind}
+use Rattle.kept_state.specs.Keeps.{record_at, record_left, adds, Tells, Keeps}
+use Rattle.kept_records.specs.Keeping.{is_restart as is_restart_record, starts_with_no_restart, is_record_behind}
 use Rattle.kept_state.specs.Doubt.{InDoubt}
 use Rattle.field_bounds.proofs.Refused.{match_cases, is_restart, up_there}
 use Rattle.field_bounds.proofs.Doubt.{up_none_unsure}
@@ -66,7 +66,7 @@ note_first true note restarts h only = rw h refl
 note_first false note restarts h only = no_notes restarts only
 
 -- the code finds the record by the count of those before it
-pub found_is_kept : (kept : Bool) (before : List Record) (note : Record) (rs : List Record) → InDoubt kept before note rs → stands_behind (length before) rs ≡ kept
+pub found_is_kept : (kept : Bool) (before : List Record) (note : Record) (rs : List Record) → InDoubt kept before note rs → is_record_behind (length before) rs ≡ kept
 found_is_kept kept before note rs h =
     ap (λ (x : List Record). starts_with_no_restart (drop (length before) x)) h.all
     ∙ ap starts_with_no_restart (drop-append_seam before (cond kept (note ∷ []) [] ++ h.restarts))
@@ -90,21 +90,21 @@ module _ (schema : SchemaValue) (s : ℕ) (base : Base) (o : List Entry) (front 
   unsure_doubts : (kept stood : Bool) (c : Command) → writes here c ≡ true → stood ≡ kept → Then kept stood c Unsure
   unsure_doubts kept stood c w is =
       let made = doubt_new front (record_at here c) kept (record_is_note here c w) in
-      let noted_is : noted here c ≡ record_at here c ∷ [] = ap (λ (b : Bool). cond b (record_at here c ∷ []) []) w in
+      let noted_is : record_left here c ≡ record_at here c ∷ [] = ap (λ (b : Bool). cond b (record_at here c ∷ []) []) w in
       inr (
         front,
         record_at here c,
-        subst (λ (b : Bool). InDoubt kept front (record_at here c) (front ++ cond b (noted here c) [])) (sym is)
+        subst (λ (b : Bool). InDoubt kept front (record_at here c) (front ++ cond b (record_left here c) [])) (sym is)
             (subst (λ (x : List Record). InDoubt kept front (record_at here c) (front ++ cond kept x [])) (sym noted_is) made),
       )
 
   answer_doubts : (c : Command) (r : Reply) (kept stood : Bool) → is_restart c ≡ false → AnswerFits here c r → Tells kept stood front r
-      → (count_since is_unsure o ≡ 0) ⊎ Doubted (kept_before kept r) front → Then kept stood c r
+      → (count_since is_unsure o ≡ 0) ⊎ Doubted (doubt_kept_before kept r) front → Then kept stood c r
   answer_doubts c r kept stood n fits tells ih =
       elim (match_cases (first (refusals here c)) _ _ fits) [
         | inl refused ↦
             subst (λ (x : Reply). Then kept stood c x) (sym refused.2)
-            (same_doubt kept (subst (λ (x : Reply). (count_since is_unsure o ≡ 0) ⊎ Doubted (kept_before kept x) front) refused.2 ih))
+            (same_doubt kept (subst (λ (x : Reply). (count_since is_unsure o ≡ 0) ⊎ Doubted (doubt_kept_before kept x) front) refused.2 ih))
         | inr met ↦ elim met.1 [
           | inl answered ↦
               subst (λ (x : Reply). Then kept stood c x) (sym answered)
@@ -120,13 +120,13 @@ module _ (schema : SchemaValue) (s : ℕ) (base : Base) (o : List Entry) (front 
   still_doubts kept true (inr doubted) = inr (doubted.0, doubted.1, doubt_restart kept doubted.0 doubted.1 front (greatest front + 1) doubted.2)
   still_doubts kept false h = same_doubt kept h
 
-  restart_doubts : (r : Reply) (kept stood : Bool) → RestartFits here r → (count_since is_unsure o ≡ 0) ⊎ Doubted (kept_before kept r) front → Then kept stood Restart r
+  restart_doubts : (r : Reply) (kept stood : Bool) → RestartFits here r → (count_since is_unsure o ≡ 0) ⊎ Doubted (doubt_kept_before kept r) front → Then kept stood Restart r
   restart_doubts StillDown kept stood fits ih = still_doubts kept stood ih
   restart_doubts (Refused x) kept stood fits ih = same_doubt kept ih
   restart_doubts (Restarted epoch found) kept stood fits ih = inl refl
   restart_doubts r kept stood fits ih = absurd fits
 
-  step_doubts : (c : Command) (r : Reply) (kept stood : Bool) → Fits here c r → Tells kept stood front r → (count_since is_unsure o ≡ 0) ⊎ Doubted (kept_before kept r) front → Then kept stood c r
+  step_doubts : (c : Command) (r : Reply) (kept stood : Bool) → Fits here c r → Tells kept stood front r → (count_since is_unsure o ≡ 0) ⊎ Doubted (doubt_kept_before kept r) front → Then kept stood c r
   step_doubts Restart r kept stood fits tells ih = restart_doubts r kept stood fits ih
   step_doubts c r kept stood fits tells ih = answer_doubts c r kept stood refl fits tells ih
 
@@ -136,4 +136,4 @@ pub run_doubts : (schema : SchemaValue) (s : ℕ) (base : Base) (bs : List Recor
 run_doubts schema s base bs kept [] rs run keeps = inl refl
 run_doubts schema s base bs kept (e ∷ o) rs run keeps =
     subst (λ (all : List Record). (count_since is_unsure (e ∷ o) ≡ 0) ⊎ Doubted kept all) (sym keeps.4)
-    (step_doubts schema s base o keeps.0 e.command e.reply kept keeps.1 run.1 keeps.3 (run_doubts schema s base bs (kept_before kept e.reply) o keeps.0 run.0 keeps.2))
+    (step_doubts schema s base o keeps.0 e.command e.reply kept keeps.1 run.1 keeps.3 (run_doubts schema s base bs (doubt_kept_before kept e.reply) o keeps.0 run.0 keeps.2))

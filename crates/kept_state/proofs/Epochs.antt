@@ -13,17 +13,17 @@ use Rattle.field_bounds.specs.declared.entry.Entry.{Entry}
 use Rattle.kept_records.specs.declared.record.Record.{Record}
 use Rattle.kept_records.specs.declared.record.Record.TheVariants as records
 use Rattle.field_bounds.specs.Schema.{SchemaValue}
-use Rattle.field_bounds.specs.Effects.{Base, kept_before}
+use Rattle.field_bounds.specs.Effects.{Base, doubt_kept_before}
 use Rattle.field_bounds.specs.Owed.{Place, place, is_up, up_after, epoch_of, epoch_after, count_since, count_after, is_still_down, is_unsure, count_escrows, gain_of, max_epoch, RestartFits}
 use Rattle.kept_records.specs.Stands.{later, greatest}
-use Rattle.kept_state.specs.Keeps.{IsBase, noted, adds, Tells, Keeps}
+use Rattle.kept_state.specs.Keeps.{IsBase, record_left, adds, Tells, Keeps}
 use Rattle.kept_records.proofs.Pushes.{greatest_push}
 
 greatest_cond : (b : Bool) (rs : List Record) (r : Record) → later (greatest rs) r ≡ greatest rs → greatest (rs ++ cond b (r ∷ []) []) ≡ greatest rs
 greatest_cond true rs r h = greatest_push rs r ∙ h
 greatest_cond false rs r h = ap greatest (append-nil rs)
 
-pub greatest_noted : (at : Place) (c : Command) (rs : List Record) → greatest (rs ++ noted at c) ≡ greatest rs
+pub greatest_noted : (at : Place) (c : Command) (rs : List Record) → greatest (rs ++ record_left at c) ≡ greatest rs
 greatest_noted at Begin rs = ap greatest (append-nil rs)
 greatest_noted at (Escrow txn field change) rs = ap greatest (append-nil rs)
 greatest_noted at (Commit txn) rs = greatest_cond (nat_lt 0 (count_escrows txn at.effects)) rs _ refl
@@ -59,7 +59,7 @@ keeps_epoch schema s base bs is kept [] rs keeps = let same = ap greatest keeps 
 keeps_epoch schema s base bs is kept (e ∷ o) rs keeps =
     subst (λ (all : List Record). Between (epoch_of base (e ∷ o)) (count_since is_still_down (e ∷ o)) (greatest all)) (sym keeps.4)
     (epoch_step (place schema s base o) e.command e.reply kept keeps.1 keeps.0 (epoch_of base o) (count_since is_still_down o) keeps.3
-    (keeps_epoch schema s base bs is (kept_before kept e.reply) o keeps.0 keeps.2))
+    (keeps_epoch schema s base bs is (doubt_kept_before kept e.reply) o keeps.0 keeps.2))
 
 none_step : (up : Bool) (n : ℕ) (r : Reply) → (up ≡ true → n ≡ 0) → up_after up r ≡ true → count_after is_still_down n r ≡ 0
 none_step up n (Restarted epoch found) h is = refl

@@ -13,11 +13,11 @@ use Rattle.field_bounds.specs.declared.entry.Entry.{Entry}
 use Rattle.kept_records.specs.declared.record.Record.{Record}
 use Rattle.kept_records.specs.declared.record.Record.TheVariants as records
 use Rattle.field_bounds.specs.Schema.{SchemaValue}
-use Rattle.field_bounds.specs.Effects.{Base, says_kept}
+use Rattle.field_bounds.specs.Effects.{Base, says_doubt_kept}
 use Rattle.field_bounds.specs.Owed.{Place, place, answer, writes, is_up, is_unsure, count_since, count_after, TellsDoubt}
 use Rattle.kept_records.specs.Stands.{greatest}
-use Rattle.kept_state.specs.Keeps.{record_at, noted, adds, Tells, entry_at, Keeps}
-use Rattle.kept_records.specs.Keeping.{stands_behind}
+use Rattle.kept_state.specs.Keeps.{record_at, record_left, adds, Tells, entry_at, Keeps}
+use Rattle.kept_records.specs.Keeping.{is_record_behind}
 use Rattle.kept_state.specs.Doubt.{found_of, InDoubt, IsDoubt}
 use Rattle.field_bounds.proofs.Refused.{is_restart}
 use Rattle.field_bounds.proofs.Doubt.{kept_before_answer}
@@ -32,7 +32,7 @@ pub doubt_unsure : (at : Place) (site : SiteNo) (c : Command) (o : List Entry) (
     → IsDoubt stood (entry_at site c Unsure ∷ o) (rs ++ adds at c Unsure stood rs) (Some (length rs))
 doubt_unsure at site c o rs stood w =
     let made = doubt_new rs (record_at at c) stood (record_is_note at c w) in
-    let noted_is : noted at c ≡ record_at at c ∷ [] = ap (λ (b : Bool). cond b (record_at at c ∷ []) []) w in (
+    let noted_is : record_left at c ≡ record_at at c ∷ [] = ap (λ (b : Bool). cond b (record_at at c ∷ []) []) w in (
       omega arith,
       rs,
       record_at at c,
@@ -85,24 +85,24 @@ last_of false h = cc
 -- a restart finds it kept exactly where it is kept
 pub found_is : (kept : Bool) (o : List Entry) (rs : List Record) (n : ℕ) → IsDoubt kept o rs (Some n) → found_of (Some n) rs ≡ (if kept then Kept else Lost)
 found_is kept o rs n h =
-    ap (λ (b : Bool). if b then Kept else Lost) (ap (λ (m : ℕ). stands_behind m rs) h.3 ∙ found_is_kept kept h.1 h.2 rs h.4)
+    ap (λ (b : Bool). if b then Kept else Lost) (ap (λ (m : ℕ). is_record_behind m rs) h.3 ∙ found_is_kept kept h.1 h.2 rs h.4)
 
 -- and tells of a record in doubt exactly where there is one
 pub found_tells : (schema : SchemaValue) (s : ℕ) (base : Base) (kept : Bool) (o : List Entry) (rs : List Record) (doubt : Option ℕ) → IsDoubt kept o rs doubt
     → TellsDoubt (place schema s base o) (found_of doubt rs)
 found_tells schema s base kept o rs None h = (λ none. refl, λ nothing. h)
-found_tells schema s base kept o rs (Some n) h = (λ none. absurd (omega (arith, h.0, none)), λ nothing. absurd (last_of (stands_behind n rs) nothing))
+found_tells schema s base kept o rs (Some n) h = (λ none. absurd (omega (arith, h.0, none)), λ nothing. absurd (last_of (is_record_behind n rs) nothing))
 
-says_last : (b : Bool) → says_kept (if b then Kept else Lost) ≡ b
+says_last : (b : Bool) → says_doubt_kept (if b then Kept else Lost) ≡ b
 says_last true = refl
 says_last false = refl
 
 -- so the records are those of what it tells
 pub keeps_found : (schema : SchemaValue) (s : ℕ) (base : Base) (bs : List Record) (kept : Bool) (o : List Entry) (rs : List Record) (doubt : Option ℕ) → IsDoubt kept o rs doubt
-    → Keeps schema s base bs kept o rs → Keeps schema s base bs (says_kept (found_of doubt rs)) o rs
+    → Keeps schema s base bs kept o rs → Keeps schema s base bs (says_doubt_kept (found_of doubt rs)) o rs
 keeps_found schema s base bs kept o rs None h keeps = keeps_sure schema s base bs kept false o rs h keeps
 keeps_found schema s base bs kept o rs (Some n) h keeps =
-    subst (λ (k : Bool). Keeps schema s base bs k o rs) (sym (ap says_kept (found_is kept o rs n h) ∙ says_last kept)) keeps
+    subst (λ (k : Bool). Keeps schema s base bs k o rs) (sym (ap says_doubt_kept (found_is kept o rs n h) ∙ says_last kept)) keeps
 
 -- ---- the records
 
@@ -115,7 +115,7 @@ module _ (schema : SchemaValue) (s : ℕ) (base : Base) (bs : List Record) (kept
   here = place schema s base o
 
   -- an answer leaves the record of its command, if it writes one
-  pub keeps_answered : is_restart c ≡ false → Keeps schema s base bs kept (entry_at site c (answer here c) ∷ o) (rs ++ noted here c)
+  pub keeps_answered : is_restart c ≡ false → Keeps schema s base bs kept (entry_at site c (answer here c) ∷ o) (rs ++ record_left here c)
   keeps_answered n = (
     rs,
     true,

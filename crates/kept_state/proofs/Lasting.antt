@@ -10,11 +10,11 @@ use Rattle.field_bounds.specs.declared.entry.Entry.{Entry}
 use Rattle.kept_records.specs.declared.record.Record.{Record}
 use Rattle.kept_records.specs.declared.record.Record.TheVariants as records
 use Rattle.field_bounds.specs.Schema.{SchemaValue}
-use Rattle.field_bounds.specs.Effects.{Base, kept_before}
+use Rattle.field_bounds.specs.Effects.{Base, doubt_kept_before}
 use Rattle.field_bounds.specs.Owed.{Place, place, first, refusals, writes, Fits, RestartFits, AnswerFits, IsRun}
 use Rattle.kept_records.specs.Stands.{greatest, Lawful}
 use Rattle.kept_records.proofs.Pushes.{lawful_push}
-use Rattle.kept_state.specs.Keeps.{IsBase, record_at, noted, adds, Tells, Keeps}
+use Rattle.kept_state.specs.Keeps.{IsBase, record_at, record_left, adds, Tells, Keeps}
 use Rattle.field_bounds.proofs.Refused.{match_cases, is_restart}
 use Rattle.kept_state.proofs.Adding.{adds_answer}
 use Rattle.kept_state.proofs.Staying.{run_lawful_more}
@@ -32,7 +32,7 @@ module _ (schema : SchemaValue) (s : ℕ) (base : Base) (bs : List Record) (is :
       lawful_push schema s front (record_at there c) lawful (run_lawful_more schema s base bs is kept o front run keeps c h w)
   noted_lawful c n h false w = same_lawful
 
-  stood_lawful : (c : Command) (stood : Bool) → is_restart c ≡ false → first (refusals there c) ≡ None → Lawful schema s (front ++ cond stood (noted there c) [])
+  stood_lawful : (c : Command) (stood : Bool) → is_restart c ≡ false → first (refusals there c) ≡ None → Lawful schema s (front ++ cond stood (record_left there c) [])
   stood_lawful c true n h = noted_lawful c n h (writes there c) refl
   stood_lawful c false n h = same_lawful
 
@@ -67,6 +67,6 @@ pub run_stays_lawful : (schema : SchemaValue) (s : ℕ) (base : Base) (bs : List
     → IsRun schema s base o → Keeps schema s base bs kept o rs → Lawful schema s rs
 run_stays_lawful schema s base bs is lawful kept [] rs run keeps = subst (λ (all : List Record). Lawful schema s all) (sym keeps) lawful
 run_stays_lawful schema s base bs is lawful kept (e ∷ o) rs run keeps =
-    let before = run_stays_lawful schema s base bs is lawful (kept_before kept e.reply) o keeps.0 run.0 keeps.2 in
+    let before = run_stays_lawful schema s base bs is lawful (doubt_kept_before kept e.reply) o keeps.0 run.0 keeps.2 in
     subst (λ (all : List Record). Lawful schema s all) (sym keeps.4)
-    (step_lawful schema s base bs is o keeps.0 (kept_before kept e.reply) run.0 keeps.2 before e.command e.reply kept keeps.1 run.1 keeps.3)
+    (step_lawful schema s base bs is o keeps.0 (doubt_kept_before kept e.reply) run.0 keeps.2 before e.command e.reply kept keeps.1 run.1 keeps.3)

@@ -2,11 +2,11 @@
 use Rattle.std.proofs.Common.{◌≡◌, true, false, [], ◌∷◌, refl}
 use Rattle.std.proofs.lemmas.Bool.{false≢true}
 use Rattle.field_bounds.specs.declared.kind.Kind.TheVariants.{Lower, Raise}
-use Rattle.field_bounds.specs.Worked.{halved, stock}
+use Rattle.field_bounds.specs.Worked.{halved_shelf, stock}
 use Rattle.field_bounds.specs.WorkedGifts.{site}
 use Rattle.kept_records.specs.declared.record.Record.TheVariants as records
 use Rattle.kept_records.specs.Stands.{own_in, committed_in, given_in, accepted_in, cut_in, greatest}
-use Rattle.kept_state.specs.Worked.{Leaves, IsLawfulAtZero, commit, commit_of_two, gift, cut_lower, cut_raise, found_kept, found_lost, gifts_kept, spares_kept, cuts_kept, committed}
+use Rattle.kept_state.specs.Worked.{Leaves, IsLawfulAtZero, commit, commit_of_two, gift, cut_lower, cut_raise, found_kept, found_lost, gifts_kept, spares_kept, cuts_kept, row_committed}
 
 pub commit_kept : Leaves found_kept (commit ∷ records.Restart 1 ∷ records.Restart 2 ∷ [])
 unfolding greatest
@@ -28,14 +28,14 @@ pub cut_kept : Leaves cuts_kept (cut_lower 3 ∷ cut_raise 4 ∷ cut_lower 5 ∷
 unfolding greatest
 cut_kept = (cut_lower 3 ∷ cut_raise 4 ∷ cut_lower 5 ∷ [], true, (cut_lower 3 ∷ cut_raise 4 ∷ [], true, (cut_lower 3 ∷ [], true, ([], true, refl, tt, refl), tt, refl), refl, refl), refl, refl)
 
-pub in_order : Leaves committed (commit_of_two ∷ [])
+pub in_order : Leaves row_committed (commit_of_two ∷ [])
 in_order = ([], true, ([], true, ([], true, ([], true, refl, tt, refl), tt, refl), tt, refl), tt, refl)
 
-pub kept_rights : let rs = commit ∷ records.Restart 1 ∷ records.Restart 2 ∷ [] in (own_in halved 0 rs 0 Lower ≡ 0) × (own_in halved 0 rs 0 Raise ≡ 50)
+pub kept_rights : let rs = commit ∷ records.Restart 1 ∷ records.Restart 2 ∷ [] in (own_in halved_shelf 0 rs 0 Lower ≡ 0) × (own_in halved_shelf 0 rs 0 Raise ≡ 50)
 unfolding own_in committed_in given_in accepted_in cut_in
 kept_rights = (refl, refl)
 
-pub cut_rights : let rs = cut_lower 3 ∷ cut_raise 4 ∷ cut_lower 5 ∷ records.Restart 1 ∷ [] in (own_in halved 0 rs 0 Lower ≡ 15) × (own_in halved 0 rs 0 Raise ≡ 26)
+pub cut_rights : let rs = cut_lower 3 ∷ cut_raise 4 ∷ cut_lower 5 ∷ records.Restart 1 ∷ [] in (own_in halved_shelf 0 rs 0 Lower ≡ 15) × (own_in halved_shelf 0 rs 0 Raise ≡ 26)
 unfolding own_in committed_in given_in accepted_in cut_in
 cut_rights = (refl, refl)
 

@@ -17,7 +17,7 @@ use Rattle.field_bounds.specs.Owed.{Place, place, first, refusals, answer, write
 use Rattle.field_bounds.specs.Central.{own}
 use Rattle.kept_state.specs.declared.luck.Luck.{Luck}
 use Rattle.kept_state.specs.declared.luck.Luck.TheVariants.{Fine, Torn}
-use Rattle.kept_state.specs.Luck.{Lucky, entries, own_lucky, covered_after, covered_restarts, doubt_after, doubt, record_length, restart_length, kept_after, is_torn, refused_or, lucky_reply}
+use Rattle.kept_state.specs.Luck.{Lucky, entries, own_lucky, covered_after, covered_restarts, doubt_after, doubt, record_length, restart_length, epoch_kept, is_torn, refused_or, lucky_reply}
 
 -- ---- the greatest epoch kept
 
@@ -38,7 +38,7 @@ covered_within base (x ∷ xs) =
     covered_step x.0.reply x.1 (restart_length (epoch_of base (entries xs) + covered_restarts base xs + 1)) (covered_restarts base xs) (count_since is_still_down (entries xs))
     (covered_within base xs)
 
-kept_step : (r : Reply) (luck : Luck) (epoch n : ℕ) → kept_after r luck (epoch + n) ≡ epoch_after epoch r + covered_after r luck (restart_length (epoch + n + 1)) n
+kept_step : (r : Reply) (luck : Luck) (epoch n : ℕ) → epoch_kept r luck (epoch + n) ≡ epoch_after epoch r + covered_after r luck (restart_length (epoch + n + 1)) n
 kept_step (Restarted new found) luck epoch n = omega arith
 kept_step StillDown (Torn bytes) epoch n =
     elim (leb (restart_length (epoch + n + 1)) bytes) as (λ b. (if b then epoch + n + 1 else epoch + n) ≡ epoch + (if b then suc n else n)) [ true ↦ omega arith | false ↦ omega arith ]
@@ -47,7 +47,7 @@ kept_step r luck epoch n = refl
 
 -- the greatest epoch kept, step by step, is that of the last restart and those that left a whole record since
 pub kept_epoch_is : (base : Base) (x : Lucky) (xs : List Lucky)
-    → kept_after x.0.reply x.1 (epoch_of base (entries xs) + covered_restarts base xs) ≡ epoch_of base (entries (x ∷ xs)) + covered_restarts base (x ∷ xs)
+    → epoch_kept x.0.reply x.1 (epoch_of base (entries xs) + covered_restarts base xs) ≡ epoch_of base (entries (x ∷ xs)) + covered_restarts base (x ∷ xs)
 kept_epoch_is base x xs = kept_step x.0.reply x.1 (epoch_of base (entries xs)) (covered_restarts base xs)
 
 -- ---- the record in doubt

@@ -18,12 +18,12 @@ use Rattle.field_bounds.specs.Limits.{IsSchema}
 use Rattle.field_bounds.specs.declared.effect.Effect.{Effect}
 use Rattle.field_bounds.specs.declared.effect.Effect.TheVariants.{Begins, Grants, Commits, Gives, Accepts}
 use Rattle.field_bounds.specs.Effects.{Base, after, effects, same_txn, is_begun, escrows_of}
-use Rattle.field_bounds.specs.Owed.{Place, place, first, refusals, answer, writes, epoch_of, epoch_after, count_escrows, free, spared_of, max_number, max_epoch, max_escrows, Fits, IsRun}
+use Rattle.field_bounds.specs.Owed.{Place, place, first, refusals, answer, writes, epoch_of, epoch_after, count_escrows, free, spare_of, max_number, max_epoch, max_escrows, Fits, IsRun}
 use Rattle.kept_records.specs.Text.{IsChange, IsEscrow, IsRecord}
 use Rattle.kept_records.specs.declared.record.Record.{Record}
 use Rattle.kept_records.specs.declared.record.Record.TheVariants as records
 use Rattle.kept_records.specs.Stands.{later, greatest}
-use Rattle.kept_state.specs.Keeps.{record_at, opened, IsCutWithin}
+use Rattle.kept_state.specs.Keeps.{record_at, base_of_records, IsCutWithin}
 use Rattle.field_bounds.proofs.Lawful.{same_txn-true}
 use Rattle.field_bounds.proofs.Sparing.{spared_is_some}
 use Rattle.field_bounds.proofs.Refused.{none_holds, match_cases, begin_has_a_number, escrow_is_in_schema, escrow_is_some, escrow_is_small, escrow_is_one_of_few, commit_is_opened, give_is_to_a_site, give_is_in_schema, give_is_some, give_has_room, spare_is_to_a_site, spare_is_in_schema, spare_is_some, spare_has_a_share, spare_has_room, tighten_is_in_schema, tighten_is_some, accept_is_from_a_site, accept_is_in_schema, accept_is_some, accept_is_small}
@@ -113,7 +113,7 @@ carried at n is (Give to field kind amount) h kept l =
     (made, either n kept _ _ made l)
 carried at n is (Restate to field kind) h kept l = (l, l)
 carried at n is (Spare to field kind want) h kept l =
-    let made : IsRanged n (Gives (Some to) field kind (spared_of at field kind want) ∷ at.effects) = record { numbers = l.numbers; few = l.few; each = l.each } in
+    let made : IsRanged n (Gives (Some to) field kind (spare_of at field kind want) ∷ at.effects) = record { numbers = l.numbers; few = l.few; each = l.each } in
     (made, either n kept _ _ made l)
 carried at n is (Tighten field kind amount) h kept l =
     let made : IsRanged n (Gives None field kind amount ∷ at.effects) = record { numbers = l.numbers; few = l.few; each = l.each } in
@@ -171,7 +171,7 @@ unfolding greatest
 greatest_in_range rs is = fold_in_range 0 rs is (omega arith)
 
 -- so a site's base is in the range
-pub opened_in_range : (schema : SchemaValue) (s : ℕ) (empty : Bool) (bs : List Record) → AllByRecursion IsRecord bs → (opened schema s empty bs).epoch ≤ max_epoch
+pub opened_in_range : (schema : SchemaValue) (s : ℕ) (empty : Bool) (bs : List Record) → AllByRecursion IsRecord bs → (base_of_records schema s empty bs).epoch ≤ max_epoch
 opened_in_range schema s true bs is = omega arith
 opened_in_range schema s false bs is = greatest_in_range bs is
 

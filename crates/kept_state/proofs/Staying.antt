@@ -19,9 +19,9 @@ use Rattle.kept_records.specs.declared.record.Record.TheVariants as records
 use Rattle.field_bounds.specs.Schema.{SchemaValue}
 use Rattle.field_bounds.specs.declared.effect.Effect.{Effect}
 use Rattle.field_bounds.specs.declared.effect.Effect.TheVariants.{Begins, Grants, Commits, Aborts, Gives, Accepts, Stops}
-use Rattle.field_bounds.specs.Effects.{Base, same_txn, is_begun, is_open, escrows_of, takes, share, own_rights, given, cut, accepted}
-use Rattle.field_bounds.specs.Owed.{Place, place, first, refusals, writes, epoch_of, free, spared_of, gain_of, told_so_far, cut_so_far, IsRun}
-use Rattle.kept_records.specs.Stands.{greatest, given_in, accepted_in, cut_in, own_in, is_other_site, may_commit, room_in, may_stand}
+use Rattle.field_bounds.specs.Effects.{Base, same_txn, is_begun, is_open, escrows_of, takes, share, own_rights, total_given, cut, total_accepted}
+use Rattle.field_bounds.specs.Owed.{Place, place, first, refusals, writes, epoch_of, free, spare_of, gain_of, told_so_far, cut_so_far, IsRun}
+use Rattle.kept_records.specs.Stands.{greatest, given_in, accepted_in, cut_in, own_in, is_other_site, may_commit, room_in, may_follow}
 use Rattle.kept_state.specs.Keeps.{IsBase, record_at, Keeps}
 use Rattle.field_bounds.proofs.Lawful.{IsLawful, granted-mono, same_txn-true}
 use Rattle.field_bounds.proofs.Sparing.{spared_is_there, spared_is_some}
@@ -63,9 +63,9 @@ all_granted schema base p id h (Stops ∷ es) lawful = all_granted schema base p
 module _ (at : Place) (rs : List Record)
     (greatest_is : epoch_of at.base at.entries ≡ greatest rs)
     (own_is : (f : ℕ) (k : Kind) → own_rights at.base f k at.effects ≡ own_in at.schema at.site rs f k)
-    (given_is : (to f : ℕ) (k : Kind) → given at.base to f k at.effects ≡ given_in rs to f k)
+    (given_is : (to f : ℕ) (k : Kind) → total_given at.base to f k at.effects ≡ given_in rs to f k)
     (cut_is : (f : ℕ) (k : Kind) → cut at.base f k at.effects ≡ cut_in rs f k)
-    (accepted_is : (from f : ℕ) (k : Kind) → accepted at.base from f k at.effects ≡ accepted_in rs from f k)
+    (accepted_is : (from f : ℕ) (k : Kind) → total_accepted at.base from f k at.effects ≡ accepted_in rs from f k)
     (lawful : IsLawful at.schema at.base at.effects)
     (current : (id : TxnId) → is_begun id at.effects ≡ true → is_open id at.effects ≡ true → id.epoch ≡ epoch_of at.base at.entries)
   where
@@ -83,7 +83,7 @@ module _ (at : Place) (rs : List Record)
     other_site site known apart = rw (lt-ltb site.0 at.schema.sites known, ne_eqb site.0 at.site apart) refl
 
     gift_stands : (to : SiteNo) (field : FieldNo) (kind : Kind) (amount : ℕ) → to.0 < at.schema.sites → field.0 < length at.schema.fields → to.0 ≢ at.site
-        → 0 < amount → amount ≤ share at.base field.0 kind at.effects → may_stand at.schema at.site rs (records.Gift to field kind (told_so_far at to field kind + amount)) ≡ true
+        → 0 < amount → amount ≤ share at.base field.0 kind at.effects → may_follow at.schema at.site rs (records.Gift to field kind (told_so_far at to field kind + amount)) ≡ true
     gift_stands to field kind amount site known apart some enough =
         let total = told_so_far at to field kind + amount in
         rw (
@@ -93,7 +93,7 @@ module _ (at : Place) (rs : List Record)
           le-leb (total - given_in rs to.0 field.0 kind) (own_in at.schema at.site rs field.0 kind) (omega (arith, given_is to.0 field.0 kind, own_is field.0 kind, enough)),
         ) refl
 
-    pub stands_there : (c : Command) → first (refusals at c) ≡ None → writes at c ≡ true → may_stand at.schema at.site rs (record_at at c) ≡ true
+    pub stands_there : (c : Command) → first (refusals at c) ≡ None → writes at c ≡ true → may_follow at.schema at.site rs (record_at at c) ≡ true
     stands_there (Commit txn) h w =
         let none = none_holds (refusals at (Commit txn)) h in
         let both = commit_is_opened at txn none in
@@ -118,7 +118,7 @@ module _ (at : Place) (rs : List Record)
         (give_is_enough at to field kind amount none)
     stands_there (Spare to field kind want) h w =
         let none = none_holds (refusals at (Spare to field kind want)) h in
-        gift_stands to field kind (spared_of at field kind want)
+        gift_stands to field kind (spare_of at field kind want)
         (spare_is_to_a_site at to field kind want none)
         (spare_is_in_schema at to field kind want none)
         (spare_is_to_another at to field kind want none)
@@ -160,16 +160,16 @@ writes_no_restart at c w = refl
 -- the record of a command that writes one may stand behind those that the run has left
 pub run_lawful_more : (schema : SchemaValue) (s : ℕ) (base : Base) (bs : List Record) → IsBase schema s base bs → (kept : Bool) (o : List Entry) (rs : List Record)
     → IsRun schema s base o → Keeps schema s base bs kept o rs → (c : Command) → first (refusals (place schema s base o) c) ≡ None
-    → writes (place schema s base o) c ≡ true → may_stand schema s rs (record_at (place schema s base o) c) ≡ true
+    → writes (place schema s base o) c ≡ true → may_follow schema s rs (record_at (place schema s base o) c) ≡ true
 run_lawful_more schema s base bs is kept o rs run keeps c h w =
     let up = up_there (place schema s base o) c (writes_no_restart (place schema s base o) c w) h in
     let same = nothing_in_doubt base kept o up in
     stands_there (place schema s base o) rs
     (up_epoch schema s base bs is kept o rs keeps up)
     (λ f k. subst (λ (es : List Effect). own_rights base f k es ≡ own_in schema s rs f k) same (run_owns schema s base bs kept o rs is run keeps f k))
-    (λ to f k. subst (λ (es : List Effect). given base to f k es ≡ given_in rs to f k) same (run_gives schema s base bs kept o rs is run keeps to f k))
+    (λ to f k. subst (λ (es : List Effect). total_given base to f k es ≡ given_in rs to f k) same (run_gives schema s base bs kept o rs is run keeps to f k))
     (λ f k. subst (λ (es : List Effect). cut base f k es ≡ cut_in rs f k) same (run_cuts schema s base bs kept o rs is run keeps f k))
-    (λ from f k. subst (λ (es : List Effect). accepted base from f k es ≡ accepted_in rs from f k) same (run_accepts schema s base bs kept o rs is run keeps from f k))
+    (λ from f k. subst (λ (es : List Effect). total_accepted base from f k es ≡ accepted_in rs from f k) same (run_accepts schema s base bs kept o rs is run keeps from f k))
     (run_is_lawful schema s base o run false)
     (λ id. open_is_current schema s base o run false id)
     c h w

@@ -5,7 +5,7 @@ use Rattle.field_bounds.specs.declared.entry.Reply.TheVariants.{Restarted, Unsur
 use Rattle.field_bounds.specs.declared.entry.Entry.{Entry}
 use Rattle.kept_records.specs.declared.record.Record.{Record}
 use Rattle.field_bounds.specs.Schema.{SchemaValue}
-use Rattle.field_bounds.specs.Effects.{Base, kept_before}
+use Rattle.field_bounds.specs.Effects.{Base, doubt_kept_before}
 use Rattle.field_bounds.specs.Owed.{is_up, is_unsure, count_since, count_after}
 use Rattle.kept_state.specs.Keeps.{Tells, Keeps}
 use Rattle.field_bounds.proofs.Doubt.{up_none_unsure}
@@ -15,7 +15,7 @@ tells_sure n (Restarted epoch found) kept other stood front h tells = tells
 tells_sure n Unsure kept other stood front h tells = absurd (omega (arith, h))
 tells_sure n r kept other stood front h tells = tt
 
-before_sure : (n : ℕ) (r : Reply) (kept other : Bool) (P : Bool → Type 0) → count_after is_unsure n r ≡ 0 → (n ≡ 0 → P kept → P other) → P (kept_before kept r) → P (kept_before other r)
+before_sure : (n : ℕ) (r : Reply) (kept other : Bool) (P : Bool → Type 0) → count_after is_unsure n r ≡ 0 → (n ≡ 0 → P kept → P other) → P (doubt_kept_before kept r) → P (doubt_kept_before other r)
 before_sure n (Restarted epoch found) kept other P h step was = was
 before_sure n Unsure kept other P h step was = absurd (omega (arith, h))
 before_sure n r kept other P h step was = step (omega (arith, h)) was

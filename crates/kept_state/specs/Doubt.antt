@@ -6,12 +6,12 @@ use Rattle.field_bounds.specs.declared.entry.Last.TheVariants.{Nothing, Kept, Lo
 use Rattle.field_bounds.specs.declared.entry.Entry.{Entry}
 use Rattle.field_bounds.specs.Owed.{is_unsure, count_since}
 use Rattle.kept_records.specs.declared.record.Record.{Record}
-use Rattle.kept_records.specs.Keeping.{is_restart as is_restart_record, stands_behind}
+use Rattle.kept_records.specs.Keeping.{is_restart as is_restart_record, is_record_behind}
 
 -- What a restart says of the record in doubt, before which n records stood; Nothing where none is.
 abbrev pub found_of : Option ℕ → List Record → Last
 found_of None rs = Nothing
-found_of (Some n) rs = if stands_behind n rs then Kept else Lost
+found_of (Some n) rs = if is_record_behind n rs then Kept else Lost
 
 -- The record in doubt stands behind some records, if it is kept, and only restarts' records behind it.
 pub record InDoubt (kept : Bool) (before : List Record) (note : Record) (rs : List Record) : Type 0 where

@@ -9,11 +9,11 @@ use Rattle.field_bounds.specs.declared.entry.Reply.{Reply}
 use Rattle.field_bounds.specs.declared.entry.Reply.TheVariants.{Begun, Granted, Committed, Aborted, Given, Stated, Spared, Tightened, Accepted, Between, Shares, Restarted, Unsure, StillDown, Refused}
 use Rattle.field_bounds.specs.declared.entry.Entry.{Entry}
 use Rattle.field_bounds.specs.Schema.{SchemaValue}
-use Rattle.field_bounds.specs.Effects.{Base, fresh, escrows_of, kept_before}
-use Rattle.field_bounds.specs.Owed.{Place, place, told_so_far, cut_so_far, spared_of, writes, max_change}
+use Rattle.field_bounds.specs.Effects.{Base, fresh, escrows_of, doubt_kept_before}
+use Rattle.field_bounds.specs.Owed.{Place, place, told_so_far, cut_so_far, spare_of, writes, max_change}
 use Rattle.kept_records.specs.declared.record.Record.{Record}
 use Rattle.kept_records.specs.declared.record.Record.TheVariants.{Commit, Gift, Accept, Tighten, Restart}
-use Rattle.kept_records.specs.Stands.{greatest, stands, gained_in, spent_in, given_in, cut_in, accepted_in}
+use Rattle.kept_records.specs.Stands.{greatest, base_stood_for, gained_in, spent_in, given_in, cut_in, accepted_in}
 
 -- The record of a command that is carried out where a site stands: a transaction's escrows in order of grant, the new
 -- total of a gift, of a spare or of a tightening, the total of a statement. For a command that writes none there stands
@@ -21,7 +21,7 @@ use Rattle.kept_records.specs.Stands.{greatest, stands, gained_in, spent_in, giv
 abbrev pub record_at : Place → Command → Record
 record_at at (commands.Commit txn) = Commit txn (reverse (escrows_of txn at.effects))
 record_at at (commands.Give to field kind amount) = Gift to field kind (told_so_far at to field kind + amount)
-record_at at (commands.Spare to field kind want) = Gift to field kind (told_so_far at to field kind + spared_of at field kind want)
+record_at at (commands.Spare to field kind want) = Gift to field kind (told_so_far at to field kind + spare_of at field kind want)
 record_at at (commands.Tighten field kind amount) = Tighten field kind (cut_so_far at field kind + amount)
 record_at at (commands.Accept told) = Accept told.from told.field told.kind told.total
 record_at at commands.Begin = Restart 0
@@ -48,26 +48,26 @@ IsCutWithin at (commands.Share field) = Unit {0}
 IsCutWithin at commands.Restart = Unit {0}
 
 -- That record, where the command writes one.
-abbrev pub noted : Place → Command → List Record
-noted at command = if writes at command then record_at at command ∷ [] else []
+abbrev pub record_left : Place → Command → List Record
+record_left at command = if writes at command then record_at at command ∷ [] else []
 
 -- The records that an entry adds behind some records; stood says whether the device left a record that wasn't answered.
 abbrev pub adds : Place → Command → Reply → Bool → List Record → List Record
 adds at command (Refused refusal) stood rs = []
 adds at command (Restarted epoch found) stood rs = Restart epoch ∷ []
 adds at command StillDown stood rs = if stood then Restart (greatest rs + 1) ∷ [] else []
-adds at command Unsure stood rs = if stood then noted at command else []
-adds at command (Begun txn) stood rs = noted at command
-adds at command Granted stood rs = noted at command
-adds at command Committed stood rs = noted at command
-adds at command Aborted stood rs = noted at command
-adds at command (Given total) stood rs = noted at command
-adds at command (Stated total) stood rs = noted at command
-adds at command (Spared amount total) stood rs = noted at command
-adds at command (Tightened total) stood rs = noted at command
-adds at command (Accepted gain) stood rs = noted at command
-adds at command (Between lo hi) stood rs = noted at command
-adds at command (Shares lower raise) stood rs = noted at command
+adds at command Unsure stood rs = if stood then record_left at command else []
+adds at command (Begun txn) stood rs = record_left at command
+adds at command Granted stood rs = record_left at command
+adds at command Committed stood rs = record_left at command
+adds at command Aborted stood rs = record_left at command
+adds at command (Given total) stood rs = record_left at command
+adds at command (Stated total) stood rs = record_left at command
+adds at command (Spared amount total) stood rs = record_left at command
+adds at command (Tightened total) stood rs = record_left at command
+adds at command (Accepted gain) stood rs = record_left at command
+adds at command (Between lo hi) stood rs = record_left at command
+adds at command (Shares lower raise) stood rs = record_left at command
 
 -- What a reply tells of the records in front of it: kept says whether the next restart will say Kept, and an epoch is
 -- the greatest before it and one more.
@@ -96,7 +96,7 @@ entry_at site command reply = record { site = site; command = command; reply = r
 abbrev pub Keeps : SchemaValue → ℕ → Base → List Record → Bool → List Entry → List Record → Type 0
 Keeps schema s base bs kept [] rs = rs ≡ bs
 Keeps schema s base bs kept (e ∷ o) rs =
-    (front : List Record) × (stood : Bool) × Keeps schema s base bs (kept_before kept e.reply) o front
+    (front : List Record) × (stood : Bool) × Keeps schema s base bs (doubt_kept_before kept e.reply) o front
     × Tells kept stood front e.reply × (rs ≡ front ++ adds (place schema s base o) e.command e.reply stood front)
 
 -- The base is what these records stand for.
@@ -109,6 +109,6 @@ pub record IsBase (schema : SchemaValue) (s : ℕ) (base : Base) (bs : List Reco
 
 -- What a site stands on that was opened over these records: the fresh base where the medium was empty, and else what
 -- they stand for, not up.
-abbrev pub opened : SchemaValue → ℕ → Bool → List Record → Base
-opened schema s true bs = fresh schema s
-opened schema s false bs = stands schema s false bs
+abbrev pub base_of_records : SchemaValue → ℕ → Bool → List Record → Base
+base_of_records schema s true bs = fresh schema s
+base_of_records schema s false bs = base_stood_for schema s false bs

@@ -124,23 +124,23 @@ owed_with at epoch found (commands.Read field) luck = answer_reply at (commands.
 owed_with at epoch found (commands.Share field) luck = answer_reply at (commands.Share field) luck
 
 -- The greatest epoch kept, after a reply.
-abbrev pub kept_after : Reply → Luck → ℕ → ℕ
-kept_after (Restarted epoch found) luck kept = epoch
-kept_after StillDown (Torn bytes) kept = if nat_le (restart_length (kept + 1)) bytes then kept + 1 else kept
-kept_after StillDown Fine kept = kept
-kept_after Unsure luck kept = kept
-kept_after (Refused refusal) luck kept = kept
-kept_after (Begun txn) luck kept = kept
-kept_after Granted luck kept = kept
-kept_after Committed luck kept = kept
-kept_after Aborted luck kept = kept
-kept_after (Given total) luck kept = kept
-kept_after (Stated total) luck kept = kept
-kept_after (Spared amount total) luck kept = kept
-kept_after (Tightened total) luck kept = kept
-kept_after (Accepted gain) luck kept = kept
-kept_after (Between lo hi) luck kept = kept
-kept_after (Shares lower raise) luck kept = kept
+abbrev pub epoch_kept : Reply → Luck → ℕ → ℕ
+epoch_kept (Restarted epoch found) luck kept = epoch
+epoch_kept StillDown (Torn bytes) kept = if nat_le (restart_length (kept + 1)) bytes then kept + 1 else kept
+epoch_kept StillDown Fine kept = kept
+epoch_kept Unsure luck kept = kept
+epoch_kept (Refused refusal) luck kept = kept
+epoch_kept (Begun txn) luck kept = kept
+epoch_kept Granted luck kept = kept
+epoch_kept Committed luck kept = kept
+epoch_kept Aborted luck kept = kept
+epoch_kept (Given total) luck kept = kept
+epoch_kept (Stated total) luck kept = kept
+epoch_kept (Spared amount total) luck kept = kept
+epoch_kept (Tightened total) luck kept = kept
+epoch_kept (Accepted gain) luck kept = kept
+epoch_kept (Between lo hi) luck kept = kept
+epoch_kept (Shares lower raise) luck kept = kept
 
 -- The one reply after what a site has lived through.
 abbrev pub lucky_reply : SchemaValue → ℕ → Base → List Lucky → Command → Luck → Reply

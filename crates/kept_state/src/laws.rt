@@ -10,13 +10,13 @@ ghost use Rattle.field_bounds.specs.declared.entry.Command.TheVariants.{Restart}
 ghost use Rattle.field_bounds.specs.declared.entry.Reply.TheVariants.{Restarted, Refused};
 ghost use Rattle.field_bounds.specs.declared.entry.Refusal.TheVariants.{NumbersFull};
 ghost use Rattle.field_bounds.specs.Schema.{SchemaValue};
-ghost use Rattle.field_bounds.specs.Effects.{Base, fresh, effects, share, held, own_rights, given, cut, accepted};
+ghost use Rattle.field_bounds.specs.Effects.{Base, fresh, effects, share, held_rights, own_rights, total_given, cut, total_accepted};
 ghost use Rattle.field_bounds.specs.Owed.{place, is_up, epoch_of, count_since, is_unsure, max_epoch, Fits, RestartFits, IsRun};
 ghost use Rattle.kept_records.specs.declared.record.Record.{Record};
-ghost use Rattle.kept_records.specs.Stands.{greatest, given_in, cut_in, accepted_in, own_in, stands, Lawful};
+ghost use Rattle.kept_records.specs.Stands.{greatest, given_in, cut_in, accepted_in, own_in, base_stood_for, Lawful};
 ghost use Rattle.kept_state.specs.declared.luck.Luck.{Luck};
 ghost use Rattle.kept_state.specs.Keeps.{Keeps, IsBase};
-ghost use Rattle.kept_records.specs.Keeping.{stands_behind};
+ghost use Rattle.kept_records.specs.Keeping.{is_record_behind};
 ghost use Rattle.kept_state.specs.Doubt.{InDoubt};
 ghost use Rattle.kept_state.specs.Luck.{Lucky, entries, lucky_reply};
 
@@ -48,7 +48,7 @@ pub fn records_stand()
     ensures gives { (schema : SchemaValue) (s : ℕ) (base : Base) (bs : List Record) (kept : Bool)
         (o : List Entry) (rs : List Record) →
         IsBase schema s base bs → IsRun schema s base o → Keeps schema s base bs kept o rs →
-        (to f : ℕ) (k : Kind) → given base to f k (effects base kept o) ≡ given_in rs to f k }
+        (to f : ℕ) (k : Kind) → total_given base to f k (effects base kept o) ≡ given_in rs to f k }
     ensures cuts { (schema : SchemaValue) (s : ℕ) (base : Base) (bs : List Record) (kept : Bool)
         (o : List Entry) (rs : List Record) →
         IsBase schema s base bs → IsRun schema s base o → Keeps schema s base bs kept o rs →
@@ -57,13 +57,13 @@ pub fn records_stand()
         (o : List Entry) (rs : List Record) →
         IsBase schema s base bs → IsRun schema s base o → Keeps schema s base bs kept o rs →
         (from f : ℕ) (k : Kind) →
-        accepted base from f k (effects base kept o) ≡ accepted_in rs from f k }
+        total_accepted base from f k (effects base kept o) ≡ accepted_in rs from f k }
     ensures restarts { (schema : SchemaValue) (s : ℕ) (base : Base) (bs : List Record) (kept : Bool)
         (e : Entry) (o : List Entry) (rs : List Record) (epoch : ℕ) (found : Last) →
         IsBase schema s base bs → IsRun schema s base (e ∷ o) → Keeps schema s base bs kept (e ∷ o) rs →
         e.command ≡ Restart → e.reply ≡ Restarted epoch found → (f : ℕ) (k : Kind) →
         (share base f k (effects base kept (e ∷ o)) ≡ own_in schema s rs f k)
-        × (held f k (effects base kept (e ∷ o)) ≡ 0) }
+        × (held_rights f k (effects base kept (e ∷ o)) ≡ 0) }
     ensures epoch { (schema : SchemaValue) (s : ℕ) (base : Base) (bs : List Record) (kept : Bool)
         (o : List Entry) (rs : List Record) →
         IsBase schema s base bs → Keeps schema s base bs kept o rs → is_up base o ≡ true →
@@ -80,7 +80,7 @@ pub fn records_stand()
         (count_since is_unsure o ≡ 0)
         ⊎ ((before : List Record) × (note : Record) × InDoubt kept before note rs) }
     ensures found { (kept : Bool) (before : List Record) (note : Record) (rs : List Record) →
-        InDoubt kept before note rs → stands_behind (length before) rs ≡ kept }
+        InDoubt kept before note rs → is_record_behind (length before) rs ≡ kept }
     ensures fits { (schema : SchemaValue) (s : ℕ) (base : Base) (bs : List Record) (kept : Bool)
         (o : List Entry) (rs : List Record) (found : Last) →
         IsBase schema s base bs → Keeps schema s base bs kept o rs → greatest rs < max_epoch →
@@ -92,7 +92,7 @@ pub fn records_stand()
         IsBase schema s base bs → Keeps schema s base bs kept o rs → max_epoch ≤ greatest rs →
         RestartFits (place schema s base o) (Refused NumbersFull) }
     ensures stands { (schema : SchemaValue) (s : ℕ) (up : Bool) (rs : List Record) →
-        Lawful schema s rs → IsBase schema s (stands schema s up rs) rs }
+        Lawful schema s rs → IsBase schema s (base_stood_for schema s up rs) rs }
     ensures fresh { (schema : SchemaValue) (s : ℕ) → IsBase schema s (fresh schema s) [] }
     ensures length { (schema : SchemaValue) (s : ℕ) (base : Base) (bs : List Record) (kept : Bool)
         (o : List Entry) (rs : List Record) →

@@ -18,8 +18,8 @@ ghost use Rattle.field_bounds.specs.Owed.{Place, place, first, refusals, answer,
 ghost use Rattle.kept_records.specs.declared.record.Record.{Record};
 ghost use Rattle.kept_records.specs.declared.record.Record.TheVariants as records;
 ghost use Rattle.kept_records.specs.Text.{IsRecord};
-ghost use Rattle.kept_records.specs.Stands.{greatest, may_stand, Lawful};
-ghost use Rattle.kept_state.specs.Keeps.{record_at, IsCutWithin, noted, adds, entry_at, Keeps, IsBase};
+ghost use Rattle.kept_records.specs.Stands.{greatest, may_follow, Lawful};
+ghost use Rattle.kept_state.specs.Keeps.{record_at, IsCutWithin, record_left, adds, entry_at, Keeps, IsBase};
 ghost use Rattle.kept_state.specs.Doubt.{found_of, IsDoubt};
 
 /// What each reply leaves behind the records `rs` that a site's entries `o` have left. An answer
@@ -34,7 +34,7 @@ pub fn replies_leave()
         (o : List Entry) (rs : List Record) (site : SiteNo) (command : Command) →
         Keeps schema s base bs kept o rs → command ≢ Restart →
         Keeps schema s base bs kept (entry_at site command (answer (place schema s base o) command) ∷ o)
-        (rs ++ noted (place schema s base o) command) }
+        (rs ++ record_left (place schema s base o) command) }
     ensures refused { (schema : SchemaValue) (s : ℕ) (base : Base) (bs : List Record) (kept : Bool)
         (o : List Entry) (rs : List Record) (site : SiteNo) (command : Command) (refusal : Refusal) →
         Keeps schema s base bs kept o rs →
@@ -104,7 +104,7 @@ pub fn records_may_be_written()
         IsBase schema s base bs → IsRun schema s base o → Keeps schema s base bs kept o rs →
         first (refusals (place schema s base o) command) ≡ None →
         writes (place schema s base o) command ≡ true →
-        may_stand schema s rs (record_at (place schema s base o) command) ≡ true }
+        may_follow schema s rs (record_at (place schema s base o) command) ≡ true }
     ensures in_range { (schema : SchemaValue) (s : ℕ) (base : Base) (o : List Entry)
         (command : Command) → IsSchema schema → IsRun schema s base o → base.epoch ≤ max_epoch →
         IsCutWithin (place schema s base o) command →

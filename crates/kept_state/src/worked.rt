@@ -7,12 +7,12 @@ ghost use Rattle.field_bounds.specs.declared.kind.Kind.TheVariants.{Lower, Raise
 ghost use Rattle.field_bounds.specs.declared.entry.Command.TheVariants as commands;
 ghost use Rattle.field_bounds.specs.declared.entry.Last.TheVariants.{Nothing, Kept, Lost};
 ghost use Rattle.field_bounds.specs.declared.entry.Reply.TheVariants.{Restarted, Unsure, StillDown, Committed};
-ghost use Rattle.field_bounds.specs.Worked.{halved, stock, txn};
+ghost use Rattle.field_bounds.specs.Worked.{halved_shelf, stock, txn};
 ghost use Rattle.field_bounds.specs.WorkedGifts.{site, IsOwedAt};
 ghost use Rattle.kept_records.specs.declared.record.Record.TheVariants as records;
 ghost use Rattle.kept_records.specs.Stands.{own_in};
 ghost use Rattle.kept_state.specs.declared.luck.Luck.TheVariants.{Fine, Torn};
-ghost use Rattle.kept_state.specs.Worked.{Leaves, IsLawfulAtZero, replies, commit, commit_of_two, gift, cut_lower, cut_raise, committed, found_kept, found_lost, gifts_kept, spares_kept, cuts_kept, torn, torn_twice, torn_gift, torn_cut};
+ghost use Rattle.kept_state.specs.Worked.{Leaves, IsLawfulAtZero, replies, commit, commit_of_two, gift, cut_lower, cut_raise, row_committed, found_kept, found_lost, gifts_kept, spares_kept, cuts_kept, torn, torn_twice, torn_gift, torn_cut};
 
 /// What these histories leave. A commit of 20 in doubt that is kept stands in front of the records
 /// of both restarts, the one that failed too (`kept`), and leaves 0 rights to lower and 50 to raise
@@ -30,14 +30,14 @@ pub fn worked_records()
     ensures gifts { Leaves gifts_kept (gift 3 ∷ gift 5 ∷ records.Restart 1 ∷ []) }
     ensures spares { Leaves spares_kept (gift 10 ∷ gift 13 ∷ records.Restart 1 ∷ []) }
     ensures cuts { Leaves cuts_kept (cut_lower 3 ∷ cut_raise 4 ∷ cut_lower 5 ∷ records.Restart 1 ∷ []) }
-    ensures in_order { Leaves committed (commit_of_two ∷ []) }
+    ensures in_order { Leaves row_committed (commit_of_two ∷ []) }
     ensures rights { let rs = commit ∷ records.Restart 1 ∷ records.Restart 2 ∷ [] in
-        (own_in halved 0 rs 0 Lower ≡ 0) × (own_in halved 0 rs 0 Raise ≡ 50) }
+        (own_in halved_shelf 0 rs 0 Lower ≡ 0) × (own_in halved_shelf 0 rs 0 Raise ≡ 50) }
     ensures given_up { let rs = cut_lower 3 ∷ cut_raise 4 ∷ cut_lower 5 ∷ records.Restart 1 ∷ [] in
-        (own_in halved 0 rs 0 Lower ≡ 15) × (own_in halved 0 rs 0 Raise ≡ 26) }
+        (own_in halved_shelf 0 rs 0 Lower ≡ 15) × (own_in halved_shelf 0 rs 0 Raise ≡ 26) }
     ensures lawful { IsLawfulAtZero (commit ∷ records.Restart 1 ∷ records.Restart 2 ∷ []) }
     ensures lawful_cuts { IsLawfulAtZero (cut_lower 3 ∷ cut_raise 4 ∷ cut_lower 20 ∷ cut_raise 30 ∷ []) }
-    ensures owed { IsOwedAt 0 found_kept × IsOwedAt 0 found_lost × IsOwedAt 0 gifts_kept × IsOwedAt 0 spares_kept × IsOwedAt 0 cuts_kept × IsOwedAt 0 committed }
+    ensures owed { IsOwedAt 0 found_kept × IsOwedAt 0 found_lost × IsOwedAt 0 gifts_kept × IsOwedAt 0 spares_kept × IsOwedAt 0 cuts_kept × IsOwedAt 0 row_committed }
 {}
 
 /// What these histories don't leave: neither a commit that was kept without its record, nor one that

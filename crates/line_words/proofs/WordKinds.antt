@@ -8,7 +8,7 @@ use Rattle.std.proofs.lemmas.Bool.{lt-ltb, ltb-true, cond-true, and_parts}
 use Rattle.std.proofs.lemmas.Int.{ints}
 use Rattle.std.proofs.lemmas.Option.{same_Some, cond_some}
 use Rattle.std.proofs.lemmas.Slice.Eq.{bytes_eq-Decides}
-use Rattle.line_words.specs.Reading.{◌>>=◌, number_of, below, signed_of, beside, only_of, ended}
+use Rattle.line_words.specs.Reading.{◌>>=◌, number_of, below, signed_of, beside, only_of, only_value}
 use Rattle.line_words.proofs.Numbers.{number_takes, number_again, bind_some}
 use Rattle.line_words.proofs.SignedNumbers.{signed_takes, signed_again, chosen}
 use Rattle.line_words.proofs.WordLemmas.{IsWord, decimal_word, word_from_test, is_word}
@@ -97,7 +97,7 @@ only_read k e = record { takes = λ w u e. (tt, only_takes k w u e); again = λ 
 
 -- ---- whole lines
 
-pub ended_takes : {A : Type 0} (x : A × List (List ℕ)) (y : A) → ended x ≡ Some y → found x.0 x.1 ≡ found y []
+pub ended_takes : {A : Type 0} (x : A × List (List ℕ)) (y : A) → only_value x ≡ Some y → found x.0 x.1 ≡ found y []
 ended_takes (v, []) y e = ap (λ (z : _). found z []) (same_Some v y e)
 ended_takes (v, w ∷ ws) y e = absurd cc
 

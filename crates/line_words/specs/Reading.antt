@@ -58,6 +58,6 @@ Gives None left read = read ≡ None
 Gives (Some x) left read = read ≡ Some (x, left)
 
 -- The value, where no word is left.
-abbrev pub ended : {A : Type 0} → A × List (List ℕ) → Option A
-ended (v, []) = Some v
-ended (v, w ∷ ws) = None
+abbrev pub only_value : {A : Type 0} → A × List (List ℕ) → Option A
+only_value (v, []) = Some v
+only_value (v, w ∷ ws) = None

@@ -17,14 +17,14 @@ use Rattle.kept_records.specs.Text.{text, IsRecord, IsListed, IsSummary}
 use Rattle.kept_records.specs.Logs.{HasNoLf, IsLog}
 use Rattle.kept_records.specs.ReadingBack.{with_summary}
 use Rattle.kept_records.specs.declared.reading_back.ReadBack.{ReadBack}
-use Rattle.kept_records.specs.Summary.{SummaryValue, rights_told, told_more, told, cut_told, rights_of}
-use Rattle.kept_records.specs.Stands.{is_summary, since_summary, count_behind, may_stand, Lawful}
-use Rattle.kept_records.specs.Summaries.{TellsOf, IsPlaced}
+use Rattle.kept_records.specs.Summary.{SummaryValue, rights_told, told_more, total_told, cut_told, rights_of}
+use Rattle.kept_records.specs.Stands.{is_summary, since_summary, count_behind, may_follow, Lawful}
+use Rattle.kept_records.specs.Summaries.{TellsOf, IsWhereDue}
 use Rattle.kept_records.proofs.Summaries.{since_push, same_sums, same_summary_push, own_same}
 use Rattle.site_rights.specs.declared.field_rights.FieldRights.{FieldRights}
 use Rattle.site_rights.specs.Rights.{AreTold, AreWithin, told_of}
 use Rattle.gift_ledger.specs.declared.account.Account.{Account}
-use Rattle.gift_ledger.specs.Ledger.{LedgerValue, IsPlace, total_at, accepted_at, with_total, with_accepted, fresh_ledger}
+use Rattle.gift_ledger.specs.Ledger.{LedgerValue, IsSlot, total_at, accepted_at, with_total, with_accepted, fresh_ledger}
 use Rattle.gift_ledger.proofs.LedgerLaws.{place_stays, fresh_place, fresh_account, total_at-with_total, accepted_at-with_total, total_at-with_accepted, accepted_at-with_accepted}
 use Rattle.log_replay.specs.declared.standing.Standing.{Standing}
 use Rattle.log_replay.specs.Standing.{StandsFor, NoneHeld, IsStandingFor}
@@ -48,7 +48,7 @@ each_at P (x ∷ xs) (suc i) d below all = each_at P xs i d (omega (arith, below
 pub gifts_none : (ledger : LedgerValue) → NotesGifts ledger [] ledger
 gifts_none ledger = record { site = refl; place = λ r f h. h; given = λ r f k. refl; accepted = λ r f k. refl }
 
-pub gifts_more : (old now : LedgerValue) (ts : List Total) (i : ℕ) → i < length ts → NotesGifts old (take i ts) now → (t : Total) → t ≡ get_or ts i no_total → IsPlace now t.site.0 t.field.0
+pub gifts_more : (old now : LedgerValue) (ts : List Total) (i : ℕ) → i < length ts → NotesGifts old (take i ts) now → (t : Total) → t ≡ get_or ts i no_total → IsSlot now t.site.0 t.field.0
     → NotesGifts old (take (i + 1) ts) (with_total now t.site.0 t.field.0 t.kind t.total)
 gifts_more old now ts i below was t is here =
     let new : Account = record { given = t.total; accepted = accepted_at now t.site.0 t.field.0 t.kind } in
@@ -66,7 +66,7 @@ gifts_more old now ts i below was t is here =
 pub accepts_none : (ledger : LedgerValue) → NotesAccepts ledger [] ledger
 accepts_none ledger = record { site = refl; place = λ r f h. h; given = λ r f k. refl; accepted = λ r f k. refl }
 
-pub accepts_more : (old now : LedgerValue) (ts : List Total) (i : ℕ) → i < length ts → NotesAccepts old (take i ts) now → (t : Total) → t ≡ get_or ts i no_total → IsPlace now t.site.0 t.field.0
+pub accepts_more : (old now : LedgerValue) (ts : List Total) (i : ℕ) → i < length ts → NotesAccepts old (take i ts) now → (t : Total) → t ≡ get_or ts i no_total → IsSlot now t.site.0 t.field.0
     → NotesAccepts old (take (i + 1) ts) (with_accepted now t.site.0 t.field.0 t.kind t.total)
 accepts_more old now ts i below was t is here =
     let new : Account = record { given = total_at now t.site.0 t.field.0 t.kind; accepted = t.total } in
@@ -82,11 +82,11 @@ accepts_more old now ts i below was t is here =
     }
 
 -- totals of a summary have places in a fresh ledger
-pub placed_fresh : (schema : SchemaValue) (s : ℕ) (ts : List Total) → AllByRecursion (λ t. IsPlaced schema s t) ts → AllByRecursion (λ t. IsPlace (fresh_ledger schema s) t.site.0 t.field.0) ts
+pub placed_fresh : (schema : SchemaValue) (s : ℕ) (ts : List Total) → AllByRecursion (λ t. IsWhereDue schema s t) ts → AllByRecursion (λ t. IsSlot (fresh_ledger schema s) t.site.0 t.field.0) ts
 placed_fresh schema s [] all = tt
 placed_fresh schema s (t ∷ ts) all = (fresh_place schema s t.site.0 t.field.0 all.0.other all.0.site_in all.0.field_in, placed_fresh schema s ts all.1)
 
-pub placed_still : (old new : LedgerValue) → ((r f : ℕ) → IsPlace old r f → IsPlace new r f) → (ts : List Total) → AllByRecursion (λ t. IsPlace old t.site.0 t.field.0) ts → AllByRecursion (λ t. IsPlace new t.site.0 t.field.0) ts
+pub placed_still : (old new : LedgerValue) → ((r f : ℕ) → IsSlot old r f → IsSlot new r f) → (ts : List Total) → AllByRecursion (λ t. IsSlot old t.site.0 t.field.0) ts → AllByRecursion (λ t. IsSlot new t.site.0 t.field.0) ts
 placed_still old new stays [] all = tt
 placed_still old new stays (t ∷ ts) all = (stays t.site.0 t.field.0 all.0, placed_still old new stays ts all.1)
 
@@ -124,8 +124,8 @@ rights_within schema good s below v rs lawful tells f few =
       rights_told_at (cut_told v.tightenings) m f Raise l ∙ tells.cut f Raise l,
     )
 
-told_fold : (ts : List Total) (r f : ℕ) (k : Kind) → fold (told_more r f k) 0 ts ≡ told ts r f k
-unfolding told
+told_fold : (ts : List Total) (r f : ℕ) (k : Kind) → fold (told_more r f k) 0 ts ≡ total_told ts r f k
+unfolding total_told
 told_fold ts r f k = refl
 
 pub stands_told : (schema : SchemaValue) (s : ℕ) (v : SummaryValue) (rs : List Record) (rows : List FieldRights) (mid ledger : LedgerValue) → TellsOf schema s v rs → AreTold schema v.rights (cuts_told schema v) rows
@@ -152,7 +152,7 @@ stands_told schema s v rs rows mid ledger tells rights gifts accepts =
     }
 
 pub none_held : (schema : SchemaValue) (free cuts : List (ℕ × ℕ)) (rows : List FieldRights) → AreTold schema free cuts rows → NoneHeld rows
-none_held schema free cuts rows told f k l = (told.each f l).held k
+none_held schema free cuts rows total_told f k l = (total_told.each f l).held k
 
 -- ---- the last summary, and the records up to it
 
@@ -243,7 +243,7 @@ since_up_to before (Some v) all = since_push before (Summary v)
 -- a record that is taken in next
 pub record Turn (schema : SchemaValue) (s : ℕ) (rs : List Record) (r : Record) : Type 0 where
   pub lawful : Lawful schema s rs
-  pub may : may_stand schema s rs r ≡ true
+  pub may : may_follow schema s rs r ≡ true
   pub plain : is_summary r ≡ false
 
 module _ (schema : SchemaValue) (s : ℕ) (all : List Record) (read : ReadBack) (end_ : IsEnd schema s all read) where

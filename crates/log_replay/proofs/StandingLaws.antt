@@ -17,18 +17,18 @@ use Rattle.field_bounds.specs.Schema.{SchemaValue}
 use Rattle.field_bounds.specs.Effects.{takes}
 use Rattle.kept_records.specs.declared.record.Record.{Record}
 use Rattle.kept_records.specs.declared.record.Record.TheVariants.{Commit, Gift, Accept, Tighten, Restart, Summary}
-use Rattle.kept_records.specs.Stands.{greatest, given_in, accepted_in, cut_in, own_in, room_in, is_field, is_other_site, is_summary, may_commit, may_stand, Lawful}
+use Rattle.kept_records.specs.Stands.{greatest, given_in, accepted_in, cut_in, own_in, room_in, is_field, is_other_site, is_summary, may_commit, may_follow, Lawful}
 use Rattle.kept_records.proofs.Pushes.{greatest_none, given_none, accepted_none, cut_none, greatest_push, given_push, accepted_push, cut_push}
 use Rattle.kept_records.proofs.Covering.{key, at_key, on_field, own_none, commit_within, own_commit, own_gift, own_accept, own_tighten, cut_tighten, own_restart, accept_parts, tighten_parts}
 use Rattle.site_rights.specs.declared.field_rights.FieldRights.{FieldRights}
 use Rattle.site_rights.specs.declared.field_rights.Outcome.TheVariants.{Committed}
-use Rattle.site_rights.specs.Rights.{free_at, held_at, cut_at, room_at, at_field, taken, dropped, tightened, added, ending, by_escrow, by_escrows, AreInRange, AreHeld, AreFresh}
+use Rattle.site_rights.specs.Rights.{free_at, held_at, cut_at, room_at, at_field, after_take, after_drop, after_tighten, after_add, ending, by_escrow, by_escrows, AreInRange, AreHeld, AreFresh}
 use Rattle.site_rights.proofs.RightsLaws.{length-by_escrow, length-by_escrows, free_at-taken, held_at-taken, free_at-by_escrows, held_at-by_escrows, free_at-dropped, held_at-dropped, free_at-tightened, held_at-tightened, cut_at-tightened, free_at-added, held_at-added, taken_keeps_cut, ending_keeps_cut, dropped_keeps_cut, added_keeps_cut, cut_at-field, cut_at-by_escrows, taken_keeps, ending_keeps, dropped_keeps, tightened_keeps, added_keeps, width_at-field, width_at-by_escrows}
 use Rattle.gift_ledger.specs.declared.account.Account.{Account}
 use Rattle.gift_ledger.specs.Ledger.{LedgerValue, total_at, accepted_at, with_total, with_accepted, fresh_ledger}
 use Rattle.gift_ledger.proofs.LedgerLaws.{place_stays, fresh_place, fresh_account, total_at-with_total, accepted_at-with_total, total_at-with_accepted, accepted_at-with_accepted}
 use Rattle.log_replay.specs.declared.standing.Standing.{Standing}
-use Rattle.log_replay.specs.Standing.{IsOther, HasPlaces, StandsFor, Stands, NoneHeld, IsStandingFor, CanTakeIn, TakesIn, is_on_field, AreFree}
+use Rattle.log_replay.specs.Standing.{IsOther, HasSlots, StandsFor, Stands, NoneHeld, IsStandingFor, CanTakeIn, TakesIn, is_on_field, AreFree}
 
 -- ---- answers
 
@@ -43,7 +43,7 @@ can_plain schema old (Summary v) can = absurd can
 
 -- a record that may not stand is refused
 pub takes_none : (schema : SchemaValue) (old : Standing) (r : Record) (new : Standing)
-    → ((s : ℕ) (rs : List Record) → Lawful schema s rs → IsStandingFor schema s rs old → may_stand schema s rs r ≡ false) → (CanTakeIn schema old r → ⊥) → TakesIn schema old r false new
+    → ((s : ℕ) (rs : List Record) → Lawful schema s rs → IsStandingFor schema s rs old → may_follow schema s rs r ≡ false) → (CanTakeIn schema old r → ⊥) → TakesIn schema old r false new
 takes_none schema old r new none cannot =
     record {
       answered = λ s rs lawful was. sym (none s rs lawful was);
@@ -55,8 +55,8 @@ takes_none schema old r new none cannot =
 
 -- a record that may stand is taken in
 pub takes_one : (schema : SchemaValue) (old : Standing) (r : Record) (new : Standing)
-    → ((s : ℕ) (rs : List Record) → Lawful schema s rs → Stands schema s rs old → may_stand schema s rs r ≡ true)
-    → ((s : ℕ) (rs : List Record) → Lawful schema s rs → Stands schema s rs old → may_stand schema s rs r ≡ true → Stands schema s (rs ++ r ∷ []) new)
+    → ((s : ℕ) (rs : List Record) → Lawful schema s rs → Stands schema s rs old → may_follow schema s rs r ≡ true)
+    → ((s : ℕ) (rs : List Record) → Lawful schema s rs → Stands schema s rs old → may_follow schema s rs r ≡ true → Stands schema s (rs ++ r ∷ []) new)
     → ((f : ℕ) (k : Kind) → f < length old.rights → held_at new.rights f k ≡ held_at old.rights f k) → CanTakeIn schema old r
     → TakesIn schema old r true new
 takes_one schema old r new may stands held can =
@@ -69,7 +69,7 @@ takes_one schema old r new may stands held can =
     }
 
 -- what a standing for some records has, it has for the site that its ledger names
-pub has_places : (schema : SchemaValue) (s : ℕ) (rs : List Record) (rows : List FieldRights) (ledger : LedgerValue) (epoch : ℕ) → StandsFor schema s rs rows ledger epoch → HasPlaces schema rows ledger
+pub has_places : (schema : SchemaValue) (s : ℕ) (rs : List Record) (rows : List FieldRights) (ledger : LedgerValue) (epoch : ℕ) → StandsFor schema s rs rows ledger epoch → HasSlots schema rows ledger
 has_places schema s rs rows ledger epoch was =
     record {
       count = was.count;
@@ -97,34 +97,34 @@ stands_none schema s rows fresh =
 range_same : (rows rows' : List FieldRights) (es : List Escrow) → length rows' ≡ length rows → AreInRange rows es → AreInRange rows' es
 range_same rows rows' es same h = All-weaker (λ (e : Escrow). e.field.0 < length rows) (λ (e : Escrow). e.field.0 < length rows') (λ e lt. omega arith) es h
 
-pub free_taken : (rows : List FieldRights) (es : List Escrow) → AreInRange rows es → (g : ℕ) (k : Kind) → free_at (by_escrows taken rows es) g k ≡ free_at rows g k - sum_by (takes g k) es
+pub free_taken : (rows : List FieldRights) (es : List Escrow) → AreInRange rows es → (g : ℕ) (k : Kind) → free_at (by_escrows after_take rows es) g k ≡ free_at rows g k - sum_by (takes g k) es
 free_taken rows [] range g k = omega arith
 free_taken rows (e ∷ es) range g k =
     let lt : e.field.0 < length rows = All-head (λ (e : Escrow). e.field.0 < length rows) e es range in
-    let rest = range_same rows (by_escrow taken rows e) es (length-by_escrow taken rows e) (All-tail (λ (e : Escrow). e.field.0 < length rows) e es range) in
-    omega (arith, free_taken (by_escrow taken rows e) es rest g k, free_at-taken rows e g k lt, sum_by-cons (takes g k) e es)
+    let rest = range_same rows (by_escrow after_take rows e) es (length-by_escrow after_take rows e) (All-tail (λ (e : Escrow). e.field.0 < length rows) e es range) in
+    omega (arith, free_taken (by_escrow after_take rows e) es rest g k, free_at-taken rows e g k lt, sum_by-cons (takes g k) e es)
 
-pub held_taken : (rows : List FieldRights) (es : List Escrow) → AreInRange rows es → (g : ℕ) (k : Kind) → held_at (by_escrows taken rows es) g k ≡ held_at rows g k + sum_by (takes g k) es
+pub held_taken : (rows : List FieldRights) (es : List Escrow) → AreInRange rows es → (g : ℕ) (k : Kind) → held_at (by_escrows after_take rows es) g k ≡ held_at rows g k + sum_by (takes g k) es
 held_taken rows [] range g k = omega arith
 held_taken rows (e ∷ es) range g k =
     let lt : e.field.0 < length rows = All-head (λ (e : Escrow). e.field.0 < length rows) e es range in
-    let rest = range_same rows (by_escrow taken rows e) es (length-by_escrow taken rows e) (All-tail (λ (e : Escrow). e.field.0 < length rows) e es range) in
-    omega (arith, held_taken (by_escrow taken rows e) es rest g k, held_at-taken rows e g k lt, sum_by-cons (takes g k) e es)
+    let rest = range_same rows (by_escrow after_take rows e) es (length-by_escrow after_take rows e) (All-tail (λ (e : Escrow). e.field.0 < length rows) e es range) in
+    omega (arith, held_taken (by_escrow after_take rows e) es rest g k, held_at-taken rows e g k lt, sum_by-cons (takes g k) e es)
 
-pub taken_range : (rows : List FieldRights) (es : List Escrow) → AreInRange rows es → AreInRange (by_escrows taken rows es) es
-taken_range rows es range = range_same rows (by_escrows taken rows es) es (length-by_escrows taken rows es) range
+pub taken_range : (rows : List FieldRights) (es : List Escrow) → AreInRange rows es → AreInRange (by_escrows after_take rows es) es
+taken_range rows es range = range_same rows (by_escrows after_take rows es) es (length-by_escrows after_take rows es) range
 
-pub taken_held : (rows : List FieldRights) (es : List Escrow) → AreInRange rows es → AreHeld (by_escrows taken rows es) es
+pub taken_held : (rows : List FieldRights) (es : List Escrow) → AreInRange rows es → AreHeld (by_escrows after_take rows es) es
 taken_held rows es range f k l = omega (arith, held_taken rows es range f k)
 
 -- what a commit takes is held for a moment only
 pub held_committed : (rows : List FieldRights) (es : List Escrow) → AreInRange rows es → (f : ℕ) (k : Kind) → f < length rows
-    → held_at (by_escrows (ending Committed) (by_escrows taken rows es) es) f k ≡ held_at rows f k
+    → held_at (by_escrows (ending Committed) (by_escrows after_take rows es) es) f k ≡ held_at rows f k
 held_committed rows es range f k l =
-    let mid = by_escrows taken rows es in
+    let mid = by_escrows after_take rows es in
     omega (
       arith,
-      held_at-by_escrows Committed mid es (taken_range rows es range) (taken_held rows es range) f k (omega (arith, l, length-by_escrows taken rows es)),
+      held_at-by_escrows Committed mid es (taken_range rows es range) (taken_held rows es range) f k (omega (arith, l, length-by_escrows after_take rows es)),
       held_taken rows es range f k,
     )
 
@@ -148,11 +148,11 @@ module _ (rows : List FieldRights) (es : List Escrow) (i : ℕ) (d : Escrow) (ra
   few : AreInRange rows (take i es)
   few = All-take (λ (e : Escrow). e.field.0 < length rows) i es range
 
-  pub next_in_range : (get_or es i d).field.0 < length (by_escrows taken rows (take i es))
-  next_in_range = omega (arith, All-get_or (λ (e : Escrow). e.field.0 < length rows) es i d l range, length-by_escrows taken rows (take i es))
+  pub next_in_range : (get_or es i d).field.0 < length (by_escrows after_take rows (take i es))
+  next_in_range = omega (arith, All-get_or (λ (e : Escrow). e.field.0 < length rows) es i d l range, length-by_escrows after_take rows (take i es))
 
   -- where all escrows are within the free rights, so is the next, after those before it
-  pub next_is_free : AreFree rows es → unsigned_abs (get_or es i d).change ≤ free_at (by_escrows taken rows (take i es)) (get_or es i d).field.0 (kind_of (get_or es i d).change)
+  pub next_is_free : AreFree rows es → unsigned_abs (get_or es i d).change ≤ free_at (by_escrows after_take rows (take i es)) (get_or es i d).field.0 (kind_of (get_or es i d).change)
   next_is_free free =
       let e = get_or es i d in
       let k = kind_of e.change in
@@ -166,7 +166,7 @@ module _ (rows : List FieldRights) (es : List Escrow) (i : ℕ) (d : Escrow) (ra
 
   -- and where the next is, those up to it are
   pub next_free : ((f : ℕ) (k : Kind) → sum_by (takes f k) (take i es) ≤ free_at rows f k)
-      → unsigned_abs (get_or es i d).change ≤ free_at (by_escrows taken rows (take i es)) (get_or es i d).field.0 (kind_of (get_or es i d).change)
+      → unsigned_abs (get_or es i d).change ≤ free_at (by_escrows after_take rows (take i es)) (get_or es i d).field.0 (kind_of (get_or es i d).change)
       → (f : ℕ) (k : Kind) → sum_by (takes f k) (take (i + 1) es) ≤ free_at rows f k
   next_free so_far next f k =
       let e = get_or es i d in
@@ -174,7 +174,7 @@ module _ (rows : List FieldRights) (es : List Escrow) (i : ℕ) (d : Escrow) (ra
         arith,
         sum_by_more (takes f k) es i d l,
         within ((e.field.0 == f) && same_kind (kind_of e.change) k) (sum_by (takes f k) (take i es)) (unsigned_abs e.change) (free_at rows f k)
-            (λ on. omega (arith, next, free_taken rows (take i es) few f k, on_field (λ x y. free_at (by_escrows taken rows (take i es)) x y) e.field.0 f (kind_of e.change) k on)) (so_far f k),
+            (λ on. omega (arith, next, free_taken rows (take i es) few f k, on_field (λ x y. free_at (by_escrows after_take rows (take i es)) x y) e.field.0 f (kind_of e.change) k on)) (so_far f k),
       )
     where
       within : (on : Bool) (sum size free : ℕ) → (on ≡ true → size ≤ free - sum) → sum ≤ free → sum + cond on size 0 ≤ free
@@ -219,16 +219,16 @@ module _ (schema : SchemaValue) (s : ℕ) (rs : List Record) (rows : List FieldR
       rw (on, le-leb _ _ lower, le-leb _ _ raise) refl)
       es fields
 
-  pub stands_commit : (txn : TxnId) (es : List Escrow) → AreInRange rows es → AreFree rows es → may_stand schema s rs (Commit txn es) ≡ true
-      → StandsFor schema s (rs ++ Commit txn es ∷ []) (by_escrows (ending Committed) (by_escrows taken rows es) es) ledger epoch
+  pub stands_commit : (txn : TxnId) (es : List Escrow) → AreInRange rows es → AreFree rows es → may_follow schema s rs (Commit txn es) ≡ true
+      → StandsFor schema s (rs ++ Commit txn es ∷ []) (by_escrows (ending Committed) (by_escrows after_take rows es) es) ledger epoch
   stands_commit txn es range free may =
       let r : Record = Commit txn es in
-      let mid = by_escrows taken rows es in
+      let mid = by_escrows after_take rows es in
       let within = taken_range rows es range in
-      let same : length (by_escrows (ending Committed) mid es) ≡ length rows = omega (arith, length-by_escrows (ending Committed) mid es, length-by_escrows taken rows es) in
+      let same : length (by_escrows (ending Committed) mid es) ≡ length rows = omega (arith, length-by_escrows (ending Committed) mid es, length-by_escrows after_take rows es) in
       record {
         count = same ∙ was.count;
-        width = λ f l. width_at-by_escrows (ending Committed) (ending_keeps Committed) mid es within f ∙ width_at-by_escrows taken taken_keeps rows es range f ∙ was.width f (omega (arith, l, same));
+        width = λ f l. width_at-by_escrows (ending Committed) (ending_keeps Committed) mid es within f ∙ width_at-by_escrows after_take taken_keeps rows es range f ∙ was.width f (omega (arith, l, same));
         own = λ f k l.
             omega (
               arith,
@@ -240,7 +240,7 @@ module _ (schema : SchemaValue) (s : ℕ) (rs : List Record) (rows : List FieldR
               own_commit schema s rs lawful txn es may f k,
             );
         cut = λ f k l.
-            cut_at-by_escrows (ending Committed) (ending_keeps_cut Committed) mid es within f k ∙ cut_at-by_escrows taken taken_keeps_cut rows es range f k
+            cut_at-by_escrows (ending Committed) (ending_keeps_cut Committed) mid es within f k ∙ cut_at-by_escrows after_take taken_keeps_cut rows es range f k
             ∙ was.cut f k (omega (arith, l, same)) ∙ sym (cut_push f k rs r);
         place = was.place;
         given = λ r' f k o. was.given r' f k o ∙ sym (given_push r' f k rs r);
@@ -273,18 +273,18 @@ module _ (schema : SchemaValue) (s : ℕ) (rs : List Record) (rows : List FieldR
           | inr off ↦ let apart = sym moved ∙ off in rw (apart, off) same
         ]
 
-    pub stands_gift : (total : ℕ) → may_stand schema s rs (Gift at field kind total) ≡ true → total_at ledger at.0 field.0 kind < total → (amount : ℕ) → amount ≡ total - total_at ledger at.0 field.0 kind → amount ≤ free_at rows field.0 kind
-        → StandsFor schema s (rs ++ Gift at field kind total ∷ []) (at_field dropped rows field.0 kind amount) (with_total ledger at.0 field.0 kind (total_at ledger at.0 field.0 kind + amount)) epoch
+    pub stands_gift : (total : ℕ) → may_follow schema s rs (Gift at field kind total) ≡ true → total_at ledger at.0 field.0 kind < total → (amount : ℕ) → amount ≡ total - total_at ledger at.0 field.0 kind → amount ≤ free_at rows field.0 kind
+        → StandsFor schema s (rs ++ Gift at field kind total ∷ []) (at_field after_drop rows field.0 kind amount) (with_total ledger at.0 field.0 kind (total_at ledger at.0 field.0 kind + amount)) epoch
     stands_gift total may more amount is enough =
         let r : Record = Gift at field kind total in
         let here = was.place at.0 field.0 other_site in
         let before = was.given at.0 field.0 kind other_site in
         let new = total_at ledger at.0 field.0 kind + amount in
-        let same : length (at_field dropped rows field.0 kind amount) ≡ length rows = length-set rows field.0 _ in
+        let same : length (at_field after_drop rows field.0 kind amount) ≡ length rows = length-set rows field.0 _ in
         let amount_is : amount ≡ total - given_in rs at.0 field.0 kind = is ∙ ap (λ n. total - n) before in
         record {
           count = same ∙ was.count;
-          width = λ f l. width_at-field dropped dropped_keeps rows field.0 f kind amount in_rows ∙ was.width f (omega (arith, l, same));
+          width = λ f l. width_at-field after_drop dropped_keeps rows field.0 f kind amount in_rows ∙ was.width f (omega (arith, l, same));
           own = λ f k l.
               omega (
                 arith,
@@ -295,7 +295,7 @@ module _ (schema : SchemaValue) (s : ℕ) (rs : List Record) (rows : List FieldR
                 was.own f k (omega (arith, l, same)),
                 own_gift schema s rs lawful at field kind total may f k,
               );
-          cut = λ f k l. cut_at-field dropped dropped_keeps_cut rows field.0 f kind k amount in_rows ∙ was.cut f k (omega (arith, l, same)) ∙ sym (cut_push f k rs r);
+          cut = λ f k l. cut_at-field after_drop dropped_keeps_cut rows field.0 f kind k amount in_rows ∙ was.cut f k (omega (arith, l, same)) ∙ sym (cut_push f k rs r);
           place = λ r' f o. place_stays ledger at.0 field.0 r' f kind (record { given = new; accepted = accepted_at ledger at.0 field.0 kind }) here (was.place r' f o);
           given = λ r' f k o.
               total_at-with_total ledger at.0 field.0 r' f kind k new here
@@ -306,18 +306,18 @@ module _ (schema : SchemaValue) (s : ℕ) (rs : List Record) (rows : List FieldR
           epoch = was.epoch ∙ sym (greatest_push rs r);
         }
 
-    pub stands_accept : (total : ℕ) → may_stand schema s rs (Accept at field kind total) ≡ true → (gain : ℕ) → gain ≡ total - accepted_at ledger at.0 field.0 kind
-        → StandsFor schema s (rs ++ Accept at field kind total ∷ []) (at_field added rows field.0 kind gain) (with_accepted ledger at.0 field.0 kind (max total (accepted_at ledger at.0 field.0 kind))) epoch
+    pub stands_accept : (total : ℕ) → may_follow schema s rs (Accept at field kind total) ≡ true → (gain : ℕ) → gain ≡ total - accepted_at ledger at.0 field.0 kind
+        → StandsFor schema s (rs ++ Accept at field kind total ∷ []) (at_field after_add rows field.0 kind gain) (with_accepted ledger at.0 field.0 kind (max total (accepted_at ledger at.0 field.0 kind))) epoch
     stands_accept total may gain is =
         let r : Record = Accept at field kind total in
         let here = was.place at.0 field.0 other_site in
         let before = was.accepted at.0 field.0 kind other_site in
         let new = max total (accepted_at ledger at.0 field.0 kind) in
-        let same : length (at_field added rows field.0 kind gain) ≡ length rows = length-set rows field.0 _ in
+        let same : length (at_field after_add rows field.0 kind gain) ≡ length rows = length-set rows field.0 _ in
         let gain_is : gain ≡ total - accepted_in rs at.0 field.0 kind = is ∙ ap (λ n. total - n) before in
         record {
           count = same ∙ was.count;
-          width = λ f l. width_at-field added added_keeps rows field.0 f kind gain in_rows ∙ was.width f (omega (arith, l, same));
+          width = λ f l. width_at-field after_add added_keeps rows field.0 f kind gain in_rows ∙ was.width f (omega (arith, l, same));
           own = λ f k l.
               omega (
                 arith,
@@ -327,7 +327,7 @@ module _ (schema : SchemaValue) (s : ℕ) (rs : List Record) (rows : List FieldR
                 was.own f k (omega (arith, l, same)),
                 own_accept schema s rs lawful at field kind total may f k,
               );
-          cut = λ f k l. cut_at-field added added_keeps_cut rows field.0 f kind k gain in_rows ∙ was.cut f k (omega (arith, l, same)) ∙ sym (cut_push f k rs r);
+          cut = λ f k l. cut_at-field after_add added_keeps_cut rows field.0 f kind k gain in_rows ∙ was.cut f k (omega (arith, l, same)) ∙ sym (cut_push f k rs r);
           place = λ r' f o. place_stays ledger at.0 field.0 r' f kind (record { given = total_at ledger at.0 field.0 kind; accepted = new }) here (was.place r' f o);
           given = λ r' f k o. total_at-with_accepted ledger at.0 field.0 r' f kind k new here ∙ was.given r' f k o ∙ sym (given_push r' f k rs r);
           accepted = λ r' f k o.
@@ -344,16 +344,16 @@ module _ (schema : SchemaValue) (s : ℕ) (rs : List Record) (rows : List FieldR
 
   -- ---- a tightening
 
-  pub stands_tighten : (field : FieldNo) (kind : Kind) (total : ℕ) → field.0 < length rows → may_stand schema s rs (Tighten field kind total) ≡ true
+  pub stands_tighten : (field : FieldNo) (kind : Kind) (total : ℕ) → field.0 < length rows → may_follow schema s rs (Tighten field kind total) ≡ true
       → (amount : ℕ) → amount ≡ total - cut_at rows field.0 kind → amount ≤ free_at rows field.0 kind
-      → StandsFor schema s (rs ++ Tighten field kind total ∷ []) (at_field tightened rows field.0 kind amount) ledger epoch
+      → StandsFor schema s (rs ++ Tighten field kind total ∷ []) (at_field after_tighten rows field.0 kind amount) ledger epoch
   stands_tighten field kind total in_rows may amount is enough =
       let r : Record = Tighten field kind total in
-      let same : length (at_field tightened rows field.0 kind amount) ≡ length rows = length-set rows field.0 _ in
+      let same : length (at_field after_tighten rows field.0 kind amount) ≡ length rows = length-set rows field.0 _ in
       let amount_is : amount ≡ total - cut_in rs field.0 kind = is ∙ ap (λ n. total - n) (was.cut field.0 kind in_rows) in
       record {
         count = same ∙ was.count;
-        width = λ f l. width_at-field tightened tightened_keeps rows field.0 f kind amount in_rows ∙ was.width f (omega (arith, l, same));
+        width = λ f l. width_at-field after_tighten tightened_keeps rows field.0 f kind amount in_rows ∙ was.width f (omega (arith, l, same));
         own = λ f k l.
             omega (
               arith,
@@ -381,7 +381,7 @@ module _ (schema : SchemaValue) (s : ℕ) (rs : List Record) (rows : List FieldR
 
   -- ---- a restart
 
-  pub stands_restart : (new : ℕ) → may_stand schema s rs (Restart new) ≡ true → StandsFor schema s (rs ++ Restart new ∷ []) rows ledger new
+  pub stands_restart : (new : ℕ) → may_follow schema s rs (Restart new) ≡ true → StandsFor schema s (rs ++ Restart new ∷ []) rows ledger new
   stands_restart new may =
       let r : Record = Restart new in
       record {
@@ -435,7 +435,7 @@ pub commit_none : (schema : SchemaValue) (old : Standing) (txn : TxnId) (es : Li
 commit_none schema old txn es new cannot =
     takes_none schema old (Commit txn es) new
     (λ s rs lawful was.
-    is_false (may_stand schema s rs (Commit txn es))
+    is_false (may_follow schema s rs (Commit txn es))
     (λ may.
     let parts = and_parts (txn.epoch == greatest rs) (list_all (may_commit schema s rs es) es) may in
     cannot (eqb-true txn.epoch (greatest rs) parts.0 ∙ sym was.for_.epoch)
@@ -444,9 +444,9 @@ commit_none schema old txn es new cannot =
     (λ can. cannot can.0 can.1 can.2)
 
 -- a commit that may stand
-pub commit_taken : (schema : SchemaValue) (old : Standing) (txn : TxnId) (es : List Escrow) → HasPlaces schema old.rights old.ledger
+pub commit_taken : (schema : SchemaValue) (old : Standing) (txn : TxnId) (es : List Escrow) → HasSlots schema old.rights old.ledger
     → txn.epoch ≡ old.epoch → list_all (is_on_field schema) es ≡ true → AreFree old.rights es
-    → TakesIn schema old (Commit txn es) true (record { rights = by_escrows (ending Committed) (by_escrows taken old.rights es) es; ledger = old.ledger; epoch = old.epoch })
+    → TakesIn schema old (Commit txn es) true (record { rights = by_escrows (ending Committed) (by_escrows after_take old.rights es) es; ledger = old.ledger; epoch = old.epoch })
 commit_taken schema old txn es places same fields free =
     takes_one schema old (Commit txn es) _
     (λ s rs lawful was.
@@ -456,10 +456,10 @@ commit_taken schema old txn es places same fields free =
     (same, fields, free)
 
 -- a gift that may stand
-pub gift_taken : (schema : SchemaValue) (old : Standing) (at : SiteNo) (field : FieldNo) (kind : Kind) (total amount : ℕ) → HasPlaces schema old.rights old.ledger
+pub gift_taken : (schema : SchemaValue) (old : Standing) (at : SiteNo) (field : FieldNo) (kind : Kind) (total amount : ℕ) → HasSlots schema old.rights old.ledger
     → (is_other_site schema old.ledger.site at.0 && is_field schema field.0) ≡ true → total_at old.ledger at.0 field.0 kind < total
     → amount ≡ total - total_at old.ledger at.0 field.0 kind → amount ≤ free_at old.rights field.0 kind
-    → TakesIn schema old (Gift at field kind total) true (record { rights = at_field dropped old.rights field.0 kind amount; ledger = with_total old.ledger at.0 field.0 kind (total_at old.ledger at.0 field.0 kind + amount); epoch = old.epoch })
+    → TakesIn schema old (Gift at field kind total) true (record { rights = at_field after_drop old.rights field.0 kind amount; ledger = with_total old.ledger at.0 field.0 kind (total_at old.ledger at.0 field.0 kind + amount); epoch = old.epoch })
 gift_taken schema old at field kind total amount places here more is enough =
     takes_one schema old (Gift at field kind total) _
     (λ s rs lawful was.
@@ -483,7 +483,7 @@ pub accept_none : (schema : SchemaValue) (old : Standing) (at : SiteNo) (field :
 accept_none schema old at field kind total new cannot =
     takes_none schema old (Accept at field kind total) new
     (λ s rs lawful was.
-    is_false (may_stand schema s rs (Accept at field kind total))
+    is_false (may_follow schema s rs (Accept at field kind total))
     (λ may.
     let there = four_first (is_other_site schema s at.0) (is_field schema field.0) _ _ may in
     let other_site = is_other schema s at.0 field.0 there in
@@ -495,10 +495,10 @@ accept_none schema old at field kind total new cannot =
     (λ can. cannot can.1 can.2)
 
 -- an acceptance that may stand
-pub accept_taken : (schema : SchemaValue) (old : Standing) (at : SiteNo) (field : FieldNo) (kind : Kind) (total gain : ℕ) → HasPlaces schema old.rights old.ledger
+pub accept_taken : (schema : SchemaValue) (old : Standing) (at : SiteNo) (field : FieldNo) (kind : Kind) (total gain : ℕ) → HasSlots schema old.rights old.ledger
     → (is_other_site schema old.ledger.site at.0 && is_field schema field.0) ≡ true → accepted_at old.ledger at.0 field.0 kind < total
     → gain ≡ total - accepted_at old.ledger at.0 field.0 kind → gain ≤ room_at old.rights field.0
-    → TakesIn schema old (Accept at field kind total) true (record { rights = at_field added old.rights field.0 kind gain; ledger = with_accepted old.ledger at.0 field.0 kind (max total (accepted_at old.ledger at.0 field.0 kind)); epoch = old.epoch })
+    → TakesIn schema old (Accept at field kind total) true (record { rights = at_field after_add old.rights field.0 kind gain; ledger = with_accepted old.ledger at.0 field.0 kind (max total (accepted_at old.ledger at.0 field.0 kind)); epoch = old.epoch })
 accept_taken schema old at field kind total gain places here more is enough =
     takes_one schema old (Accept at field kind total) _
     (λ s rs lawful was.
@@ -523,7 +523,7 @@ tighten_none : (schema : SchemaValue) (old : Standing) (field : FieldNo) (kind :
 tighten_none schema old field kind total new cannot =
     takes_none schema old (Tighten field kind total) new
     (λ s rs lawful was.
-    is_false (may_stand schema s rs (Tighten field kind total))
+    is_false (may_follow schema s rs (Tighten field kind total))
     (λ may.
     let on = three_first (is_field schema field.0) _ _ may in
     let l : field.0 < length old.rights = omega (arith, was.for_.count, ltb-true field.0 (length schema.fields) on) in
@@ -537,9 +537,9 @@ tighten_none schema old field kind total new cannot =
     three_first false b c h = cc
 
 -- a tightening that may stand
-tighten_taken : (schema : SchemaValue) (old : Standing) (field : FieldNo) (kind : Kind) (total amount : ℕ) → HasPlaces schema old.rights old.ledger
+tighten_taken : (schema : SchemaValue) (old : Standing) (field : FieldNo) (kind : Kind) (total amount : ℕ) → HasSlots schema old.rights old.ledger
     → field.0 < length schema.fields → cut_at old.rights field.0 kind < total → amount ≡ total - cut_at old.rights field.0 kind → amount ≤ free_at old.rights field.0 kind
-    → TakesIn schema old (Tighten field kind total) true (record { rights = at_field tightened old.rights field.0 kind amount; ledger = old.ledger; epoch = old.epoch })
+    → TakesIn schema old (Tighten field kind total) true (record { rights = at_field after_tighten old.rights field.0 kind amount; ledger = old.ledger; epoch = old.epoch })
 tighten_taken schema old field kind total amount places field_in more is enough =
     let l : field.0 < length old.rights = omega (arith, places.count, field_in) in
     takes_one schema old (Tighten field kind total) _
@@ -572,13 +572,13 @@ takes_as schema old r answer rows rows' ledger ledger' epoch answered rights tot
     (subst (λ (x : LedgerValue). TakesIn schema old r true (record { rights = rows'; ledger = x; epoch = epoch })) (sym totals) taken_in))
 
 -- a tightening, as the rights answer it
-pub tighten_as : (schema : SchemaValue) (old : Standing) (field : FieldNo) (kind : Kind) (total amount : ℕ) → HasPlaces schema old.rights old.ledger
+pub tighten_as : (schema : SchemaValue) (old : Standing) (field : FieldNo) (kind : Kind) (total amount : ℕ) → HasSlots schema old.rights old.ledger
     → field.0 < length schema.fields → cut_at old.rights field.0 kind < total → amount ≡ total - cut_at old.rights field.0 kind
     → (answer : Bool) (rows : List FieldRights) → (answer ≡ true → amount ≤ free_at old.rights field.0 kind) → (amount ≤ free_at old.rights field.0 kind → answer ≡ true)
-    → (answer ≡ true → rows ≡ at_field tightened old.rights field.0 kind amount)
+    → (answer ≡ true → rows ≡ at_field after_tighten old.rights field.0 kind amount)
     → TakesIn schema old (Tighten field kind total) answer (record { rights = rows; ledger = old.ledger; epoch = old.epoch })
 tighten_as schema old field kind total amount places field_in more is true rows enough can changed =
-    takes_as schema old (Tighten field kind total) true rows (at_field tightened old.rights field.0 kind amount) old.ledger old.ledger old.epoch refl (changed refl) refl
+    takes_as schema old (Tighten field kind total) true rows (at_field after_tighten old.rights field.0 kind amount) old.ledger old.ledger old.epoch refl (changed refl) refl
     (tighten_taken schema old field kind total amount places field_in more is (enough refl))
 tighten_as schema old field kind total amount places field_in more is false rows enough can changed =
     tighten_none schema old field kind total (record { rights = rows; ledger = old.ledger; epoch = old.epoch })

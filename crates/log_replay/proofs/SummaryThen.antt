@@ -19,9 +19,9 @@ use Rattle.site_rights.specs.Rights.{cut_at}
 use Rattle.gift_ledger.specs.Ledger.{total_at, accepted_at}
 use Rattle.log_replay.specs.declared.standing.Standing.{Standing}
 use Rattle.log_replay.specs.Standing.{IsOther}
-use Rattle.log_replay.specs.Resuming.{MayStandNext}
+use Rattle.log_replay.specs.Resuming.{MayFollowNext}
 use Rattle.log_replay.specs.Telling.{side_with, cut_with}
-use Rattle.log_replay.specs.After.{gift_told, accept_told, tightening_told, HasPlaceFor, rise_of, CanMove, own_after, summary_then}
+use Rattle.log_replay.specs.After.{gift_told, accept_told, tightening_told, HasSlotFor, rise_of, CanMove, own_after, summary_then}
 use Rattle.log_replay.proofs.StandingLaws.{four_first, is_other, here_only}
 use Rattle.log_replay.proofs.Told.{rights_same, totals_same, cuts_same}
 
@@ -50,7 +50,7 @@ module _ (schema : SchemaValue) (old : Standing) (rs : List Record) where
 
   -- the record may stand next
   abbrev Next : Record → Type 0
-  Next r0 = MayStandNext schema old rs r0
+  Next r0 = MayFollowNext schema old rs r0
 
   -- the site and the field of a total are another site and a field of the schema
   other_of : (r f : ℕ) (c d : Bool) → (is_other_site schema site r && is_field schema f && c && d) ≡ true → IsOther schema site r f
@@ -69,7 +69,7 @@ module _ (schema : SchemaValue) (old : Standing) (rs : List Record) where
       let on = three_first (is_field schema field.0) _ _ next.may in
       omega (arith, ltb-true field.0 (length schema.fields) on, next.stands.count)
 
-  pub place_for : (r0 : Record) → Next r0 → HasPlaceFor old r0
+  pub place_for : (r0 : Record) → Next r0 → HasSlotFor old r0
   place_for (Commit txn es) next = tt
   place_for (Gift to field kind total) next = next.stands.place to.0 field.0 (gift_other to field kind total next)
   place_for (Accept from field kind total) next = next.stands.place from.0 field.0 (accept_other from field kind total next)

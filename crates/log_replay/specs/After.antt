@@ -13,7 +13,7 @@ use Rattle.kept_records.specs.Summary.{SummaryValue, rights_of, totals_of, cuts_
 use Rattle.kept_records.specs.Stands.{later}
 use Rattle.site_rights.specs.declared.field_rights.FieldRights.{FieldRights}
 use Rattle.site_rights.specs.Rights.{own_at, cut_at}
-use Rattle.gift_ledger.specs.Ledger.{total_at, accepted_at, IsPlace}
+use Rattle.gift_ledger.specs.Ledger.{total_at, accepted_at, IsSlot}
 use Rattle.log_replay.specs.declared.standing.Standing.{Standing}
 use Rattle.log_replay.specs.Telling.{side_with, cut_with}
 
@@ -45,13 +45,13 @@ tightening_told (Restart epoch) = None
 tightening_told (Summary v) = None
 
 -- The site and the field of the total that a record tells are in the standing.
-abbrev pub HasPlaceFor : Standing → Record → Type 0
-HasPlaceFor old (Commit txn es) = Unit {0}
-HasPlaceFor old (Gift to field kind total) = IsPlace old.ledger to.0 field.0
-HasPlaceFor old (Accept from field kind total) = IsPlace old.ledger from.0 field.0
-HasPlaceFor old (Tighten field kind total) = field.0 < length old.rights
-HasPlaceFor old (Restart epoch) = Unit {0}
-HasPlaceFor old (Summary v) = Unit {0}
+abbrev pub HasSlotFor : Standing → Record → Type 0
+HasSlotFor old (Commit txn es) = Unit {0}
+HasSlotFor old (Gift to field kind total) = IsSlot old.ledger to.0 field.0
+HasSlotFor old (Accept from field kind total) = IsSlot old.ledger from.0 field.0
+HasSlotFor old (Tighten field kind total) = field.0 < length old.rights
+HasSlotFor old (Restart epoch) = Unit {0}
+HasSlotFor old (Summary v) = Unit {0}
 
 -- How far the total that a record tells is above the one before.
 abbrev pub rise_of : Standing → Record → ℕ

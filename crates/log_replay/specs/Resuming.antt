@@ -10,8 +10,8 @@ use Rattle.kept_records.specs.ReadingBack.{with_summary, HoldsLast}
 use Rattle.kept_records.specs.declared.total.Total.{Total}
 use Rattle.kept_records.specs.Summary.{SummaryValue, told_more}
 use Rattle.kept_records.specs.Text.{IsRecord}
-use Rattle.kept_records.specs.Stands.{may_stand, Lawful}
-use Rattle.gift_ledger.specs.Ledger.{LedgerValue, total_at, accepted_at, IsPlace}
+use Rattle.kept_records.specs.Stands.{may_follow, Lawful}
+use Rattle.gift_ledger.specs.Ledger.{LedgerValue, total_at, accepted_at, IsSlot}
 use Rattle.log_replay.specs.declared.standing.Standing.{Standing}
 use Rattle.log_replay.specs.Standing.{Stands, IsStandingFor}
 
@@ -23,26 +23,26 @@ pub record IsEnd (schema : SchemaValue) (s : ℕ) (all : List Record) (read : Re
   pub holds : HoldsLast all rest read.summary read.lines
 
 -- A standing is for lawful records of its site, and the record may stand behind them.
-pub record MayStandNext (schema : SchemaValue) (standing : Standing) (rs : List Record) (r : Record) : Type 0 where
+pub record MayFollowNext (schema : SchemaValue) (standing : Standing) (rs : List Record) (r : Record) : Type 0 where
   pub site_in : standing.ledger.site < schema.sites
   pub in_range : AllByRecursion IsRecord rs
   pub lawful : Lawful schema standing.ledger.site rs
   pub stands : Stands schema standing.ledger.site rs standing
-  pub may : may_stand schema standing.ledger.site rs r ≡ true
+  pub may : may_follow schema standing.ledger.site rs r ≡ true
 
 -- ---- how the body goes on
 
 -- Totals given were noted, one after another; nothing else changed.
 pub record NotesGifts (old : LedgerValue) (ts : List Total) (new : LedgerValue) : Type 0 where
   pub site : new.site ≡ old.site
-  pub place : (r f : ℕ) → IsPlace old r f → IsPlace new r f
+  pub place : (r f : ℕ) → IsSlot old r f → IsSlot new r f
   pub given : (r f : ℕ) (k : Kind) → total_at new r f k ≡ fold (told_more r f k) (total_at old r f k) ts
   pub accepted : (r f : ℕ) (k : Kind) → accepted_at new r f k ≡ accepted_at old r f k
 
 -- Totals accepted were noted.
 pub record NotesAccepts (old : LedgerValue) (ts : List Total) (new : LedgerValue) : Type 0 where
   pub site : new.site ≡ old.site
-  pub place : (r f : ℕ) → IsPlace old r f → IsPlace new r f
+  pub place : (r f : ℕ) → IsSlot old r f → IsSlot new r f
   pub given : (r f : ℕ) (k : Kind) → total_at new r f k ≡ total_at old r f k
   pub accepted : (r f : ℕ) (k : Kind) → accepted_at new r f k ≡ fold (told_more r f k) (accepted_at old r f k) ts
 

@@ -8,10 +8,10 @@ use Rattle.field_bounds.specs.Parts.{field_at, width_of}
 use Rattle.field_bounds.specs.Effects.{takes}
 use Rattle.kept_records.specs.declared.record.Record.{Record}
 use Rattle.kept_records.specs.declared.record.Record.TheVariants.{Commit, Gift, Accept, Tighten, Restart, Summary}
-use Rattle.kept_records.specs.Stands.{greatest, given_in, accepted_in, cut_in, own_in, is_field, is_other_site, is_summary, may_stand, Lawful}
+use Rattle.kept_records.specs.Stands.{greatest, given_in, accepted_in, cut_in, own_in, is_field, is_other_site, is_summary, may_follow, Lawful}
 use Rattle.site_rights.specs.declared.field_rights.FieldRights.{FieldRights}
 use Rattle.site_rights.specs.Rights.{row_at, free_at, held_at, own_at, cut_at, room_at}
-use Rattle.gift_ledger.specs.Ledger.{LedgerValue, total_at, accepted_at, IsPlace}
+use Rattle.gift_ledger.specs.Ledger.{LedgerValue, total_at, accepted_at, IsSlot}
 use Rattle.log_replay.specs.declared.standing.Standing.{Standing}
 
 -- Another site and a field, both of the schema.
@@ -21,9 +21,9 @@ pub record IsOther (schema : SchemaValue) (s r f : ℕ) : Type 0 where
   pub field_in : f < length schema.fields
 
 -- There are rights on each field, and the ledger has a place for each other site and field.
-pub record HasPlaces (schema : SchemaValue) (rows : List FieldRights) (ledger : LedgerValue) : Type 0 where
+pub record HasSlots (schema : SchemaValue) (rows : List FieldRights) (ledger : LedgerValue) : Type 0 where
   pub count : length rows ≡ length schema.fields
-  pub place : (r f : ℕ) → IsOther schema ledger.site r f → IsPlace ledger r f
+  pub place : (r f : ℕ) → IsOther schema ledger.site r f → IsSlot ledger r f
 
 -- The rights, the ledger and the epoch are what the records of a site stand for: on each field of the schema its own
 -- rights, free and held together, and the greatest totals given up; and for each other site the ledger has the greatest
@@ -33,7 +33,7 @@ pub record StandsFor (schema : SchemaValue) (s : ℕ) (rs : List Record) (rows :
   pub width : (f : ℕ) → f < length rows → (row_at rows f).width ≡ width_of (field_at schema f)
   pub own : (f : ℕ) (k : Kind) → f < length rows → own_at rows f k ≡ own_in schema s rs f k
   pub cut : (f : ℕ) (k : Kind) → f < length rows → cut_at rows f k ≡ cut_in rs f k
-  pub place : (r f : ℕ) → IsOther schema s r f → IsPlace ledger r f
+  pub place : (r f : ℕ) → IsOther schema s r f → IsSlot ledger r f
   pub given : (r f : ℕ) (k : Kind) → IsOther schema s r f → total_at ledger r f k ≡ given_in rs r f k
   pub accepted : (r f : ℕ) (k : Kind) → IsOther schema s r f → accepted_at ledger r f k ≡ accepted_in rs r f k
   pub site : ledger.site ≡ s
@@ -81,7 +81,7 @@ CanTakeIn schema old (Summary v) = ⊥
 -- records the old one is for (stands), and what is held stays held (held). Whatever is held, a record that can be taken
 -- in is (takes_), and no other is but a summary (only).
 pub record TakesIn (schema : SchemaValue) (old : Standing) (r : Record) (answer : Bool) (new : Standing) : Type 0 where
-  pub answered : (s : ℕ) (rs : List Record) → Lawful schema s rs → IsStandingFor schema s rs old → answer ≡ may_stand schema s rs r
+  pub answered : (s : ℕ) (rs : List Record) → Lawful schema s rs → IsStandingFor schema s rs old → answer ≡ may_follow schema s rs r
   pub stands : answer ≡ true → (s : ℕ) (rs : List Record) → Lawful schema s rs → Stands schema s rs old → Stands schema s (rs ++ r ∷ []) new
   pub held : answer ≡ true → (f : ℕ) (k : Kind) → f < length old.rights → held_at new.rights f k ≡ held_at old.rights f k
   pub takes_ : CanTakeIn schema old r → answer ≡ true

@@ -8,8 +8,8 @@ ghost use Rattle.kept_records.specs.declared.record.Record.{Record};
 ghost use Rattle.kept_records.specs.Stands.{is_summary, summary_of, later};
 ghost use Rattle.kept_records.specs.Text.{IsRecord};
 ghost use Rattle.kept_records.specs.Summary.{rights_of};
-ghost use Rattle.log_replay.specs.Resuming.{MayStandNext};
-ghost use Rattle.log_replay.specs.After.{gift_told, accept_told, tightening_told, HasPlaceFor, rise_of, gained_by, spent_by, CanMove, own_after};
+ghost use Rattle.log_replay.specs.Resuming.{MayFollowNext};
+ghost use Rattle.log_replay.specs.After.{gift_told, accept_told, tightening_told, HasSlotFor, rise_of, gained_by, spent_by, CanMove, own_after};
 
 use crate::standing::Standing;
 use crate::telling::{given_up, totals_on_side};
@@ -86,7 +86,7 @@ fn tightening_told(next: &Record) -> Option<Cut>
 
 /// How far the total that a record tells is above the one before, and 0 where it tells none.
 fn rise_of(standing: &Standing, next: &Record) -> u64
-    requires place { HasPlaceFor standing.now next.now }
+    requires place { HasSlotFor standing.now next.now }
     ensures { result ≡ rise_of standing.now next.now }
 {
     match next {
@@ -247,8 +247,8 @@ pub fn summary_after(
 ) -> Result<Summary, AllocError>
     requires in_range { IsRecord next.now }
     requires plain { is_summary next.now ≡ false }
-    requires may { (rs : List Record) × MayStandNext schema.now standing.now rs next.now }
-    ensures after { IfOk result (λ summary. (rs : List Record) → MayStandNext schema.now standing.now rs next.now → summary ≡ summary_of schema.now standing.now.ledger.site (rs ++ next.now ∷ [])) }
+    requires may { (rs : List Record) × MayFollowNext schema.now standing.now rs next.now }
+    ensures after { IfOk result (λ summary. (rs : List Record) → MayFollowNext schema.now standing.now rs next.now → summary ≡ summary_of schema.now standing.now.ledger.site (rs ++ next.now ∷ [])) }
 {
     let _sites = schema.sites();
     let rise = rise_of(standing, next);

@@ -3,7 +3,7 @@
 ghost use Rattle.std.specs.Prelude.{◌<◌, IfOk};
 ghost use Rattle.std.specs.List.{AllByRecursion};
 ghost use Rattle.kept_records.specs.Text.{IsRecord};
-ghost use Rattle.log_replay.specs.Standing.{HasPlaces, TakesIn};
+ghost use Rattle.log_replay.specs.Standing.{HasSlots, TakesIn};
 ghost use Rattle.log_replay.specs.Replayed.{TellsStanding, TellsBroken};
 
 use crate::standing::Standing;
@@ -31,7 +31,7 @@ fn take_next(
     standing: &mut Standing,
     next: &Record,
 ) -> Result<bool, AllocError>
-    requires places { HasPlaces schema.now standing.old.rights standing.old.ledger }
+    requires places { HasSlots schema.now standing.old.rights standing.old.ledger }
     requires in_range { IsRecord next.now }
     ensures takes_in { IfOk result (λ may. TakesIn schema.now standing.old next.now may standing.new) }
 {

@@ -10,9 +10,9 @@ ghost use Rattle.kept_records.specs.Text.{IsRecord, IsSummary};
 ghost use Rattle.kept_records.specs.Stands.{is_field, is_other_site, is_summary, Lawful};
 ghost use Rattle.kept_records.specs.Summary.{cut_told_more, cut_told, rights_of};
 ghost use Rattle.kept_records.specs.Summaries.{TellsOf};
-ghost use Rattle.site_rights.specs.Rights.{AreInRange, by_escrows, taken};
-ghost use Rattle.gift_ledger.specs.Ledger.{IsPlace};
-ghost use Rattle.log_replay.specs.Standing.{HasPlaces, IsStandingFor, AreFree, TakesIn, is_on_field};
+ghost use Rattle.site_rights.specs.Rights.{AreInRange, by_escrows, after_take};
+ghost use Rattle.gift_ledger.specs.Ledger.{IsSlot};
+ghost use Rattle.log_replay.specs.Standing.{HasSlots, IsStandingFor, AreFree, TakesIn, is_on_field};
 ghost use Rattle.log_replay.specs.Resuming.{NotesGifts, NotesAccepts};
 
 use field_bounds::{Escrow, FieldNo, Kind, Schema, SiteNo, TxnId};
@@ -95,7 +95,7 @@ impl Standing {
     /// Source: O'Neil 1986 for the commit; Balegas and others 2015 for the gift and the acceptance;
     /// this project for the tightening, the restart and for what each of them has to meet.
     pub fn take_in(&mut self, schema: &Schema, next: &Record) -> bool
-        requires places { HasPlaces schema.now self.old.rights self.old.ledger }
+        requires places { HasSlots schema.now self.old.rights self.old.ledger }
         requires in_range { IsRecord next.now }
         requires plain { is_summary next.now ≡ false }
         ensures takes_in { TakesIn schema.now self.old next.now result self.new }
@@ -122,7 +122,7 @@ impl Standing {
 
     /// Takes in a commit: it is of the standing's epoch, and spends what is owned.
     fn commit(&mut self, schema: &Schema, txn: TxnId, escrows: &[Escrow]) -> bool
-        requires places { HasPlaces schema.now self.old.rights self.old.ledger }
+        requires places { HasSlots schema.now self.old.rights self.old.ledger }
         ensures takes_in { TakesIn schema.now self.old (Commit txn escrows.now) result self.new }
     {
         if txn.epoch != self.epoch || !are_fields(schema, escrows) {
@@ -137,7 +137,7 @@ impl Standing {
 
     /// Takes in a gift: its total is above the one before by what is owned, which leaves.
     fn give(&mut self, schema: &Schema, to: SiteNo, field: FieldNo, kind: Kind, total: u64) -> bool
-        requires places { HasPlaces schema.now self.old.rights self.old.ledger }
+        requires places { HasSlots schema.now self.old.rights self.old.ledger }
         requires small { total ≤ max_total }
         ensures takes_in { TakesIn schema.now self.old (Gift to field kind total) result self.new }
     {
@@ -165,7 +165,7 @@ impl Standing {
         kind: Kind,
         total: u64,
     ) -> bool
-        requires places { HasPlaces schema.now self.old.rights self.old.ledger }
+        requires places { HasSlots schema.now self.old.rights self.old.ledger }
         ensures takes_in { TakesIn schema.now self.old (Accept from field kind total) result self.new }
     {
         if !self.has_place(schema, from, field) {
@@ -182,7 +182,7 @@ impl Standing {
 
     /// Takes in a tightening: its total is above the one before by what is owned, which is given up.
     fn tighten(&mut self, schema: &Schema, field: FieldNo, kind: Kind, total: u64) -> bool
-        requires places { HasPlaces schema.now self.old.rights self.old.ledger }
+        requires places { HasSlots schema.now self.old.rights self.old.ledger }
         ensures takes_in { TakesIn schema.now self.old (Tighten field kind total) result self.new }
     {
         if field.0 >= schema.fields() {
@@ -216,7 +216,7 @@ impl Standing {
 
 /// Sets the totals that were given.
 fn note_gifts(ledger: &mut Ledger, gifts: &[Total])
-    requires places { AllByRecursion (λ t. IsPlace ledger.old t.site.0 t.field.0) gifts.now }
+    requires places { AllByRecursion (λ t. IsSlot ledger.old t.site.0 t.field.0) gifts.now }
     requires small { AllByRecursion (λ t. t.total ≤ max_total) gifts.now }
     ensures noted { NotesGifts ledger.old gifts.now ledger.new }
 {
@@ -227,7 +227,7 @@ fn note_gifts(ledger: &mut Ledger, gifts: &[Total])
 
 /// Sets the totals that were accepted.
 fn note_accepts(ledger: &mut Ledger, accepts: &[Total])
-    requires places { AllByRecursion (λ t. IsPlace ledger.old t.site.0 t.field.0) accepts.now }
+    requires places { AllByRecursion (λ t. IsSlot ledger.old t.site.0 t.field.0) accepts.now }
     ensures noted { NotesAccepts ledger.old accepts.now ledger.new }
 {
     for told in accepts {
@@ -285,7 +285,7 @@ fn are_fields(schema: &Schema, escrows: &[Escrow]) -> bool
 fn take_all(rights: &mut Rights, escrows: &[Escrow]) -> bool
     requires in_range { AreInRange rights.old escrows.now }
     ensures enough { IsTrue result ↔ AreFree rights.old escrows.now }
-    ensures taken { result ≡ true → rights.new ≡ by_escrows taken rights.old escrows.now }
+    ensures taken { result ≡ true → rights.new ≡ by_escrows after_take rights.old escrows.now }
 {
     for escrow in escrows {
         let kind = Kind::of(escrow.change);

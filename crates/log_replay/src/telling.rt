@@ -2,12 +2,12 @@
 
 ghost use Rattle.std.specs.Prelude.{◌≡◌, ◌++◌, ◌≤◌, ◌<◌, ◌≢◌, ℕ, IfOk, OnOk, List, length};
 ghost use Rattle.kept_records.specs.declared.record.Record.{Record};
-ghost use Rattle.kept_records.specs.Stands.{summary_of, may_stand};
+ghost use Rattle.kept_records.specs.Stands.{summary_of, may_follow};
 ghost use Rattle.kept_records.specs.Summary.{rights_of, totals_of, totals_of_site, cuts_of, told_more, same_rights, same_totals, same_total, same_cuts, same_cut, same_summary};
 ghost use Rattle.field_bounds.specs.Kind.{same_kind};
 ghost use Rattle.site_rights.specs.Rights.{own_at};
-ghost use Rattle.gift_ledger.specs.Ledger.{IsPlace};
-ghost use Rattle.log_replay.specs.Standing.{HasPlaces, Stands};
+ghost use Rattle.gift_ledger.specs.Ledger.{IsSlot};
+ghost use Rattle.log_replay.specs.Standing.{HasSlots, Stands};
 ghost use Rattle.log_replay.specs.Telling.{record_of, side, side_with, is_of_site, cut_with, told_if, cut_if, summary_now};
 
 use crate::standing::{Standing, cut_or};
@@ -39,7 +39,7 @@ fn push_total(
 }
 
 fn total_on_side(ledger: &Ledger, given: bool, site: SiteNo, field: FieldNo, kind: Kind) -> u64
-    requires place { IsPlace ledger.now site.0 field.0 }
+    requires place { IsSlot ledger.now site.0 field.0 }
     ensures value { result ≡ side given ledger.now site.0 field.0 kind }
 {
     if given {
@@ -69,7 +69,7 @@ fn total_with(
     field: FieldNo,
     kind: Kind,
 ) -> u64
-    requires place { IsPlace ledger.now site.0 field.0 }
+    requires place { IsSlot ledger.now site.0 field.0 }
     ensures value { result ≡ side_with anew given ledger.now site.0 field.0 kind }
 {
     let before = total_on_side(ledger, given, site, field, kind);
@@ -87,7 +87,7 @@ fn push_site(
     site: SiteNo,
     fields: u16,
 ) -> Result<(), AllocError>
-    requires places { (f : ℕ) → f < fields → IsPlace ledger.now site.0 f }
+    requires places { (f : ℕ) → f < fields → IsSlot ledger.now site.0 f }
     ensures { OnOk result (totals.new.items ≡ totals.old.items ++ totals_of_site (side given ledger.now) site.0 fields) }
 {
     for number in 0..fields {
@@ -109,7 +109,7 @@ fn push_site_with(
     site: SiteNo,
     fields: u16,
 ) -> Result<(), AllocError>
-    requires places { (f : ℕ) → f < fields → IsPlace ledger.now site.0 f }
+    requires places { (f : ℕ) → f < fields → IsSlot ledger.now site.0 f }
     ensures { OnOk result (totals.new.items ≡ totals.old.items ++ totals_of_site (side_with anew given ledger.now) site.0 fields) }
 {
     for number in 0..fields {
@@ -141,7 +141,7 @@ fn push_any_site(
     site: SiteNo,
     fields: u16,
 ) -> Result<(), AllocError>
-    requires places { (f : ℕ) → f < fields → IsPlace ledger.now site.0 f }
+    requires places { (f : ℕ) → f < fields → IsSlot ledger.now site.0 f }
     ensures { OnOk result (totals.new.items ≡ totals.old.items ++ totals_of_site (side_with anew given ledger.now) site.0 fields) }
 {
     if is_of_site(anew, site) {
@@ -159,7 +159,7 @@ pub(crate) fn totals_on_side(
     given: bool,
     anew: Option<Total>,
 ) -> Result<Vec<Total>, AllocError>
-    requires places { (r f : ℕ) → r < schema.now.sites → r ≢ ledger.now.site → f < length schema.now.fields → IsPlace ledger.now r f }
+    requires places { (r f : ℕ) → r < schema.now.sites → r ≢ ledger.now.site → f < length schema.now.fields → IsSlot ledger.now r f }
     ensures { IfOk result (λ totals. totals.items ≡ totals_of (side_with anew given ledger.now) ledger.now.site (length schema.now.fields) schema.now.sites) }
 {
     let mut totals = Vec::new(alloc);
@@ -238,7 +238,7 @@ pub(crate) fn given_up(
 ///
 /// Source: this project.
 pub fn summary(alloc: Global, schema: &Schema, standing: &Standing) -> Result<Summary, AllocError>
-    requires places { HasPlaces schema.now standing.now.rights standing.now.ledger }
+    requires places { HasSlots schema.now standing.now.rights standing.now.ledger }
     ensures now { IfOk result (λ summary. summary ≡ summary_now schema.now standing.now) }
     ensures told { IfOk result (λ summary. (s : ℕ) (rs : List Record) → Stands schema.now s rs standing.now → summary ≡ summary_of schema.now s rs) }
 {
@@ -338,8 +338,8 @@ pub(crate) fn tells(
     standing: &Standing,
     told: &Summary,
 ) -> Result<bool, AllocError>
-    requires places { HasPlaces schema.now standing.now.rights standing.now.ledger }
-    ensures { IfOk result (λ may. (s : ℕ) (rs : List Record) → Stands schema.now s rs standing.now → may ≡ may_stand schema.now s rs (record_of told.now)) }
+    requires places { HasSlots schema.now standing.now.rights standing.now.ledger }
+    ensures { IfOk result (λ may. (s : ℕ) (rs : List Record) → Stands schema.now s rs standing.now → may ≡ may_follow schema.now s rs (record_of told.now)) }
 {
     let own = summary(alloc, schema, standing)?;
     Ok(same_summary(told, &own))

@@ -3,7 +3,7 @@
 
 ghost use Rattle.std.specs.Prelude.{◌<◌, ◌≤◌, length};
 ghost use Rattle.field_bounds.specs.Owed.{max_total};
-ghost use Rattle.gift_ledger.specs.Ledger.{IsPlace};
+ghost use Rattle.gift_ledger.specs.Ledger.{IsSlot};
 
 use super::*;
 use field_bounds::{FieldNo, FieldSpec, Kind, Schema, SiteNo};
@@ -257,7 +257,7 @@ fn stock_of_two(alloc: Global) -> Option<Schema> {
 
 fn read_off(standing: &Standing) -> Stands
     requires rights { 0 < length standing.now.rights }
-    requires place { IsPlace standing.now.ledger 1 0 }
+    requires place { IsSlot standing.now.ledger 1 0 }
 {
     Stands {
         lower: standing.rights.free(STOCK, Kind::Lower),

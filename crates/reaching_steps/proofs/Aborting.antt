@@ -8,7 +8,7 @@ use Rattle.field_bounds.specs.declared.entry.Entry.{Entry}
 use Rattle.field_bounds.specs.Schema.{SchemaValue}
 use Rattle.field_bounds.specs.declared.effect.Effect.{Effect}
 use Rattle.field_bounds.specs.declared.effect.Effect.TheVariants.{Begins, Grants, Commits, Aborts, Gives, Accepts, Stops}
-use Rattle.field_bounds.specs.Effects.{Base, fresh, same_txn, is_begun, is_open, begun, open_txns, effects}
+use Rattle.field_bounds.specs.Effects.{Base, fresh, same_txn, is_begun, is_open, begun_txns, open_txns, effects}
 use Rattle.field_bounds.specs.Owed.{is_up}
 use Rattle.field_bounds.specs.Central.{own, at_site}
 use Rattle.field_bounds.proofs.Lawful.{IsLawful, same_txn-true}
@@ -46,13 +46,13 @@ here_kept b s rest h g = rw (h, g) refl
 there_kept : (x rest : Bool) → rest ≡ true → (x || rest) ≡ true
 there_kept x rest h = or_right x rest h
 
-pub open_among : (p : TxnId → Bool) (es : List Effect) (j : TxnId) → is_begun j es ≡ true → p j ≡ true → among j (filter p (begun es)) ≡ true
+pub open_among : (p : TxnId → Bool) (es : List Effect) (j : TxnId) → is_begun j es ≡ true → p j ≡ true → among j (filter p (begun_txns es)) ≡ true
 open_among p [] j h g = cc
 open_among p (Begins txn ∷ es) j h g =
-    among_case (p txn) j txn (filter p (begun es))
+    among_case (p txn) j txn (filter p (begun_txns es))
     ∙ elim (or_cases (same_txn txn j) (is_begun j es) h) [
-      | inl same ↦ here_kept (p txn) (same_txn txn j) (among j (filter p (begun es))) (ap p (same_txn-true txn j same) ∙ g) same
-      | inr before ↦ there_kept (p txn && same_txn txn j) (among j (filter p (begun es))) (open_among p es j before g)
+      | inl same ↦ here_kept (p txn) (same_txn txn j) (among j (filter p (begun_txns es))) (ap p (same_txn-true txn j same) ∙ g) same
+      | inr before ↦ there_kept (p txn && same_txn txn j) (among j (filter p (begun_txns es))) (open_among p es j before g)
     ]
 open_among p (Grants txn field change ∷ es) j h g = open_among p es j h g
 open_among p (Commits txn ∷ es) j h g = open_among p es j h g
@@ -67,10 +67,10 @@ only_case true true rest was h more = refl
 only_case true false rest was h more = more h
 only_case false s rest was h more = or_right s was (more h)
 
-pub among_begun : (p : TxnId → Bool) (es : List Effect) (j : TxnId) → among j (filter p (begun es)) ≡ true → is_begun j es ≡ true
+pub among_begun : (p : TxnId → Bool) (es : List Effect) (j : TxnId) → among j (filter p (begun_txns es)) ≡ true → is_begun j es ≡ true
 among_begun p [] j h = cc
 among_begun p (Begins txn ∷ es) j h =
-    only_case (p txn) (same_txn txn j) (among j (filter p (begun es))) (is_begun j es) (sym (among_case (p txn) j txn (filter p (begun es))) ∙ h) (among_begun p es j)
+    only_case (p txn) (same_txn txn j) (among j (filter p (begun_txns es))) (is_begun j es) (sym (among_case (p txn) j txn (filter p (begun_txns es))) ∙ h) (among_begun p es j)
 among_begun p (Grants txn field change ∷ es) j h = among_begun p es j h
 among_begun p (Commits txn ∷ es) j h = among_begun p es j h
 among_begun p (Aborts txn ∷ es) j h = among_begun p es j h
@@ -78,9 +78,9 @@ among_begun p (Gives to field kind amount ∷ es) j h = among_begun p es j h
 among_begun p (Accepts from field kind total ∷ es) j h = among_begun p es j h
 among_begun p (Stops ∷ es) j h = among_begun p es j h
 
-not_among : (p : TxnId → Bool) (es : List Effect) (j : TxnId) → is_begun j es ≡ false → among j (filter p (begun es)) ≡ false
+not_among : (p : TxnId → Bool) (es : List Effect) (j : TxnId) → is_begun j es ≡ false → among j (filter p (begun_txns es)) ≡ false
 not_among p es j new =
-    elim (cases_Bool (among j (filter p (begun es)))) as (λ _. among j (filter p (begun es)) ≡ false) [
+    elim (cases_Bool (among j (filter p (begun_txns es)))) as (λ _. among j (filter p (begun_txns es)) ≡ false) [
       | inl there ↦ let was = among_begun p es j there in absurd cc
       | inr isnt ↦ isnt
     ]
@@ -90,9 +90,9 @@ apart_case true id ids new apart = (new, apart)
 apart_case false id ids new apart = apart
 
 -- what was begun lawfully has ids apart
-pub begun_apart : (schema : SchemaValue) (base : Base) (p : TxnId → Bool) (es : List Effect) → IsLawful schema base es → AreApart (filter p (begun es))
+pub begun_apart : (schema : SchemaValue) (base : Base) (p : TxnId → Bool) (es : List Effect) → IsLawful schema base es → AreApart (filter p (begun_txns es))
 begun_apart schema base p [] lawful = tt
-begun_apart schema base p (Begins txn ∷ es) lawful = apart_case (p txn) txn (filter p (begun es)) (not_among p es txn lawful.1) (begun_apart schema base p es lawful.0)
+begun_apart schema base p (Begins txn ∷ es) lawful = apart_case (p txn) txn (filter p (begun_txns es)) (not_among p es txn lawful.1) (begun_apart schema base p es lawful.0)
 begun_apart schema base p (Grants txn field change ∷ es) lawful = begun_apart schema base p es lawful.0
 begun_apart schema base p (Commits txn ∷ es) lawful = begun_apart schema base p es lawful.0
 begun_apart schema base p (Aborts txn ∷ es) lawful = begun_apart schema base p es lawful.0
@@ -104,11 +104,11 @@ open_case : (all : List Effect) (b : Bool) (id : TxnId) (ids : List TxnId) → (
 open_case all true id ids is rest = (is refl, rest)
 open_case all false id ids is rest = rest
 
-opened_of : (all es : List Effect) → ((id : TxnId) → is_begun id es ≡ true → is_begun id all ≡ true) → AreOpen (filter (λ id. is_open id all) (begun es)) all
+opened_of : (all es : List Effect) → ((id : TxnId) → is_begun id es ≡ true → is_begun id all ≡ true) → AreOpen (filter (λ id. is_open id all) (begun_txns es)) all
 opened_of all [] h = tt
 opened_of all (Begins txn ∷ es) h =
     let first : is_begun txn (Begins txn ∷ es) ≡ true = rw (same_txn-refl txn) refl in
-    open_case all (is_open txn all) txn (filter (λ id. is_open id all) (begun es)) (λ opened. (h txn first, opened))
+    open_case all (is_open txn all) txn (filter (λ id. is_open id all) (begun_txns es)) (λ opened. (h txn first, opened))
     (opened_of all es (λ id was. h id (or_right (same_txn txn id) (is_begun id es) was)))
 opened_of all (Grants txn field change ∷ es) h = opened_of all es h
 opened_of all (Commits txn ∷ es) h = opened_of all es h

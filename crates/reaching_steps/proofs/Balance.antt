@@ -14,9 +14,9 @@ use Rattle.field_bounds.specs.Limits.{IsField, IsSchema, max_quantity}
 use Rattle.field_bounds.specs.Parts.{no_field, field_at, sum_below}
 use Rattle.field_bounds.specs.declared.effect.Effect.{Effect}
 use Rattle.field_bounds.specs.declared.effect.Effect.TheVariants.{Begins, Grants, Commits, Aborts, Gives, Accepts, Stops}
-use Rattle.field_bounds.specs.Effects.{Base, is_open, granted, share, held, own_rights, fresh}
+use Rattle.field_bounds.specs.Effects.{Base, is_open, granted_sizes, share, held_rights, own_rights, fresh}
 use Rattle.field_bounds.specs.Owed.{max_change}
-use Rattle.field_bounds.specs.Central.{at_site, committed, cuts, shares, in_flight, is_open_in, open_sizes, given_between, accepted_between, IsSound, IsConserved}
+use Rattle.field_bounds.specs.Central.{at_site, committed_value, cuts, shares, in_flight, is_open_in, open_sizes, given_between, accepted_between, IsSound, IsConserved}
 use Rattle.field_bounds.proofs.Sums.{sum_below-same, sum_below-zero, sum_below_bump, term_below}
 use Rattle.field_bounds.proofs.Lawful.{IsLawful}
 use Rattle.field_bounds.proofs.Steps.{granted-same}
@@ -59,7 +59,7 @@ none_weigh : (on : Bool) (n : ℕ) → cond (on && false) n 0 ≡ 0
 none_weigh true n = refl
 none_weigh false n = refl
 
-granted-none : (f : ℕ) (k : Kind) (es : List Effect) → granted (λ _. false) f k es ≡ 0
+granted-none : (f : ℕ) (k : Kind) (es : List Effect) → granted_sizes (λ _. false) f k es ≡ 0
 granted-none f k [] = refl
 granted-none f k (Grants txn field change ∷ es) = omega (arith, granted-none f k es, none_weigh (eqb field.0 f && same_kind (kind_of change) k) (unsigned_abs change))
 granted-none f k (Begins txn ∷ es) = granted-none f k es
@@ -69,7 +69,7 @@ granted-none f k (Gives to field kind amount ∷ es) = granted-none f k es
 granted-none f k (Accepts from field kind total ∷ es) = granted-none f k es
 granted-none f k (Stops ∷ es) = granted-none f k es
 
-pub none_held : (schema : SchemaValue) (base : Base) (es : List Effect) → IsLawful schema base es → NoneOpen es → (f : ℕ) (k : Kind) → held f k es ≡ 0
+pub none_held : (schema : SchemaValue) (base : Base) (es : List Effect) → IsLawful schema base es → NoneOpen es → (f : ℕ) (k : Kind) → held_rights f k es ≡ 0
 none_held schema base es lawful none f k =
     granted-same schema base (λ id. is_open id es) (λ _. false) f k es lawful (open_shut es none) ∙ granted-none f k es
 
@@ -109,7 +109,7 @@ module _ (schema : SchemaValue) (good : IsSchema schema) (t : List Entry) (sound
         (λ from below. sum_nothing schema.sites (λ to. given_between schema t f k from to - accepted_between schema t f k from to)
         (λ to small. omega (arith, arrived from to k below small)))
 
-    only_mine : (k : Kind) → open_sizes schema t f k ≡ held f k (at_site schema t named)
+    only_mine : (k : Kind) → open_sizes schema t f k ≡ held_rights f k (at_site schema t named)
     only_mine k =
         traced schema good t sound (is_open_in schema t) f k
         ∙ sum_alone schema.sites (open_of schema good t sound f k) named named_in
@@ -121,8 +121,8 @@ module _ (schema : SchemaValue) (good : IsSchema schema) (t : List Entry) (sound
     all_shares : (k : Kind) → shares schema t f k ≡ sum_below schema.sites (others k) + share (fresh schema named) f k (at_site schema t named)
     all_shares k = sum_but schema.sites (λ s. share (fresh schema s) f k (at_site schema t s)) named named_in
 
-    pub below_is : committed schema t f ≡ ((field_at schema f).floor +ℤ pos (own_rights (fresh schema named) f Lower (at_site schema t named))) +ℤ pos (sum_below schema.sites (others Lower))
+    pub below_is : committed_value schema t f ≡ ((field_at schema f).floor +ℤ pos (own_rights (fresh schema named) f Lower (at_site schema t named))) +ℤ pos (sum_below schema.sites (others Lower))
     below_is = omega (arith, ints, law.lowering f, uncut Lower, nothing_flies Lower, only_mine Lower, all_shares Lower)
 
-    pub above_is : committed schema t f +ℤ pos (sum_below schema.sites (others Raise)) ≡ ((field_at schema f).ceiling -ℤ pos (own_rights (fresh schema named) f Raise (at_site schema t named)))
+    pub above_is : committed_value schema t f +ℤ pos (sum_below schema.sites (others Raise)) ≡ ((field_at schema f).ceiling -ℤ pos (own_rights (fresh schema named) f Raise (at_site schema t named)))
     above_is = omega (arith, ints, law.raising f, uncut Raise, nothing_flies Raise, only_mine Raise, all_shares Raise)

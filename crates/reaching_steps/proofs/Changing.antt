@@ -18,9 +18,9 @@ use Rattle.field_bounds.specs.Limits.{IsSchema}
 use Rattle.field_bounds.specs.Parts.{field_at, sum_below}
 use Rattle.field_bounds.specs.declared.effect.Effect.{Effect}
 use Rattle.field_bounds.specs.declared.effect.Effect.TheVariants.{Begins}
-use Rattle.field_bounds.specs.Effects.{Base, same_txn, is_begun, is_committed, is_dropped, open_txns, takes, granted, share, effects, fresh}
+use Rattle.field_bounds.specs.Effects.{Base, same_txn, is_begun, is_committed, is_dropped, open_txns, takes, granted_sizes, share, effects, fresh}
 use Rattle.field_bounds.specs.Owed.{place, first, refusals, is_up, epoch_of, count_since, count_escrows, is_begun_reply, max_number, max_change, IsRun}
-use Rattle.field_bounds.specs.Central.{own, at_site, committed, is_committed_in, IsSound}
+use Rattle.field_bounds.specs.Central.{own, at_site, committed_value, is_committed_in, IsSound}
 use Rattle.field_bounds.proofs.Lawful.{IsLawful, same_txn-true}
 use Rattle.field_bounds.proofs.Runs.{run_is_lawful, begun_is_new, next_id}
 use Rattle.field_bounds.proofs.Steps.{granted-or, of_txn_is, IsUnused, new_is_unused}
@@ -83,7 +83,7 @@ module _ (schema : SchemaValue) (s : ℕ) (base : Base) (o : List Entry) (run : 
 
   -- what is settled at the site grows by the escrow
   abbrev pub settled : Kind → List Effect → ℕ
-  settled k l = granted (λ j. is_committed j l) field k l
+  settled k l = granted_sizes (λ j. is_committed j l) field k l
 
   abbrev pub asked : EscrowOf
   asked = record { field = no; change = change }
@@ -112,10 +112,10 @@ takes_split field no (negsuc n) same = rw (eq-eqb no.0 field same) (omega (arith
 
 module _ (schema : SchemaValue) (good : IsSchema schema) (f : ℕ) where
   abbrev pub settled_at : Kind → List Entry → ℕ → ℕ
-  settled_at k t s = granted (λ j. is_committed j (at_site schema t s)) f k (at_site schema t s)
+  settled_at k t s = granted_sizes (λ j. is_committed j (at_site schema t s)) f k (at_site schema t s)
 
   pub committed_is : (t : List Entry) → IsSound schema t
-      → committed schema t f ≡ ((field_at schema f).value +ℤ (pos (sum_below schema.sites (settled_at Raise t)) -ℤ pos (sum_below schema.sites (settled_at Lower t))))
+      → committed_value schema t f ≡ ((field_at schema f).value +ℤ (pos (sum_below schema.sites (settled_at Raise t)) -ℤ pos (sum_below schema.sites (settled_at Lower t))))
   committed_is t sound =
       omega (
         arith,
@@ -129,9 +129,9 @@ module _ (schema : SchemaValue) (good : IsSchema schema) (f : ℕ) where
   pub moved : (t u : List Entry) → IsSound schema t → IsSound schema u → (s : ℕ) → s < schema.sites → (change : ℤ)
       → ((k : Kind) → settled_at k u s ≡ settled_at k t s + takes f k (record { field = record { 0 = f }; change = change }))
       → ((j : ℕ) → j ≢ s → own j u ≡ own j t)
-      → committed schema u f ≡ (committed schema t f +ℤ change)
+      → committed_value schema u f ≡ (committed_value schema t f +ℤ change)
   moved t u sound_t sound_u s below change here there =
       let bump : (k : Kind) → sum_below schema.sites (settled_at k u) ≡ sum_below schema.sites (settled_at k t) + takes f k (record { field = record { 0 = f }; change = change }) =
       λ k. sum_below_bump schema.sites (settled_at k t) (settled_at k u) s (takes f k (record { field = record { 0 = f }; change = change })) below (here k)
-      (λ j apart. ap (λ (o : List Entry). (let es = effects (fresh schema j) false o in granted (λ x. is_committed x es) f k es)) (there j apart)) in
+      (λ j apart. ap (λ (o : List Entry). (let es = effects (fresh schema j) false o in granted_sizes (λ x. is_committed x es) f k es)) (there j apart)) in
       omega (arith, ints, committed_is t sound_t, committed_is u sound_u, bump Raise, bump Lower, takes_split f (record { 0 = f }) change refl)

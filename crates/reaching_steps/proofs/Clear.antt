@@ -13,7 +13,7 @@ use Rattle.field_bounds.specs.Effects.{fresh}
 use Rattle.field_bounds.specs.Owed.{place, count_since, is_begun_reply, max_number, interval_at}
 use Rattle.field_bounds.specs.Statements.{IsIssued}
 use Rattle.field_bounds.specs.Central.{own, cuts, given_between}
-use Rattle.world_steps.specs.World.{issued}
+use Rattle.world_steps.specs.World.{statements_issued}
 use Rattle.world_steps.proofs.Issued.{numbered_is_issued}
 use Rattle.reaching_steps.specs.declared.fault.ReachFault.{ReachFault}
 use Rattle.reaching_steps.specs.declared.fault.ReachFault.TheVariants.{NoSite, NoField, NotUp, InFlight, Unstated, Tightened, Numbers, Outside}
@@ -77,10 +77,10 @@ stated : (schema : SchemaValue) (t : List Entry) (f from to : ℕ) (k : Kind) �
 stated schema t f from to k h some =
     let told = telling schema t f k from to in
     let more : ltb 0 (given_between schema t f k from to) ≡ true = lt-ltb _ _ (omega (arith, some)) in
-    elim (and_cases (ltb 0 (given_between schema t f k from to)) (eqb (number_of told (issued t)) 0) h) [
+    elim (and_cases (ltb 0 (given_between schema t f k from to)) (eqb (number_of told (statements_issued t)) 0) h) [
       | inl nothing ↦ absurd cc
       | inr has ↦
-          numbered_is_issued (number_of told (issued t)) t told (numbered_number told (issued t) (eqb-false _ _ has))
+          numbered_is_issued (number_of told (statements_issued t)) t told (numbered_number told (statements_issued t) (eqb-false _ _ has))
     ]
 
 numbered_left : (b c : Bool) → b ≡ false → (not b && c) ≡ false → c ≡ false

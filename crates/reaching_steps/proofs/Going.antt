@@ -22,7 +22,7 @@ use Rattle.kept_state.specs.declared.luck.Luck.TheVariants.{Fine}
 use Rattle.kept_state.specs.Luck.{Lucky, entries, own_lucky, refused_or, owed_with, lucky_reply}
 use Rattle.kept_state.proofs.Lucky.{own_entries}
 use Rattle.world_steps.specs.declared.step.WorldStep.{WorldStep}
-use Rattle.world_steps.specs.World.{asked, luck_of, with_entry, world_of, trace_by, issued, numbered, delivered}
+use Rattle.world_steps.specs.World.{question_of, luck_of, with_entry, world_of, trace_by, statements_issued, statement_at, delivery_of}
 use Rattle.world_steps.specs.declared.step.WorldStep.TheVariants.{Do, Deliver}
 use Rattle.reaching_steps.proofs.Sites.{Keeps, keeps_refl, keeps_trans}
 
@@ -45,7 +45,7 @@ module _ (schema : SchemaValue) where
       ∙ ap (λ (at : Place). answer at c) same
 
   -- the trace grows by the one entry with the answer
-  pub goes : (steps : List WorldStep) (step : WorldStep) (s : SiteNo) (c : Command) → asked (trace_by schema steps) step ≡ Some (s, c) → luck_of step ≡ Fine → is_restart c ≡ false
+  pub goes : (steps : List WorldStep) (step : WorldStep) (s : SiteNo) (c : Command) → question_of (trace_by schema steps) step ≡ Some (s, c) → luck_of step ≡ Fine → is_restart c ≡ false
       → first (refusals (here (trace_by schema steps) s.0) c) ≡ None
       → trace_by schema (steps ++ step ∷ []) ≡ made (trace_by schema steps) s c ∷ trace_by schema steps
   goes steps step s c asks fine plain h =
@@ -59,11 +59,11 @@ module _ (schema : SchemaValue) where
       → trace_by schema (steps ++ Do (record { 0 = s }) c Fine ∷ []) ≡ made (trace_by schema steps) (record { 0 = s }) c ∷ trace_by schema steps
   goes_do steps s c plain h = goes steps (Do (record { 0 = s }) c Fine) (record { 0 = s }) c refl refl plain h
 
-  pub goes_deliver : (steps : List WorldStep) (which : ℕ) (told : Statement) → numbered which (issued (trace_by schema steps)) ≡ Some told
+  pub goes_deliver : (steps : List WorldStep) (which : ℕ) (told : Statement) → statement_at which (statements_issued (trace_by schema steps)) ≡ Some told
       → first (refusals (here (trace_by schema steps) told.to.0) (Accept told)) ≡ None
       → trace_by schema (steps ++ Deliver which Fine ∷ []) ≡ made (trace_by schema steps) told.to (Accept told) ∷ trace_by schema steps
   goes_deliver steps which told is h =
-      goes steps (Deliver which Fine) told.to (Accept told) (ap (λ (o : Option Statement). delivered o) is) refl refl h
+      goes steps (Deliver which Fine) told.to (Accept told) (ap (λ (o : Option Statement). delivery_of o) is) refl refl h
 
   -- ---- what a later trace keeps of an earlier one, of a field, where nothing happens at the named site
 

@@ -10,18 +10,18 @@ use Rattle.field_bounds.specs.Kind.{same_kind}
 use Rattle.field_bounds.specs.Schema.{SchemaValue}
 use Rattle.field_bounds.specs.declared.effect.Effect.{Effect}
 use Rattle.field_bounds.specs.declared.effect.Effect.TheVariants.{Commits, Gives, Accepts}
-use Rattle.field_bounds.specs.Effects.{Base, after, effects, given, fresh}
+use Rattle.field_bounds.specs.Effects.{Base, after, effects, total_given, fresh}
 use Rattle.field_bounds.specs.declared.id.SiteNo.{SiteNo}
 use Rattle.field_bounds.specs.declared.id.FieldNo.{FieldNo}
-use Rattle.field_bounds.specs.Owed.{Place, place, refusals, first, answer, spared_of, max_total, IsRun}
+use Rattle.field_bounds.specs.Owed.{Place, place, refusals, first, answer, spare_of, max_total, IsRun}
 use Rattle.field_bounds.proofs.Lawful.{same_kind-true}
 use Rattle.field_bounds.proofs.Refused.{none_holds}
 use Rattle.field_bounds.proofs.Doubt.{run_holds}
 
 -- of each field and kind: nothing to the site itself, and to no site above the greatest total
 pub record IsFair (base : Base) (s : ℕ) (es : List Effect) : Type 0 where
-  pub itself : (f : ℕ) (k : Kind) → given base s f k es ≡ 0
-  pub within : (to f : ℕ) (k : Kind) → given base to f k es ≤ max_total
+  pub itself : (f : ℕ) (k : Kind) → total_given base s f k es ≡ 0
+  pub within : (to f : ℕ) (k : Kind) → total_given base to f k es ≤ max_total
 
 not_counted : (b : Bool) (n : ℕ) → b ≡ false → cond b n 0 ≡ 0
 not_counted b n h = rw h refl
@@ -30,8 +30,8 @@ either : (base : Base) (s : ℕ) (kept : Bool) (more es : List Effect) → IsFai
 either base s true more es m l = m
 either base s false more es m l = l
 
-more_within : (base : Base) (es : List Effect) (to : SiteNo) (field : FieldNo) (f x : ℕ) (kind k : Kind) (amount : ℕ) → given base to.0 field.0 kind es + amount ≤ max_total → given base x f k es ≤ max_total
-    → given base x f k (Gives (Some to) field kind amount ∷ es) ≤ max_total
+more_within : (base : Base) (es : List Effect) (to : SiteNo) (field : FieldNo) (f x : ℕ) (kind k : Kind) (amount : ℕ) → total_given base to.0 field.0 kind es + amount ≤ max_total → total_given base x f k es ≤ max_total
+    → total_given base x f k (Gives (Some to) field kind amount ∷ es) ≤ max_total
 more_within base es to field f x kind k amount enough before =
     elim (cases_Bool (eqb field.0 f && same_kind kind k && eqb to.0 x)) [
       | inl on ↦
@@ -40,7 +40,7 @@ more_within base es to field f x kind k amount enough before =
           let same_field : field.0 ≡ f = eqb-true _ _ both.0 in
           let kinds : kind ≡ k = same_kind-true _ _ both.1 in
           let same_site : to.0 ≡ x = eqb-true _ _ parts.1 in
-          let same : given base to.0 field.0 kind es ≡ given base x f k es = cc in
+          let same : total_given base to.0 field.0 kind es ≡ total_given base x f k es = cc in
           let counted : cond (eqb field.0 f && same_kind kind k && eqb to.0 x) amount 0 ≡ amount = rw on refl in
           omega (arith, counted, same, enough)
       | inr off ↦ let none = not_counted (eqb field.0 f && same_kind kind k && eqb to.0 x) amount off in omega (arith, none, before)
@@ -50,7 +50,7 @@ not_this_site : (a b : Bool) → b ≡ false → (a && b) ≡ false
 not_this_site true b h = h
 not_this_site false b h = refl
 
-fair_give : (base : Base) (s : ℕ) (es : List Effect) (to : SiteNo) (field : FieldNo) (kind : Kind) (amount : ℕ) → eqb to.0 s ≡ false → given base to.0 field.0 kind es + amount ≤ max_total → IsFair base s es
+fair_give : (base : Base) (s : ℕ) (es : List Effect) (to : SiteNo) (field : FieldNo) (kind : Kind) (amount : ℕ) → eqb to.0 s ≡ false → total_given base to.0 field.0 kind es + amount ≤ max_total → IsFair base s es
     → IsFair base s (Gives (Some to) field kind amount ∷ es)
 fair_give base s es to field kind amount apart enough l =
     record {
@@ -84,7 +84,7 @@ carried at (Restate to field kind) h kept l = (l, l)
 carried at (Spare to field kind want) h kept l =
     let none = (none_holds (refusals at (Spare to field kind want)) h).1 in
     let apart : eqb to.0 at.site ≡ false = none.1.1.1.1.1.0 in
-    let made = fair_give at.base at.site at.effects to field kind (spared_of at field kind want) apart (ltb-false _ _ none.1.1.1.1.1.1.0) l in
+    let made = fair_give at.base at.site at.effects to field kind (spare_of at field kind want) apart (ltb-false _ _ none.1.1.1.1.1.1.0) l in
     (made, either at.base at.site kept _ _ made l)
 carried at (Tighten field kind amount) h kept l =
     let made = fair_tighten at.base at.site at.effects field kind amount l in

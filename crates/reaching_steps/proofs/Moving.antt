@@ -16,9 +16,9 @@ use Rattle.field_bounds.specs.Kind.{kind_of}
 use Rattle.field_bounds.specs.Schema.{SchemaValue}
 use Rattle.field_bounds.specs.Limits.{IsSchema}
 use Rattle.field_bounds.specs.Parts.{sum_below}
-use Rattle.field_bounds.specs.Effects.{fresh, share, effects, is_committed, granted}
+use Rattle.field_bounds.specs.Effects.{fresh, share, effects, is_committed, granted_sizes}
 use Rattle.field_bounds.specs.Owed.{Place, place, first, refusals, is_up, count_since, is_begun_reply, max_number, max_change}
-use Rattle.field_bounds.specs.Central.{own, at_site, committed, IsSound}
+use Rattle.field_bounds.specs.Central.{own, at_site, committed_value, IsSound}
 use Rattle.field_bounds.proofs.Traces.{own_here, own_there}
 use Rattle.world_steps.specs.declared.step.WorldStep.{WorldStep}
 use Rattle.world_steps.specs.World.{StepFits, trace_by}
@@ -75,7 +75,7 @@ module _ (schema : SchemaValue) (good : IsSchema schema) (named f : ℕ) (known 
   -- what the three steps leave
   pub record Moved (s : ℕ) (change : ℤ) (t u : List Entry) : Type 0 where
     pub others : (j : ℕ) → j ≢ s → own j u ≡ own j t
-    pub value : committed schema u f ≡ (committed schema t f +ℤ change)
+    pub value : committed_value schema u f ≡ (committed_value schema t f +ℤ change)
 
   own_same : (s : ℕ) (e : Entry) (t : List Entry) (o : List Entry) → e.site.0 ≡ s → own s t ≡ o → own s (e ∷ t) ≡ e ∷ o
   own_same s e t o site is = own_here s e t site ∙ ap (λ (l : List Entry). e ∷ l) is
@@ -127,7 +127,7 @@ module _ (schema : SchemaValue) (good : IsSchema schema) (named f : ℕ) (known 
       record {
         others = rest;
         value = moved schema good f t t3 sound sound3 s below change
-            (λ k. ap (λ (l : List Entry). (let es = effects base false l in granted (λ j. is_committed j es) f k es)) own3 ∙ settles schema s base o run f change k)
+            (λ k. ap (λ (l : List Entry). (let es = effects base false l in granted_sizes (λ j. is_committed j es) f k es)) own3 ∙ settles schema s base o run f change k)
             rest;
       } in
       went_on schema steps (fine s Begin ∷ []) (fine s escrow ∷ fine s (Commit id) ∷ []) Any (Moved s change t) fit
@@ -147,7 +147,7 @@ module _ (schema : SchemaValue) (good : IsSchema schema) (named f : ℕ) (known 
       pub mine_is : own named t ≡ mine
       pub idle : (s : ℕ) → i ≤ s → s < schema.sites → s ≢ named → Idle t s
       pub free_is : (s : ℕ) → i ≤ s → s < schema.sites → s ≢ named → share (fresh schema s) f k (at_site schema t s) ≡ F s
-      pub left : target -ℤ committed schema t f ≡ signed k (all - sum_below i F)
+      pub left : target -ℤ committed_value schema t f ≡ signed k (all - sum_below i F)
 
     idle_same : (t u : List Entry) (s : ℕ) → own s u ≡ own s t → Idle t s → Idle u s
     idle_same t u s same idle =
@@ -176,7 +176,7 @@ module _ (schema : SchemaValue) (good : IsSchema schema) (named f : ℕ) (known 
               ap (λ (o : List Entry). share (fresh schema s) f k (effects (fresh schema s) false o)) (did.others s (λ e. omega (arith, e, above)))
               ∙ m.free_is s (omega (arith, above)) below other;
           left = ap (λ (v : ℤ). target -ℤ v) did.value
-              ∙ less_left k target (committed schema t f) (all - sum_below i F) q (all - sum_below (suc i) F) m.left (omega (arith, is)) (omega (arith, is));
+              ∙ less_left k target (committed_value schema t f) (all - sum_below i F) q (all - sum_below (suc i) F) m.left (omega (arith, is)) (omega (arith, is));
         }
 
     share_of_kind : (s : ℕ) (t : List Entry) (k : Kind)
@@ -188,7 +188,7 @@ module _ (schema : SchemaValue) (good : IsSchema schema) (named f : ℕ) (known 
         → Went schema steps (moves schema named f target i (trace_by schema steps)) (Moving (suc i))
     one_moves i below steps fit m =
         let t : List Entry = trace_by schema steps in
-        let list : List WorldStep = changes_by i f (next_txn schema t i) (towards (target -ℤ committed schema t f) (share (fresh schema i) f Lower (at_site schema t i)) (share (fresh schema i) f Raise (at_site schema t i))) in
+        let list : List WorldStep = changes_by i f (next_txn schema t i) (towards (target -ℤ committed_value schema t f) (share (fresh schema i) f Lower (at_site schema t i)) (share (fresh schema i) f Raise (at_site schema t i))) in
         elim (cases_eq i named) [
           | inl itself ↦
               let none : F i ≡ 0 = ap F itself ∙ mine_free in
@@ -198,7 +198,7 @@ module _ (schema : SchemaValue) (good : IsSchema schema) (named f : ℕ) (known 
               let free = m.free_is i (omega arith) below apart in
               let d : ℕ = all - sum_below i F in
               let q : ℕ = min d (F i) in
-              let change_is : towards (target -ℤ committed schema t f) (share (fresh schema i) f Lower (at_site schema t i)) (share (fresh schema i) f Raise (at_site schema t i)) ≡ signed k q =
+              let change_is : towards (target -ℤ committed_value schema t f) (share (fresh schema i) f Lower (at_site schema t i)) (share (fresh schema i) f Raise (at_site schema t i)) ≡ signed k q =
               ap (λ (z : ℤ). towards z (share (fresh schema i) f Lower (at_site schema t i)) (share (fresh schema i) f Raise (at_site schema t i))) m.left
               ∙ towards_is k d (share (fresh schema i) f Lower (at_site schema t i)) (share (fresh schema i) f Raise (at_site schema t i))
               ∙ ap (λ (n : ℕ). signed k (min d n)) (share_of_kind i t k ∙ free) in

@@ -8,7 +8,7 @@ use Rattle.field_bounds.specs.declared.entry.Entry.{Entry}
 use Rattle.field_bounds.specs.Kind.{same_kind}
 use Rattle.field_bounds.specs.Statements.{statement_of, IsIssued}
 use Rattle.field_bounds.proofs.Lawful.{same_kind-true}
-use Rattle.world_steps.specs.World.{with_statement, issued, numbered}
+use Rattle.world_steps.specs.World.{with_statement, statements_issued, statement_at}
 use Rattle.reaching_steps.specs.Reach.{same_statement, number_of}
 
 same_kind-refl : (k : Kind) → same_kind k k ≡ true
@@ -48,7 +48,7 @@ number_within x [] = omega arith
 number_within x (y ∷ ys) = number_step (number_of x ys) (same_statement y x) (length ys) (number_within x ys)
 
 -- what has a number is the statement of that number
-pub numbered_number : (x : Statement) (ys : List Statement) → number_of x ys ≢ 0 → numbered (number_of x ys) ys ≡ Some x
+pub numbered_number : (x : Statement) (ys : List Statement) → number_of x ys ≢ 0 → statement_at (number_of x ys) ys ≡ Some x
 numbered_number x [] some = absurd (some refl)
 numbered_number x (y ∷ ys) some =
     elim (cases_eq (number_of x ys) 0) [
@@ -64,8 +64,8 @@ numbered_number x (y ∷ ys) some =
       | inr before ↦
           let is : number_of x (y ∷ ys) ≡ number_of x ys = rw (ne_eqb (number_of x ys) 0 before) refl in
           let small = number_within x ys in
-          let next : numbered (number_of x ys) (y ∷ ys) ≡ numbered (number_of x ys) ys = ap (λ (b : Bool). cond b (Some y) (numbered (number_of x ys) ys)) (ne_eqb (number_of x ys) (suc (length ys)) (λ e. omega (arith, e, small))) in
-          ap (λ (n : ℕ). numbered n (y ∷ ys)) is ∙ next ∙ numbered_number x ys before
+          let next : statement_at (number_of x ys) (y ∷ ys) ≡ statement_at (number_of x ys) ys = ap (λ (b : Bool). cond b (Some y) (statement_at (number_of x ys) ys)) (ne_eqb (number_of x ys) (suc (length ys)) (λ e. omega (arith, e, small))) in
+          ap (λ (n : ℕ). statement_at n (y ∷ ys)) is ∙ next ∙ numbered_number x ys before
     ]
 
 -- what was issued has a number
@@ -89,8 +89,8 @@ later_numbered : (x : Statement) (o : Option Statement) (ys : List Statement) �
 later_numbered x None ys before = before
 later_numbered x (Some y) ys before = there_numbered x y ys before
 
-pub issued_numbered : (x : Statement) (t : List Entry) → IsIssued x t → number_of x (issued t) ≢ 0
+pub issued_numbered : (x : Statement) (t : List Entry) → IsIssued x t → number_of x (statements_issued t) ≢ 0
 issued_numbered x [] h = absurd h
-issued_numbered x (e ∷ t) (inr before) = later_numbered x (statement_of e) (issued t) (issued_numbered x t before)
+issued_numbered x (e ∷ t) (inr before) = later_numbered x (statement_of e) (statements_issued t) (issued_numbered x t before)
 issued_numbered x (e ∷ t) (inl now) =
-    subst (λ (o : Option Statement). number_of x (with_statement o (issued t)) ≢ 0) (sym now) (here_numbered x (issued t))
+    subst (λ (o : Option Statement). number_of x (with_statement o (statements_issued t)) ≢ 0) (sym now) (here_numbered x (statements_issued t))

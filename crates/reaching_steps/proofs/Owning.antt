@@ -10,9 +10,9 @@ use Rattle.field_bounds.specs.Schema.{SchemaValue}
 use Rattle.field_bounds.specs.Limits.{IsSchema}
 use Rattle.field_bounds.specs.Parts.{sum_below, part_of, field_at}
 use Rattle.field_bounds.specs.declared.effect.Effect.{Effect}
-use Rattle.field_bounds.specs.Effects.{fresh, granted, gifts, is_to, given, cut, accepted, share, held, own_rights, is_committed}
+use Rattle.field_bounds.specs.Effects.{fresh, granted_sizes, gifts, is_to, total_given, cut, total_accepted, share, held_rights, own_rights, is_committed}
 use Rattle.field_bounds.specs.Owed.{max_change, max_total}
-use Rattle.field_bounds.specs.Central.{own, at_site, committed, given_between, IsSound}
+use Rattle.field_bounds.specs.Central.{own, at_site, committed_value, given_between, IsSound}
 use Rattle.field_bounds.proofs.Sums.{sum_below-zero}
 use Rattle.field_bounds.proofs.Lawful.{IsLawful}
 use Rattle.field_bounds.proofs.Shares.{balance, gains_split}
@@ -28,24 +28,24 @@ use Rattle.reaching_steps.proofs.Changing.{committed_is, settled_at}
 use Rattle.reaching_steps.proofs.Ledger.{run_is_fair}
 
 pub owned_is : (schema : SchemaValue) (s : ℕ) (es : List Effect) → IsLawful schema (fresh schema s) es → (f : ℕ) (k : Kind)
-    → share (fresh schema s) f k es + granted (λ id. is_committed id es) f k es + held f k es + gifts (λ _. true) f k es
-    ≡ part_of schema s f k + granted (λ id. is_committed id es) f (other k) es + sum_below schema.sites (λ from. accepted (fresh schema s) from f k es)
+    → share (fresh schema s) f k es + granted_sizes (λ id. is_committed id es) f k es + held_rights f k es + gifts (λ _. true) f k es
+    ≡ part_of schema s f k + granted_sizes (λ id. is_committed id es) f (other k) es + sum_below schema.sites (λ from. total_accepted (fresh schema s) from f k es)
 owned_is schema s es lawful f k =
     omega (arith, balance schema (fresh schema s) es lawful f k, gains_split schema (fresh schema s) es lawful f k, sum_below-zero schema.sites)
 
 -- the same of what was read
-pub record Summed (schema : SchemaValue) (s f : ℕ) (k : Kind) (es : List Effect) (part turned gained settled given held_ : ℕ) : Type 0 where
-  pub whole : share (fresh schema s) f k es + settled + held f k es + given ≡ part + turned + gained
-  pub holds : held_ ≡ held f k es
+pub record Summed (schema : SchemaValue) (s f : ℕ) (k : Kind) (es : List Effect) (part turned gained settled total_given held_ : ℕ) : Type 0 where
+  pub whole : share (fresh schema s) f k es + settled + held_rights f k es + total_given ≡ part + turned + gained
+  pub holds : held_ ≡ held_rights f k es
 
-pub summed : (schema : SchemaValue) (s f : ℕ) (k : Kind) (deeds : List Effect) (sites part turned gained settled given held_ : ℕ) (k' : Kind) → IsLawful schema (fresh schema s) deeds
-    → sites ≡ schema.sites → k' ≡ other k → part ≡ part_of schema s f k → turned ≡ granted (λ id. is_committed id deeds) f k' deeds
-    → gained ≡ sum_below sites (λ from. accepted (fresh schema s) from f k deeds) → settled ≡ granted (λ id. is_committed id deeds) f k deeds
-    → given ≡ gifts (λ _. true) f k deeds → held_ ≡ held f k deeds → Summed schema s f k deeds part turned gained settled given held_
-summed schema s f k deeds sites part turned gained settled given held_ k' lawful sites_is kind_is part_is turned_is gained_is settled_is given_is held_is =
+pub summed : (schema : SchemaValue) (s f : ℕ) (k : Kind) (deeds : List Effect) (sites part turned gained settled total_given held_ : ℕ) (k' : Kind) → IsLawful schema (fresh schema s) deeds
+    → sites ≡ schema.sites → k' ≡ other k → part ≡ part_of schema s f k → turned ≡ granted_sizes (λ id. is_committed id deeds) f k' deeds
+    → gained ≡ sum_below sites (λ from. total_accepted (fresh schema s) from f k deeds) → settled ≡ granted_sizes (λ id. is_committed id deeds) f k deeds
+    → total_given ≡ gifts (λ _. true) f k deeds → held_ ≡ held_rights f k deeds → Summed schema s f k deeds part turned gained settled total_given held_
+summed schema s f k deeds sites part turned gained settled total_given held_ k' lawful sites_is kind_is part_is turned_is gained_is settled_is given_is held_is =
     let es = deeds in
-    let turn : granted (λ id. is_committed id es) f k' es ≡ granted (λ id. is_committed id es) f (other k) es = ap (λ (x : Kind). granted (λ id. is_committed id es) f x es) kind_is in
-    let gain : sum_below sites (λ from. accepted (fresh schema s) from f k es) ≡ sum_below schema.sites (λ from. accepted (fresh schema s) from f k es) = ap (λ (n : ℕ). sum_below n (λ from. accepted (fresh schema s) from f k es)) sites_is in
+    let turn : granted_sizes (λ id. is_committed id es) f k' es ≡ granted_sizes (λ id. is_committed id es) f (other k) es = ap (λ (x : Kind). granted_sizes (λ id. is_committed id es) f x es) kind_is in
+    let gain : sum_below sites (λ from. total_accepted (fresh schema s) from f k es) ≡ sum_below schema.sites (λ from. total_accepted (fresh schema s) from f k es) = ap (λ (n : ℕ). sum_below n (λ from. total_accepted (fresh schema s) from f k es)) sites_is in
     record {
       whole = omega (arith, owned_is schema s es lawful f k, part_is, turned_is, turn, gained_is, gain, settled_is, given_is);
       holds = held_is;
@@ -147,10 +147,10 @@ module _ (schema : SchemaValue) (good : IsSchema schema) (t : List Entry) (sound
       let all_given = gifts_split schema (fresh schema s) es lawful f Lower in
       let gave = sum_bound schema.sites max_total (λ to. gifts (is_to to) f Lower es) (λ to less. let one = given_small schema t sound s to f Lower below in omega (arith, one)) in
       let gone = cut_small s f Lower below in
-      let took = sum_bound schema.sites max_total (λ from. accepted (fresh schema s) from f Lower es) (λ from less. let one = given_small schema t sound from s f Lower less in omega (arith, one, accepted_is_given schema t sound false f Lower from s)) in
+      let took = sum_bound schema.sites max_total (λ from. total_accepted (fresh schema s) from f Lower es) (λ from less. let one = given_small schema t sound from s f Lower less in omega (arith, one, accepted_is_given schema t sound false f Lower from s)) in
       (omega (arith, whole, small, part, all_given, gave, gone, took, good.few_sites), omega (arith, whole, small, part, all_given, gave, gone, took, good.few_sites))
 
-  pub committed_near : (f : ℕ) → (neg_ℤ (pos 1_000_000_000_000_000) ≤ℤ committed schema t f) × (committed schema t f ≤ℤ pos 1_000_000_000_000_000)
+  pub committed_near : (f : ℕ) → (neg_ℤ (pos 1_000_000_000_000_000) ≤ℤ committed_value schema t f) × (committed_value schema t f ≤ℤ pos 1_000_000_000_000_000)
   committed_near f =
       let law = within_bounds schema good t sound f in
       let near = all_near schema.fields good.each f in
@@ -165,7 +165,7 @@ both_more F G i up down more less was is =
     omega (arith, was, is, f, g)
 
 pub committed_from : (schema : SchemaValue) (good : IsSchema schema) (t : List Entry) → IsSound schema t → (f i n up down : ℕ) (value : ℤ) → i ≤ n → n ≤ i → n ≡ schema.sites
-    → up + sum_below i (settled_at schema good f Lower t) ≡ down + sum_below i (settled_at schema good f Raise t) → value ≡ (field_at schema f).value → (value +ℤ (pos up -ℤ pos down)) ≡ committed schema t f
+    → up + sum_below i (settled_at schema good f Lower t) ≡ down + sum_below i (settled_at schema good f Raise t) → value ≡ (field_at schema f).value → (value +ℤ (pos up -ℤ pos down)) ≡ committed_value schema t f
 committed_from schema good t sound f i n up down value low high all is value_is =
     let same : i ≡ schema.sites = omega (arith, low, high, all) in
     let lower : sum_below i (settled_at schema good f Lower t) ≡ sum_below schema.sites (settled_at schema good f Lower t) = ap (λ (m : ℕ). sum_below m (settled_at schema good f Lower t)) same in

@@ -9,7 +9,7 @@ use Rattle.field_bounds.specs.declared.entry.Command.TheVariants.{Restate, Accep
 use Rattle.field_bounds.specs.declared.entry.Entry.{Entry}
 use Rattle.field_bounds.specs.Schema.{SchemaValue}
 use Rattle.field_bounds.specs.Limits.{IsSchema}
-use Rattle.field_bounds.specs.Effects.{fresh, effects, cut, accepted}
+use Rattle.field_bounds.specs.Effects.{fresh, effects, cut, total_accepted}
 use Rattle.field_bounds.specs.Owed.{is_up, count_since, is_begun_reply, max_number}
 use Rattle.field_bounds.specs.Statements.{IsIssued}
 use Rattle.field_bounds.specs.Central.{own, at_site, cuts, given_between, accepted_between, IsSound}
@@ -18,7 +18,7 @@ use Rattle.field_bounds.proofs.Sums.{sum_below-same}
 use Rattle.kept_state.specs.declared.luck.Luck.TheVariants.{Fine}
 use Rattle.world_steps.specs.declared.step.WorldStep.{WorldStep}
 use Rattle.world_steps.specs.declared.step.WorldStep.TheVariants.{Deliver}
-use Rattle.world_steps.specs.World.{StepFits, issued, trace_by}
+use Rattle.world_steps.specs.World.{StepFits, statements_issued, trace_by}
 use Rattle.world_steps.proofs.Issued.{numbered_is_issued}
 use Rattle.world_steps.proofs.Forged.{never_forged}
 use Rattle.reaching_steps.specs.Reach.{Task, fine, number_of, telling, is_wanting, restates, delivers, passes_on, over_sites}
@@ -96,7 +96,7 @@ module _ (schema : SchemaValue) (named f : ℕ) where
 
   module _ (good : IsSchema schema) (known : f < length schema.fields) (from to : ℕ) (k : Kind) (from_in : from < schema.sites) (to_in : to < schema.sites) where
     abbrev HasNumber : List Entry → Type 0
-    HasNumber u = is_wanting schema named f from to k u ≡ true → number_of (telling schema u f k from to) (issued u) ≢ 0
+    HasNumber u = is_wanting schema named f from to k u ≡ true → number_of (telling schema u f k from to) (statements_issued u) ≢ 0
 
     -- what is wanted, in words
     record Wants (t : List Entry) : Type 0 where
@@ -119,12 +119,12 @@ module _ (schema : SchemaValue) (named f : ℕ) where
         let list : List WorldStep = fine from again ∷ [] in
         let Q : Claim = λ u. Leaves schema named f t u × HasNumber u in
         let wanted = is_wanting schema named f from to k t in
-        let untold = eqb (number_of told (issued t)) 0 in
+        let untold = eqb (number_of told (statements_issued t)) 0 in
         elim (cases_Bool (wanted && untold)) [
           | inl both ↦
               let parts = and_parts wanted untold both in
               let w = wants t parts.0 in
-              let none : number_of told (issued t) ≡ 0 = eqb-true _ _ parts.1 in
+              let none : number_of told (statements_issued t) ≡ 0 = eqb-true _ _ parts.1 in
               let giver : from ≢ named = λ same.
               let told_is : IsIssued told t = subst (λ (n : ℕ). IsIssued (telling schema t f k n to) t) (sym same)
               (calm.told to k to_in (λ e. w.some (ap (λ (n : ℕ). given_between schema t f k n to) same ∙ e))) in
@@ -156,7 +156,7 @@ module _ (schema : SchemaValue) (named f : ℕ) where
     delivered steps fit calm has =
         let t = trace_by schema steps in
         let told : Statement = telling schema t f k from to in
-        let which = number_of told (issued t) in
+        let which = number_of told (statements_issued t) in
         let list : List WorldStep = Deliver which Fine ∷ [] in
         let Q : Claim = λ u. Leaves schema named f t u × Arrived u from to k in
         let sound : IsSound schema t = sound_of schema good steps fit in
@@ -164,14 +164,14 @@ module _ (schema : SchemaValue) (named f : ℕ) where
         elim (cases_Bool (is_wanting schema named f from to k t)) [
           | inl wanted ↦
               let w = wants t wanted in
-              let number = numbered_number told (issued t) (has wanted) in
+              let number = numbered_number told (statements_issued t) (has wanted) in
               let is_told = numbered_is_issued which t told number in
               let went = goes_deliver schema steps which told number
               (accept_goes (here schema t to) (calm.ups to to_in) told from_in to_in known w.some (fair.within to f k) w.apart refl (never_forged schema good t sound told is_told)) in
               let e = made schema t (record { 0 = to }) (Accept told) in
               let leaves = leaves_one schema named f e t w.other (keeps_accept (fresh schema to) f (record { 0 = to }) told _ (own to t)) in
               let all : given_between schema t f k from to ≤ accepted_between schema (e ∷ t) f k from to =
-              subst (λ (o : List Entry). given_between schema t f k from to ≤ accepted (fresh schema to) from f k (effects (fresh schema to) false o)) (sym (own_here to e t refl))
+              subst (λ (o : List Entry). given_between schema t f k from to ≤ total_accepted (fresh schema to) from f k (effects (fresh schema to) false o)) (sym (own_here to e t refl))
               (accepted_all (fresh schema to) told (at_site schema t to)) in
               let q : Q (e ∷ t) = (leaves, omega (arith, all, given_same t (e ∷ t) leaves k from to)) in
               went_same schema steps list (delivers schema named f from to k t) Q (sym (ap (λ (b : Bool). cond b list []) wanted))

@@ -9,7 +9,7 @@ use Rattle.field_bounds.specs.Limits.{IsSchema}
 use Rattle.field_bounds.specs.Central.{IsSound}
 use Rattle.world_steps.specs.World.{StepFits, trace_by}
 use Rattle.world_steps.proofs.Living.{one_store_of}
-use Rattle.reaching_steps.specs.Reach.{Task, planned, over_sites, IsFine}
+use Rattle.reaching_steps.specs.Reach.{Task, steps_of_tasks, over_sites, IsFine}
 
 -- the trace of steps that fit is sound
 pub sound_of : (schema : SchemaValue) → IsSchema schema → (steps : List WorldStep) → All (StepFits schema) steps → IsSound schema (trace_by schema steps)
@@ -56,7 +56,7 @@ module _ (schema : SchemaValue) where
 
   -- tasks that lead from one claim to another
   abbrev pub Leads : Claim → Claim → List Task → Type 0
-  Leads P Q tasks = (steps : List WorldStep) → All (StepFits schema) steps → P (trace_by schema steps) → Went steps (planned schema steps tasks) Q
+  Leads P Q tasks = (steps : List WorldStep) → All (StepFits schema) steps → P (trace_by schema steps) → Went steps (steps_of_tasks schema steps tasks) Q
 
   pub leads_none : (P : Claim) → Leads P P []
   leads_none P steps fit p = went_none steps P p
@@ -66,27 +66,27 @@ module _ (schema : SchemaValue) where
       → Leads Q R tasks → Leads P R (task ∷ tasks)
   leads_first P Q R task tasks one rest steps fit p =
       let more = task (trace_by schema steps) in
-      went_on steps more (planned schema (steps ++ more) tasks) Q R fit (one steps fit p) (λ fits q. rest (steps ++ more) fits q)
+      went_on steps more (steps_of_tasks schema (steps ++ more) tasks) Q R fit (one steps fit p) (λ fits q. rest (steps ++ more) fits q)
 
   pub leads_task : (P Q : Claim) (task : Task)
       → ((steps : List WorldStep) → All (StepFits schema) steps → P (trace_by schema steps) → Went steps (task (trace_by schema steps)) Q)
       → Leads P Q (task ∷ [])
   leads_task P Q task one = leads_first P Q Q task [] one (leads_none Q)
 
-  pub planned_append : (steps : List WorldStep) (a b : List Task) → planned schema steps (a ++ b) ≡ planned schema steps a ++ planned schema (steps ++ planned schema steps a) b
-  planned_append steps [] b = ap (λ (l : List WorldStep). planned schema l b) (sym (append-nil steps))
+  pub planned_append : (steps : List WorldStep) (a b : List Task) → steps_of_tasks schema steps (a ++ b) ≡ steps_of_tasks schema steps a ++ steps_of_tasks schema (steps ++ steps_of_tasks schema steps a) b
+  planned_append steps [] b = ap (λ (l : List WorldStep). steps_of_tasks schema l b) (sym (append-nil steps))
   planned_append steps (task ∷ a) b =
       let more = task (trace_by schema steps) in
-      let rest = planned schema (steps ++ more) a in
+      let rest = steps_of_tasks schema (steps ++ more) a in
       ap (λ (l : List WorldStep). more ++ l) (planned_append (steps ++ more) a b)
-      ∙ sym (append_assoc more rest (planned schema ((steps ++ more) ++ rest) b))
-      ∙ ap (λ (l : List WorldStep). (more ++ rest) ++ planned schema l b) (append_assoc steps more rest)
+      ∙ sym (append_assoc more rest (steps_of_tasks schema ((steps ++ more) ++ rest) b))
+      ∙ ap (λ (l : List WorldStep). (more ++ rest) ++ steps_of_tasks schema l b) (append_assoc steps more rest)
 
   pub leads_on : (P Q R : Claim) (a b : List Task) → Leads P Q a → Leads Q R b → Leads P R (a ++ b)
   leads_on P Q R a b first next steps fit p =
-      let done = planned schema steps a in
-      went_same steps (done ++ planned schema (steps ++ done) b) (planned schema steps (a ++ b)) R (sym (planned_append steps a b))
-      (went_on steps done (planned schema (steps ++ done) b) Q R fit (first steps fit p) (λ fits q. next (steps ++ done) fits q))
+      let done = steps_of_tasks schema steps a in
+      went_same steps (done ++ steps_of_tasks schema (steps ++ done) b) (steps_of_tasks schema steps (a ++ b)) R (sym (planned_append steps a b))
+      (went_on steps done (steps_of_tasks schema (steps ++ done) b) Q R fit (first steps fit p) (λ fits q. next (steps ++ done) fits q))
 
   -- for each site in turn
   pub leads_over : (I : ℕ → Claim) (n : ℕ) (f : ℕ → List Task) → ((i : ℕ) → i < n → Leads (I i) (I (suc i)) (f i)) → Leads (I 0) (I n) (over_sites n f)

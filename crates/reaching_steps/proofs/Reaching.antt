@@ -12,12 +12,12 @@ use Rattle.field_bounds.specs.Schema.{SchemaValue}
 use Rattle.field_bounds.specs.Limits.{IsSchema}
 use Rattle.field_bounds.specs.Parts.{sum_below, field_at}
 use Rattle.field_bounds.specs.Effects.{fresh, share, own_rights, cut, effects}
-use Rattle.field_bounds.specs.Central.{own, at_site, committed}
+use Rattle.field_bounds.specs.Central.{own, at_site, committed_value}
 use Rattle.field_bounds.proofs.Conserved.{lawful_at}
 use Rattle.field_bounds.proofs.Sums.{term_below}
 use Rattle.world_steps.specs.declared.step.WorldStep.{WorldStep}
 use Rattle.world_steps.specs.World.{StepFits, trace_by}
-use Rattle.reaching_steps.specs.Reach.{planned, over_sites, aborts, passes_on, moves, tasks, same_value, reach_steps, reach_fault}
+use Rattle.reaching_steps.specs.Reach.{steps_of_tasks, over_sites, aborts, passes_on, moves, tasks, same_value, reach_steps, reach_fault}
 use Rattle.reaching_steps.proofs.Sites.{NoneOpen}
 use Rattle.reaching_steps.proofs.Plans.{sound_of, Went, went_none, went_as, went_same, Leads, leads_task, leads_on, leads_over, Claim}
 use Rattle.reaching_steps.proofs.Going.{Leaves}
@@ -76,7 +76,7 @@ module _ (schema : SchemaValue) (good : IsSchema schema) (named f : ℕ) (named_
   -- ---- last
 
   abbrev pub Reached : Claim
-  Reached u = (own named u ≡ mine) × (committed schema u f ≡ target)
+  Reached u = (own named u ≡ mine) × (committed_value schema u f ≡ target)
 
   moved_all : (low high : ℤ) → low ≡ ((field_at schema f).floor +ℤ pos (own_rights (fresh schema named) f Lower (effects (fresh schema named) false mine)))
       → high ≡ ((field_at schema f).ceiling -ℤ pos (own_rights (fresh schema named) f Raise (effects (fresh schema named) false mine)))
@@ -87,13 +87,13 @@ module _ (schema : SchemaValue) (good : IsSchema schema) (named f : ℕ) (named_
       let sound = sound_of schema good steps fit in
       let quiet = p.ready.quiet in
       let arrived = p.arrived in
-      let list : List WorldStep = planned schema steps (over_sites schema.sites (λ s. moves schema named f target s ∷ [])) in
+      let list : List WorldStep = steps_of_tasks schema steps (over_sites schema.sites (λ s. moves schema named f target s ∷ [])) in
       let F : Kind → ℕ → ℕ = λ k. but named (λ s. share (fresh schema s) f k (at_site schema t s)) in
       let rights : (k : Kind) → own_rights (fresh schema named) f k (at_site schema t named) ≡ own_rights (fresh schema named) f k (effects (fresh schema named) false mine) =
       λ k. ap (λ (o : List Entry). own_rights (fresh schema named) f k (effects (fresh schema named) false o)) p.ready.mine_is in
       let down = below_is schema good t sound f named named_in p.ready.calm.uncut quiet arrived in
       let up = above_is schema good t sound f named named_in p.ready.calm.uncut quiet arrived in
-      let go : (k : Kind) (all : ℕ) → target -ℤ committed schema t f ≡ signed k all → all ≤ sum_below schema.sites (F k) → Went schema steps list Reached =
+      let go : (k : Kind) (all : ℕ) → target -ℤ committed_value schema t f ≡ signed k all → all ≤ sum_below schema.sites (F k) → Went schema steps list Reached =
       λ k all is within.
       let Mv : ℕ → Claim = Moving schema good named f known target k all (F k) mine (but_here named (λ s. share (fresh schema s) f k (at_site schema t s))) in
       let start : Mv 0 t = record {
@@ -105,16 +105,16 @@ module _ (schema : SchemaValue) (good : IsSchema schema) (named f : ℕ) (named_
       went_as schema steps list (Mv schema.sites) Reached
       (all_moved schema good named f known target k all (F k) mine (but_here named (λ s. share (fresh schema s) f k (at_site schema t s))) steps fit start)
       (λ m. (m.mine_is, none_left k all (sum_below schema.sites (F k)) target _ within m.left)) in
-      by go (target -ℤ committed schema t f) refl
+      by go (target -ℤ committed_value schema t f) refl
       (omega (arith, ints, down, low_is, above, rights Lower)) (omega (arith, ints, up, high_is, below, rights Raise))
     where
-      by : (go : (k : Kind) (all : ℕ) → target -ℤ committed schema (trace_by schema steps) f ≡ signed k all
+      by : (go : (k : Kind) (all : ℕ) → target -ℤ committed_value schema (trace_by schema steps) f ≡ signed k all
           → all ≤ sum_below schema.sites (but named (λ s. share (fresh schema s) f k (at_site schema (trace_by schema steps) s)))
-          → Went schema steps (planned schema steps (over_sites schema.sites (λ s. moves schema named f target s ∷ []))) Reached)
-          (d : ℤ) → target -ℤ committed schema (trace_by schema steps) f ≡ d
-          → committed schema (trace_by schema steps) f ≤ℤ (target +ℤ pos (sum_below schema.sites (but named (λ s. share (fresh schema s) f Lower (at_site schema (trace_by schema steps) s)))))
-          → target ≤ℤ (committed schema (trace_by schema steps) f +ℤ pos (sum_below schema.sites (but named (λ s. share (fresh schema s) f Raise (at_site schema (trace_by schema steps) s)))))
-          → Went schema steps (planned schema steps (over_sites schema.sites (λ s. moves schema named f target s ∷ []))) Reached
+          → Went schema steps (steps_of_tasks schema steps (over_sites schema.sites (λ s. moves schema named f target s ∷ []))) Reached)
+          (d : ℤ) → target -ℤ committed_value schema (trace_by schema steps) f ≡ d
+          → committed_value schema (trace_by schema steps) f ≤ℤ (target +ℤ pos (sum_below schema.sites (but named (λ s. share (fresh schema s) f Lower (at_site schema (trace_by schema steps) s)))))
+          → target ≤ℤ (committed_value schema (trace_by schema steps) f +ℤ pos (sum_below schema.sites (but named (λ s. share (fresh schema s) f Raise (at_site schema (trace_by schema steps) s)))))
+          → Went schema steps (steps_of_tasks schema steps (over_sites schema.sites (λ s. moves schema named f target s ∷ []))) Reached
       by go (pos n) is low high = go Raise n is (omega (arith, ints, is, high))
       by go (negsuc n) is low high = go Lower (suc n) is (omega (arith, ints, is, low))
 
@@ -126,7 +126,7 @@ same_is a b h = let none : unsigned_abs (a -ℤ b) ≡ 0 = eqb-true _ _ h in ome
 module _ (schema : SchemaValue) (good : IsSchema schema) (steps : List WorldStep) (fit : All (StepFits schema) steps) (site : SiteNo) (field : FieldNo) (target : ℤ)
     (clear : reach_fault schema (trace_by schema steps) site field target ≡ None) where
   abbrev pub End : Claim
-  End u = (own site.0 u ≡ own site.0 (trace_by schema steps)) × (committed schema u field.0 ≡ target)
+  End u = (own site.0 u ≡ own site.0 (trace_by schema steps)) × (committed_value schema u field.0 ≡ target)
 
   pub all_reached : Went schema steps (reach_steps schema steps site field target) End
   all_reached =
@@ -141,12 +141,12 @@ module _ (schema : SchemaValue) (good : IsSchema schema) (steps : List WorldStep
       let high_is : cut (fresh schema site.0) field.0 Raise (at_site schema t site.0) ≡ 0
       → ((field_at schema field.0).ceiling -ℤ pos (cut (fresh schema site.0) field.0 Raise (at_site schema t site.0) + own_rights (fresh schema site.0) field.0 Raise (at_site schema t site.0)))
       ≡ ((field_at schema field.0).ceiling -ℤ pos (own_rights (fresh schema site.0) field.0 Raise (at_site schema t site.0))) = λ none. omega (arith, ints, none) in
-      let plan : List WorldStep = planned schema steps (tasks schema site.0 field.0 target) in
-      let there = same_value (committed schema t field.0) target in
+      let plan : List WorldStep = steps_of_tasks schema steps (tasks schema site.0 field.0 target) in
+      let there = same_value (committed_value schema t field.0) target in
       elim (cases_Bool there) [
         | inl same ↦
             went_same schema steps [] (reach_steps schema steps site field target) End (sym (ap (λ (b : Bool). cond b [] plan) same))
-            (went_none schema steps End (refl, same_is (committed schema t field.0) target same))
+            (went_none schema steps End (refl, same_is (committed_value schema t field.0) target same))
         | inr other ↦
             let start : Aborting schema good site.0 field.0 is.site_in is.known mine target 0 t = record { calm = is.calm; mine_is = refl; quiet = λ s less. absurd (omega (arith, less)) } in
             went_same schema steps plan (reach_steps schema steps site field target) End (sym (ap (λ (b : Bool). cond b [] plan) other))

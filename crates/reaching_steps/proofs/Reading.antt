@@ -7,30 +7,30 @@ use Rattle.std.proofs.lemmas.List.{reverse-append, take-append-drop, drop_more, 
 use Rattle.field_bounds.specs.declared.entry.Entry.{Entry}
 use Rattle.field_bounds.specs.declared.effect.Effect.{Effect}
 use Rattle.field_bounds.specs.Schema.{SchemaValue}
-use Rattle.field_bounds.specs.Effects.{fresh, after, kept_before, effects}
+use Rattle.field_bounds.specs.Effects.{fresh, after, doubt_kept_before, effects}
 use Rattle.field_bounds.specs.Central.{own, at_site, IsSound}
 use Rattle.field_bounds.proofs.Lawful.{IsLawful}
 use Rattle.field_bounds.proofs.Runs.{run_is_lawful}
 use Rattle.field_bounds.proofs.Traces.{own_here, own_there, sound_front}
-use Rattle.reaching_steps.specs.Told.{kept_in, Reads}
+use Rattle.reaching_steps.specs.Told.{doubt_kept_in, Reads}
 
 -- an entry of another site
 pub reads_there : (schema : SchemaValue) (s : ℕ) (told more : List Effect) (e : Entry) (later : List Entry) → e.site.0 ≢ s → more ≡ told → Reads schema s told e later more
 unfolding Reads
 reads_there schema s told more e later apart same = λ t was.
     ap (λ (l : List Effect). reverse l) same ∙ was
-    ∙ ap (λ (b : Bool). effects (fresh schema s) (cond b (kept_before (kept_in s later) e.reply) (kept_in s later)) (own s t)) (ne_eqb e.site.0 s apart)
-    ∙ ap (λ (o : List Entry). effects (fresh schema s) (kept_in s later) o) (sym (own_there s e t apart))
+    ∙ ap (λ (b : Bool). effects (fresh schema s) (cond b (doubt_kept_before (doubt_kept_in s later) e.reply) (doubt_kept_in s later)) (own s t)) (ne_eqb e.site.0 s apart)
+    ∙ ap (λ (o : List Entry). effects (fresh schema s) (doubt_kept_in s later) o) (sym (own_there s e t apart))
 
 -- an entry of the site
 pub reads_here : (schema : SchemaValue) (s : ℕ) (told more : List Effect) (e : Entry) (later : List Entry) → e.site.0 ≡ s
-    → reverse more ≡ after (fresh schema s) (kept_in s later) e.command e.reply (reverse told) → Reads schema s told e later more
+    → reverse more ≡ after (fresh schema s) (doubt_kept_in s later) e.command e.reply (reverse told) → Reads schema s told e later more
 unfolding Reads
 reads_here schema s told more e later mine did = λ t was.
     did
-    ∙ ap (λ (es : List Effect). after (fresh schema s) (kept_in s later) e.command e.reply es)
-    (was ∙ ap (λ (b : Bool). effects (fresh schema s) (cond b (kept_before (kept_in s later) e.reply) (kept_in s later)) (own s t)) (eq-eqb e.site.0 s mine))
-    ∙ ap (λ (o : List Entry). effects (fresh schema s) (kept_in s later) o) (sym (own_here s e t mine))
+    ∙ ap (λ (es : List Effect). after (fresh schema s) (doubt_kept_in s later) e.command e.reply es)
+    (was ∙ ap (λ (b : Bool). effects (fresh schema s) (cond b (doubt_kept_before (doubt_kept_in s later) e.reply) (doubt_kept_in s later)) (own s t)) (eq-eqb e.site.0 s mine))
+    ∙ ap (λ (o : List Entry). effects (fresh schema s) (doubt_kept_in s later) o) (sym (own_here s e t mine))
 
 -- the fronts of a sound trace are sound
 sound_drop : (schema : SchemaValue) (a b : List Entry) → IsSound schema (a ++ b) → IsSound schema b
@@ -48,33 +48,33 @@ lawful_front schema s i trace t kept told below is sound told_is =
 
 pub reads_so : (schema : SchemaValue) (s i : ℕ) (trace : List Entry) (d : Entry) (told more : List Effect) → i < length trace
     → Reads schema s told (get_or trace i d) (drop (i + 1) trace) more
-    → reverse told ≡ effects (fresh schema s) (kept_in s (drop i trace)) (own s (reverse (take i trace)))
-    → reverse more ≡ effects (fresh schema s) (kept_in s (drop (i + 1) trace)) (own s (reverse (take (i + 1) trace)))
+    → reverse told ≡ effects (fresh schema s) (doubt_kept_in s (drop i trace)) (own s (reverse (take i trace)))
+    → reverse more ≡ effects (fresh schema s) (doubt_kept_in s (drop (i + 1) trace)) (own s (reverse (take (i + 1) trace)))
 unfolding Reads
 reads_so schema s i trace d told more below reads was =
     let one : i + 1 ≡ suc i = omega arith in
     let next : reverse (take (i + 1) trace) ≡ get_or trace i d ∷ reverse (take i trace) =
     ap (λ (n : ℕ). reverse (take n trace)) one ∙ ap (λ (l : List Entry). reverse l) (take-suc trace i d below) ∙ reverse-append (take i trace) (get_or trace i d ∷ []) in
-    reads (reverse (take i trace)) (was ∙ ap (λ (l : List Entry). effects (fresh schema s) (kept_in s l) (own s (reverse (take i trace)))) (drop_more trace i d below))
-    ∙ ap (λ (l : List Entry). effects (fresh schema s) (kept_in s (drop (i + 1) trace)) (own s l)) (sym next)
+    reads (reverse (take i trace)) (was ∙ ap (λ (l : List Entry). effects (fresh schema s) (doubt_kept_in s l) (own s (reverse (take i trace)))) (drop_more trace i d below))
+    ∙ ap (λ (l : List Entry). effects (fresh schema s) (doubt_kept_in s (drop (i + 1) trace)) (own s l)) (sym next)
 
 rest_is : (trace : List Entry) (m : ℕ) → take (length trace - m) (drop m trace) ≡ drop m trace
 rest_is trace m = ap (λ (n : ℕ). take n (drop m trace)) (sym (length-drop m trace)) ∙ take-length (drop m trace)
 
 pub reads_on : (schema x : SchemaValue) → x ≡ schema → (s i : ℕ) (trace : List Entry) (d : Entry) (told more : List Effect) → i < length trace
     → Reads x s told (get_or trace i d) (take (length trace - (i + 1)) (drop (i + 1) trace)) more
-    → reverse told ≡ effects (fresh schema s) (kept_in s (drop i trace)) (own s (reverse (take i trace)))
-    → reverse more ≡ effects (fresh schema s) (kept_in s (drop (i + 1) trace)) (own s (reverse (take (i + 1) trace)))
+    → reverse told ≡ effects (fresh schema s) (doubt_kept_in s (drop i trace)) (own s (reverse (take i trace)))
+    → reverse more ≡ effects (fresh schema s) (doubt_kept_in s (drop (i + 1) trace)) (own s (reverse (take (i + 1) trace)))
 reads_on schema x same s i trace d told more below read was =
     reads_so schema s i trace d told more below
     (subst (λ (l : List Entry). Reads schema s told (get_or trace i d) l more) (rest_is trace (i + 1))
     (subst (λ (y : SchemaValue). Reads y s told (get_or trace i d) (take (length trace - (i + 1)) (drop (i + 1) trace)) more) same read)) was
 
 pub reads_end : (schema : SchemaValue) (s i : ℕ) (trace t : List Entry) (told more : List Effect) → length trace ≡ i → reverse trace ≡ t → more ≡ reverse told
-    → reverse told ≡ effects (fresh schema s) (kept_in s (drop i trace)) (own s (reverse (take i trace))) → more ≡ at_site schema t s
+    → reverse told ≡ effects (fresh schema s) (doubt_kept_in s (drop i trace)) (own s (reverse (take i trace))) → more ≡ at_site schema t s
 reads_end schema s i trace t told more at is same was =
     same ∙ was
-    ∙ ap (λ (n : ℕ). effects (fresh schema s) (kept_in s (drop n trace)) (own s (reverse (take n trace)))) (sym at)
-    ∙ ap (λ (l : List Entry). effects (fresh schema s) (kept_in s l) (own s (reverse (take (length trace) trace)))) (drop_of_length-le trace (omega arith))
+    ∙ ap (λ (n : ℕ). effects (fresh schema s) (doubt_kept_in s (drop n trace)) (own s (reverse (take n trace)))) (sym at)
+    ∙ ap (λ (l : List Entry). effects (fresh schema s) (doubt_kept_in s l) (own s (reverse (take (length trace) trace)))) (drop_of_length-le trace (omega arith))
     ∙ ap (λ (l : List Entry). effects (fresh schema s) false (own s (reverse l))) (take-length trace)
     ∙ ap (λ (l : List Entry). at_site schema l s) is

@@ -13,7 +13,7 @@ use Rattle.field_bounds.specs.declared.entry.Entry.{Entry}
 use Rattle.field_bounds.specs.Kind.{same_kind}
 use Rattle.field_bounds.specs.declared.effect.Effect.{Effect}
 use Rattle.field_bounds.specs.declared.effect.Effect.TheVariants.{Begins, Grants, Commits, Aborts, Gives, Accepts, Stops}
-use Rattle.field_bounds.specs.Effects.{Base, same_txn, is_begun, is_committed, is_dropped, is_open, begun, open_txns, effects, given, cut, accepted}
+use Rattle.field_bounds.specs.Effects.{Base, same_txn, is_begun, is_committed, is_dropped, is_open, begun_txns, open_txns, effects, total_given, cut, total_accepted}
 use Rattle.field_bounds.specs.Owed.{is_up, count_since, is_begun_reply}
 
 -- nothing is lost of what the other sites need: it stays up, begins nothing, opens nothing, gives nothing and accepts no less
@@ -22,9 +22,9 @@ pub record Keeps (base : Base) (f : ℕ) (o p : List Entry) : Type 0 where
   pub numbers : count_since is_begun_reply p ≡ count_since is_begun_reply o
   pub opens : (id : TxnId) → is_begun id (effects base false p) ≡ true → is_open id (effects base false p) ≡ true
       → (is_begun id (effects base false o) ≡ true) × (is_open id (effects base false o) ≡ true)
-  pub given : (to : ℕ) (k : Kind) → given base to f k (effects base false p) ≡ given base to f k (effects base false o)
+  pub given : (to : ℕ) (k : Kind) → total_given base to f k (effects base false p) ≡ total_given base to f k (effects base false o)
   pub cuts : (k : Kind) → cut base f k (effects base false p) ≡ cut base f k (effects base false o)
-  pub accepted : (from : ℕ) (k : Kind) → accepted base from f k (effects base false o) ≤ accepted base from f k (effects base false p)
+  pub accepted : (from : ℕ) (k : Kind) → total_accepted base from f k (effects base false o) ≤ total_accepted base from f k (effects base false p)
 
 pub keeps_refl : (base : Base) (f : ℕ) (o : List Entry) → Keeps base f o o
 keeps_refl base f o =
@@ -35,7 +35,7 @@ keeps_trans base f o p q a b =
     record {
       up = λ h. b.up (a.up h);
       numbers = omega (arith, a.numbers, b.numbers);
-      opens = λ id begun opened. let mid = b.opens id begun opened in a.opens id mid.0 mid.1;
+      opens = λ id begun_txns opened. let mid = b.opens id begun_txns opened in a.opens id mid.0 mid.1;
       given = λ to k. omega (arith, a.given to k, b.given to k);
       cuts = λ k. omega (arith, a.cuts k, b.cuts k);
       accepted = λ from k. omega (arith, a.accepted from k, b.accepted from k);
@@ -54,7 +54,7 @@ keeps_abort base f s id o =
     record {
       up = λ h. h;
       numbers = omega arith;
-      opens = λ j begun opened. (begun, was_open (same_txn id j) (is_committed j es) (is_dropped j es) opened);
+      opens = λ j begun_txns opened. (begun_txns, was_open (same_txn id j) (is_committed j es) (is_dropped j es) opened);
       given = λ to k. refl;
       cuts = λ k. refl;
       accepted = λ from k. omega arith;
@@ -78,7 +78,7 @@ abort_spares id j es apart = ap (λ (b : Bool). not (is_committed j es) && not (
 pub keeps_restate : (base : Base) (f : ℕ) (s to : SiteNo) (field : FieldNo) (kind : Kind) (total : ℕ) (o : List Entry)
     → Keeps base f o (record { site = s; command = Restate to field kind; reply = Stated total } ∷ o)
 keeps_restate base f s to field kind total o =
-    record { up = λ h. h; numbers = omega arith; opens = λ j begun opened. (begun, opened); given = λ to' k. refl; cuts = λ k. refl; accepted = λ from k. omega arith }
+    record { up = λ h. h; numbers = omega arith; opens = λ j begun_txns opened. (begun_txns, opened); given = λ to' k. refl; cuts = λ k. refl; accepted = λ from k. omega arith }
 
 -- ---- a statement taken in
 
@@ -92,10 +92,10 @@ keeps_accept base f s told gain o =
     record {
       up = λ h. h;
       numbers = omega arith;
-      opens = λ j begun opened. (begun, opened);
+      opens = λ j begun_txns opened. (begun_txns, opened);
       given = λ to k. refl;
       cuts = λ k. refl;
-      accepted = λ from k. merged (eqb told.field.0 f && same_kind told.kind k && eqb told.from.0 from) told.total (accepted base from f k (effects base false o));
+      accepted = λ from k. merged (eqb told.field.0 f && same_kind told.kind k && eqb told.from.0 from) told.total (total_accepted base from f k (effects base false o));
     }
 
 same_kind-refl : (k : Kind) → same_kind k k ≡ true
@@ -107,7 +107,7 @@ same_here f k from = rw (eq-eqb f f refl, same_kind-refl k, eq-eqb from from ref
 
 -- after it all that the statement tells was accepted
 pub accepted_all : (base : Base) (told : Statement) (es : List Effect)
-    → told.total ≤ accepted base told.from.0 told.field.0 told.kind (Accepts told.from told.field told.kind told.total ∷ es)
+    → told.total ≤ total_accepted base told.from.0 told.field.0 told.kind (Accepts told.from told.field told.kind told.total ∷ es)
 accepted_all base told es = rw (same_here told.field.0 told.kind told.from.0) (omega arith)
 
 -- ---- where nothing is open
@@ -118,11 +118,11 @@ NoneOpen es = (id : TxnId) → is_begun id es ≡ true → is_open id es ≡ tru
 pub same_txn-refl : (id : TxnId) → same_txn id id ≡ true
 same_txn-refl id = rw (eq-eqb id.epoch id.epoch refl, eq-eqb id.number id.number refl) refl
 
-pub none_passes : (p : TxnId → Bool) (es : List Effect) → ((id : TxnId) → is_begun id es ≡ true → p id ≡ false) → filter p (begun es) ≡ []
+pub none_passes : (p : TxnId → Bool) (es : List Effect) → ((id : TxnId) → is_begun id es ≡ true → p id ≡ false) → filter p (begun_txns es) ≡ []
 none_passes p [] h = refl
 none_passes p (Begins txn ∷ es) h =
     let here : is_begun txn (Begins txn ∷ es) ≡ true = rw (same_txn-refl txn) refl in
-    rw (h txn here) (none_passes p es (λ id begun. h id (or_right (same_txn txn id) (is_begun id es) begun)))
+    rw (h txn here) (none_passes p es (λ id begun_txns. h id (or_right (same_txn txn id) (is_begun id es) begun_txns)))
 none_passes p (Grants txn field change ∷ es) h = none_passes p es h
 none_passes p (Commits txn ∷ es) h = none_passes p es h
 none_passes p (Aborts txn ∷ es) h = none_passes p es h
@@ -131,7 +131,7 @@ none_passes p (Accepts from field kind total ∷ es) h = none_passes p es h
 none_passes p (Stops ∷ es) h = none_passes p es h
 
 pub open_shut : (es : List Effect) → NoneOpen es → (id : TxnId) → is_begun id es ≡ true → is_open id es ≡ false
-open_shut es none id begun = elim (cases_Bool (is_open id es)) as (λ _. is_open id es ≡ false) [ inl opened ↦ absurd (none id begun opened) | inr shut ↦ shut ]
+open_shut es none id begun_txns = elim (cases_Bool (is_open id es)) as (λ _. is_open id es ≡ false) [ inl opened ↦ absurd (none id begun_txns opened) | inr shut ↦ shut ]
 
 pub nothing_open : (es : List Effect) → NoneOpen es → open_txns es ≡ []
 nothing_open es none = none_passes (λ id. is_open id es) es (open_shut es none)

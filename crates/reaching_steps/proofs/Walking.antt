@@ -13,7 +13,7 @@ use Rattle.field_bounds.specs.Schema.{SchemaValue}
 use Rattle.field_bounds.specs.Parts.{sum_below}
 use Rattle.field_bounds.specs.declared.effect.Effect.{Effect}
 use Rattle.field_bounds.specs.declared.effect.Effect.TheVariants.{Begins, Grants, Commits, Aborts, Gives, Accepts, Stops}
-use Rattle.field_bounds.specs.Effects.{Base, same_txn, is_begun, is_committed, is_dropped, is_open, begun, open_txns, granted, held, gifts}
+use Rattle.field_bounds.specs.Effects.{Base, same_txn, is_begun, is_committed, is_dropped, is_open, begun_txns, open_txns, granted_sizes, held_rights, gifts}
 use Rattle.field_bounds.proofs.Lawful.{IsLawful, open_parts, same_txn-true}
 use Rattle.field_bounds.proofs.Steps.{granted-same, new_is_unused}
 use Rattle.reaching_steps.specs.Later.{with_txn, has, settles, stays, Passes, weight, IsStill, Weighs, Walked, Opens, OpenWalked}
@@ -117,7 +117,7 @@ passes_accept from f k x c n s = λ schema base es lawful id there. (refl, refl)
 
 -- the sum over the rest by what is known before an effect
 pub sums_on : (schema : SchemaValue) (base : Base) (e : Effect) (es : List Effect) (c n cs ns : List TxnId) (s ss : Bool) (f : ℕ) (k : Kind) → Passes e c n s cs ns ss → IsLawful schema base (e ∷ es) → IsLawful schema base es
-    → (granted (settles c (e ∷ es)) f k es ≡ granted (settles cs es) f k es) × (granted (stays n s (e ∷ es)) f k es ≡ granted (stays ns ss es) f k es)
+    → (granted_sizes (settles c (e ∷ es)) f k es ≡ granted_sizes (settles cs es) f k es) × (granted_sizes (stays n s (e ∷ es)) f k es ≡ granted_sizes (stays ns ss es) f k es)
 unfolding Passes
 sums_on schema base e es c n cs ns s ss f k passes lawful rest = (
   granted-same schema base (settles c (e ∷ es)) (settles cs es) f k es rest (λ id there. (passes schema base es lawful id there).0),
@@ -126,7 +126,7 @@ sums_on schema base e es c n cs ns s ss f k passes lawful rest = (
 
 -- a granted escrow counts as what is known later says, since it was open
 pub weighs : (e : Effect) (c n : List TxnId) (s : Bool) (f : ℕ) (k : Kind) (found : Option (TxnId × ℕ)) (x y : ℕ)
-    → ((p : TxnId → Bool) (es : List Effect) → granted p f k (e ∷ es) ≡ weight p found + granted p f k es)
+    → ((p : TxnId → Bool) (es : List Effect) → granted_sizes p f k (e ∷ es) ≡ weight p found + granted_sizes p f k es)
     → IfSome found (λ it. IsStill e it.0)
     → x ≡ weight (λ t. has c t) found → y ≡ weight (λ t. not (has n t) && not s) found
     → Weighs e c n s f k x y
@@ -154,8 +154,8 @@ weighs e c n s f k (Some found) x y adds fate x_is y_is = λ schema base es lawf
 walk_none : (all : List Effect) (f : ℕ) (k : Kind) → Walked all all [] [] false f k 0 0
 unfolding Walked
 walk_none all f k = λ schema base lawful.
-    let one : granted (settles [] all) f k all ≡ granted (λ id. is_committed id all) f k all = refl in
-    let two : granted (stays [] false all) f k all ≡ held f k all = refl in
+    let one : granted_sizes (settles [] all) f k all ≡ granted_sizes (λ id. is_committed id all) f k all = refl in
+    let two : granted_sizes (stays [] false all) f k all ≡ held_rights f k all = refl in
     (lawful, omega (arith, one), omega (arith, two))
 
 pub walk_start : (all : List Effect) (c n : List TxnId) (f : ℕ) (k : Kind) → c ≡ [] → n ≡ [] → Walked all all c n false f k 0 0
@@ -169,28 +169,28 @@ walk_on all deeds i d c n cs ns s ss f k x y a b below weighs passes walked = λ
     let e = (get_or deeds i d) in
     let rest = drop (i + 1) deeds in
     let is = ap (λ (l : List Effect). l) (drop_more deeds i d below) in
-    let was = subst (λ (l : List Effect). IsLawful schema base l × (x + granted (settles c l) f k l ≡ granted (λ id. is_committed id all) f k all) × (y + granted (stays n s l) f k l ≡ held f k all)) is (walked schema base lawful) in
+    let was = subst (λ (l : List Effect). IsLawful schema base l × (x + granted_sizes (settles c l) f k l ≡ granted_sizes (λ id. is_committed id all) f k all) × (y + granted_sizes (stays n s l) f k l ≡ held_rights f k all)) is (walked schema base lawful) in
     let here = weighs schema base rest was.0 in
     let later = sums_on schema base e rest c n cs ns s ss f k passes was.0 was.0.0 in
     (was.0.0, omega (arith, was.1, here.0, later.0), omega (arith, was.2, here.1, later.1))
 
 pub walk_end : (deeds : List Effect) (i : ℕ) (c n : List TxnId) (s : Bool) (f : ℕ) (k : Kind) (x y : ℕ) → length deeds ≤ i → Walked deeds (drop i deeds) c n s f k x y
-    → (schema : SchemaValue) (base : Base) → IsLawful schema base deeds → (x ≡ granted (λ id. is_committed id deeds) f k deeds) × (y ≡ held f k deeds)
+    → (schema : SchemaValue) (base : Base) → IsLawful schema base deeds → (x ≡ granted_sizes (λ id. is_committed id deeds) f k deeds) × (y ≡ held_rights f k deeds)
 unfolding Walked
 walk_end deeds i c n s f k x y past walked schema base lawful =
     let none : (drop i deeds) ≡ [] = ap (λ (l : List Effect). l) (drop_of_length-le deeds past) in
-    let was = subst (λ (l : List Effect). IsLawful schema base l × (x + granted (settles c l) f k l ≡ granted (λ id. is_committed id deeds) f k deeds) × (y + granted (stays n s l) f k l ≡ held f k deeds)) none (walked schema base lawful) in
+    let was = subst (λ (l : List Effect). IsLawful schema base l × (x + granted_sizes (settles c l) f k l ≡ granted_sizes (λ id. is_committed id deeds) f k deeds) × (y + granted_sizes (stays n s l) f k l ≡ held_rights f k deeds)) none (walked schema base lawful) in
     (omega (arith, was.1), omega (arith, was.2))
 
 pub still : (t : TxnId) (f : FieldNo) (x : ℤ) → IsStill (Grants t f x) t
 unfolding IsStill
 still t f x = λ schema base es lawful. (lawful.1.opened, refl, refl)
 
-pub none_counts : (e : Effect) (c n : List TxnId) (s : Bool) (f : ℕ) (k : Kind) → ((p : TxnId → Bool) (es : List Effect) → granted p f k (e ∷ es) ≡ weight p None + granted p f k es) → Weighs e c n s f k 0 0
+pub none_counts : (e : Effect) (c n : List TxnId) (s : Bool) (f : ℕ) (k : Kind) → ((p : TxnId → Bool) (es : List Effect) → granted_sizes p f k (e ∷ es) ≡ weight p None + granted_sizes p f k es) → Weighs e c n s f k 0 0
 none_counts e c n s f k adds = weighs e c n s f k None 0 0 adds tt refl refl
 
 pub one_counts : (e : Effect) (c n : List TxnId) (s : Bool) (f : ℕ) (k : Kind) (t : TxnId) (size x y : ℕ) (a b d : Bool)
-    → ((p : TxnId → Bool) (es : List Effect) → granted p f k (e ∷ es) ≡ weight p (Some (t, size)) + granted p f k es) → IsStill e t
+    → ((p : TxnId → Bool) (es : List Effect) → granted_sizes p f k (e ∷ es) ≡ weight p (Some (t, size)) + granted_sizes p f k es) → IsStill e t
     → a ≡ has c t → b ≡ has n t → d ≡ (not b && not s) → x ≡ cond a size 0 → y ≡ cond d size 0
     → Weighs e c n s f k x y
 one_counts e c n s f k t size x y a b d adds fate a_is b_is d_is x_is y_is =
@@ -216,11 +216,11 @@ sum_whole F i n all low high was = let same : i ≡ n = omega (arith, low, high)
 
 -- ---- the open transactions
 
-filter_begun : (p q : TxnId → Bool) (es : List Effect) → ((id : TxnId) → is_begun id es ≡ true → p id ≡ q id) → filter p (begun es) ≡ filter q (begun es)
+filter_begun : (p q : TxnId → Bool) (es : List Effect) → ((id : TxnId) → is_begun id es ≡ true → p id ≡ q id) → filter p (begun_txns es) ≡ filter q (begun_txns es)
 filter_begun p q [] h = refl
 filter_begun p q (Begins txn ∷ es) h =
     let here = h txn (or_left (same_txn txn txn) (is_begun txn es) (same_txn-refl txn)) in
-    ap (λ (b : Bool). cond b (txn ∷ filter p (begun es)) (filter p (begun es))) here
+    ap (λ (b : Bool). cond b (txn ∷ filter p (begun_txns es)) (filter p (begun_txns es))) here
     ∙ ap (λ (l : List TxnId). cond (q txn) (txn ∷ l) l) (filter_begun p q es (λ id there. h id (or_right (same_txn txn id) (is_begun id es) there)))
 filter_begun p q (Grants txn field change ∷ es) h = filter_begun p q es h
 filter_begun p q (Commits txn ∷ es) h = filter_begun p q es h
@@ -257,10 +257,10 @@ head_is e es n s schema base (Some t) lawful h = ap (λ (b : Bool). not (has n t
 pub open_start : (all : List Effect) (n ids : List TxnId) → n ≡ [] → ids ≡ [] → OpenWalked all all n false ids
 unfolding OpenWalked
 open_start all n ids n_is ids_is = λ schema base lawful.
-    (lawful, ap (λ (l : List TxnId). l ++ filter (λ (id : TxnId). stays n false all id) (begun all)) ids_is ∙ ap (λ (l : List TxnId). filter (λ (id : TxnId). stays l false all id) (begun all)) n_is)
+    (lawful, ap (λ (l : List TxnId). l ++ filter (λ (id : TxnId). stays n false all id) (begun_txns all)) ids_is ∙ ap (λ (l : List TxnId). filter (λ (id : TxnId). stays l false all id) (begun_txns all)) n_is)
 
 pub open_on : (all : List Effect) (deeds : List Effect) (i : ℕ) (d : Effect) (c n cs ns : List TxnId) (s ss : Bool) (ids more : List TxnId) (found : Option TxnId) → i < length deeds
-    → ((es : List Effect) → begun ((get_or deeds i d) ∷ es) ≡ with_txn found (begun es)) → IfSome found (λ t. Opens (get_or deeds i d) t)
+    → ((es : List Effect) → begun_txns ((get_or deeds i d) ∷ es) ≡ with_txn found (begun_txns es)) → IfSome found (λ t. Opens (get_or deeds i d) t)
     → more ≡ ids ++ filter (λ (id : TxnId). not (has n id) && not s) (with_txn found []) → Passes (get_or deeds i d) c n s cs ns ss
     → OpenWalked all (drop i deeds) n s ids → OpenWalked all (drop (i + 1) deeds) ns ss more
 unfolding OpenWalked Passes
@@ -268,15 +268,15 @@ open_on all deeds i d c n cs ns s ss ids more found below begins fresh more_is p
     let e = (get_or deeds i d) in
     let es = drop (i + 1) deeds in
     let is = ap (λ (l : List Effect). l) (drop_more deeds i d below) in
-    let was = subst (λ (l : List Effect). IsLawful schema base l × (ids ++ filter (λ (id : TxnId). stays n s l id) (begun l) ≡ open_txns all)) is (walked schema base lawful) in
+    let was = subst (λ (l : List Effect). IsLawful schema base l × (ids ++ filter (λ (id : TxnId). stays n s l id) (begun_txns l) ≡ open_txns all)) is (walked schema base lawful) in
     let p : TxnId → Bool = λ id. stays n s (e ∷ es) id in
     let q : TxnId → Bool = λ id. not (has n id) && not s in
     let r : TxnId → Bool = λ id. stays ns ss es id in
-    let rest : filter p (begun es) ≡ filter r (begun es) = filter_begun p r es (λ id there. (passes schema base es was.0 id there).1) in
-    let first : filter p (begun (e ∷ es)) ≡ filter q (with_txn found []) ++ filter r (begun es) =
-    ap (λ (l : List TxnId). filter p l) (begins es) ∙ filter_first p q found (begun es) (head_is e es n s schema base found was.0 fresh) ∙ ap (λ (l : List TxnId). filter q (with_txn found []) ++ l) rest in (
+    let rest : filter p (begun_txns es) ≡ filter r (begun_txns es) = filter_begun p r es (λ id there. (passes schema base es was.0 id there).1) in
+    let first : filter p (begun_txns (e ∷ es)) ≡ filter q (with_txn found []) ++ filter r (begun_txns es) =
+    ap (λ (l : List TxnId). filter p l) (begins es) ∙ filter_first p q found (begun_txns es) (head_is e es n s schema base found was.0 fresh) ∙ ap (λ (l : List TxnId). filter q (with_txn found []) ++ l) rest in (
       was.0.0,
-      ap (λ (l : List TxnId). l ++ filter r (begun es)) more_is ∙ append_assoc ids (filter q (with_txn found [])) (filter r (begun es)) ∙ ap (λ (l : List TxnId). ids ++ l) (sym first) ∙ was.1,
+      ap (λ (l : List TxnId). l ++ filter r (begun_txns es)) more_is ∙ append_assoc ids (filter q (with_txn found [])) (filter r (begun_txns es)) ∙ ap (λ (l : List TxnId). ids ++ l) (sym first) ∙ was.1,
     )
 
 pub open_end : (deeds : List Effect) (i : ℕ) (n : List TxnId) (s : Bool) (ids : List TxnId) → length deeds ≤ i → OpenWalked deeds (drop i deeds) n s ids
@@ -284,5 +284,5 @@ pub open_end : (deeds : List Effect) (i : ℕ) (n : List TxnId) (s : Bool) (ids 
 unfolding OpenWalked
 open_end deeds i n s ids past walked schema base lawful =
     let none : (drop i deeds) ≡ [] = ap (λ (l : List Effect). l) (drop_of_length-le deeds past) in
-    let was = subst (λ (l : List Effect). IsLawful schema base l × (ids ++ filter (λ (id : TxnId). stays n s l id) (begun l) ≡ open_txns deeds)) none (walked schema base lawful) in
+    let was = subst (λ (l : List Effect). IsLawful schema base l × (ids ++ filter (λ (id : TxnId). stays n s l id) (begun_txns l) ≡ open_txns deeds)) none (walked schema base lawful) in
     sym (append-nil ids) ∙ was.1

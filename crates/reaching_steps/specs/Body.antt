@@ -3,7 +3,7 @@ use Rattle.std.specs.Prelude.{All, ℤ, unsigned_abs, ◌==◌, if◌then◌else
 use Rattle.field_bounds.specs.declared.id.SiteNo.{SiteNo}
 use Rattle.field_bounds.specs.declared.id.FieldNo.{FieldNo}
 use Rattle.field_bounds.specs.Schema.{SchemaValue}
-use Rattle.field_bounds.specs.Central.{own, at_site, committed}
+use Rattle.field_bounds.specs.Central.{own, at_site, committed_value}
 use Rattle.world_steps.specs.World.{StepFits, trace_by}
 use Rattle.reaching_steps.specs.Reach.{IsFine, fault_if, fault_at, least, is_down, is_short_of, is_unstated, is_tightened, has_no_number, lies_outside}
 use Rattle.field_bounds.specs.declared.kind.Kind.TheVariants.{Lower, Raise}
@@ -35,7 +35,7 @@ pub record Does (w : WorldValue) (site : SiteNo) (field : FieldNo) (target : ℤ
   pub fit : All (StepFits w.schema) more
   pub fine : All IsFine more
   pub elsewhere : own site.0 (trace_by w.schema (w.steps ++ more)) ≡ own site.0 (trace_by w.schema w.steps)
-  pub reached : committed w.schema (trace_by w.schema (w.steps ++ more)) field.0 ≡ target
+  pub reached : committed_value w.schema (trace_by w.schema (w.steps ++ more)) field.0 ≡ target
 
 -- The faults from one on, so that a function asks for one alone.
 abbrev pub from_outside : SchemaValue → List Entry → SiteNo → FieldNo → ℤ → List (Option ReachFault)

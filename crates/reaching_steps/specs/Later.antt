@@ -4,7 +4,7 @@ use Rattle.field_bounds.specs.declared.kind.Kind.{Kind}
 use Rattle.field_bounds.specs.declared.id.TxnId.{TxnId}
 use Rattle.field_bounds.specs.Schema.{SchemaValue}
 use Rattle.field_bounds.specs.declared.effect.Effect.{Effect}
-use Rattle.field_bounds.specs.Effects.{Base, same_txn, is_begun, is_committed, is_open, begun, open_txns, granted, held}
+use Rattle.field_bounds.specs.Effects.{Base, same_txn, is_begun, is_committed, is_open, begun_txns, open_txns, granted_sizes, held_rights}
 use Rattle.field_bounds.proofs.Lawful.{IsLawful}
 
 -- Transactions, with one more where there is one.
@@ -46,14 +46,14 @@ IsStill e t =
 unfoldable pub Weighs : Effect → List TxnId → List TxnId → Bool → ℕ → Kind → ℕ → ℕ → Type 0
 Weighs e committed ended stopped f k x y =
     (schema : SchemaValue) (base : Base) (es : List Effect) → IsLawful schema base (e ∷ es) →
-    (granted (settles committed (e ∷ es)) f k (e ∷ es) ≡ x + granted (settles committed (e ∷ es)) f k es)
-    × (granted (stays ended stopped (e ∷ es)) f k (e ∷ es) ≡ y + granted (stays ended stopped (e ∷ es)) f k es)
+    (granted_sizes (settles committed (e ∷ es)) f k (e ∷ es) ≡ x + granted_sizes (settles committed (e ∷ es)) f k es)
+    × (granted_sizes (stays ended stopped (e ∷ es)) f k (e ∷ es) ≡ y + granted_sizes (stays ended stopped (e ∷ es)) f k es)
 
 -- These are added up, and the rest is left.
 unfoldable pub Walked : List Effect → List Effect → List TxnId → List TxnId → Bool → ℕ → Kind → ℕ → ℕ → Type 0
 Walked all rest committed ended stopped f k x y =
     (schema : SchemaValue) (base : Base) → IsLawful schema base all →
-    IsLawful schema base rest × (x + granted (settles committed rest) f k rest ≡ granted (λ id. is_committed id all) f k all) × (y + granted (stays ended stopped rest) f k rest ≡ held f k all)
+    IsLawful schema base rest × (x + granted_sizes (settles committed rest) f k rest ≡ granted_sizes (λ id. is_committed id all) f k all) × (y + granted_sizes (stays ended stopped rest) f k rest ≡ held_rights f k all)
 
 -- What begins is open.
 unfoldable pub Opens : Effect → TxnId → Type 0
@@ -63,4 +63,4 @@ Opens e t = (schema : SchemaValue) (base : Base) (es : List Effect) → IsLawful
 unfoldable pub OpenWalked : List Effect → List Effect → List TxnId → Bool → List TxnId → Type 0
 OpenWalked all rest ended stopped ids =
     (schema : SchemaValue) (base : Base) → IsLawful schema base all →
-    IsLawful schema base rest × (ids ++ filter (λ id. stays ended stopped rest id) (begun rest) ≡ open_txns all)
+    IsLawful schema base rest × (ids ++ filter (λ id. stays ended stopped rest id) (begun_txns rest) ≡ open_txns all)

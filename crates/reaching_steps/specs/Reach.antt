@@ -14,11 +14,11 @@ use Rattle.field_bounds.specs.Kind.{same_kind}
 use Rattle.field_bounds.specs.Schema.{SchemaValue}
 use Rattle.field_bounds.specs.Effects.{fresh, open_txns, share}
 use Rattle.field_bounds.specs.Owed.{place, is_up, epoch_of, count_since, is_begun_reply, max_number, interval_at}
-use Rattle.field_bounds.specs.Central.{own, at_site, committed, cuts, given_between, accepted_between}
+use Rattle.field_bounds.specs.Central.{own, at_site, committed_value, cuts, given_between, accepted_between}
 use Rattle.kept_state.specs.declared.luck.Luck.TheVariants.{Fine}
 use Rattle.world_steps.specs.declared.step.WorldStep.{WorldStep}
 use Rattle.world_steps.specs.declared.step.WorldStep.TheVariants.{Do, Deliver}
-use Rattle.world_steps.specs.World.{issued, luck_of, trace_by}
+use Rattle.world_steps.specs.World.{statements_issued, luck_of, trace_by}
 use Rattle.reaching_steps.specs.declared.fault.ReachFault.{ReachFault}
 use Rattle.reaching_steps.specs.declared.fault.ReachFault.TheVariants.{NoSite, NoField, NotUp, InFlight, Unstated, Tightened, Numbers, Outside}
 
@@ -29,10 +29,10 @@ abbrev pub Task : Type 0
 Task = List Entry → List WorldStep
 
 -- The steps of some tasks, one after another, each told by the trace that the steps before it make.
-abbrev pub planned : SchemaValue → List WorldStep → List Task → List WorldStep
-planned schema steps [] = []
-planned schema steps (task ∷ tasks) =
-    task (trace_by schema steps) ++ planned schema (steps ++ task (trace_by schema steps)) tasks
+abbrev pub steps_of_tasks : SchemaValue → List WorldStep → List Task → List WorldStep
+steps_of_tasks schema steps [] = []
+steps_of_tasks schema steps (task ∷ tasks) =
+    task (trace_by schema steps) ++ steps_of_tasks schema (steps ++ task (trace_by schema steps)) tasks
 
 -- What f gives for 0 to n - 1, one after another.
 abbrev pub over_sites : ℕ → (ℕ → List Task) → List Task
@@ -73,13 +73,13 @@ is_wanting schema named f from to k t =
 
 abbrev pub restates : SchemaValue → ℕ → ℕ → ℕ → ℕ → Kind → Task
 restates schema named f from to k t =
-    if is_wanting schema named f from to k t && (number_of (telling schema t f k from to) (issued t) == 0)
+    if is_wanting schema named f from to k t && (number_of (telling schema t f k from to) (statements_issued t) == 0)
     then fine from (Restate (record { 0 = to }) (record { 0 = f }) k) ∷ []
     else []
 
 abbrev pub delivers : SchemaValue → ℕ → ℕ → ℕ → ℕ → Kind → Task
 delivers schema named f from to k t =
-    if is_wanting schema named f from to k t then Deliver (number_of (telling schema t f k from to) (issued t)) Fine ∷ [] else []
+    if is_wanting schema named f from to k t then Deliver (number_of (telling schema t f k from to) (statements_issued t)) Fine ∷ [] else []
 
 abbrev pub passes_on : SchemaValue → ℕ → ℕ → ℕ → ℕ → List Task
 passes_on schema named f from to =
@@ -110,7 +110,7 @@ moves schema named f target s t =
     if s == named
     then []
     else changes_by s f (next_txn schema t s)
-    (towards (target -ℤ committed schema t f) (share (fresh schema s) f Lower (at_site schema t s)) (share (fresh schema s) f Raise (at_site schema t s)))
+    (towards (target -ℤ committed_value schema t f) (share (fresh schema s) f Lower (at_site schema t s)) (share (fresh schema s) f Raise (at_site schema t s)))
 
 -- ---- the steps
 
@@ -131,7 +131,7 @@ same_value a b = unsigned_abs (a -ℤ b) == 0
 -- The steps that take a field to the target, where these were taken: none where it is there.
 abbrev pub reach_steps : SchemaValue → List WorldStep → SiteNo → FieldNo → ℤ → List WorldStep
 reach_steps schema steps site field target =
-    if same_value (committed schema (trace_by schema steps) field.0) target then [] else planned schema steps (tasks schema site.0 field.0 target)
+    if same_value (committed_value schema (trace_by schema steps) field.0) target then [] else steps_of_tasks schema steps (tasks schema site.0 field.0 target)
 
 -- ---- what stands in the way
 
@@ -161,7 +161,7 @@ is_short_of schema t f to from k = nat_lt (accepted_between schema t f k from to
 
 abbrev pub is_unstated : SchemaValue → List Entry → ℕ → ℕ → ℕ → Kind → Bool
 is_unstated schema t f from to k =
-    nat_lt 0 (given_between schema t f k from to) && (number_of (telling schema t f k from to) (issued t) == 0)
+    nat_lt 0 (given_between schema t f k from to) && (number_of (telling schema t f k from to) (statements_issued t) == 0)
 
 abbrev pub is_tightened : SchemaValue → List Entry → ℕ → Bool
 is_tightened schema t f = nat_lt 0 (cuts schema t f Lower) || nat_lt 0 (cuts schema t f Raise)

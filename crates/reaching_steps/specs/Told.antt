@@ -9,7 +9,7 @@ use Rattle.field_bounds.specs.declared.entry.Command.TheVariants.{Begin, Escrow,
 use Rattle.field_bounds.specs.declared.entry.Entry.{Entry}
 use Rattle.field_bounds.specs.declared.effect.Effect.{Effect}
 use Rattle.field_bounds.specs.Schema.{SchemaValue}
-use Rattle.field_bounds.specs.Effects.{Base, share, spared, kept_before, effects, fresh, is_to, is_for_good}
+use Rattle.field_bounds.specs.Effects.{Base, share, spare_amount, doubt_kept_before, effects, fresh, is_to, is_for_good}
 use Rattle.field_bounds.specs.Central.{own, at_site}
 use Rattle.world_steps.specs.View.{WorldValue, trace_of, Answers}
 use Rattle.world_steps.specs.declared.step.WorldStep.{WorldStep}
@@ -19,9 +19,9 @@ use Rattle.reaching_steps.specs.declared.totals.Receivers.{Receivers}
 use Rattle.reaching_steps.specs.declared.totals.Receivers.TheVariants.{OneSite, ForGood, Everyone}
 
 -- Whether what stands in doubt at site s before these entries, the oldest first, was kept, as its next restart found.
-abbrev pub kept_in : ℕ → List Entry → Bool
-kept_in s [] = false
-kept_in s (e ∷ later) = if e.site.0 == s then kept_before (kept_in s later) e.reply else kept_in s later
+abbrev pub doubt_kept_in : ℕ → List Entry → Bool
+doubt_kept_in s [] = false
+doubt_kept_in s (e ∷ later) = if e.site.0 == s then doubt_kept_before (doubt_kept_in s later) e.reply else doubt_kept_in s later
 
 -- On which field, of which kind and how much a spare wants.
 abbrev pub wanted_by : Command → Option (FieldNo × Kind × ℕ)
@@ -41,13 +41,13 @@ wanted_by Restart = None
 -- What is spared behind these effects where so much is wanted.
 abbrev pub spared_for : Base → List Effect → Option (FieldNo × Kind × ℕ) → ℕ
 spared_for base es None = 0
-spared_for base es (Some wanted) = spared (share base wanted.0.0 wanted.1 es) wanted.2
+spared_for base es (Some wanted) = spare_amount (share base wanted.0.0 wanted.1 es) wanted.2
 
 -- What took effect at site s before an entry is known, the oldest first, and so it is with the entry.
 unfoldable pub Reads : SchemaValue → ℕ → List Effect → Entry → List Entry → List Effect → Type 0
 Reads schema s told e later more =
-    (t : List Entry) → reverse told ≡ effects (fresh schema s) (kept_in s (e ∷ later)) (own s t)
-    → reverse more ≡ effects (fresh schema s) (kept_in s later) (own s (e ∷ t))
+    (t : List Entry) → reverse told ≡ effects (fresh schema s) (doubt_kept_in s (e ∷ later)) (own s t)
+    → reverse more ≡ effects (fresh schema s) (doubt_kept_in s later) (own s (e ∷ t))
 
 -- For each site, what took effect there.
 unfoldable pub AllTold : SchemaValue → List Entry → List (Vec Effect) → Type 0

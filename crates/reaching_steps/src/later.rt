@@ -3,7 +3,7 @@
 ghost use Rattle.std.specs.Prelude.{◌≡◌, ◌≤◌, ◌<◌, [], ◌∷◌, ◌++◌, ◌+◌, Bool, false, not, ◌&&◌, if◌then◌else◌, IfSome, IfOk, OnOk, List, map, filter};
 ghost use Rattle.field_bounds.specs.Schema.{SchemaValue};
 ghost use Rattle.field_bounds.specs.declared.effect.Effect.{Effect};
-ghost use Rattle.field_bounds.specs.Effects.{Base, same_txn, granted, held, begun, is_committed, open_txns};
+ghost use Rattle.field_bounds.specs.Effects.{Base, same_txn, granted_sizes, held_rights, begun_txns, is_committed, open_txns};
 ghost use Rattle.field_bounds.specs.Kind.{kind_of, same_kind};
 ghost use Rattle.field_bounds.proofs.Lawful.{IsLawful};
 ghost use Rattle.reaching_steps.specs.Later.{with_txn, has, settles, stays, Passes, weight, IsStill, Weighs, Walked, Opens, OpenWalked};
@@ -87,7 +87,7 @@ fn pass(later: &mut Later, effect: &Effect) -> Result<(), AllocError>
 /// The escrow that an effect grants on a field, of a kind: to which transaction, and its size.
 fn grants_on(effect: &Effect, field: FieldNo, kind: Kind) -> Option<(TxnId, u64)>
     ensures value { (p : TxnId → Bool) (es : List Effect) →
-        granted p field.0 kind (effect.now ∷ es) ≡ weight p result + granted p field.0 kind es }
+        granted_sizes p field.0 kind (effect.now ∷ es) ≡ weight p result + granted_sizes p field.0 kind es }
     ensures still { IfSome result (λ found. IsStill effect.now found.0) }
     ensures bound { IfSome result (λ found. found.1 ≤ 9_223_372_036_854_775_808) }
 {
@@ -108,7 +108,7 @@ fn grants_on(effect: &Effect, field: FieldNo, kind: Kind) -> Option<(TxnId, u64)
 }
 
 /// A size where it counts.
-fn counted(counts: bool, size: u64) -> u64
+fn size_if(counts: bool, size: u64) -> u64
     ensures value { result ≡ (if counts then size else 0) }
     ensures within { result ≤ size }
 {
@@ -130,8 +130,8 @@ fn weigh(later: &Later, effect: &Effect, field: FieldNo, kind: Kind) -> (u64, u6
     match grants_on(effect, field, kind) {
         None => (0, 0),
         Some((txn, size)) => (
-            counted(has(&later.committed, txn), size),
-            counted(neither(has(&later.ended, txn), later.stopped), size),
+            size_if(has(&later.committed, txn), size),
+            size_if(neither(has(&later.ended, txn), later.stopped), size),
         ),
     }
 }
@@ -144,9 +144,9 @@ pub(crate) fn sums_of(
     kind: Kind,
 ) -> Result<(u128, u128), AllocError>
     ensures settled { IfOk result (λ sums. (schema : SchemaValue) (base : Base) → IsLawful schema base told.now →
-        sums.0 ≡ granted (λ id. is_committed id told.now) field.0 kind told.now) }
+        sums.0 ≡ granted_sizes (λ id. is_committed id told.now) field.0 kind told.now) }
     ensures held { IfOk result (λ sums. (schema : SchemaValue) (base : Base) → IsLawful schema base told.now →
-        sums.1 ≡ held field.0 kind told.now) }
+        sums.1 ≡ held_rights field.0 kind told.now) }
     ensures few { IfOk result (λ sums. sums.0 < 170_141_183_460_469_231_731_687_303_715_884_105_728) }
 {
     let mut later = Later {
@@ -167,7 +167,7 @@ pub(crate) fn sums_of(
 
 /// The transaction that an effect begins.
 fn begun_by(effect: &Effect) -> Option<TxnId>
-    ensures value { (es : List Effect) → begun (effect.now ∷ es) ≡ with_txn result (begun es) }
+    ensures value { (es : List Effect) → begun_txns (effect.now ∷ es) ≡ with_txn result (begun_txns es) }
     ensures fresh { IfSome result (λ txn. Opens effect.now txn) }
 {
     match *effect {

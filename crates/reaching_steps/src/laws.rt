@@ -7,7 +7,7 @@ ghost use Rattle.field_bounds.specs.declared.id.SiteNo.{SiteNo};
 ghost use Rattle.field_bounds.specs.declared.id.FieldNo.{FieldNo};
 ghost use Rattle.field_bounds.specs.Schema.{SchemaValue};
 ghost use Rattle.field_bounds.specs.Limits.{IsSchema};
-ghost use Rattle.field_bounds.specs.Central.{own, committed};
+ghost use Rattle.field_bounds.specs.Central.{own, committed_value};
 ghost use Rattle.world_steps.specs.declared.step.WorldStep.{WorldStep};
 ghost use Rattle.world_steps.specs.World.{StepFits, trace_by};
 ghost use Rattle.reaching_steps.specs.Reach.{reach_fault, reach_steps, IsFine};
@@ -28,7 +28,7 @@ pub fn reach_meets()
         own site.0 (trace_by schema (steps ++ reach_steps schema steps site field target)) ≡ own site.0 (trace_by schema steps) }
     ensures reached { (schema : SchemaValue) (steps : List WorldStep) (site : SiteNo) (field : FieldNo) (target : ℤ) →
         IsSchema schema → All (StepFits schema) steps → reach_fault schema (trace_by schema steps) site field target ≡ None →
-        committed schema (trace_by schema (steps ++ reach_steps schema steps site field target)) field.0 ≡ target }
+        committed_value schema (trace_by schema (steps ++ reach_steps schema steps site field target)) field.0 ≡ target }
 {}
 
 /// The interval that a site reads can't be narrower. Where nothing stands in the way, for each value

@@ -15,7 +15,7 @@ mod rights;
 mod rows;
 mod shares;
 mod steps;
-mod told;
+mod site_effects;
 mod totals;
 mod trial;
 

@@ -3,9 +3,9 @@
 ghost use Rattle.std.specs.Prelude.{◌≡◌, ◌<◌, ◌≤◌, ◌-ℤ◌, ◌≤ℤ◌, neg_ℤ, pos, min, IfOk, IsTrue, ◌↔◌, Some, None, if◌then◌else◌, reverse};
 ghost use Rattle.field_bounds.specs.declared.kind.Kind.TheVariants as kinds;
 ghost use Rattle.field_bounds.specs.Effects.{fresh, open_txns, share};
-ghost use Rattle.field_bounds.specs.Central.{at_site, committed};
+ghost use Rattle.field_bounds.specs.Central.{at_site, committed_value};
 ghost use Rattle.field_bounds.specs.Owed.{max_change};
-ghost use Rattle.world_steps.specs.World.{issued};
+ghost use Rattle.world_steps.specs.World.{statements_issued};
 ghost use Rattle.world_steps.specs.View.{trace_of};
 ghost use Rattle.reaching_steps.specs.Body.{change_of};
 ghost use Rattle.reaching_steps.specs.Reach.{is_wanting, number_of, telling, towards, next_txn, same_value, reach_fault};
@@ -23,7 +23,7 @@ pub(crate) fn open_at(alloc: Global, trial: &Trial, site: SiteNo) -> Result<Vec<
     requires in_schema { site.0 < trial.now.schema.sites }
     ensures found { IfOk result (λ ids. ids.items ≡ reverse (open_txns (at_site trial.now.schema (trace_of trial.now) site.0))) }
 {
-    let told = trial.told(site)?;
+    let told = trial.effects_at(site)?;
     let mut ids = open_of(alloc, told)?;
     ids.reverse();
     Ok(ids)
@@ -41,7 +41,7 @@ pub(crate) fn number_wanted(
     requires giver { from.0 < trial.now.schema.sites }
     requires receiver { to.0 < trial.now.schema.sites }
     ensures value { IfOk result (λ found. found ≡ (if is_wanting trial.now.schema named.0 field.0 from.0 to.0 kind (trace_of trial.now)
-        then Some (number_of (telling trial.now.schema (trace_of trial.now) field.0 kind from.0 to.0) (issued (trace_of trial.now)))
+        then Some (number_of (telling trial.now.schema (trace_of trial.now) field.0 kind from.0 to.0) (statements_issued (trace_of trial.now)))
         else None)) }
 {
     if from.0 == to.0 || to.0 == named.0 {
@@ -64,7 +64,7 @@ pub(crate) fn number_told(
     to: SiteNo,
     total: u64,
 ) -> u64
-    ensures value { result ≡ number_of (record { from = from; to = to; field = field; kind = kind; total = total }) (issued (trace_of trial.now)) }
+    ensures value { result ≡ number_of (record { from = from; to = to; field = field; kind = kind; total = total }) (statements_issued (trace_of trial.now)) }
 {
     let statement = Statement {
         from,
@@ -92,7 +92,7 @@ fn lesser(one: u64, other: u64) -> u64
 }
 
 /// A lowering, where it isn't 0.
-fn lowered(size: u64) -> Option<i64>
+fn lowering_of(size: u64) -> Option<i64>
     requires small { size ≤ max_change }
     ensures value { result ≡ change_of (neg_ℤ (pos size)) }
 {
@@ -104,7 +104,7 @@ fn lowered(size: u64) -> Option<i64>
 }
 
 /// A raising, where it isn't 0.
-fn raised(size: u64) -> Option<i64>
+fn raising_of(size: u64) -> Option<i64>
     requires small { size ≤ max_change }
     ensures value { result ≡ change_of (pos size) }
 {
@@ -117,9 +117,9 @@ fn towards(now: i64, target: i64, lower: u64, raise: u64) -> Option<i64>
     ensures value { result ≡ change_of (towards (target -ℤ now) lower raise) }
 {
     if target < now {
-        lowered(lesser(gap(target, now), lower))
+        lowering_of(lesser(gap(target, now), lower))
     } else {
-        raised(lesser(gap(now, target), raise))
+        raising_of(lesser(gap(now, target), raise))
     }
 }
 
@@ -132,7 +132,7 @@ pub(crate) fn change_at(
     site: SiteNo,
 ) -> Result<Option<i64>, AllocError>
     requires in_schema { site.0 < trial.now.schema.sites }
-    ensures value { IfOk result (λ found. found ≡ change_of (towards (target -ℤ committed trial.now.schema (trace_of trial.now) field.0)
+    ensures value { IfOk result (λ found. found ≡ change_of (towards (target -ℤ committed_value trial.now.schema (trace_of trial.now) field.0)
         (share (fresh trial.now.schema site.0) field.0 kinds.Lower (at_site trial.now.schema (trace_of trial.now) site.0))
         (share (fresh trial.now.schema site.0) field.0 kinds.Raise (at_site trial.now.schema (trace_of trial.now) site.0)))) }
 {
@@ -168,7 +168,7 @@ pub(crate) fn is_at(
     field: FieldNo,
     target: i64,
 ) -> Result<bool, AllocError>
-    ensures value { IfOk result (λ there. there ≡ same_value (committed trial.now.schema (trace_of trial.now) field.0) target) }
+    ensures value { IfOk result (λ there. there ≡ same_value (committed_value trial.now.schema (trace_of trial.now) field.0) target) }
 {
     Ok(same_value(committed_at(alloc, trial, field)?, target))
 }

@@ -3,7 +3,7 @@
 ghost use Rattle.std.specs.Prelude.{pos, neg_ℤ, []};
 ghost use Rattle.reaching_steps.specs.declared.fault.ReachFault.TheVariants.{NotUp, InFlight, Unstated, Tightened, Outside};
 ghost use Rattle.field_bounds.specs.WorkedGifts.{site};
-ghost use Rattle.reaching_steps.specs.Worked.{Takes, Meets, moved_by, down_to_20, up_to_70, given_to_0, received, untold, told, by_site_1, stopped, cut, opened, ended};
+ghost use Rattle.reaching_steps.specs.Worked.{Takes, Meets, moved_by, down_to_20, up_to_70, given_to_0, row_received, row_untold, row_told, by_site_1, row_stopped, cut, row_opened, row_ended};
 
 /// What the definitions make of these rows.
 ///
@@ -14,11 +14,11 @@ pub fn worked_reaches()
     ensures there { Takes up_to_70 (pos 70) [] }
     ensures outside { Meets up_to_70 (pos 19) (Outside (pos 20) (pos 70)) }
     ensures flight { Meets given_to_0 (pos 20) (InFlight (site 1)) }
-    ensures too_low { Meets received (pos 24) (Outside (pos 25) (pos 70)) }
-    ensures just { Takes received (pos 25) (moved_by 1 (neg_ℤ (pos 15))) }
-    ensures unstated { Meets untold (pos 25) (Unstated (site 1)) }
-    ensures stated { Takes told (pos 15) by_site_1 }
-    ensures down_site { Meets stopped (pos 40) (NotUp (site 1)) }
+    ensures too_low { Meets row_received (pos 24) (Outside (pos 25) (pos 70)) }
+    ensures just { Takes row_received (pos 25) (moved_by 1 (neg_ℤ (pos 15))) }
+    ensures unstated { Meets row_untold (pos 25) (Unstated (site 1)) }
+    ensures stated { Takes row_told (pos 15) by_site_1 }
+    ensures down_site { Meets row_stopped (pos 40) (NotUp (site 1)) }
     ensures tightened { Meets cut (pos 40) Tightened }
-    ensures open { Takes opened (pos 20) ended }
+    ensures open { Takes row_opened (pos 20) row_ended }
 {}

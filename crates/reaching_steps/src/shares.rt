@@ -3,9 +3,9 @@
 ghost use Rattle.std.specs.Prelude.{◌≡◌, ◌≤◌, ◌<◌, ◌+◌, ◌-◌, nat_lt, ◌+ℤ◌, ◌-ℤ◌, ◌≤ℤ◌, neg_ℤ, pos, IfOk};
 ghost use Rattle.field_bounds.specs.declared.kind.Kind.TheVariants as kinds;
 ghost use Rattle.field_bounds.specs.Parts.{field_at};
-ghost use Rattle.field_bounds.specs.Effects.{fresh, granted, own_rights, share, cut, is_committed};
+ghost use Rattle.field_bounds.specs.Effects.{fresh, granted_sizes, own_rights, share, cut, is_committed};
 ghost use Rattle.field_bounds.specs.Owed.{max_change};
-ghost use Rattle.field_bounds.specs.Central.{at_site, committed, given_between, accepted_between};
+ghost use Rattle.field_bounds.specs.Central.{at_site, committed_value, given_between, accepted_between};
 ghost use Rattle.world_steps.specs.View.{trace_of};
 
 use crate::later::sums_of;
@@ -39,7 +39,7 @@ pub(crate) fn rights_at(
     ensures free { IfOk result (λ rights. rights.1 ≡ share (fresh trial.now.schema site.0) field.0 kind (at_site trial.now.schema (trace_of trial.now) site.0)) }
     ensures small { IfOk result (λ rights. (rights.0 ≤ max_change) × (rights.1 ≤ max_change)) }
 {
-    let told = trial.told(site)?;
+    let told = trial.effects_at(site)?;
     let (own, free) = rights_of(alloc, trial.world().schema(), told, site, field, kind)?;
     Ok((own as u64, free as u64))
 }
@@ -55,7 +55,7 @@ pub(crate) fn given_at(
     requires in_schema { from.0 < trial.now.schema.sites }
     ensures value { IfOk result (λ total. total ≡ given_between trial.now.schema (trace_of trial.now) field.0 kind from.0 to.0) }
 {
-    let told = trial.told(from)?;
+    let told = trial.effects_at(from)?;
     let total = gifts_in(told, Receivers::OneSite(to), field, kind);
     Ok(total as u64)
 }
@@ -71,7 +71,7 @@ pub(crate) fn accepted_at(
     requires in_schema { to.0 < trial.now.schema.sites }
     ensures value { IfOk result (λ total. total ≡ accepted_between trial.now.schema (trace_of trial.now) field.0 kind from.0 to.0) }
 {
-    let told = trial.told(to)?;
+    let told = trial.effects_at(to)?;
     Ok(accepted_in(told, from, field, kind))
 }
 
@@ -96,11 +96,11 @@ fn moved_at(
 ) -> Result<(u128, u128), AllocError>
     requires in_schema { site.0 < trial.now.schema.sites }
     ensures value { IfOk result (λ moved.
-        moved.0 + granted (λ id. is_committed id (at_site trial.now.schema (trace_of trial.now) site.0)) field.0 kinds.Lower (at_site trial.now.schema (trace_of trial.now) site.0)
-        ≡ moved.1 + granted (λ id. is_committed id (at_site trial.now.schema (trace_of trial.now) site.0)) field.0 kinds.Raise (at_site trial.now.schema (trace_of trial.now) site.0)) }
+        moved.0 + granted_sizes (λ id. is_committed id (at_site trial.now.schema (trace_of trial.now) site.0)) field.0 kinds.Lower (at_site trial.now.schema (trace_of trial.now) site.0)
+        ≡ moved.1 + granted_sizes (λ id. is_committed id (at_site trial.now.schema (trace_of trial.now) site.0)) field.0 kinds.Raise (at_site trial.now.schema (trace_of trial.now) site.0)) }
     ensures near { IfOk result (λ moved. (moved.0 ≤ 100_000_000_000_000_000_000) × (moved.1 ≤ 100_000_000_000_000_000_000)) }
 {
-    let told = trial.told(site)?;
+    let told = trial.effects_at(site)?;
     let (raised, _) = sums_of(alloc, told, field, Kind::Raise)?;
     let (lowered, _) = sums_of(alloc, told, field, Kind::Lower)?;
     Ok(apart(raised, lowered))
@@ -117,7 +117,7 @@ fn moved_by(value: i64, up: u128, down: u128) -> i64
 
 /// The committed value of a field, by the trace.
 pub(crate) fn committed_at(alloc: Global, trial: &Trial, field: FieldNo) -> Result<i64, AllocError>
-    ensures value { IfOk result (λ value. value ≡ committed trial.now.schema (trace_of trial.now) field.0) }
+    ensures value { IfOk result (λ value. value ≡ committed_value trial.now.schema (trace_of trial.now) field.0) }
     ensures near { IfOk result (λ value. (neg_ℤ (pos 1_000_000_000_000_000) ≤ℤ value) × (value ≤ℤ pos 1_000_000_000_000_000)) }
 {
     let world = trial.world();
@@ -143,7 +143,7 @@ pub(crate) fn has_cut(
     requires in_schema { site.0 < trial.now.schema.sites }
     ensures value { IfOk result (λ cuts. cuts ≡ nat_lt 0 (cut (fresh trial.now.schema site.0) field.0 kind (at_site trial.now.schema (trace_of trial.now) site.0))) }
 {
-    let told = trial.told(site)?;
+    let told = trial.effects_at(site)?;
     Ok(0 < gifts_in(told, Receivers::ForGood, field, kind))
 }
 
@@ -162,7 +162,7 @@ pub(crate) fn guarded_at(
     ensures small { IfOk result (λ rights. rights ≤ max_change) }
 {
     let (own, _) = rights_at(alloc, trial, site, field, kind)?;
-    let told = trial.told(site)?;
+    let told = trial.effects_at(site)?;
     let gone = gifts_in(told, Receivers::ForGood, field, kind);
     Ok((gone + u128::from(own)) as u64)
 }

@@ -1,11 +1,11 @@
 //! The steps, tried one after another on a trial.
 
 ghost use Rattle.std.specs.Prelude.{◌≡◌, ◌<◌, ◌++◌, [], ◌∷◌, IfOk, IfErr, OnOk, All, None};
-ghost use Rattle.field_bounds.specs.Central.{own, committed};
+ghost use Rattle.field_bounds.specs.Central.{own, committed_value};
 ghost use Rattle.field_bounds.specs.declared.kind.Kind.TheVariants as kinds;
 ghost use Rattle.world_steps.specs.World.{StepFits, trace_by};
 ghost use Rattle.world_steps.specs.View.{trace_of};
-ghost use Rattle.reaching_steps.specs.Reach.{planned, over_sites, aborts, restates, delivers, passes_on, moves, move_tasks, tasks, reach_steps, reach_fault, IsFine};
+ghost use Rattle.reaching_steps.specs.Reach.{steps_of_tasks, over_sites, aborts, restates, delivers, passes_on, moves, move_tasks, tasks, reach_steps, reach_fault, IsFine};
 ghost use Rattle.reaching_steps.specs.Body.{Explains, Grew, Does};
 
 use crate::fault::ReachFault;
@@ -155,7 +155,7 @@ fn pass_on(
     requires giver { from.0 < trial.old.schema.sites }
     requires receiver { to.0 < trial.old.schema.sites }
     ensures grew { OnOk result (Grew trial.old taken.old.items
-        (planned trial.old.schema trial.old.steps
+        (steps_of_tasks trial.old.schema trial.old.steps
         (restates trial.old.schema named.0 field.0 from.0 to.0 kind ∷ delivers trial.old.schema named.0 field.0 from.0 to.0 kind ∷ []))
         trial.new taken.new.items) }
 {
@@ -208,7 +208,7 @@ fn abort_all(
 ) -> Result<(), AllocError>
     requires all { sites ≡ trial.old.schema.sites }
     ensures grew { OnOk result (Grew trial.old taken.old.items
-        (planned trial.old.schema trial.old.steps (over_sites sites (λ s. aborts trial.old.schema named.0 s ∷ []))) trial.new taken.new.items) }
+        (steps_of_tasks trial.old.schema trial.old.steps (over_sites sites (λ s. aborts trial.old.schema named.0 s ∷ []))) trial.new taken.new.items) }
 {
     for s in 0..sites {
         abort_open(alloc, trial, taken, named, SiteNo(s))?;
@@ -229,7 +229,7 @@ fn pass_from(
     requires in_schema { from.0 < trial.old.schema.sites }
     requires all { sites ≡ trial.old.schema.sites }
     ensures grew { OnOk result (Grew trial.old taken.old.items
-        (planned trial.old.schema trial.old.steps (over_sites sites (λ to. passes_on trial.old.schema named.0 field.0 from.0 to))) trial.new taken.new.items) }
+        (steps_of_tasks trial.old.schema trial.old.steps (over_sites sites (λ to. passes_on trial.old.schema named.0 field.0 from.0 to))) trial.new taken.new.items) }
 {
     for to in 0..sites {
         pass_on(
@@ -267,7 +267,7 @@ fn pass_all(
 ) -> Result<(), AllocError>
     requires all { sites ≡ trial.old.schema.sites }
     ensures grew { OnOk result (Grew trial.old taken.old.items
-        (planned trial.old.schema trial.old.steps (over_sites sites (λ from. over_sites sites (λ to. passes_on trial.old.schema named.0 field.0 from to)))) trial.new taken.new.items) }
+        (steps_of_tasks trial.old.schema trial.old.steps (over_sites sites (λ from. over_sites sites (λ to. passes_on trial.old.schema named.0 field.0 from to)))) trial.new taken.new.items) }
 {
     for from in 0..sites {
         pass_from(alloc, trial, taken, named, field, sites, SiteNo(from))?;
@@ -287,7 +287,7 @@ fn move_all(
 ) -> Result<(), AllocError>
     requires all { sites ≡ trial.old.schema.sites }
     ensures grew { OnOk result (Grew trial.old taken.old.items
-        (planned trial.old.schema trial.old.steps (move_tasks trial.old.schema named.0 field.0 target sites)) trial.new taken.new.items) }
+        (steps_of_tasks trial.old.schema trial.old.steps (move_tasks trial.old.schema named.0 field.0 target sites)) trial.new taken.new.items) }
 {
     for s in 0..sites {
         move_field(alloc, trial, taken, named, field, target, SiteNo(s))?;

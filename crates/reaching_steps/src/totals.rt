@@ -5,7 +5,7 @@ ghost use Rattle.field_bounds.specs.declared.effect.Effect.{Effect};
 ghost use Rattle.field_bounds.specs.Kind.{same_kind};
 ghost use Rattle.field_bounds.specs.Schema.{SchemaValue};
 ghost use Rattle.field_bounds.specs.Parts.{sum_below};
-ghost use Rattle.field_bounds.specs.Effects.{Base, fresh, gifts, accepted};
+ghost use Rattle.field_bounds.specs.Effects.{Base, fresh, gifts, total_accepted};
 ghost use Rattle.reaching_steps.specs.Told.{passes};
 
 use field_bounds::{Effect, FieldNo, Kind, SiteNo};
@@ -90,7 +90,7 @@ pub(crate) fn gifts_in(told: &[Effect], receivers: Receivers, field: FieldNo, ki
 /// The total that an effect accepts from a site, of a kind on a field, and 0 where it accepts none.
 fn total_in(effect: &Effect, from: SiteNo, field: FieldNo, kind: Kind) -> u64
     ensures value { (base : Base) (es : List Effect) →
-        accepted base from.0 field.0 kind (effect.now ∷ es) ≡ max result (accepted base from.0 field.0 kind es) }
+        total_accepted base from.0 field.0 kind (effect.now ∷ es) ≡ max result (total_accepted base from.0 field.0 kind es) }
 {
     match *effect {
         Effect::Accepts {
@@ -118,7 +118,7 @@ fn greater(one: u64, other: u64) -> u64
 
 /// The greatest total accepted from a site, of a kind on a field.
 pub(crate) fn accepted_in(told: &[Effect], from: SiteNo, field: FieldNo, kind: Kind) -> u64
-    ensures value { (schema : SchemaValue) (s : ℕ) → result ≡ accepted (fresh schema s) from.0 field.0 kind told.now }
+    ensures value { (schema : SchemaValue) (s : ℕ) → result ≡ total_accepted (fresh schema s) from.0 field.0 kind told.now }
 {
     let mut most = 0;
     for effect in told {
@@ -130,7 +130,7 @@ pub(crate) fn accepted_in(told: &[Effect], from: SiteNo, field: FieldNo, kind: K
 /// The totals accepted from all sites, added up.
 pub(crate) fn gained_in(told: &[Effect], field: FieldNo, kind: Kind, sites: u16) -> u128
     ensures value { (schema : SchemaValue) (s : ℕ) →
-        result ≡ sum_below sites (λ from. accepted (fresh schema s) from field.0 kind told.now) }
+        result ≡ sum_below sites (λ from. total_accepted (fresh schema s) from field.0 kind told.now) }
     ensures few { result ≤ 1_208_925_819_614_629_174_706_176 }
 {
     let mut all: u128 = 0;

@@ -7,7 +7,7 @@ ghost use Rattle.world_steps.specs.World.{StepFits};
 ghost use Rattle.world_steps.specs.View.{trace_of};
 ghost use Rattle.reaching_steps.specs.Told.{AllTold, IsMadeWithin, Renews};
 
-use crate::told::told_at;
+use crate::site_effects::told_at;
 use field_bounds::{Effect, SiteNo};
 use std::alloc::{AllocError, Global};
 use std::marker::Model;
@@ -119,7 +119,7 @@ impl Trial {
     }
 
     /// What took effect at a site, the newest first. The error is want of memory in an earlier step.
-    pub(crate) fn told(&self, site: SiteNo) -> Result<&[Effect], AllocError>
+    pub(crate) fn effects_at(&self, site: SiteNo) -> Result<&[Effect], AllocError>
         requires in_schema { site.0 < self.now.schema.sites }
         ensures value { IfOk result (λ told. told.now ≡ at_site self.now.schema (trace_of self.now) site.0) }
         ensures sound { IsSound self.now.schema (trace_of self.now) }

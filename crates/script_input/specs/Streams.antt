@@ -29,5 +29,5 @@ Counts (Ok x) before after = after ≡ before
 Counts (Err e) before after = after ≡ one_more before
 
 -- The bytes that a sink holds grow by a front of bs.
-abbrev pub AppendsFront : Option (List ℕ) → Option (List ℕ) → List ℕ → Type 0
-AppendsFront old new bs = (n : ℕ) × Appends old new (take n bs)
+abbrev pub AppendsPrefix : Option (List ℕ) → Option (List ℕ) → List ℕ → Type 0
+AppendsPrefix old new bs = (n : ℕ) × Appends old new (take n bs)

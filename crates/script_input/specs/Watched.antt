@@ -16,5 +16,5 @@ abbrev pub failures_of : {T : Type 0} → Watched T → ℕ
 failures_of w = w.failures
 
 -- The bytes that are known of it: those that a reader has left, or those that a writer holds.
-abbrev pub known : {T : Type 0} → (T → Option (List ℕ)) → Watched T → Option (List ℕ)
-known bytes w = bytes w.inner
+abbrev pub known_bytes : {T : Type 0} → (T → Option (List ℕ)) → Watched T → Option (List ℕ)
+known_bytes bytes w = bytes w.inner

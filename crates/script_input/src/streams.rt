@@ -4,7 +4,7 @@ ghost use Rattle.std.specs.Prelude.{◌≡◌, ◌<◌, ℕ, List, length, Optio
 ghost use Rattle.std.specs.Io.{ReadsAtMost, WritesAtMost};
 ghost use Rattle.std.specs.Io.KnownBytes.{Appends, ReadConsumes, WriteAppends};
 ghost use Rattle.script_input.specs.declared.streams.End.{End};
-ghost use Rattle.script_input.specs.Streams.{HasFailed, GaveNothing, HasRefused, Counts, AppendsFront};
+ghost use Rattle.script_input.specs.Streams.{HasFailed, GaveNothing, HasRefused, Counts, AppendsPrefix};
 
 /// How a call of a source or a sink ended.
 #[derive(Clone, Copy, Debug, PartialEq, Eq)]
@@ -84,7 +84,7 @@ pub trait Sink {
     /// Costs no memory.
     final fn write_all(&mut self, piece: &[u8]) -> Result<(), CallFailed>
         ensures ok { OnOk result (Appends (bytes self.old) (bytes self.new) piece.now) }
-        ensures front { OnErr result (AppendsFront (bytes self.old) (bytes self.new) piece.now) }
+        ensures front { OnErr result (AppendsPrefix (bytes self.old) (bytes self.new) piece.now) }
         ensures some { OnErr result (0 < length piece.now) }
         ensures refused { OnErr result (HasRefused (last self.new)) }
         ensures refusals { Counts result (refusals self.old) (refusals self.new) }

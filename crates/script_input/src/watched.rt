@@ -2,7 +2,7 @@
 
 ghost use Rattle.std.specs.Prelude.{◌≡◌};
 ghost use Rattle.script_input.specs.Streams.{one_more};
-ghost use Rattle.script_input.specs.Watched.{inner_of, last_of, failures_of, known};
+ghost use Rattle.script_input.specs.Watched.{inner_of, last_of, failures_of, known_bytes};
 
 use crate::streams::{CallFailed, End, Sink, Source};
 use std::io::{Read, Write};
@@ -72,7 +72,7 @@ impl<T> Watched<T> {
 }
 
 impl<R: Read> Source for Watched<R> {
-    ghost bytes = { known R.remaining };
+    ghost bytes = { known_bytes R.remaining };
 
     ghost last = { last_of };
 
@@ -94,7 +94,7 @@ impl<R: Read> Source for Watched<R> {
 }
 
 impl<W: Write> Sink for Watched<W> {
-    ghost bytes = { known W.contents };
+    ghost bytes = { known_bytes W.contents };
 
     ghost last = { last_of };
 

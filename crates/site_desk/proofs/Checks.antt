@@ -5,19 +5,19 @@ use native.Mathlib.Decide.{ℕ_discrete}
 use mathlib.Core.Logic.{dite}
 use Rattle.field_bounds.specs.declared.id.SiteNo.{SiteNo}
 use Rattle.field_bounds.specs.declared.entry.Entry.{Entry}
-use Rattle.site_desk.specs.declared.kept.Receipt.{Receipt}
+use Rattle.site_desk.specs.declared.locked.Receipt.{Receipt}
 use Rattle.std.proofs.lemmas.Option.{slice_get-get_or}
 use Rattle.site_desk.specs.ReceiptFaults.{IsReachedAt}
-use Rattle.site_desk.specs.Receipts.{StandsAt, AllStandAt, HasNumber, AreDistinct, AreReceiptsOf}
+use Rattle.site_desk.specs.Receipts.{IsAt, AreAllAt, HasNumber, AreDistinct, AreReceiptsOf}
 
 -- these receipts stand, each once, and their places are those that are marked
 pub record IsChecked (site : SiteNo) (h : List Entry) (rs : List Receipt) (seen : List Bool) : Type 0 where
-  pub stand : AllStandAt site h rs
+  pub stand : AreAllAt site h rs
   pub once : AreDistinct rs
   pub marked : (k : ℕ) → get_or seen k false ≡ true → HasNumber rs (k + 1)
   pub noted : (k : ℕ) → k < length seen → HasNumber rs (k + 1) → get_or seen k false ≡ true
 
-stand_more : (site : SiteNo) (h : List Entry) (rs : List Receipt) (r : Receipt) → AllStandAt site h rs → StandsAt site h r → AllStandAt site h (rs ++ r ∷ [])
+stand_more : (site : SiteNo) (h : List Entry) (rs : List Receipt) (r : Receipt) → AreAllAt site h rs → IsAt site h r → AreAllAt site h (rs ++ r ∷ [])
 stand_more site h [] r all one = (one, tt)
 stand_more site h (q ∷ rs) r all one = (all.0, stand_more site h rs r all.1 one)
 
@@ -52,7 +52,7 @@ starts_checked site h seen none = record { stand = tt; once = tt; marked = λ k 
 pub not_yet : (site : SiteNo) (h : List Entry) (rs : List Receipt) (seen : List Bool) (r : Receipt) (place : ℕ) → place < length seen → r.number ≡ place + 1 → get_or seen place false ≡ false → IsChecked site h rs seen → ¬ HasNumber rs r.number
 not_yet site h rs seen r place below number unseen c has = true≢false (sym (c.noted place below (subst (λ (n : ℕ). HasNumber rs n) number has)) ∙ unseen)
 
-pub checks_more : (site : SiteNo) (h : List Entry) (rs : List Receipt) (seen : List Bool) (r : Receipt) (place : ℕ) → place < length seen → r.number ≡ place + 1 → StandsAt site h r → get_or seen place false ≡ false
+pub checks_more : (site : SiteNo) (h : List Entry) (rs : List Receipt) (seen : List Bool) (r : Receipt) (place : ℕ) → place < length seen → r.number ≡ place + 1 → IsAt site h r → get_or seen place false ≡ false
     → IsChecked site h rs seen → IsChecked site h (rs ++ r ∷ []) (set seen place true)
 checks_more site h rs seen r place below number stands unseen c = record {
   stand = stand_more site h rs r c.stand stands;
@@ -73,7 +73,7 @@ checks_more site h rs seen r place below number stands unseen c = record {
 }
 
 -- the next receipt, as a loop has it
-pub checks_next : (site : SiteNo) (h : List Entry) (all : List Receipt) (i : ℕ) (d : Receipt) (seen : List Bool) (place : ℕ) → i < length all → place < length seen → (get_or all i d).number ≡ place + 1 → StandsAt site h (get_or all i d) → get_or seen place false ≡ false
+pub checks_next : (site : SiteNo) (h : List Entry) (all : List Receipt) (i : ℕ) (d : Receipt) (seen : List Bool) (place : ℕ) → i < length all → place < length seen → (get_or all i d).number ≡ place + 1 → IsAt site h (get_or all i d) → get_or seen place false ≡ false
     → IsChecked site h (take i all) seen → IsChecked site h (take (i + 1) all) (set seen place true)
 checks_next site h all i d seen place inside below number stands unseen c =
     subst (λ (rs : List Receipt). IsChecked site h rs (set seen place true)) (sym (take_more all i d inside)) (checks_more site h (take i all) seen (get_or all i d) place below number stands unseen c)
@@ -81,7 +81,7 @@ checks_next site h all i d seen place inside below number stands unseen c =
 pub all_checked : (site : SiteNo) (h : List Entry) (all : List Receipt) (i : ℕ) (seen : List Bool) → length all ≤ i → length seen ≡ length h → ((n : ℕ) → n < length seen → get_or seen n false ≡ true) → IsChecked site h (take i all) seen → AreReceiptsOf site h all
 all_checked site h all i seen past len marked c =
     let e : take i all ≡ all = take_all i all past in record {
-      stand = subst (λ (rs : List Receipt). AllStandAt site h rs) e c.stand;
+      stand = subst (λ (rs : List Receipt). AreAllAt site h rs) e c.stand;
       once = subst (λ (rs : List Receipt). AreDistinct rs) e c.once;
       each = λ n below. subst (λ (rs : List Receipt). HasNumber rs (n + 1)) e (c.marked n (marked n (omega arith)));
     }
@@ -107,26 +107,26 @@ missing_at site own shown h all i seen marks place is showing past same len firs
 reached : (site own : SiteNo) (shown h : List Entry) (all : List Receipt) (i : ℕ) (d : Receipt) (seen : List Bool) → own ≡ site → shown ≡ h → i < length all → IsChecked own shown (take i all) seen → IsReachedAt site h all i (get_or all i d)
 reached site own shown h all i d seen is showing inside c = record {
   at = slice_get-get_or all i d inside;
-  stand = subst (λ (s : SiteNo). AllStandAt s h (take i all)) is (subst (λ (l : List Entry). AllStandAt own l (take i all)) showing c.stand);
+  stand = subst (λ (s : SiteNo). AreAllAt s h (take i all)) is (subst (λ (l : List Entry). AreAllAt own l (take i all)) showing c.stand);
   once = c.once;
 }
 
 pub differs_at : (site own : SiteNo) (shown h : List Entry) (all : List Receipt) (i : ℕ) (d : Receipt) (seen : List Bool) (s : SiteNo) (n : ℕ) → own ≡ site → shown ≡ h → i < length all → s ≡ (get_or all i d).site → n ≡ (get_or all i d).number
-    → ¬ StandsAt own shown (get_or all i d) → IsChecked own shown (take i all) seen
-    → (j : ℕ) × (r : Receipt) × IsReachedAt site h all j r × (r.site ≡ s) × (r.number ≡ n) × ¬ StandsAt site h r
+    → ¬ IsAt own shown (get_or all i d) → IsChecked own shown (take i all) seen
+    → (j : ℕ) × (r : Receipt) × IsReachedAt site h all j r × (r.site ≡ s) × (r.number ≡ n) × ¬ IsAt site h r
 differs_at site own shown h all i d seen s n is showing inside of number not c =
-    (i, get_or all i d, reached site own shown h all i d seen is showing inside c, sym of, sym number, λ stands. not (subst (λ (o : SiteNo). StandsAt o shown (get_or all i d)) (sym is) (subst (λ (l : List Entry). StandsAt site l (get_or all i d)) (sym showing) stands)))
+    (i, get_or all i d, reached site own shown h all i d seen is showing inside c, sym of, sym number, λ stands. not (subst (λ (o : SiteNo). IsAt o shown (get_or all i d)) (sym is) (subst (λ (l : List Entry). IsAt site l (get_or all i d)) (sym showing) stands)))
 
 pub twice_at : (site own : SiteNo) (shown h : List Entry) (all : List Receipt) (i : ℕ) (d : Receipt) (seen : List Bool) (s : SiteNo) (n place : ℕ) → own ≡ site → shown ≡ h → i < length all → s ≡ (get_or all i d).site → n ≡ (get_or all i d).number
-    → StandsAt own shown (get_or all i d) → (get_or all i d).number ≡ place + 1 → get_or seen place false ≡ true → IsChecked own shown (take i all) seen
-    → (j : ℕ) × (r : Receipt) × IsReachedAt site h all j r × (r.site ≡ s) × (r.number ≡ n) × StandsAt site h r × HasNumber (take j all) n
+    → IsAt own shown (get_or all i d) → (get_or all i d).number ≡ place + 1 → get_or seen place false ≡ true → IsChecked own shown (take i all) seen
+    → (j : ℕ) × (r : Receipt) × IsReachedAt site h all j r × (r.site ≡ s) × (r.number ≡ n) × IsAt site h r × HasNumber (take j all) n
 twice_at site own shown h all i d seen s n place is showing inside of number stands at marked c = (
   i,
   get_or all i d,
   reached site own shown h all i d seen is showing inside c,
   sym of,
   sym number,
-  subst (λ (o : SiteNo). StandsAt o h (get_or all i d)) is (subst (λ (l : List Entry). StandsAt own l (get_or all i d)) showing stands),
+  subst (λ (o : SiteNo). IsAt o h (get_or all i d)) is (subst (λ (l : List Entry). IsAt own l (get_or all i d)) showing stands),
   subst (λ (m : ℕ). HasNumber (take i all) m) (sym at ∙ sym number) (c.marked place marked),
 )
 

@@ -5,7 +5,7 @@ use Rattle.field_bounds.specs.declared.id.SiteNo.{SiteNo}
 use Rattle.field_bounds.specs.declared.entry.Command.{Command}
 use Rattle.field_bounds.specs.declared.entry.Entry.{Entry}
 use Rattle.site_step.specs.Site.{SiteValue, Applies}
-use Rattle.site_desk.specs.declared.kept.Receipt.{Receipt}
+use Rattle.site_desk.specs.declared.locked.Receipt.{Receipt}
 use Rattle.site_desk.specs.Passes.{PassSeen}
 
 -- One command was applied, and the receipt is its entry, with the entry's place and site.
@@ -24,15 +24,15 @@ Counts before command r after =
 -- ---- receipts of a history, which has its oldest entry first
 
 -- The receipt is the entry at its place of the history of this site.
-pub record StandsAt (site : SiteNo) (h : List Entry) (r : Receipt) : Type 0 where
+pub record IsAt (site : SiteNo) (h : List Entry) (r : Receipt) : Type 0 where
   pub of : r.site ≡ site
   pub some : 0 < r.number
   pub entry : slice_get h (r.number - 1) ≡ Some r.entry
 
 -- Each of the receipts is such an entry.
-abbrev pub AllStandAt : SiteNo → List Entry → List Receipt → Type 0
-AllStandAt site h [] = Unit {0}
-AllStandAt site h (r ∷ rs) = StandsAt site h r × AllStandAt site h rs
+abbrev pub AreAllAt : SiteNo → List Entry → List Receipt → Type 0
+AreAllAt site h [] = Unit {0}
+AreAllAt site h (r ∷ rs) = IsAt site h r × AreAllAt site h rs
 
 -- Some receipt has this number.
 abbrev pub HasNumber : List Receipt → ℕ → Type 0
@@ -46,6 +46,6 @@ AreDistinct (r ∷ rs) = ¬ HasNumber rs r.number × AreDistinct rs
 
 -- The receipts are exactly the entries of the history, each once.
 pub record AreReceiptsOf (site : SiteNo) (h : List Entry) (rs : List Receipt) : Type 0 where
-  pub stand : AllStandAt site h rs
+  pub stand : AreAllAt site h rs
   pub once : AreDistinct rs
   pub each : (n : ℕ) → n < length h → HasNumber rs (n + 1)

@@ -7,8 +7,8 @@ ghost use Rattle.site_desk.specs.Receipts.{Counts};
 ghost use Rattle.site_step.specs.Opening.{TellsLine, SparesLogs, FailsUnder};
 ghost use Rattle.site_step.specs.Site.{SiteValue};
 
-use crate::kept::{Blank, Closed, Kept, Pass, Receipt};
-use crate::{DeskFault, Gate, kept};
+use crate::locked::{Blank, Closed, Kept, Pass, Receipt};
+use crate::{DeskFault, Gate, locked};
 use field_bounds::{Command, Schema, SiteNo};
 use kept_records::Medium;
 use site_step::{OpenFault, Site};
@@ -77,7 +77,7 @@ impl<L: Ledger, M: Medium + Drop> Desk<L, M> {
             Ok(site) => site,
             Err((fault, _medium)) => return Err(fault),
         };
-        let (kept, passes) = kept::make::<L, M>(alloc, blank, site)?;
+        let (kept, passes) = locked::make::<L, M>(alloc, blank, site)?;
         Ok((
             Desk {
                 schema: own,

@@ -5,13 +5,13 @@
 mod desk;
 mod fault;
 mod gate;
-mod kept;
+mod locked;
 mod receipts;
 
 pub use desk::{CloseError, Desk};
 pub use fault::DeskFault;
 pub use gate::{FreeGate, Gate};
-pub use kept::{Blank, Closed, Kept, Pass, Receipt};
+pub use locked::{Blank, Closed, Kept, Pass, Receipt};
 pub use receipts::{ReceiptFault, check_receipts};
 
 #[cfg(test)]

@@ -1,10 +1,10 @@
 //! Whether receipts are those of a history.
 
 ghost use Rattle.std.specs.Prelude.{◌≡◌, ℕ, ◌+◌, ◌<◌, IsTrue, ◌↔◌, OnOk, IfErr, IfSome, IfNone, length, reverse, true, false, slice_index_or};
-ghost use Rattle.site_desk.specs.Receipts.{StandsAt, AreReceiptsOf};
+ghost use Rattle.site_desk.specs.Receipts.{IsAt, AreReceiptsOf};
 ghost use Rattle.site_desk.specs.ReceiptFaults.{TellsReceipts};
 
-use crate::kept::{Closed, Receipt};
+use crate::locked::{Closed, Receipt};
 use field_bounds::{Command, Entry, Reply, SiteNo};
 use kept_records::Medium;
 use std::alloc::Global;
@@ -54,8 +54,8 @@ fn is_same_entry(one: &Entry, other: &Entry) -> bool
 
 /// The place, from 0, of the entry that a receipt names, where the history of this site has it there.
 fn place_of(history: &[Entry], site: SiteNo, receipt: &Receipt) -> Option<usize>
-    ensures some { IfSome result (λ place. StandsAt site history.now receipt.now × (receipt.now.number ≡ place + 1) × (place < length history.now)) }
-    ensures none { IfNone result (¬ StandsAt site history.now receipt.now) }
+    ensures some { IfSome result (λ place. IsAt site history.now receipt.now × (receipt.now.number ≡ place + 1) × (place < length history.now)) }
+    ensures none { IfNone result (¬ IsAt site history.now receipt.now) }
 {
     let number = receipt.number();
     if receipt.site() != site || number == 0 || number > history.len() as u64 {

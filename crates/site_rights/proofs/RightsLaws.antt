@@ -14,7 +14,7 @@ use Rattle.site_rights.specs.declared.field_rights.Amounts.{Amounts}
 use Rattle.site_rights.specs.declared.field_rights.FieldRights.{FieldRights}
 use Rattle.site_rights.specs.declared.field_rights.Outcome.{Outcome}
 use Rattle.site_rights.specs.declared.field_rights.Outcome.TheVariants.{Committed, Aborted}
-use Rattle.site_rights.specs.Rights.{amounts_of, with_amounts, no_rights, row_at, free_at, held_at, cut_at, width_at, at_field, taken, dropped, tightened, added, ending, by_escrow, by_escrows, AreInRange, AreHeld, CanEnd}
+use Rattle.site_rights.specs.Rights.{amounts_of, with_amounts, no_rights, row_at, free_at, held_at, cut_at, width_at, at_field, after_take, after_drop, after_tighten, after_add, ending, by_escrow, by_escrows, AreInRange, AreHeld, CanEnd}
 
 -- by how much a change lowers, or raises
 abbrev pub size : Kind → ℤ → ℕ
@@ -49,7 +49,7 @@ ending_held Aborted r (negsuc n) Lower h = omega arith
 ending_held Aborted r (negsuc n) Raise h = omega arith
 
 -- an escrow adds its size to the held rights
-pub taken_held : (r : FieldRights) (c : ℤ) (k : Kind) → (amounts_of (taken r (kind_of c) (unsigned_abs c)) k).held ≡ (amounts_of r k).held + size k c
+pub taken_held : (r : FieldRights) (c : ℤ) (k : Kind) → (amounts_of (after_take r (kind_of c) (unsigned_abs c)) k).held ≡ (amounts_of r k).held + size k c
 taken_held r (pos n) Lower = omega arith
 taken_held r (pos n) Raise = omega arith
 taken_held r (negsuc n) Lower = omega arith
@@ -85,21 +85,21 @@ read-at_field read change step rows f g kind q h changes stays = ap read (row_at
     one false = stays (read (row_at rows g))
 
 -- taking by an escrow
-pub held_at-taken : (rows : List FieldRights) (e : Escrow) (g : ℕ) (k : Kind) → e.field.0 < length rows → held_at (by_escrow taken rows e) g k ≡ held_at rows g k + takes g k e
+pub held_at-taken : (rows : List FieldRights) (e : Escrow) (g : ℕ) (k : Kind) → e.field.0 < length rows → held_at (by_escrow after_take rows e) g k ≡ held_at rows g k + takes g k e
 held_at-taken rows e g k h =
-    read-at_field (λ r. (amounts_of r k).held) taken (λ b n. n + cond (b && same_kind (kind_of e.change) k) (unsigned_abs e.change) 0) rows e.field.0 g (kind_of e.change) (unsigned_abs e.change) h
+    read-at_field (λ r. (amounts_of r k).held) after_take (λ b n. n + cond (b && same_kind (kind_of e.change) k) (unsigned_abs e.change) 0) rows e.field.0 g (kind_of e.change) (unsigned_abs e.change) h
     (λ r. taken_held r e.change k) (λ n. omega arith)
 
 -- taking by an escrow that is within the free rights
-taken_free : (r : FieldRights) (c : ℤ) (k : Kind) → (amounts_of (taken r (kind_of c) (unsigned_abs c)) k).free ≡ (amounts_of r k).free - size k c
+taken_free : (r : FieldRights) (c : ℤ) (k : Kind) → (amounts_of (after_take r (kind_of c) (unsigned_abs c)) k).free ≡ (amounts_of r k).free - size k c
 taken_free r (pos n) Lower = omega arith
 taken_free r (pos n) Raise = omega arith
 taken_free r (negsuc n) Lower = omega arith
 taken_free r (negsuc n) Raise = omega arith
 
-pub free_at-taken : (rows : List FieldRights) (e : Escrow) (g : ℕ) (k : Kind) → e.field.0 < length rows → free_at (by_escrow taken rows e) g k ≡ free_at rows g k - takes g k e
+pub free_at-taken : (rows : List FieldRights) (e : Escrow) (g : ℕ) (k : Kind) → e.field.0 < length rows → free_at (by_escrow after_take rows e) g k ≡ free_at rows g k - takes g k e
 free_at-taken rows e g k h =
-    read-at_field (λ r. (amounts_of r k).free) taken (λ b n. n - cond (b && same_kind (kind_of e.change) k) (unsigned_abs e.change) 0) rows e.field.0 g (kind_of e.change) (unsigned_abs e.change) h
+    read-at_field (λ r. (amounts_of r k).free) after_take (λ b n. n - cond (b && same_kind (kind_of e.change) k) (unsigned_abs e.change) 0) rows e.field.0 g (kind_of e.change) (unsigned_abs e.change) h
     (λ r. taken_free r e.change k) (λ n. omega arith)
 
 -- ---- escrows that end one after another
@@ -180,93 +180,93 @@ can_end o rows es i e d range h lt at =
 
 -- ---- rights that leave and come
 
-dropped_free : (r : FieldRights) (kind k : Kind) (q : ℕ) → (amounts_of (dropped r kind q) k).free ≡ (amounts_of r k).free - cond (same_kind kind k) q 0
+dropped_free : (r : FieldRights) (kind k : Kind) (q : ℕ) → (amounts_of (after_drop r kind q) k).free ≡ (amounts_of r k).free - cond (same_kind kind k) q 0
 dropped_free r Lower Lower q = refl
 dropped_free r Lower Raise q = omega arith
 dropped_free r Raise Lower q = omega arith
 dropped_free r Raise Raise q = refl
 
-dropped_held : (r : FieldRights) (kind k : Kind) (q : ℕ) → (amounts_of (dropped r kind q) k).held ≡ (amounts_of r k).held
+dropped_held : (r : FieldRights) (kind k : Kind) (q : ℕ) → (amounts_of (after_drop r kind q) k).held ≡ (amounts_of r k).held
 dropped_held r Lower Lower q = refl
 dropped_held r Lower Raise q = refl
 dropped_held r Raise Lower q = refl
 dropped_held r Raise Raise q = refl
 
-added_free : (r : FieldRights) (kind k : Kind) (q : ℕ) → (amounts_of (added r kind q) k).free ≡ (amounts_of r k).free + cond (same_kind kind k) q 0
+added_free : (r : FieldRights) (kind k : Kind) (q : ℕ) → (amounts_of (after_add r kind q) k).free ≡ (amounts_of r k).free + cond (same_kind kind k) q 0
 added_free r Lower Lower q = refl
 added_free r Lower Raise q = omega arith
 added_free r Raise Lower q = omega arith
 added_free r Raise Raise q = refl
 
-added_held : (r : FieldRights) (kind k : Kind) (q : ℕ) → (amounts_of (added r kind q) k).held ≡ (amounts_of r k).held
+added_held : (r : FieldRights) (kind k : Kind) (q : ℕ) → (amounts_of (after_add r kind q) k).held ≡ (amounts_of r k).held
 added_held r Lower Lower q = refl
 added_held r Lower Raise q = refl
 added_held r Raise Lower q = refl
 added_held r Raise Raise q = refl
 
 -- rights that leave a field leave the free ones of their kind
-pub free_at-dropped : (rows : List FieldRights) (f g : ℕ) (kind k : Kind) (q : ℕ) → f < length rows → free_at (at_field dropped rows f kind q) g k ≡ free_at rows g k - cond ((f == g) && same_kind kind k) q 0
-free_at-dropped rows f g kind k q h = read-at_field (λ r. (amounts_of r k).free) dropped (λ b n. n - cond (b && same_kind kind k) q 0) rows f g kind q h (λ r. dropped_free r kind k q) (λ n. omega arith)
+pub free_at-dropped : (rows : List FieldRights) (f g : ℕ) (kind k : Kind) (q : ℕ) → f < length rows → free_at (at_field after_drop rows f kind q) g k ≡ free_at rows g k - cond ((f == g) && same_kind kind k) q 0
+free_at-dropped rows f g kind k q h = read-at_field (λ r. (amounts_of r k).free) after_drop (λ b n. n - cond (b && same_kind kind k) q 0) rows f g kind q h (λ r. dropped_free r kind k q) (λ n. omega arith)
 
-pub held_at-dropped : (rows : List FieldRights) (f g : ℕ) (kind k : Kind) (q : ℕ) → f < length rows → held_at (at_field dropped rows f kind q) g k ≡ held_at rows g k
-held_at-dropped rows f g kind k q h = read-at_field (λ r. (amounts_of r k).held) dropped (λ b n. n) rows f g kind q h (λ r. dropped_held r kind k q) (λ n. refl)
+pub held_at-dropped : (rows : List FieldRights) (f g : ℕ) (kind k : Kind) (q : ℕ) → f < length rows → held_at (at_field after_drop rows f kind q) g k ≡ held_at rows g k
+held_at-dropped rows f g kind k q h = read-at_field (λ r. (amounts_of r k).held) after_drop (λ b n. n) rows f g kind q h (λ r. dropped_held r kind k q) (λ n. refl)
 
 -- rights that come to a field come to the free ones of their kind
-pub free_at-added : (rows : List FieldRights) (f g : ℕ) (kind k : Kind) (q : ℕ) → f < length rows → free_at (at_field added rows f kind q) g k ≡ free_at rows g k + cond ((f == g) && same_kind kind k) q 0
-free_at-added rows f g kind k q h = read-at_field (λ r. (amounts_of r k).free) added (λ b n. n + cond (b && same_kind kind k) q 0) rows f g kind q h (λ r. added_free r kind k q) (λ n. omega arith)
+pub free_at-added : (rows : List FieldRights) (f g : ℕ) (kind k : Kind) (q : ℕ) → f < length rows → free_at (at_field after_add rows f kind q) g k ≡ free_at rows g k + cond ((f == g) && same_kind kind k) q 0
+free_at-added rows f g kind k q h = read-at_field (λ r. (amounts_of r k).free) after_add (λ b n. n + cond (b && same_kind kind k) q 0) rows f g kind q h (λ r. added_free r kind k q) (λ n. omega arith)
 
-pub held_at-added : (rows : List FieldRights) (f g : ℕ) (kind k : Kind) (q : ℕ) → f < length rows → held_at (at_field added rows f kind q) g k ≡ held_at rows g k
-held_at-added rows f g kind k q h = read-at_field (λ r. (amounts_of r k).held) added (λ b n. n) rows f g kind q h (λ r. added_held r kind k q) (λ n. refl)
+pub held_at-added : (rows : List FieldRights) (f g : ℕ) (kind k : Kind) (q : ℕ) → f < length rows → held_at (at_field after_add rows f kind q) g k ≡ held_at rows g k
+held_at-added rows f g kind k q h = read-at_field (λ r. (amounts_of r k).held) after_add (λ b n. n) rows f g kind q h (λ r. added_held r kind k q) (λ n. refl)
 
 -- ---- rights that are given up
 
-tightened_free : (r : FieldRights) (kind k : Kind) (q : ℕ) → (amounts_of (tightened r kind q) k).free ≡ (amounts_of r k).free - cond (same_kind kind k) q 0
+tightened_free : (r : FieldRights) (kind k : Kind) (q : ℕ) → (amounts_of (after_tighten r kind q) k).free ≡ (amounts_of r k).free - cond (same_kind kind k) q 0
 tightened_free r Lower Lower q = refl
 tightened_free r Lower Raise q = omega arith
 tightened_free r Raise Lower q = omega arith
 tightened_free r Raise Raise q = refl
 
-tightened_held : (r : FieldRights) (kind k : Kind) (q : ℕ) → (amounts_of (tightened r kind q) k).held ≡ (amounts_of r k).held
+tightened_held : (r : FieldRights) (kind k : Kind) (q : ℕ) → (amounts_of (after_tighten r kind q) k).held ≡ (amounts_of r k).held
 tightened_held r Lower Lower q = refl
 tightened_held r Lower Raise q = refl
 tightened_held r Raise Lower q = refl
 tightened_held r Raise Raise q = refl
 
-tightened_cut : (r : FieldRights) (kind k : Kind) (q : ℕ) → (amounts_of (tightened r kind q) k).cut ≡ (amounts_of r k).cut + cond (same_kind kind k) q 0
+tightened_cut : (r : FieldRights) (kind k : Kind) (q : ℕ) → (amounts_of (after_tighten r kind q) k).cut ≡ (amounts_of r k).cut + cond (same_kind kind k) q 0
 tightened_cut r Lower Lower q = refl
 tightened_cut r Lower Raise q = omega arith
 tightened_cut r Raise Lower q = omega arith
 tightened_cut r Raise Raise q = refl
 
 -- rights that are given up leave the free ones of their kind
-pub free_at-tightened : (rows : List FieldRights) (f g : ℕ) (kind k : Kind) (q : ℕ) → f < length rows → free_at (at_field tightened rows f kind q) g k ≡ free_at rows g k - cond ((f == g) && same_kind kind k) q 0
-free_at-tightened rows f g kind k q h = read-at_field (λ r. (amounts_of r k).free) tightened (λ b n. n - cond (b && same_kind kind k) q 0) rows f g kind q h (λ r. tightened_free r kind k q) (λ n. omega arith)
+pub free_at-tightened : (rows : List FieldRights) (f g : ℕ) (kind k : Kind) (q : ℕ) → f < length rows → free_at (at_field after_tighten rows f kind q) g k ≡ free_at rows g k - cond ((f == g) && same_kind kind k) q 0
+free_at-tightened rows f g kind k q h = read-at_field (λ r. (amounts_of r k).free) after_tighten (λ b n. n - cond (b && same_kind kind k) q 0) rows f g kind q h (λ r. tightened_free r kind k q) (λ n. omega arith)
 
-pub held_at-tightened : (rows : List FieldRights) (f g : ℕ) (kind k : Kind) (q : ℕ) → f < length rows → held_at (at_field tightened rows f kind q) g k ≡ held_at rows g k
-held_at-tightened rows f g kind k q h = read-at_field (λ r. (amounts_of r k).held) tightened (λ b n. n) rows f g kind q h (λ r. tightened_held r kind k q) (λ n. refl)
+pub held_at-tightened : (rows : List FieldRights) (f g : ℕ) (kind k : Kind) (q : ℕ) → f < length rows → held_at (at_field after_tighten rows f kind q) g k ≡ held_at rows g k
+held_at-tightened rows f g kind k q h = read-at_field (λ r. (amounts_of r k).held) after_tighten (λ b n. n) rows f g kind q h (λ r. tightened_held r kind k q) (λ n. refl)
 
 -- and come to what was given up of it
-pub cut_at-tightened : (rows : List FieldRights) (f g : ℕ) (kind k : Kind) (q : ℕ) → f < length rows → cut_at (at_field tightened rows f kind q) g k ≡ cut_at rows g k + cond ((f == g) && same_kind kind k) q 0
-cut_at-tightened rows f g kind k q h = read-at_field (λ r. (amounts_of r k).cut) tightened (λ b n. n + cond (b && same_kind kind k) q 0) rows f g kind q h (λ r. tightened_cut r kind k q) (λ n. omega arith)
+pub cut_at-tightened : (rows : List FieldRights) (f g : ℕ) (kind k : Kind) (q : ℕ) → f < length rows → cut_at (at_field after_tighten rows f kind q) g k ≡ cut_at rows g k + cond ((f == g) && same_kind kind k) q 0
+cut_at-tightened rows f g kind k q h = read-at_field (λ r. (amounts_of r k).cut) after_tighten (λ b n. n + cond (b && same_kind kind k) q 0) rows f g kind q h (λ r. tightened_cut r kind k q) (λ n. omega arith)
 
 -- ---- no other change gives rights up
 
 abbrev pub KeepsCut : (FieldRights → Kind → ℕ → FieldRights) → Type 0
 KeepsCut change = (r : FieldRights) (kind k : Kind) (q : ℕ) → (amounts_of (change r kind q) k).cut ≡ (amounts_of r k).cut
 
-pub taken_keeps_cut : KeepsCut taken
+pub taken_keeps_cut : KeepsCut after_take
 taken_keeps_cut r Lower Lower q = refl
 taken_keeps_cut r Lower Raise q = refl
 taken_keeps_cut r Raise Lower q = refl
 taken_keeps_cut r Raise Raise q = refl
 
-pub dropped_keeps_cut : KeepsCut dropped
+pub dropped_keeps_cut : KeepsCut after_drop
 dropped_keeps_cut r Lower Lower q = refl
 dropped_keeps_cut r Lower Raise q = refl
 dropped_keeps_cut r Raise Lower q = refl
 dropped_keeps_cut r Raise Raise q = refl
 
-pub added_keeps_cut : KeepsCut added
+pub added_keeps_cut : KeepsCut after_add
 added_keeps_cut r Lower Lower q = refl
 added_keeps_cut r Lower Raise q = refl
 added_keeps_cut r Raise Lower q = refl
@@ -303,20 +303,20 @@ with_amounts_keeps : (r : FieldRights) (k : Kind) (a : Amounts) → (with_amount
 with_amounts_keeps r Lower a = refl
 with_amounts_keeps r Raise a = refl
 
-pub taken_keeps : KeepsWidth taken
+pub taken_keeps : KeepsWidth after_take
 taken_keeps r k q = with_amounts_keeps r k _
 
 pub ending_keeps : (o : Outcome) → KeepsWidth (ending o)
 ending_keeps Committed r k q = with_amounts_keeps (with_amounts r k _) (other k) _ ∙ with_amounts_keeps r k _
 ending_keeps Aborted r k q = with_amounts_keeps r k _
 
-pub dropped_keeps : KeepsWidth dropped
+pub dropped_keeps : KeepsWidth after_drop
 dropped_keeps r k q = with_amounts_keeps r k _
 
-pub tightened_keeps : KeepsWidth tightened
+pub tightened_keeps : KeepsWidth after_tighten
 tightened_keeps r k q = with_amounts_keeps r k _
 
-pub added_keeps : KeepsWidth added
+pub added_keeps : KeepsWidth after_add
 added_keeps r k q = with_amounts_keeps r k _
 
 pub width_at-field : (change : FieldRights → Kind → ℕ → FieldRights) → KeepsWidth change → (rows : List FieldRights) (f g : ℕ) (kind : Kind) (q : ℕ) → f < length rows

@@ -78,34 +78,34 @@ abbrev pub more_cut : ℕ → Amounts → Amounts
 more_cut q a = record a { cut = a.cut + q }
 
 -- q free rights of a kind set aside.
-abbrev pub taken : FieldRights → Kind → ℕ → FieldRights
-taken r k q = with_amounts r k (more_held q (fewer_free q (amounts_of r k)))
+abbrev pub after_take : FieldRights → Kind → ℕ → FieldRights
+after_take r k q = with_amounts r k (more_held q (fewer_free q (amounts_of r k)))
 
 -- q held rights of a kind set free again.
-abbrev pub given_back : FieldRights → Kind → ℕ → FieldRights
-given_back r k q = with_amounts r k (more_free q (fewer_held q (amounts_of r k)))
+abbrev pub after_give_back : FieldRights → Kind → ℕ → FieldRights
+after_give_back r k q = with_amounts r k (more_free q (fewer_held q (amounts_of r k)))
 
 -- q held rights of a kind turned into free ones of the other kind.
-abbrev pub turned : FieldRights → Kind → ℕ → FieldRights
-turned r k q =
+abbrev pub after_turn : FieldRights → Kind → ℕ → FieldRights
+after_turn r k q =
     with_amounts (with_amounts r k (fewer_held q (amounts_of r k))) (other k) (more_free q (amounts_of r (other k)))
 
 -- q free rights of a kind gone.
-abbrev pub dropped : FieldRights → Kind → ℕ → FieldRights
-dropped r k q = with_amounts r k (fewer_free q (amounts_of r k))
+abbrev pub after_drop : FieldRights → Kind → ℕ → FieldRights
+after_drop r k q = with_amounts r k (fewer_free q (amounts_of r k))
 
 -- q free rights of a kind given up.
-abbrev pub tightened : FieldRights → Kind → ℕ → FieldRights
-tightened r k q = with_amounts r k (more_cut q (fewer_free q (amounts_of r k)))
+abbrev pub after_tighten : FieldRights → Kind → ℕ → FieldRights
+after_tighten r k q = with_amounts r k (more_cut q (fewer_free q (amounts_of r k)))
 
 -- q free rights of a kind more.
-abbrev pub added : FieldRights → Kind → ℕ → FieldRights
-added r k q = with_amounts r k (more_free q (amounts_of r k))
+abbrev pub after_add : FieldRights → Kind → ℕ → FieldRights
+after_add r k q = with_amounts r k (more_free q (amounts_of r k))
 
 -- What the end of a transaction does to held rights: they turn, or are given back.
 abbrev pub ending : Outcome → FieldRights → Kind → ℕ → FieldRights
-ending Committed = turned
-ending Aborted = given_back
+ending Committed = after_turn
+ending Aborted = after_give_back
 
 -- A change of the rights on one field; all others stay.
 abbrev pub at_field : (FieldRights → Kind → ℕ → FieldRights) → List FieldRights → ℕ → Kind → ℕ → List FieldRights

@@ -3,7 +3,7 @@
 ghost use Rattle.std.specs.Prelude.{◌≡◌, ◌+◌, ◌<◌, ◌≤◌, ◌↔◌, length, OnOk, IfErr, OnErr, IsOk, IfOk, All};
 ghost use Rattle.field_bounds.specs.Owed.{max_change};
 ghost use Rattle.field_bounds.specs.Parts.{field_at, width_of};
-ghost use Rattle.site_rights.specs.Rights.{IsFresh, IsWithinWidth, free_at, held_at, own_at, cut_at, guarded_at, room_at, at_field, taken, given_back, turned, dropped, tightened, added, by_escrow, by_escrows, ending, CanEnd, AreFresh, AreTold, AreWithin, IsTold, AreHeld, AreInRange};
+ghost use Rattle.site_rights.specs.Rights.{IsFresh, IsWithinWidth, free_at, held_at, own_at, cut_at, guarded_at, room_at, at_field, after_take, after_give_back, after_turn, after_drop, after_tighten, after_add, by_escrow, by_escrows, ending, CanEnd, AreFresh, AreTold, AreWithin, IsTold, AreHeld, AreInRange};
 
 use crate::field_rights::{Amounts, FieldRights, Outcome, Short};
 use field_bounds::{Escrow, FieldNo, Kind, Schema, SiteNo, both_kinds};
@@ -132,7 +132,7 @@ impl Rights {
     pub fn take(&mut self, field: FieldNo, kind: Kind, amount: u64) -> Result<(), Short>
         requires in_schema { field.0 < length self.old }
         ensures enough { IsOk result ↔ (amount ≤ free_at self.old field.0 kind) }
-        ensures ok { OnOk result (self.new ≡ at_field taken self.old field.0 kind amount) }
+        ensures ok { OnOk result (self.new ≡ at_field after_take self.old field.0 kind amount) }
         ensures short { IfErr result (λ short. short.share ≡ free_at self.old field.0 kind) }
         ensures err { OnErr result (self.new ≡ self.old) }
     {
@@ -149,7 +149,7 @@ impl Rights {
     pub fn give_back(&mut self, field: FieldNo, kind: Kind, amount: u64)
         requires in_schema { field.0 < length self.old }
         requires there { amount ≤ held_at self.old field.0 kind }
-        ensures given_back { self.new ≡ at_field given_back self.old field.0 kind amount }
+        ensures given_back { self.new ≡ at_field after_give_back self.old field.0 kind amount }
     {
         let row = &mut self.rows[usize::from(field.0)];
         both_kinds!(kind, row, |returning| {
@@ -163,7 +163,7 @@ impl Rights {
     pub fn turn(&mut self, field: FieldNo, kind: Kind, amount: u64)
         requires in_schema { field.0 < length self.old }
         requires there { amount ≤ held_at self.old field.0 kind }
-        ensures turned { self.new ≡ at_field turned self.old field.0 kind amount }
+        ensures turned { self.new ≡ at_field after_turn self.old field.0 kind amount }
     {
         let row = &mut self.rows[usize::from(field.0)];
         both_kinds!(kind, row, |own, other| {
@@ -177,7 +177,7 @@ impl Rights {
     pub fn drop_free(&mut self, field: FieldNo, kind: Kind, amount: u64) -> Result<(), Short>
         requires in_schema { field.0 < length self.old }
         ensures enough { IsOk result ↔ (amount ≤ free_at self.old field.0 kind) }
-        ensures ok { OnOk result (self.new ≡ at_field dropped self.old field.0 kind amount) }
+        ensures ok { OnOk result (self.new ≡ at_field after_drop self.old field.0 kind amount) }
         ensures short { IfErr result (λ short. short.share ≡ free_at self.old field.0 kind) }
         ensures err { OnErr result (self.new ≡ self.old) }
     {
@@ -195,7 +195,7 @@ impl Rights {
         requires in_schema { field.0 < length self.old }
         ensures enough { IsOk result ↔ (amount ≤ free_at self.old field.0 kind) }
         ensures total { IfOk result (λ total. total ≡ cut_at self.old field.0 kind + amount) }
-        ensures ok { OnOk result (self.new ≡ at_field tightened self.old field.0 kind amount) }
+        ensures ok { OnOk result (self.new ≡ at_field after_tighten self.old field.0 kind amount) }
         ensures short { IfErr result (λ short. short.share ≡ free_at self.old field.0 kind) }
         ensures err { OnErr result (self.new ≡ self.old) }
     {
@@ -214,7 +214,7 @@ impl Rights {
     pub fn add(&mut self, field: FieldNo, kind: Kind, amount: u64)
         requires in_schema { field.0 < length self.old }
         requires room { amount ≤ room_at self.old field.0 }
-        ensures added { self.new ≡ at_field added self.old field.0 kind amount }
+        ensures added { self.new ≡ at_field after_add self.old field.0 kind amount }
     {
         let row = &mut self.rows[usize::from(field.0)];
         both_kinds!(kind, row, |gaining| {

@@ -18,13 +18,13 @@ use Rattle.field_bounds.specs.declared.entry.Refusal.{Refusal}
 use Rattle.field_bounds.specs.declared.entry.Refusal.TheVariants.{NumbersFull}
 use Rattle.field_bounds.specs.Kind.{kind_of}
 use Rattle.field_bounds.specs.Effects.{is_begun, is_open, escrows_of}
-use Rattle.field_bounds.specs.Owed.{first, refusals, answer, writes, is_up, count_escrows, max_open, max_escrows, free, guarded, room, cut_so_far, told_so_far, gain_of}
+use Rattle.field_bounds.specs.Owed.{first, refusals, answer, writes, is_up, count_escrows, max_open, max_escrows, free, guarded_rights, room, cut_so_far, told_so_far, gain_of}
 use Rattle.field_bounds.proofs.Refused.{up_there}
 use Rattle.site_rights.specs.declared.field_rights.FieldRights.{FieldRights}
 use Rattle.site_rights.specs.declared.field_rights.Outcome.TheVariants.{Committed}
-use Rattle.site_rights.specs.Rights.{free_at, cut_at, guarded_at, room_at, by_escrow, taken}
-use Rattle.escrow_journal.specs.Journal.{Row, stands, escrows_at, added}
-use Rattle.gift_ledger.specs.Ledger.{total_at, accepted_at, IsPlace}
+use Rattle.site_rights.specs.Rights.{free_at, cut_at, guarded_at, room_at, by_escrow, after_take}
+use Rattle.escrow_journal.specs.Journal.{Row, is_listed, escrows_at, rows_with}
+use Rattle.gift_ledger.specs.Ledger.{total_at, accepted_at, IsSlot}
 use Rattle.kept_records.specs.declared.medium.Device.{Device}
 use Rattle.kept_records.specs.declared.medium.Mishap.{Mishap}
 use Rattle.kept_records.specs.declared.record.Record.{Record}
@@ -33,26 +33,26 @@ use Rattle.kept_records.specs.Medium.{AppendFate}
 use Rattle.kept_records.specs.Summary.{SummaryValue}
 use Rattle.kept_records.specs.Logs.{IsLog}
 use Rattle.kept_records.specs.Keeping.{with_due, Appends}
-use Rattle.kept_records.specs.Stands.{Lawful, is_summary, plain, since_summary, max_behind, may_stand, piece}
+use Rattle.kept_records.specs.Stands.{Lawful, is_summary, plain, since_summary, max_behind, may_follow, piece}
 use Rattle.kept_records.proofs.Lines.{same_log}
 use Rattle.kept_records.proofs.Summaries.{plain_lawful}
 use Rattle.std.specs.List.{flat_map, AllByRecursion}
 use Rattle.field_bounds.specs.Limits.{IsSchema}
-use Rattle.log_replay.specs.Resuming.{MayStandNext}
+use Rattle.log_replay.specs.Resuming.{MayFollowNext}
 use Rattle.kept_state.specs.Keeps.{record_at}
-use Rattle.kept_records.specs.ReadingBack.{PartsAt, StandBehind}
+use Rattle.kept_records.specs.ReadingBack.{PartsAt, AreBehind}
 use Rattle.kept_state.proofs.Written.{written_in_range}
 use Rattle.log_replay.specs.declared.standing.Standing.{Standing}
 use Rattle.log_replay.specs.Standing.{IsStandingFor}
 use Rattle.site_step.specs.declared.accounts.Accounts.{Accounts}
 use Rattle.site_step.specs.declared.extent.Extent.{Extent}
 use Rattle.site_step.specs.Site.{SiteValue, base_of, here, entry_of, HoldsLog}
-use Rattle.site_step.specs.State.{StandsOn, IsSound, CanSettle, CanCarry, is_carried, settled, with_rights, readied, extended}
+use Rattle.site_step.specs.State.{StandsOn, IsSoundSite, CanSettle, CanCarry, is_carried, after_settling, with_rights, before_taking_in, one_record_longer}
 use Rattle.site_step.proofs.Reading.{Reads, reads}
 use Rattle.kept_records.specs.declared.record.Record.TheVariants as records
-use Rattle.log_replay.specs.Standing.{HasPlaces, CanTakeIn, TakesIn}
+use Rattle.log_replay.specs.Standing.{HasSlots, CanTakeIn, TakesIn}
 use Rattle.log_replay.proofs.StandingLaws.{has_places}
-use Rattle.site_step.specs.Resuming.{IsLawfulLog, last_by, FailsOver, FullOver, StandsOver}
+use Rattle.site_step.specs.Resuming.{IsLawfulLog, found_by, FailsOver, FullOver, StandsOver}
 use Rattle.site_step.proofs.Matching.{stands-journal_of, escrows_at-journal_of}
 use Rattle.site_step.proofs.Settling.{carried_no_restart}
 use Rattle.site_step.proofs.Standing.{next_is, next_is_closed, room_by, opened_by, few_by, enough_by, end_opened, escrows_are, stands_open, stands_begin, stands_grant, can_settle, stands_settled, can_carry, stands_carried}
@@ -66,7 +66,7 @@ use Rattle.site_step.proofs.Restarts.{ends_failed, ends_full, few_behind, ends_r
 pub grew : {new mid old : List Entry} {e : Entry} → new ≡ mid ++ e ∷ [] → mid ≡ old → reverse new ≡ e ∷ reverse old
 grew {mid = mid} {e = e} pushed same = ap reverse pushed ∙ reverse-append mid (e ∷ []) ∙ ap (λ (h : List Entry). e ∷ reverse h) same
 
-module _ {v w : SiteValue} {up : Bool} {extent : Extent} {a : Accounts} (was : IsSound v up extent a) (is : v ≡ w) where
+module _ {v w : SiteValue} {up : Bool} {extent : Extent} {a : Accounts} (was : IsSoundSite v up extent a) (is : v ≡ w) where
   -- what is known of the site as its callers see it, told of the site as it is kept
   none_of : (c : Command) → first (refusals (here w) c) ≡ None → first (refusals (here v) c) ≡ None
   none_of c none = subst (λ (x : SiteValue). first (refusals (here x) c) ≡ None) (sym is) none
@@ -87,7 +87,7 @@ module _ {v w : SiteValue} {up : Bool} {extent : Extent} {a : Accounts} (was : I
   -- ---- what is read
 
   pub stands_now : is_up (base_of w) w.history ≡ true → Reads w.schema w.site.0 (base_of w) w.history a
-  stands_now there = reads w up extent a (subst (λ (x : SiteValue). IsSound x up extent a) is was) there
+  stands_now there = reads w up extent a (subst (λ (x : SiteValue). IsSoundSite x up extent a) is was) there
 
   read : is_up (base_of v) v.history ≡ true → Reads v.schema v.site.0 (base_of v) v.history a
   read there = reads v up extent a was there
@@ -95,14 +95,14 @@ module _ {v w : SiteValue} {up : Bool} {extent : Extent} {a : Accounts} (was : I
   lawful : Lawful v.schema v.site.0 was.records
   lawful = was.lawful
 
-  pub tells_open : is_up (base_of w) w.history ≡ true → (t : TxnId) → stands t a.journal ≡ (is_begun t (here w).effects && is_open t (here w).effects)
-  tells_open there t = ap (stands t) (stands_now there).matches.journal ∙ stands-journal_of t (here w).effects
+  pub tells_open : is_up (base_of w) w.history ≡ true → (t : TxnId) → is_listed t a.journal ≡ (is_begun t (here w).effects && is_open t (here w).effects)
+  tells_open there t = ap (is_listed t) (stands_now there).matches.journal ∙ stands-journal_of t (here w).effects
 
   pub tells_count : is_up (base_of w) w.history ≡ true → (t : TxnId) → (is_begun t (here w).effects && is_open t (here w).effects) ≡ true → length (escrows_at t a.journal) ≡ count_escrows t (here w).effects
   tells_count there t opened =
       ap (λ j. length (escrows_at t j)) (stands_now there).matches.journal ∙ ap length (escrows_at-journal_of t (here w).effects opened) ∙ length-reverse (escrows_of t (here w).effects)
 
-  pub has_place : is_up (base_of w) w.history ≡ true → {s f : ℕ} → s ≢ w.site.0 → s < w.schema.sites → f < length w.schema.fields → IsPlace a.standing.ledger s f
+  pub has_place : is_up (base_of w) w.history ≡ true → {s f : ℕ} → s ≢ w.site.0 → s < w.schema.sites → f < length w.schema.fields → IsSlot a.standing.ledger s f
   has_place there {s = s} {f = f} other site_in field_in = (stands_now there).holds.place s f (record { other = other; site_in = site_in; field_in = field_in })
 
   pub tells_free : is_up (base_of w) w.history ≡ true → (f : FieldNo) (k : Kind) → f.0 < length w.schema.fields → free_at a.standing.rights f.0 k ≡ free (here w) f k
@@ -111,7 +111,7 @@ module _ {v w : SiteValue} {up : Bool} {extent : Extent} {a : Accounts} (was : I
   pub tells_cut : is_up (base_of w) w.history ≡ true → (f : FieldNo) (k : Kind) → f.0 < length w.schema.fields → cut_at a.standing.rights f.0 k ≡ cut_so_far (here w) f k
   tells_cut there f k l = let m = (stands_now there).matches in m.cut f.0 k (omega (arith, l, m.count))
 
-  pub tells_guarded : is_up (base_of w) w.history ≡ true → (f : FieldNo) (k : Kind) → f.0 < length w.schema.fields → guarded_at a.standing.rights f.0 k ≡ guarded (here w) f k
+  pub tells_guarded : is_up (base_of w) w.history ≡ true → (f : FieldNo) (k : Kind) → f.0 < length w.schema.fields → guarded_at a.standing.rights f.0 k ≡ guarded_rights (here w) f k
   tells_guarded there f k l =
       let m = (stands_now there).matches in
       let l' : f.0 < length a.standing.rights = omega (arith, l, m.count) in
@@ -161,14 +161,14 @@ module _ {v w : SiteValue} {up : Bool} {extent : Extent} {a : Accounts} (was : I
       can_settle v.schema v.site.0 (base_of v) v.history a was.run (read (up_there (here v) c (carried_no_restart c plain) (none_of c none))) c (none_of c none)
 
   pub answers : (c : Command) (r : Reply) {h : List Entry} {b : Accounts} → first (refusals (here w) c) ≡ None → is_carried c ≡ true → writes (here w) c ≡ false → r ≡ answer (here w) c
-      → b ≡ settled a c → h ≡ entry_of v c r ∷ v.history → Ends w c r (After h) up extent b
+      → b ≡ after_settling a c → h ≡ entry_of v c r ∷ v.history → Ends w c r (After h) up extent b
   answers c r {h = h} {b = b} none plain silent owed did past =
       let n = carried_no_restart c plain in
       let there = up_there (here v) c n (none_of c none) in
       let quiet = subst (λ (x : SiteValue). writes (here x) c ≡ false) (sym is) silent in
       returned c r (After h) up extent b
       (subst (λ (x : Accounts). Ends v c r (After h) up extent x) (sym did)
-      (ends_answered v up extent a was c (settled a c) r h (subst (λ (x : SiteValue). r ≡ answer (here x) c) (sym is) owed) past n (none_of c none) quiet
+      (ends_answered v up extent a was c (after_settling a c) r h (subst (λ (x : SiteValue). r ≡ answer (here x) c) (sym is) owed) past n (none_of c none) quiet
       (stands_settled v.schema v.site.0 (base_of v) v.history a was.run (read there) was.records (was.stands there) v.site c plain quiet (none_of c none))))
 
   -- ---- an answer whose record is written
@@ -194,7 +194,7 @@ module _ {v w : SiteValue} {up : Bool} {extent : Extent} {a : Accounts} (was : I
     there_now : is_up (base_of v) v.history ≡ true
     there_now = is_there v up extent a was c unrefused writing fits
 
-    may_now : may_stand v.schema v.site.0 was.records (record_at (here v) c) ≡ true
+    may_now : may_follow v.schema v.site.0 was.records (record_at (here v) c) ≡ true
     may_now = may v up extent a was c unrefused writing fits
 
     same_record : {kept : Record} → kept ≡ record_at (here w) c → kept ≡ record_at (here v) c
@@ -206,30 +206,30 @@ module _ {v w : SiteValue} {up : Bool} {extent : Extent} {a : Accounts} (was : I
         (can_carry v.schema v.site.0 (base_of v) v.history a was.run (read there_now) was.records (was.stands there_now) was.lawful c unrefused writing may_now)
 
     -- the summary that is due
-    next : {kept : Record} → kept ≡ record_at (here w) c → MayStandNext v.schema a.standing was.records kept
+    next : {kept : Record} → kept ≡ record_at (here w) c → MayFollowNext v.schema a.standing was.records kept
     next kept_is =
-        subst (λ (r : Record). MayStandNext v.schema a.standing was.records r) (sym (same_record kept_is))
+        subst (λ (r : Record). MayFollowNext v.schema a.standing was.records r) (sym (same_record kept_is))
         (stands_next v.schema a.standing v.site.0 was.records (record_at (here v) c) was.ground.site_in was.log.each was.lawful (was.stands there_now).standing may_now)
 
-    pub can_due : {kept : Record} → kept ≡ record_at (here w) c → (rs : List Record) × MayStandNext v.schema a.standing rs kept
+    pub can_due : {kept : Record} → kept ≡ record_at (here w) c → (rs : List Record) × MayFollowNext v.schema a.standing rs kept
     can_due kept_is = (was.records, next kept_is)
 
     due_now : (kept : Record) (due : Option SummaryValue) → kept ≡ record_at (here w) c
-        → ((rs : List Record) → MayStandNext v.schema a.standing rs kept → extent.behind ≡ since_summary rs → with_due kept due ≡ piece v.schema a.standing.ledger.site rs kept)
+        → ((rs : List Record) → MayFollowNext v.schema a.standing rs kept → extent.behind ≡ since_summary rs → with_due kept due ≡ piece v.schema a.standing.ledger.site rs kept)
         → with_due kept due ≡ piece v.schema v.site.0 was.records kept
     due_now kept due kept_is told_ =
         due_here v.schema a.standing v.site.0 was.records kept due (was.stands there_now).standing
         (told_ was.records (next kept_is) (reached v up extent a was c unrefused writing fits).behind)
 
     pub due_is : (kept : Record) (due : Option SummaryValue) → kept ≡ record_at (here w) c
-        → ((rs : List Record) → MayStandNext v.schema a.standing rs kept → extent.behind ≡ since_summary rs → with_due kept due ≡ piece v.schema a.standing.ledger.site rs kept)
+        → ((rs : List Record) → MayFollowNext v.schema a.standing rs kept → extent.behind ≡ since_summary rs → with_due kept due ≡ piece v.schema a.standing.ledger.site rs kept)
         → (rs : List Record) (rest : List ℕ) → IsLog w.bytes rs rest → with_due kept due ≡ piece w.schema w.site.0 rs kept
     due_is kept due kept_is told_ rs rest log =
         let same = (same_log v.bytes was.records rs was.rest rest was.log (subst (λ (x : SiteValue). IsLog x.bytes rs rest) (sym is) log)).0 in
         due_now kept due kept_is told_ ∙ ap (λ (x : List Record). piece v.schema v.site.0 x kept) same ∙ ap (λ (x : SiteValue). piece x.schema x.site.0 rs kept) is
 
     pub due_fits : (kept : Record) (due : Option SummaryValue) → kept ≡ record_at (here w) c
-        → ((rs : List Record) → MayStandNext v.schema a.standing rs kept → extent.behind ≡ since_summary rs → with_due kept due ≡ piece v.schema a.standing.ledger.site rs kept)
+        → ((rs : List Record) → MayFollowNext v.schema a.standing rs kept → extent.behind ≡ since_summary rs → with_due kept due ≡ piece v.schema a.standing.ledger.site rs kept)
         → AllByRecursion IsRecord (with_due kept due)
     due_fits kept due kept_is told_ =
         subst (λ (ps : List Record). AllByRecursion IsRecord ps) (sym (due_now kept due kept_is told_ ∙ ap (λ (r : Record). piece v.schema v.site.0 was.records r) (same_record kept_is)))
@@ -248,19 +248,19 @@ module _ {v w : SiteValue} {up : Bool} {extent : Extent} {a : Accounts} (was : I
     pub wrote : (r : Reply) (kept : Record) (due : Option SummaryValue) {h : List Entry} {b : Accounts} {bytes : List ℕ} {failed : ℕ} {left : Option Mishap} {size : ℕ} {later : Extent}
         → kept ≡ record_at (here w) c → r ≡ answer (here w) c
         → ((rs : List Record) (rest : List ℕ) → IsLog v.bytes rs rest → with_due kept due ≡ piece v.schema v.site.0 rs kept)
-        → TakesIn v.schema (readied a kept).standing kept true b.standing → b.journal ≡ (readied a kept).journal → b.last ≡ a.last
+        → TakesIn v.schema (before_taking_in a kept).standing kept true b.standing → b.journal ≡ (before_taking_in a kept).journal → b.last ≡ a.last
         → Appends {T = Unit {0}} {E = Device} (Ok tt) v.bytes (flat_map text (with_due kept due)) bytes v.failed failed
         → AppendFate {E = Device} v.foretold v.bytes (flat_map text (with_due kept due)) (Ok tt) bytes left
-        → h ≡ entry_of v c r ∷ v.history → size ≡ length (flat_map text (with_due kept due)) → later ≡ extended extent size → Ends w c r (Then h bytes failed left v.doubt) up later b
-    wrote r kept due {h = h} {b = b} {bytes = bytes} {failed = failed} {left = left} {size = size} {later = later} kept_is owed told_ took open_ last_is added fate past long more =
+        → h ≡ entry_of v c r ∷ v.history → size ≡ length (flat_map text (with_due kept due)) → later ≡ one_record_longer extent size → Ends w c r (Then h bytes failed left v.doubt) up later b
+    wrote r kept due {h = h} {b = b} {bytes = bytes} {failed = failed} {left = left} {size = size} {later = later} kept_is owed told_ took open_ last_is rows_with fate past long more =
         let same = same_record kept_is in
         let lines = lines_are kept due kept_is told_ in
-        let line = subst (λ (x : List ℕ). Appends {T = Unit {0}} {E = Device} (Ok tt) v.bytes x bytes v.failed failed) lines added in
+        let line = subst (λ (x : List ℕ). Appends {T = Unit {0}} {E = Device} (Ok tt) v.bytes x bytes v.failed failed) lines rows_with in
         returned c r (Then h bytes failed left v.doubt) up later b
-        (subst (λ (e : Extent). Ends v c r (Then h bytes failed left v.doubt) up e b) (sym (more ∙ ap (extended extent) (long ∙ ap length lines)))
+        (subst (λ (e : Extent). Ends v c r (Then h bytes failed left v.doubt) up e b) (sym (more ∙ ap (one_record_longer extent) (long ∙ ap length lines)))
         (ends_wrote v up extent a was c unrefused writing fits b bytes failed left r h (subst (λ (x : SiteValue). r ≡ answer (here x) c) (sym is) owed) past
         (stands_carried v.schema v.site.0 (base_of v) v.history a was.run (read there_now) was.records (was.stands there_now) was.lawful v.site c unrefused writing b
-        (subst (λ (x : Record). TakesIn v.schema (readied a x).standing x true b.standing) same took) (subst (λ (x : Record). b.journal ≡ (readied a x).journal) same open_) last_is) line.0 line.1
+        (subst (λ (x : Record). TakesIn v.schema (before_taking_in a x).standing x true b.standing) same took) (subst (λ (x : Record). b.journal ≡ (before_taking_in a x).journal) same open_) last_is) line.0 line.1
         (subst (λ (x : List ℕ). AppendFate {E = Device} v.foretold v.bytes x (Ok tt) bytes left) lines fate)))
 
     pub unsure : (kept : Record) (due : Option SummaryValue) (device : Device) {h : List Entry} {bytes : List ℕ} {failed : ℕ} {left : Option Mishap} → kept ≡ record_at (here w) c
@@ -268,9 +268,9 @@ module _ {v w : SiteValue} {up : Bool} {extent : Extent} {a : Accounts} (was : I
         → Appends {T = Unit {0}} (Err device) v.bytes (flat_map text (with_due kept due)) bytes v.failed failed
         → AppendFate v.foretold v.bytes (flat_map text (with_due kept due)) (Err device) bytes left
         → h ≡ entry_of v c Unsure ∷ v.history → Ends w c Unsure (Then h bytes failed left (Some extent.count)) false extent a
-    unsure kept due device {h = h} {bytes = bytes} {failed = failed} {left = left} kept_is told_ added fate past =
+    unsure kept due device {h = h} {bytes = bytes} {failed = failed} {left = left} kept_is told_ rows_with fate past =
         let lines = lines_are kept due kept_is told_ in
-        let line = subst (λ (x : List ℕ). Appends {T = Unit {0}} (Err device) v.bytes x bytes v.failed failed) lines added in
+        let line = subst (λ (x : List ℕ). Appends {T = Unit {0}} (Err device) v.bytes x bytes v.failed failed) lines rows_with in
         returned c Unsure (Then h bytes failed left (Some extent.count)) false extent a
         (ends_unsure v up extent a was c unrefused writing fits a bytes failed left device Unsure h refl past line.0 line.1
         (subst (λ (x : List ℕ). AppendFate v.foretold v.bytes x (Err device) bytes left) lines fate))
@@ -284,7 +284,7 @@ module _ {v w : SiteValue} {up : Bool} {extent : Extent} {a : Accounts} (was : I
     abbrev t : TxnId
     t = record { epoch = a.standing.epoch; number = a.last + 1 }
 
-    pub begin_is_new : stands t a.journal ≡ false
+    pub begin_is_new : is_listed t a.journal ≡ false
     begin_is_new = next_is_closed v.schema v.site.0 (base_of v) v.history a was.run (read stood)
 
     pub begin_has_room : length a.journal < max_open
@@ -311,7 +311,7 @@ module _ {v w : SiteValue} {up : Bool} {extent : Extent} {a : Accounts} (was : I
     held : is_up (base_of v) v.history ≡ true
     held = up_there (here v) ask refl (none_of ask none)
 
-    pub grant_opened : stands txn a.journal ≡ true
+    pub grant_opened : is_listed txn a.journal ≡ true
     grant_opened =
         stands_open v.schema v.site.0 (base_of v) v.history a was.run (read held) txn (opened_by v.schema v.site.0 (base_of v) v.history a was.run (read held) txn e (none_of ask none))
 
@@ -321,14 +321,14 @@ module _ {v w : SiteValue} {up : Bool} {extent : Extent} {a : Accounts} (was : I
     pub grant_has_rights : unsigned_abs e.change ≤ free_at a.standing.rights e.field.0 (kind_of e.change)
     grant_has_rights = enough_by v.schema v.site.0 (base_of v) v.history a was.run (read held) txn e (none_of ask none)
 
-    pub grants : {h : List Entry} {rows : List FieldRights} {j : List Row} → rows ≡ by_escrow taken a.standing.rights e → j ≡ added txn e a.journal → h ≡ entry_of v ask Granted ∷ v.history
+    pub grants : {h : List Entry} {rows : List FieldRights} {j : List Row} → rows ≡ by_escrow after_take a.standing.rights e → j ≡ rows_with txn e a.journal → h ≡ entry_of v ask Granted ∷ v.history
         → Ends w ask Granted (After h) up extent (record (with_rights rows a) { journal = j })
     grants {h = h} {rows = rows} {j = j} took row past =
         let more : List FieldRights → List Row → Accounts = λ x y. record (with_rights x a) { journal = y } in
         returned ask Granted (After h) up extent (more rows j)
         (subst (λ (x : List FieldRights). Ends v ask Granted (After h) up extent (more x j)) (sym took)
-        (subst (λ (y : List Row). Ends v ask Granted (After h) up extent (more (by_escrow taken a.standing.rights e) y)) (sym row)
-        (ends_answered v up extent a was ask (more (by_escrow taken a.standing.rights e) (added txn e a.journal)) Granted h refl past refl (none_of ask none) refl
+        (subst (λ (y : List Row). Ends v ask Granted (After h) up extent (more (by_escrow after_take a.standing.rights e) y)) (sym row)
+        (ends_answered v up extent a was ask (more (by_escrow after_take a.standing.rights e) (rows_with txn e a.journal)) Granted h refl past refl (none_of ask none) refl
         (stands_grant v.schema v.site.0 (base_of v) v.history a was.run (read held) was.records (was.stands held) v.site txn e (none_of ask none)))))
 
   -- ---- a commit
@@ -337,13 +337,13 @@ module _ {v w : SiteValue} {up : Bool} {extent : Extent} {a : Accounts} (was : I
     there_ : Reads w.schema w.site.0 (base_of w) w.history a
     there_ = stands_now (up_there (here w) (Commit txn) refl none)
 
-    run_now : IsSound w up extent a
-    run_now = subst (λ (x : SiteValue). IsSound x up extent a) is was
+    run_now : IsSoundSite w up extent a
+    run_now = subst (λ (x : SiteValue). IsSoundSite x up extent a) is was
 
     opened : (is_begun txn (here w).effects ≡ true) × (is_open txn (here w).effects ≡ true)
     opened = end_opened w.schema w.site.0 (base_of w) w.history a run_now.run there_ Committed txn none
 
-    pub commit_opened : stands txn a.journal ≡ true
+    pub commit_opened : is_listed txn a.journal ≡ true
     commit_opened = stands_open w.schema w.site.0 (base_of w) w.history a run_now.run there_ txn opened
 
     pub commit_escrows : escrows_at txn a.journal ≡ reverse (escrows_of txn (here w).effects)
@@ -382,20 +382,20 @@ module _ {v w : SiteValue} {up : Bool} {extent : Extent} {a : Accounts} (was : I
   seam = reach_seam extent v.bytes was.records was.rest was.log was.reaches
 
   pub can_restart : (standing : Standing) (epoch : ℕ) {turns size : ℕ} {rest bytes : List ℕ} {failed : ℕ} {left : Option Mishap} {behind : List Record}
-      → StandsOver v.schema v.site.0 was.records epoch turns size rest bytes v.foretold left v.failed failed × IsStandingFor v.schema v.site.0 was.records standing × StandBehind v.bytes extent.length behind
-      → HasPlaces v.schema standing.rights standing.ledger × CanTakeIn v.schema standing (records.Restart epoch) × IsRecord (records.Restart epoch)
+      → StandsOver v.schema v.site.0 was.records epoch turns size rest bytes v.foretold left v.failed failed × IsStandingFor v.schema v.site.0 was.records standing × AreBehind v.bytes extent.length behind
+      → HasSlots v.schema standing.rights standing.ledger × CanTakeIn v.schema standing (records.Restart epoch) × IsRecord (records.Restart epoch)
   can_restart standing epoch did = (
     has_places v.schema v.site.0 was.records standing.rights standing.ledger standing.epoch did.1.for_,
     omega (arith, did.0.epoch_is, did.1.for_.epoch),
     (omega (arith, did.0.epoch_is), omega (arith, did.0.epoch_is, did.0.some)),
   )
 
-  pub few_more : (behind : List Record) → StandBehind v.bytes extent.length behind → extent.count + length (plain behind) ≤ length v.based + length v.history
+  pub few_more : (behind : List Record) → AreBehind v.bytes extent.length behind → extent.count + length (plain behind) ≤ length v.based + length v.history
   few_more behind are = omega (arith, few_behind v up extent a was behind are, few_records v up extent a was)
 
   pub restarts : (standing : Standing) (behind : List Record) (epoch turns size behinds : ℕ) (last : Last) {h : List Entry} {b : Accounts} {more : ℕ} {bytes : List ℕ} {failed : ℕ} {left : Option Mishap}
-      → StandsOver v.schema v.site.0 was.records epoch turns size was.rest bytes v.foretold left v.failed failed × IsStandingFor v.schema v.site.0 was.records standing × StandBehind v.bytes extent.length behind
-      → TakesIn v.schema standing (records.Restart epoch) true b.standing → b.journal ≡ [] → b.last ≡ 0 → last ≡ last_by v.doubt behind → more ≡ length (plain behind)
+      → StandsOver v.schema v.site.0 was.records epoch turns size was.rest bytes v.foretold left v.failed failed × IsStandingFor v.schema v.site.0 was.records standing × AreBehind v.bytes extent.length behind
+      → TakesIn v.schema standing (records.Restart epoch) true b.standing → b.journal ≡ [] → b.last ≡ 0 → last ≡ found_by v.doubt behind → more ≡ length (plain behind)
       → behinds ≡ (if nat_le max_behind (turns + 1) then 0 else turns + 1)
       → h ≡ entry_of v Restart (Restarted epoch last) ∷ v.history
       → Ends w Restart (Restarted epoch last) (ThenReplayed h bytes failed left None turns) true (record { count = extent.count + more + 1; length = size; behind = behinds }) b

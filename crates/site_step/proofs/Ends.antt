@@ -23,13 +23,13 @@ use Rattle.site_step.specs.declared.extent.Extent.{Extent}
 use Rattle.site_step.specs.Site.{SiteValue, base_of, here, entry_of, Holds, lines_of, Finds, Applies}
 use Rattle.site_step.specs.Replaying.{downs_since, downs_before}
 use Rattle.site_step.proofs.Holding.{plain_fewer, same_told, holds_all}
-use Rattle.site_step.specs.State.{StandsOn, IsSound}
+use Rattle.site_step.specs.State.{StandsOn, IsSoundSite}
 use Rattle.site_step.proofs.Settling.{answer_settles, refused_no_restart, refuses_over, noted_none, refusal_fits, answer_fits, refusal_owed, answer_owed, refusal_under, answer_under, answer_writes, lines_none}
 use Rattle.site_step.proofs.Standing.{stands_refused}
 
 -- a site is sound after an entry, which is what the call says
 pub record Ends (v : SiteValue) (c : Command) (r : Reply) (w : SiteValue) (up : Bool) (extent : Extent) (a : Accounts) : Type 0 where
-  pub sound : IsSound w up extent a
+  pub sound : IsSoundSite w up extent a
   pub applies : Applies v c r w
 
 -- ---- what a restart would find
@@ -70,7 +70,7 @@ pub none_in_doubt : (kept : Bool) (o : List Entry) (rs : List Record) (doubt : O
 none_in_doubt kept o rs None none is = refl
 none_in_doubt kept o rs (Some n) none is = absurd (omega (arith, none, is.0))
 
-module _ (v : SiteValue) (up : Bool) (extent : Extent) (a : Accounts) (was : IsSound v up extent a) where
+module _ (v : SiteValue) (up : Bool) (extent : Extent) (a : Accounts) (was : IsSoundSite v up extent a) where
   abbrev base : Base
   base = base_of v
 

@@ -12,7 +12,7 @@ use Rattle.kept_records.specs.declared.medium.Mishap.TheVariants.{Never, Cut, Re
 use Rattle.kept_records.specs.declared.record.Record.{Record}
 use Rattle.kept_records.specs.Stands.{greatest}
 use Rattle.kept_state.specs.Doubt.{found_of}
-use Rattle.site_step.specs.Site.{SiteValue, Holds, here, struck, foretold_after, owed_under, Applies}
+use Rattle.site_step.specs.Site.{SiteValue, Holds, here, mishap_left, foretold_after, owed_under, Applies}
 use Rattle.site_step.specs.Calls.{IsSure}
 use Rattle.site_step.proofs.Lasting.{fine_is_sure, never_under}
 
@@ -31,7 +31,7 @@ no_needless_cut v w rs r log known h = (subst IsSure (sym (h.under rs [] Cut log
 
 -- it reads first
 struck_by_read : (r : Reply) (m : Option Mishap) → r ≡ StillDown → m ≡ Some Read → foretold_after r m ≡ Some Never
-struck_by_read r m down known = ap (λ (x : Reply). foretold_after x m) down ∙ ap struck known
+struck_by_read r m down known = ap (λ (x : Reply). foretold_after x m) down ∙ ap mishap_left known
 
 pub read_comes_first : (v w : SiteValue) (rs : List Record) (rest : List ℕ) (r : Reply) → Holds v.schema v.site.0 v.bytes rs rest → v.foretold ≡ Some Read → Applies v Restart r w → (r ≡ StillDown) × (w.foretold ≡ Some Never)
 read_comes_first v w rs rest r log known h =

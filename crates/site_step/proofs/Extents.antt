@@ -12,13 +12,13 @@ use Rattle.kept_records.specs.declared.record.Record.{Record}
 use Rattle.kept_records.specs.Text.{text}
 use Rattle.kept_records.specs.Logs.{IsLog}
 use Rattle.kept_records.specs.Keeping.{starts_with_no_restart}
-use Rattle.kept_records.specs.ReadingBack.{told_length, PartsAt, StandBehind}
+use Rattle.kept_records.specs.ReadingBack.{told_length, PartsAt, AreBehind}
 use Rattle.kept_records.specs.Stands.{is_summary, plain, since_summary, max_behind, piece}
 use Rattle.kept_records.proofs.Summaries.{piece_bounds}
 use Rattle.kept_state.specs.Doubt.{found_of}
 use Rattle.site_step.specs.declared.extent.Extent.{Extent}
-use Rattle.site_step.specs.State.{starts_with_summary, Reaches, ReachesAll, extended}
-use Rattle.site_step.specs.Resuming.{last_by}
+use Rattle.site_step.specs.State.{starts_with_summary, Reaches, ReachesAll, one_record_longer}
+use Rattle.site_step.specs.Resuming.{found_by}
 use Rattle.site_step.proofs.Holding.{plain_append, plain_cons, plain_piece, piece_since}
 
 -- all records are the first ones
@@ -37,13 +37,13 @@ reach_next schema s rs r one next count long behind = record {
 }
 
 pub reach_extended : (schema : SchemaValue) (s : ℕ) (rs : List Record) (r : Record) → is_summary r ≡ false → (e : Extent) → ReachesAll e rs
-    → ReachesAll (extended e (length (flat_map text (piece schema s rs r)))) (rs ++ piece schema s rs r)
+    → ReachesAll (one_record_longer e (length (flat_map text (piece schema s rs r)))) (rs ++ piece schema s rs r)
 reach_extended schema s rs r one e was =
     let size : ℕ = length (flat_map text (piece schema s rs r)) in
     let long : e.length ≡ told_length (length (flat_map text rs)) = was.length_is in
     let more : length (flat_map text (rs ++ piece schema s rs r)) ≡ length (flat_map text rs) + size =
     ap length (flat_map-append text rs (piece schema s rs r)) ∙ length-append (flat_map text rs) (flat_map text (piece schema s rs r)) in
-    reach_next schema s rs r one (extended e size) (omega (arith, was.count)) (omega (arith, long, more))
+    reach_next schema s rs r one (one_record_longer e size) (omega (arith, was.count)) (omega (arith, long, more))
     (ap (λ (n : ℕ). if nat_le max_behind (n + 1) then 0 else n + 1) was.behind)
 
 first_more : (as1 bs : List Record) → starts_with_summary as1 ≡ false → starts_with_summary bs ≡ false → starts_with_summary (as1 ++ bs) ≡ false
@@ -70,7 +70,7 @@ reach_seam e bytes rs rest log r = record {
   place_is = r.length_is;
 }
 
-pub behind_is : (e : Extent) (bytes : List ℕ) (rs : List Record) (rest : List ℕ) → IsLog bytes rs rest → (r : Reaches e rs) → (found : List Record) → StandBehind bytes e.length found → found ≡ r.behind
+pub behind_is : (e : Extent) (bytes : List ℕ) (rs : List Record) (rest : List ℕ) → IsLog bytes rs rest → (r : Reaches e rs) → (found : List Record) → AreBehind bytes e.length found → found ≡ r.behind
 behind_is e bytes rs rest log r found stand = stand r.before r.behind rest (subst (λ (x : List Record). IsLog bytes x rest) r.all log) r.length_is
 
 pub count_more : (e : Extent) (rs : List Record) (r : Reaches e rs) (found : List Record) → found ≡ r.behind → e.count + length (plain found) ≡ length (plain rs)
@@ -84,7 +84,7 @@ first_plain (r ∷ rs) none = ap starts_with_no_restart (plain_cons r rs none)
 
 -- what became of the record in doubt is told by those behind the first ones
 pub last_is : (doubt : Option ℕ) (e : Extent) (rs : List Record) (r : Reaches e rs) (found : List Record) → found ≡ r.behind → ((n : ℕ) → doubt ≡ Some n → n ≡ e.count)
-    → last_by doubt found ≡ found_of doubt (plain rs)
+    → found_by doubt found ≡ found_of doubt (plain rs)
 last_is None e rs r found same place = refl
 last_is (Some n) e rs r found same place =
     let at : n ≡ length (plain r.before) = place n refl ∙ r.count in

@@ -13,8 +13,8 @@ use Rattle.kept_records.specs.declared.record.Record.TheVariants.{Commit, Gift, 
 use Rattle.kept_records.specs.Summary.{SummaryValue}
 use Rattle.kept_records.specs.Text.{text, IsRecord}
 use Rattle.kept_records.specs.Logs.{IsLog}
-use Rattle.kept_records.specs.Stands.{greatest, is_summary, plain, count_behind, since_summary, max_behind, piece, summary_of, may_stand, LawfulBehind, Lawful}
-use Rattle.kept_records.specs.Summaries.{SameSums, LeavesFront}
+use Rattle.kept_records.specs.Stands.{greatest, is_summary, plain, count_behind, since_summary, max_behind, piece, summary_of, may_follow, LawfulBehind, Lawful}
+use Rattle.kept_records.specs.Summaries.{SameSums, LeavesPrefix}
 use Rattle.kept_records.proofs.Lines.{same_log, all_push, flat_push}
 use Rattle.kept_records.proofs.Pushes.{lawful_push}
 use Rattle.kept_records.proofs.Pieces.{leaves_front}
@@ -113,7 +113,7 @@ module _ (schema : SchemaValue) (s : ℕ) (rs : List Record) (r : Record) (one :
   pub piece_same : SameSums (rs ++ piece schema s rs r) (rs ++ r ∷ [])
   piece_same = same_by due
 
-  module _ (lawful : Lawful schema s rs) (may : may_stand schema s rs r ≡ true) where
+  module _ (lawful : Lawful schema s rs) (may : may_follow schema s rs r ≡ true) where
     pub all_lawful : Lawful schema s (rs ++ piece schema s rs r)
     all_lawful = piece_lawful schema s rs r lawful may
 
@@ -154,7 +154,7 @@ module _ (schema : SchemaValue) (s : ℕ) (rs : List Record) (r : Record) (one :
 
     -- a front of the lines
     module _ (k : ℕ) (bytes new : List ℕ) (log : IsLog bytes rs []) (each : AllByRecursion IsRecord (piece schema s rs r)) (is : new ≡ bytes ++ take k (flat_map text (piece schema s rs r))) where
-      left : LeavesFront bytes rs (piece schema s rs r) k (bytes ++ take k (flat_map text (piece schema s rs r)))
+      left : LeavesPrefix bytes rs (piece schema s rs r) k (bytes ++ take k (flat_map text (piece schema s rs r)))
       left = leaves_front bytes rs (piece schema s rs r) k log each
 
       left_log : IsLog new (rs ++ left.front) left.rest

@@ -11,16 +11,16 @@ use Rattle.field_bounds.specs.declared.entry.Escrow.{Escrow}
 use Rattle.field_bounds.specs.Schema.{SchemaValue}
 use Rattle.field_bounds.specs.declared.effect.Effect.{Effect}
 use Rattle.field_bounds.specs.declared.effect.Effect.TheVariants.{Begins, Grants, Commits, Aborts, Gives, Accepts, Stops}
-use Rattle.field_bounds.specs.Effects.{Base, same_txn, begun, open_txns, is_begun, is_committed, is_dropped, is_open, escrows_of, takes, held}
+use Rattle.field_bounds.specs.Effects.{Base, same_txn, begun_txns, open_txns, is_begun, is_committed, is_dropped, is_open, escrows_of, takes, held_rights}
 use Rattle.field_bounds.specs.Owed.{count_open}
 use Rattle.field_bounds.proofs.Lawful.{IsLawful, granted-mono, same_txn-true}
 use Rattle.field_bounds.proofs.Steps.{same_txn-sym, of_txn, of_txn_is, held_grant, held_commit, held_abort, new_is_unused}
 use Rattle.site_rights.specs.declared.field_rights.FieldRights.{FieldRights}
 use Rattle.site_rights.specs.declared.field_rights.Outcome.{Outcome}
 use Rattle.site_rights.specs.declared.field_rights.Outcome.TheVariants.{Committed, Aborted}
-use Rattle.site_rights.specs.Rights.{taken, ending, by_escrow, by_escrows, AreInRange, AreHeld}
+use Rattle.site_rights.specs.Rights.{after_take, ending, by_escrow, by_escrows, AreInRange, AreHeld}
 use Rattle.site_rights.proofs.RightsLaws.{length-by_escrow, length-by_escrows, held_at-taken, held_at-by_escrows}
-use Rattle.escrow_journal.specs.Journal.{Row, stands, escrows_at, with_escrow, added, without}
+use Rattle.escrow_journal.specs.Journal.{Row, is_listed, escrows_at, with_escrow, rows_with, without}
 use Rattle.site_step.specs.State.{row_of, journal_of, SetsAside}
 use Rattle.site_step.proofs.Reading.{Matches}
 use Rattle.field_bounds.proofs.Opening.{any_open}
@@ -35,7 +35,7 @@ found_here : (a o b : Bool) → (a ≡ true → o ≡ b) → (a && b) ≡ (a && 
 found_here true o b h = sym (h refl)
 found_here false o b h = refl
 
-pub stands-journal_of : (t : TxnId) (es : List Effect) → stands t (journal_of es) ≡ (is_begun t es && is_open t es)
+pub stands-journal_of : (t : TxnId) (es : List Effect) → is_listed t (journal_of es) ≡ (is_begun t es && is_open t es)
 stands-journal_of t es =
     list_any-map (λ (r : Row). same_txn r.0 t) (row_of es) (reverse (open_txns es))
     ∙ list_any-reverse (λ u. same_txn u t) (open_txns es)
@@ -71,7 +71,7 @@ one_more txn e es u = by (same_txn u txn)
     by true = ap (λ (xs : List Escrow). (u, xs)) (sym (reverse-cons e (escrows_of u es)))
     by false = refl
 
-pub journal_of-grant : (txn : TxnId) (e : Escrow) (es : List Effect) → added txn e (journal_of es) ≡ journal_of (Grants txn e.field e.change ∷ es)
+pub journal_of-grant : (txn : TxnId) (e : Escrow) (es : List Effect) → rows_with txn e (journal_of es) ≡ journal_of (Grants txn e.field e.change ∷ es)
 journal_of-grant txn e es =
     map-map (with_escrow txn e) (row_of es) (reverse (open_txns es))
     ∙ map-agree (λ u. with_escrow txn e (row_of es u)) (row_of (Grants txn e.field e.change ∷ es)) (one_more txn e es) (reverse (open_txns es))
@@ -101,7 +101,7 @@ open_then : (o : Outcome) (t : TxnId) (es : List Effect) (u : TxnId) → is_open
 open_then Committed t es u = commit_closes (same_txn t u) (is_committed u es) (is_dropped u es) ∙ ap (λ b. is_open u es && not b) (same_txn-sym t u)
 open_then Aborted t es u = abort_closes (same_txn t u) (is_committed u es) (is_dropped u es) ∙ ap (λ b. is_open u es && not b) (same_txn-sym t u)
 
-begun_then : (o : Outcome) (t : TxnId) (es : List Effect) → begun (ended o t ∷ es) ≡ begun es
+begun_then : (o : Outcome) (t : TxnId) (es : List Effect) → begun_txns (ended o t ∷ es) ≡ begun_txns es
 begun_then Committed t es = refl
 begun_then Aborted t es = refl
 
@@ -113,8 +113,8 @@ pub journal_of-end : (o : Outcome) (t : TxnId) (es : List Effect) → without t 
 journal_of-end o t es =
     let left : open_txns (ended o t ∷ es) ≡ filter (λ u. not (same_txn u t)) (open_txns es) =
     ap (filter (λ id. is_open id (ended o t ∷ es))) (begun_then o t es)
-    ∙ filter-agree (λ id. is_open id (ended o t ∷ es)) (λ id. is_open id es && not (same_txn id t)) (open_then o t es) (begun es)
-    ∙ filter-and (λ id. is_open id es) (λ id. not (same_txn id t)) (begun es) in
+    ∙ filter-agree (λ id. is_open id (ended o t ∷ es)) (λ id. is_open id es && not (same_txn id t)) (open_then o t es) (begun_txns es)
+    ∙ filter-and (λ id. is_open id es) (λ id. not (same_txn id t)) (begun_txns es) in
     filter-map (λ (r : Row). not (same_txn r.0 t)) (row_of es) (reverse (open_txns es))
     ∙ ap (map (row_of es)) (filter-reverse (λ u. not (same_txn u t)) (open_txns es) ∙ ap reverse (sym left))
     ∙ ap (λ (f : TxnId → Row). map f (reverse (open_txns (ended o t ∷ es)))) (sym (row_then o t es))
@@ -131,12 +131,12 @@ module _ (schema : SchemaValue) (base : Base) (es : List Effect) (lawful : IsLaw
         journal = ap (λ (j : List Row). j ++ (t, []) ∷ []) was.journal ∙ sym (journal_of-begin t es opened unused.no_escrow);
       }
 
-  pub aside_grant : (txn : TxnId) (e : Escrow) → e.field.0 < length rows → is_open txn es ≡ true → SetsAside (Grants txn e.field e.change ∷ es) (by_escrow taken rows e) (added txn e journal)
+  pub aside_grant : (txn : TxnId) (e : Escrow) → e.field.0 < length rows → is_open txn es ≡ true → SetsAside (Grants txn e.field e.change ∷ es) (by_escrow after_take rows e) (rows_with txn e journal)
   aside_grant txn e range opened =
-      let same = length-by_escrow taken rows e in
+      let same = length-by_escrow after_take rows e in
       record {
         held = λ f k l. omega (arith, held_at-taken rows e f k range, was.held f k (omega (arith, l, same)), held_grant schema base es lawful f k txn e opened);
-        journal = ap (added txn e) was.journal ∙ journal_of-grant txn e es;
+        journal = ap (rows_with txn e) was.journal ∙ journal_of-grant txn e es;
       }
 
   -- the escrows of a transaction are on fields of the schema, and held while it is open
@@ -168,7 +168,7 @@ module _ (schema : SchemaValue) (base : Base) (es : List Effect) (lawful : IsLaw
       let fewer = granted-mono (λ id. same_txn t id) (λ id. is_open id es) (λ id same. ap (λ (x : TxnId). is_open x es) (sym (same_txn-true t id same)) ∙ opened) f k es in
       omega (arith, sum_is t f k, was.held f k l, fewer)
 
-  held_end : (o : Outcome) (t : TxnId) → is_open t es ≡ true → (f : ℕ) (k : Kind) → held f k (ended o t ∷ es) + of_txn t f k es ≡ held f k es
+  held_end : (o : Outcome) (t : TxnId) → is_open t es ≡ true → (f : ℕ) (k : Kind) → held_rights f k (ended o t ∷ es) + of_txn t f k es ≡ held_rights f k es
   held_end Committed t opened f k = held_commit schema base es lawful f k t opened
   held_end Aborted t opened f k = held_abort schema base es lawful f k t opened
 

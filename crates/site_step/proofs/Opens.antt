@@ -8,8 +8,8 @@ use Rattle.field_bounds.specs.Limits.{IsSchema}
 use Rattle.field_bounds.specs.Effects.{Base, fresh}
 use Rattle.kept_records.specs.declared.medium.Mishap.{Mishap}
 use Rattle.kept_records.specs.declared.record.Record.{Record}
-use Rattle.kept_records.specs.Logs.{IsLog, IsFront}
-use Rattle.kept_records.specs.Stands.{greatest, plain, since_summary, given_in, accepted_in, stands, Lawful, BreaksRule}
+use Rattle.kept_records.specs.Logs.{IsLog, AreGoodRecords}
+use Rattle.kept_records.specs.Stands.{greatest, plain, since_summary, given_in, accepted_in, base_stood_for, Lawful, BreaksRule}
 use Rattle.kept_records.proofs.Summaries.{plain_same, plain_lawful}
 use Rattle.field_bounds.proofs.Sums.{sum_below-same}
 use Rattle.field_bounds.specs.declared.kind.Kind.{Kind}
@@ -17,13 +17,13 @@ use Rattle.field_bounds.specs.Kind.{other}
 use Rattle.std.proofs.lemmas.List.{append-nil}
 use Rattle.kept_records.proofs.Lines.{same_log, no_log}
 use Rattle.kept_records.proofs.Appending.{read_as_log}
-use Rattle.kept_state.specs.Keeps.{IsBase, opened}
+use Rattle.kept_state.specs.Keeps.{IsBase, base_of_records}
 use Rattle.kept_state.proofs.Ranges.{opened_in_range}
 use Rattle.kept_state.proofs.Covering.{stands_is_base, fresh_is_base}
 use Rattle.escrow_journal.specs.Journal.{Row}
 use Rattle.site_step.specs.declared.site.opening.Found.{Found}
 use Rattle.site_step.specs.Site.{SiteValue, value_of, base_of, Finds}
-use Rattle.site_step.specs.State.{StandsOn, IsSound, ReachesAll}
+use Rattle.site_step.specs.State.{StandsOn, IsSoundSite, ReachesAll}
 use Rattle.site_step.specs.Opening.{BeginsWith, IsFound}
 use Rattle.site_step.proofs.Resumes.{no_breach}
 use Rattle.site_step.proofs.Ends.{finds_held}
@@ -66,13 +66,13 @@ plain_base schema s base bs is =
 -- ---- what is no site's log
 
 -- the records in front of the first bad line, or all records
-pub front_begins : (bytes : List ℕ) (found : List Record) (n : ℕ) (bad : Option ℕ) → IsFront bytes found n bad → BeginsWith bytes found
+pub front_begins : (bytes : List ℕ) (found : List Record) (n : ℕ) (bad : Option ℕ) → AreGoodRecords bytes found n bad → BeginsWith bytes found
 front_begins bytes found n None front = let log = read_as_log bytes found n front.0 in record { behind = drop n bytes; parts = log.parts; each = log.each }
 front_begins bytes found n (Some line) front =
     subst (λ (rs : List Record). BeginsWith bytes rs) front.1 (record { behind = front.0.line ++ 10 ∷ front.0.behind; parts = front.0.parts; each = front.0.each })
 
 -- lawful records that are all there break no rule
-pub breach_spares : (schema : SchemaValue) (s : ℕ) (bytes : List ℕ) (found : List Record) (n m : ℕ) (bad : Option ℕ) → IsFront bytes found n bad → BreaksRule schema s found m
+pub breach_spares : (schema : SchemaValue) (s : ℕ) (bytes : List ℕ) (found : List Record) (n m : ℕ) (bad : Option ℕ) → AreGoodRecords bytes found n bad → BreaksRule schema s found m
     → (rs : List Record) (rest : List ℕ) → IsLog bytes rs rest → Lawful schema s rs → ⊥
 breach_spares schema s bytes found n m None front breach rs rest log lawful =
     no_breach schema s found m breach (subst (λ (all : List Record). Lawful schema s all) (sym (front.1 rs rest log).0) lawful)
@@ -84,9 +84,9 @@ module _ (schema : SchemaValue) (site : SiteNo) (found : Found) {held bytes : Li
   abbrev bs : List Record
   bs = found.records.items
 
-  base_is : (empty : Bool) → (empty ≡ true → bs ≡ []) → IsBase schema site.0 (opened schema site.0 empty bs) (plain bs)
+  base_is : (empty : Bool) → (empty ≡ true → bs ≡ []) → IsBase schema site.0 (base_of_records schema site.0 empty bs) (plain bs)
   base_is true none = subst (λ (rs : List Record). IsBase schema site.0 (fresh schema site.0) (plain rs)) (sym (none refl)) (fresh_is_base schema site.0)
-  base_is false none = plain_base schema site.0 (stands schema site.0 false bs) bs (stands_is_base schema site.0 false bs is.lawful)
+  base_is false none = plain_base schema site.0 (base_stood_for schema site.0 false bs) bs (stands_is_base schema site.0 false bs is.lawful)
 
   stands_first : (base : Base) → StandsOn schema site.0 base [] bs (record { standing = found.standing; journal = []; last = 0 })
   stands_first base = record { standing = is.stands.for_; aside = record { held = is.stands.none; journal = refl }; last = refl }
@@ -103,7 +103,7 @@ module _ (schema : SchemaValue) (site : SiteNo) (found : Found) {held bytes : Li
       let since : since_summary bs ≡ 0 = ap since_summary here ∙ since_none in
       (rest_none (none e), record { count = is.count; length_is = is.length_is; behind = is.behind ∙ sym since; few = omega (arith, since) })
 
-  up_by : (empty : Bool) → empty ≡ (opened schema site.0 empty bs).up
+  up_by : (empty : Bool) → empty ≡ (base_of_records schema site.0 empty bs).up
   up_by true = refl
   up_by false = refl
 
@@ -111,7 +111,7 @@ module _ (schema : SchemaValue) (site : SiteNo) (found : Found) {held bytes : Li
     abbrev made : Bool → List Entry → SiteValue
     made empty h = value_of schema site empty bs h bytes failed left None 0
 
-    sound : (empty : Bool) → (empty ≡ true → bytes ≡ []) → IsSound (made empty []) empty found.extent (record { standing = found.standing; journal = []; last = 0 })
+    sound : (empty : Bool) → (empty ≡ true → bytes ≡ []) → IsSoundSite (made empty []) empty found.extent (record { standing = found.standing; journal = []; last = 0 })
     sound empty none =
         let base = base_is empty (λ e. no_bytes bytes bs is.rest log (none e)) in
         record {
@@ -139,10 +139,10 @@ module _ (schema : SchemaValue) (site : SiteNo) (found : Found) {held bytes : Li
           stands = λ u. stands_first (base_of (made empty []));
         }
 
-    pub opens_sound : (empty : Bool) {h : List Entry} {j : List Row} → h ≡ [] → j ≡ [] → (empty ≡ true → held ≡ []) → IsSound (made empty h) empty found.extent (record { standing = found.standing; journal = j; last = 0 })
+    pub opens_sound : (empty : Bool) {h : List Entry} {j : List Row} → h ≡ [] → j ≡ [] → (empty ≡ true → held ≡ []) → IsSoundSite (made empty h) empty found.extent (record { standing = found.standing; journal = j; last = 0 })
     opens_sound empty {h = h} {j = j} new closed none =
-        subst (λ (x : List Row). IsSound (made empty h) empty found.extent (record { standing = found.standing; journal = x; last = 0 })) (sym closed)
-        (subst (λ (x : List Entry). IsSound (made empty x) empty found.extent (record { standing = found.standing; journal = []; last = 0 })) (sym new) (sound empty (λ e. same ∙ none e)))
+        subst (λ (x : List Row). IsSoundSite (made empty h) empty found.extent (record { standing = found.standing; journal = x; last = 0 })) (sym closed)
+        (subst (λ (x : List Entry). IsSoundSite (made empty x) empty found.extent (record { standing = found.standing; journal = []; last = 0 })) (sym new) (sound empty (λ e. same ∙ none e)))
 
     pub opens_finds : (empty : Bool) {h : List Entry} → h ≡ [] → held ≡ [] → Finds (made empty h) 0 Nothing
     opens_finds empty new none =

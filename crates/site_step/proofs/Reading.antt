@@ -5,12 +5,12 @@ use Rattle.field_bounds.specs.declared.entry.Entry.{Entry}
 use Rattle.field_bounds.specs.Schema.{SchemaValue}
 use Rattle.field_bounds.specs.Parts.{field_at, width_of}
 use Rattle.field_bounds.specs.declared.effect.Effect.{Effect}
-use Rattle.field_bounds.specs.Effects.{Base, given, cut, accepted, share, held, effects}
+use Rattle.field_bounds.specs.Effects.{Base, total_given, cut, total_accepted, share, held_rights, effects}
 use Rattle.field_bounds.specs.Owed.{epoch_of, count_since, is_begun_reply, is_up}
 use Rattle.site_rights.specs.declared.field_rights.FieldRights.{FieldRights}
 use Rattle.site_rights.specs.Rights.{row_at, free_at, held_at, cut_at}
 use Rattle.escrow_journal.specs.Journal.{Row}
-use Rattle.gift_ledger.specs.Ledger.{LedgerValue, total_at, accepted_at, IsPlace}
+use Rattle.gift_ledger.specs.Ledger.{LedgerValue, total_at, accepted_at, IsSlot}
 use Rattle.kept_state.proofs.Keeping.{run_owns, run_gives, run_cuts, run_accepts}
 use Rattle.kept_state.proofs.Epochs.{up_epoch}
 use Rattle.kept_state.proofs.Sure.{keeps_up}
@@ -21,22 +21,22 @@ use Rattle.kept_records.proofs.Summaries.{own_same, plain_same}
 use Rattle.site_step.specs.declared.accounts.Accounts.{Accounts}
 use Rattle.site_step.specs.declared.extent.Extent.{Extent}
 use Rattle.site_step.specs.Site.{SiteValue, base_of}
-use Rattle.site_step.specs.State.{journal_of, IsSound}
+use Rattle.site_step.specs.State.{journal_of, IsSoundSite}
 
 -- the rights and the open transactions are those of what took effect
 pub record Matches (schema : SchemaValue) (base : Base) (es : List Effect) (rows : List FieldRights) (open_rows : List Row) : Type 0 where
   pub count : length rows ≡ length schema.fields
   pub width : (f : ℕ) → f < length rows → (row_at rows f).width ≡ width_of (field_at schema f)
   pub free : (f : ℕ) (k : Kind) → f < length rows → free_at rows f k ≡ share base f k es
-  pub held : (f : ℕ) (k : Kind) → f < length rows → held_at rows f k ≡ held f k es
+  pub held : (f : ℕ) (k : Kind) → f < length rows → held_at rows f k ≡ held_rights f k es
   pub cut : (f : ℕ) (k : Kind) → f < length rows → cut_at rows f k ≡ cut base f k es
   pub journal : open_rows ≡ journal_of es
 
 -- the ledger is the site's, and holds the totals of what took effect
 pub record Holds (schema : SchemaValue) (s : ℕ) (base : Base) (es : List Effect) (ledger : LedgerValue) : Type 0 where
-  pub place : (r f : ℕ) → IsOther schema s r f → IsPlace ledger r f
-  pub given : (r f : ℕ) (k : Kind) → IsOther schema s r f → total_at ledger r f k ≡ given base r f k es
-  pub accepted : (r f : ℕ) (k : Kind) → IsOther schema s r f → accepted_at ledger r f k ≡ accepted base r f k es
+  pub place : (r f : ℕ) → IsOther schema s r f → IsSlot ledger r f
+  pub given : (r f : ℕ) (k : Kind) → IsOther schema s r f → total_at ledger r f k ≡ total_given base r f k es
+  pub accepted : (r f : ℕ) (k : Kind) → IsOther schema s r f → accepted_at ledger r f k ≡ total_accepted base r f k es
   pub site : ledger.site ≡ s
 
 pub record Reads (schema : SchemaValue) (s : ℕ) (base : Base) (o : List Entry) (a : Accounts) : Type 0 where
@@ -46,7 +46,7 @@ pub record Reads (schema : SchemaValue) (s : ℕ) (base : Base) (o : List Entry)
   pub last : a.last ≡ count_since is_begun_reply o
 
 -- what is kept is what was done
-pub reads : (v : SiteValue) (up : Bool) (extent : Extent) (a : Accounts) → IsSound v up extent a → is_up (base_of v) v.history ≡ true → Reads v.schema v.site.0 (base_of v) v.history a
+pub reads : (v : SiteValue) (up : Bool) (extent : Extent) (a : Accounts) → IsSoundSite v up extent a → is_up (base_of v) v.history ≡ true → Reads v.schema v.site.0 (base_of v) v.history a
 reads v up extent a was there =
     let st = was.stands there in
     let base : Base = base_of v in

@@ -15,7 +15,7 @@ use Rattle.field_bounds.specs.declared.entry.Entry.{Entry}
 use Rattle.field_bounds.specs.Schema.{SchemaValue}
 use Rattle.field_bounds.specs.declared.effect.Effect.{Effect}
 use Rattle.field_bounds.specs.declared.effect.Effect.TheVariants.{Stops}
-use Rattle.field_bounds.specs.Effects.{Base, effects, says_kept}
+use Rattle.field_bounds.specs.Effects.{Base, effects, says_doubt_kept}
 use Rattle.field_bounds.specs.Owed.{Place, is_unsure, count_since, max_epoch, RestartFits}
 use Rattle.field_bounds.proofs.Runs.{run_is_lawful}
 use Rattle.field_bounds.proofs.Stops.{stop_closes_all, held_stop}
@@ -31,8 +31,8 @@ use Rattle.kept_records.proofs.Lines.{same_log}
 use Rattle.kept_state.specs.declared.luck.Luck.{Luck}
 use Rattle.kept_state.specs.declared.luck.Luck.TheVariants.{Fine, Torn}
 use Rattle.kept_state.specs.Keeps.{Keeps, adds}
-use Rattle.kept_records.specs.Keeping.{stands_behind}
-use Rattle.kept_records.specs.ReadingBack.{told_length, StandBehind}
+use Rattle.kept_records.specs.Keeping.{is_record_behind}
+use Rattle.kept_records.specs.ReadingBack.{told_length, AreBehind}
 use Rattle.kept_state.specs.Doubt.{IsDoubt, found_of}
 use Rattle.kept_state.specs.Luck.{restart_length, owed_with}
 use Rattle.kept_records.proofs.Pushes.{greatest_push}
@@ -45,8 +45,8 @@ use Rattle.log_replay.specs.Standing.{IsStandingFor, TakesIn}
 use Rattle.site_step.specs.declared.accounts.Accounts.{Accounts}
 use Rattle.site_step.specs.declared.extent.Extent.{Extent}
 use Rattle.site_step.specs.Site.{SiteValue, base_of, here, entry_of, mishap_of, luck_under, owed_under, Holds, Finds, IsExact, Applies}
-use Rattle.site_step.specs.State.{row_of, StandsOn, IsSound, ReachesAll}
-use Rattle.site_step.specs.Resuming.{next_restart, next_piece, last_by, Leaves, FailsOver, FullOver, StandsOver}
+use Rattle.site_step.specs.State.{row_of, StandsOn, IsSoundSite, ReachesAll}
+use Rattle.site_step.specs.Resuming.{next_restart, next_piece, found_by, Leaves, FailsOver, FullOver, StandsOver}
 use Rattle.site_step.proofs.Standing.{stands_refused}
 use Rattle.site_step.specs.Replaying.{downs_since, downs_before}
 use Rattle.site_step.proofs.Holding.{greatest_plain, holds_all, same_told, plain_piece, piece_same, all_lawful, left_plain, left_holds}
@@ -58,7 +58,7 @@ use Rattle.site_step.proofs.Ends.{Ends, finds_of, finds_held, finds_same, quiet_
 abbrev pub says : Bool → Last
 says kept = if kept then Kept else Lost
 
-says_it : (kept : Bool) → says_kept (says kept) ≡ kept
+says_it : (kept : Bool) → says_doubt_kept (says kept) ≡ kept
 says_it true = refl
 says_it false = refl
 
@@ -67,7 +67,7 @@ says_some true h = cc
 says_some false h = cc
 
 pub record FoundIs (schema : SchemaValue) (s : ℕ) (base : Base) (bs : List Record) (o : List Entry) (rs : List Record) (found : Last) : Type 0 where
-  pub keeps : Keeps schema s base bs (says_kept found) o rs
+  pub keeps : Keeps schema s base bs (says_doubt_kept found) o rs
   pub there : count_since is_unsure o ≡ 0 → found ≡ Nothing
   pub back : found ≡ Nothing → count_since is_unsure o ≡ 0
 
@@ -76,7 +76,7 @@ module _ (schema : SchemaValue) (s : ℕ) (base : Base) (bs : List Record) (o : 
   pub found_is : (doubt : Option ℕ) → IsDoubt kept o rs doubt → FoundIs schema s base bs o rs (found_of doubt rs)
   found_is None is = record { keeps = keeps_sure schema s base bs kept false o rs is keeps; there = λ h. refl; back = λ h. is }
   found_is (Some n) is =
-      let stood : stands_behind n rs ≡ kept = ap (λ (m : ℕ). stands_behind m rs) is.3 ∙ found_is_kept kept is.1 is.2 rs is.4 in
+      let stood : is_record_behind n rs ≡ kept = ap (λ (m : ℕ). is_record_behind m rs) is.3 ∙ found_is_kept kept is.1 is.2 rs is.4 in
       let said : found_of (Some n) rs ≡ says kept = ap says stood in
       subst (λ (x : Last). FoundIs schema s base bs o rs x) (sym said)
       (record {
@@ -89,9 +89,9 @@ module _ (schema : SchemaValue) (s : ℕ) (base : Base) (bs : List Record) (o : 
 pub found_more : (kept : Bool) (o : List Entry) (rs : List Record) (epoch : ℕ) (doubt : Option ℕ) → IsDoubt kept o rs doubt → found_of doubt (rs ++ records.Restart epoch ∷ []) ≡ found_of doubt rs
 found_more kept o rs epoch None is = refl
 found_more kept o rs epoch (Some n) is =
-    let more : stands_behind n (rs ++ records.Restart epoch ∷ []) ≡ kept =
-    ap (λ (m : ℕ). stands_behind m (rs ++ records.Restart epoch ∷ [])) is.3 ∙ found_is_kept kept is.1 is.2 (rs ++ records.Restart epoch ∷ []) (doubt_restart kept is.1 is.2 rs epoch is.4) in
-    let stood : stands_behind n rs ≡ kept = ap (λ (m : ℕ). stands_behind m rs) is.3 ∙ found_is_kept kept is.1 is.2 rs is.4 in
+    let more : is_record_behind n (rs ++ records.Restart epoch ∷ []) ≡ kept =
+    ap (λ (m : ℕ). is_record_behind m (rs ++ records.Restart epoch ∷ [])) is.3 ∙ found_is_kept kept is.1 is.2 (rs ++ records.Restart epoch ∷ []) (doubt_restart kept is.1 is.2 rs epoch is.4) in
+    let stood : is_record_behind n rs ≡ kept = ap (λ (m : ℕ). is_record_behind m rs) is.3 ∙ found_is_kept kept is.1 is.2 rs is.4 in
     ap says (more ∙ sym stood)
 
 still_doubt : (kept : Bool) (o : List Entry) (e : Entry) (rs : List Record) (epoch : ℕ) (doubt : Option ℕ) → count_since is_unsure (e ∷ o) ≡ count_since is_unsure o → IsDoubt kept o rs doubt
@@ -110,7 +110,7 @@ length_push rs r = omega (arith, length-append rs (r ∷ []))
 greatest_next : (rs : List Record) → greatest (rs ++ next_restart rs ∷ []) ≡ greatest rs + 1
 greatest_next rs = greatest_push rs (next_restart rs) ∙ omega arith
 
-module _ (v : SiteValue) (up : Bool) (extent : Extent) (a : Accounts) (was : IsSound v up extent a) where
+module _ (v : SiteValue) (up : Bool) (extent : Extent) (a : Accounts) (was : IsSoundSite v up extent a) where
   abbrev base : Base
   base = base_of v
 
@@ -361,11 +361,11 @@ module _ (v : SiteValue) (up : Bool) (extent : Extent) (a : Accounts) (was : IsS
     Anew epoch = entry_of v Restart (Restarted epoch last) ∷ v.history
 
     abbrev kept_effects : List Effect
-    kept_effects = effects base (says_kept last) v.history
+    kept_effects = effects base (says_doubt_kept last) v.history
 
     stands_anew : (epoch : ℕ) → StandsOn schema s base (Anew epoch) (all ++ lines) b
     stands_anew epoch =
-        let effects_lawful = run_is_lawful schema s base v.history was.run (says_kept last) in
+        let effects_lawful = run_is_lawful schema s base v.history was.run (says_doubt_kept last) in
         let more = took.stands refl s all was.lawful for_.for_ in
         record {
           standing = stands_as schema s (all ++ lines) (all ++ next_restart all ∷ []) b.standing (piece_same schema s all (next_restart all) refl) more;
@@ -470,20 +470,20 @@ module _ (v : SiteValue) (up : Bool) (extent : Extent) (a : Accounts) (was : IsS
   abbrev next_extent : ℕ → ℕ → ℕ → Extent
   next_extent more size behind = record { count = extent.count + more + 1; length = size; behind = behind }
 
-  pub few_behind : (found_ : List Record) → StandBehind v.bytes extent.length found_ → extent.count + length (plain found_) ≡ length rs
+  pub few_behind : (found_ : List Record) → AreBehind v.bytes extent.length found_ → extent.count + length (plain found_) ≡ length rs
   few_behind found_ behind = count_more extent all was.reaches found_ (behind_is extent v.bytes all was.rest was.log was.reaches found_ behind)
 
   pub ends_restarted : (standing : Standing) (found_ : List Record) (epoch turns size behind_ : ℕ) (b : Accounts) (bytes : List ℕ) (failed : ℕ) (left : Option Mishap) (r : Reply) (more : ℕ) (h : List Entry)
-      → IsStandingFor schema s all standing → StandsOver schema s all epoch turns size was.rest bytes v.foretold left v.failed failed → StandBehind v.bytes extent.length found_
+      → IsStandingFor schema s all standing → StandsOver schema s all epoch turns size was.rest bytes v.foretold left v.failed failed → AreBehind v.bytes extent.length found_
       → TakesIn schema standing (records.Restart epoch) true b.standing → b.journal ≡ [] → b.last ≡ 0
-      → r ≡ Restarted epoch (last_by v.doubt found_) → more ≡ length (plain found_) → behind_ ≡ (if nat_le max_behind (turns + 1) then 0 else turns + 1) → h ≡ entry_of v Restart r ∷ v.history
+      → r ≡ Restarted epoch (found_by v.doubt found_) → more ≡ length (plain found_) → behind_ ≡ (if nat_le max_behind (turns + 1) then 0 else turns + 1) → h ≡ entry_of v Restart r ∷ v.history
       → Ends v Restart r (record v { history = h; bytes = bytes; failed = failed; foretold = left; doubt = None; replayed = turns }) true (next_extent more size behind_) b
   ends_restarted standing found_ new turns size behind_ b bytes failed left r more h for_ over stand took open_ last_is_ said counted behinds past =
       let next = greatest rs + 1 in
       let same = behind_is extent v.bytes all was.rest was.log was.reaches found_ stand in
-      let lasts : last_by v.doubt found_ ≡ last = last_is v.doubt extent all was.reaches found_ same was.place in
+      let lasts : found_by v.doubt found_ ≡ last = last_is v.doubt extent all was.reaches found_ same was.place in
       let new_is : new ≡ next = over.epoch_is ∙ ap (λ (n : ℕ). n + 1) (sym epochs) in
-      let reply : r ≡ Restarted next last = said ∙ ap (λ (n : ℕ). Restarted n (last_by v.doubt found_)) new_is ∙ ap (λ (l : Last). Restarted next l) lasts in
+      let reply : r ≡ Restarted next last = said ∙ ap (λ (n : ℕ). Restarted n (found_by v.doubt found_)) new_is ∙ ap (λ (l : Last). Restarted next l) lasts in
       let after : h ≡ entry_of v Restart (Restarted next last) ∷ v.history = past ∙ ap (λ (x : Reply). entry_of v Restart x ∷ v.history) reply in
       let many : extent.count + more + 1 ≡ length rs + 1 = omega (arith, counted, few_behind found_ stand) in
       let reached = reach_next schema s all (next_restart all) refl (next_extent more size behind_) many over.size_is (behinds ∙ ap (λ (n : ℕ). if nat_le max_behind (n + 1) then 0 else n + 1) over.replayed) in

@@ -20,22 +20,22 @@ use Rattle.kept_records.specs.ReadingBack.{told_length, AreLast, IsWhole}
 use Rattle.std.proofs.lemmas.List.Concat.{flat_map-append}
 use Rattle.kept_records.specs.Summary.{SummaryValue}
 use Rattle.kept_records.specs.Keeping.{with_due, CutsAndAppends, StrikesCut, CutAndAppendGo, CutAndAppendFate}
-use Rattle.kept_records.specs.Stands.{greatest, may_stand, since_summary, piece, LawfulBehind, Lawful, BreaksRule}
+use Rattle.kept_records.specs.Stands.{greatest, may_follow, since_summary, piece, LawfulBehind, Lawful, BreaksRule}
 use Rattle.kept_records.proofs.Appending.{cut_to_records}
 use Rattle.log_replay.specs.declared.standing.Standing.{Standing}
 use Rattle.log_replay.specs.Standing.{Stands, IsStandingFor}
-use Rattle.log_replay.specs.Resuming.{MayStandNext, IsEnd}
-use Rattle.site_step.specs.Site.{struck}
+use Rattle.log_replay.specs.Resuming.{MayFollowNext, IsEnd}
+use Rattle.site_step.specs.Site.{mishap_left}
 use Rattle.site_step.specs.Resuming.{IsLawfulLog, Leaves, next_restart, next_piece, IsReplayed, FailsOver, StandsOver, ResumesOver}
 use Rattle.site_step.specs.declared.site.restart.Resumed.{Resumed}
 use Rattle.site_step.proofs.Holding.{piece_fits, added_all, leaves_by, leaves_none}
 
 -- ---- lawful records break no rule
 
-lawful_at : (schema : SchemaValue) (s : ℕ) (front before behind : List Record) (r : Record) → LawfulBehind schema s front (before ++ (r ∷ behind)) → may_stand schema s (front ++ before) r ≡ true
-lawful_at schema s front [] behind r h = subst (λ (rs : List Record). may_stand schema s rs r ≡ true) (sym (append-nil front)) h.0
+lawful_at : (schema : SchemaValue) (s : ℕ) (front before behind : List Record) (r : Record) → LawfulBehind schema s front (before ++ (r ∷ behind)) → may_follow schema s (front ++ before) r ≡ true
+lawful_at schema s front [] behind r h = subst (λ (rs : List Record). may_follow schema s rs r ≡ true) (sym (append-nil front)) h.0
 lawful_at schema s front (b ∷ before) behind r h =
-    subst (λ (rs : List Record). may_stand schema s rs r ≡ true) (append_assoc front (b ∷ []) before) (lawful_at schema s (front ++ b ∷ []) before behind r h.1)
+    subst (λ (rs : List Record). may_follow schema s rs r ≡ true) (append_assoc front (b ∷ []) before) (lawful_at schema s (front ++ b ∷ []) before behind r h.1)
 
 pub no_breach : (schema : SchemaValue) (s : ℕ) (rs : List Record) (n : ℕ) → BreaksRule schema s rs n → Lawful schema s rs → ⊥
 no_breach schema s rs n breach lawful =
@@ -62,7 +62,7 @@ end_of schema s bytes held read last = record {
 -- ---- a record that may stand next
 
 pub stands_next : (schema : SchemaValue) (standing : Standing) (s : ℕ) (rs : List Record) (r : Record) → s < schema.sites → AllByRecursion IsRecord rs → Lawful schema s rs → Stands schema s rs standing
-    → may_stand schema s rs r ≡ true → MayStandNext schema standing rs r
+    → may_follow schema s rs r ≡ true → MayFollowNext schema standing rs r
 stands_next schema standing s rs r site_in each lawful stands may =
     let here = sym stands.site in
     record {
@@ -70,7 +70,7 @@ stands_next schema standing s rs r site_in each lawful stands may =
       in_range = each;
       lawful = subst (λ (n : ℕ). Lawful schema n rs) here lawful;
       stands = subst (λ (n : ℕ). Stands schema n rs standing) here stands;
-      may = subst (λ (n : ℕ). may_stand schema n rs r ≡ true) here may;
+      may = subst (λ (n : ℕ). may_follow schema n rs r ≡ true) here may;
     }
 
 -- what is due behind it is told for the site
@@ -80,7 +80,7 @@ due_here schema standing s rs r due stands is = is ∙ ap (λ (n : ℕ). piece s
 
 -- ---- a restart's record may stand next
 
-pub restart_may : (schema : SchemaValue) (s : ℕ) (rs : List Record) → may_stand schema s rs (next_restart rs) ≡ true
+pub restart_may : (schema : SchemaValue) (s : ℕ) (rs : List Record) → may_follow schema s rs (next_restart rs) ≡ true
 restart_may schema s rs = lt-ltb (greatest rs) (greatest rs + 1) (omega arith)
 
 pub restart_fits : (rs : List Record) → greatest rs < max_epoch → IsRecord (next_restart rs)
@@ -97,19 +97,19 @@ module _ (old : List ℕ) (standing : Standing) (turns : ℕ) (schema : SchemaVa
   next_same : ◌≡◌ {A = Record} next_record (next_restart rs)
   next_same = restart_next standing schema s rs is_replayed.for_
 
-  pub next_over : MayStandNext schema standing rs (Restart (standing.epoch + 1))
+  pub next_over : MayFollowNext schema standing rs (Restart (standing.epoch + 1))
   next_over =
-      subst (λ (r : Record). MayStandNext schema standing rs r) (sym next_same)
+      subst (λ (r : Record). MayFollowNext schema standing rs r) (sym next_same)
       (stands_next schema standing s rs (next_restart rs) is_replayed.site_in is_replayed.log.each is_replayed.lawful is_replayed.for_.for_ (restart_may schema s rs))
 
   pub due_over : (due : Option SummaryValue)
-      → ((all : List Record) → MayStandNext schema standing all (Restart (standing.epoch + 1)) → turns ≡ since_summary all
+      → ((all : List Record) → MayFollowNext schema standing all (Restart (standing.epoch + 1)) → turns ≡ since_summary all
       → with_due (Restart (standing.epoch + 1)) due ≡ piece schema standing.ledger.site all (Restart (standing.epoch + 1)))
       → with_due (Restart (standing.epoch + 1)) due ≡ piece schema s rs (Restart (standing.epoch + 1))
   due_over due told = due_here schema standing s rs next_record due is_replayed.for_.for_ (told rs next_over is_replayed.turns_are)
 
   pub due_over_fits : (due : Option SummaryValue)
-      → ((all : List Record) → MayStandNext schema standing all (Restart (standing.epoch + 1)) → turns ≡ since_summary all
+      → ((all : List Record) → MayFollowNext schema standing all (Restart (standing.epoch + 1)) → turns ≡ since_summary all
       → with_due (Restart (standing.epoch + 1)) due ≡ piece schema standing.ledger.site all (Restart (standing.epoch + 1)))
       → AllByRecursion IsRecord (with_due (Restart (standing.epoch + 1)) due)
   due_over_fits due told =
@@ -119,7 +119,7 @@ module _ (old : List ℕ) (standing : Standing) (turns : ℕ) (schema : SchemaVa
 
 -- a restart that didn't read the medium
 pub unread_fails : (schema : SchemaValue) (s : ℕ) (old new rest : List ℕ) (foretold left : Option Mishap) (before after : ℕ) (rs : List Record) → IsLog old rs rest → Lawful schema s rs
-    → new ≡ old → after ≡ before + 1 → (left ≡ struck foretold) × (MayBeRead foretold) → FailsOver schema s rs None rest old new foretold left before after
+    → new ≡ old → after ≡ before + 1 → (left ≡ mishap_left foretold) × (MayBeRead foretold) → FailsOver schema s rs None rest old new foretold left before after
 unread_fails schema s old new rest foretold left before after rs log lawful same counts fate =
     record {
       counts = counts;
@@ -148,7 +148,7 @@ resumes_from schema s place rs rest resumed old mid new foretold between left be
     (subst (λ (x : Option Mishap). ResumesOver schema s place rs rest resumed mid new x left before after) fate
     (subst (λ (x : ℕ). ResumesOver schema s place rs rest resumed mid new between left x after) count over))
 
-pub read_fate : (foretold left : Option Mishap) → ReadFate {T = ReadBack} foretold (Err faults.Device) left → (left ≡ struck foretold) × (MayBeRead foretold)
+pub read_fate : (foretold left : Option Mishap) → ReadFate {T = ReadBack} foretold (Err faults.Device) left → (left ≡ mishap_left foretold) × (MayBeRead foretold)
 read_fate None left fate = (fate, tt)
 read_fate (Some Read) left fate = (fate.1, tt)
 read_fate (Some Never) left fate = absurd cc
@@ -183,7 +183,7 @@ module _ (old new : List ℕ) (foretold left : Option Mishap) (before after whol
   lines_are : with_due next due ≡ next_piece schema s rs
   lines_are = dues ∙ ap (λ (r : Record). piece schema s rs r) next_is
 
-  may : may_stand schema s rs (next_restart rs) ≡ true
+  may : may_follow schema s rs (next_restart rs) ≡ true
   may = restart_may schema s rs
 
   each : AllByRecursion IsRecord (next_piece schema s rs)
@@ -218,7 +218,7 @@ module _ (old new : List ℕ) (foretold left : Option Mishap) (before after whol
   mishap_stays (Some Cut) past fate = (fate.1 (omega (arith, length_is, ap length (is_clean (Ok tt) (λ e. false≢true e) fate)))).1
   mishap_stays (Some Read) past fate = absurd (past refl)
 
-  mishap_struck : (m : Option Mishap) (device : Device) → (m ≡ Some Read → ⊥) → CutAndAppendFate m whole old lines (Err device) new left → left ≡ struck m
+  mishap_struck : (m : Option Mishap) (device : Device) → (m ≡ Some Read → ⊥) → CutAndAppendFate m whole old lines (Err device) new left → left ≡ mishap_left m
   mishap_struck None device past fate = fate
   mishap_struck (Some Never) device past fate = absurd (false≢true fate.0)
   mishap_struck (Some (Append n)) device past fate = fate.2

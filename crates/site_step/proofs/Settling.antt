@@ -7,15 +7,15 @@ use Rattle.field_bounds.specs.declared.entry.Last.{Last}
 use Rattle.field_bounds.specs.declared.entry.Reply.{Reply}
 use Rattle.field_bounds.specs.declared.entry.Reply.TheVariants.{Unsure, Refused}
 use Rattle.field_bounds.specs.declared.entry.Refusal.{Refusal}
-use Rattle.field_bounds.specs.Effects.{kept_before}
+use Rattle.field_bounds.specs.Effects.{doubt_kept_before}
 use Rattle.field_bounds.specs.Owed.{Place, first, refusals, answer, writes, up_after, count_after, is_unsure, Fits}
 use Rattle.field_bounds.proofs.Refused.{is_restart}
 use Rattle.kept_records.specs.declared.record.Record.{Record}
 use Rattle.site_step.specs.Replaying.{Replays, downs_after, downs_at}
 use Rattle.kept_state.specs.declared.luck.Luck.{Luck}
 use Rattle.kept_state.specs.declared.luck.Luck.TheVariants.{Fine, Torn}
-use Rattle.kept_state.specs.Keeps.{record_at, noted, Tells}
-use Rattle.kept_state.specs.Luck.{is_torn, owed_with, kept_after, doubt_after}
+use Rattle.kept_state.specs.Keeps.{record_at, record_left, Tells}
+use Rattle.kept_state.specs.Luck.{is_torn, owed_with, epoch_kept, doubt_after}
 use Rattle.site_step.specs.State.{is_carried}
 use Rattle.kept_records.specs.declared.medium.Mishap.{Mishap}
 use Rattle.kept_records.specs.declared.medium.Mishap.TheVariants.{Never, Append, Cut, Read}
@@ -40,14 +40,14 @@ some_there None is = cc
 -- a reply that settles nothing, and leaves nothing in doubt
 pub record Settles (r : Reply) : Type 0 where
   pub up : (u : Bool) → up_after u r ≡ u
-  pub kept : (k : Bool) → kept_before k r ≡ k
+  pub kept : (k : Bool) → doubt_kept_before k r ≡ k
   pub counts : (n : ℕ) → count_after is_unsure n r ≡ n
   pub tells : (k stood : Bool) (rs : List Record) → Tells k stood rs r
   pub doubt : (rs : List Record) (d : Option ℕ) → doubt_from r rs d ≡ d
   pub failed : (n : ℕ) → failed_after r n ≡ n
   pub foretold : (m : Option Mishap) → foretold_after r m ≡ m
   pub restarts : (rs : List Record) (d : Option ℕ) (rest : List ℕ) → RestartsOver r rs d rest
-  pub greatest_is : (luck : Luck) (n : ℕ) → kept_after r luck n ≡ n
+  pub greatest_is : (luck : Luck) (n : ℕ) → epoch_kept r luck n ≡ n
   pub found : (luck : Luck) (size : ℕ) (last : Last) → doubt_after r luck size last ≡ last
   pub downs : (n : ℕ) → downs_after r n ≡ n
   pub before : (n m : ℕ) → downs_at r n m ≡ m
@@ -95,10 +95,10 @@ pub refuses_over : (c : Command) (r : Reply) (rs : List Record) → is_restart c
 refuses_over Restart r rs n = cc
 refuses_over c r rs n = tt
 
-pub noted_none : (at : Place) (c : Command) → writes at c ≡ false → noted at c ≡ []
+pub noted_none : (at : Place) (c : Command) → writes at c ≡ false → record_left at c ≡ []
 noted_none at c w = rw w refl
 
-pub noted_one : (at : Place) (c : Command) → writes at c ≡ true → noted at c ≡ record_at at c ∷ []
+pub noted_one : (at : Place) (c : Command) → writes at c ≡ true → record_left at c ≡ record_at at c ∷ []
 noted_one at c w = rw w refl
 
 -- ---- a reply that fits

@@ -18,7 +18,7 @@ use Rattle.field_bounds.specs.Kind.{kind_of}
 use Rattle.field_bounds.specs.Schema.{SchemaValue}
 use Rattle.field_bounds.specs.declared.effect.Effect.{Effect}
 use Rattle.field_bounds.specs.Effects.{Base, effects, is_begun, is_open, escrows_of, takes}
-use Rattle.field_bounds.specs.Owed.{Place, place, refusals, first, answer, epoch_of, count_since, is_begun_reply, max_open, max_escrows, writes, free, told_so_far, spared_of, cut_so_far, IsRun}
+use Rattle.field_bounds.specs.Owed.{Place, place, refusals, first, answer, epoch_of, count_since, is_begun_reply, max_open, max_escrows, writes, free, told_so_far, spare_of, cut_so_far, IsRun}
 use Rattle.field_bounds.proofs.Refused.{none_holds, begin_is_one_of_few, escrow_is_in_schema, escrow_is_opened, escrow_is_enough, escrow_is_one_of_few, commit_is_opened, abort_is_opened, give_is_in_schema, give_is_enough, spare_is_in_schema, tighten_is_in_schema, tighten_is_enough}
 use Rattle.field_bounds.proofs.Sparing.{spared_is_there}
 use Rattle.field_bounds.proofs.Doubt.{after_refused}
@@ -26,19 +26,19 @@ use Rattle.field_bounds.proofs.Runs.{Ran, run_leaves, next_is_new}
 use Rattle.site_rights.specs.declared.field_rights.FieldRights.{FieldRights}
 use Rattle.site_rights.specs.declared.field_rights.Outcome.{Outcome}
 use Rattle.site_rights.specs.declared.field_rights.Outcome.TheVariants.{Committed, Aborted}
-use Rattle.site_rights.specs.Rights.{free_at, taken, ending, by_escrow, by_escrows, AreInRange, AreHeld}
+use Rattle.site_rights.specs.Rights.{free_at, after_take, ending, by_escrow, by_escrows, AreInRange, AreHeld}
 use Rattle.site_rights.proofs.RightsLaws.{length-by_escrow, length-by_escrows, free_at-taken, held_at-taken, free_at-by_escrows, held_at-by_escrows, taken_keeps_cut, ending_keeps_cut, cut_at-field, cut_at-by_escrows, taken_keeps, ending_keeps, width_at-field, width_at-by_escrows}
-use Rattle.escrow_journal.specs.Journal.{Row, stands, escrows_at, added as add_escrow, without}
+use Rattle.escrow_journal.specs.Journal.{Row, is_listed, escrows_at, rows_with as add_escrow, without}
 use Rattle.gift_ledger.specs.Ledger.{LedgerValue}
 use Rattle.kept_records.specs.declared.record.Record.{Record}
-use Rattle.kept_records.specs.Stands.{greatest, is_field, is_other_site, may_commit, may_stand, Lawful}
+use Rattle.kept_records.specs.Stands.{greatest, is_field, is_other_site, may_commit, may_follow, Lawful}
 use Rattle.kept_state.specs.Keeps.{record_at}
 use Rattle.log_replay.specs.Standing.{Stands, TakesIn}
 use Rattle.kept_records.proofs.Covering.{gift_parts, accept_parts, tighten_parts}
 use Rattle.log_replay.proofs.StandingLaws.{has_places, here_only, four_first, is_other, commit_on_fields, room_is}
 use Rattle.site_step.specs.declared.accounts.Accounts.{Accounts}
 use Rattle.site_step.specs.Site.{end_command}
-use Rattle.site_step.specs.State.{SetsAside, StandsOn, with_rights, released, settled, readied, CanClose, CanSettle, CanCarry, is_carried}
+use Rattle.site_step.specs.State.{SetsAside, StandsOn, with_rights, after_release, after_settling, before_taking_in, CanClose, CanSettle, CanCarry, is_carried}
 use Rattle.site_step.proofs.Reading.{Reads}
 use Rattle.site_step.proofs.Matching.{ended, aside_begin, aside_grant, aside_end, are_in_range, are_held, length-journal_of, stands-journal_of, escrows_at-journal_of}
 
@@ -73,8 +73,8 @@ module _ (schema : SchemaValue) (s : ℕ) (base : Base) (o : List Entry) (a : Ac
   next_new : is_begun next es ≡ false
   next_new = subst (λ (t : TxnId). is_begun t es ≡ false) (sym next_is) (next_is_new (epoch_of base o) (count_since is_begun_reply o) es ran.numbered)
 
-  pub next_is_closed : stands next journal ≡ false
-  next_is_closed = ap (stands next) was.matches.journal ∙ stands-journal_of next es ∙ ap (λ b. b && is_open next es) next_new
+  pub next_is_closed : is_listed next journal ≡ false
+  next_is_closed = ap (is_listed next) was.matches.journal ∙ stands-journal_of next es ∙ ap (λ b. b && is_open next es) next_new
 
   -- what the ladder tells of a begin that isn't refused
   pub room_by : first (refusals at Begin) ≡ None → length journal < max_open
@@ -92,8 +92,8 @@ module _ (schema : SchemaValue) (s : ℕ) (base : Base) (o : List Entry) (a : Ac
   enough_by txn e none =
       omega (arith, was.matches.free e.field.0 (kind_of e.change) (in_range_by txn e none), escrow_is_enough at txn e.field e.change (none_holds (refusals at (Ask txn e.field e.change)) none))
 
-  pub stands_open : (txn : TxnId) → (is_begun txn es ≡ true) × (is_open txn es ≡ true) → stands txn journal ≡ true
-  stands_open txn both = ap (stands txn) was.matches.journal ∙ stands-journal_of txn es ∙ both_true (is_begun txn es) (is_open txn es) both.0 both.1
+  pub stands_open : (txn : TxnId) → (is_begun txn es ≡ true) × (is_open txn es ≡ true) → is_listed txn journal ≡ true
+  stands_open txn both = ap (is_listed txn) was.matches.journal ∙ stands-journal_of txn es ∙ both_true (is_begun txn es) (is_open txn es) both.0 both.1
 
   pub escrows_are : (txn : TxnId) → (is_begun txn es ≡ true) × (is_open txn es ≡ true) → escrows_at txn journal ≡ reverse (escrows_of txn es)
   escrows_are txn both = ap (escrows_at txn) was.matches.journal ∙ escrows_at-journal_of txn es (both_true (is_begun txn es) (is_open txn es) both.0 both.1)
@@ -135,7 +135,7 @@ module _ (schema : SchemaValue) (s : ℕ) (base : Base) (o : List Entry) (a : Ac
       omega (arith, was.matches.free field.0 kind (omega (arith, give_is_in_schema at to field kind amount none, was.matches.count)), give_is_enough at to field kind amount none)
 
   -- and of a spare
-  spare_enough : (to : SiteNo) (field : FieldNo) (kind : Kind) (want : ℕ) → first (refusals at (Spare to field kind want)) ≡ None → spared_of at field kind want ≤ free_at rows field.0 kind
+  spare_enough : (to : SiteNo) (field : FieldNo) (kind : Kind) (want : ℕ) → first (refusals at (Spare to field kind want)) ≡ None → spare_of at field kind want ≤ free_at rows field.0 kind
   spare_enough to field kind want refused =
       let none = none_holds (refusals at (Spare to field kind want)) refused in
       omega (arith, was.matches.free field.0 kind (omega (arith, spare_is_in_schema at to field kind want none, was.matches.count)), spared_is_there (free at field kind) want)
@@ -157,14 +157,14 @@ module _ (schema : SchemaValue) (s : ℕ) (base : Base) (o : List Entry) (a : Ac
         record { standing = st.standing; aside = aside_begin schema base es ran.lawful rows journal was.matches next next_new; last = omega (arith, st.last) }
 
     pub stands_grant : (n : SiteNo) (txn : TxnId) (e : Escrow) → first (refusals at (Ask txn e.field e.change)) ≡ None
-        → StandsOn schema s base (record { site = n; command = Ask txn e.field e.change; reply = Granted } ∷ o) rs (record (with_rights (by_escrow taken rows e) a) { journal = add_escrow txn e journal })
+        → StandsOn schema s base (record { site = n; command = Ask txn e.field e.change; reply = Granted } ∷ o) rs (record (with_rights (by_escrow after_take rows e) a) { journal = add_escrow txn e journal })
     stands_grant n txn e none =
         let range = in_range_by txn e none in
-        let same = length-by_escrow taken rows e in
+        let same = length-by_escrow after_take rows e in
         record {
           standing = record {
             count = same ∙ st.standing.count;
-            width = λ f l. width_at-field taken taken_keeps rows e.field.0 f (kind_of e.change) (unsigned_abs e.change) range ∙ st.standing.width f (omega (arith, l, same));
+            width = λ f l. width_at-field after_take taken_keeps rows e.field.0 f (kind_of e.change) (unsigned_abs e.change) range ∙ st.standing.width f (omega (arith, l, same));
             own = λ f k l.
                 omega (
                   arith,
@@ -173,7 +173,7 @@ module _ (schema : SchemaValue) (s : ℕ) (base : Base) (o : List Entry) (a : Ac
                   here_only (λ x y. free_at rows x y) e.field.0 f (kind_of e.change) k (unsigned_abs e.change) (enough_by txn e none),
                   st.standing.own f k (omega (arith, l, same)),
                 );
-            cut = λ f k l. cut_at-field taken taken_keeps_cut rows e.field.0 f (kind_of e.change) k (unsigned_abs e.change) range ∙ st.standing.cut f k (omega (arith, l, same));
+            cut = λ f k l. cut_at-field after_take taken_keeps_cut rows e.field.0 f (kind_of e.change) k (unsigned_abs e.change) range ∙ st.standing.cut f k (omega (arith, l, same));
             place = st.standing.place;
             given = st.standing.given;
             accepted = st.standing.accepted;
@@ -185,7 +185,7 @@ module _ (schema : SchemaValue) (s : ℕ) (base : Base) (o : List Entry) (a : Ac
         }
 
     -- a transaction released: what it held is free, so what is owned stays
-    pub stands_released : (txn : TxnId) → (is_begun txn es ≡ true) × (is_open txn es ≡ true) → Stands schema s rs (released txn a).standing
+    pub stands_released : (txn : TxnId) → (is_begun txn es ≡ true) × (is_open txn es ≡ true) → Stands schema s rs (after_release txn a).standing
     stands_released txn both =
         let can = can_close txn both in
         let gone = escrows_at txn journal in
@@ -204,13 +204,13 @@ module _ (schema : SchemaValue) (s : ℕ) (base : Base) (o : List Entry) (a : Ac
           epoch = st.standing.epoch;
         }
 
-    aside_released : (outcome : Outcome) (txn : TxnId) → (is_begun txn es ≡ true) × (is_open txn es ≡ true) → SetsAside (ended outcome txn ∷ es) (released txn a).standing.rights (released txn a).journal
+    aside_released : (outcome : Outcome) (txn : TxnId) → (is_begun txn es ≡ true) × (is_open txn es ≡ true) → SetsAside (ended outcome txn ∷ es) (after_release txn a).standing.rights (after_release txn a).journal
     aside_released outcome txn both =
         subst (λ (xs : List Escrow). SetsAside (ended outcome txn ∷ es) (by_escrows (ending Aborted) rows xs) (without txn journal)) (sym (escrows_are txn both))
         (aside_end schema base es ran.lawful rows journal was.matches outcome txn both.1)
 
     abbrev Settled : SiteNo → Command → Type 0
-    Settled n c = StandsOn schema s base (record { site = n; command = c; reply = answer at c } ∷ o) rs (settled a c)
+    Settled n c = StandsOn schema s base (record { site = n; command = c; reply = answer at c } ∷ o) rs (after_settling a c)
 
     -- a command that writes no record
     pub stands_settled : (n : SiteNo) (c : Command) → is_carried c ≡ true → writes at c ≡ false → first (refusals at c) ≡ None → Settled n c
@@ -232,20 +232,20 @@ module _ (schema : SchemaValue) (s : ℕ) (base : Base) (o : List Entry) (a : Ac
     -- ---- a command whose record is taken in
 
     module _ (lawful : Lawful schema s rs) where
-      pub can_carry : (c : Command) → first (refusals at c) ≡ None → writes at c ≡ true → may_stand schema s rs (record_at at c) ≡ true → CanCarry schema a (record_at at c)
+      pub can_carry : (c : Command) → first (refusals at c) ≡ None → writes at c ≡ true → may_follow schema s rs (record_at at c) ≡ true → CanCarry schema a (record_at at c)
       can_carry (Commit txn) none w may =
           let both = end_opened Committed txn none in
           let can = can_close txn both in
-          let stands = stands_released txn both in
+          let is_listed = stands_released txn both in
           let gone = reverse (escrows_of txn es) in
-          let ready = (released txn a).standing in
+          let ready = (after_release txn a).standing in
           let parts = and_parts (txn.epoch == greatest rs) (list_all (may_commit schema s rs gone) gone) may in
           record {
             ready = can;
-            places = has_places schema s rs ready.rights ready.ledger ready.epoch stands;
+            places = has_places schema s rs ready.rights ready.ledger ready.epoch is_listed;
             takes_ = (
               eqb-true txn.epoch (greatest rs) parts.0 ∙ sym st.standing.epoch,
-              commit_on_fields schema s rs ready.rights ready.ledger ready.epoch lawful stands gone parts.1,
+              commit_on_fields schema s rs ready.rights ready.ledger ready.epoch lawful is_listed gone parts.1,
               λ f k l.
                   omega (
                     arith,
@@ -268,7 +268,7 @@ module _ (schema : SchemaValue) (s : ℕ) (base : Base) (o : List Entry) (a : Ac
             );
           }
       can_carry (Spare to field kind want) none w may =
-          let parts = gift_parts schema s rs to field kind (told_so_far at to field kind + spared_of at field kind want) may in
+          let parts = gift_parts schema s rs to field kind (told_so_far at to field kind + spare_of at field kind want) may in
           let here = four_first (is_other_site schema s to.0) (is_field schema field.0) _ _ may in
           let other = is_other schema s to.0 field.0 here in
           record {
@@ -312,21 +312,21 @@ module _ (schema : SchemaValue) (s : ℕ) (base : Base) (o : List Entry) (a : Ac
       -- what took the record in stands on it
       taken_stands : (fs : List Effect) (ready b : Accounts) (r : Record) → Stands schema s rs ready.standing → SetsAside fs ready.standing.rights ready.journal
           → TakesIn schema ready.standing r true b.standing → b.journal ≡ ready.journal → Stands schema s (rs ++ r ∷ []) b.standing × SetsAside fs b.standing.rights b.journal
-      taken_stands fs ready b r stands aside took same =
-          let more = took.stands refl s rs lawful stands in (
+      taken_stands fs ready b r is_listed aside took same =
+          let more = took.stands refl s rs lawful is_listed in (
             more,
             record {
-              held = λ f k l. let l' : f < length ready.standing.rights = omega (arith, l, more.count, stands.count) in took.held refl f k l' ∙ aside.held f k l';
+              held = λ f k l. let l' : f < length ready.standing.rights = omega (arith, l, more.count, is_listed.count) in took.held refl f k l' ∙ aside.held f k l';
               journal = same ∙ aside.journal;
             },
           )
 
       pub stands_carried : (n : SiteNo) (c : Command) → first (refusals at c) ≡ None → writes at c ≡ true → (b : Accounts)
-          → TakesIn schema (readied a (record_at at c)).standing (record_at at c) true b.standing → b.journal ≡ (readied a (record_at at c)).journal → b.last ≡ a.last
+          → TakesIn schema (before_taking_in a (record_at at c)).standing (record_at at c) true b.standing → b.journal ≡ (before_taking_in a (record_at at c)).journal → b.last ≡ a.last
           → StandsOn schema s base (record { site = n; command = c; reply = answer at c } ∷ o) (rs ++ record_at at c ∷ []) b
       stands_carried n (Commit txn) none w b took same last_is =
           let both = end_opened Committed txn none in
-          let did = taken_stands (ended Committed txn ∷ es) (released txn a) b (record_at at (Commit txn)) (stands_released txn both) (aside_released Committed txn both) took same in
+          let did = taken_stands (ended Committed txn ∷ es) (after_release txn a) b (record_at at (Commit txn)) (stands_released txn both) (aside_released Committed txn both) took same in
           record { standing = did.0; aside = did.1; last = omega (arith, st.last, last_is) }
       stands_carried n (Give to field kind amount) none w b took same last_is =
           let did = taken_stands es a b (record_at at (Give to field kind amount)) st.standing st.aside took same in

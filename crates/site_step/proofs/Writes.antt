@@ -23,7 +23,7 @@ use Rattle.kept_records.specs.Medium.{IsCutShort, AppendFate}
 use Rattle.kept_records.specs.Logs.{IsLog}
 use Rattle.std.specs.List.{flat_map, AllByRecursion}
 use Rattle.field_bounds.specs.Schema.{SchemaValue}
-use Rattle.kept_records.specs.Stands.{greatest, is_summary, plain, since_summary, max_behind, piece, may_stand, Lawful}
+use Rattle.kept_records.specs.Stands.{greatest, is_summary, plain, since_summary, max_behind, piece, may_follow, Lawful}
 use Rattle.kept_records.specs.Summaries.{SameSums}
 use Rattle.kept_records.proofs.Summaries.{own_same, may_same, plain_same}
 use Rattle.kept_records.proofs.Lines.{same_log}
@@ -41,10 +41,10 @@ use Rattle.kept_state.proofs.Sure.{keeps_up}
 use Rattle.kept_state.proofs.Doubt.{record_is_note, doubt_new, found_is_kept}
 use Rattle.site_step.specs.declared.accounts.Accounts.{Accounts}
 use Rattle.site_step.specs.declared.extent.Extent.{Extent}
-use Rattle.site_step.specs.Site.{SiteValue, base_of, here, entry_of, mishap_of, struck, Holds, owed_under, Finds, IsExact}
+use Rattle.site_step.specs.Site.{SiteValue, base_of, here, entry_of, mishap_of, mishap_left, Holds, owed_under, Finds, IsExact}
 use Rattle.site_step.specs.Replaying.{downs_since, downs_before}
 use Rattle.site_step.specs.Resuming.{Leaves}
-use Rattle.site_step.specs.State.{StandsOn, IsSound, ReachesAll, extended}
+use Rattle.site_step.specs.State.{StandsOn, IsSoundSite, ReachesAll, one_record_longer}
 use Rattle.site_step.proofs.Holding.{holds_all, same_told, plain_piece, piece_same, all_lawful, piece_fits, added_all, leaves_by, left_plain, left_holds}
 use Rattle.site_step.proofs.Extents.{reach_all, reach_extended, reach_more}
 use Rattle.site_step.proofs.Settling.{answer_settles, writes_no_restart, refuses_over, noted_one, answer_fits, unsure_fits, whole_owed, unsure_owed, whole_under, unsure_under, answer_writes, unsure_writes, lines_one}
@@ -63,7 +63,7 @@ fate_stays (Some Never) old piece new left fate = fate.1
 fate_stays (Some Cut) old piece new left fate = fate.1
 fate_stays (Some Read) old piece new left fate = fate.1
 
-fate_struck : (before : Option Mishap) (old piece : List ℕ) (device : Device) (new : List ℕ) (left : Option Mishap) → AppendFate before old piece (Err device) new left → left ≡ struck before
+fate_struck : (before : Option Mishap) (old piece : List ℕ) (device : Device) (new : List ℕ) (left : Option Mishap) → AppendFate before old piece (Err device) new left → left ≡ mishap_left before
 fate_struck None old piece device new left fate = fate
 fate_struck (Some (Append n)) old piece device new left fate = fate.2
 fate_struck (Some Never) old piece device new left fate = absurd (false≢true fate.0)
@@ -98,7 +98,7 @@ stands_as schema s as1 bs standing same st = record {
   epoch = st.epoch ∙ sym same.epoch;
 }
 
-module _ (v : SiteValue) (up : Bool) (extent : Extent) (a : Accounts) (was : IsSound v up extent a) (c : Command) (none : first (refusals (here v) c) ≡ None) (told : writes (here v) c ≡ true)
+module _ (v : SiteValue) (up : Bool) (extent : Extent) (a : Accounts) (was : IsSoundSite v up extent a) (c : Command) (none : first (refusals (here v) c) ≡ None) (told : writes (here v) c ≡ true)
     (fits : IsRecord (record_at (here v) c)) where
   abbrev base : Base
   base = base_of v
@@ -140,7 +140,7 @@ module _ (v : SiteValue) (up : Bool) (extent : Extent) (a : Accounts) (was : IsS
   pub reached : ReachesAll extent was.records
   reached = tidy.1
 
-  pub may : may_stand schema s all note ≡ true
+  pub may : may_follow schema s all note ≡ true
   may =
       sym (may_same schema s rs all (plain_same all) note)
       ∙ run_lawful_more schema s base (plain v.based) was.ground.is_base was.kept v.history rs was.run was.keeps c none told
@@ -214,10 +214,10 @@ module _ (v : SiteValue) (up : Bool) (extent : Extent) (a : Accounts) (was : IsS
         let goes = subst (λ (x : Option Mishap). AppendFate {E = Device} x v.bytes (flat_map text lines) (Ok tt) bytes left) (known ∙ ap (λ (x : Mishap). Some x) is) fate in
         false≢true goes.0
 
-    reached_after : ReachesAll (extended extent (length (flat_map text lines))) (all ++ lines)
+    reached_after : ReachesAll (one_record_longer extent (length (flat_map text lines))) (all ++ lines)
     reached_after = reach_extended schema s all note plain_note extent reached
 
-    wrote : Ends v c (answer at c) then_ up (extended extent (length (flat_map text lines))) b
+    wrote : Ends v c (answer at c) then_ up (one_record_longer extent (length (flat_map text lines))) b
     wrote =
         let settles = answer_settles at c no_restart in
         record {
@@ -238,7 +238,7 @@ module _ (v : SiteValue) (up : Bool) (extent : Extent) (a : Accounts) (was : IsS
             );
             up_is = was.up_is ∙ sym (settles.up (is_up base v.history));
             clean = λ u. (refl, reached_after);
-            reaches = reach_all (extended extent (length (flat_map text lines))) (all ++ lines) reached_after;
+            reaches = reach_all (one_record_longer extent (length (flat_map text lines))) (all ++ lines) reached_after;
             place = λ n is. let e : ◌≡◌ {A = Option ℕ} None (Some n) = sym nothing ∙ is in absurd cc;
             in_doubt = up_doubt was.kept was.kept v.history (entry_of v c (answer at c)) rs (plain (all ++ lines)) v.doubt (settles.counts (count_since is_unsure v.history))
                 (up_none_unsure base v.history is_there) was.in_doubt;
@@ -271,10 +271,10 @@ module _ (v : SiteValue) (up : Bool) (extent : Extent) (a : Accounts) (was : IsS
   pub ends_wrote : (b : Accounts) (bytes : List ℕ) (failed : ℕ) (left : Option Mishap) (r : Reply) (h : List Entry) → r ≡ answer at c → h ≡ entry_of v c r ∷ v.history
       → StandsOn v.schema v.site.0 base After (was.records ++ note ∷ []) b → (bytes ≡ v.bytes ++ flat_map text lines) → failed ≡ v.failed
       → AppendFate {E = Device} v.foretold v.bytes (flat_map text lines) (Ok tt) bytes left
-      → Ends v c r (record v { history = h; bytes = bytes; failed = failed; foretold = left }) up (extended extent (length (flat_map text lines))) b
+      → Ends v c r (record v { history = h; bytes = bytes; failed = failed; foretold = left }) up (one_record_longer extent (length (flat_map text lines))) b
   ends_wrote b bytes failed left r h owed past stands grown counts fate =
       let after : h ≡ After = past ∙ ap (λ (x : Reply). entry_of v c x ∷ v.history) owed in
-      let next : Extent = extended extent (length (flat_map text lines)) in
+      let next : Extent = one_record_longer extent (length (flat_map text lines)) in
       subst (λ (x : Reply). Ends v c x (record v { history = h; bytes = bytes; failed = failed; foretold = left }) up next b) (sym owed)
       (subst (λ (o : List Entry). Ends v c (answer at c) (record v { history = o; bytes = bytes; failed = failed; foretold = left }) up next b) (sym after)
       (subst (λ (n : ℕ). Ends v c (answer at c) (record v { history = After; bytes = bytes; failed = n; foretold = left }) up next b) (sym counts) (wrote b bytes left stands grown fate)))

@@ -12,7 +12,7 @@ use Rattle.kept_records.specs.Logs.{IsLog, IsBadLine}
 use Rattle.kept_records.specs.Stands.{Lawful, BreaksRule, plain}
 use Rattle.kept_records.specs.ReadingBack.{told_length}
 use Rattle.log_replay.specs.Standing.{IsStandingFor}
-use Rattle.site_step.specs.Site.{struck}
+use Rattle.site_step.specs.Site.{mishap_left}
 use Rattle.site_step.specs.declared.site.opening.OpenFault.{OpenFault}
 use Rattle.site_step.specs.declared.site.opening.OpenFault.TheVariants.{Device, Line, NoMemory}
 use Rattle.site_step.specs.declared.site.opening.Found.{Found}
@@ -54,7 +54,7 @@ failed_at NoMemory n = n
 
 -- What becomes of a mishap that is known: it stays, but where the device failed it is used up.
 abbrev pub foretold_at : OpenFault → Option Mishap → Option Mishap
-foretold_at Device foretold = struck foretold
+foretold_at Device foretold = mishap_left foretold
 foretold_at (Line n) foretold = foretold
 foretold_at NoMemory foretold = foretold
 

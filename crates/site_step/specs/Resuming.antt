@@ -14,12 +14,12 @@ use Rattle.kept_records.specs.Text.{text}
 use Rattle.kept_records.specs.Medium.{IsCutShort}
 use Rattle.kept_records.specs.Logs.{IsLog}
 use Rattle.kept_records.specs.Keeping.{starts_with_no_restart}
-use Rattle.kept_records.specs.ReadingBack.{told_length, StandBehind}
+use Rattle.kept_records.specs.ReadingBack.{told_length, AreBehind}
 use Rattle.kept_records.specs.Stands.{greatest, Lawful, plain, since_summary, piece}
 use Rattle.log_replay.specs.declared.standing.Standing.{Standing as StandingValue}
 use Rattle.log_replay.specs.Standing.{IsStandingFor}
 use Rattle.site_step.specs.State.{starts_with_summary}
-use Rattle.site_step.specs.Site.{struck}
+use Rattle.site_step.specs.Site.{mishap_left}
 use Rattle.site_step.specs.declared.site.restart.Resumed.{Resumed}
 use Rattle.site_step.specs.declared.site.restart.Resumed.TheVariants.{Failed, NumbersFull, Standing}
 
@@ -56,7 +56,7 @@ pub record FailsOver (schema : SchemaValue) (s : ℕ) (rs : List Record) (turns 
   pub never : foretold ≡ Some Never → ⊥
   pub torn : (n : ℕ) → foretold ≡ Some (Append n) → (greatest rs < max_epoch) × Leaves schema s rs (next_restart rs) (nat_le (length (text (next_restart rs))) n) bytes
   pub cut : foretold ≡ Some Cut → (greatest rs < max_epoch) × (rest ≢ [])
-  pub struck_ : left ≡ struck foretold
+  pub struck_ : left ≡ mishap_left foretold
   pub replayed : (n : ℕ) → turns ≡ Some n → n ≡ since_summary rs
 
 -- A restart found no epoch left.
@@ -86,7 +86,7 @@ abbrev pub ResumesOver : SchemaValue → ℕ → ℕ → List Record → List �
 ResumesOver schema s place rs rest (Failed turns) old bytes foretold left before after = FailsOver schema s rs turns rest old bytes foretold left before after
 ResumesOver schema s place rs rest NumbersFull old bytes foretold left before after = FullOver rs old bytes foretold left before after
 ResumesOver schema s place rs rest (Standing behind standing epoch turns size) old bytes foretold left before after =
-    StandsOver schema s rs epoch turns size rest bytes foretold left before after × IsStandingFor schema s rs standing × StandBehind old place behind.items
+    StandsOver schema s rs epoch turns size rest bytes foretold left before after × IsStandingFor schema s rs standing × AreBehind old place behind.items
 
 -- The bytes are a log of these lawful records of a site of the schema, which the standing is for; so many of them stand
 -- behind the last summary.
@@ -101,13 +101,13 @@ pub record IsReplayed (schema : SchemaValue) (s : ℕ) (rs : List Record) (rest 
 -- How a restart went over the records that were replayed, where these were behind the place.
 abbrev pub ResumesAs : SchemaValue → StandingValue → ℕ → List Record → Resumed → List ℕ → List ℕ → Option Mishap → Option Mishap → ℕ → ℕ → Type 0
 ResumesAs schema standing turns found resumed old bytes foretold left before after =
-    (s place : ℕ) (rs : List Record) (rest : List ℕ) → IsReplayed schema s rs rest standing turns old → StandBehind old place found
+    (s place : ℕ) (rs : List Record) (rest : List ℕ) → IsReplayed schema s rs rest standing turns old → AreBehind old place found
     → ResumesOver schema s place rs rest resumed old bytes foretold left before after
 
 -- ---- the record in doubt
 
 -- What became of the record in doubt, where one is, by the records behind its place: only a restart's stands there
 -- where it was lost.
-abbrev pub last_by : Option ℕ → List Record → Last
-last_by None behind = Nothing
-last_by (Some n) behind = if starts_with_no_restart behind then Kept else Lost
+abbrev pub found_by : Option ℕ → List Record → Last
+found_by None behind = Nothing
+found_by (Some n) behind = if starts_with_no_restart behind then Kept else Lost

@@ -24,9 +24,9 @@ use Rattle.kept_state.specs.declared.luck.Luck.{Luck}
 use Rattle.kept_state.specs.declared.luck.Luck.TheVariants.{Fine, Torn}
 use Rattle.kept_records.specs.Text.{text}
 use Rattle.kept_records.specs.Medium.{IsCutShort}
-use Rattle.kept_state.specs.Keeps.{Keeps, opened, record_at, adds}
+use Rattle.kept_state.specs.Keeps.{Keeps, base_of_records, record_at, adds}
 use Rattle.kept_state.specs.Doubt.{found_of}
-use Rattle.kept_state.specs.Luck.{owed_with, kept_after, doubt_after, record_length}
+use Rattle.kept_state.specs.Luck.{owed_with, epoch_kept, doubt_after, record_length}
 use Rattle.site_step.specs.Replaying.{Replays, downs_since}
 
 -- The schema and the site's number; whether the medium was empty when the site was opened, and the records that it held
@@ -52,7 +52,7 @@ value_of schema site fresh based entries bytes failed foretold doubt replayed =
 
 -- The base on which a site's history stands.
 abbrev pub base_of : SiteValue → Base
-base_of v = opened v.schema v.site.0 v.fresh v.based
+base_of v = base_of_records v.schema v.site.0 v.fresh v.based
 
 -- Where a site stands.
 abbrev pub here : SiteValue → Place
@@ -221,13 +221,13 @@ Writes at command (Shares lower raise) old new = AddsLines at command old new
 -- ---- under a mishap that is known
 
 -- What becomes of a mishap that is known: it stays, but where it struck it is used up.
-abbrev pub struck : Option Mishap → Option Mishap
-struck None = None
-struck (Some mishap) = Some mishaps.Never
+abbrev pub mishap_left : Option Mishap → Option Mishap
+mishap_left None = None
+mishap_left (Some mishap) = Some mishaps.Never
 
 abbrev pub foretold_after : Reply → Option Mishap → Option Mishap
-foretold_after Unsure foretold = struck foretold
-foretold_after StillDown foretold = struck foretold
+foretold_after Unsure foretold = mishap_left foretold
+foretold_after StillDown foretold = mishap_left foretold
 foretold_after (Restarted epoch found) foretold = foretold
 foretold_after (Refused refusal) foretold = foretold
 foretold_after (Begun txn) foretold = foretold
@@ -300,7 +300,7 @@ owed_under v rs rest command mishap =
 -- after it.
 pub record IsExact (before : SiteValue) (command : Command) (reply : Reply) (later : SiteValue) (luck : Luck) (epoch : ℕ) (found : Last) : Type 0 where
   pub reply_is : reply ≡ owed_with (here before) epoch found command luck
-  pub finds : Finds later (kept_after reply luck epoch) (doubt_after reply luck (record_length (here before) command) found)
+  pub finds : Finds later (epoch_kept reply luck epoch) (doubt_after reply luck (record_length (here before) command) found)
 
 -- ---- the calls
 

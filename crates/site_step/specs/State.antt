@@ -10,12 +10,12 @@ use Rattle.field_bounds.specs.declared.entry.Entry.{Entry}
 use Rattle.field_bounds.specs.Schema.{SchemaValue}
 use Rattle.field_bounds.specs.Limits.{IsSchema}
 use Rattle.field_bounds.specs.declared.effect.Effect.{Effect}
-use Rattle.field_bounds.specs.Effects.{Base, open_txns, escrows_of, held, effects}
+use Rattle.field_bounds.specs.Effects.{Base, open_txns, escrows_of, held_rights, effects}
 use Rattle.field_bounds.specs.Owed.{count_since, is_begun_reply, is_up, max_epoch, IsRun}
 use Rattle.site_rights.specs.declared.field_rights.FieldRights.{FieldRights}
 use Rattle.site_rights.specs.declared.field_rights.Outcome.TheVariants.{Aborted}
 use Rattle.site_rights.specs.Rights.{held_at, ending, by_escrows, AreInRange, AreHeld}
-use Rattle.escrow_journal.specs.Journal.{Row, stands, escrows_at, without}
+use Rattle.escrow_journal.specs.Journal.{Row, is_listed, escrows_at, without}
 use Rattle.kept_records.specs.declared.record.Record.{Record}
 use Rattle.kept_records.specs.Logs.{IsLog}
 use Rattle.kept_records.specs.Stands.{Lawful, is_summary, plain, since_summary, max_behind}
@@ -24,7 +24,7 @@ use Rattle.kept_records.specs.ReadingBack.{told_length}
 use Rattle.kept_state.specs.Keeps.{Keeps, IsBase}
 use Rattle.kept_state.specs.Doubt.{IsDoubt}
 use Rattle.kept_records.specs.declared.record.Record.TheVariants as records
-use Rattle.log_replay.specs.Standing.{HasPlaces, Stands, CanTakeIn}
+use Rattle.log_replay.specs.Standing.{HasSlots, Stands, CanTakeIn}
 use Rattle.site_step.specs.Replaying.{downs_since, downs_before}
 use Rattle.site_step.specs.declared.accounts.Accounts.{Accounts}
 use Rattle.site_step.specs.declared.extent.Extent.{Extent}
@@ -42,7 +42,7 @@ journal_of es = map (row_of es) (reverse (open_txns es))
 
 -- What is held, and which transactions are open, is what took effect.
 pub record SetsAside (es : List Effect) (rows : List FieldRights) (open_rows : List Row) : Type 0 where
-  pub held : (f : ℕ) (k : Kind) → f < length rows → held_at rows f k ≡ held f k es
+  pub held : (f : ℕ) (k : Kind) → f < length rows → held_at rows f k ≡ held_rights f k es
   pub journal : open_rows ≡ journal_of es
 
 -- The standing is what the kept records stand for; what is held there and which transactions are open is what took effect
@@ -59,37 +59,37 @@ abbrev pub with_rights : List FieldRights → Accounts → Accounts
 with_rights rows a = record a { standing = record { rights = rows; ledger = a.standing.ledger; epoch = a.standing.epoch } }
 
 -- A transaction taken out, and what it holds given back.
-abbrev pub released : TxnId → Accounts → Accounts
-released txn a =
+abbrev pub after_release : TxnId → Accounts → Accounts
+after_release txn a =
     record (with_rights (by_escrows (ending Aborted) a.standing.rights (escrows_at txn a.journal)) a) { journal = without txn a.journal }
 
 -- What a command does that writes no record.
-abbrev pub settled : Accounts → Command → Accounts
-settled a (Commit txn) = released txn a
-settled a (Abort txn) = released txn a
-settled a Begin = a
-settled a (Escrow txn field change) = a
-settled a (Give to field kind amount) = a
-settled a (Restate to field kind) = a
-settled a (Spare to field kind want) = a
-settled a (Tighten field kind amount) = a
-settled a (Accept told) = a
-settled a (Read field) = a
-settled a (Share field) = a
-settled a Restart = a
+abbrev pub after_settling : Accounts → Command → Accounts
+after_settling a (Commit txn) = after_release txn a
+after_settling a (Abort txn) = after_release txn a
+after_settling a Begin = a
+after_settling a (Escrow txn field change) = a
+after_settling a (Give to field kind amount) = a
+after_settling a (Restate to field kind) = a
+after_settling a (Spare to field kind want) = a
+after_settling a (Tighten field kind amount) = a
+after_settling a (Accept told) = a
+after_settling a (Read field) = a
+after_settling a (Share field) = a
+after_settling a Restart = a
 
 -- What is in memory when a record is taken in: a commit's transaction is released.
-abbrev pub readied : Accounts → Record → Accounts
-readied a (records.Commit txn escrows) = released txn a
-readied a (records.Gift to field kind total) = a
-readied a (records.Accept from field kind total) = a
-readied a (records.Tighten field kind total) = a
-readied a (records.Restart epoch) = a
-readied a (records.Summary v) = a
+abbrev pub before_taking_in : Accounts → Record → Accounts
+before_taking_in a (records.Commit txn escrows) = after_release txn a
+before_taking_in a (records.Gift to field kind total) = a
+before_taking_in a (records.Accept from field kind total) = a
+before_taking_in a (records.Tighten field kind total) = a
+before_taking_in a (records.Restart epoch) = a
+before_taking_in a (records.Summary v) = a
 
 -- The transaction is open, and its escrows are held.
 pub record CanClose (a : Accounts) (txn : TxnId) : Type 0 where
-  pub opened : stands txn a.journal ≡ true
+  pub opened : is_listed txn a.journal ≡ true
   pub in_range : AreInRange a.standing.rights (escrows_at txn a.journal)
   pub are_held : AreHeld a.standing.rights (escrows_at txn a.journal)
 
@@ -118,8 +118,8 @@ CanReady a (records.Summary v) = Unit {0}
 -- The record can be taken in, once its transaction is released.
 pub record CanCarry (schema : SchemaValue) (a : Accounts) (kept : Record) : Type 0 where
   pub ready : CanReady a kept
-  pub places : HasPlaces schema (readied a kept).standing.rights (readied a kept).standing.ledger
-  pub takes_ : CanTakeIn schema (readied a kept).standing kept
+  pub places : HasSlots schema (before_taking_in a kept).standing.rights (before_taking_in a kept).standing.ledger
+  pub takes_ : CanTakeIn schema (before_taking_in a kept).standing kept
 
 -- The command needs no memory of its own.
 abbrev pub is_carried : Command → Bool
@@ -148,8 +148,8 @@ pub record RestsOn (schema : SchemaValue) (site : SiteNo) (base : Base) (based :
   pub based_on : Lawful schema site.0 based
 
 -- One record more, with lines of this length. Where a summary is due behind it, it stands in them.
-abbrev pub extended : Extent → ℕ → Extent
-extended e size =
+abbrev pub one_record_longer : Extent → ℕ → Extent
+one_record_longer e size =
     record {
       count = e.count + 1;
       length = told_length (e.length + size);
@@ -183,7 +183,7 @@ pub record Reaches (e : Extent) (rs : List Record) : Type 0 where
 -- was last up, and where they end: these are all while it is up. Where an answer is in doubt, its record stands behind
 -- them, if it stands. Few records stand behind the last summary, and few were replayed. While the site is up, it stands on
 -- its history in memory too.
-pub record IsSound (v : SiteValue) (up : Bool) (extent : Extent) (a : Accounts) : Type 0 where
+pub record IsSoundSite (v : SiteValue) (up : Bool) (extent : Extent) (a : Accounts) : Type 0 where
   pub ground : RestsOn v.schema v.site (base_of v) (plain v.based)
   pub records : List Record
   pub rest : List ℕ

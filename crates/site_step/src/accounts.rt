@@ -5,9 +5,9 @@ ghost use Rattle.kept_records.specs.declared.record.Record.TheVariants.{Restart}
 ghost use Rattle.kept_records.specs.Text.{IsRecord};
 ghost use Rattle.site_rights.specs.declared.field_rights.Outcome.TheVariants.{Aborted};
 ghost use Rattle.site_rights.specs.Rights.{ending, by_escrows, AreInRange, AreHeld};
-ghost use Rattle.escrow_journal.specs.Journal.{stands, escrows_at, without};
-ghost use Rattle.log_replay.specs.Standing.{HasPlaces, CanTakeIn, TakesIn};
-ghost use Rattle.site_step.specs.State.{CanClose, CanSettle, CanCarry, released, settled, readied};
+ghost use Rattle.escrow_journal.specs.Journal.{is_listed, escrows_at, without};
+ghost use Rattle.log_replay.specs.Standing.{HasSlots, CanTakeIn, TakesIn};
+ghost use Rattle.site_step.specs.State.{CanClose, CanSettle, CanCarry, after_release, after_settling, before_taking_in};
 
 use escrow_journal::Journal;
 use field_bounds::{Command, Schema, TxnId};
@@ -26,7 +26,7 @@ pub(crate) struct Accounts {
 
 /// Takes an open transaction out of the journal and gives back what it holds.
 fn close(journal: &mut Journal, rights: &mut Rights, txn: TxnId)
-    requires open { stands txn journal.old ≡ true }
+    requires open { is_listed txn journal.old ≡ true }
     requires in_schema { AreInRange rights.old (escrows_at txn journal.old) }
     requires there { AreHeld rights.old (escrows_at txn journal.old) }
     ensures journal { journal.new ≡ without txn journal.old }
@@ -40,7 +40,7 @@ impl Accounts {
     /// Ends an open transaction: what it holds is given back.
     fn release(&mut self, txn: TxnId)
         requires can { CanClose self.old txn }
-        ensures released { self.new ≡ released txn self.old }
+        ensures released { self.new ≡ after_release txn self.old }
     {
         close(&mut self.journal, &mut self.standing.rights, txn);
     }
@@ -48,7 +48,7 @@ impl Accounts {
     /// Does what a command does that writes no record: an end releases its transaction.
     pub(crate) fn settle(&mut self, command: Command)
         requires can { CanSettle self.old command }
-        ensures settled { self.new ≡ settled self.old command }
+        ensures settled { self.new ≡ after_settling self.old command }
     {
         match command {
             Command::Commit { txn } | Command::Abort { txn } => self.release(txn),
@@ -70,8 +70,8 @@ impl Accounts {
     pub(crate) fn carry_out(&mut self, schema: &Schema, kept: &Record)
         requires can { CanCarry schema.now self.old kept.now }
         requires ranges { IsRecord kept.now }
-        ensures took { TakesIn schema.now (readied self.old kept.now).standing kept.now true self.new.standing }
-        ensures journal { self.new.journal ≡ (readied self.old kept.now).journal }
+        ensures took { TakesIn schema.now (before_taking_in self.old kept.now).standing kept.now true self.new.standing }
+        ensures journal { self.new.journal ≡ (before_taking_in self.old kept.now).journal }
         ensures last { self.new.last ≡ self.old.last }
     {
         if let Record::Commit { txn, escrows: _ } = kept {
@@ -84,7 +84,7 @@ impl Accounts {
     /// Stands on what the records of a log stand for, and on the restart behind them: no transaction
     /// is open.
     pub(crate) fn stand_on(&mut self, schema: &Schema, standing: Standing, epoch: u32)
-        requires places { HasPlaces schema.now standing.rights standing.ledger }
+        requires places { HasSlots schema.now standing.rights standing.ledger }
         requires can { CanTakeIn schema.now standing (Restart epoch) }
         requires ranges { IsRecord (Restart epoch) }
         ensures took { TakesIn schema.now standing (Restart epoch) true self.new.standing }

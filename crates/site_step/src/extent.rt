@@ -5,8 +5,8 @@ ghost use Rattle.kept_records.specs.declared.record.Record.{Record};
 ghost use Rattle.kept_records.specs.Text.{IsRecord};
 ghost use Rattle.kept_records.specs.Keeping.{with_due};
 ghost use Rattle.kept_records.specs.Stands.{is_summary, since_summary, max_behind, piece};
-ghost use Rattle.log_replay.specs.Resuming.{MayStandNext};
-ghost use Rattle.site_step.specs.State.{extended};
+ghost use Rattle.log_replay.specs.Resuming.{MayFollowNext};
+ghost use Rattle.site_step.specs.State.{one_record_longer};
 
 use field_bounds::Schema;
 use kept_records::{Record, Summary};
@@ -49,8 +49,8 @@ pub(crate) fn due_behind(
 ) -> Result<Option<Summary>, AllocError>
     requires in_range { IsRecord next.now }
     requires plain { is_summary next.now ≡ false }
-    requires may { (rs : List Record) × MayStandNext schema.now standing.now rs next.now }
-    ensures due { IfOk result (λ due. (rs : List Record) → MayStandNext schema.now standing.now rs next.now → behind ≡ since_summary rs →
+    requires may { (rs : List Record) × MayFollowNext schema.now standing.now rs next.now }
+    ensures due { IfOk result (λ due. (rs : List Record) → MayFollowNext schema.now standing.now rs next.now → behind ≡ since_summary rs →
         with_due next.now due ≡ piece schema.now standing.now.ledger.site rs next.now) }
 {
     if behind < MAX_BEHIND - 1 {
@@ -64,7 +64,7 @@ impl Extent {
     /// One record more stands whole, with the summary that was due behind it, in lines of this length.
     pub(crate) fn extend(&mut self, length: usize)
         requires few { self.old.count + 1 < 2 ^ 64 }
-        ensures extended { self.new ≡ extended self.old length }
+        ensures extended { self.new ≡ one_record_longer self.old length }
     {
         self.count += 1;
         self.length = self.length.saturating_add(length);

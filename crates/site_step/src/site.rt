@@ -55,13 +55,13 @@ pub struct Site<M: Medium> {
 
 impl<M: Medium> Model for Site<M> {
     ghost use Rattle.site_step.specs.Site.{SiteValue, value_of};
-    ghost use Rattle.site_step.specs.State.{IsSound};
+    ghost use Rattle.site_step.specs.State.{IsSoundSite};
 
     ghost Value = { SiteValue };
 
     ghost view = { λ s. value_of s.schema s.number s.fresh s.based.items s.history.items (M.bytes s.medium) (M.failed s.medium) (M.foretold s.medium) s.doubt s.replayed };
 
-    ghost invariant = { λ s. IsSound (value_of s.schema s.number s.fresh s.based.items s.history.items (M.bytes s.medium) (M.failed s.medium) (M.foretold s.medium) s.doubt s.replayed) s.up s.extent s.accounts };
+    ghost invariant = { λ s. IsSoundSite (value_of s.schema s.number s.fresh s.based.items s.history.items (M.bytes s.medium) (M.failed s.medium) (M.foretold s.medium) s.doubt s.replayed) s.up s.extent s.accounts };
 }
 
 impl<M: Medium> Site<M> {

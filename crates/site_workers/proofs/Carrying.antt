@@ -9,7 +9,7 @@ use Rattle.field_bounds.specs.declared.id.SiteNo.{SiteNo}
 use Rattle.field_bounds.specs.declared.entry.Statement.{Statement}
 use Rattle.field_bounds.specs.declared.entry.Command.{Command}
 use Rattle.field_bounds.specs.declared.entry.Command.TheVariants.{Accept}
-use Rattle.site_desk.specs.declared.kept.Receipt.{Receipt}
+use Rattle.site_desk.specs.declared.locked.Receipt.{Receipt}
 use Rattle.site_workers.specs.declared.inbox.Letter.{Letter}
 use Rattle.site_workers.specs.declared.inbox.Letter.TheVariants.{Stated, End}
 use Rattle.site_workers.specs.Inboxes.{site_no}

@@ -22,7 +22,7 @@ use Rattle.site_step.specs.Site.{SiteValue, base_of}
 use Rattle.site_desk.specs.declared.fault.DeskFault.{DeskFault}
 use Rattle.site_desk.specs.declared.fault.DeskFault.TheVariants as desk_faults
 use Rattle.site_desk.specs.Faults.{Fails}
-use Rattle.site_desk.specs.declared.kept.Receipt.{Receipt}
+use Rattle.site_desk.specs.declared.locked.Receipt.{Receipt}
 use Rattle.site_desk.specs.declared.receipts.ReceiptFault.{ReceiptFault}
 use Rattle.site_desk.specs.declared.receipts.ReceiptFault.TheVariants as receipt_faults
 use Rattle.site_desk.specs.ReceiptFaults.{TellsReceipts}

@@ -9,8 +9,8 @@ use Rattle.field_bounds.specs.declared.id.SiteNo.{SiteNo}
 use Rattle.field_bounds.specs.declared.entry.Command.{Command}
 use Rattle.field_bounds.specs.declared.entry.Entry.{Entry}
 use Rattle.field_bounds.specs.Schema.{SchemaValue}
-use Rattle.site_desk.specs.declared.kept.Receipt.{Receipt}
-use Rattle.site_desk.specs.Receipts.{AllStandAt, HasNumber, AreReceiptsOf}
+use Rattle.site_desk.specs.declared.locked.Receipt.{Receipt}
+use Rattle.site_desk.specs.Receipts.{AreAllAt, HasNumber, AreReceiptsOf}
 use Rattle.site_desk.proofs.Checks.{has_split}
 use Rattle.std.specs.Prelude.{Result, Ok, Err, IfOk}
 use Rattle.std.specs.Global.{Vec}
@@ -114,19 +114,19 @@ rises_above : (from to n : ℕ) (rs : List Receipt) → n ≤ from → IsRising 
 rises_above from to n [] le rising = tt
 rises_above from to n (r ∷ rs) le rising = let first : from < r.number = rising.0 in (omega arith, rises_above r.number to r.number rs (omega arith) rising.1)
 
-stand_left : (site : SiteNo) (h : List Entry) (rs qs : List Receipt) → AllStandAt site h (rs ++ qs) → AllStandAt site h rs
+stand_left : (site : SiteNo) (h : List Entry) (rs qs : List Receipt) → AreAllAt site h (rs ++ qs) → AreAllAt site h rs
 stand_left site h [] qs all = tt
 stand_left site h (r ∷ rs) qs all = (all.0, stand_left site h rs qs all.1)
 
-stand_right : (site : SiteNo) (h : List Entry) (rs qs : List Receipt) → AllStandAt site h (rs ++ qs) → AllStandAt site h qs
+stand_right : (site : SiteNo) (h : List Entry) (rs qs : List Receipt) → AreAllAt site h (rs ++ qs) → AreAllAt site h qs
 stand_right site h [] qs all = all
 stand_right site h (r ∷ rs) qs all = stand_right site h rs qs all.1
 
-all_in : (site : SiteNo) (h : List Entry) (rs : List Receipt) → AllStandAt site h rs → AllIn 0 h rs
+all_in : (site : SiteNo) (h : List Entry) (rs : List Receipt) → AreAllAt site h rs → AllIn 0 h rs
 all_in site h [] all = tt
 all_in site h (r ∷ rs) all = (all.0.entry, all_in site h rs all.1)
 
-accept_at : (site : SiteNo) (h : List Entry) (rs : List Receipt) (i : ℕ) (e : Entry) → AllStandAt site h rs → AreAccepts (commands_of rs) → HasNumber rs (i + 1) → slice_get h i ≡ Some e → is_accept e.command ≡ true
+accept_at : (site : SiteNo) (h : List Entry) (rs : List Receipt) (i : ℕ) (e : Entry) → AreAllAt site h rs → AreAccepts (commands_of rs) → HasNumber rs (i + 1) → slice_get h i ≡ Some e → is_accept e.command ≡ true
 accept_at site h [] i e all accepts has at = absurd has
 accept_at site h (r ∷ rs) i e all accepts (inl now) at =
     let place : r.number - 1 ≡ i = omega arith in

@@ -9,7 +9,7 @@ use Rattle.field_bounds.specs.Owed.{IsRun}
 use Rattle.field_bounds.specs.Central.{AreOf}
 use Rattle.site_desk.specs.declared.fault.DeskFault.{DeskFault}
 use Rattle.site_desk.specs.declared.fault.DeskFault.TheVariants as desk_faults
-use Rattle.site_desk.specs.declared.kept.Receipt.{Receipt}
+use Rattle.site_desk.specs.declared.locked.Receipt.{Receipt}
 use Rattle.site_desk.specs.declared.receipts.ReceiptFault.{ReceiptFault}
 use Rattle.site_desk.specs.declared.receipts.ReceiptFault.TheVariants as receipt_faults
 use Rattle.site_desk.specs.ReceiptFaults.{TellsReceipts}

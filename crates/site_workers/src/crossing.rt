@@ -6,7 +6,7 @@ ghost use Rattle.field_bounds.specs.Statements.{statement_of};
 ghost use Rattle.site_workers.specs.Scripts.{histories_of, HasAccept, NoneForeign, NoneLost};
 ghost use Rattle.site_workers.specs.Crossing.{set_at, lower_of, IsLowest, LacksTold, TakesTold, LacksIn, TakesIn, IsLowestForeign, IsLowestLost};
 
-use crate::told::{all_accepted, all_issued, has_at};
+use crate::statement_sets::{all_accepted, all_issued, has_at};
 use field_bounds::{Command, Entry, SiteNo, Statement, statement_of};
 use statement_set::StatementSet;
 use std::alloc::{AllocError, Global};

@@ -5,7 +5,7 @@
 ghost use Rattle.std.specs.Prelude.{◌≡◌, ◌+◌, ◌<◌, ℕ, [], ◌∷◌, ◌++◌, IfOk, IfErr, OnOk, OnErr, MatchResult, None, Some, IfSome, IfNone};
 ghost use Rattle.crossbeam_channel.specs.Claims.{view, IsSeatAt};
 ghost use Rattle.crossbeam_channel.specs.Ends.{sends_on, receives_on};
-ghost use Rattle.site_workers.specs.Inboxes.{after_put, after_take, AllStand, maker_after, MayPut, newcomer, next_worker};
+ghost use Rattle.site_workers.specs.Inboxes.{after_put, after_take, AllPut, maker_after, MayPut, newcomer, next_worker};
 
 use crossbeam_channel::protocol::{Lesson, Outcome, Protocol, Split};
 use crossbeam_channel::{Pass, RuledReceiver, RuledSender, bounded_with};
@@ -41,9 +41,9 @@ pub struct View {
 pub struct Standing;
 
 impl Protocol<Letter, View> for Standing {
-    ghost use Rattle.site_workers.specs.Inboxes.{AllStand, newcomer};
+    ghost use Rattle.site_workers.specs.Inboxes.{AllPut, newcomer};
 
-    ghost holds = { AllStand };
+    ghost holds = { AllPut };
 
     ghost first = { newcomer };
 }

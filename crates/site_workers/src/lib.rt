@@ -14,7 +14,7 @@ pub mod inbox;
 mod one_site;
 mod post;
 mod running;
-mod told;
+mod statement_sets;
 
 pub use all_sites::run_workers;
 pub use courier::carry;

@@ -11,7 +11,7 @@ use Rattle.field_bounds.specs.Effects.{fresh}
 use Rattle.field_bounds.specs.Owed.{IsRun}
 use Rattle.field_bounds.specs.Central.{own, AreOf, IsAtSites, IsTold, IsSound}
 use Rattle.field_bounds.proofs.Traces.{own_here, own_there}
-use Rattle.trace_weave.specs.Weave.{history_at, placed, next_of, IsPicked, Weaves}
+use Rattle.trace_weave.specs.Weave.{history_at, count_placed, next_of, IsPicked, Weaves}
 use Rattle.trace_weave.proofs.Woven.{placed_here, placed_there}
 
 site_at : (s : ℕ) (h : List Entry) (n : ℕ) (d : Entry) → AreOf s h → n < length h → (get_or h n d).site.0 ≡ s
@@ -37,17 +37,17 @@ module _ (hs : List (List Entry)) (sites : (s : ℕ) → s < length hs → AreOf
       (site_at s (history_at hs s) n e (sites s (place_within hs s n e is)) (slice_get_within (history_at hs s) n e is))
 
   -- a site's entries in the trace are the front of its history that was placed
-  own_placed : (ps : List ℕ) (t : List Entry) → IsPicked hs ps t → (s : ℕ) → own s t ≡ reverse (take (placed s ps) (history_at hs s))
+  own_placed : (ps : List ℕ) (t : List Entry) → IsPicked hs ps t → (s : ℕ) → own s t ≡ reverse (take (count_placed s ps) (history_at hs s))
   own_placed [] [] by s = refl
   own_placed [] (e ∷ t) by s = absurd by
   own_placed (p ∷ ps) [] by s = absurd by
   own_placed (p ∷ ps) (e ∷ t) by s =
-      let before : own s t ≡ reverse (take (placed s ps) (history_at hs s)) = own_placed ps t by.2 s in
-      let site : e.site.0 ≡ p = picked_site p (placed p ps) e by.0 in
+      let before : own s t ≡ reverse (take (count_placed s ps) (history_at hs s)) = own_placed ps t by.2 s in
+      let site : e.site.0 ≡ p = picked_site p (count_placed p ps) e by.0 in
       dite (ℕ_discrete p s)
       (λ (here : p ≡ s).
       let h : List Entry = history_at hs s in
-      let n : ℕ = placed s ps in
+      let n : ℕ = count_placed s ps in
       let next : slice_get h n ≡ Some e = subst (λ (q : ℕ). next_of hs q ps ≡ Some e) here by.0 in
       let last : get_or h n e ≡ e = get_or_from_slice_get h n e e next in
       let grown : take (n + 1) h ≡ take n h ++ e ∷ [] = subst (λ (x : Entry). take (n + 1) h ≡ take n h ++ x ∷ []) last (take_more h n e (slice_get_within h n e next)) in
@@ -65,8 +65,8 @@ module _ (hs : List (List Entry)) (sites : (s : ℕ) → s < length hs → AreOf
   at_sites schema all [] (e ∷ t) by = absurd by
   at_sites schema all (p ∷ ps) [] by = absurd by
   at_sites schema all (p ∷ ps) (e ∷ t) by =
-      let site : e.site.0 ≡ p = picked_site p (placed p ps) e by.0 in
-      let below : p < length hs = place_within hs p (placed p ps) e by.0 in
+      let site : e.site.0 ≡ p = picked_site p (count_placed p ps) e by.0 in
+      let below : p < length hs = place_within hs p (count_placed p ps) e by.0 in
       (at_sites schema all ps t by.2, omega arith)
 
   are_told : (ps : List ℕ) (t : List Entry) → IsPicked hs ps t → IsTold t
@@ -79,11 +79,11 @@ module _ (hs : List (List Entry)) (sites : (s : ℕ) → s < length hs → AreOf
       → ((s : ℕ) → s < schema.sites → IsRun schema s (fresh schema s) (reverse (history_at hs s)))
       → Weaves hs t → IsSound schema t
   woven_is_sound schema t all runs w =
-      let whole : (s : ℕ) → length (history_at hs s) ≤ placed s w.0 = λ s. (let w2 : placed s w.0 ≡ length (history_at hs s) = w.2 s in omega arith) in record {
+      let whole : (s : ℕ) → length (history_at hs s) ≤ count_placed s w.0 = λ s. (let w2 : count_placed s w.0 ≡ length (history_at hs s) = w.2 s in omega arith) in record {
         sites = at_sites schema all w.0 t w.1;
         statements = are_told w.0 t w.1;
         runs = λ s below.
             subst (λ (o : List Entry). IsRun schema s (fresh schema s) o)
-            (sym (own_placed w.0 t w.1 s ∙ ap (λ (l : List Entry). reverse l) (take_all (placed s w.0) (history_at hs s) (whole s))))
+            (sym (own_placed w.0 t w.1 s ∙ ap (λ (l : List Entry). reverse l) (take_all (count_placed s w.0) (history_at hs s) (whole s))))
             (runs s below);
       }

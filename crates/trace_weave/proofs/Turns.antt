@@ -8,7 +8,7 @@ use mathlib.Core.Logic.{dite}
 use Rattle.field_bounds.specs.declared.entry.Entry.{Entry}
 use Rattle.field_bounds.specs.declared.entry.Statement.{Statement}
 use Rattle.field_bounds.specs.Statements.{statement_of}
-use Rattle.trace_weave.specs.Weave.{history_at, placed, next_of, IsPicked, Waits, WeavesLowest, SticksAt, NoneWeaves}
+use Rattle.trace_weave.specs.Weave.{history_at, count_placed, next_of, IsPicked, Waits, WeavesLowest, SticksAt, NoneWeaves}
 use Rattle.trace_weave.specs.Turn.{upcoming, HoldsBack, IsTurn, IsFirstLeft, IsWoven, left_of, IsReached, GoesOn}
 use Rattle.statement_set.specs.Issued.{HasIssued}
 use Rattle.statement_set.proofs.Sets.{issued_more}
@@ -32,9 +32,9 @@ turns hs counts t s e inside turn w = record {
   counted = λ j.
       dite (ℕ_discrete s j)
       (λ (here : s ≡ j).
-      let at : get_or counts j 0 ≡ placed j w.picks = w.counted j in
-      let more : placed j (s ∷ w.picks) ≡ placed j w.picks + 1 = placed_here j s w.picks here in
-      subst (λ (k : ℕ). get_or (set counts s (get_or counts s 0 + 1)) k 0 ≡ placed j (s ∷ w.picks)) here
+      let at : get_or counts j 0 ≡ count_placed j w.picks = w.counted j in
+      let more : count_placed j (s ∷ w.picks) ≡ count_placed j w.picks + 1 = placed_here j s w.picks here in
+      subst (λ (k : ℕ). get_or (set counts s (get_or counts s 0 + 1)) k 0 ≡ count_placed j (s ∷ w.picks)) here
       (get_or-set_same counts s (get_or counts s 0 + 1) 0 inside
       ∙ (ap (λ (k : ℕ). get_or counts k 0 + 1) here ∙ (ap (λ (n : ℕ). n + 1) at ∙ sym more))))
       (λ (other : s ≢ j).
@@ -72,19 +72,19 @@ fewer_left hs counts seen t s n e len same found turned =
     subst (λ (k : ℕ). left_of hs (set counts s (k + 1)) < left_of hs counts) (sym at)
     (left_smaller hs counts s len turn.inside (slice_get_within (history_at hs s) (get_or counts s 0) e turn.next))
 
-placed_within : (hs : List (List Entry)) (ps : List ℕ) (t : List Entry) → IsPicked hs ps t → (s : ℕ) → placed s ps ≤ length (history_at hs s)
+placed_within : (hs : List (List Entry)) (ps : List ℕ) (t : List Entry) → IsPicked hs ps t → (s : ℕ) → count_placed s ps ≤ length (history_at hs s)
 placed_within hs [] [] by s = omega arith
 placed_within hs [] (e ∷ t) by s = absurd by
 placed_within hs (p ∷ ps) [] by s = absurd by
 placed_within hs (p ∷ ps) (e ∷ t) by s =
     dite (ℕ_discrete p s)
     (λ (here : p ≡ s).
-    let below : placed s ps < length (history_at hs s) = slice_get_within (history_at hs s) (placed s ps) e (subst (λ (q : ℕ). next_of hs q ps ≡ Some e) here by.0) in
-    let more : placed s (p ∷ ps) ≡ placed s ps + 1 = placed_here s p ps here in
+    let below : count_placed s ps < length (history_at hs s) = slice_get_within (history_at hs s) (count_placed s ps) e (subst (λ (q : ℕ). next_of hs q ps ≡ Some e) here by.0) in
+    let more : count_placed s (p ∷ ps) ≡ count_placed s ps + 1 = placed_here s p ps here in
     omega arith)
     (λ (other : p ≢ s).
-    let same : placed s (p ∷ ps) ≡ placed s ps = placed_there s p ps other in
-    let before : placed s ps ≤ length (history_at hs s) = placed_within hs ps t by.2 s in
+    let same : count_placed s (p ∷ ps) ≡ count_placed s ps = placed_there s p ps other in
+    let before : count_placed s ps ≤ length (history_at hs s) = placed_within hs ps t by.2 s in
     omega arith)
 
 past_end : (h : List Entry) (n : ℕ) → slice_get h n ≡ None → length h ≤ n
@@ -100,8 +100,8 @@ ends_whole hs counts seen t same gone w =
       picks = w.picks;
       picked = w.picked;
       whole = λ s.
-          (let at : get_or counts s 0 ≡ placed s w.picks = w.counted s in
-          let most : placed s w.picks ≤ length (history_at hs s) = placed_within hs w.picks t w.picked s in
+          (let at : get_or counts s 0 ≡ count_placed s w.picks = w.counted s in
+          let most : count_placed s w.picks ≤ length (history_at hs s) = placed_within hs w.picks t w.picked s in
           let least : length (history_at hs s) ≤ get_or counts s 0 = past_end (history_at hs s) (get_or counts s 0) (none s) in
           omega arith);
       lowest = w.lowest;

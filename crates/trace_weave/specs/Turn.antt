@@ -5,7 +5,7 @@ use Rattle.field_bounds.specs.declared.entry.Entry.{Entry}
 use Rattle.field_bounds.specs.declared.entry.Statement.{Statement}
 use Rattle.field_bounds.specs.Statements.{statement_of}
 use Rattle.statement_set.specs.Issued.{HasIssued}
-use Rattle.trace_weave.specs.Weave.{history_at, placed, MayStand, IsPicked, IsLowest}
+use Rattle.trace_weave.specs.Weave.{history_at, count_placed, MayFollow, IsPicked, IsLowest}
 
 -- The next entry of history s.
 abbrev pub upcoming : List (List Entry) → List ℕ → ℕ → Option Entry
@@ -13,13 +13,13 @@ upcoming hs counts s = slice_get (history_at hs s) (slice_index_or counts s 0)
 
 -- The next entry of history s may not stand yet.
 abbrev pub HoldsBack : List (List Entry) → List ℕ → List Entry → ℕ → Type 0
-HoldsBack hs counts t s = (e : Entry) → upcoming hs counts s ≡ Some e → ¬ MayStand t e
+HoldsBack hs counts t s = (e : Entry) → upcoming hs counts s ≡ Some e → ¬ MayFollow t e
 
 -- The turn is history s's, with entry e: the lowest one whose next entry may stand.
 pub record IsTurn (hs : List (List Entry)) (counts : List ℕ) (t : List Entry) (s : ℕ) (e : Entry) : Type 0 where
   pub inside : s < length hs
   pub next : upcoming hs counts s ≡ Some e
-  pub may : MayStand t e
+  pub may : MayFollow t e
   pub lower : (j : ℕ) → j < s → HoldsBack hs counts t j
 
 -- The lowest history with entries left.
@@ -34,7 +34,7 @@ pub record IsWoven (hs : List (List Entry)) (counts : List ℕ) (t : List Entry)
   pub picks : List ℕ
   pub picked : IsPicked hs picks t
   pub lowest : IsLowest hs picks t
-  pub counted : (s : ℕ) → slice_index_or counts s 0 ≡ placed s picks
+  pub counted : (s : ℕ) → slice_index_or counts s 0 ≡ count_placed s picks
 
 -- The statements told are those that the trace issues, and below this history none has a next entry that may stand.
 pub record IsReached (hs : List (List Entry)) (counts : List ℕ) (told : List Statement) (t : List Entry) (from : ℕ) : Type 0 where

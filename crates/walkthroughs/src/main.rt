@@ -28,14 +28,14 @@ const WALKTHROUGHS: [&str; 10] = [
 const WORKS: [(&str, &[&str]); 1] = [("counters_at_once", &["0 ", "1 ", "2 "])];
 
 /// What a script writes; a fault ends it early.
-fn written(alloc: Global, script: &str) -> Vec<u8> {
+fn write_script(alloc: Global, script: &str) -> Vec<u8> {
     let mut writer = Watched::new(Vec::new(alloc));
     let _ = run_script(alloc, &mut Watched::new(script.as_bytes()), &mut writer);
     writer.into_inner()
 }
 
 /// How an audit answers what a script writes; a fault ends it early.
-fn audited(rt: &(impl Threads + Sync), alloc: Global, fields: bool, answers: &[u8]) -> Vec<u8> {
+fn audit_script(rt: &(impl Threads + Sync), alloc: Global, fields: bool, answers: &[u8]) -> Vec<u8> {
     let mut writer = Watched::new(Vec::new(alloc));
     let _ = audit_text(rt, alloc, fields, &mut Watched::new(answers), &mut writer);
     writer.into_inner()
@@ -80,14 +80,14 @@ fn main(rt: HostRuntime) -> io::Result<()> {
     for name in WALKTHROUGHS {
         let script = fs::read_to_string(&rt, path(alloc, name, "txt")?.as_str())?;
         let told = fs::read_to_string(&rt, path(alloc, name, "out")?.as_str())?;
-        let answers = written(alloc, script.as_str());
+        let answers = write_script(alloc, script.as_str());
         if answers.as_slice() == told.as_bytes() {
             println!(rt; "{name}: as told")?;
         } else {
             println!(rt; "{name}: differs")?;
         }
         for fields in [false, true] {
-            let judged = audited(&rt, alloc, fields, answers.as_slice());
+            let judged = audit_script(&rt, alloc, fields, answers.as_slice());
             print!(rt;
                 "{name}: {}",
                 str::from_utf8(judged.as_slice()).unwrap_or("no text\n")
@@ -107,7 +107,7 @@ fn main(rt: HostRuntime) -> io::Result<()> {
             println!(rt; "{name}: site {site}did {told}")?;
         }
         for fields in [false, true] {
-            let judged = audited(&rt, alloc, fields, answers.as_slice());
+            let judged = audit_script(&rt, alloc, fields, answers.as_slice());
             print!(rt;
                 "{name}: {}",
                 str::from_utf8(judged.as_slice()).unwrap_or("no text\n")

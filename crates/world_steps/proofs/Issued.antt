@@ -16,7 +16,7 @@ use Rattle.field_bounds.specs.Central.{own, IsSound}
 use Rattle.field_bounds.proofs.Refused.{answered, give_is_to_a_site, restate_is_to_a_site, spare_is_to_a_site}
 use Rattle.field_bounds.proofs.Traces.{sound_front, sound_fits}
 use Rattle.field_bounds.proofs.Ledgers.{told_is_covered}
-use Rattle.world_steps.specs.World.{with_statement, issued, numbered}
+use Rattle.world_steps.specs.World.{with_statement, statements_issued, statement_at}
 
 -- ---- giver and receiver of a statement are in the schema
 
@@ -58,18 +58,18 @@ numbered_step : (b : Bool) (y x : Statement) (ys : List Statement) (rest : Optio
 numbered_step true y x ys rest h more = inl (same_Some y x h)
 numbered_step false y x ys rest h more = inr (more h)
 
-numbered_is_among : (k : ℕ) (ys : List Statement) (x : Statement) → numbered k ys ≡ Some x → IsAmong x ys
+numbered_is_among : (k : ℕ) (ys : List Statement) (x : Statement) → statement_at k ys ≡ Some x → IsAmong x ys
 numbered_is_among k [] x h = cc
-numbered_is_among k (y ∷ ys) x h = numbered_step (eqb k (suc (length ys))) y x ys (numbered k ys) h (numbered_is_among k ys x)
+numbered_is_among k (y ∷ ys) x h = numbered_step (eqb k (suc (length ys))) y x ys (statement_at k ys) h (numbered_is_among k ys x)
 
 issued_step : (o : Option Statement) (x : Statement) (ys : List Statement) (Earlier : Type 0) → (IsAmong x ys → Earlier) → IsAmong x (with_statement o ys) → (o ≡ Some x) ⊎ Earlier
 issued_step None x ys Earlier more h = inr (more h)
 issued_step (Some y) x ys Earlier more (inl same) = inl (ap Some same)
 issued_step (Some y) x ys Earlier more (inr among) = inr (more among)
 
-among_is_issued : (t : List Entry) (x : Statement) → IsAmong x (issued t) → IsIssued x t
+among_is_issued : (t : List Entry) (x : Statement) → IsAmong x (statements_issued t) → IsIssued x t
 among_is_issued [] x h = h
-among_is_issued (e ∷ t) x h = issued_step (statement_of e) x (issued t) (IsIssued x t) (among_is_issued t x) h
+among_is_issued (e ∷ t) x h = issued_step (statement_of e) x (statements_issued t) (IsIssued x t) (among_is_issued t x) h
 
-pub numbered_is_issued : (k : ℕ) (t : List Entry) (x : Statement) → numbered k (issued t) ≡ Some x → IsIssued x t
-numbered_is_issued k t x h = among_is_issued t x (numbered_is_among k (issued t) x h)
+pub numbered_is_issued : (k : ℕ) (t : List Entry) (x : Statement) → statement_at k (statements_issued t) ≡ Some x → IsIssued x t
+numbered_is_issued k t x h = among_is_issued t x (numbered_is_among k (statements_issued t) x h)

@@ -18,49 +18,49 @@ use Rattle.field_bounds.proofs.Headline.{sound_is_central}
 use Rattle.kept_state.specs.Luck.{Lucky, entries, own_lucky, lucky_reply}
 use Rattle.site_step.specs.Site.{SiteValue}
 use Rattle.world_steps.specs.declared.step.WorldStep.{WorldStep}
-use Rattle.world_steps.specs.declared.kept.KeptSteps.{KeptSteps}
-use Rattle.world_steps.specs.World.{with_statement, issued, asked, luck_of, StepFits, with_entry, world_of, trace_by}
+use Rattle.world_steps.specs.declared.beside_trace.StepNotes.{StepNotes}
+use Rattle.world_steps.specs.World.{with_statement, statements_issued, question_of, luck_of, StepFits, with_entry, world_of, trace_by}
 use Rattle.world_steps.specs.Promises.{IsOneStore}
-use Rattle.world_steps.specs.Standing.{AllStand}
-use Rattle.world_steps.specs.Kept.{steps_kept, SameKept}
+use Rattle.world_steps.specs.Standing.{AllFollow}
+use Rattle.world_steps.specs.Kept.{steps_beside, SameKept}
 use Rattle.world_steps.specs.View.{WorldValue, trace_of, IsWorld}
 use Rattle.world_steps.proofs.Sound.{StepsFit, step_allows, world_is_sound, bounded_throughout, outcomes_throughout, only_tighten, none_strange}
 
 -- ---- what is kept of the steps
 
 -- the same that is kept tells the same steps
-same_steps : (trace tracing : List Entry) (kept ready : KeptSteps) → tracing ≡ trace → SameKept kept ready → steps_kept tracing ready ≡ steps_kept trace kept
+same_steps : (trace tracing : List Entry) (kept ready : StepNotes) → tracing ≡ trace → SameKept kept ready → steps_beside tracing ready ≡ steps_beside trace kept
 same_steps trace tracing kept ready is same = rw (is, same.ways, same.numbers, same.torn)
 
 -- so one more step is told, once there was room for it: one that made no entry
-pub missed_more : (trace tracing : List Entry) (kept ready later : KeptSteps) (step : WorldStep) → tracing ≡ trace → SameKept kept ready
-    → ((t : List Entry) → steps_kept t later ≡ steps_kept t ready ++ step ∷ [])
-    → steps_kept tracing later ≡ steps_kept trace kept ++ step ∷ []
+pub missed_more : (trace tracing : List Entry) (kept ready later : StepNotes) (step : WorldStep) → tracing ≡ trace → SameKept kept ready
+    → ((t : List Entry) → steps_beside t later ≡ steps_beside t ready ++ step ∷ [])
+    → steps_beside tracing later ≡ steps_beside trace kept ++ step ∷ []
 missed_more trace tracing kept ready later step is same more =
     more tracing ∙ ap (λ (l : List WorldStep). l ++ step ∷ []) (same_steps trace tracing kept ready is same)
 
 -- and one that made an entry
-pub made_more : (past trace before tracing : List Entry) (e : Entry) (kept ready later : KeptSteps) (step : WorldStep) → before ≡ trace → tracing ≡ before ++ e ∷ [] → SameKept kept ready
-    → asked past step ≡ Some (e.site, e.command)
-    → ((p t : List Entry) (x : Entry) → asked p step ≡ Some (x.site, x.command) → steps_kept (t ++ x ∷ []) later ≡ steps_kept t ready ++ step ∷ [])
-    → steps_kept tracing later ≡ steps_kept trace kept ++ step ∷ []
+pub made_more : (past trace before tracing : List Entry) (e : Entry) (kept ready later : StepNotes) (step : WorldStep) → before ≡ trace → tracing ≡ before ++ e ∷ [] → SameKept kept ready
+    → question_of past step ≡ Some (e.site, e.command)
+    → ((p t : List Entry) (x : Entry) → question_of p step ≡ Some (x.site, x.command) → steps_beside (t ++ x ∷ []) later ≡ steps_beside t ready ++ step ∷ [])
+    → steps_beside tracing later ≡ steps_beside trace kept ++ step ∷ []
 made_more past trace before tracing e kept ready later step is grown same asks more =
-    ap (λ (l : List Entry). steps_kept l later) grown ∙ more past before e asks
+    ap (λ (l : List Entry). steps_beside l later) grown ∙ more past before e asks
     ∙ ap (λ (l : List WorldStep). l ++ step ∷ []) (same_steps trace before kept ready is same)
 
 -- ---- what is lived, after one more step
 
 past_more : (schema : SchemaValue) (steps : List WorldStep) (step : WorldStep)
-    → world_of schema (reverse (steps ++ step ∷ [])) ≡ with_entry schema (asked (trace_by schema steps) step) (luck_of step) (world_of schema (reverse steps))
+    → world_of schema (reverse (steps ++ step ∷ [])) ≡ with_entry schema (question_of (trace_by schema steps) step) (luck_of step) (world_of schema (reverse steps))
 past_more schema steps step = ap (λ (l : List WorldStep). world_of schema l) (reverse-append steps (step ∷ []))
 
-pub past_idle : (schema : SchemaValue) (steps : List WorldStep) (step : WorldStep) → asked (trace_by schema steps) step ≡ None
+pub past_idle : (schema : SchemaValue) (steps : List WorldStep) (step : WorldStep) → question_of (trace_by schema steps) step ≡ None
     → world_of schema (reverse (steps ++ step ∷ [])) ≡ world_of schema (reverse steps)
 past_idle schema steps step none =
     past_more schema steps step ∙ ap (λ (o : Option (SiteNo × Command)). with_entry schema o (luck_of step) (world_of schema (reverse steps))) none
 
 pub past_goes : (schema : SchemaValue) (steps : List WorldStep) (step : WorldStep) (site : SiteNo) (command : Command) (reply : Reply)
-    → asked (trace_by schema steps) step ≡ Some (site, command)
+    → question_of (trace_by schema steps) step ≡ Some (site, command)
     → reply ≡ lucky_reply schema site.0 (fresh schema site.0) (own_lucky site.0 (world_of schema (reverse steps))) command (luck_of step)
     → world_of schema (reverse (steps ++ step ∷ [])) ≡ (record { site = site; command = command; reply = reply }, luck_of step) ∷ world_of schema (reverse steps)
 past_goes schema steps step site command reply some is =
@@ -72,7 +72,7 @@ past_goes schema steps step site command reply some is =
 -- ---- the world after one more step
 
 pub world_idle : (schema : SchemaValue) (steps : List WorldStep) (sites : List SiteValue) (trace : List Entry) (told : List Statement) (step : WorldStep)
-    → IsWorld schema steps sites trace told → StepFits schema step → asked (trace_by schema steps) step ≡ None
+    → IsWorld schema steps sites trace told → StepFits schema step → question_of (trace_by schema steps) step ≡ None
     → IsWorld schema (steps ++ step ∷ []) sites trace told
 world_idle schema steps sites trace told step w fits none =
     let same = sym (past_idle schema steps step none) in
@@ -80,16 +80,16 @@ world_idle schema steps sites trace told step w fits none =
       good = w.good;
       fit = All-push (StepFits schema) steps step w.fit fits;
       count = w.count;
-      stand = subst (λ (past : List Lucky). AllStand schema past (length trace) sites) same w.stand;
+      stand = subst (λ (past : List Lucky). AllFollow schema past (length trace) sites) same w.stand;
       trace_is = w.trace_is ∙ ap entries same;
-      told_is = w.told_is ∙ ap (λ (past : List Lucky). issued (entries past)) same;
+      told_is = w.told_is ∙ ap (λ (past : List Lucky). statements_issued (entries past)) same;
     }
 
 pub world_goes : (schema : SchemaValue) (steps : List WorldStep) (sites moved : List SiteValue) (trace : List Entry) (told telling : List Statement) (step : WorldStep)
     (site : SiteNo) (command : Command) (reply : Reply)
-    → IsWorld schema steps sites trace told → StepFits schema step → asked (trace_by schema steps) step ≡ Some (site, command)
+    → IsWorld schema steps sites trace told → StepFits schema step → question_of (trace_by schema steps) step ≡ Some (site, command)
     → reply ≡ lucky_reply schema site.0 (fresh schema site.0) (own_lucky site.0 (world_of schema (reverse steps))) command (luck_of step)
-    → AllStand schema ((record { site = site; command = command; reply = reply }, luck_of step) ∷ world_of schema (reverse steps)) (length trace + 1) moved
+    → AllFollow schema ((record { site = site; command = command; reply = reply }, luck_of step) ∷ world_of schema (reverse steps)) (length trace + 1) moved
     → length moved ≡ length sites
     → reverse telling ≡ with_statement (statement_of (record { site = site; command = command; reply = reply })) (reverse told)
     → IsWorld schema (steps ++ step ∷ []) moved (trace ++ record { site = site; command = command; reply = reply } ∷ []) telling
@@ -102,10 +102,10 @@ world_goes schema steps sites moved trace told telling step site command reply w
       good = w.good;
       fit = All-push (StepFits schema) steps step w.fit fits;
       count = count ∙ w.count;
-      stand = subst (λ (l : List Lucky). AllStand schema l (length (trace ++ e ∷ [])) moved) same
-          (subst (λ (n : ℕ). AllStand schema ((e, luck_of step) ∷ past) n moved) longer stand);
+      stand = subst (λ (l : List Lucky). AllFollow schema l (length (trace ++ e ∷ [])) moved) same
+          (subst (λ (n : ℕ). AllFollow schema ((e, luck_of step) ∷ past) n moved) longer stand);
       trace_is = reverse-append trace (e ∷ []) ∙ ap (λ (t : List Entry). e ∷ t) w.trace_is ∙ ap entries same;
-      told_is = told_is ∙ ap (λ (l : List Statement). with_statement (statement_of e) l) w.told_is ∙ ap (λ (l : List Lucky). issued (entries l)) same;
+      told_is = told_is ∙ ap (λ (l : List Statement). with_statement (statement_of e) l) w.told_is ∙ ap (λ (l : List Lucky). statements_issued (entries l)) same;
     }
 
 -- the same world in equal lists
@@ -166,7 +166,7 @@ one_store_after schema steps more step good fit fits is =
 
 -- the site of a step is one of the world's
 pub step_known : (schema : SchemaValue) (steps : List WorldStep) (sites : List SiteValue) (trace : List Entry) (told : List Statement) (step : WorldStep) (site : SiteNo) (command : Command)
-    → IsWorld schema steps sites trace told → StepFits schema step → asked (trace_by schema steps) step ≡ Some (site, command) → site.0 < length sites
+    → IsWorld schema steps sites trace told → StepFits schema step → question_of (trace_by schema steps) step ≡ Some (site, command) → site.0 < length sites
 step_known schema steps sites trace told step site command w fits is =
     let known = (step_allows schema _ (one_store_of schema w.good steps w.fit).sound step fits (site, command) Granted is).0 in
     omega (arith, known, w.count)

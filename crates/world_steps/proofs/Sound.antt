@@ -25,7 +25,7 @@ use Rattle.kept_state.specs.Luck.{Lucky, entries, own_lucky, lucky_reply}
 use Rattle.kept_state.proofs.Lucky.{lucky_fits, own_entries}
 use Rattle.world_steps.specs.declared.step.WorldStep.{WorldStep}
 use Rattle.world_steps.specs.declared.step.WorldStep.TheVariants.{Do, Deliver}
-use Rattle.world_steps.specs.World.{issued, numbered, delivered, asked, luck_of, is_accept, StepFits, with_entry, world_of}
+use Rattle.world_steps.specs.World.{statements_issued, statement_at, delivery_of, question_of, luck_of, is_accept, StepFits, with_entry, world_of}
 use Rattle.world_steps.specs.Promises.{IsBoundedThroughout, OutcomesAreBoundedThroughout, BoundsOnlyTighten, NoneStrange}
 use Rattle.world_steps.proofs.Issued.{issued_to, numbered_is_issued}
 use Rattle.world_steps.proofs.Strange.{familiar_step}
@@ -51,18 +51,18 @@ abbrev Allows : SchemaValue → List Entry → SiteNo × Command → Reply → T
 Allows schema front who r = (who.0.0 < schema.sites) × StatementRule front who.1 r
 
 delivery_allows : (schema : SchemaValue) (front : List Entry) → IsSound schema front → (who : SiteNo × Command) (r : Reply) (found : Option Statement)
-    → ((x : Statement) → found ≡ Some x → IsIssued x front) → delivered found ≡ Some who → Allows schema front who r
+    → ((x : Statement) → found ≡ Some x → IsIssued x front) → delivery_of found ≡ Some who → Allows schema front who r
 delivery_allows schema front sound who r None is h = cc
 delivery_allows schema front sound who r (Some told) is h =
     let now = is told refl in
     subst (λ (w : SiteNo × Command). Allows schema front w r) (same_Some (told.to, Accept told) who h)
     (issued_to schema front sound told now, rule_of_issued front told r now)
 
-pub step_allows : (schema : SchemaValue) (front : List Entry) → IsSound schema front → (step : WorldStep) → StepFits schema step → (who : SiteNo × Command) (r : Reply) → asked front step ≡ Some who → Allows schema front who r
+pub step_allows : (schema : SchemaValue) (front : List Entry) → IsSound schema front → (step : WorldStep) → StepFits schema step → (who : SiteNo × Command) (r : Reply) → question_of front step ≡ Some who → Allows schema front who r
 step_allows schema front sound (Do site command luck) fit who r h =
     subst (λ (w : SiteNo × Command). Allows schema front w r) (same_Some (site, command) who h) (fit.0, rule_of_plain front command r fit.1)
 step_allows schema front sound (Deliver k luck) fit who r h =
-    delivery_allows schema front sound who r (numbered k (issued front)) (λ x is. numbered_is_issued k front x is) h
+    delivery_allows schema front sound who r (statement_at k (statements_issued front)) (λ x is. numbered_is_issued k front x is) h
 
 -- ---- the one reply is owed after the site's own part of the trace
 
@@ -75,7 +75,7 @@ lucky_is_owed schema s past c luck =
 -- ---- so every trace is sound
 
 module _ (schema : SchemaValue) where
-  sound_step : (past : List Lucky) → IsSound schema (entries past) → (step : WorldStep) → StepFits schema step → (found : Option (SiteNo × Command)) → asked (entries past) step ≡ found
+  sound_step : (past : List Lucky) → IsSound schema (entries past) → (step : WorldStep) → StepFits schema step → (found : Option (SiteNo × Command)) → question_of (entries past) step ≡ found
       → IsSound schema (entries (with_entry schema found (luck_of step) past))
   sound_step past sound step fit None is = sound
   sound_step past sound step fit (Some who) is =
@@ -88,7 +88,7 @@ module _ (schema : SchemaValue) where
   world_is_sound [] fit = sound_empty schema
   world_is_sound (step ∷ earlier) fit =
       let past : List Lucky = world_of schema earlier in
-      sound_step past (world_is_sound earlier fit.0) step fit.1 (asked (entries past) step) refl
+      sound_step past (world_is_sound earlier fit.0) step fit.1 (question_of (entries past) step) refl
 
   -- in every front the fields are within their bounds
   pub bounded_throughout : IsSchema schema → (t : List Entry) → IsSound schema t → IsBoundedThroughout schema t
@@ -109,7 +109,7 @@ module _ (schema : SchemaValue) where
       (only_tighten t, λ f. (omega (arith, ints, cuts_grow schema (e ∷ []) t f Lower), omega (arith, ints, cuts_grow schema (e ∷ []) t f Raise)))
 
   strange_more : IsSchema schema → (past : List Lucky) → IsSound schema (entries past) → NoneStrange (entries past) → (step : WorldStep) → StepFits schema step
-      → (found : Option (SiteNo × Command)) → asked (entries past) step ≡ found → NoneStrange (entries (with_entry schema found (luck_of step) past))
+      → (found : Option (SiteNo × Command)) → question_of (entries past) step ≡ found → NoneStrange (entries (with_entry schema found (luck_of step) past))
   strange_more good past sound none step fit None is = none
   strange_more good past sound none step fit (Some who) is =
       let s : ℕ = who.0.0 in
@@ -120,4 +120,4 @@ module _ (schema : SchemaValue) where
   none_strange good [] fit = tt
   none_strange good (step ∷ earlier) fit =
       let past : List Lucky = world_of schema earlier in
-      strange_more good past (world_is_sound earlier fit.0) (none_strange good earlier fit.0) step fit.1 (asked (entries past) step) refl
+      strange_more good past (world_is_sound earlier fit.0) (none_strange good earlier fit.0) step fit.1 (question_of (entries past) step) refl

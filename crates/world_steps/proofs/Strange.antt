@@ -21,7 +21,7 @@ use Rattle.field_bounds.specs.Central.{own, IsSound}
 use Rattle.field_bounds.proofs.Refused.{match_cases, is_refused}
 use Rattle.world_steps.specs.declared.step.WorldStep.{WorldStep}
 use Rattle.world_steps.specs.declared.step.WorldStep.TheVariants.{Do, Deliver}
-use Rattle.world_steps.specs.World.{issued, numbered, delivered, asked, is_accept, StepFits}
+use Rattle.world_steps.specs.World.{statements_issued, statement_at, delivery_of, question_of, is_accept, StepFits}
 use Rattle.world_steps.specs.Promises.{is_strange, IsFamiliar}
 use Rattle.world_steps.proofs.Issued.{numbered_is_issued}
 use Rattle.world_steps.proofs.Forged.{never_forged}
@@ -91,25 +91,25 @@ familiar r h = tt
 
 module _ (schema : SchemaValue) (good : IsSchema schema) (front : List Entry) (sound : IsSound schema front) where
   -- the statement of a delivery was issued
-  delivers : (who : SiteNo × Command) (found : Option Statement) → ((x : Statement) → found ≡ Some x → IsIssued x front) → delivered found ≡ Some who
+  delivers : (who : SiteNo × Command) (found : Option Statement) → ((x : Statement) → found ≡ Some x → IsIssued x front) → delivery_of found ≡ Some who
       → (told : Statement) × (who ≡ (told.to, Accept told)) × IsIssued told front
   delivers who None is h = cc
   delivers who (Some told) is h = (told, sym (same_Some (told.to, Accept told) who h), is told refl)
 
-  never_strange : (step : WorldStep) → StepFits schema step → (who : SiteNo × Command) → asked front step ≡ Some who → (x : Refusal)
+  never_strange : (step : WorldStep) → StepFits schema step → (who : SiteNo × Command) → question_of front step ≡ Some who → (x : Refusal)
       → Fits (place schema who.0.0 (fresh schema who.0.0) (own who.0.0 front)) who.1 (Refused x) → is_strange x ≡ true → ⊥
   never_strange (Do site command luck) fit who h x fits strange =
       let who_is = same_Some (site, command) who h in
       let plain : is_accept who.1 ≡ false = subst (λ (w : SiteNo × Command). is_accept w.1 ≡ false) who_is fit.1 in
       familiar_plain (place schema who.0.0 (fresh schema who.0.0) (own who.0.0 front)) who.1 x plain fits strange
   never_strange (Deliver k luck) fit who h x fits strange =
-      let found = delivers who (numbered k (issued front)) (λ y is. numbered_is_issued k front y is) h in
+      let found = delivers who (statement_at k (statements_issued front)) (λ y is. numbered_is_issued k front y is) h in
       let told = found.0 in
       let fits_there = subst (λ (w : SiteNo × Command). Fits (place schema w.0.0 (fresh schema w.0.0) (own w.0.0 front)) w.1 (Refused x)) found.1 fits in
       familiar_accept (place schema told.to.0 (fresh schema told.to.0) (own told.to.0 front)) told x refl (never_forged schema good front sound told found.2) fits_there strange
 
   -- so a reply that is owed to a step is none
-  pub familiar_step : (step : WorldStep) → StepFits schema step → (who : SiteNo × Command) → asked front step ≡ Some who → (r : Reply)
+  pub familiar_step : (step : WorldStep) → StepFits schema step → (who : SiteNo × Command) → question_of front step ≡ Some who → (r : Reply)
       → Fits (place schema who.0.0 (fresh schema who.0.0) (own who.0.0 front)) who.1 r → IsFamiliar r
   familiar_step step fit who h r fits =
       familiar r (λ x is strange. never_strange step fit who h x (subst (λ (q : Reply). Fits (place schema who.0.0 (fresh schema who.0.0) (own who.0.0 front)) who.1 q) is fits) strange)

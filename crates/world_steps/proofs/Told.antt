@@ -4,7 +4,7 @@ use Rattle.std.proofs.Math.Seq.{take-suc, take-length}
 use Rattle.std.proofs.lemmas.List.{reverse-append, append_assoc, append-nil}
 use Rattle.field_bounds.specs.declared.entry.Entry.{Entry}
 use Rattle.world_steps.specs.declared.step.WorldStep.{WorldStep}
-use Rattle.world_steps.specs.declared.kept.Way.{Way}
+use Rattle.world_steps.specs.declared.beside_trace.Way.{Way}
 use Rattle.world_steps.specs.Kept.{steps_told, with_step}
 
 -- the ways that are left, with the newest in front

@@ -4,9 +4,9 @@ use Rattle.field_bounds.specs.declared.entry.Entry.{Entry}
 use Rattle.kept_state.specs.declared.luck.Luck.TheVariants.{Fine, Torn}
 use Rattle.world_steps.specs.declared.step.WorldStep.{WorldStep}
 use Rattle.world_steps.specs.declared.step.WorldStep.TheVariants.{Do, Deliver}
-use Rattle.world_steps.specs.declared.kept.Way.{Way}
-use Rattle.world_steps.specs.declared.kept.Way.TheVariants.{Asked, AskedTorn, Delivered, DeliveredTorn, Missed, MissedTorn}
-use Rattle.world_steps.specs.declared.kept.KeptSteps.{KeptSteps}
+use Rattle.world_steps.specs.declared.beside_trace.Way.{Way}
+use Rattle.world_steps.specs.declared.beside_trace.Way.TheVariants.{Asked, AskedTorn, Delivered, DeliveredTorn, Missed, MissedTorn}
+use Rattle.world_steps.specs.declared.beside_trace.StepNotes.{StepNotes}
 
 -- What is said of the first of a list and of the rest, and no steps where the list is empty.
 abbrev pub with_first : {A : Type 0} → List A → (A → List A → List WorldStep) → List WorldStep
@@ -36,22 +36,22 @@ with_step None steps = []
 with_step (Some step) steps = step ∷ steps
 
 -- The same, of a trace and of what is kept beside it, which have the oldest first, as the steps then have.
-abbrev pub steps_kept : List Entry → KeptSteps → List WorldStep
-steps_kept trace kept =
+abbrev pub steps_beside : List Entry → StepNotes → List WorldStep
+steps_beside trace kept =
     reverse (steps_told (reverse trace) (reverse kept.ways.items) (reverse kept.numbers.items) (reverse kept.torn.items))
 
 -- The same is kept.
-pub record SameKept (before later : KeptSteps) : Type 0 where
+pub record SameKept (before later : StepNotes) : Type 0 where
   pub ways : later.ways.items ≡ before.ways.items
   pub numbers : later.numbers.items ≡ before.numbers.items
   pub torn : later.torn.items ≡ before.torn.items
 
 -- There is room for what is kept of one more step.
-abbrev pub HasRoom : KeptSteps → WorldStep → Type 0
-HasRoom kept (Do site command Fine) = vec_len kept.ways < vec_capacity kept.ways
-HasRoom kept (Do site command (Torn bytes)) =
+abbrev pub HasMemoryFor : StepNotes → WorldStep → Type 0
+HasMemoryFor kept (Do site command Fine) = vec_len kept.ways < vec_capacity kept.ways
+HasMemoryFor kept (Do site command (Torn bytes)) =
     (vec_len kept.ways < vec_capacity kept.ways) × (vec_len kept.torn < vec_capacity kept.torn)
-HasRoom kept (Deliver k Fine) =
+HasMemoryFor kept (Deliver k Fine) =
     (vec_len kept.ways < vec_capacity kept.ways) × (vec_len kept.numbers < vec_capacity kept.numbers)
-HasRoom kept (Deliver k (Torn bytes)) =
+HasMemoryFor kept (Deliver k (Torn bytes)) =
     (vec_len kept.ways < vec_capacity kept.ways) × (vec_len kept.numbers < vec_capacity kept.numbers) × (vec_len kept.torn < vec_capacity kept.torn)

@@ -10,7 +10,7 @@ use Rattle.field_bounds.specs.declared.entry.Reply.{Reply}
 use Rattle.field_bounds.specs.declared.entry.Reply.TheVariants.{Begun, Granted, Given, Stated, Tightened, Accepted, Between, Shares, Restarted, Unsure, StillDown, Refused}
 use Rattle.field_bounds.specs.declared.entry.Refusal.TheVariants.{Down, NoTransaction, NoField, Zero, Short, SelfGift, NothingGiven}
 use Rattle.field_bounds.specs.declared.entry.Entry.{Entry}
-use Rattle.field_bounds.specs.Worked.{halved, stock, unknown, txn, lower_by, asked}
+use Rattle.field_bounds.specs.Worked.{halved_shelf, stock, unknown, txn, lower_by, row_entry}
 use Rattle.field_bounds.specs.WorkedGifts.{site, give_lower}
 use Rattle.field_bounds.specs.WorkedTightenings.{raise_floor, lower_ceiling}
 use Rattle.kept_state.specs.declared.luck.Luck.TheVariants.{Fine, Torn}
@@ -33,8 +33,8 @@ abbrev pub torn : ℕ → Command → ℕ → Reply → WorldStep × Option Repl
 torn s command bytes reply = (Do (site s) command (Torn bytes), Some reply)
 
 -- The first statement is delivered.
-abbrev pub delivered : Reply → WorldStep × Option Reply
-delivered reply = (Deliver 1 Fine, Some reply)
+abbrev pub step_delivered : Reply → WorldStep × Option Reply
+step_delivered reply = (Deliver 1 Fine, Some reply)
 
 -- The transaction of a number, in the epoch of a restart.
 abbrev pub txn_of : ℕ → ℕ → TxnId
@@ -54,7 +54,7 @@ replies_of (x ∷ row) = told_reply x.1 (replies_of row)
 
 -- The steps make a trace of these replies.
 abbrev pub Comes : Row → Type 0
-Comes row = map (λ (e : Entry). e.reply) (reverse (trace_by halved (steps_of row))) ≡ replies_of row
+Comes row = map (λ (e : Entry). e.reply) (reverse (trace_by halved_shelf (steps_of row))) ≡ replies_of row
 
 -- After a row, this step with its reply doesn't come.
 abbrev pub NeverComes : Row → WorldStep × Option Reply → Type 0
@@ -68,9 +68,9 @@ passed_on =
     fine 0 (give_lower 1 5) (Given 5)
     ∷ fine 1 Begin (Begun (txn 1))
     ∷ fine 1 (lower_by 1 25) (Refused (Short 20))
-    ∷ delivered (Accepted 5)
+    ∷ step_delivered (Accepted 5)
     ∷ fine 1 (lower_by 1 25) Granted
-    ∷ delivered (Accepted 0)
+    ∷ step_delivered (Accepted 0)
     ∷ []
 
 -- The later of two statements is delivered first, and tells of both gifts.
@@ -79,14 +79,14 @@ out_of_order =
     fine 0 (give_lower 1 3) (Given 3)
     ∷ fine 0 (give_lower 1 2) (Given 5)
     ∷ (Deliver 2 Fine, Some (Accepted 5))
-    ∷ delivered (Accepted 0)
+    ∷ step_delivered (Accepted 0)
     ∷ []
 
 -- ---- stops
 
 -- The restart aborts the open transaction, and the next one begins in the new epoch.
-abbrev pub aborted : Row
-aborted =
+abbrev pub row_aborted : Row
+row_aborted =
     fine 0 Begin (Begun (txn 1))
     ∷ fine 0 (lower_by 1 20) Granted
     ∷ fine 0 Restart (Restarted 1 Nothing)
@@ -95,8 +95,8 @@ aborted =
     ∷ []
 
 -- The record of the commit, `C 0 1 0 -20`, has 12 bytes with its line feed: 11 of them are kept, and it is lost.
-abbrev pub lost : Row
-lost =
+abbrev pub row_lost : Row
+row_lost =
     fine 0 Begin (Begun (txn 1))
     ∷ fine 0 (lower_by 1 20) Granted
     ∷ torn 0 (Commit (txn 1)) 11 Unsure
@@ -106,8 +106,8 @@ lost =
     ∷ []
 
 -- All 12 are kept, and so is the commit.
-abbrev pub kept : Row
-kept =
+abbrev pub row_kept : Row
+row_kept =
     fine 0 Begin (Begun (txn 1))
     ∷ fine 0 (lower_by 1 20) Granted
     ∷ torn 0 (Commit (txn 1)) 12 Unsure
@@ -137,7 +137,7 @@ gift_kept =
     ∷ (Deliver 1 Fine, None)
     ∷ fine 0 Restart (Restarted 1 Kept)
     ∷ fine 0 (Restate (site 1) stock Lower) (Stated 5)
-    ∷ delivered (Accepted 5)
+    ∷ step_delivered (Accepted 5)
     ∷ []
 
 -- The receiver's record, `A 0 0 l 5`, has 10 bytes: all are kept, and a second delivery brings nothing.
@@ -145,9 +145,9 @@ abbrev pub taken_in : Row
 taken_in =
     fine 0 (give_lower 1 5) (Given 5)
     ∷ (Deliver 1 (Torn 10), Some Unsure)
-    ∷ delivered (Refused Down)
+    ∷ step_delivered (Refused Down)
     ∷ fine 1 Restart (Restarted 1 Kept)
-    ∷ delivered (Accepted 0)
+    ∷ step_delivered (Accepted 0)
     ∷ fine 1 (Share stock) (Shares 25 30)
     ∷ []
 
@@ -156,9 +156,9 @@ abbrev pub taken_in_late : Row
 taken_in_late =
     fine 0 (give_lower 1 5) (Given 5)
     ∷ (Deliver 1 (Torn 9), Some Unsure)
-    ∷ delivered (Refused Down)
+    ∷ step_delivered (Refused Down)
     ∷ fine 1 Restart (Restarted 1 Lost)
-    ∷ delivered (Accepted 5)
+    ∷ step_delivered (Accepted 5)
     ∷ fine 1 (Share stock) (Shares 25 30)
     ∷ []
 
@@ -176,8 +176,8 @@ read_elsewhere =
 -- ---- bounds that are tightened
 
 -- Both bounds are tightened at site 0: its share is less by that, and what it reads stays as it was.
-abbrev pub tightened : Row
-tightened =
+abbrev pub row_tightened : Row
+row_tightened =
     fine 0 (raise_floor 5) (Tightened 5)
     ∷ fine 0 (Share stock) (Shares 15 30)
     ∷ fine 0 (Read stock) (Between (pos 20) (pos 70))
@@ -214,8 +214,8 @@ cut_lost =
 -- ---- refusals
 
 -- Gifts to itself, what was never given, a change of 0 and an unknown field are refused; no statement has been issued.
-abbrev pub refused : Row
-refused =
+abbrev pub row_refused : Row
+row_refused =
     fine 0 (give_lower 0 1) (Refused SelfGift)
     ∷ fine 0 (Restate (site 1) stock Raise) (Refused NothingGiven)
     ∷ fine 0 Begin (Begun (txn 1))
@@ -228,5 +228,5 @@ refused =
 
 -- A trace that no world makes wherever the escrow asks for more than there is: it was granted all the same, to the
 -- transaction that is open. It has the newest entry first.
-abbrev pub granted : Command → List Entry
-granted escrow = asked escrow Granted ∷ asked Begin (Begun (txn 1)) ∷ []
+abbrev pub row_granted : Command → List Entry
+row_granted escrow = row_entry escrow Granted ∷ row_entry Begin (Begun (txn 1)) ∷ []

@@ -22,26 +22,26 @@ with_statement None statements = statements
 with_statement (Some statement) statements = statement ∷ statements
 
 -- The statements that a trace issues.
-abbrev pub issued : List Entry → List Statement
-issued [] = []
-issued (e ∷ t) = with_statement (statement_of e) (issued t)
+abbrev pub statements_issued : List Entry → List Statement
+statements_issued [] = []
+statements_issued (e ∷ t) = with_statement (statement_of e) (statements_issued t)
 
 -- The statement of a number, counted from 1 for the oldest.
-abbrev pub numbered : ℕ → List Statement → Option Statement
-numbered k [] = None
-numbered k (statement ∷ older) = if k == suc (length older) then Some statement else numbered k older
+abbrev pub statement_at : ℕ → List Statement → Option Statement
+statement_at k [] = None
+statement_at k (statement ∷ older) = if k == suc (length older) then Some statement else statement_at k older
 
 -- ---- what a step asks
 
 -- A statement is delivered: the site that it is for is asked to take it in.
-abbrev pub delivered : Option Statement → Option (SiteNo × Command)
-delivered None = None
-delivered (Some statement) = Some (statement.to, Accept statement)
+abbrev pub delivery_of : Option Statement → Option (SiteNo × Command)
+delivery_of None = None
+delivery_of (Some statement) = Some (statement.to, Accept statement)
 
 -- The site and the command of a step that comes after a trace; none where no statement has the number.
-abbrev pub asked : List Entry → WorldStep → Option (SiteNo × Command)
-asked t (Do site command luck) = Some (site, command)
-asked t (Deliver k luck) = delivered (numbered k (issued t))
+abbrev pub question_of : List Entry → WorldStep → Option (SiteNo × Command)
+question_of t (Do site command luck) = Some (site, command)
+question_of t (Deliver k luck) = delivery_of (statement_at k (statements_issued t))
 
 -- How the append of a step goes.
 abbrev pub luck_of : WorldStep → Luck
@@ -89,7 +89,7 @@ with_entry schema (Some who) luck past = (
 abbrev pub world_of : SchemaValue → List WorldStep → List Lucky
 world_of schema [] = []
 world_of schema (step ∷ earlier) =
-    with_entry schema (asked (entries (world_of schema earlier)) step) (luck_of step) (world_of schema earlier)
+    with_entry schema (question_of (entries (world_of schema earlier)) step) (luck_of step) (world_of schema earlier)
 
 -- The one trace of some steps, which stand in order, the oldest first.
 abbrev pub trace_by : SchemaValue → List WorldStep → List Entry

@@ -6,7 +6,7 @@
 //! among sites and transferred, this project for the world and the theorem.
 #![tactic(auto)]
 
-mod kept;
+mod beside_trace;
 mod laws;
 mod rows;
 mod run;

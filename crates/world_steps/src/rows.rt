@@ -6,13 +6,13 @@ ghost use Rattle.field_bounds.specs.declared.entry.Command.TheVariants.{Abort, R
 ghost use Rattle.field_bounds.specs.declared.entry.Last.TheVariants.{Nothing, Kept, Lost};
 ghost use Rattle.field_bounds.specs.declared.entry.Refusal.TheVariants.{NotYours};
 ghost use Rattle.field_bounds.specs.declared.entry.Reply.TheVariants.{Granted, Aborted, Accepted, Restarted, Shares, Refused, StillDown};
-ghost use Rattle.field_bounds.specs.Worked.{halved, stock, txn, lower_by, raise_by, asked};
+ghost use Rattle.field_bounds.specs.Worked.{halved_shelf, stock, txn, lower_by, raise_by, row_entry};
 ghost use Rattle.field_bounds.specs.WorkedTightenings.{over_cut};
 ghost use Rattle.kept_state.specs.declared.luck.Luck.TheVariants.{Fine};
 ghost use Rattle.world_steps.specs.declared.step.WorldStep.TheVariants.{Deliver};
 ghost use Rattle.field_bounds.specs.Central.{OutcomesAreBounded};
 ghost use Rattle.world_steps.specs.Promises.{OutcomesAreBoundedThroughout};
-ghost use Rattle.world_steps.specs.Worked.{fine, delivered, Comes, NeverComes, passed_on, out_of_order, aborted, lost, kept, kept_late, epoch_used, gift_kept, taken_in, taken_in_late, read_elsewhere, tightened, none_left, cut_kept, cut_lost, refused, granted};
+ghost use Rattle.world_steps.specs.Worked.{fine, step_delivered, Comes, NeverComes, passed_on, out_of_order, row_aborted, row_lost, row_kept, kept_late, epoch_used, gift_kept, taken_in, taken_in_late, read_elsewhere, row_tightened, none_left, cut_kept, cut_lost, row_refused, row_granted};
 
 /// The steps of these rows make a trace of these replies.
 ///
@@ -20,20 +20,20 @@ ghost use Rattle.world_steps.specs.Worked.{fine, delivered, Comes, NeverComes, p
 pub fn worked_worlds()
     ensures passed_on { Comes passed_on }
     ensures out_of_order { Comes out_of_order }
-    ensures aborted { Comes aborted }
-    ensures lost { Comes lost }
-    ensures kept { Comes kept }
+    ensures aborted { Comes row_aborted }
+    ensures lost { Comes row_lost }
+    ensures kept { Comes row_kept }
     ensures kept_late { Comes kept_late }
     ensures epoch_used { Comes epoch_used }
     ensures gift_kept { Comes gift_kept }
     ensures taken_in { Comes taken_in }
     ensures taken_in_late { Comes taken_in_late }
     ensures read_elsewhere { Comes read_elsewhere }
-    ensures tightened { Comes tightened }
+    ensures tightened { Comes row_tightened }
     ensures none_left { Comes none_left }
     ensures cut_kept { Comes cut_kept }
     ensures cut_lost { Comes cut_lost }
-    ensures refused { Comes refused }
+    ensures refused { Comes row_refused }
 {}
 
 /// In those rows these other replies don't come: a gift in doubt delivered before its site restarted,
@@ -46,16 +46,16 @@ pub fn worked_worlds()
 ///
 /// Source: this project.
 pub fn wrong_worlds()
-    ensures issued_at_once { NeverComes (take 1 gift_kept) (delivered (Accepted 5)) }
+    ensures issued_at_once { NeverComes (take 1 gift_kept) (step_delivered (Accepted 5)) }
     ensures used_up { NeverComes (take 5 passed_on) (Deliver 1 Fine, None) }
-    ensures repeat_refused { NeverComes (take 5 passed_on) (delivered (Refused NotYours)) }
-    ensures counted_again { NeverComes (take 3 out_of_order) (delivered (Accepted 3)) }
-    ensures torn_kept { NeverComes (take 4 lost) (fine 0 Restart (Restarted 1 Kept)) }
-    ensures whole_lost { NeverComes (take 4 kept) (fine 0 Restart (Restarted 1 Lost)) }
+    ensures repeat_refused { NeverComes (take 5 passed_on) (step_delivered (Refused NotYours)) }
+    ensures counted_again { NeverComes (take 3 out_of_order) (step_delivered (Accepted 3)) }
+    ensures torn_kept { NeverComes (take 4 row_lost) (fine 0 Restart (Restarted 1 Kept)) }
+    ensures whole_lost { NeverComes (take 4 row_kept) (fine 0 Restart (Restarted 1 Lost)) }
     ensures epoch_skipped { NeverComes (take 4 kept_late) (fine 0 Restart (Restarted 2 Kept)) }
     ensures epoch_again { NeverComes (take 1 epoch_used) (fine 0 Restart (Restarted 1 Nothing)) }
-    ensures fails { NeverComes (take 4 kept) (fine 0 Restart StillDown) }
-    ensures accepted_again { NeverComes (take 4 taken_in) (delivered (Accepted 5)) }
+    ensures fails { NeverComes (take 4 row_kept) (fine 0 Restart StillDown) }
+    ensures accepted_again { NeverComes (take 4 taken_in) (step_delivered (Accepted 5)) }
     ensures past_the_floor { NeverComes (take 3 none_left) (fine 0 (lower_by 1 1) Granted) }
     ensures torn_cut_kept { NeverComes (take 1 cut_lost) (fine 0 Restart (Restarted 1 Kept)) }
     ensures counted_twice { NeverComes (take 5 taken_in_late) (fine 1 (Share stock) (Shares 30 30)) }
@@ -69,8 +69,8 @@ pub fn wrong_worlds()
 ///
 /// Source: this project.
 pub fn wrong_outcomes()
-    ensures below { ¬ OutcomesAreBounded halved (granted (lower_by 1 41)) }
-    ensures above { ¬ OutcomesAreBounded halved (granted (raise_by 1 61)) }
-    ensures tightened { ¬ OutcomesAreBounded halved (reverse over_cut) }
-    ensures before { ¬ OutcomesAreBoundedThroughout halved (asked (Abort (txn 1)) Aborted ∷ granted (lower_by 1 41)) }
+    ensures below { ¬ OutcomesAreBounded halved_shelf (row_granted (lower_by 1 41)) }
+    ensures above { ¬ OutcomesAreBounded halved_shelf (row_granted (raise_by 1 61)) }
+    ensures tightened { ¬ OutcomesAreBounded halved_shelf (reverse over_cut) }
+    ensures before { ¬ OutcomesAreBoundedThroughout halved_shelf (row_entry (Abort (txn 1)) Aborted ∷ row_granted (lower_by 1 41)) }
 {}

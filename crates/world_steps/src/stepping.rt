@@ -9,8 +9,8 @@ ghost use Rattle.field_bounds.specs.Statements.{statement_of};
 ghost use Rattle.kept_records.specs.declared.medium.Mishap.TheVariants as mishaps;
 ghost use Rattle.kept_state.specs.Luck.{Lucky, own_lucky, lucky_reply};
 ghost use Rattle.site_step.specs.Site.{Finds};
-ghost use Rattle.world_steps.specs.World.{issued, with_statement, numbered, asked, luck_of};
-ghost use Rattle.world_steps.specs.Standing.{Once, AllStand, AreCalm};
+ghost use Rattle.world_steps.specs.World.{statements_issued, with_statement, statement_at, question_of, luck_of};
+ghost use Rattle.world_steps.specs.Standing.{Once, AllFollow, AreCalm};
 
 use crate::step::WorldStep;
 use field_bounds::{Command, Entry, Reply, SiteNo, Statement, statement_of};
@@ -31,7 +31,7 @@ pub(crate) fn note(told: &mut Vec<Statement>, entry: &Entry)
 
 /// The statement of a number, counted from 1.
 fn statement_numbered(told: &[Statement], k: u64) -> Option<Statement>
-    ensures value { result ≡ numbered k (reverse told.now) }
+    ensures value { result ≡ statement_at k (reverse told.now) }
 {
     if k == 0 || k > told.len() as u64 {
         return None;
@@ -40,8 +40,8 @@ fn statement_numbered(told: &[Statement], k: u64) -> Option<Statement>
 }
 
 /// The site and the command of a step, where it makes an entry.
-pub(crate) fn asked(told: &[Statement], step: &WorldStep) -> Option<(SiteNo, Command)>
-    ensures value { (trace : List Entry) → reverse told.now ≡ issued trace → result ≡ asked trace step.now }
+pub(crate) fn question_of(told: &[Statement], step: &WorldStep) -> Option<(SiteNo, Command)>
+    ensures value { (trace : List Entry) → reverse told.now ≡ statements_issued trace → result ≡ question_of trace step.now }
 {
     match *step {
         WorldStep::Do {
@@ -104,9 +104,9 @@ pub(crate) fn apply_at(
     requires known { number.0 < length sites.old }
     requires calm { AreCalm 18_446_744_073_709_551_615 sites.old }
     ensures stand { IfOk result (λ reply. (schema : SchemaValue) (past : List Lucky) (bound : ℕ) →
-        AllStand schema past bound sites.old →
+        AllFollow schema past bound sites.old →
         (reply ≡ lucky_reply schema number.0 (fresh schema number.0) (own_lucky number.0 past) command luck)
-        × AllStand schema ((record { site = number; command = command; reply = reply }, luck) ∷ past) (bound + 1) sites.new) }
+        × AllFollow schema ((record { site = number; command = command; reply = reply }, luck) ∷ past) (bound + 1) sites.new) }
     ensures count { length sites.new ≡ length sites.old }
     ensures err { OnErr result (sites.new ≡ sites.old) }
 {

@@ -6,14 +6,14 @@ ghost use Rattle.field_bounds.specs.Parts.{field_at, width_of};
 ghost use Rattle.field_bounds.specs.Effects.{fresh};
 ghost use Rattle.field_bounds.specs.Owed.{place, shares_of};
 ghost use Rattle.field_bounds.specs.Central.{own, IsSound, IsCentral, IsConservedThroughout};
-ghost use Rattle.world_steps.specs.World.{issued, StepFits};
-ghost use Rattle.world_steps.specs.Standing.{Stands, AllStand};
+ghost use Rattle.world_steps.specs.World.{statements_issued, StepFits};
+ghost use Rattle.world_steps.specs.Standing.{Follows, AllFollow};
 ghost use Rattle.world_steps.specs.Promises.{IsBoundedThroughout, OutcomesAreBoundedThroughout, BoundsOnlyTighten, NoneStrange, IsOneStore};
 ghost use Rattle.world_steps.specs.View.{trace_of, Answers};
 
-use crate::kept::KeptSteps;
+use crate::beside_trace::StepNotes;
 use crate::step::{StepReply, WorldStep};
-use crate::stepping::{apply_at, asked, luck_of, note};
+use crate::stepping::{apply_at, question_of, luck_of, note};
 use field_bounds::{Entry, FieldNo, Schema, SiteNo, Statement};
 use kept_records::TornMedium;
 use site_step::{OpenFault, Site};
@@ -30,25 +30,25 @@ pub struct World {
     schema: Schema,
     sites: Vec<Site<TornMedium>>,
     trace: Vec<Entry>,
-    steps: KeptSteps,
+    steps: StepNotes,
     issued: Vec<Statement>,
 }
 
 impl Model for World {
-    ghost use Rattle.world_steps.specs.Kept.{steps_kept};
+    ghost use Rattle.world_steps.specs.Kept.{steps_beside};
     ghost use Rattle.world_steps.specs.View.{WorldValue, IsWorld};
 
     ghost Value = { WorldValue };
 
-    ghost view = { λ w. record { schema = w.schema; steps = steps_kept w.trace.items w.steps } };
+    ghost view = { λ w. record { schema = w.schema; steps = steps_beside w.trace.items w.steps } };
 
-    ghost invariant = { λ w. IsWorld w.schema (steps_kept w.trace.items w.steps) w.sites.items w.trace.items w.issued.items };
+    ghost invariant = { λ w. IsWorld w.schema (steps_beside w.trace.items w.steps) w.sites.items w.trace.items w.issued.items };
 }
 
 /// A site over an empty medium, which won't fail: the only fault is want of memory.
 fn fresh_site(alloc: Global, schema: Schema, site: SiteNo) -> Result<Site<TornMedium>, AllocError>
     requires in_schema { site.0 < schema.sites }
-    ensures stands { IfOk result (λ made. Stands schema site.0 [] 0 made) }
+    ensures stands { IfOk result (λ made. Follows schema site.0 [] 0 made) }
 {
     match Site::open(alloc, schema, site, TornMedium::new(Vec::new(alloc))) {
         Ok(made) => Ok(made),
@@ -61,7 +61,7 @@ fn fresh_site(alloc: Global, schema: Schema, site: SiteNo) -> Result<Site<TornMe
 /// The sites of a schema, each over an empty medium.
 fn fresh_sites(alloc: Global, schema: &Schema) -> Result<Vec<Site<TornMedium>>, AllocError>
     ensures count { IfOk result (λ sites. length sites.items ≡ schema.now.sites) }
-    ensures stand { IfOk result (λ sites. AllStand schema.now [] 0 sites.items) }
+    ensures stand { IfOk result (λ sites. AllFollow schema.now [] 0 sites.items) }
 {
     let mut sites = Vec::new(alloc);
     for number in 0..schema.sites() {
@@ -81,7 +81,7 @@ impl World {
             schema,
             sites,
             trace: Vec::new(alloc),
-            steps: KeptSteps::new(alloc),
+            steps: StepNotes::new(alloc),
             issued: Vec::new(alloc),
         })
     }
@@ -110,7 +110,7 @@ impl World {
         self.steps.reserve(step)?;
         self.trace.reserve(1)?;
         self.issued.reserve(1)?;
-        let Some((site, command)) = asked(&self.issued, step) else {
+        let Some((site, command)) = question_of(&self.issued, step) else {
             self.steps.keep_missed(step);
             return Ok(StepReply::NoStatement);
         };
@@ -169,7 +169,7 @@ impl World {
         ensures steps { IfOk result (λ steps. steps.items ≡ self.now.steps) }
         ensures fit { All (StepFits self.now.schema) self.now.steps }
     {
-        self.steps.told(alloc, &self.trace)
+        self.steps.steps_told(alloc, &self.trace)
     }
 
     /// The trace alone.
@@ -185,7 +185,7 @@ impl World {
     ///
     /// Source: this project.
     pub fn issued(&self) -> &[Statement]
-        ensures issued { reverse result.now ≡ issued (trace_of self.now) }
+        ensures issued { reverse result.now ≡ statements_issued (trace_of self.now) }
     {
         &self.issued
     }

@@ -1,7 +1,7 @@
 //! Gifts of rights: what refuses them, and what they write.
 
 ghost use Rattle.std.specs.Prelude.{◌≡◌, ◌≢◌, ◌==◌, ◌<◌, ◌≤◌, nat_lt, true, None, length, OnErr, IfOk};
-ghost use Rattle.field_bounds.specs.Owed.{first, refusals, room, told_so_far, spared_of, gain_of, max_change, max_total, is_up};
+ghost use Rattle.field_bounds.specs.Owed.{first, refusals, room, told_so_far, spare_of, gain_of, max_change, max_total, is_up};
 ghost use Rattle.site_step.specs.Site.{here, base_of, Applies};
 
 use super::Site;
@@ -38,10 +38,10 @@ impl<M: Medium> Site<M> {
     }
 
     /// What the site spares of its share where so much is wanted.
-    fn spared(&self, field: FieldNo, kind: Kind, want: u64) -> u64
+    fn spared_amount(&self, field: FieldNo, kind: Kind, want: u64) -> u64
         requires up { is_up (base_of self.now) self.now.history ≡ true }
         requires field_in { field.0 < length self.now.schema.fields }
-        ensures value { result ≡ spared_of (here self.now) field kind want }
+        ensures value { result ≡ spare_of (here self.now) field kind want }
         ensures most { result ≤ max_change }
     {
         spare_amount(self.free(field, kind), want)
@@ -124,7 +124,7 @@ impl<M: Medium> Site<M> {
             want > MAX_CHANGE => Refusal::TooLarge,
             self.free(field, kind) == 0 => Refusal::Short { share: self.free(field, kind) },
             self.is_here(to) => Refusal::SelfGift,
-            self.told_so_far(to, field, kind) + self.spared(field, kind, want) > MAX_TOTAL => Refusal::LedgerFull {
+            self.told_so_far(to, field, kind) + self.spared_amount(field, kind, want) > MAX_TOTAL => Refusal::LedgerFull {
                 total: self.told_so_far(to, field, kind),
             },
         }
@@ -203,7 +203,7 @@ impl<M: Medium> Site<M> {
         ensures ok { IfOk result (λ reply. Applies self.old (Command.Spare to field kind want) reply self.new) }
         ensures err { OnErr result (self.new ≡ self.old) }
     {
-        let amount = self.spared(field, kind, want);
+        let amount = self.spared_amount(field, kind, want);
         let total = self.told_so_far(to, field, kind) + amount;
         let record = Record::Gift {
             to,

@@ -3,7 +3,7 @@
 ghost use Rattle.std.specs.Prelude.{◌≡◌, ◌&&◌, ◌∷◌, [], ◌<◌, ◌≤◌, nat_lt, true, None, length, pos, neg_ℤ, ◌+ℤ◌, ◌-ℤ◌, ◌≤ℤ◌};
 ghost use Rattle.field_bounds.specs.Effects.{is_begun, is_open};
 ghost use Rattle.field_bounds.specs.Limits.{max_quantity};
-ghost use Rattle.field_bounds.specs.Owed.{max_change, count_open, count_escrows, count_since, is_begun_reply, free, guarded, down, no_field, no_transaction, interval_at, first, refusals, is_up};
+ghost use Rattle.field_bounds.specs.Owed.{max_change, count_open, count_escrows, count_since, is_begun_reply, free, guarded_rights, test_down, test_no_field, test_no_transaction, interval_at, first, refusals, is_up};
 ghost use Rattle.site_step.specs.Site.{here, base_of};
 
 use super::Site;
@@ -14,7 +14,7 @@ use field_bounds::{
 use kept_records::Medium;
 
 /// A floor raised by rights.
-fn raised(bound: i64, by: u64) -> i64
+fn raise_by(bound: i64, by: u64) -> i64
     requires high { bound ≤ℤ pos max_quantity }
     requires small { by ≤ max_change }
     ensures { result ≡ bound +ℤ pos by }
@@ -23,7 +23,7 @@ fn raised(bound: i64, by: u64) -> i64
 }
 
 /// A ceiling lowered by rights.
-fn lowered(bound: i64, by: u64) -> i64
+fn lower_by(bound: i64, by: u64) -> i64
     requires low { neg_ℤ (pos max_quantity) ≤ℤ bound }
     requires small { by ≤ max_change }
     ensures { result ≡ bound -ℤ pos by }
@@ -80,7 +80,7 @@ impl<M: Medium> Site<M> {
     fn guarded(&self, field: FieldNo, kind: Kind) -> u64
         requires up { is_up (base_of self.now) self.now.history ≡ true }
         requires field_in { field.0 < length self.now.schema.fields }
-        ensures value { result ≡ guarded (here self.now) field kind }
+        ensures value { result ≡ guarded_rights (here self.now) field kind }
         ensures most { result ≤ max_change }
     {
         self.accounts.standing.rights.guarded(field, kind)
@@ -133,7 +133,7 @@ impl<M: Medium> Site<M> {
     }
 
     fn end_refusal(&self, txn: TxnId) -> Option<Refusal>
-        ensures { result ≡ first (down (here self.now) ∷ no_transaction (here self.now) txn ∷ []) }
+        ensures { result ≡ first (test_down (here self.now) ∷ test_no_transaction (here self.now) txn ∷ []) }
     {
         refuse_first! {
             !self.is_up() => Refusal::Down,
@@ -142,7 +142,7 @@ impl<M: Medium> Site<M> {
     }
 
     fn field_refusal(&self, field: FieldNo) -> Option<Refusal>
-        ensures { result ≡ first (down (here self.now) ∷ no_field (here self.now) field ∷ []) }
+        ensures { result ≡ first (test_down (here self.now) ∷ test_no_field (here self.now) field ∷ []) }
     {
         refuse_first! {
             !self.is_up() => Refusal::Down,
@@ -159,8 +159,8 @@ impl<M: Medium> Site<M> {
     {
         let (floor, ceiling, _) = self.schema.bounds(field);
         (
-            raised(floor, self.guarded(field, Kind::Lower)),
-            lowered(ceiling, self.guarded(field, Kind::Raise)),
+            raise_by(floor, self.guarded(field, Kind::Lower)),
+            lower_by(ceiling, self.guarded(field, Kind::Raise)),
         )
     }
 }

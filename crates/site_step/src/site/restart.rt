@@ -7,9 +7,9 @@ ghost use Rattle.kept_records.specs.declared.medium.Mishap.TheVariants.{Read};
 ghost use Rattle.field_bounds.specs.declared.entry.Command.TheVariants as commands;
 ghost use Rattle.kept_records.specs.declared.record.Record.{Record};
 ghost use Rattle.kept_records.specs.Logs.{IsLog};
-ghost use Rattle.kept_records.specs.ReadingBack.{PartsAt, StandBehind, IsWhole};
+ghost use Rattle.kept_records.specs.ReadingBack.{PartsAt, AreBehind, IsWhole};
 ghost use Rattle.site_step.specs.Site.{Applies};
-ghost use Rattle.site_step.specs.Resuming.{IsLawfulLog, IsReplayed, ResumesOver, ResumesAs, last_by};
+ghost use Rattle.site_step.specs.Resuming.{IsLawfulLog, IsReplayed, ResumesOver, ResumesAs, found_by};
 
 use super::Site;
 use crate::extent::due_behind;
@@ -135,7 +135,7 @@ fn resume<M: Medium>(
 
 /// What became of the record in doubt, where one is, by the records behind its place.
 fn last_of(doubt: Option<usize>, behind: &[Record]) -> Last
-    ensures { result ≡ last_by doubt behind.now }
+    ensures { result ≡ found_by doubt behind.now }
 {
     match doubt {
         None => Last::Nothing,

@@ -1,6 +1,6 @@
 use Rattle.std.proofs.Common.{length, refl, subst, sym}
 use Rattle.std.specs.Prelude.{ℕ, List}
-use Rattle.central_machine.specs.Parts.{ArePlaces}
+use Rattle.central_machine.specs.Parts.{AreNumbers}
 use Rattle.central_machine.proofs.Row.{found_at}
 use Rattle.central_machine.proofs.Found.{ok_if}
 use Rattle.central_machine.proofs.faults.fault_of.Goals as goal
@@ -11,4 +11,4 @@ returns-in-Some c =
     let look = c.in-Some.ensures.lookup in
     let at = found_at c.args.lists.now c.args.lists.now c.args.site c.args.site c.in-Some.places.now refl refl look.0 look.1 in
     ok_if c.site_fault.result (λ fault is lists long below.
-    is (subst (λ (xs : List ℕ). ArePlaces c.args.site entries (length entries) xs) (sym c.deref.ensures.value) (lists c.args.site c.in-Some.places.now at))) c.site_fault.ensures
+    is (subst (λ (xs : List ℕ). AreNumbers c.args.site entries (length entries) xs) (sym c.deref.ensures.value) (lists c.args.site c.in-Some.places.now at))) c.site_fault.ensures

@@ -1,6 +1,6 @@
 use Rattle.std.proofs.Common.{◌≡◌, ◌∙◌, arith, length, subst}
 use Rattle.std.proofs.lemmas.Option.{slice_get-get_or}
-use Rattle.central_machine.specs.Parts.{AreAllPlaces}
+use Rattle.central_machine.specs.Parts.{AreAllNumbers}
 use Rattle.central_machine.proofs.Places.{all_noted}
 use Rattle.central_machine.proofs.faults.places_of.Goals as goal
 
@@ -21,4 +21,4 @@ loop-i-preserved c =
 pub returns-clause-places : goal.returns-clause-places
 returns-clause-places c =
     let done : c.loop-i.i ≡ length c.args.entries.now = omega arith in
-    subst (λ n. AreAllPlaces c.args.entries.now n c.loop-i.lists.items) done c.loop-i.invariant.places
+    subst (λ n. AreAllNumbers c.args.entries.now n c.loop-i.lists.items) done c.loop-i.invariant.places

@@ -1,5 +1,5 @@
 use Rattle.std.proofs.Common.{◌≡◌, ℕ, ap, sym, ◌∙◌, arith, reverse}
-use Rattle.field_bounds.specs.Effects.{granted}
+use Rattle.field_bounds.specs.Effects.{granted_sizes}
 use Rattle.field_bounds.specs.Central.{at_site}
 use Rattle.field_bounds.specs.Parts.{sum_below}
 use Rattle.central_rules.specs.Fates.{passes}
@@ -12,5 +12,5 @@ returns-clause-value c =
     let t = reverse c.args.front.now in
     let done : c.loop-site.site ≡ schema.sites = omega arith in
     c.loop-site.invariant.value
-    ∙ ap (λ (n : ℕ). sum_below n (λ s. granted (passes c.args.which (at_site schema t s)) c.args.field.0 c.args.kind (at_site schema t s))) done
+    ∙ ap (λ (n : ℕ). sum_below n (λ s. granted_sizes (passes c.args.which (at_site schema t s)) c.args.field.0 c.args.kind (at_site schema t s))) done
     ∙ sym (by_sites schema t c.requires.sound (λ s id. passes c.args.which (at_site schema t s) id) c.args.field.0 c.args.kind)

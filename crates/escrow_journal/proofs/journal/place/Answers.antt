@@ -2,12 +2,12 @@ use Rattle.std.proofs.Common.{◌≡◌, arith, refl, sym, ap, ◌∙◌}
 use Rattle.std.proofs.lemmas.List.Sums.{position_or_len_is}
 use Rattle.field_bounds.specs.Effects.{same_txn}
 use Rattle.escrow_journal.specs.declared.journal.OpenTransaction.{OpenTransaction}
-use Rattle.escrow_journal.specs.Kept.{rows_of, place_of}
+use Rattle.escrow_journal.specs.Kept.{rows_of, index_of}
 use Rattle.escrow_journal.proofs.JournalLaws.{position_or_len-none}
 use Rattle.escrow_journal.proofs.Views.{is_there, is_not_there}
 use Rattle.escrow_journal.proofs.journal.place.Goals as goal
 
-found_at : (c : goal.Then-eq) → c.loop-i.i ≡ place_of c.args.txn c.args.rows.now
+found_at : (c : goal.Then-eq) → c.loop-i.i ≡ index_of c.args.txn c.args.rows.now
 found_at c =
     let i = c.index-rows-i in
     sym (position_or_len_is (λ (r : OpenTransaction). same_txn r.txn c.args.txn) c.args.rows.now c.loop-i.i i.result (omega arith) (λ k h. c.loop-i.invariant k i.result h) (λ _. ap (λ (r : OpenTransaction). same_txn r.txn c.args.txn) (sym i.is) ∙ sym c.if-eq.ensures))

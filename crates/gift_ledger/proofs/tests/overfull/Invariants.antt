@@ -1,6 +1,6 @@
 -- The place to give to stays.
-use Rattle.gift_ledger.specs.Ledger.{IsPlace}
+use Rattle.gift_ledger.specs.Ledger.{IsSlot}
 use Rattle.gift_ledger.proofs.tests.overfull.Given as goal
 
 abbrev pub invariant-loop : goal.invariant-loop
-invariant-loop l = IsPlace l.ledger 1 0
+invariant-loop l = IsSlot l.ledger 1 0

@@ -1,6 +1,6 @@
 use Rattle.std.proofs.Common.{◌≡◌, ◌++◌, take}
-use Rattle.kept_records.specs.Text.{spaced, group_words}
+use Rattle.kept_records.specs.Text.{words_spaced, group_words}
 use Rattle.kept_records.proofs.writing.push_group.Given as goal
 
 abbrev pub invariant-loop-told : goal.invariant-loop-told
-invariant-loop-told l = l.line.items ≡ l.fn.line.items ++ spaced (group_words l.letter (take l.told-index l.totals))
+invariant-loop-told l = l.line.items ≡ l.fn.line.items ++ words_spaced (group_words l.letter (take l.told-index l.totals))

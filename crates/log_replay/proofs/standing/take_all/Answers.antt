@@ -5,7 +5,7 @@ use Rattle.std.proofs.lemmas.List.Sums.{fold_more}
 use Rattle.field_bounds.specs.declared.entry.Escrow.{Escrow}
 use Rattle.field_bounds.specs.Kind.{kind_of}
 use Rattle.site_rights.specs.declared.field_rights.FieldRights.{FieldRights}
-use Rattle.site_rights.specs.Rights.{by_escrow, by_escrows, taken, free_at}
+use Rattle.site_rights.specs.Rights.{by_escrow, by_escrows, after_take, free_at}
 use Rattle.log_replay.proofs.StandingLaws.{next_in_range, next_is_free, next_free, ok_gives}
 use Rattle.log_replay.proofs.standing.take_all.Goals as goal
 
@@ -54,12 +54,12 @@ loop-escrow-preserved c =
     let k : c.of-kind.result ≡ kind_of e.change = c.of-kind.ensures.value ∙ ap kind_of z in
     let took : is_ok c.take.result ≡ true = c.if-is_err.ensures.negation in
     let got = ok_gives c.take.result took c.take.ensures.ok in
-    let made : c.take.new.self ≡ by_escrow taken now e = rw (a, k) at got in
+    let made : c.take.new.self ≡ by_escrow after_take now e = rw (a, k) at got in
     let enough = c.take.ensures.enough.0 took in
     let within : unsigned_abs e.change ≤ free_at now e.field.0 (kind_of e.change) = rw (a, k) at enough in
-    let next : unsigned_abs e.change ≤ free_at (by_escrows taken rows (take i es)) e.field.0 (kind_of e.change) =
+    let next : unsigned_abs e.change ≤ free_at (by_escrows after_take rows (take i es)) e.field.0 (kind_of e.change) =
     subst (λ (x : List FieldRights). unsigned_abs e.change ≤ free_at x e.field.0 (kind_of e.change)) so_far within in
     record {
-      taken_so_far = made ∙ ap (λ (x : List FieldRights). by_escrow taken x e) so_far ∙ sym (fold_more (by_escrow taken) rows es i d c.loop-escrow-test.true);
+      taken_so_far = made ∙ ap (λ (x : List FieldRights). by_escrow after_take x e) so_far ∙ sym (fold_more (by_escrow after_take) rows es i d c.loop-escrow-test.true);
       free_so_far = next_free rows es i d c.requires.in_range c.loop-escrow-test.true c.loop-escrow.invariant.free_so_far next;
     }

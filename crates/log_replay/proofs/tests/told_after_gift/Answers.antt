@@ -2,7 +2,7 @@ use Rattle.std.proofs.Common.{◌≡◌, ℕ, true, [], ◌∷◌, List, sym, su
 use Rattle.field_bounds.specs.declared.kind.Kind.TheVariants.{Lower}
 use Rattle.kept_records.specs.declared.record.Record.{Record}
 use Rattle.kept_records.specs.declared.record.Record.TheVariants.{Gift}
-use Rattle.kept_records.specs.Stands.{may_stand}
+use Rattle.kept_records.specs.Stands.{may_follow}
 use Rattle.log_replay.specs.declared.log.Replayed.{Replayed}
 use Rattle.log_replay.specs.Replayed.{TellsStanding}
 use Rattle.log_replay.specs.Standing.{Stands}
@@ -23,6 +23,6 @@ summary_after-requires-clause-may c =
         in_range = tt;
         lawful = tt;
         stands = subst (λ (n : ℕ). Stands schema n [] standing) here stands;
-        may = subst (λ (n : ℕ). may_stand schema n [] r ≡ true) here told.0.0;
+        may = subst (λ (n : ℕ). may_follow schema n [] r ≡ true) here told.0.0;
       },
     )

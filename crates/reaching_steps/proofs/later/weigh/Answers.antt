@@ -14,4 +14,4 @@ returns-in-Some-clause-weighs c =
     one_counts c.args.effect.now c.args.later.now.committed.items c.args.later.now.ended.items c.args.later.now.stopped c.args.field.0 c.args.kind
     txn c.in-Some.size _ _ c.has.result c.has-in-Some.result c.neither.result c.in-Some.ensures.value c.in-Some.ensures.still
     (c.has.ensures.value ∙ ap (λ (l : List TxnId). has l txn) c.deref.ensures.value) (c.has-in-Some.ensures.value ∙ ap (λ (l : List TxnId). has l txn) c.deref-in-Some.ensures.value)
-    c.neither.ensures.value c.counted.ensures.value c.counted-in-Some.ensures.value
+    c.neither.ensures.value c.size_if.ensures.value c.size_if-in-Some.ensures.value

@@ -1,6 +1,6 @@
 use Rattle.std.proofs.Common.{◌∙◌, max, true, refl, sym, arith}
 use Rattle.kept_records.specs.declared.record.Record.TheVariants.{Accept}
-use Rattle.site_rights.specs.Rights.{at_field, added}
+use Rattle.site_rights.specs.Rights.{at_field, after_add}
 use Rattle.gift_ledger.specs.Ledger.{accepted_at, with_accepted}
 use Rattle.log_replay.proofs.StandingLaws.{is_other, accept_none, accept_taken, takes_as}
 use Rattle.log_replay.proofs.standing.Standing.accept.Goals as goal
@@ -40,7 +40,7 @@ returns c =
     let before = c.accepted-before.ensures.value in
     let is = c.accept-gain.ensures.gain in
     record {
-      takes_in = takes_as schema old (Accept from field kind total) true c.add.new.self (at_field added old.rights field.0 kind gain)
+      takes_in = takes_as schema old (Accept from field kind total) true c.add.new.self (at_field after_add old.rights field.0 kind gain)
           c.accept-gain.new.self (with_accepted old.ledger from.0 field.0 kind (max total (accepted_at old.ledger from.0 field.0 kind))) old.epoch
           refl c.add.ensures.added c.accept-gain.ensures.accepted
           (accept_taken schema old from field kind total gain c.requires.places here (omega (arith, before, c.if-total-before.false)) is

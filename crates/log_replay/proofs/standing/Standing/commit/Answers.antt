@@ -2,7 +2,7 @@ use Rattle.std.proofs.Common.{◌∙◌, List, true, refl, sym, ap, subst}
 use Rattle.kept_records.specs.declared.record.Record.TheVariants.{Commit}
 use Rattle.site_rights.specs.declared.field_rights.FieldRights.{FieldRights}
 use Rattle.site_rights.specs.declared.field_rights.Outcome.TheVariants.{Committed}
-use Rattle.site_rights.specs.Rights.{by_escrows, taken, ending, AreInRange, AreHeld}
+use Rattle.site_rights.specs.Rights.{by_escrows, after_take, ending, AreInRange, AreHeld}
 use Rattle.log_replay.proofs.StandingLaws.{commit_none, commit_taken, takes_as, fields_in_range, taken_range, taken_held}
 use Rattle.log_replay.proofs.standing.Standing.commit.Goals as goal
 use Rattle.log_replay.proofs.standing.Standing.commit.Goals.{then-txn-self-via-then-txn-self, then-txn-self-via-else-txn-self+then-not-are_fields}
@@ -46,7 +46,7 @@ returns c =
     let fields = sym c.are_fields.ensures ∙ c.if-not-are_fields.false in
     let mid = c.take_all.ensures.taken c.if-not-take_all.false in
     record {
-      takes_in = takes_as schema old (Commit c.args.txn es) true c.end.new.self (by_escrows (ending Committed) (by_escrows taken old.rights es) es) old.ledger old.ledger old.epoch
+      takes_in = takes_as schema old (Commit c.args.txn es) true c.end.new.self (by_escrows (ending Committed) (by_escrows after_take old.rights es) es) old.ledger old.ledger old.epoch
           refl (c.end.ensures.ended ∙ ap (λ (x : List FieldRights). by_escrows (ending Committed) x es) mid) refl
           (commit_taken schema old c.args.txn es c.requires.places c.if-txn-self.false fields (c.take_all.ensures.enough.0 c.if-not-take_all.false));
     }

@@ -1,7 +1,7 @@
 use Rattle.std.proofs.Common.{◌≡◌, ◌∙◌, ◌+◌, ◌-◌, true, sym, ap, arith}
 use Rattle.std.specs.Prelude.{is_ok}
 use Rattle.kept_records.specs.declared.record.Record.TheVariants.{Gift}
-use Rattle.site_rights.specs.Rights.{at_field, dropped}
+use Rattle.site_rights.specs.Rights.{at_field, after_drop}
 use Rattle.gift_ledger.specs.Ledger.{total_at, with_total}
 use Rattle.log_replay.proofs.StandingLaws.{is_other, gift_taken, takes_as, ok_gives, no_err}
 use Rattle.log_replay.proofs.standing.Standing.give.Goals as goal
@@ -31,7 +31,7 @@ returns c =
     let took : is_ok c.drop_free.result ≡ true = c.if-is_err.ensures.negation in
     let gave : is_ok c.give.result ≡ true = no_err c.give.result (λ full. absurd (omega (arith, c.give.ensures.full.0 full, before, c.if-total-before.false, c.requires.small))) in
     record {
-      takes_in = takes_as schema old (Gift to field kind total) c.is_ok.result c.drop_free.new.self (at_field dropped old.rights field.0 kind amount)
+      takes_in = takes_as schema old (Gift to field kind total) c.is_ok.result c.drop_free.new.self (at_field after_drop old.rights field.0 kind amount)
           c.give.new.self (with_total old.ledger to.0 field.0 kind (total_at old.ledger to.0 field.0 kind + amount)) old.epoch
           (c.is_ok.ensures.value ∙ gave) (ok_gives c.drop_free.result took c.drop_free.ensures.ok) (ok_gives c.give.result gave c.give.ensures.ok)
           (gift_taken schema old to field kind total amount c.requires.places here (omega (arith, before, c.if-total-before.false)) is (c.drop_free.ensures.enough.0 took));

@@ -3,7 +3,7 @@ use Rattle.std.specs.List.{AllByRecursion}
 use Rattle.kept_records.specs.declared.total.Total.{Total}
 use Rattle.field_bounds.specs.Owed.{max_total}
 use Rattle.site_rights.specs.Rights.{AreTold, AreWithin}
-use Rattle.gift_ledger.specs.Ledger.{LedgerValue, IsPlace, fresh_ledger}
+use Rattle.gift_ledger.specs.Ledger.{LedgerValue, IsSlot, fresh_ledger}
 use Rattle.log_replay.specs.Standing.{StandsFor}
 use Rattle.log_replay.specs.Resuming.{NotesGifts, NotesAccepts}
 use Rattle.log_replay.proofs.FromSummary.{placed_fresh, placed_still, listed_small, cuts_told, cuts_count, cuts_read, rights_within, stands_told, none_held}
@@ -16,8 +16,8 @@ note_gifts-requires c =
     let v = c.args.summary.now in
     let tells = c.requires.tells.2 in
     record {
-      places = subst (λ (ts : List Total). AllByRecursion (λ t. IsPlace c.in_ok-ledger.ledger t.site.0 t.field.0) ts) (sym c.gifts.ensures.all)
-          (subst (λ (l : LedgerValue). AllByRecursion (λ t. IsPlace l t.site.0 t.field.0) v.gifts) (sym c.in_ok-ledger.ensures.fresh) (placed_fresh schema s v.gifts tells.gifts_placed));
+      places = subst (λ (ts : List Total). AllByRecursion (λ t. IsSlot c.in_ok-ledger.ledger t.site.0 t.field.0) ts) (sym c.gifts.ensures.all)
+          (subst (λ (l : LedgerValue). AllByRecursion (λ t. IsSlot l t.site.0 t.field.0) v.gifts) (sym c.in_ok-ledger.ensures.fresh) (placed_fresh schema s v.gifts tells.gifts_placed));
       small = subst (λ (ts : List Total). AllByRecursion (λ t. t.total ≤ max_total) ts) (sym c.gifts.ensures.all) (listed_small v.gifts c.requires.in_range.gifts);
     }
 
@@ -27,9 +27,9 @@ note_accepts-requires c =
     let s = c.args.site.0 in
     let v = c.args.summary.now in
     let tells = c.requires.tells.2 in
-    let fresh = subst (λ (l : LedgerValue). AllByRecursion (λ t. IsPlace l t.site.0 t.field.0) v.accepts) (sym c.in_ok-ledger.ensures.fresh) (placed_fresh schema s v.accepts tells.accepts_placed) in
+    let fresh = subst (λ (l : LedgerValue). AllByRecursion (λ t. IsSlot l t.site.0 t.field.0) v.accepts) (sym c.in_ok-ledger.ensures.fresh) (placed_fresh schema s v.accepts tells.accepts_placed) in
     record {
-      places = subst (λ (ts : List Total). AllByRecursion (λ t. IsPlace c.note_gifts.new.ledger t.site.0 t.field.0) ts) (sym c.accepts.ensures.all)
+      places = subst (λ (ts : List Total). AllByRecursion (λ t. IsSlot c.note_gifts.new.ledger t.site.0 t.field.0) ts) (sym c.accepts.ensures.all)
           (placed_still c.in_ok-ledger.ledger c.note_gifts.new.ledger c.note_gifts.ensures.noted.place v.accepts fresh);
     }
 

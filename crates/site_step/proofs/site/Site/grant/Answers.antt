@@ -3,7 +3,7 @@ use Rattle.std.specs.Prelude.{unsigned_abs}
 use Rattle.std.proofs.lemmas.Int.{to_z-of_z}
 use Rattle.field_bounds.specs.declared.entry.Escrow.{Escrow}
 use Rattle.field_bounds.specs.Kind.{kind_of}
-use Rattle.site_rights.specs.Rights.{free_at, by_escrow, taken}
+use Rattle.site_rights.specs.Rights.{free_at, by_escrow, after_take}
 use Rattle.site_step.proofs.Calls.{grew, grant_opened, grant_has_room, grant_has_rights, grants}
 use Rattle.site_step.proofs.Settling.{ok_gives}
 use Rattle.site_step.proofs.site.Site.grant.Goals as goal
@@ -34,7 +34,7 @@ invariant_of-self-2 g c =
     let can : c.unsigned_abs.result ≤ free_at c.self.inside.accounts.standing.rights c.args.field.0 c.of.result =
     rw (a, k) (grant_has_rights c.self.invariant c.self.view_is c.args.txn x c.requires.unrefused) in
     let got = ok_gives c.take.result (c.take.ensures.enough.1 can) c.take.ensures.ok in
-    let rows : c.take.new.self ≡ by_escrow taken c.self.inside.accounts.standing.rights x = rw (a, k) at got in
+    let rows : c.take.new.self ≡ by_escrow after_take c.self.inside.accounts.standing.rights x = rw (a, k) at got in
     (grants c.self.invariant c.self.view_is c.args.txn x c.requires.unrefused rows (rw z at c.in_ok-add.ensures.ok) (grew (rw z at c.push_reserved.ensures.items) c.in_ok-reserve.ensures.items)).sound
 
 pub returns-clause-ok : goal.returns-clause-ok
@@ -47,5 +47,5 @@ returns-clause-ok g c =
     let can : c.unsigned_abs.result ≤ free_at c.self.inside.accounts.standing.rights c.args.field.0 c.of.result =
     rw (a, k) (grant_has_rights c.self.invariant c.self.view_is c.args.txn x c.requires.unrefused) in
     let got = ok_gives c.take.result (c.take.ensures.enough.1 can) c.take.ensures.ok in
-    let rows : c.take.new.self ≡ by_escrow taken c.self.inside.accounts.standing.rights x = rw (a, k) at got in
+    let rows : c.take.new.self ≡ by_escrow after_take c.self.inside.accounts.standing.rights x = rw (a, k) at got in
     (grants c.self.invariant c.self.view_is c.args.txn x c.requires.unrefused rows (rw z at c.in_ok-add.ensures.ok) (grew (rw z at c.push_reserved.ensures.items) c.in_ok-reserve.ensures.items)).applies

@@ -3,7 +3,7 @@ use Rattle.kept_records.specs.Stands.{plain, max_behind}
 use Rattle.std.proofs.Common.{◌≡◌, ◌+◌, List, length, ap, ◌∙◌, arith, refl}
 use Rattle.std.specs.Prelude.{nat_le, if◌then◌else◌}
 use Rattle.std.proofs.lemmas.List.{length-reverse}
-use Rattle.site_step.specs.Resuming.{last_by}
+use Rattle.site_step.specs.Resuming.{found_by}
 use Rattle.site_step.proofs.Calls.{grew, lawful_log, limits, seam, fails, fills, can_restart, read_or_not, few_more, restarts}
 use Rattle.site_step.proofs.site.Site.restart.Goals as goal
 
@@ -58,7 +58,7 @@ invariant_of-self-in-Standing g c =
     let many : c.count_plain.result ≡ length (plain c.in-Standing.behind.items) = c.count_plain.ensures.count ∙ ap (λ (x : List Record). length (plain x)) c.deref-in-Standing.ensures.value in
     rw c.reach.ensures.reached (restarts s c.self.view_is c.in-Standing.standing c.in-Standing.behind.items c.in-Standing.epoch c.in-Standing.turns c.in-Standing.length (if nat_le max_behind (c.in-Standing.turns + 1) then 0 else c.in-Standing.turns + 1) c.last_of-last.result
     (rw c.in-Standing.is at c.in_ok-turns.ensures.resumes s.records s.rest s.log)
-    c.stand_on.ensures.took c.stand_on.ensures.journal c.stand_on.ensures.last (c.last_of-last.ensures ∙ ap (last_by c.self.inside.doubt) c.deref.ensures.value) many refl
+    c.stand_on.ensures.took c.stand_on.ensures.journal c.stand_on.ensures.last (c.last_of-last.ensures ∙ ap (found_by c.self.inside.doubt) c.deref.ensures.value) many refl
     (grew c.tell-in-Standing.ensures.told c.in_ok-reserve.ensures.items)).sound
 
 pub returns-in-Standing-clause-ok : goal.returns-in-Standing-clause-ok
@@ -67,5 +67,5 @@ returns-in-Standing-clause-ok g c =
     let many : c.count_plain.result ≡ length (plain c.in-Standing.behind.items) = c.count_plain.ensures.count ∙ ap (λ (x : List Record). length (plain x)) c.deref-in-Standing.ensures.value in
     (restarts s c.self.view_is c.in-Standing.standing c.in-Standing.behind.items c.in-Standing.epoch c.in-Standing.turns c.in-Standing.length (if nat_le max_behind (c.in-Standing.turns + 1) then 0 else c.in-Standing.turns + 1) c.last_of-last.result
     (rw c.in-Standing.is at c.in_ok-turns.ensures.resumes s.records s.rest s.log)
-    c.stand_on.ensures.took c.stand_on.ensures.journal c.stand_on.ensures.last (c.last_of-last.ensures ∙ ap (last_by c.self.inside.doubt) c.deref.ensures.value) many refl
+    c.stand_on.ensures.took c.stand_on.ensures.journal c.stand_on.ensures.last (c.last_of-last.ensures ∙ ap (found_by c.self.inside.doubt) c.deref.ensures.value) many refl
     (grew c.tell-in-Standing.ensures.told c.in_ok-reserve.ensures.items)).applies

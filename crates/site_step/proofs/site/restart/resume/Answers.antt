@@ -1,7 +1,7 @@
 use Rattle.std.proofs.Common.{◌≡◌, List, ℕ, sym, ap, subst, ◌∙◌}
 use Rattle.kept_records.specs.declared.record.Record.{Record}
 use Rattle.kept_records.specs.Stands.{Lawful, since_summary}
-use Rattle.kept_records.specs.ReadingBack.{StandBehind}
+use Rattle.kept_records.specs.ReadingBack.{AreBehind}
 use Rattle.log_replay.specs.Standing.{IsStandingFor}
 use Rattle.kept_records.specs.Logs.{IsLog}
 use Rattle.kept_records.proofs.Lines.{same_log}
@@ -70,4 +70,4 @@ returns-clause-resumes g c =
       for_ = subst (λ (x : List Record). IsStandingFor schema s x c.in_ok-replay.replay.standing) all (c.in_ok-replay.ensures.standing held.records end_);
       turns_are = c.in_ok-replay.ensures.turns held.records end_ ∙ ap since_summary all;
     })
-    (subst (λ (b : List ℕ). StandBehind b c.args.place c.in-Ok.log.behind.items) (sym bytes) c.in-Ok.ensures.behind))) c.resume_over.ensures.resumes
+    (subst (λ (b : List ℕ). AreBehind b c.args.place c.in-Ok.log.behind.items) (sym bytes) c.in-Ok.ensures.behind))) c.resume_over.ensures.resumes

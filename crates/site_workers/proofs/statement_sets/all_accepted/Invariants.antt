@@ -1,0 +1,7 @@
+use Rattle.std.proofs.Common.{take}
+use Rattle.site_workers.specs.Scripts.{histories_of}
+use Rattle.site_workers.specs.Crossing.{AreAccepted}
+use Rattle.site_workers.proofs.statement_sets.all_accepted.Given as goal
+
+abbrev pub invariant-loop-history : goal.invariant-loop-history
+invariant-loop-history l = AreAccepted (histories_of (take l.history-index l.histories)) l.sets.items
