@@ -39,8 +39,6 @@ pub fn length_of(entries: &[Entry]) -> usize
 /// to the first bad one. Each entry is read once, by one call that counts it.
 ///
 /// The error is want of memory. Takes time and memory as `judge` does.
-///
-/// Source: this project.
 pub fn judge_counted(
     alloc: Global,
     schema: &Schema,

@@ -22,8 +22,6 @@ use field_bounds::{
 /// What is told of one site, where it stands after some entries of its own: what the ladder of
 /// refusals looks at. Each number is the one that the definitions sum over these entries, wherever
 /// the value is one of that place; over a place that isn't its own it may be any.
-///
-/// Source: this project.
 pub trait AtPlace {
     /// The value tells of this place.
     ghost is_at: { Self → Place → Type 0 };
@@ -447,8 +445,6 @@ fn fits_restart<P: AtPlace>(here: &P, reply: Reply) -> bool
 
 /// Whether the reply is one that the site owes to the command, at the place of which the value
 /// tells. Costs no memory, and a few of the calls of the value.
-///
-/// Source: this project.
 pub fn fits<P: AtPlace>(here: &P, command: Command, reply: Reply) -> bool
     ensures { (at : Place) → P.is_at here.now at → result ≡ reply_test at command reply }
 {

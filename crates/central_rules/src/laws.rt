@@ -15,8 +15,6 @@ ghost use Rattle.central_rules.specs.Verdict.{verdict_of, IsFirstBad};
 /// before it is sound and central, and `rule` is the first rule that it breaks over that front
 /// (`illegal`). Over every sound trace the verdict is Legal (`sound`). Entries stand in order, the
 /// oldest first; a trace has the newest first.
-///
-/// Source: this project.
 pub fn verdict_is_exact()
     ensures legal { (schema : SchemaValue) (entries : List Entry) →
         verdict_of schema entries ≡ Legal

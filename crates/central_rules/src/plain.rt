@@ -20,8 +20,6 @@ use std::alloc::{AllocError, Global};
 ///
 /// The error is want of memory. Takes time in proportion to the cube of the number of entries, and
 /// memory for what took effect at one site at a time.
-///
-/// Source: this project.
 pub fn judge_plain(alloc: Global, schema: &Schema, entries: &[Entry]) -> Result<Verdict, AllocError>
     ensures verdict { IfOk result (λ verdict. verdict ≡ verdict_of schema.now entries.now) }
 {

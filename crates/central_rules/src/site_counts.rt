@@ -9,8 +9,6 @@ use field_bounds::{Entry, Reply};
 
 /// Where a site stands: whether it is up, its epoch, and how many transactions it began, how many
 /// restarts failed and how many replies were in doubt since its last restart.
-///
-/// Source: this project.
 #[derive(Clone, Copy)]
 pub struct SiteCounts {
     pub up: bool,

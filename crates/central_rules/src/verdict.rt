@@ -23,8 +23,6 @@ pub enum Rule {
 
 /// Whether entries are legal; else the first bad one, counted from 1, and the first rule that it
 /// breaks.
-///
-/// Source: this project.
 #[derive(Clone, Copy, Debug, PartialEq, Eq)]
 pub enum Verdict {
     Legal,

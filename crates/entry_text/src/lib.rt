@@ -3,8 +3,6 @@
 //!
 //! A text is words with one space between them. The first word of a command, a reply or a refusal
 //! says which it is, and the arm of that word reads the words after it.
-//!
-//! Source: this project.
 #![tactic(auto)]
 
 mod append;

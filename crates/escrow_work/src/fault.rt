@@ -8,8 +8,6 @@ use std::alloc::AllocError;
 use thiserror::Error;
 
 /// Why a work ended without its trace. Each displays as the text that a program tells it by.
-///
-/// Source: this project.
 #[derive(Clone, Copy, Debug, Drop, PartialEq, Eq, Error)]
 pub enum WorkTextFault {
     /// A fault of the reader, the writer, the limits of the input or the header, or want of memory.

@@ -4,8 +4,6 @@ use crate::id::{FieldNo, SiteNo, TxnId};
 use crate::kind::Kind;
 
 /// What an entry did at its site, once it took effect.
-///
-/// Source: this project.
 #[derive(Clone, Copy, Debug, PartialEq, Eq)]
 pub enum Effect {
     /// A transaction was opened.

@@ -134,8 +134,6 @@ pub enum Refusal {
 }
 
 /// What a restart found of the command that was answered with `Unsure` since the restart before.
-///
-/// Source: this project.
 #[derive(Clone, Copy, Debug, PartialEq, Eq)]
 pub enum Last {
     /// No command was answered so.

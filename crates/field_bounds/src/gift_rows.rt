@@ -14,8 +14,6 @@ ghost use Rattle.field_bounds.specs.Worked.{halved_shelf, stock, row_entry};
 ghost use Rattle.field_bounds.specs.WorkedGifts.{site, give_lower, statement_to, takes_in, IsOwedAt, IsWrongAt, not_given, given_away, given_twice, spare_raise, spared_twice, not_spared, nearly_full, row_filled, spare_filled, room_filled, late_and_twice, not_taken_in, passed_on, made_up};
 
 /// Each reply of these rows is owed.
-///
-/// Source: this project.
 pub fn worked_gifts()
     ensures not_given { IsOwedAt 0 not_given }
     ensures given_away { IsOwedAt 0 given_away }
@@ -34,8 +32,6 @@ pub fn worked_gifts()
 /// lower total taken in as the greatest, a second taking in of the same, a refusal of what is within
 /// the room, more spared than half of the share, half of an odd share rounded down, and a spare
 /// refused where there is a share.
-///
-/// Source: this project.
 pub fn wrong_gifts()
     ensures too_many { IsWrongAt 0 (take 0 given_away) (give_lower 1 21) (Given 21) }
     ensures amount { IsWrongAt 0 (take 1 given_twice) (give_lower 1 2) (Given 2) }
@@ -54,8 +50,6 @@ pub fn wrong_gifts()
 /// both sites and these are still the 40 by which the infimum lies above the floor. At the end site 1
 /// has accepted the 5 that it was given, none are in flight, and 25 are open: the infimum is 15, the
 /// supremum and the committed value 40. A trace that takes in what nobody gave isn't sound.
-///
-/// Source: this project.
 pub fn worked_flight()
     ensures sound { IsSound halved_shelf (reverse passed_on) }
     ensures issued { statement_of (row_entry (give_lower 1 5) (Given 5)) ≡ Some (statement_to 5) }

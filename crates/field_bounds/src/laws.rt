@@ -25,8 +25,6 @@ pub fn share_is_exact()
 /// and how each restart ended: these two rest on what is kept across a stop too. With that told, a
 /// command is owed one reply where its site stands (`only`), a site's history is told by its
 /// commands alone (`history`), and a sound trace by its commands with their sites (`trace`).
-///
-/// Source: this project.
 pub fn one_reply()
     ensures only { (at : Place) (command : Command) (reply other : Reply) →
         Fits at command reply → Fits at command other →
@@ -43,8 +41,6 @@ pub fn one_reply()
 /// rest on what the next restart finds (`sure`). After a restart no transaction is open (`closed`)
 /// and nothing is held (`held`), and the share is what the site's own rights were, with what was in
 /// doubt counted where the restart found it kept (`share`).
-///
-/// Source: this project.
 pub fn restarts_settle()
     ensures sure { (base : Base) (o : List Entry) (kept : Bool) →
         is_up base o ≡ true → effects base kept o ≡ effects base false o }
@@ -90,8 +86,6 @@ pub fn one_central_store()
 
 /// A bound is never loosened: behind more entries a field's floor is at least, and its ceiling at
 /// most, what it was before them, whatever they are.
-///
-/// Source: this project.
 pub fn bounds_never_loosen()
     ensures tighter { (schema : SchemaValue) (later before : List Entry) (f : ℕ) →
         (floor_in schema before f ≤ℤ floor_in schema (later ++ before) f)

@@ -17,8 +17,6 @@ ghost use Rattle.field_bounds.specs.WorkedGifts.{site, give_lower, spare_raise, 
 ghost use Rattle.field_bounds.specs.WorkedRestarts.{txn_of, row_aborted, in_doubt, row_lost, row_kept, kept_late, epoch_used, gift_kept, spare_kept, spare_lost, row_spent, no_epoch_left};
 
 /// Each reply of these rows is owed.
-///
-/// Source: this project.
 pub fn worked_restarts()
     ensures aborted { IsOwedAt 0 row_aborted }
     ensures lost { IsOwedAt 0 row_lost }
@@ -37,8 +35,6 @@ pub fn worked_restarts()
 /// still set aside after what was lost, rights free again after what was kept, an epoch that no
 /// failed restart used up, the same epoch again, a begin in doubt, and a refused restart where
 /// epochs are left.
-///
-/// Source: this project.
 pub fn wrong_restarts()
     ensures commits { IsWrongAt 0 (take 3 row_aborted) (Commit (txn 1)) Committed }
     ensures goes_on { IsWrongAt 0 (take 4 row_aborted) Begin (Begun (txn 2)) }
@@ -59,8 +55,6 @@ pub fn wrong_restarts()
 /// are 20, once it was lost all three are 40. A gift or a spare in doubt issues no statement; once it was kept
 /// its rights are in flight, 5 of the gift and 15 of the spare. A trace that takes in what nobody gave isn't sound, also where that
 /// is in doubt.
-///
-/// Source: this project.
 pub fn worked_doubt()
     ensures sound { IsSound halved_shelf (reverse row_kept) × IsSound halved_shelf (reverse row_lost) }
     ensures waiting { let front = reverse in_doubt in

@@ -1,6 +1,6 @@
 //! A schema: its sites, and its fields in order.
 //!
-//! Source: this project. The division of rights among sites follows Balegas and others 2015.
+//! Source: the division of rights among sites follows Balegas and others 2015.
 
 ghost use Rattle.std.specs.Prelude.{◌≡◌, [], ◌<◌, ◌≤◌, map, IsTrue, Ok, Err, Option, option_map, slice_get, length};
 ghost use Rattle.field_bounds.specs.Schema.{Gives, same_schema, spec_value};

@@ -12,8 +12,6 @@ ghost use Rattle.field_bounds.specs.Central.{committed_value, inf, sup, IsSound}
 ghost use Rattle.field_bounds.specs.Worked.{shelf, fixed, widest, halved_shelf, uneven, twins, stock, txn, lower_by, IsOwed, IsWrong, row_lowered, row_raised, row_unmoved, row_emptied, row_given_back, sixteen, row_crowded, half_lowered, half_short, half_both, two_fields, in_turns};
 
 /// Each reply of these rows is owed.
-///
-/// Source: this project.
 pub fn worked_runs()
     ensures lowered { IsOwed shelf row_lowered }
     ensures raised { IsOwed shelf row_raised }
@@ -29,8 +27,6 @@ pub fn worked_runs()
 {}
 
 /// At each place of the row `lowered`, where 20 are taken from 40, these other replies aren't owed.
-///
-/// Source: this project.
 pub fn wrong_replies()
     ensures begun_as_two { IsWrong shelf (take 0 row_lowered) Begin (Begun (txn 2)) }
     ensures escrow_refused { (refusal : Refusal) →
@@ -45,8 +41,6 @@ pub fn wrong_replies()
 /// The three schemas of the rows are within the limits, and the row `lowered` is a sound trace: the
 /// premises of the laws are met. While its escrow is open the committed value is 40, the infimum 20
 /// and the supremum 40; after the commit all three are 20.
-///
-/// Source: this project.
 pub fn worked_values()
     ensures schemas { IsSchema shelf × IsSchema fixed × IsSchema widest }
     ensures sound { IsSound shelf (reverse row_lowered) }
@@ -63,8 +57,6 @@ pub fn worked_values()
 /// At site 0 of two, which lowers by its 20 of the 40, these other replies to a Share aren't owed:
 /// what the escrow set aside as if it were free, what was spent as if it didn't turn, the two kinds
 /// exchanged, any refusal, and the rights of both sites.
-///
-/// Source: this project.
 pub fn wrong_shares()
     ensures early { IsWrong halved_shelf (take 2 half_lowered) (Share stock) (Shares 20 30) }
     ensures unturned { IsWrong halved_shelf (take 4 half_lowered) (Share stock) (Shares 0 30) }
@@ -79,8 +71,6 @@ pub fn wrong_shares()
 /// -3 at site 0 is a sound trace, after which the committed value is 42 (`both`). So is the trace
 /// of both sites in turns: while their escrows of -20 and 30 are open, the committed value is 40,
 /// the infimum 20 and the supremum 70; at the end all three are 50.
-///
-/// Source: this project.
 pub fn worked_sites()
     ensures schemas { IsSchema halved_shelf × IsSchema uneven × IsSchema twins }
     ensures parts { (part_of uneven 0 0 Lower ≡ 21)

@@ -8,8 +8,6 @@ use crate::entry::{Command, Entry, Reply, Statement};
 /// The statement that an entry issues: that of a Give answered Given, a Restate answered Stated, or a
 /// Spare answered Spared, with the entry's site as giver and the reply's total. None for every other entry. Takes
 /// no memory.
-///
-/// Source: this project.
 pub fn statement_of(entry: &Entry) -> Option<Statement>
     ensures value { result ≡ statement_of entry.now }
 {

@@ -12,8 +12,6 @@ ghost use Rattle.field_bounds.specs.WorkedGifts.{statement_to, IsOwedAt, IsWrong
 ghost use Rattle.field_bounds.specs.WorkedTightenings.{raise_floor, row_tightened, tightened_twice, tightened_around, tighten_unsure, tighten_kept, tighten_lost, cut_room, both_tightened, over_cut, cut_too_far};
 
 /// Each reply of these rows is owed.
-///
-/// Source: this project.
 pub fn worked_tightenings()
     ensures tightened { IsOwedAt 0 row_tightened }
     ensures tightened_twice { IsOwedAt 0 tightened_twice }
@@ -29,8 +27,6 @@ pub fn worked_tightenings()
 /// tightening, one that counts both kinds, more given up than the share, what an escrow set aside
 /// given up, rights free again after a tightening that was kept, and rights gone after one that was
 /// lost, and a room that grew by what was given up.
-///
-/// Source: this project.
 pub fn wrong_tightenings()
     ensures share_kept { IsWrongAt 0 (take 1 row_tightened) (Share stock) (Shares 20 30) }
     ensures other_kind { IsWrongAt 0 (take 1 row_tightened) (Share stock) (Shares 20 25) }
@@ -48,8 +44,6 @@ pub fn wrong_tightenings()
 /// is in doubt moves no bound, and once it was kept the floor is 5. The row of both sites is a sound
 /// trace: its floor is 25, and so is the committed value once site 0 has lowered by all that it may.
 /// A tightening issues no statement.
-///
-/// Source: this project.
 pub fn worked_bounds()
     ensures bounds { let whole = reverse row_tightened in
         (floor_in halved_shelf whole 0 ≡ pos 5) × (ceiling_in halved_shelf whole 0 ≡ pos 70) }
@@ -68,8 +62,6 @@ pub fn worked_bounds()
 /// One central store holds to the bounds of the trace. Where both sites have given up all their
 /// rights to lower, the floor is the committed value, and a trace in which an escrow is granted then
 /// is no run of it; nor is one in which more is given up than the floor leaves.
-///
-/// Source: this project.
 pub fn wrong_traces()
     ensures floor { let front = reverse (take 2 over_cut) in
         (floor_in halved_shelf front 0 ≡ pos 40)

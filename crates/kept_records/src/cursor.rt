@@ -15,8 +15,6 @@ use std::marker::Model;
 /// A cursor over the bytes of a log. It hands out one record after another, each read from its line as
 /// it is asked for, and no list of them is made. The memory of a commit's escrows can be given back, and
 /// serves the next commit. Contracts see the bytes that are left.
-///
-/// Source: this project.
 #[derive(Drop)]
 pub struct Cursor<'a> {
     left: &'a [u8],

@@ -32,8 +32,6 @@ pub struct ReadLog {
 /// perhaps a torn record. These are all its records, and the torn record takes up the bytes from
 /// `whole` up to `present`. The bytes stay as they are. The errors are a fault of the device and want
 /// of memory. Costs a pass over the bytes, and memory for the bytes and the records.
-///
-/// Source: this project.
 pub fn read_log<M: Medium>(alloc: Global, medium: &mut M) -> Result<ReadLog, MediumFault>
     requires log { IsKept (M.bytes medium.old) }
     ensures reads { IfOk result (λ read. Reads (M.bytes medium.old) read.records.items read.whole) }
@@ -64,8 +62,6 @@ pub fn read_log<M: Medium>(alloc: Global, medium: &mut M) -> Result<ReadLog, Med
 /// it was. The record's numbers have to lie in the ranges that `Record` tells. The text is made in
 /// `line`, whatever that held, and its memory is used again: record after record costs none for the
 /// text but where one is longer than each before it.
-///
-/// Source: this project.
 pub fn append_record<M: Medium>(
     line: &mut Vec<u8>,
     medium: &mut M,
@@ -90,8 +86,6 @@ pub fn append_record<M: Medium>(
 /// of it, a part, or all. The outer error is want of memory, which leaves the medium as it was. The
 /// numbers of both have to lie in the ranges that `Record` tells. The text is made in `line`, whatever
 /// that held, and its memory is used again.
-///
-/// Source: this project.
 pub fn append_piece<M: Medium>(
     line: &mut Vec<u8>,
     medium: &mut M,
@@ -138,8 +132,6 @@ fn cut_and_append<M: Medium>(
 /// the record's text. The outer error is want of memory, which leaves the medium as it was. The epoch
 /// is 1 to 1,000,000,000. The text is made in `line`, whatever that held, and its memory is used
 /// again.
-///
-/// Source: this project.
 pub fn append_restart<M: Medium>(
     line: &mut Vec<u8>,
     medium: &mut M,
@@ -171,8 +163,6 @@ pub fn append_restart<M: Medium>(
 /// outer error is want of memory, which leaves the medium as it was. The epoch is 1 to
 /// 1,000,000,000, and the summary's numbers lie in the ranges that `Record` tells. The text is made in
 /// `line`, whatever that held, and its memory is used again.
-///
-/// Source: this project.
 pub fn append_restart_piece<M: Medium>(
     line: &mut Vec<u8>,
     medium: &mut M,
@@ -198,8 +188,6 @@ pub fn append_restart_piece<M: Medium>(
 
 /// Whether a record stands behind so many, and it is no restart: whether the record is there that
 /// was added behind them, since a restart adds only its own.
-///
-/// Source: this project.
 pub fn stands_behind(records: &[Record], place: usize) -> bool
     ensures { result ≡ is_record_behind place records.now }
 {

@@ -14,8 +14,6 @@ ghost use Rattle.field_bounds.specs.declared.kind.Kind.{Kind};
 
 /// No record's text begins another record's text: where one does, the two records are the same one
 /// (`same`), and nothing is left behind it (`whole`). So what a log holds is told by its bytes alone.
-///
-/// Source: this project.
 pub fn no_text_begins_another()
     ensures same { (r s : Record) (more : List ℕ) → IsRecord r → IsRecord s → text s ≡ text r ++ more → r ≡ s }
     ensures whole { (r s : Record) (more : List ℕ) → IsRecord r → IsRecord s → text s ≡ text r ++ more → more ≡ [] }
@@ -27,8 +25,6 @@ pub fn no_text_begins_another()
 /// the new one with nothing behind (`append`). Cut to the length that reading answers, the bytes are
 /// a log of the records that were read, with nothing behind (`cut`). And bytes are a log of one list
 /// of records alone, with one rest (`one`).
-///
-/// Source: this project.
 pub fn torn_end_keeps_records()
     ensures append { (bytes : List ℕ) (rs : List Record) (r : Record) (k : ℕ) → IsLog bytes rs [] → IsRecord r →
         IsLog (bytes ++ take k (text r)) rs (take k (text r)) ⊎ IsLog (bytes ++ take k (text r)) (rs ++ r ∷ []) [] }
@@ -40,8 +36,6 @@ pub fn torn_end_keeps_records()
 /// behind its records, fewer bytes than the text has are a torn end, and the records are the same
 /// (`torn`); all of them are one more record (`whole`). A log that is cut to the length of its
 /// records' texts is a log of these records with nothing behind them (`cut`).
-///
-/// Source: this project.
 pub fn kept_bytes_tell_what_stands()
     ensures torn { (bytes : List ℕ) (rs : List Record) (r : Record) (n : ℕ) → IsLog bytes rs [] → IsRecord r → n < length (text r) →
         IsLog (bytes ++ take n (text r)) rs (take n (text r)) }
@@ -54,8 +48,6 @@ pub fn kept_bytes_tell_what_stands()
 /// (`sums`, `owned`), and are lawful where all are (`lawful`). What is appended for a record, with the
 /// summary behind it where one is due, is lawful (`piece`), and once it stands whole fewer than 1,000
 /// records stand behind the last summary (`bound`); one record more is one more (`one`).
-///
-/// Source: this project.
 pub fn summaries_tell_nothing_new()
     ensures sums { (rs : List Record) → SameSums (plain rs) rs }
     ensures owned { (schema : SchemaValue) (s : ℕ) (rs : List Record) (f : ℕ) (k : Kind) →
@@ -71,8 +63,6 @@ pub fn summaries_tell_nothing_new()
 /// What a piece of several lines leaves behind a log, where the medium kept so many of its bytes: a
 /// front of its records, and a rest in which no line ends, which a cut takes away. Its first record
 /// stands exactly where all bytes of that record's own text were kept, whatever stands behind it.
-///
-/// Source: this project.
 pub fn torn_piece_leaves_a_front()
     ensures front { (bytes : List ℕ) (rs ps : List Record) (k : ℕ) → IsLog bytes rs [] → AllByRecursion IsRecord ps →
         LeavesPrefix bytes rs ps k (bytes ++ take k (flat_map text ps)) }
@@ -80,8 +70,6 @@ pub fn torn_piece_leaves_a_front()
 
 /// A summary that may stand behind some records tells what they stand for: its epoch, the own rights of
 /// each field, and the totals of each other site and field, so that nothing before it has to be read.
-///
-/// Source: this project.
 pub fn summary_tells_what_stands()
     ensures tells { (schema : SchemaValue) (s : ℕ) (rs : List Record) (v : SummaryValue) →
         may_follow schema s rs (Summary v) ≡ true → TellsOf schema s v (rs ++ Summary v ∷ []) }

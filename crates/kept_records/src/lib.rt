@@ -1,7 +1,5 @@
 //! What a site keeps across a stop: a medium of bytes with its law, and the records that are
 //! written to it, one line each, so that a torn end can't corrupt what was kept before.
-//!
-//! Source: this project.
 #![tactic(auto)]
 
 mod cursor;

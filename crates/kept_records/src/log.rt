@@ -51,8 +51,6 @@ pub(crate) fn line_feed(bytes: &[u8]) -> Option<usize>
 /// is a torn record, whatever it is. Else `bad_line` is the number of the records and 1: that line
 /// is the text of no record. The error is want of memory. Costs a pass over the bytes, and memory
 /// for the records.
-///
-/// Source: this project.
 pub fn read_front(alloc: Global, bytes: &[u8]) -> Result<Front, AllocError>
     ensures front { IfOk result (λ front. AreGoodRecords bytes.now front.records.items front.length front.bad_line) }
     ensures length { IfOk result (λ front. front.length ≡ length (flat_map text front.records.items)) }

@@ -51,8 +51,6 @@ pub struct End {
 /// without memory; how often its device has failed; and the mishap that strikes next, where that is
 /// known beforehand (a device of which nothing is known has none). A stop inside an append is the
 /// same as an append that fails and whose answer nobody sees.
-///
-/// Source: this project.
 pub trait Medium {
     /// The bytes that it holds.
     ghost bytes: { Self → List ℕ };

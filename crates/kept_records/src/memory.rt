@@ -8,8 +8,6 @@ use std::alloc::{AllocError, Global};
 use std::marker::Model;
 
 /// Bytes in memory that never fail: the errors of its calls are want of memory alone.
-///
-/// Source: this project.
 #[derive(Drop)]
 pub struct MemoryMedium {
     held: Vec<u8>,

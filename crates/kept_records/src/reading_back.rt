@@ -162,8 +162,6 @@ fn take_end(alloc: Global, end: End, place: usize) -> Result<Option<ReadBack>, M
 /// many, up to all. Costs a look for the summary, and a pass over it and over the bytes behind the place;
 /// and memory for the bytes that are read, for the summary and for the records behind the place. The
 /// lines behind the summary aren't read as records: a `Cursor` does that.
-///
-/// Source: this project.
 pub fn read_back<M: Medium>(
     alloc: Global,
     medium: &mut M,

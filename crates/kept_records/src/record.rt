@@ -52,8 +52,6 @@ impl Escrows {
 ///
 /// A record's numbers may lie outside the ranges of the text: then it has no place in a log, and
 /// `write_record` doesn't take it.
-///
-/// Source: this project.
 #[derive(Drop)]
 pub enum Record {
     /// A transaction was committed, with 1 to 16 escrows: epoch 0 to 1,000,000,000, number 1 to

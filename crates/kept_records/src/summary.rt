@@ -9,8 +9,6 @@ use std::marker::Model;
 /// totals given to and accepted from other sites that are above 0, each group rising strictly by
 /// site, field and kind, and the totals given up for good, rising strictly by field and kind.
 /// Contracts see lists.
-///
-/// Source: this project.
 #[derive(Drop)]
 pub struct Summary {
     epoch: u32,

@@ -9,8 +9,6 @@ use std::marker::Model;
 
 /// Bytes in memory, and the mishap that strikes the next call of its kind. Once it has struck, it is
 /// Never. Where the count of failures is at the greatest `u64`, no mishap strikes.
-///
-/// Source: this project.
 #[derive(Drop)]
 pub struct TornMedium {
     held: Vec<u8>,

@@ -15,8 +15,6 @@ pub struct Total {
 }
 
 /// All that a site gave up for good of a kind on a field: 1 to 2,000,000,000,000,000 rights.
-///
-/// Source: this project.
 #[derive(Clone, Copy, Debug, PartialEq, Eq)]
 pub struct Cut {
     pub field: FieldNo,

@@ -101,8 +101,6 @@ pub fn records_stand()
 
 /// The one reply that luck leaves is owed: whatever a site has lived through, and however the append
 /// of its next step goes, the reply that this gives is one that it owes there.
-///
-/// Source: this project.
 pub fn lucky_replies_are_owed()
     ensures owed { (schema : SchemaValue) (s : ℕ) (base : Base) (xs : List Lucky)
         (command : Command) (luck : Luck) →

@@ -1,7 +1,5 @@
 //! What a site's history leaves on its medium, and what the records there stand for: the law that
 //! ties the records kept to the sums over what took effect, and how an append goes.
-//!
-//! Source: this project.
 #![tactic(auto)]
 
 mod laws;

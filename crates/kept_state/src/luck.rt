@@ -1,8 +1,6 @@
 //! How an append goes.
 
 /// How the append of one step ends.
-///
-/// Source: this project.
 #[derive(Clone, Copy, Debug, PartialEq, Eq)]
 pub enum Luck {
     /// The append is whole.

@@ -27,8 +27,6 @@ ghost use Rattle.kept_state.specs.Doubt.{found_of, IsDoubt};
 /// (`refused`). A reply in doubt leaves the record or not (`unsure`), and so does a restart that
 /// failed (`still_down`): `stood` tells which. A restart leaves its record, in the greatest epoch
 /// and one more, and tells what it found by the place of the record in doubt (`restarted`).
-///
-/// Source: this project.
 pub fn replies_leave()
     ensures answered { (schema : SchemaValue) (s : ℕ) (base : Base) (bs : List Record) (kept : Bool)
         (o : List Entry) (rs : List Record) (site : SiteNo) (command : Command) →
@@ -64,8 +62,6 @@ pub fn replies_leave()
 ///
 /// A restart tells of a record in doubt exactly where there is one (`tells`), and that it is kept
 /// exactly where it is (`finds`).
-///
-/// Source: this project.
 pub fn doubt_is_settled()
     ensures unsure { (at : Place) (site : SiteNo) (command : Command) (o : List Entry)
         (rs : List Record) (stood : Bool) → writes at command ≡ true →
@@ -96,8 +92,6 @@ pub fn doubt_is_settled()
 /// ranges of its text (`in_range`), as the site's epoch does (`epoch`), if its base's does. Of a
 /// tightening that asks that what it comes to in all lies in range, as it does over lawful records
 /// (`cut`).
-///
-/// Source: this project.
 pub fn records_may_be_written()
     ensures lawful { (schema : SchemaValue) (s : ℕ) (base : Base) (bs : List Record) (kept : Bool)
         (o : List Entry) (rs : List Record) (command : Command) →

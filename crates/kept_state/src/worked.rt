@@ -22,8 +22,6 @@ ghost use Rattle.kept_state.specs.Worked.{Leaves, IsLawfulAtZero, replies, commi
 /// were granted (`in_order`). What was given up is owned no more (`given_up`). Each of these records
 /// may stand (`lawful`, `lawful_cuts`), and each reply of these histories is owed (`owed`): the
 /// premises of the laws are met.
-///
-/// Source: this project.
 pub fn worked_records()
     ensures kept { Leaves found_kept (commit ∷ records.Restart 1 ∷ records.Restart 2 ∷ []) }
     ensures lost { Leaves found_lost (records.Restart 1 ∷ []) }
@@ -45,8 +43,6 @@ pub fn worked_records()
 /// rights twice, a gift of more than it has, a total that doesn't grow, an epoch twice, a commit of
 /// another epoch than the last restart's, more given up than it has, the same total given up twice,
 /// and an acceptance beyond the room that is left where some was given up.
-///
-/// Source: this project.
 pub fn wrong_records()
     ensures forgotten { Leaves found_kept (records.Restart 1 ∷ records.Restart 2 ∷ []) → ⊥ }
     ensures invented { Leaves found_lost (commit ∷ records.Restart 1 ∷ []) → ⊥ }
@@ -66,8 +62,6 @@ pub fn wrong_records()
 /// (`fails`): its text is 4 bytes, so behind 4 it uses up its epoch (`used`), and behind 3 it doesn't
 /// (`unused`). A gift of 5 is 10 bytes (`gift_lost`, `gift_kept`), a tightening of 5 is 8 (`cut_lost`,
 /// `cut_kept`).
-///
-/// Source: this project.
 pub fn worked_luck()
     ensures fine { replies (take 2 (torn 0)) (commands.Commit (txn 1)) Fine ≡ Committed }
     ensures unsure { replies (take 2 (torn 0)) (commands.Commit (txn 1)) (Torn 12) ≡ Unsure }

@@ -1,6 +1,4 @@
 //! What a line of text is made of: words with one space between them, and numbers.
-//!
-//! Source: this project.
 #![tactic(auto)]
 
 mod number;

@@ -237,8 +237,6 @@ fn epoch_after(epoch: u32, next: &Record) -> u32
 /// appended behind a record in one piece is there before either is. The error is want of memory. Costs
 /// a pass over the rights and the ledger, for each field a pass over the record's escrows, and memory
 /// for the summary.
-///
-/// Source: this project.
 pub fn summary_after(
     alloc: Global,
     schema: &Schema,

@@ -52,8 +52,6 @@ fn take_next(
 /// Costs one step for each record and escrow up to the first that breaks a rule, and a pass over the
 /// standing for each summary. Memory is taken for the standing alone, a row for each field and one for
 /// each site and field, and at a summary for another one like it, which is let go.
-///
-/// Source: this project.
 pub fn replay(
     alloc: Global,
     schema: &Schema,

@@ -46,8 +46,6 @@ fn begin(
 ///
 /// Costs a pass over the lines behind the last summary, and one step for each record and escrow there.
 /// Memory is taken for the standing alone, and once for the escrows of a commit.
-///
-/// Source: this project.
 pub fn resume(
     alloc: Global,
     schema: &Schema,

@@ -56,8 +56,6 @@ impl Standing {
     /// site stand for, and the standing is then for them. The error is want of memory. Costs memory for
     /// a row of each field, and for one of each site and field, and a pass over the tightenings that the
     /// summary tells for each field.
-    ///
-    /// Source: this project.
     pub fn of_summary(
         alloc: Global,
         schema: &Schema,

@@ -14,8 +14,6 @@ ghost use Rattle.reaching_steps.specs.Reach.{reach_fault, reach_steps, IsFine};
 
 /// Where no fault holds, the steps take the field to the target, each append is whole, and nothing
 /// is asked at the named site.
-///
-/// Source: this project.
 pub fn reach_meets()
     ensures fit { (schema : SchemaValue) (steps : List WorldStep) (site : SiteNo) (field : FieldNo) (target : ℤ) →
         IsSchema schema → All (StepFits schema) steps → reach_fault schema (trace_by schema steps) site field target ≡ None →
@@ -35,8 +33,6 @@ pub fn reach_meets()
 /// from its low end to its high end there are steps at other sites, each with its append whole, after
 /// which that value is the committed one, while the site itself has lived nothing more: so an answer
 /// that leaves a value out would be wrong in some run.
-///
-/// Source: this project.
 pub fn no_narrower_interval_is_safe()
     ensures reached { (schema : SchemaValue) (steps : List WorldStep) (site : SiteNo) (field : FieldNo) (target : ℤ) →
         IsSchema schema → All (StepFits schema) steps → IsUnhindered schema (trace_by schema steps) site field →

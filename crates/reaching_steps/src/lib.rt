@@ -1,7 +1,5 @@
 //! The interval that a site reads can't be narrower: each value in it is one that the committed value
 //! can come to by steps at other sites alone, and here are the steps.
-//!
-//! Source: this project.
 #![tactic(auto)]
 
 mod counts;

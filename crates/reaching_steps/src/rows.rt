@@ -6,8 +6,6 @@ ghost use Rattle.field_bounds.specs.WorkedGifts.{site};
 ghost use Rattle.reaching_steps.specs.Worked.{Takes, Meets, moved_by, down_to_20, up_to_70, given_to_0, row_received, row_untold, row_told, by_site_1, row_stopped, cut, row_opened, row_ended};
 
 /// What the definitions make of these rows.
-///
-/// Source: this project.
 pub fn worked_reaches()
     ensures down { Takes [] (pos 20) down_to_20 }
     ensures up { Takes down_to_20 (pos 70) (moved_by 2 (pos 50)) }

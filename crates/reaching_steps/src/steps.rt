@@ -352,8 +352,6 @@ fn plan_clear(
 /// The site is tried on a world of its own. Costs taking the world's steps once more, reading the
 /// trace once for each site and for each step that is told, and, for each two sites, what took
 /// effect at both.
-///
-/// Source: this project.
 pub fn reach(
     alloc: Global,
     world: &World,

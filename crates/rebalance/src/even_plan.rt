@@ -63,8 +63,6 @@ fn add_move(
 /// something to move (`err`).
 ///
 /// Costs one pass over the sites, at most two steps for each, and the memory of the moves.
-///
-/// Source: this project.
 pub fn plan_even(alloc: Global, shares: &[u64]) -> Result<Vec<Move>, AllocError>
     requires sum { sum shares.now < 2 ^ 64 }
     ensures plan { IfOk result (λ plan. plan.items ≡ even_plan shares.now) }

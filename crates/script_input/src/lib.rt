@@ -1,7 +1,5 @@
 //! What the texts of the store are read by: sources and sinks, which tell how their calls ended, the
 //! lines of an input with their limits, and the faults.
-//!
-//! Source: this project.
 #![tactic(auto)]
 
 mod fault;

@@ -29,8 +29,6 @@ pub struct CallFailed;
 /// read ended; and how many reads failed. So a caller's contract can say why the caller ended, and
 /// no body can blame a source that didn't fail. The count is a `u64` that begins again at 0: each
 /// failure changes it.
-///
-/// Source: this project.
 pub trait Source {
     /// The bytes that it has left, or None where they aren't known.
     ghost bytes: { Self → Option (List ℕ) };
@@ -57,8 +55,6 @@ pub trait Source {
 /// A sink is seen by three things: the bytes that it holds, where they are known; how its last write
 /// ended; and how many writes were refused, which is to say failed or took none of their bytes. The
 /// count is a `u64` that begins again at 0: each refusal changes it.
-///
-/// Source: this project.
 pub trait Sink {
     /// The bytes that it holds, or None where they aren't known.
     ghost bytes: { Self → Option (List ℕ) };

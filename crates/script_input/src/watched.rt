@@ -14,8 +14,6 @@ use std::io::{Read, Write};
 /// tell a contract whether a call fails, so no clause ties `last` and `failures` to the inner calls.
 /// The bodies of `read` and `write` make one inner call each, and set both by its answer; nothing
 /// outside this module can.
-///
-/// Source: this project.
 #[derive(Drop)]
 pub struct Watched<T> {
     inner: T,

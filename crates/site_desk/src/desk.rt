@@ -21,7 +21,7 @@ use std::sync::{Mutex, Wait};
 /// ledger that `L` names, so that only the passes made with it serve. Contracts see the schema and the
 /// number.
 ///
-/// Source: this project; Balegas and others 2015 for sites that act alone on rights that they hold.
+/// Source: Balegas and others 2015 for sites that act alone on rights that they hold.
 #[derive(Drop)]
 pub struct Desk<L: Ledger, M: Medium> {
     schema: Schema,
@@ -39,8 +39,6 @@ impl<L: Ledger, M: Medium> Model for Desk<L, M> {
 
 /// A desk that wasn't closed, with the passes that were handed in and the length of the history that
 /// was found, in entries.
-///
-/// Source: this project.
 #[derive(Drop)]
 pub struct CloseError<L: Ledger, M: Medium> {
     pub desk: Desk<L, M>,

@@ -7,8 +7,6 @@ use std::alloc::AllocError;
 use thiserror::Error;
 
 /// Why a call wasn't served. Neither the site nor the pass has changed.
-///
-/// Source: this project.
 #[derive(Clone, Copy, Debug, PartialEq, Eq, Error)]
 pub enum DeskFault {
     /// Memory is wanting.

@@ -5,8 +5,6 @@ ghost use Rattle.std.specs.Prelude.{◌≡◌, true};
 use field_bounds::SiteNo;
 
 /// A gate that a call passes under the desk's lock.
-///
-/// Source: this project.
 pub trait Gate: Sync {
     /// Whether the call, counted from 1 for each pass, may be served at this site. Asked with the
     /// lock held, before the command is applied.

@@ -22,8 +22,6 @@ use std::sync::ledger::{Book, Ledger, Share};
 /// A caller's token for one desk, which can't be copied: its share in the book of the desk's calls.
 /// Contracts see how many calls were made with it, and the number of the entry that the last one
 /// made, both 0 at first.
-///
-/// Source: this project.
 #[derive(Drop)]
 pub struct Pass<L: Ledger> {
     share: Share<L>,
@@ -44,8 +42,6 @@ impl<L: Ledger> Model for Pass<L> {
 
 /// The entry that a call made, with its site and its place in the site's history. Only a call that was
 /// served makes one.
-///
-/// Source: this project.
 #[derive(Clone, Copy, PartialEq, Eq, Debug)]
 pub struct Receipt {
     site: SiteNo,
@@ -203,8 +199,6 @@ impl Blank {
 }
 
 /// A site that no call can change any more. Contracts see the site.
-///
-/// Source: this project.
 #[derive(Drop)]
 pub struct Closed<M: Medium> {
     site: Site<M>,

@@ -11,8 +11,6 @@ use std::alloc::Global;
 use thiserror::Error;
 
 /// Why receipts aren't those of a history. Numbers are places in the history, from 1.
-///
-/// Source: this project.
 #[derive(Clone, Copy, Debug, PartialEq, Eq, Error)]
 pub enum ReceiptFault {
     /// This receipt is of another site or of no place of the history, or another entry stands there.
@@ -88,8 +86,6 @@ fn first_unmarked(marks: &[bool]) -> Option<usize>
 /// They are tested in the order of the list: `Differs`, and then `Twice`, for the first that doesn't
 /// stand. Then `Missing` for the least place without one. `NoMemory`: memory is wanting. Costs a
 /// step for each entry and each receipt, and memory for a mark for each entry.
-///
-/// Source: this project.
 pub fn check_receipts<M: Medium>(
     alloc: Global,
     closed: &Closed<M>,

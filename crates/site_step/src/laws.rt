@@ -18,8 +18,6 @@ ghost use Rattle.site_step.specs.Calls.{Call, Leads, IsSure, AreSure};
 /// restart of it fails, and it is known still that the medium won't fail: of one call (`call`,
 /// `stays`), and of any number of calls one after another (`calls`, `lasts`). That the site's medium
 /// holds a log is what `Site::history` tells.
-///
-/// Source: this project.
 pub fn nothing_in_doubt()
     ensures call { (before later : SiteValue) (command : Command) (reply : Reply) → HoldsLog before →
         before.foretold ≡ Some Never → Applies before command reply later → IsSure reply }
@@ -43,8 +41,6 @@ pub fn nothing_in_doubt()
 ///   is used up (`read`).
 /// - No other command cuts or reads: under a mishap for one of these its reply is the one that it has
 ///   where none strikes, and the mishap is still to come (`others`).
-///
-/// Source: this project.
 pub fn no_needless_cut_or_failure()
     ensures refused { (before later : SiteValue) (command : Command) (refusal : Refusal) →
         Applies before command (Refused refusal) later →

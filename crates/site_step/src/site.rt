@@ -157,8 +157,6 @@ impl<M: Medium> Site<M> {
     /// what it read, or all where there is none. Where at most 1,000 records stood behind the last
     /// summary when the site was opened, it is at most 1,000 and the number of Restarts answered
     /// StillDown since the last Restarted before it. Costs no memory.
-    ///
-    /// Source: this project.
     pub fn replayed(&self) -> u64
         ensures value { result ≡ self.now.replayed }
         ensures few { since_summary self.now.based ≤ max_behind → result ≤ max_behind + downs_before self.now.history }

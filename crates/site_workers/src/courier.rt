@@ -98,7 +98,7 @@ pub(crate) fn deliver<L: Ledger, M: Medium + Drop, R: Wait>(
 ///
 /// Costs what the site's own steps cost, and memory for the receipts and a mark for each site.
 ///
-/// Source: this project; Balegas and others 2015 for statements that are accepted at any later time.
+/// Source: Balegas and others 2015 for statements that are accepted at any later time.
 pub fn carry<L: Ledger, M: Medium + Drop, R: Wait>(
     rt: &R,
     alloc: Global,

@@ -10,8 +10,6 @@ use std::alloc::{AllocError, AllocFailed};
 use thiserror::Error;
 
 /// Why a run of workers gave no histories.
-///
-/// Source: this project.
 #[derive(Clone, Copy, Debug, PartialEq, Eq, Error)]
 pub enum WorkFault {
     /// The gate turned a worker's call away.

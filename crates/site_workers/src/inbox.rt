@@ -105,8 +105,6 @@ pub type Way = Pass<Letter, View>;
 pub type Slot = RuledSender<Letter, View, Standing>;
 
 /// The end of an inbox from which its courier takes letters.
-///
-/// Source: this project.
 pub type Inbox = RuledReceiver<Letter, View, Standing>;
 
 /// Makes an inbox for at most 1,024 letters that wait, with the way of its maker, who is no worker. The

@@ -15,8 +15,6 @@ ghost use Rattle.world_steps.specs.Promises.{OutcomesAreBoundedThroughout};
 ghost use Rattle.world_steps.specs.Worked.{fine, step_delivered, Comes, NeverComes, passed_on, out_of_order, row_aborted, row_lost, row_kept, kept_late, epoch_used, gift_kept, taken_in, taken_in_late, read_elsewhere, row_tightened, none_left, cut_kept, cut_lost, row_refused, row_granted};
 
 /// The steps of these rows make a trace of these replies.
-///
-/// Source: this project.
 pub fn worked_worlds()
     ensures passed_on { Comes passed_on }
     ensures out_of_order { Comes out_of_order }
@@ -43,8 +41,6 @@ pub fn worked_worlds()
 /// though its append is whole, an acceptance that was kept counted again, rights that two deliveries
 /// told counted twice, an escrow granted past a floor that both sites raised, and a tightening of
 /// which a byte was lost told as kept.
-///
-/// Source: this project.
 pub fn wrong_worlds()
     ensures issued_at_once { NeverComes (take 1 gift_kept) (step_delivered (Accepted 5)) }
     ensures used_up { NeverComes (take 5 passed_on) (Deliver 1 Fine, None) }
@@ -66,8 +62,6 @@ pub fn wrong_worlds()
 /// raise (`above`); an escrow granted below a floor that tightenings raised (`tightened`); and a trace
 /// in which the first transaction was aborted since, as its fronts are held to the promise too
 /// (`before`).
-///
-/// Source: this project.
 pub fn wrong_outcomes()
     ensures below { ¬ OutcomesAreBounded halved_shelf (row_granted (lower_by 1 41)) }
     ensures above { ¬ OutcomesAreBounded halved_shelf (row_granted (raise_by 1 61)) }

@@ -7,8 +7,6 @@ use field_bounds::{Command, Entry, Schema, SiteNo};
 use kept_state::Luck;
 
 /// One step of a world.
-///
-/// Source: this project.
 #[derive(Clone, Copy, Debug, PartialEq, Eq)]
 pub enum WorldStep {
     /// A site is asked a command. A world takes the step where the site is in its schema and the
@@ -29,8 +27,6 @@ pub enum WorldStep {
 }
 
 /// What a step made.
-///
-/// Source: this project.
 #[derive(Clone, Copy, Debug, PartialEq, Eq)]
 pub enum StepReply {
     /// This entry, which stands at the end of the trace.
@@ -41,8 +37,6 @@ pub enum StepReply {
 
 /// Whether a world of this schema takes the step: the site of a `Do` is in the schema, and its
 /// command isn't an Accept. Costs no memory.
-///
-/// Source: this project.
 pub fn step_fits(schema: &Schema, step: &WorldStep) -> bool
     ensures fits { IsTrue result ↔ StepFits schema.now step.now }
 {
@@ -63,8 +57,6 @@ pub fn step_fits(schema: &Schema, step: &WorldStep) -> bool
 
 /// Whether a world of this schema takes each of the steps, as `step_fits` tells. Costs one look at
 /// each step, and no memory.
-///
-/// Source: this project.
 pub fn steps_fit(schema: &Schema, steps: &[WorldStep]) -> bool
     ensures fit { IsTrue result ↔ All (StepFits schema.now) steps.now }
 {

@@ -23,8 +23,6 @@ use std::marker::Model;
 /// All sites of a schema, each over a medium in memory that is torn where a step says so. Contracts
 /// see the schema and the steps taken, in order: all else is told by these. Of the steps a world keeps
 /// only what its trace doesn't tell.
-///
-/// Source: this project.
 #[derive(Drop)]
 pub struct World {
     schema: Schema,
@@ -98,8 +96,6 @@ impl World {
     /// Costs what the site's `apply` costs, and amortized pushes of the entry, of the statement and of
     /// what the entry doesn't tell of the step, which are kept: one byte, 8 more for the number of a
     /// delivery, and 8 more for luck that is torn. Nothing else grows with the trace.
-    ///
-    /// Source: this project.
     pub fn step(&mut self, alloc: Global, step: &WorldStep) -> Result<StepReply, AllocError>
         requires fits { StepFits self.old.schema step.now }
         ensures steps { OnOk result (self.new ≡ record self.old { steps = self.old.steps ++ step.now ∷ [] }) }
@@ -182,8 +178,6 @@ impl World {
 
     /// The statements that the trace issues, the oldest first: `Deliver` counts them from 1. Costs
     /// no memory.
-    ///
-    /// Source: this project.
     pub fn issued(&self) -> &[Statement]
         ensures issued { reverse result.now ≡ statements_issued (trace_of self.now) }
     {

@@ -14,8 +14,6 @@ use std::alloc::{AllocError, Global};
 use thiserror::Error;
 
 /// Why a site wasn't opened.
-///
-/// Source: this project.
 #[derive(Clone, Copy, Debug, PartialEq, Eq, Error)]
 pub enum OpenFault {
     /// The device of the medium failed in this call.
