@@ -23,8 +23,10 @@ all_narrow (x ∷ fs) each (suc f) = all_narrow fs each.1 f
 
 -- all rights of both kinds that a site has on a field, with those that it has given up, are within its width
 pub rights_fit : (schema : SchemaValue) → IsSchema schema → (t : List Entry) → IsSound schema t → (s : ℕ) → s < schema.sites → (f : ℕ)
-    → (share (fresh schema s) f Lower (at_site schema t s) + held_rights f Lower (at_site schema t s) + cut (fresh schema s) f Lower (at_site schema t s))
-    + (share (fresh schema s) f Raise (at_site schema t s) + held_rights f Raise (at_site schema t s) + cut (fresh schema s) f Raise (at_site schema t s)) ≤ 2_000_000_000_000_000
+    → (share (fresh schema s) f Lower (at_site schema t s) + held_rights f Lower (at_site schema t s)
+    + cut (fresh schema s) f Lower (at_site schema t s))
+    + (share (fresh schema s) f Raise (at_site schema t s) + held_rights f Raise (at_site schema t s)
+    + cut (fresh schema s) f Raise (at_site schema t s)) ≤ 2_000_000_000_000_000
 rights_fit schema good t sound s below f =
     let law = is_conserved schema good t sound in
     let narrow = (all_narrow schema.fields good.each f).width in

@@ -49,8 +49,10 @@ pub record Describes (schema : SchemaValue) (base : Base) (es : List Effect) (n 
   pub free : (f : ℕ) (k : Kind) → f < length schema.fields → amount n.free f k ≡ share base f k es
   pub held : (f : ℕ) (k : Kind) → f < length schema.fields → amount n.held f k ≡ held_rights f k es
   pub cut : (f : ℕ) (k : Kind) → f < length schema.fields → amount n.cut f k ≡ cut base f k es
-  pub given : (r f : ℕ) (k : Kind) → r < schema.sites → f < length schema.fields → amount n.given (slot_at n.stride r f) k ≡ total_given base r f k es
-  pub accepted : (r f : ℕ) (k : Kind) → r < schema.sites → f < length schema.fields → amount n.accepted (slot_at n.stride r f) k ≡ total_accepted base r f k es
+  pub given : (r f : ℕ) (k : Kind) → r < schema.sites → f < length schema.fields
+      → amount n.given (slot_at n.stride r f) k ≡ total_given base r f k es
+  pub accepted : (r f : ℕ) (k : Kind) → r < schema.sites → f < length schema.fields
+      → amount n.accepted (slot_at n.stride r f) k ≡ total_accepted base r f k es
   pub txns : txns_of n.journal.rows.items ≡ reverse (open_txns es)
   pub escrows : (t : TxnId) → is_begun t es ≡ true → is_open t es ≡ true → escrows_at t n.journal.rows.items ≡ reverse (escrows_of t es)
 
@@ -77,14 +79,18 @@ pub record Opens (n m : Numbers) (txn : TxnId) : Type 0 where
   pub rest : KeepsLedgers n m
 
 pub record SetsAside (n m : Numbers) (txn : TxnId) (escrow : EscrowOf) : Type 0 where
-  pub free : IsPut n.free m.free escrow.field.0 (kind_of escrow.change) (amount n.free escrow.field.0 (kind_of escrow.change) - unsigned_abs escrow.change)
-  pub held : IsPut n.held m.held escrow.field.0 (kind_of escrow.change) (capped_sum (amount n.held escrow.field.0 (kind_of escrow.change) + unsigned_abs escrow.change))
+  pub free : IsPut n.free m.free escrow.field.0 (kind_of escrow.change)
+      (amount n.free escrow.field.0 (kind_of escrow.change) - unsigned_abs escrow.change)
+  pub held : IsPut n.held m.held escrow.field.0 (kind_of escrow.change)
+      (capped_sum (amount n.held escrow.field.0 (kind_of escrow.change) + unsigned_abs escrow.change))
   pub open_rows : IsAdded n.journal.rows.items m.journal.rows.items txn escrow
   pub rest : KeepsLedgers n m
 
 pub record Ends (n m : Numbers) (txn : TxnId) (committed : Bool) : Type 0 where
-  pub held : (f : ℕ) (k : Kind) → has_slot n.held f ≡ true → amount m.held f k ≡ amount n.held f k - sizes_taken f k (escrows_at txn n.journal.rows.items)
-  pub free : (f : ℕ) (k : Kind) → has_slot n.free f ≡ true → amount n.free f k ≤ 18446744073709551615 → amount m.free f k ≡ capped_sum (amount n.free f k + sizes_taken f (kind_after committed k) (escrows_at txn n.journal.rows.items))
+  pub held : (f : ℕ) (k : Kind) → has_slot n.held f ≡ true
+      → amount m.held f k ≡ amount n.held f k - sizes_taken f k (escrows_at txn n.journal.rows.items)
+  pub free : (f : ℕ) (k : Kind) → has_slot n.free f ≡ true → amount n.free f k ≤ 18446744073709551615
+      → amount m.free f k ≡ capped_sum (amount n.free f k + sizes_taken f (kind_after committed k) (escrows_at txn n.journal.rows.items))
   pub held_places : (g : ℕ) → has_slot m.held g ≡ has_slot n.held g
   pub free_places : (g : ℕ) → has_slot m.free g ≡ has_slot n.free g
   pub open_rows : IsClosed n.journal.rows.items m.journal.rows.items txn
@@ -93,7 +99,8 @@ pub record Ends (n m : Numbers) (txn : TxnId) (committed : Bool) : Type 0 where
 -- All that is held goes free, and nothing is open.
 pub record StopsAll (n m : Numbers) : Type 0 where
   pub held : (f : ℕ) (k : Kind) → f < n.stride → has_slot n.held f ≡ true → amount m.held f k ≡ 0
-  pub free : (f : ℕ) (k : Kind) → f < n.stride → has_slot n.free f ≡ true → has_slot n.held f ≡ true → amount m.free f k ≡ capped_sum (amount n.free f k + amount n.held f k)
+  pub free : (f : ℕ) (k : Kind) → f < n.stride → has_slot n.free f ≡ true → has_slot n.held f ≡ true
+      → amount m.free f k ≡ capped_sum (amount n.free f k + amount n.held f k)
   pub held_places : (g : ℕ) → has_slot m.held g ≡ has_slot n.held g
   pub free_places : (g : ℕ) → has_slot m.free g ≡ has_slot n.free g
   pub open_rows : m.journal.rows.items ≡ []
@@ -118,8 +125,10 @@ pub record GoesForGood (n m : Numbers) (field : ℕ) (kind : Kind) (size : ℕ) 
   pub given : m.given ≡ n.given
 
 pub record TakesIn (n m : Numbers) (from field : ℕ) (kind : Kind) (total : ℕ) : Type 0 where
-  pub free : IsPut n.free m.free field kind (capped_sum (amount n.free field kind + (total - amount n.accepted (slot_at n.stride from field) kind)))
-  pub accepted : IsPut n.accepted m.accepted (slot_at n.stride from field) kind (max total (amount n.accepted (slot_at n.stride from field) kind))
+  pub free : IsPut n.free m.free field kind (capped_sum
+      (amount n.free field kind + (total - amount n.accepted (slot_at n.stride from field) kind)))
+  pub accepted : IsPut n.accepted m.accepted (slot_at n.stride from field) kind
+      (max total (amount n.accepted (slot_at n.stride from field) kind))
   pub stride : m.stride ≡ n.stride
   pub held : m.held ≡ n.held
   pub cut : m.cut ≡ n.cut
@@ -214,7 +223,8 @@ NumbersAfter effect (Tightened total) d n m = MayTake effect n m
 NumbersAfter effect (Accepted gain) d n m = MayTake effect n m
 NumbersAfter effect (Between lo hi) d n m = MayTake effect n m
 NumbersAfter effect (Shares lower raise) d n m = MayTake effect n m
-NumbersAfter effect (Restarted epoch found) d n m = (mid : Numbers) × MayTake (settled_effect (says_doubt_kept found) d) n mid × MayTake effect mid m
+NumbersAfter effect (Restarted epoch found) d n m = (mid : Numbers) × MayTake (settled_effect (says_doubt_kept found) d) n mid
+    × MayTake effect mid m
 NumbersAfter effect Unsure d n m = m ≡ n
 NumbersAfter effect StillDown d n m = MayTake effect n m
 NumbersAfter effect (Refused refusal) d n m = MayTake effect n m

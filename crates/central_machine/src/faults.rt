@@ -9,8 +9,8 @@ ghost use Rattle.statement_set.specs.Issued.{HasIssued};
 ghost use Rattle.central_machine.specs.declared.faults.Part.TheVariants.{Statements, AtSite};
 
 use crate::judging::length_of;
-use crate::statements;
 use crate::site_totals::SiteTotals;
+use crate::statements;
 use crate::totals::reply_fits;
 use field_bounds::{Entry, Schema, SiteNo};
 use rayon::prelude::*;
@@ -63,7 +63,8 @@ fn note_place(lists: &mut Vec<Places>, site: SiteNo, place: usize) -> Result<(),
 /// The places of each site's entries.
 fn places_of(alloc: Global, schema: &Schema, entries: &[Entry]) -> Result<Vec<Places>, AllocError>
     ensures count { IfOk result (λ lists. length lists.items ≡ schema.now.sites) }
-    ensures places { IfOk result (λ lists. AreAllNumbers entries.now (length entries.now) lists.items) }
+    ensures places { IfOk result (λ lists. AreAllNumbers entries.now
+        (length entries.now) lists.items) }
 {
     let mut lists = no_places(alloc, schema)?;
     for (i, entry) in entries.iter().enumerate() {
@@ -155,9 +156,11 @@ fn listed_faults(
     entries: &[Entry],
     lists: &[Places],
 ) -> Result<Vec<Option<usize>>, AllocError>
-    ensures { IfOk result (λ faults. AllZip (λ site fault. AreAllNumbers entries.now (length entries.now) lists.now →
+    ensures { IfOk result (λ faults. AllZip (λ site fault.
+        AreAllNumbers entries.now (length entries.now) lists.now →
         length lists.now ≡ schema.now.sites → site < schema.now.sites →
-        IsFault schema.now entries.now (AtSite site) fault) (nat_range 0 schema.now.sites) faults.items) }
+        IsFault schema.now entries.now (AtSite site) fault)
+        (nat_range 0 schema.now.sites) faults.items) }
 {
     let count = usize::from(schema.sites());
     let made: Result<Vec<Option<usize>>, AllocError> = (0..count)
@@ -165,7 +168,8 @@ fn listed_faults(
         .with_min_len(1)
         .map(
             |site: usize| -> Result<Option<usize>, AllocError>
-                ensures { IfOk result (λ fault. AreAllNumbers entries.entry.now (length entries.entry.now) lists.entry.now →
+                ensures { IfOk result (λ fault. AreAllNumbers entries.entry.now
+                    (length entries.entry.now) lists.entry.now →
                     length lists.entry.now ≡ schema.entry.now.sites →
                     site < schema.entry.now.sites →
                     IsFault schema.entry.now entries.entry.now (AtSite site) fault) }
@@ -183,14 +187,15 @@ fn site_faults(
     entries: &[Entry],
 ) -> Result<Vec<Option<usize>>, AllocError>
     ensures { IfOk result (λ faults. AllZip (λ site fault. site < schema.now.sites →
-        IsFault schema.now entries.now (AtSite site) fault) (nat_range 0 schema.now.sites) faults.items) }
+        IsFault schema.now entries.now (AtSite site) fault)
+        (nat_range 0 schema.now.sites) faults.items) }
 {
     let lists = places_of(alloc, schema, entries)?;
     listed_faults(rt, alloc, schema, entries, &lists)
 }
 
-/// What all parts find first, the statements' part before those of the sites. It has a thread of its
-/// own, while the places of each site's entries are listed and the sites' parts go over them.
+/// What all parts find first, the statements' part before those of the sites. It has a thread of
+/// its own, while the places of each site's entries are listed and the sites' parts go over them.
 pub fn faults_of(
     rt: &(impl Threads + Sync),
     alloc: Global,
@@ -198,16 +203,19 @@ pub fn faults_of(
     entries: &[Entry],
 ) -> Result<Vec<Option<usize>>, AllocError>
     ensures { IfOk result (λ faults. AllZip (λ part fault. part < 1 + schema.now.sites →
-        IsFault schema.now entries.now (part_at part) fault) (nat_range 0 (1 + schema.now.sites)) faults.items) }
+        IsFault schema.now entries.now (part_at part) fault)
+        (nat_range 0 (1 + schema.now.sites)) faults.items) }
 {
     let (of_statements, of_sites) = join(
         rt,
         || -> Result<Option<usize>, AllocError>
-            ensures { IfOk result (λ fault. IsFault schema.entry.now entries.entry.now Statements fault) }
+            ensures { IfOk result (λ fault. IsFault schema.entry.now entries.entry.now Statements
+                fault) }
         { statements_fault(alloc, schema, entries) },
         || -> Result<Vec<Option<usize>>, AllocError>
             ensures { IfOk result (λ faults. AllZip (λ site fault. site < schema.entry.now.sites →
-                IsFault schema.entry.now entries.entry.now (AtSite site) fault) (nat_range 0 schema.entry.now.sites) faults.items) }
+                IsFault schema.entry.now entries.entry.now (AtSite site) fault)
+                (nat_range 0 schema.entry.now.sites) faults.items) }
         { site_faults(rt, alloc, schema, entries) },
     );
     let told = of_statements?;

@@ -35,8 +35,8 @@ pub fn length_of(entries: &[Entry]) -> usize
     entries.len()
 }
 
-/// The verdict on entries, the oldest first, and how many were read for it: all of them, or those up
-/// to the first bad one. Each entry is read once, by one call that counts it.
+/// The verdict on entries, the oldest first, and how many were read for it: all of them, or those
+/// up to the first bad one. Each entry is read once, by one call that counts it.
 ///
 /// The error is want of memory. Takes time and memory as `judge` does.
 pub fn judge_counted(
@@ -59,15 +59,17 @@ pub fn judge_counted(
     Ok((Verdict::Legal, reader.read as u64))
 }
 
-/// The verdict on entries, the oldest first: Legal where they are a run of one central store in which
-/// each reply was owed, else the first bad entry, counted from 1, and the first rule that it breaks.
+/// The verdict on entries, the oldest first: Legal where they are a run of one central store in
+/// which each reply was owed, else the first bad entry, counted from 1, and the first rule that it
+/// breaks.
 ///
-/// The error is want of memory. Goes once over the entries, up to the first bad one, and keeps running
-/// totals: an entry costs a few look-ups, at most a look through the open transactions of its site,
-/// 64 at most, and a step for each escrow of a transaction that ends; a restart costs a step for each
-/// field, and an entry that issues or accepts a statement one for each doubling of the number of
-/// statements issued. Takes memory for five numbers of each kind for each site and field and for each
-/// two sites and a field, for the open transactions, and for each statement that was issued.
+/// The error is want of memory. Goes once over the entries, up to the first bad one, and keeps
+/// running totals: an entry costs a few look-ups, at most a look through the open transactions of
+/// its site, 64 at most, and a step for each escrow of a transaction that ends; a restart costs a
+/// step for each field, and an entry that issues or accepts a statement one for each doubling of
+/// the number of statements issued. Takes memory for five numbers of each kind for each site and
+/// field and for each two sites and a field, for the open transactions, and for each statement that
+/// was issued.
 ///
 /// Source: O'Neil 1986 for the central store, this project for the judge.
 pub fn judge(alloc: Global, schema: &Schema, entries: &[Entry]) -> Result<Verdict, AllocError>

@@ -6,15 +6,15 @@
 #![tactic(auto)]
 
 mod amounts;
-mod judging;
 mod faults;
-mod statements;
 mod journal;
+mod judging;
 mod numbers;
 mod owed;
 mod parts;
 mod running;
 mod site_totals;
+mod statements;
 mod totals;
 
 pub use central_rules::{Rule, Verdict, judge_plain, verdict_is_exact};

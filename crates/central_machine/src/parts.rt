@@ -7,8 +7,8 @@ ghost use Rattle.central_rules.specs.Verdict.{verdict_of, verdict_back};
 ghost use Rattle.central_machine.specs.Running.{AreTotals};
 ghost use Rattle.central_machine.specs.Parts.{rule_named};
 
-use crate::judging::length_of;
 use crate::faults::{earliest, faults_of, first_is_at};
+use crate::judging::length_of;
 use crate::totals::Totals;
 use central_rules::{Rule, Verdict};
 use field_bounds::{Entry, Schema};
@@ -28,8 +28,8 @@ fn totals_of(alloc: Global, schema: &Schema, front: &[Entry]) -> Result<Totals, 
     Ok(totals)
 }
 
-/// The rule that a bad entry breaks first, of which it is known whether it takes in a statement that
-/// wasn't issued.
+/// The rule that a bad entry breaks first, of which it is known whether it takes in a statement
+/// that wasn't issued.
 fn rule_of(totals: &Totals, schema: &Schema, entry: Entry, untold: bool) -> Rule
     ensures { (t : List Entry) → AreTotals schema.now t totals.now →
         verdict_back schema.now t ≡ Legal → result ≡ rule_named schema.now t entry untold }
@@ -45,13 +45,13 @@ fn rule_of(totals: &Totals, schema: &Schema, entry: Entry, untold: bool) -> Rule
 
 /// The verdict on entries, the oldest first, as `judge` answers it, with the work done by threads.
 /// The rules Site and Statement are one part, in a thread of its own, and Reply at each site is one
-/// more, over that site's own entries, whose places are listed once. Where no part finds a fault the
-/// entries are legal, since the rules on fields follow from the others. Else these are looked at, on
-/// the field that is named, at the one entry that was found.
+/// more, over that site's own entries, whose places are listed once. Where no part finds a fault
+/// the entries are legal, since the rules on fields follow from the others. Else these are looked
+/// at, on the field that is named, at the one entry that was found.
 ///
-/// The error is want of memory. Takes time as `judge` does, divided among the threads but for one step
-/// for each entry that lists the places, and at illegal entries once more for the entries before the
-/// bad one. Takes memory as `judge` does, and a number for each entry.
+/// The error is want of memory. Takes time as `judge` does, divided among the threads but for one
+/// step for each entry that lists the places, and at illegal entries once more for the entries
+/// before the bad one. Takes memory as `judge` does, and a number for each entry.
 ///
 /// Source: O'Neil 1986 for the central store, this project for the judge and its parts.
 pub fn judge_fields(

@@ -58,8 +58,8 @@ impl Running {
         None
     }
 
-    /// The first rule that the next entry breaks. One of a site of the schema, whose statement was issued
-    /// and whose reply is owed, breaks none.
+    /// The first rule that the next entry breaks. One of a site of the schema, whose statement was
+    /// issued and whose reply is owed, breaks none.
     fn broken_rule(&self, schema: &Schema, entry: Entry) -> Option<Rule>
         ensures { (t : List Entry) → AreRunning schema.now t self.now →
             verdict_back schema.now t ≡ Legal → result ≡ broken_rule schema.now t entry }

@@ -63,7 +63,13 @@ fn spare_by(
         Reply::Spared { amount, .. } => left(true, Some(to), field, kind, amount),
         Reply::Unsure => {
             let share = shares.at(usize::from(field.0), kind);
-            left(true, Some(to), field, kind, spared_amount(u128::from(share), want))
+            left(
+                true,
+                Some(to),
+                field,
+                kind,
+                spared_amount(u128::from(share), want),
+            )
         }
         _ => None,
     }
@@ -83,20 +89,41 @@ fn effect_by(shares: &Amounts, command: Command, reply: Reply) -> Option<Effect>
             Reply::Granted => Some(Effect::Grants { txn, field, change }),
             _ => None,
         },
-        Commit { txn } => if matches!(reply, Reply::Committed) || unsure { Some(Effect::Commits { txn }) } else { None },
-        Abort { txn } => if matches!(reply, Reply::Aborted) { Some(Effect::Aborts { txn }) } else { None },
-        Give { to, field, kind, amount } => left(matches!(reply, Reply::Given { .. }) || unsure, Some(to), field, kind, amount),
+        Commit { txn } => if matches!(reply, Reply::Committed) || unsure {
+            Some(Effect::Commits { txn })
+        } else {
+            None
+        },
+        Abort { txn } => if matches!(reply, Reply::Aborted) {
+            Some(Effect::Aborts { txn })
+        } else {
+            None
+        },
+        Give { to, field, kind, amount } => {
+            left(matches!(reply, Reply::Given { .. }) || unsure, Some(to), field, kind, amount)
+        },
         Restate { to, field, kind } => { let _nothing = (to, field, kind); None },
         Spare { to, field, kind, want } => spare_by(shares, to, field, kind, want, reply),
-        Tighten { field, kind, amount } => left(matches!(reply, Reply::Tightened { .. }) || unsure, None, field, kind, amount),
+        Tighten { field, kind, amount } => {
+            left(matches!(reply, Reply::Tightened { .. }) || unsure, None, field, kind, amount)
+        },
         Accept(told) => if matches!(reply, Reply::Accepted { .. }) || unsure {
-            Some(Effect::Accepts { from: told.from, field: told.field, kind: told.kind, total: told.total })
+            Some(Effect::Accepts {
+                from: told.from,
+                field: told.field,
+                kind: told.kind,
+                total: told.total,
+            })
         } else {
             None
         },
         Read { field } => { let _nothing = field; None },
         Share { field } => { let _nothing = field; None },
-        Restart => if matches!(reply, Reply::Restarted { .. }) { Some(Effect::Stops) } else { None },
+        Restart => if matches!(reply, Reply::Restarted { .. }) {
+            Some(Effect::Stops)
+        } else {
+            None
+        },
     }
 }
 
@@ -173,11 +200,15 @@ impl SiteTotals {
 
     /// Takes in the next entry of the site.
     pub fn take_in(&mut self, alloc: Global, entry: Entry) -> Result<(), AllocError>
-        ensures numbers { OnOk result (NumbersAfter (effect_by (amount self.old.numbers.free) entry.command entry.reply) entry.reply self.old.doubt self.old.numbers self.new.numbers) }
+        ensures numbers { OnOk result (NumbersAfter
+            (effect_by (amount self.old.numbers.free) entry.command entry.reply) entry.reply
+            self.old.doubt self.old.numbers self.new.numbers) }
         ensures doubt { OnOk result (self.new.doubt
-            ≡ doubt_after (effect_by (amount self.old.numbers.free) entry.command entry.reply) entry.reply self.old.doubt) }
+            ≡ doubt_after (effect_by (amount self.old.numbers.free) entry.command entry.reply)
+            entry.reply self.old.doubt) }
         ensures up { OnOk result ((base : Base) (o : List Entry) →
-            self.old.site_counts.up ≡ is_up base o → self.new.site_counts.up ≡ is_up base (entry ∷ o)) }
+            self.old.site_counts.up ≡ is_up base o
+            → self.new.site_counts.up ≡ is_up base (entry ∷ o)) }
         ensures epoch { OnOk result ((base : Base) (o : List Entry) →
             self.old.site_counts.epoch ≡ epoch_of base o →
             self.new.site_counts.epoch ≡ epoch_of base (entry ∷ o)) }

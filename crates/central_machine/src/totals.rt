@@ -41,7 +41,8 @@ fn at_floor(bounds: Bounds) -> Bounds
 /// Whether a site owes the reply, where its totals say that it stands.
 pub fn reply_fits(schema: &Schema, site: SiteNo, totals: &SiteTotals, entry: Entry) -> bool
     ensures { (o : List Entry) → IsSite schema.now site.0 o totals.now → result
-        ≡ reply_test (place schema.now site.0 (fresh schema.now site.0) o) entry.command entry.reply }
+        ≡ reply_test (place schema.now site.0 (fresh schema.now site.0) o) entry.command
+        entry.reply }
 {
     let here = RunningSite {
         schema,
@@ -134,7 +135,8 @@ impl Totals {
         requires site_in { from < schema.now.sites }
         requires field_in { field.0 < length schema.now.fields }
         ensures value { (t : List Entry) → AreTotals schema.now t self.now → result
-            ≡ sum_below schema.now.sites (λ to. given_between schema.now t field.0 kind from to - accepted_between schema.now t field.0 kind from to) }
+            ≡ sum_below schema.now.sites (λ to. given_between schema.now t field.0 kind from to -
+            accepted_between schema.now t field.0 kind from to) }
         ensures small { result ≤ 1208925819614629174706176 }
     {
         let mut sum: u128 = 0;
@@ -203,8 +205,8 @@ impl Totals {
         sum
     }
 
-    /// Whether one central store may grant a change of a kind, of this size: rights are conserved, so it
-    /// may where the free rights of all sites and those in flight cover it.
+    /// Whether one central store may grant a change of a kind, of this size: rights are conserved,
+    /// so it may where the free rights of all sites and those in flight cover it.
     fn may_grant(&self, schema: &Schema, field: FieldNo, by: u64, kind: Kind) -> bool
         requires field_in { field.0 < length schema.now.fields }
         ensures { (t : List Entry) → AreTotals schema.now t self.now →
@@ -220,7 +222,8 @@ impl Totals {
         requires field_in { field.0 < length schema.now.fields }
         ensures { (t : List Entry) → AreTotals schema.now t self.now →
             verdict_back schema.now t ≡ Legal → result
-            ≡ (int_le lo (committed_value schema.now t field.0) && int_le (committed_value schema.now t field.0) hi) }
+            ≡ (int_le lo (committed_value schema.now t field.0)
+            && int_le (committed_value schema.now t field.0) hi) }
     {
         let _sites = schema.sites();
         let bounds = bounds_of(schema, field);

@@ -24,12 +24,16 @@ abbrev pub above : ℤ → ℤ → ℕ
 above low high = unsigned_abs (high -ℤ low)
 
 module _ (schema : SchemaValue) (t : List Entry) (sound : IsSound schema t) where
-  pub by_sites : (p : ℕ → TxnId → Bool) (f : ℕ) (k : Kind) → sizes p f k t ≡ sum_below schema.sites (λ s. granted_sizes (p s) f k (at_site schema t s))
+  pub by_sites : (p : ℕ → TxnId → Bool) (f : ℕ) (k : Kind)
+      → sizes p f k t ≡ sum_below schema.sites (λ s. granted_sizes (p s) f k (at_site schema t s))
   by_sites p f k =
       sizes_split p f k schema t sound.sites
-      ∙ sum_below-same schema.sites (λ s. sizes (λ _. p s) f k (own s t)) (λ s. granted_sizes (p s) f k (at_site schema t s)) (λ s below. sym (effects_sizes (fresh schema s) (p s) f k false (own s t)))
+      ∙ sum_below-same schema.sites (λ s. sizes (λ _. p s) f k (own s t)) (λ s. granted_sizes (p s) f k (at_site schema t s))
+      (λ s below. sym (effects_sizes (fresh schema s) (p s) f k false (own s t)))
 
-pub committed_is : (schema : SchemaValue) (t : List Entry) (f : ℕ) → committed_value schema t f ≡ (field_at schema f).value +ℤ (pos (sizes (is_committed_in schema t) f Raise t) -ℤ pos (sizes (is_committed_in schema t) f Lower t))
+pub committed_is : (schema : SchemaValue) (t : List Entry) (f : ℕ)
+    → committed_value schema t f ≡ (field_at schema f).value +ℤ
+    (pos (sizes (is_committed_in schema t) f Raise t) -ℤ pos (sizes (is_committed_in schema t) f Lower t))
 committed_is schema t f = ap (λ (x : ℤ). (field_at schema f).value +ℤ x) (changes_split (is_committed_in schema t) f t)
 
 -- ---- a test of whole numbers as one of numbers without sign
@@ -39,27 +43,36 @@ room_is : (a b c : ℕ) → Decides (leb a b && leb c (b - a)) ((a ≤ b) × (c 
 room_is a b c = Decides-and (leb a b) (leb c (b - a)) (leb-true a b, le-leb a b) (leb-true c (b - a), le-leb c (b - a))
 
 low_is : (F V : ℤ) (r l h q c : ℕ) → F ≤ℤ V
-    → Decides (leb (l + h + q) (above F V + r) && leb c ((above F V + r) - (l + h + q))) ((F +ℤ pos c) ≤ℤ (((V +ℤ (pos r -ℤ pos l)) -ℤ pos h) -ℤ pos q))
+    → Decides (leb (l + h + q) (above F V + r) && leb c ((above F V + r) - (l + h + q)))
+    ((F +ℤ pos c) ≤ℤ (((V +ℤ (pos r -ℤ pos l)) -ℤ pos h) -ℤ pos q))
 low_is F V r l h q c below =
-    Decides-like _ (λ (p : ((l + h + q) ≤ (above F V + r)) × (c ≤ (above F V + r) - (l + h + q))). omega (arith, ints, p.0, p.1)) (λ le. (omega (arith, ints, le), omega (arith, ints, le)))
+    Decides-like _ (λ (p : ((l + h + q) ≤ (above F V + r)) × (c ≤ (above F V + r) - (l + h + q))). omega (arith, ints, p.0, p.1))
+    (λ le. (omega (arith, ints, le), omega (arith, ints, le)))
     (room_is (l + h + q) (above F V + r) c)
 
 pub low_test : (F V : ℤ) (r l h q c : ℕ) → F ≤ℤ V
-    → (leb (l + h + q) (above F V + r) && leb c ((above F V + r) - (l + h + q))) ≡ int_le (F +ℤ pos c) (((V +ℤ (pos r -ℤ pos l)) -ℤ pos h) -ℤ pos q)
-low_test F V r l h q c below = same_from_decides _ _ (low_is F V r l h q c below) (le_z_is (F +ℤ pos c) (((V +ℤ (pos r -ℤ pos l)) -ℤ pos h) -ℤ pos q))
+    → (leb (l + h + q) (above F V + r) && leb c ((above F V + r) - (l + h + q)))
+    ≡ int_le (F +ℤ pos c) (((V +ℤ (pos r -ℤ pos l)) -ℤ pos h) -ℤ pos q)
+low_test F V r l h q c below = same_from_decides _ _ (low_is F V r l h q c below)
+    (le_z_is (F +ℤ pos c) (((V +ℤ (pos r -ℤ pos l)) -ℤ pos h) -ℤ pos q))
 
 high_is : (C V : ℤ) (r l h q c : ℕ) → V ≤ℤ C
-    → Decides (leb (r + h + q) (above V C + l) && leb c ((above V C + l) - (r + h + q))) ((((V +ℤ (pos r -ℤ pos l)) +ℤ pos h) +ℤ pos q) ≤ℤ (C -ℤ pos c))
+    → Decides (leb (r + h + q) (above V C + l) && leb c ((above V C + l) - (r + h + q)))
+    ((((V +ℤ (pos r -ℤ pos l)) +ℤ pos h) +ℤ pos q) ≤ℤ (C -ℤ pos c))
 high_is C V r l h q c below =
-    Decides-like _ (λ (p : ((r + h + q) ≤ (above V C + l)) × (c ≤ (above V C + l) - (r + h + q))). omega (arith, ints, p.0, p.1)) (λ le. (omega (arith, ints, le), omega (arith, ints, le)))
+    Decides-like _ (λ (p : ((r + h + q) ≤ (above V C + l)) × (c ≤ (above V C + l) - (r + h + q))). omega (arith, ints, p.0, p.1))
+    (λ le. (omega (arith, ints, le), omega (arith, ints, le)))
     (room_is (r + h + q) (above V C + l) c)
 
 pub high_test : (C V : ℤ) (r l h q c : ℕ) → V ≤ℤ C
-    → (leb (r + h + q) (above V C + l) && leb c ((above V C + l) - (r + h + q))) ≡ int_le (((V +ℤ (pos r -ℤ pos l)) +ℤ pos h) +ℤ pos q) (C -ℤ pos c)
-high_test C V r l h q c below = same_from_decides _ _ (high_is C V r l h q c below) (le_z_is (((V +ℤ (pos r -ℤ pos l)) +ℤ pos h) +ℤ pos q) (C -ℤ pos c))
+    → (leb (r + h + q) (above V C + l) && leb c ((above V C + l) - (r + h + q)))
+    ≡ int_le (((V +ℤ (pos r -ℤ pos l)) +ℤ pos h) +ℤ pos q) (C -ℤ pos c)
+high_test C V r l h q c below = same_from_decides _ _ (high_is C V r l h q c below)
+    (le_z_is (((V +ℤ (pos r -ℤ pos l)) +ℤ pos h) +ℤ pos q) (C -ℤ pos c))
 
 module _ (schema : SchemaValue) (t : List Entry) (f : ℕ) (b : Bounds) (r l h q c : ℕ)
-    (raised : r ≡ sizes (is_committed_in schema t) f Raise t) (lowered : l ≡ sizes (is_committed_in schema t) f Lower t) (value : b.value ≡ (field_at schema f).value) where
+    (raised : r ≡ sizes (is_committed_in schema t) f Raise t) (lowered : l ≡ sizes (is_committed_in schema t) f Lower t)
+    (value : b.value ≡ (field_at schema f).value) where
   pub value_is : b.value +ℤ (pos r -ℤ pos l) ≡ committed_value schema t f
   value_is = rw (value, raised, lowered) (sym (committed_is schema t f))
 
@@ -72,10 +85,16 @@ module _ (schema : SchemaValue) (t : List Entry) (f : ℕ) (b : Bounds) (r l h q
   high_rule ceiling held cut = rw (value_is, held, ceiling, cut) refl
 
 near_is : (low V : ℤ) (r l : ℕ) → low ≤ℤ V → Decides (leb l (above low V + r)) (low ≤ℤ (V +ℤ (pos r -ℤ pos l)))
-near_is low V r l below = (λ e. let n = leb-true l (above low V + r) e in omega (arith, ints), λ le. le-leb l (above low V + r) (omega (arith, ints)))
+near_is low V r l below = (
+  λ e. let n = leb-true l (above low V + r) e in omega (arith, ints),
+  λ le. le-leb l (above low V + r) (omega (arith, ints)),
+)
 
 far_is : (low V : ℤ) (r l : ℕ) → V ≤ℤ low → Decides (leb (l + above V low) r) (low ≤ℤ (V +ℤ (pos r -ℤ pos l)))
-far_is low V r l below = (λ e. let n = leb-true (l + above V low) r e in omega (arith, ints), λ le. le-leb (l + above V low) r (omega (arith, ints)))
+far_is low V r l below = (
+  λ e. let n = leb-true (l + above V low) r e in omega (arith, ints),
+  λ le. le-leb (l + above V low) r (omega (arith, ints)),
+)
 
 pub near_test : (low V : ℤ) (r l : ℕ) → low ≤ℤ V → leb l (above low V + r) ≡ int_le low (V +ℤ (pos r -ℤ pos l))
 near_test low V r l below = same_from_decides _ _ (near_is low V r l below) (le_z_is low (V +ℤ (pos r -ℤ pos l)))

@@ -71,7 +71,11 @@ last_Decides Lost Lost = always refl
 last_Decides a b = (λ h. cc, λ h. cc)
 
 txn_Decides : (a b : TxnId) → Decides (same_txn a b) (a ≡ b)
-txn_Decides a b = (same_txn-true a b, λ e. (Decides-and (eqb a.epoch b.epoch) (eqb a.number b.number) (Decides-eqb a.epoch b.epoch) (Decides-eqb a.number b.number)).1 (ap (λ (x : TxnId). x.epoch) e, ap (λ (x : TxnId). x.number) e))
+txn_Decides a b = (
+  same_txn-true a b,
+  λ e. (Decides-and (eqb a.epoch b.epoch) (eqb a.number b.number) (Decides-eqb a.epoch b.epoch)
+      (Decides-eqb a.number b.number)).1 (ap (λ (x : TxnId). x.epoch) e, ap (λ (x : TxnId). x.number) e),
+)
 
 kind_Decides : (a b : Kind) → Decides (same_kind a b) (a ≡ b)
 kind_Decides Lower Lower = always refl
@@ -86,15 +90,19 @@ reply_Decides Aborted Aborted = always refl
 reply_Decides (Given a) (Given b) = Decides-like (eqb a b) (λ e. ap Given e) (λ e. cc) (Decides-eqb a b)
 reply_Decides (Stated a) (Stated b) = Decides-like (eqb a b) (λ e. ap Stated e) (λ e. cc) (Decides-eqb a b)
 reply_Decides (Spared a x) (Spared b y) =
-    Decides-like (eqb a b && eqb x y) (λ (h : (a ≡ b) × (x ≡ y)). cc (h.0, h.1)) (λ e. (cc, cc)) (Decides-and (eqb a b) (eqb x y) (Decides-eqb a b) (Decides-eqb x y))
+    Decides-like (eqb a b && eqb x y) (λ (h : (a ≡ b) × (x ≡ y)). cc (h.0, h.1)) (λ e. (cc, cc))
+    (Decides-and (eqb a b) (eqb x y) (Decides-eqb a b) (Decides-eqb x y))
 reply_Decides (Tightened a) (Tightened b) = Decides-like (eqb a b) (λ e. ap Tightened e) (λ e. cc) (Decides-eqb a b)
 reply_Decides (Accepted a) (Accepted b) = Decides-like (eqb a b) (λ e. ap Accepted e) (λ e. cc) (Decides-eqb a b)
 reply_Decides (Between a x) (Between b y) =
-    Decides-like (same_reply (Between a x) (Between b y)) (λ (h : (a ≡ b) × (x ≡ y)). cc (h.0, h.1)) (λ e. (cc, cc)) (Decides-and _ _ (Decides-int_eq a b) (Decides-int_eq x y))
+    Decides-like (same_reply (Between a x) (Between b y)) (λ (h : (a ≡ b) × (x ≡ y)). cc (h.0, h.1)) (λ e. (cc, cc))
+    (Decides-and _ _ (Decides-int_eq a b) (Decides-int_eq x y))
 reply_Decides (Shares a x) (Shares b y) =
-    Decides-like (eqb a b && eqb x y) (λ (h : (a ≡ b) × (x ≡ y)). cc (h.0, h.1)) (λ e. (cc, cc)) (Decides-and (eqb a b) (eqb x y) (Decides-eqb a b) (Decides-eqb x y))
+    Decides-like (eqb a b && eqb x y) (λ (h : (a ≡ b) × (x ≡ y)). cc (h.0, h.1)) (λ e. (cc, cc))
+    (Decides-and (eqb a b) (eqb x y) (Decides-eqb a b) (Decides-eqb x y))
 reply_Decides (Restarted a x) (Restarted b y) =
-    Decides-like (eqb a b && same_found x y) (λ (h : (a ≡ b) × (x ≡ y)). cc (h.0, h.1)) (λ e. (cc, cc)) (Decides-and (eqb a b) (same_found x y) (Decides-eqb a b) (last_Decides x y))
+    Decides-like (eqb a b && same_found x y) (λ (h : (a ≡ b) × (x ≡ y)). cc (h.0, h.1)) (λ e. (cc, cc))
+    (Decides-and (eqb a b) (same_found x y) (Decides-eqb a b) (last_Decides x y))
 reply_Decides Unsure Unsure = always refl
 reply_Decides StillDown StillDown = always refl
 reply_Decides (Refused a) (Refused b) = Decides-like (same_refusal a b) (λ e. ap Refused e) (λ e. cc) (refusal_Decides a b)
@@ -102,7 +110,8 @@ reply_Decides a b = (λ h. cc, λ h. cc)
 
 -- ---- the reply that is owed
 
-last_case : (n : ℕ) (b : Bool) (found : Last) → eqb n 0 ≡ b → Decides (cond b (same_found found Nothing) (not (same_found found Nothing))) ((n ≡ 0 → found ≡ Nothing) × (found ≡ Nothing → n ≡ 0))
+last_case : (n : ℕ) (b : Bool) (found : Last) → eqb n 0 ≡ b
+    → Decides (cond b (same_found found Nothing) (not (same_found found Nothing))) ((n ≡ 0 → found ≡ Nothing) × (found ≡ Nothing → n ≡ 0))
 last_case n true found e =
     let zero_is : n ≡ 0 = eqb-true n 0 e in
     (λ h. (λ _. (last_Decides found Nothing).0 h, λ _. zero_is), λ h. (last_Decides found Nothing).1 (h.0 zero_is))
@@ -121,8 +130,10 @@ restart_is at (Restarted next found) =
     let e = epoch_of at.base at.entries in
     let u = count_since is_unsure at.entries in
     let two = Decides-and (leb next max_epoch) (found_test u found) (le_is next max_epoch) (last_is u found) in
-    let three = Decides-and (leb next (greatest_epoch at + 1)) (leb next max_epoch && found_test u found) (le_is next (greatest_epoch at + 1)) two in
-    let four = Decides-and (leb (e + 1) next) (leb next (greatest_epoch at + 1) && (leb next max_epoch && found_test u found)) (le_is (e + 1) next) three in
+    let three = Decides-and (leb next (greatest_epoch at + 1)) (leb next max_epoch && found_test u found)
+    (le_is next (greatest_epoch at + 1)) two in
+    let four = Decides-and (leb (e + 1) next) (leb next (greatest_epoch at + 1) && (leb next max_epoch && found_test u found))
+    (le_is (e + 1) next) three in
     (λ h. let p = four.0 h in (p.0, p.1.0, p.1.1.0, p.1.1.1), λ h. four.1 (h.0, (h.1, (h.2, h.3))))
 restart_is at reply = (λ h. cc, λ h. absurd h)
 
@@ -130,21 +141,29 @@ unsure_Decides : (reply : Reply) → Decides (is_unsure reply) (reply ≡ Unsure
 unsure_Decides Unsure = always refl
 unsure_Decides reply = (λ h. cc, λ h. cc)
 
-answer_is : (o : Option Refusal) (owed reply : Reply) (may : Bool) → Decides (answer_test o owed may reply) (MatchOption o ((reply ≡ owed) ⊎ ((reply ≡ Unsure) × IsTrue may)) (λ refusal. reply ≡ Refused refusal))
+answer_is : (o : Option Refusal) (owed reply : Reply) (may : Bool)
+    → Decides (answer_test o owed may reply) (MatchOption o ((reply ≡ owed)
+    ⊎ ((reply ≡ Unsure) × IsTrue may)) (λ refusal. reply ≡ Refused refusal))
 answer_is None owed reply may =
-    Decides-or (same_reply reply owed) (is_unsure reply && may) (reply_Decides reply owed) (Decides-and (is_unsure reply) may (unsure_Decides reply) (λ h. h, λ h. h))
+    Decides-or (same_reply reply owed) (is_unsure reply && may) (reply_Decides reply owed)
+    (Decides-and (is_unsure reply) may (unsure_Decides reply) (λ h. h, λ h. h))
 answer_is (Some refusal) owed reply may = reply_Decides reply (Refused refusal)
 
 pub fits_is : (at : Place) (command : Command) (reply : Reply) → Decides (reply_test at command reply) (Fits at command reply)
 fits_is at Restart reply = restart_is at reply
 fits_is at Begin reply = answer_is (first (refusals at Begin)) (answer at Begin) reply (writes at Begin)
-fits_is at (Escrow txn field change) reply = answer_is (first (refusals at (Escrow txn field change))) (answer at (Escrow txn field change)) reply (writes at (Escrow txn field change))
+fits_is at (Escrow txn field change) reply = answer_is (first (refusals at (Escrow txn field change)))
+    (answer at (Escrow txn field change)) reply (writes at (Escrow txn field change))
 fits_is at (Commit txn) reply = answer_is (first (refusals at (Commit txn))) (answer at (Commit txn)) reply (writes at (Commit txn))
 fits_is at (Abort txn) reply = answer_is (first (refusals at (Abort txn))) (answer at (Abort txn)) reply (writes at (Abort txn))
-fits_is at (Give to field kind amount) reply = answer_is (first (refusals at (Give to field kind amount))) (answer at (Give to field kind amount)) reply (writes at (Give to field kind amount))
-fits_is at (Restate to field kind) reply = answer_is (first (refusals at (Restate to field kind))) (answer at (Restate to field kind)) reply (writes at (Restate to field kind))
-fits_is at (Spare to field kind want) reply = answer_is (first (refusals at (Spare to field kind want))) (answer at (Spare to field kind want)) reply (writes at (Spare to field kind want))
-fits_is at (Tighten field kind amount) reply = answer_is (first (refusals at (Tighten field kind amount))) (answer at (Tighten field kind amount)) reply (writes at (Tighten field kind amount))
+fits_is at (Give to field kind amount) reply = answer_is (first (refusals at (Give to field kind amount)))
+    (answer at (Give to field kind amount)) reply (writes at (Give to field kind amount))
+fits_is at (Restate to field kind) reply = answer_is (first (refusals at (Restate to field kind))) (answer at (Restate to field kind)) reply
+    (writes at (Restate to field kind))
+fits_is at (Spare to field kind want) reply = answer_is (first (refusals at (Spare to field kind want)))
+    (answer at (Spare to field kind want)) reply (writes at (Spare to field kind want))
+fits_is at (Tighten field kind amount) reply = answer_is (first (refusals at (Tighten field kind amount)))
+    (answer at (Tighten field kind amount)) reply (writes at (Tighten field kind amount))
 fits_is at (Accept told) reply = answer_is (first (refusals at (Accept told))) (answer at (Accept told)) reply (writes at (Accept told))
 fits_is at (Read field) reply = answer_is (first (refusals at (Read field))) (answer at (Read field)) reply (writes at (Read field))
 fits_is at (Share field) reply = answer_is (first (refusals at (Share field))) (answer at (Share field)) reply (writes at (Share field))
@@ -159,31 +178,38 @@ field_case n f false test P e d =
     let lt : f < n = leb-false n f e in
     (λ h _. d.0 h, λ h. d.1 (h lt))
 
-on_field_is : (schema : SchemaValue) (field : FieldNo) (test : Bool) (P : Type 0) → Decides test P → Decides (on_field schema field test) (field.0 < length schema.fields → P)
+on_field_is : (schema : SchemaValue) (field : FieldNo) (test : Bool) (P : Type 0) → Decides test P
+    → Decides (on_field schema field test) (field.0 < length schema.fields → P)
 on_field_is schema field test P d = field_case (length schema.fields) field.0 (leb (length schema.fields) field.0) test P refl d
 
-within_is : (schema : SchemaValue) (t : List Entry) (f q : ℕ) (k : Kind) → Decides (within_bound schema t f q k) (MayBeGranted schema t f k q)
+within_is : (schema : SchemaValue) (t : List Entry) (f q : ℕ) (k : Kind)
+    → Decides (within_bound schema t f q k) (MayBeGranted schema t f k q)
 within_is schema t f q Lower = le_z_is (floor_in schema t f) (inf schema t f -ℤ pos q)
 within_is schema t f q Raise = le_z_is (sup schema t f +ℤ pos q) (ceiling_in schema t f)
 
-pub grant_is : (schema : SchemaValue) (t : List Entry) (command : Command) (reply : Reply) → Decides (grant_test schema t command reply) (GrantRule schema t command reply)
-grant_is schema t (Escrow txn field change) Granted = on_field_is schema field _ _ (within_is schema t field.0 (unsigned_abs change) (kind_of change))
+pub grant_is : (schema : SchemaValue) (t : List Entry) (command : Command) (reply : Reply)
+    → Decides (grant_test schema t command reply) (GrantRule schema t command reply)
+grant_is schema t (Escrow txn field change) Granted =
+    on_field_is schema field _ _ (within_is schema t field.0 (unsigned_abs change) (kind_of change))
 grant_is schema t (Tighten field kind amount) (Tightened total) = on_field_is schema field _ _ (within_is schema t field.0 amount kind)
 grant_is schema t command reply = always tt
 
-share_is : (schema : SchemaValue) (t : List Entry) (s : ℕ) (field : FieldNo) (k : Kind) (asked h : ℕ) → Decides (true_share schema t s field k asked h) (IsShortage schema t s field.0 k asked h)
+share_is : (schema : SchemaValue) (t : List Entry) (s : ℕ) (field : FieldNo) (k : Kind) (asked h : ℕ)
+    → Decides (true_share schema t s field k asked h) (IsShortage schema t s field.0 k asked h)
 share_is schema t s field k asked h =
     let n = share (fresh schema s) field.0 k (at_site schema t s) in
     on_field_is schema field _ _ (Decides-and (eqb h n) (ltb h asked) (Decides-eqb h n) (Decides-ltb h asked))
 
-pub shortage_is : (schema : SchemaValue) (t : List Entry) (s : ℕ) (command : Command) (reply : Reply) → Decides (shortage_test schema t s command reply) (ShortageRule schema t s command reply)
+pub shortage_is : (schema : SchemaValue) (t : List Entry) (s : ℕ) (command : Command) (reply : Reply)
+    → Decides (shortage_test schema t s command reply) (ShortageRule schema t s command reply)
 shortage_is schema t s (Escrow txn field change) (Refused (Short h)) = share_is schema t s field (kind_of change) (unsigned_abs change) h
 shortage_is schema t s (Give to field kind amount) (Refused (Short h)) = share_is schema t s field kind amount h
 shortage_is schema t s (Spare to field kind want) (Refused (Short h)) = share_is schema t s field kind want h
 shortage_is schema t s (Tighten field kind amount) (Refused (Short h)) = share_is schema t s field kind amount h
 shortage_is schema t s command reply = always tt
 
-pub interval_is : (schema : SchemaValue) (t : List Entry) (command : Command) (reply : Reply) → Decides (interval_test schema t command reply) (IntervalRule schema t command reply)
+pub interval_is : (schema : SchemaValue) (t : List Entry) (command : Command) (reply : Reply)
+    → Decides (interval_test schema t command reply) (IntervalRule schema t command reply)
 interval_is schema t (Read field) (Between lo hi) =
     let v = committed_value schema t field.0 in
     on_field_is schema field _ _ (Decides-and (le_z lo v) (le_z v hi) (le_z_is lo v) (le_z_is v hi))
@@ -204,12 +230,32 @@ statement_Decides a b =
           let kind : a.kind ≡ b.kind = p.1.1.1.0 in
           let total : a.total ≡ b.total = p.1.1.1.1 in
           let made : ◌≡◌ {A = Statement}
-          (record { from = record { 0 = a.from.0 }; to = record { 0 = a.to.0 }; field = record { 0 = a.field.0 }; kind = a.kind; total = a.total })
-          (record { from = record { 0 = b.from.0 }; to = record { 0 = b.to.0 }; field = record { 0 = b.field.0 }; kind = b.kind; total = b.total }) = cc in
+          (record {
+            from = record { 0 = a.from.0 };
+            to = record { 0 = a.to.0 };
+            field = record { 0 = a.field.0 };
+            kind = a.kind;
+            total =
+                a.total;
+          })
+          (record {
+            from = record { 0 = b.from.0 };
+            to = record { 0 = b.to.0 };
+            field = record { 0 = b.field.0 };
+            kind = b.kind;
+            total =
+                b.total;
+          }) = cc in
           made,
       λ e. five.1 (
         ap (λ (x : Statement). x.from.0) e,
-        (ap (λ (x : Statement). x.to.0) e, (ap (λ (x : Statement). x.field.0) e, (ap (λ (x : Statement). x.kind) e, ap (λ (x : Statement). x.total) e))),
+        (
+          ap (λ (x : Statement). x.to.0) e,
+          (
+            ap (λ (x : Statement). x.field.0) e,
+            (ap (λ (x : Statement). x.kind) e, ap (λ (x : Statement). x.total) e),
+          ),
+        ),
       ),
     )
 
@@ -219,9 +265,11 @@ told_is statement (Some told) = Decides-like (same_statement told statement) (λ
 
 pub issued_is : (statement : Statement) (t : List Entry) → Decides (is_issued statement t) (IsIssued statement t)
 issued_is statement [] = (λ h. cc, λ h. absurd h)
-issued_is statement (e ∷ t) = Decides-or (is_told_by statement (statement_of e)) (is_issued statement t) (told_is statement (statement_of e)) (issued_is statement t)
+issued_is statement (e ∷ t) = Decides-or (is_told_by statement (statement_of e)) (is_issued statement t)
+    (told_is statement (statement_of e)) (issued_is statement t)
 
-pub statement_is : (t : List Entry) (command : Command) (reply : Reply) → Decides (statement_test t command reply) (StatementRule t command reply)
+pub statement_is : (t : List Entry) (command : Command) (reply : Reply)
+    → Decides (statement_test t command reply) (StatementRule t command reply)
 statement_is t (Accept statement) (Accepted gain) = issued_is statement t
 statement_is t (Accept statement) Unsure = issued_is statement t
 statement_is t command reply = always tt

@@ -19,16 +19,20 @@ whole xs i = ap reverse (sym (take-append-drop i xs)) ∙ reverse-append (take i
 
 pub issued_stays : (statement : Statement) (later t : List Entry) → is_issued statement t ≡ true → is_issued statement (later ++ t) ≡ true
 issued_stays statement [] t h = h
-issued_stays statement (e ∷ later) t h = or_right (is_told_by statement (statement_of e)) (is_issued statement (later ++ t)) (issued_stays statement later t h)
+issued_stays statement (e ∷ later) t h = or_right (is_told_by statement (statement_of e)) (is_issued statement (later ++ t))
+    (issued_stays statement later t h)
 
 -- an entry that issues the statement issues it in the whole
-pub issued_found : (statement : Statement) (entries : List Entry) (i : ℕ) (d : Entry) → i < length entries → is_told_by statement (statement_of (get_or entries i d)) ≡ true → is_issued statement (reverse entries) ≡ true
+pub issued_found : (statement : Statement) (entries : List Entry) (i : ℕ) (d : Entry) → i < length entries
+    → is_told_by statement (statement_of (get_or entries i d)) ≡ true → is_issued statement (reverse entries) ≡ true
 issued_found statement entries i d h told =
     ap (λ (x : List Entry). is_issued statement x) (whole entries (i + 1))
     ∙ issued_stays statement (reverse (drop (i + 1) entries)) (reverse (take (i + 1) entries))
-    (rw (front_more entries i d h) (or_left (is_told_by statement (statement_of (get_or entries i d))) (is_issued statement (reverse (take i entries))) told))
+    (rw (front_more entries i d h) (or_left (is_told_by statement (statement_of (get_or entries i d)))
+    (is_issued statement (reverse (take i entries))) told))
 
 -- one more turn of a loop that sums a measure over the effects
 pub sum_more : (F : List Effect → ℕ) (xs : List Effect) (i : ℕ) (d : Effect) → i < length xs → (n added sum : ℕ)
-    → F (get_or xs i d ∷ reverse (take i xs)) ≡ n + F (reverse (take i xs)) → added ≡ n → sum ≡ F (reverse (take i xs)) → sum + added ≡ F (reverse (take (i + 1) xs))
+    → F (get_or xs i d ∷ reverse (take i xs)) ≡ n + F (reverse (take i xs)) → added ≡ n → sum ≡ F (reverse (take i xs))
+    → sum + added ≡ F (reverse (take (i + 1) xs))
 sum_more F xs i d h n added sum step same before = let next = ap F (front_more xs i d h) in omega (arith, step, same, before, next)

@@ -22,7 +22,8 @@ abbrev pub AllHold : List (Bool × Rule) → Type 0
 AllHold [] = Unit {0}
 AllHold (test ∷ rest) = (test.0 ≡ true) × AllHold rest
 
-hold_step : (b : Bool) (r : Rule) (rest : List (Bool × Rule)) → first_broken ((b, r) ∷ rest) ≡ None → (first_broken rest ≡ None → AllHold rest) → (b ≡ true) × AllHold rest
+hold_step : (b : Bool) (r : Rule) (rest : List (Bool × Rule)) → first_broken ((b, r) ∷ rest) ≡ None
+    → (first_broken rest ≡ None → AllHold rest) → (b ≡ true) × AllHold rest
 hold_step true r rest h more = (refl, more h)
 hold_step false r rest h more = cc
 
@@ -97,7 +98,8 @@ sound_is_legal schema (e ∷ t) sound central =
 -- ---- what a judge needs that stops at the first bad entry
 
 -- a bad front stays bad
-pub bad_stays : (schema : SchemaValue) (later t : List Entry) (at : ℕ) (rule : Rule) → verdict_back schema t ≡ Illegal at rule → verdict_back schema (later ++ t) ≡ Illegal at rule
+pub bad_stays : (schema : SchemaValue) (later t : List Entry) (at : ℕ) (rule : Rule) → verdict_back schema t ≡ Illegal at rule
+    → verdict_back schema (later ++ t) ≡ Illegal at rule
 unfolding verdict_back
 bad_stays schema [] t at rule h = h
 bad_stays schema (e ∷ later) t at rule h = rw (bad_stays schema later t at rule h) refl
@@ -109,12 +111,22 @@ bad_step schema e t Legal None at rule h = cc
 bad_step schema e t Legal (Some found) at rule h = inl (refl, cc, cc)
 bad_step schema e t (Illegal there found) o at rule h = inr h
 
-pub illegal_is : (schema : SchemaValue) (t : List Entry) (at : ℕ) (rule : Rule) → verdict_back schema t ≡ Illegal at rule → IsFirstBad schema t at rule
+pub illegal_is : (schema : SchemaValue) (t : List Entry) (at : ℕ) (rule : Rule) → verdict_back schema t ≡ Illegal at rule
+    → IsFirstBad schema t at rule
 unfolding verdict_back
 illegal_is schema [] at rule h = cc
 illegal_is schema (e ∷ t) at rule h =
     elim (bad_step schema e t (verdict_back schema t) (broken_rule schema t e) at rule h) [
-      | inl now ↦ record { front = t; entry = e; later = []; parts = refl; place = now.2; sound = legal_is_sound schema t now.0; breaks = now.1 }
+      | inl now ↦ record {
+        front = t;
+        entry = e;
+        later = [];
+        parts = refl;
+        place = now.2;
+        sound = legal_is_sound schema t now.0;
+        breaks =
+            now.1;
+      }
       | inr before ↦
           let found = illegal_is schema t at rule before in
           record {
@@ -130,16 +142,20 @@ illegal_is schema (e ∷ t) at rule h =
 
 -- ---- a loop over the entries, oldest first
 
-module _ (schema : SchemaValue) (entries : List Entry) (i : ℕ) (d : Entry) (h : i < length entries) (legal : verdict_back schema (reverse (take i entries)) ≡ Legal) where
-  pub stop_here : (rule : Rule) → broken_rule schema (reverse (take i entries)) (get_or entries i d) ≡ Some rule → Illegal (i + 1) rule ≡ verdict_of schema entries
+module _ (schema : SchemaValue) (entries : List Entry) (i : ℕ) (d : Entry) (h : i < length entries)
+    (legal : verdict_back schema (reverse (take i entries)) ≡ Legal) where
+  pub stop_here : (rule : Rule) → broken_rule schema (reverse (take i entries)) (get_or entries i d) ≡ Some rule
+      → Illegal (i + 1) rule ≡ verdict_of schema entries
   unfolding verdict_back
   stop_here rule found =
       let t = reverse (take i entries) in
       let long : length t ≡ i = length-reverse (take i entries) ∙ length-take-le i entries (omega arith) in
       let here : verdict_back schema (get_or entries i d ∷ t) ≡ Illegal (i + 1) rule = rw (legal, found, long) refl in
       let there : verdict_back schema (reverse (take (i + 1) entries)) ≡ Illegal (i + 1) rule = rw (front_more entries i d h) here in
-      sym (ap (λ (x : List Entry). verdict_back schema x) (whole entries (i + 1)) ∙ bad_stays schema (reverse (drop (i + 1) entries)) (reverse (take (i + 1) entries)) (i + 1) rule there)
+      sym (ap (λ (x : List Entry). verdict_back schema x) (whole entries (i + 1))
+      ∙ bad_stays schema (reverse (drop (i + 1) entries)) (reverse (take (i + 1) entries)) (i + 1) rule there)
 
-  pub go_on : broken_rule schema (reverse (take i entries)) (get_or entries i d) ≡ None → verdict_back schema (reverse (take (i + 1) entries)) ≡ Legal
+  pub go_on : broken_rule schema (reverse (take i entries)) (get_or entries i d) ≡ None
+      → verdict_back schema (reverse (take (i + 1) entries)) ≡ Legal
   unfolding verdict_back
   go_on found = rw (front_more entries i d h) (rw (legal, found) refl)

@@ -30,6 +30,7 @@ pub record Shows (at : Place) (site_counts : SiteCounts) (list : List Effect) : 
   pub begun : site_counts.begun ≡ count_since is_begun_reply at.entries
   pub still_down : site_counts.still_down ≡ count_since is_still_down at.entries
   pub unsure : site_counts.unsure ≡ count_since is_unsure at.entries
-  pub few : (site_counts.begun ≤ 230584300921369395) × (site_counts.still_down ≤ 230584300921369395) × (site_counts.unsure ≤ 230584300921369395)
+  pub few : (site_counts.begun ≤ 230584300921369395) × (site_counts.still_down ≤ 230584300921369395)
+      × (site_counts.unsure ≤ 230584300921369395)
   pub made : reverse list ≡ at.effects
   pub few_made : length list ≤ 230584300921369395

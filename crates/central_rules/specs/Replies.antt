@@ -119,15 +119,22 @@ answer_test (Some refusal) owed unsure reply = same_reply reply (Refused refusal
 -- Whether a site may give this reply to this command.
 abbrev pub reply_test : Place → Command → Reply → Bool
 reply_test at Begin reply = answer_test (first (refusals at Begin)) (answer at Begin) (writes at Begin) reply
-reply_test at (Escrow txn field change) reply = answer_test (first (refusals at (Escrow txn field change))) (answer at (Escrow txn field change)) (writes at (Escrow txn field change)) reply
+reply_test at (Escrow txn field change) reply = answer_test (first (refusals at (Escrow txn field change)))
+    (answer at (Escrow txn field change)) (writes at (Escrow txn field change)) reply
 reply_test at (Commit txn) reply = answer_test (first (refusals at (Commit txn))) (answer at (Commit txn)) (writes at (Commit txn)) reply
 reply_test at (Abort txn) reply = answer_test (first (refusals at (Abort txn))) (answer at (Abort txn)) (writes at (Abort txn)) reply
-reply_test at (Give to field kind amount) reply = answer_test (first (refusals at (Give to field kind amount))) (answer at (Give to field kind amount)) (writes at (Give to field kind amount)) reply
-reply_test at (Restate to field kind) reply = answer_test (first (refusals at (Restate to field kind))) (answer at (Restate to field kind)) (writes at (Restate to field kind)) reply
-reply_test at (Spare to field kind want) reply = answer_test (first (refusals at (Spare to field kind want))) (answer at (Spare to field kind want)) (writes at (Spare to field kind want)) reply
-reply_test at (Tighten field kind amount) reply = answer_test (first (refusals at (Tighten field kind amount))) (answer at (Tighten field kind amount)) (writes at (Tighten field kind amount)) reply
-reply_test at (Accept told) reply = answer_test (first (refusals at (Accept told))) (answer at (Accept told)) (writes at (Accept told)) reply
+reply_test at (Give to field kind amount) reply = answer_test (first (refusals at (Give to field kind amount)))
+    (answer at (Give to field kind amount)) (writes at (Give to field kind amount)) reply
+reply_test at (Restate to field kind) reply = answer_test (first (refusals at (Restate to field kind))) (answer at (Restate to field kind))
+    (writes at (Restate to field kind)) reply
+reply_test at (Spare to field kind want) reply = answer_test (first (refusals at (Spare to field kind want)))
+    (answer at (Spare to field kind want)) (writes at (Spare to field kind want)) reply
+reply_test at (Tighten field kind amount) reply = answer_test (first (refusals at (Tighten field kind amount)))
+    (answer at (Tighten field kind amount)) (writes at (Tighten field kind amount)) reply
+reply_test at (Accept told) reply = answer_test (first (refusals at (Accept told))) (answer at (Accept told))
+    (writes at (Accept told)) reply
 reply_test at (Read field) reply = answer_test (first (refusals at (Read field))) (answer at (Read field)) (writes at (Read field)) reply
-reply_test at (Share field) reply = answer_test (first (refusals at (Share field))) (answer at (Share field)) (writes at (Share field)) reply
+reply_test at (Share field) reply = answer_test (first (refusals at (Share field))) (answer at (Share field))
+    (writes at (Share field)) reply
 reply_test at Restart reply =
     restart_test (epoch_of at.base at.entries) (count_since is_still_down at.entries) (count_since is_unsure at.entries) reply

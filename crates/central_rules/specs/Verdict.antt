@@ -36,7 +36,8 @@ within_bound schema t f n Raise = int_le (sup schema t f +ℤ pos n) (ceiling_in
 -- An escrow is granted, and rights are given up, only where one central store may grant that.
 abbrev pub grant_test : SchemaValue → List Entry → Command → Reply → Bool
 grant_test schema t Begin reply = true
-grant_test schema t (Escrow txn field change) Granted = on_field schema field (within_bound schema t field.0 (unsigned_abs change) (kind_of change))
+grant_test schema t (Escrow txn field change) Granted =
+    on_field schema field (within_bound schema t field.0 (unsigned_abs change) (kind_of change))
 grant_test schema t (Escrow txn field change) reply = true
 grant_test schema t (Commit txn) reply = true
 grant_test schema t (Abort txn) reply = true
@@ -58,7 +59,8 @@ true_share schema t s field k asked told =
 -- What is refused as short is told such a share.
 abbrev pub shortage_test : SchemaValue → List Entry → ℕ → Command → Reply → Bool
 shortage_test schema t s Begin reply = true
-shortage_test schema t s (Escrow txn field change) (Refused (Short told)) = true_share schema t s field (kind_of change) (unsigned_abs change) told
+shortage_test schema t s (Escrow txn field change) (Refused (Short told)) =
+    true_share schema t s field (kind_of change) (unsigned_abs change) told
 shortage_test schema t s (Escrow txn field change) reply = true
 shortage_test schema t s (Commit txn) reply = true
 shortage_test schema t s (Abort txn) reply = true

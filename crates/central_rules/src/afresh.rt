@@ -126,7 +126,8 @@ fn size(effects: &[Effect], which: Which, field: FieldNo, kind: Kind, effect: Ef
 
 /// The sizes of the escrows that pass.
 pub fn granted_sizes(effects: &[Effect], which: Which, field: FieldNo, kind: Kind) -> u128
-    ensures value { result ≡ granted_sizes (passes which (reverse effects.now)) field.0 kind (reverse effects.now) }
+    ensures value { result ≡ granted_sizes (passes which (reverse effects.now)) field.0 kind
+        (reverse effects.now) }
     ensures small { result ≤ length effects.now * 9223372036854775808 }
 {
     let mut sum: u128 = 0;
@@ -181,7 +182,8 @@ pub fn gifts(effects: &[Effect], whom: Whom, field: FieldNo, kind: Kind) -> u128
 }
 
 fn accepted_after(before: u64, from: SiteNo, field: FieldNo, kind: Kind, effect: Effect) -> u64
-    ensures { (base : Base) (es : List Effect) → before ≡ total_accepted base from.0 field.0 kind es →
+    ensures { (base : Base) (es : List Effect) → before
+        ≡ total_accepted base from.0 field.0 kind es →
         result ≡ total_accepted base from.0 field.0 kind (effect ∷ es) }
 {
     match effect {

@@ -158,20 +158,43 @@ fn effect_of(
             Reply::Granted => Some(Effect::Grants { txn, field, change }),
             _ => None,
         },
-        Commit { txn } => if matches!(reply, Reply::Committed) || unsure { Some(Effect::Commits { txn }) } else { None },
-        Abort { txn } => if matches!(reply, Reply::Aborted) { Some(Effect::Aborts { txn }) } else { None },
-        Give { to, field, kind, amount } => left(matches!(reply, Reply::Given { .. }) || unsure, Some(to), field, kind, amount),
+        Commit { txn } => if matches!(reply, Reply::Committed) || unsure {
+            Some(Effect::Commits { txn })
+        } else {
+            None
+        },
+        Abort { txn } => if matches!(reply, Reply::Aborted) {
+            Some(Effect::Aborts { txn })
+        } else {
+            None
+        },
+        Give { to, field, kind, amount } => {
+            left(matches!(reply, Reply::Given { .. }) || unsure, Some(to), field, kind, amount)
+        },
         Restate { to, field, kind } => { let _nothing = (to, field, kind); None },
-        Spare { to, field, kind, want } => spare_of(schema, site, made, to, field, kind, want, reply),
-        Tighten { field, kind, amount } => left(matches!(reply, Reply::Tightened { .. }) || unsure, None, field, kind, amount),
+        Spare { to, field, kind, want } => {
+            spare_of(schema, site, made, to, field, kind, want, reply)
+        },
+        Tighten { field, kind, amount } => {
+            left(matches!(reply, Reply::Tightened { .. }) || unsure, None, field, kind, amount)
+        },
         Accept(told) => if matches!(reply, Reply::Accepted { .. }) || unsure {
-            Some(Effect::Accepts { from: told.from, field: told.field, kind: told.kind, total: told.total })
+            Some(Effect::Accepts {
+                from: told.from,
+                field: told.field,
+                kind: told.kind,
+                total: told.total,
+            })
         } else {
             None
         },
         Read { field } => { let _nothing = field; None },
         Share { field } => { let _nothing = field; None },
-        Restart => if matches!(reply, Reply::Restarted { .. }) { Some(Effect::Stops) } else { None },
+        Restart => if matches!(reply, Reply::Restarted { .. }) {
+            Some(Effect::Stops)
+        } else {
+            None
+        },
     }
 }
 
@@ -215,7 +238,8 @@ pub fn total(
     requires sound { IsSound schema.now (reverse front.now) }
     ensures small { IfOk result (λ n. n ≤ 136112946768375385267290680900966154240) }
     ensures value { IfOk result (λ n. n
-        ≡ sizes (λ s id. passes which (at_site schema.now (reverse front.now) s) id) field.0 kind (reverse front.now)) }
+        ≡ sizes (λ s id. passes which (at_site schema.now (reverse front.now) s) id) field.0 kind
+        (reverse front.now)) }
 {
     let mut sum: u128 = 0;
     for site in 0..schema.sites() {
@@ -259,21 +283,23 @@ fn may_lower(bounds: &Bounds, raised: u128, lowered: u128, held: u128, by: u64, 
     requires held { held ≤ 136112946768375385267290680900966154240 }
     requires ordered { bounds.now.floor ≤ℤ bounds.now.value }
     ensures { result
-        ≡ int_le (bounds.now.floor +ℤ pos cut) (((bounds.now.value +ℤ (pos raised -ℤ pos lowered)) -ℤ pos held) -ℤ pos by) }
+        ≡ int_le (bounds.now.floor +ℤ pos cut) (((bounds.now.value +ℤ (pos raised -ℤ pos lowered))
+        -ℤ pos held) -ℤ pos by) }
 {
     let there = u128::from(bounds.value.abs_diff(bounds.floor)) + raised;
     covers(there, lowered + held + u128::from(by), cut)
 }
 
-/// Whether raising by this much leaves the supremum at the ceiling or below, which lies so far below
-/// that of the schema.
+/// Whether raising by this much leaves the supremum at the ceiling or below, which lies so far
+/// below that of the schema.
 fn may_raise(bounds: &Bounds, raised: u128, lowered: u128, held: u128, by: u64, cut: u128) -> bool
     requires raised { raised ≤ 136112946768375385267290680900966154240 }
     requires lowered { lowered ≤ 136112946768375385267290680900966154240 }
     requires held { held ≤ 136112946768375385267290680900966154240 }
     requires ordered { bounds.now.value ≤ℤ bounds.now.ceiling }
     ensures { result
-        ≡ int_le (((bounds.now.value +ℤ (pos raised -ℤ pos lowered)) +ℤ pos held) +ℤ pos by) (bounds.now.ceiling -ℤ pos cut) }
+        ≡ int_le (((bounds.now.value +ℤ (pos raised -ℤ pos lowered)) +ℤ pos held) +ℤ pos by)
+        (bounds.now.ceiling -ℤ pos cut) }
 {
     let there = u128::from(bounds.ceiling.abs_diff(bounds.value)) + lowered;
     covers(there, raised + held + u128::from(by), cut)
@@ -291,7 +317,8 @@ pub fn within_bound(
     requires few { length front.now ≤ 230584300921369395 }
     requires sound { IsSound schema.now (reverse front.now) }
     requires in_schema { field.0 < length schema.now.fields }
-    ensures { IfOk result (λ holds. holds ≡ within_bound schema.now (reverse front.now) field.0 by kind) }
+    ensures { IfOk result (λ holds. holds ≡ within_bound schema.now
+        (reverse front.now) field.0 by kind) }
 {
     let bounds = bounds_of(schema, field);
     let raised = total(alloc, schema, front, Which::Committed, field, Kind::Raise)?;
@@ -357,7 +384,8 @@ pub fn lies_between(lo: i64, hi: i64, bounds: &Bounds, raised: u128, lowered: u1
     requires raised { raised ≤ 136112946768375385267290680900966154240 }
     requires lowered { lowered ≤ 136112946768375385267290680900966154240 }
     ensures { result
-        ≡ (int_le lo (bounds.now.value +ℤ (pos raised -ℤ pos lowered)) && int_le (bounds.now.value +ℤ (pos raised -ℤ pos lowered)) hi) }
+        ≡ (int_le lo (bounds.now.value +ℤ (pos raised -ℤ pos lowered))
+        && int_le (bounds.now.value +ℤ (pos raised -ℤ pos lowered)) hi) }
 {
     is_above(lo, bounds.value, raised, lowered) && is_below(hi, bounds.value, raised, lowered)
 }
@@ -375,7 +403,8 @@ pub fn between(
     requires sound { IsSound schema.now (reverse front.now) }
     requires in_schema { field.0 < length schema.now.fields }
     ensures { IfOk result (λ holds. holds
-        ≡ (int_le lo (committed_value schema.now (reverse front.now) field.0) && int_le (committed_value schema.now (reverse front.now) field.0) hi)) }
+        ≡ (int_le lo (committed_value schema.now (reverse front.now) field.0)
+        && int_le (committed_value schema.now (reverse front.now) field.0) hi)) }
 {
     let bounds = bounds_of(schema, field);
     let raised = total(alloc, schema, front, Which::Committed, field, Kind::Raise)?;
@@ -387,9 +416,11 @@ pub fn between(
 pub fn site_counts_at(schema: &Schema, front: &[Entry], site: SiteNo) -> SiteCounts
     requires few { length front.now ≤ 230584300921369395 }
     ensures up { result.up ≡ is_up (fresh schema.now site.0) (own site.0 (reverse front.now)) }
-    ensures epoch { result.epoch ≡ epoch_of (fresh schema.now site.0) (own site.0 (reverse front.now)) }
+    ensures epoch { result.epoch ≡ epoch_of (fresh schema.now site.0)
+        (own site.0 (reverse front.now)) }
     ensures begun { result.begun ≡ count_since is_begun_reply (own site.0 (reverse front.now)) }
-    ensures still_down { result.still_down ≡ count_since is_still_down (own site.0 (reverse front.now)) }
+    ensures still_down { result.still_down ≡ count_since is_still_down
+        (own site.0 (reverse front.now)) }
     ensures unsure { result.unsure ≡ count_since is_unsure (own site.0 (reverse front.now)) }
     ensures few { (result.begun ≤ 230584300921369395) × (result.still_down ≤ 230584300921369395)
         × (result.unsure ≤ 230584300921369395) }

@@ -3,7 +3,8 @@
 ghost use Rattle.std.specs.Prelude.{◌≡◌, ◌<◌, ◌≤◌, length, reverse, IfOk};
 
 use crate::afresh::{
-    Which, Whom, total_accepted, count_escrows, count_open, cut, fate_of, gifts, granted_sizes, share,
+    Which, Whom, count_escrows, count_open, cut, fate_of, gifts, granted_sizes, share,
+    total_accepted,
 };
 use crate::front::{effects, has, site_counts_at};
 use crate::ladder::AtPlace;
@@ -30,9 +31,15 @@ impl<'a> Model for Here<'a> {
 
     ghost use Rattle.central_rules.specs.Here.{place_in, Shows};
 
-    ghost view = { λ h. record { schema = h.schema.now; site = h.site; front = reverse h.front.now } };
+    ghost view = { λ h. record {
+      schema = h.schema.now;
+      site = h.site;
+      front =
+          reverse h.front.now;
+    } };
 
-    ghost invariant = { λ h. Shows (place_in h.schema.now h.site.0 (reverse h.front.now)) h.site_counts h.made.items };
+    ghost invariant = { λ h. Shows (place_in h.schema.now h.site.0 (reverse h.front.now))
+        h.site_counts h.made.items };
 }
 
 impl<'a> Here<'a> {
@@ -109,7 +116,6 @@ impl<'a> AtPlace for Here<'a> {
     }
 
     fn gain(&self, told: Statement) -> u64 {
-        told.total
-            .saturating_sub(total_accepted(&self.made, told.from, told.field, told.kind))
+        told.total.saturating_sub(total_accepted(&self.made, told.from, told.field, told.kind))
     }
 }

@@ -1,6 +1,6 @@
-//! The rules of one central store over any trace, and the verdict by them: whether entries are a run
-//! of one store in which each reply was owed, else the first bad entry and the first rule that it
-//! breaks. Nothing here shares a sum or a state with the sites.
+//! The rules of one central store over any trace, and the verdict by them: whether entries are a
+//! run of one store in which each reply was owed, else the first bad entry and the first rule that
+//! it breaks. Nothing here shares a sum or a state with the sites.
 //!
 //! Source: O'Neil 1986 for the central store, Balegas and others 2015 for rights that are divided
 //! among sites and transferred, this project for the rules and the verdict.

@@ -14,9 +14,9 @@ use crate::verdict::{Rule, Verdict};
 use field_bounds::{Command, Entry, Kind, Refusal, Reply, Schema, Statement, statement_of};
 use std::alloc::{AllocError, Global};
 
-/// The verdict on entries, the oldest first: Legal where they are a run of one central store in which
-/// each reply was owed, else the first bad entry, counted from 1, and the first rule that it breaks.
-/// Each front is summed afresh, as the definitions read.
+/// The verdict on entries, the oldest first: Legal where they are a run of one central store in
+/// which each reply was owed, else the first bad entry, counted from 1, and the first rule that it
+/// breaks. Each front is summed afresh, as the definitions read.
 ///
 /// The error is want of memory. Takes time in proportion to the cube of the number of entries, and
 /// memory for what took effect at one site at a time.

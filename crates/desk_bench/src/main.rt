@@ -1,7 +1,9 @@
-//! Desks that threads call, for `bench/bench.py`: a begin, an escrow, a commit and a read, over and over.
+//! Desks that threads call, for `bench/bench.py`: a begin, an escrow, a commit and a read, over and
+//! over.
 //!
-//! The arguments are how many desks, how many threads call each, and how many rounds each thread makes. It writes the
-//! calls served and the sum of the receipts' numbers, and on standard error the nanoseconds that passed.
+//! The arguments are how many desks, how many threads call each, and how many rounds each thread
+//! makes. It writes the calls served and the sum of the receipts' numbers, and on standard error
+//! the nanoseconds that passed.
 #![tactic(auto)]
 
 ghost use Rattle.std.specs.Prelude.{◌≡◌, ◌<◌};

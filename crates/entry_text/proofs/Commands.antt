@@ -131,11 +131,13 @@ unfolding command_of
 command_only schema is x s c = line_only (command_form schema is) x (site_text x.0) (command_words schema x.1) refl (s, c)
 
 -- what the answer of the reader says of the line
-pub command_says : (schema : SchemaValue) → IsSchema schema → (bytes : List ℕ) (r : Option (SiteNo × Command)) → r ≡ command_of schema bytes → record {
-  found : IfSome r (λ x. bytes ≡ command_text schema x.0 x.1);
-  fits : IfSome r (λ x. SiteFits x.0 × CommandFits x.1);
-  only : (site : SiteNo) (command : Command) → SiteFits site → CommandFits command → bytes ≡ command_text schema site command → r ≡ Some (site, command);
-}
+pub command_says : (schema : SchemaValue) → IsSchema schema → (bytes : List ℕ) (r : Option (SiteNo × Command)) → r ≡ command_of schema bytes
+    → record {
+      found : IfSome r (λ x. bytes ≡ command_text schema x.0 x.1);
+      fits : IfSome r (λ x. SiteFits x.0 × CommandFits x.1);
+      only : (site : SiteNo) (command : Command) → SiteFits site → CommandFits command → bytes ≡ command_text schema site command
+          → r ≡ Some (site, command);
+    }
 unfolding command_of
 command_says schema is bytes r e = record {
   found = some_from r _ (λ x h. line_found (command_form schema is) bytes x (sym e ∙ h));

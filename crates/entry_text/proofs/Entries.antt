@@ -19,16 +19,19 @@ use Rattle.entry_text.specs.Entries.{entry_at, entry_of}
 use Rattle.entry_text.proofs.Commands.{command_form, site_command}
 use Rattle.entry_text.proofs.Replies.{reply_form}
 
-entry_takes : (schema : SchemaValue) → IsSchema schema → (ws : List (List ℕ)) (v : Entry) (rest : List (List ℕ)) → entry_at schema ws ≡ found v rest → EntryFits v × (ws ≡ entry_words schema v ++ rest)
+entry_takes : (schema : SchemaValue) → IsSchema schema → (ws : List (List ℕ)) (v : Entry) (rest : List (List ℕ))
+    → entry_at schema ws ≡ found v rest → EntryFits v × (ws ≡ entry_words schema v ++ rest)
 unfolding entry_at
 entry_takes schema is ws v rest e =
     taking_form (command_form schema is) _ ws _ e (λ c r1 f1 w1 e1.
     taking (only_read (codes "->") refl) _ r1 _ e1 (λ u r2 f2 w2 e2.
     taking_form reply_form _ r2 _ e2 (λ r r3 f3 w3 e3.
     made_of EntryFits (entry_words schema) ws (record { site = c.0; command = c.1; reply = r }) v r3 rest e3 (f1.0, f1.1, f3)
-    (w1 ∙ ap (λ (l : List (List ℕ)). site_command schema c ++ l) (w2 ∙ ap (λ (l : List (List ℕ)). codes "->" ∷ l) w3) ∙ sym (append_assoc (site_command schema c) (codes "->" ∷ reply_words r) r3)))))
+    (w1 ∙ ap (λ (l : List (List ℕ)). site_command schema c ++ l) (w2 ∙ ap (λ (l : List (List ℕ)). codes "->" ∷ l) w3)
+    ∙ sym (append_assoc (site_command schema c) (codes "->" ∷ reply_words r) r3)))))
 
-entry_again : (schema : SchemaValue) → IsSchema schema → (v : Entry) (rest : List (List ℕ)) → EntryFits v → entry_at schema (entry_words schema v ++ rest) ≡ found v rest
+entry_again : (schema : SchemaValue) → IsSchema schema → (v : Entry) (rest : List (List ℕ)) → EntryFits v
+    → entry_at schema (entry_words schema v ++ rest) ≡ found v rest
 unfolding entry_at
 entry_again schema is v rest fits =
     ap (entry_at schema) (append_assoc (site_command schema (v.site, v.command)) (codes "->" ∷ reply_words v.reply) rest)
@@ -38,7 +41,11 @@ entry_again schema is v rest fits =
 
 entry_plain : (schema : SchemaValue) → IsSchema schema → (v : Entry) → EntryFits v → AllByRecursion IsWord (entry_words schema v)
 entry_plain schema is v fits =
-    all_append (site_command schema (v.site, v.command)) (codes "->" ∷ reply_words v.reply) ((command_form schema is).plain (v.site, v.command) (fits.0, fits.1)) (word_from_test (codes "->") refl, reply_form.plain v.reply fits.2)
+    all_append (site_command schema (v.site, v.command)) (codes "->" ∷ reply_words v.reply)
+    ((command_form schema is).plain (v.site, v.command) (fits.0, fits.1)) (
+      word_from_test (codes "->") refl,
+      reply_form.plain v.reply fits.2,
+    )
 
 pub entry_form : (schema : SchemaValue) → IsSchema schema → IsForm EntryFits (entry_words schema) (entry_at schema)
 entry_form schema is = record { takes = entry_takes schema is; again = entry_again schema is; plain = entry_plain schema is }
@@ -80,5 +87,7 @@ after_arrow Unsure = refl
 after_arrow StillDown = refl
 after_arrow (Refused refusal) = refl
 
-pub entry_line : (schema : SchemaValue) (e : Entry) → command_text schema e.site e.command ++ (codes " -> " ++ reply_text e.reply) ≡ entry_text schema e
-entry_line schema e = sym (line-append (site_text e.site) (command_words schema e.command) (codes "->") (reply_words e.reply) ∙ ap (λ (l : List ℕ). command_text schema e.site e.command ++ (32 ∷ l)) (after_arrow e.reply))
+pub entry_line : (schema : SchemaValue) (e : Entry)
+    → command_text schema e.site e.command ++ (codes " -> " ++ reply_text e.reply) ≡ entry_text schema e
+entry_line schema e = sym (line-append (site_text e.site) (command_words schema e.command) (codes "->") (reply_words e.reply)
+    ∙ ap (λ (l : List ℕ). command_text schema e.site e.command ++ (32 ∷ l)) (after_arrow e.reply))

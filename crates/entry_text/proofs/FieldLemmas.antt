@@ -42,7 +42,8 @@ name_is : (w : List ℕ) → is_name w ≡ true → AllByRecursion IsNameByte w
 unfolding is_name
 name_is w e = name_bytes w (and_parts _ (list_all is_name_byte w) e).1
 
-field_is : (fs : List FieldValue) (i : ℕ) → AllByRecursion IsField fs → i < length fs → AllByRecursion IsNameByte (get_or fs i no_field).name
+field_is : (fs : List FieldValue) (i : ℕ) → AllByRecursion IsField fs → i < length fs
+    → AllByRecursion IsNameByte (get_or fs i no_field).name
 field_is [] i all lt = absurd (omega arith)
 field_is (f ∷ fs) zero all lt = name_is f.name all.0.name
 field_is (f ∷ fs) (suc i) all lt = field_is fs i all.1 (omega arith)
@@ -71,19 +72,22 @@ any_front name (f ∷ fs) gs e =
     let p = neither (has_name name f) (list_any (has_name name) (fs ++ gs)) e in
     rw (p.0, any_front name fs gs p.1) refl
 
-any_last : (name : List ℕ) (fs : List FieldValue) (f : FieldValue) → list_any (has_name name) (fs ++ f ∷ []) ≡ false → has_name name f ≡ false
+any_last : (name : List ℕ) (fs : List FieldValue) (f : FieldValue) → list_any (has_name name) (fs ++ f ∷ []) ≡ false
+    → has_name name f ≡ false
 any_last name [] f e = (neither (has_name name f) false e).0
 any_last name (g ∷ fs) f e = any_last name fs f (neither (has_name name g) (list_any (has_name name) (fs ++ f ∷ [])) e).1
 
 -- a later field's name isn't one before
-not_before : (before fs : List FieldValue) (i : ℕ) → HasOwnNames before fs → i < length fs → list_any (has_name (get_or fs i no_field).name) before ≡ false
+not_before : (before fs : List FieldValue) (i : ℕ) → HasOwnNames before fs → i < length fs
+    → list_any (has_name (get_or fs i no_field).name) before ≡ false
 unfolding is_used
 not_before before [] i own lt = absurd (omega arith)
 not_before before (f ∷ fs) zero own lt = own.0
 not_before before (f ∷ fs) (suc i) own lt =
     any_front (get_or fs i no_field).name before (f ∷ []) (not_before (before ++ f ∷ []) fs i own.1 (omega arith))
 
-own_name : (before fs : List FieldValue) (i k : ℕ) → HasOwnNames before fs → k < i → i < length fs → bytes_eq (get_or fs i no_field).name (get_or fs k no_field).name ≡ false
+own_name : (before fs : List FieldValue) (i k : ℕ) → HasOwnNames before fs → k < i → i < length fs
+    → bytes_eq (get_or fs i no_field).name (get_or fs k no_field).name ≡ false
 own_name before [] i k own less lt = absurd (omega arith)
 own_name before (f ∷ fs) zero k own less lt = absurd (omega arith)
 own_name before (f ∷ fs) (suc i) zero own less lt =
@@ -99,11 +103,13 @@ mapped f None y e = absurd cc
 abbrev numbered : ℕ → FieldNo
 numbered k = record { 0 = k }
 
-pub named_is : (schema : SchemaValue) (w : List ℕ) (o : Option FieldNo) → option_map (λ n. n.0) o ≡ position (λ f. bytes_eq w f.name) schema.fields → o ≡ field_named schema w
+pub named_is : (schema : SchemaValue) (w : List ℕ) (o : Option FieldNo)
+    → option_map (λ n. n.0) o ≡ position (λ f. bytes_eq w f.name) schema.fields → o ≡ field_named schema w
 named_is schema w None e = ap (λ (p : Option ℕ). option_map numbered p) e
 named_is schema w (Some f) e = ap (λ (p : Option ℕ). option_map numbered p) e
 
-named_takes : (schema : SchemaValue) (w : List ℕ) (f : FieldNo) → field_named schema w ≡ Some f → (f.0 < length schema.fields) × ((get_or schema.fields f.0 no_field).name ≡ w)
+named_takes : (schema : SchemaValue) (w : List ℕ) (f : FieldNo) → field_named schema w ≡ Some f → (f.0 < length schema.fields)
+    × ((get_or schema.fields f.0 no_field).name ≡ w)
 named_takes schema w f e =
     let fs = schema.fields in
     let b = mapped numbered (position (has_name w) fs) f e in
@@ -112,7 +118,8 @@ named_takes schema w f e =
     let same : w ≡ (get_or fs b.0 no_field).name = (bytes_eq-Decides w (get_or fs b.0 no_field).name).0 p.1 in
     (subst (λ (k : ℕ). k < length fs) k-is p.0, subst (λ (k : ℕ). (get_or fs k no_field).name ≡ w) k-is (sym same))
 
-named_again : (schema : SchemaValue) → IsSchema schema → (f : FieldNo) → f.0 < length schema.fields → field_named schema (get_or schema.fields f.0 no_field).name ≡ Some f
+named_again : (schema : SchemaValue) → IsSchema schema → (f : FieldNo) → f.0 < length schema.fields
+    → field_named schema (get_or schema.fields f.0 no_field).name ≡ Some f
 named_again schema is f lt =
     let fs = schema.fields in
     let w = (get_or fs f.0 no_field).name in
@@ -125,13 +132,15 @@ named_again schema is f lt =
 -- ---- a field by either spelling
 
 -- a field's number below the count has its name, and another is spelled by the number
-pub in_schema : (schema : SchemaValue) (f : FieldNo) → f.0 < length schema.fields → field_text schema f ≡ (get_or schema.fields f.0 no_field).name
+pub in_schema : (schema : SchemaValue) (f : FieldNo) → f.0 < length schema.fields
+    → field_text schema f ≡ (get_or schema.fields f.0 no_field).name
 in_schema schema f lt = cond-true (ltb f.0 (length schema.fields)) _ _ (lt-ltb f.0 (length schema.fields) lt)
 
 pub past_schema : (schema : SchemaValue) (f : FieldNo) → length schema.fields ≤ f.0 → field_text schema f ≡ 35 ∷ decimal f.0
 past_schema schema f le = cond-false (ltb f.0 (length schema.fields)) _ _ (le-ltb f.0 (length schema.fields) le)
 
-by_name : (schema : SchemaValue) → IsSchema schema → (w : List ℕ) (f : FieldNo) → field_named schema w ≡ Some f → FieldFits f × (w ≡ field_text schema f)
+by_name : (schema : SchemaValue) → IsSchema schema → (w : List ℕ) (f : FieldNo) → field_named schema w ≡ Some f → FieldFits f
+    × (w ≡ field_text schema f)
 by_name schema is w f e =
     let t = named_takes schema w f e in
     (omega (arith, t.0, is.few_fields), sym t.1 ∙ sym (in_schema schema f t.0))
@@ -139,7 +148,8 @@ by_name schema is w f e =
 abbrev some_field : ℕ → Option FieldNo
 some_field n = Some (record { 0 = n })
 
-pub field_takes : (schema : SchemaValue) → IsSchema schema → (w : List ℕ) (f : FieldNo) → field_of schema w ≡ Some f → FieldFits f × (w ≡ field_text schema f)
+pub field_takes : (schema : SchemaValue) → IsSchema schema → (w : List ℕ) (f : FieldNo) → field_of schema w ≡ Some f → FieldFits f
+    × (w ≡ field_text schema f)
 unfolding field_of
 field_takes schema is [] f e = by_name schema is [] f e
 field_takes schema is (c ∷ w) f e =
@@ -153,8 +163,11 @@ field_takes schema is (c ∷ w) f e =
           let n-is : b.0 ≡ f.0 = ap (λ (g : FieldNo). g.0) (same_Some _ _ g.1) in
           let le : count ≤ b.0 = ltb-false b.0 count g.0 in
           let lt : b.0 < 2 ^ 16 = t.0 in
-          let c-is : c ≡ 35 = eqb-true c 35 h.0 in
-          (omega arith, ap (λ (b : ℕ). b ∷ w) c-is ∙ ap (λ (l : List ℕ). 35 ∷ l) (t.1 ∙ ap decimal n-is) ∙ sym (past_schema schema f (omega arith)))
+          let c-is : c ≡ 35 = eqb-true c 35 h.0 in (
+            omega arith,
+            ap (λ (b : ℕ). b ∷ w) c-is ∙ ap (λ (l : List ℕ). 35 ∷ l) (t.1 ∙ ap decimal n-is)
+                ∙ sym (past_schema schema f (omega arith)),
+          )
       | inr h ↦ by_name schema is (c ∷ w) f h.1
     ]
 
@@ -172,7 +185,8 @@ field_again schema is f fits =
           ∙ plain_field schema (get_or fs f.0 no_field).name (name_first (get_or fs f.0 no_field).name (field_is fs f.0 is.each lt))
           ∙ named_again schema is f lt
       | inr le ↦ ap (field_of schema) (past_schema schema f le)
-          ∙ ap (λ (o : Option ℕ). o >>= λ n. if nat_lt n (length fs) then None else some_field n) (below_again (2 ^ 16) f.0 (omega arith) fits)
+          ∙ ap (λ (o : Option ℕ). o >>= λ n. if nat_lt n (length fs) then None else some_field n)
+          (below_again (2 ^ 16) f.0 (omega arith) fits)
           ∙ cond-false (ltb f.0 (length fs)) _ _ (le-ltb f.0 (length fs) le)
     ]
 

@@ -112,14 +112,25 @@ field_width schema is f fits =
 
 command_room : (schema : SchemaValue) → IsSchema schema → (c : Command) → CommandFits c → room (command_words schema c) ≤ 84
 command_room schema is Begin fits = omega arith
-command_room schema is (Escrow txn field change) fits = omega (arith, id_width txn fits.0, field_width schema is field fits.1, signed_width change fits.2)
+command_room schema is (Escrow txn field change) fits =
+    omega (arith, id_width txn fits.0, field_width schema is field fits.1, signed_width change fits.2)
 command_room schema is (Commit txn) fits = omega (arith, id_width txn fits)
 command_room schema is (Abort txn) fits = omega (arith, id_width txn fits)
-command_room schema is (Give to field kind amount) fits = omega (arith, narrow to.0 fits.0, field_width schema is field fits.1, kind_width kind, wide amount fits.2)
+command_room schema is (Give to field kind amount) fits =
+    omega (arith, narrow to.0 fits.0, field_width schema is field fits.1, kind_width kind, wide amount fits.2)
 command_room schema is (Restate to field kind) fits = omega (arith, narrow to.0 fits.0, field_width schema is field fits.1, kind_width kind)
-command_room schema is (Spare to field kind want) fits = omega (arith, narrow to.0 fits.0, field_width schema is field fits.1, kind_width kind, wide want fits.2)
-command_room schema is (Tighten field kind amount) fits = omega (arith, field_width schema is field fits.0, kind_width kind, wide amount fits.1)
-command_room schema is (Accept s) fits = omega (arith, narrow s.from.0 fits.0, narrow s.to.0 fits.1, field_width schema is s.field fits.2, kind_width s.kind, wide s.total fits.3)
+command_room schema is (Spare to field kind want) fits =
+    omega (arith, narrow to.0 fits.0, field_width schema is field fits.1, kind_width kind, wide want fits.2)
+command_room schema is (Tighten field kind amount) fits =
+    omega (arith, field_width schema is field fits.0, kind_width kind, wide amount fits.1)
+command_room schema is (Accept s) fits = omega (
+  arith,
+  narrow s.from.0 fits.0,
+  narrow s.to.0 fits.1,
+  field_width schema is s.field fits.2,
+  kind_width s.kind,
+  wide s.total fits.3,
+)
 command_room schema is (Read field) fits = omega (arith, field_width schema is field fits)
 command_room schema is (Share field) fits = omega (arith, field_width schema is field fits)
 command_room schema is Restart fits = omega arith
@@ -172,5 +183,12 @@ entries_are_lines schema is = λ e fits.
     let back = codes "->" ∷ reply_words e.reply in
     record {
       one_line = line_seen (entry_words schema e) ((entry_form schema is).plain e fits);
-      short = omega (arith, length_line (entry_words schema e), room_append front back, narrow e.site.0 fits.0, command_room schema is e.command fits.1, reply_room e.reply fits.2);
+      short = omega (
+        arith,
+        length_line (entry_words schema e),
+        room_append front back,
+        narrow e.site.0 fits.0,
+        command_room schema is e.command fits.1,
+        reply_room e.reply fits.2,
+      );
     }

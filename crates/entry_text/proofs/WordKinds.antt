@@ -53,7 +53,8 @@ to_id e n = Some (record { epoch = e; number = n })
 id_takes : (w : List ℕ) (t : TxnId) → id_of w ≡ Some t → IdFits t × (w ≡ id_text t)
 unfolding id_of
 id_takes w t e =
-    let b = bind_some (position (λ b. b == 46) w) (λ at. below (2 ^ 32) (take at w) >>= λ e. below (2 ^ 32) (drop (at + 1) w) >>= λ n. to_id e n) t e in
+    let b = bind_some (position (λ b. b == 46) w) (λ at. below (2 ^ 32) (take at w) >>= λ e. below (2 ^ 32) (drop (at + 1) w)
+    >>= λ n. to_id e n) t e in
     let i = b.0 in
     let p = position-Some (λ b. b == 46) w i 0 b.1 in
     let f = bind_some (below (2 ^ 32) (take i w)) (λ e. below (2 ^ 32) (drop (i + 1) w) >>= λ n. to_id e n) t b.2 in
@@ -65,9 +66,11 @@ id_takes w t e =
     let nt = below_takes (2 ^ 32) (drop (i + 1) w) g.0 g.1 in
     let dot : get_or w i 0 ≡ 46 = eqb-true (get_or w i 0) 46 p.1 in
     let rest : drop i w ≡ get_or w i 0 ∷ drop (i + 1) w = rw add-one (drop-cons w i 0 p.0) in
-    let parts : w ≡ take i w ++ (46 ∷ drop (i + 1) w) = sym (take-append-drop i w) ∙ ap (λ (l : List ℕ). take i w ++ l) (rest ∙ ap (λ (b : ℕ). b ∷ drop (i + 1) w) dot) in (
+    let parts : w ≡ take i w ++ (46 ∷ drop (i + 1) w) =
+    sym (take-append-drop i w) ∙ ap (λ (l : List ℕ). take i w ++ l) (rest ∙ ap (λ (b : ℕ). b ∷ drop (i + 1) w) dot) in (
       (subst (λ (n : ℕ). n < 2 ^ 32) epoch-is et.0, subst (λ (n : ℕ). n < 2 ^ 32) number-is nt.0),
-      parts ∙ ap (λ (l : List ℕ). l ++ (46 ∷ drop (i + 1) w)) (et.1 ∙ ap decimal epoch-is) ∙ ap (λ (l : List ℕ). decimal t.epoch ++ (46 ∷ l)) (nt.1 ∙ ap decimal number-is),
+      parts ∙ ap (λ (l : List ℕ). l ++ (46 ∷ drop (i + 1) w)) (et.1 ∙ ap decimal epoch-is)
+          ∙ ap (λ (l : List ℕ). decimal t.epoch ++ (46 ∷ l)) (nt.1 ∙ ap decimal number-is),
     )
 
 -- the first dot
@@ -80,8 +83,10 @@ dot_at e w small =
     let before : (k : ℕ) → k < length d → eqb (get_or whole k 0) 46 ≡ false = λ k lt.
     ne_eqb (get_or whole k 0) 46 (λ h. let r = digit_at d k all lt in omega (arith, get_or_append_left d (46 ∷ w) 0 k lt)) in
     let at : length d < length whole → eqb (get_or whole (length d) 0) 46 ≡ true = λ h. eq-eqb _ 46 (get_or-append_seam d 46 w 0) in
-    let place : position_or_len (λ b. b == 46) whole ≡ length d = position_or_len_is (λ b. b == 46) whole (length d) 0 (omega arith) before at in
-    ap (λ (n : ℕ). cond (ltb n (length whole)) (Some n) None) place ∙ cond-true (ltb (length d) (length whole)) _ _ (lt-ltb (length d) (length whole) long)
+    let place : position_or_len (λ b. b == 46) whole ≡ length d =
+    position_or_len_is (λ b. b == 46) whole (length d) 0 (omega arith) before at in
+    ap (λ (n : ℕ). cond (ltb n (length whole)) (Some n) None) place
+    ∙ cond-true (ltb (length d) (length whole)) _ _ (lt-ltb (length d) (length whole) long)
 
 id_again : (t : TxnId) → IdFits t → id_of (id_text t) ≡ Some t
 unfolding id_of
@@ -90,15 +95,18 @@ id_again t fits =
     let d = decimal t.epoch in
     let front : take (length d) w ≡ d = take-append_seam d (46 ∷ decimal t.number) in
     let back : drop (length d + 1) w ≡ decimal t.number = drop-append-add d (46 ∷ decimal t.number) 1 in
-    ap (λ (o : Option ℕ). o >>= λ at. below (2 ^ 32) (take at w) >>= λ e. below (2 ^ 32) (drop (at + 1) w) >>= λ n. to_id e n) (dot_at t.epoch (decimal t.number) (omega (arith, fits.0)))
-    ∙ ap (λ (o : Option ℕ). o >>= λ e. below (2 ^ 32) (drop (length d + 1) w) >>= λ n. to_id e n) (ap (below (2 ^ 32)) front ∙ below_again (2 ^ 32) t.epoch (omega arith) fits.0)
+    ap (λ (o : Option ℕ). o >>= λ at. below (2 ^ 32) (take at w) >>= λ e. below (2 ^ 32) (drop (at + 1) w) >>= λ n. to_id e n)
+    (dot_at t.epoch (decimal t.number) (omega (arith, fits.0)))
+    ∙ ap (λ (o : Option ℕ). o >>= λ e. below (2 ^ 32) (drop (length d + 1) w) >>= λ n. to_id e n)
+    (ap (below (2 ^ 32)) front ∙ below_again (2 ^ 32) t.epoch (omega arith) fits.0)
     ∙ ap (λ (o : Option ℕ). o >>= λ n. to_id t.epoch n) (ap (below (2 ^ 32)) back ∙ below_again (2 ^ 32) t.number (omega arith) fits.1)
 
 pub id_read : IsRead IdFits id_text id_of
 id_read = record {
   takes = id_takes;
   again = id_again;
-  plain = λ t fits. IsWord-append (decimal t.epoch) (46 ∷ decimal t.number) (decimal_word t.epoch (omega (arith, fits.0))) ((omega arith, omega arith), decimal_word t.number (omega (arith, fits.1)));
+  plain = λ t fits. IsWord-append (decimal t.epoch) (46 ∷ decimal t.number) (decimal_word t.epoch (omega (arith, fits.0)))
+      ((omega arith, omega arith), decimal_word t.number (omega (arith, fits.1)));
 }
 
 -- ---- kinds

@@ -19,7 +19,8 @@ pub record IsLine (bytes : List ℕ) : Type 0 where
 
 -- Each command's text under the schema is a line.
 abbrev pub CommandsAreLines : SchemaValue → Type 0
-CommandsAreLines schema = (site : SiteNo) (command : Command) → SiteFits site → CommandFits command → IsLine (command_text schema site command)
+CommandsAreLines schema = (site : SiteNo) (command : Command) → SiteFits site → CommandFits command
+    → IsLine (command_text schema site command)
 
 -- Each entry's text under the schema is a line.
 abbrev pub EntriesAreLines : SchemaValue → Type 0

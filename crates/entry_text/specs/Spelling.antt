@@ -52,11 +52,14 @@ command_words schema Begin = codes "begin" ∷ []
 command_words schema (Escrow txn field change) = codes "escrow" ∷ id_text txn ∷ field_text schema field ∷ signed_decimal change ∷ []
 command_words schema (Commit txn) = codes "commit" ∷ id_text txn ∷ []
 command_words schema (Abort txn) = codes "abort" ∷ id_text txn ∷ []
-command_words schema (Give to field kind amount) = codes "give" ∷ site_text to ∷ field_text schema field ∷ kind_text kind ∷ decimal amount ∷ []
+command_words schema (Give to field kind amount) =
+    codes "give" ∷ site_text to ∷ field_text schema field ∷ kind_text kind ∷ decimal amount ∷ []
 command_words schema (Restate to field kind) = codes "restate" ∷ site_text to ∷ field_text schema field ∷ kind_text kind ∷ []
-command_words schema (Spare to field kind want) = codes "spare" ∷ site_text to ∷ field_text schema field ∷ kind_text kind ∷ decimal want ∷ []
+command_words schema (Spare to field kind want) = codes "spare" ∷ site_text to ∷ field_text schema field ∷ kind_text kind ∷ decimal want
+    ∷ []
 command_words schema (Tighten field kind amount) = codes "tighten" ∷ field_text schema field ∷ kind_text kind ∷ decimal amount ∷ []
-command_words schema (Accept statement) = codes "accept" ∷ site_text statement.from ∷ site_text statement.to ∷ field_text schema statement.field ∷ kind_text statement.kind ∷ decimal statement.total ∷ []
+command_words schema (Accept statement) = codes "accept" ∷ site_text statement.from ∷ site_text statement.to
+    ∷ field_text schema statement.field ∷ kind_text statement.kind ∷ decimal statement.total ∷ []
 command_words schema (Read field) = codes "read" ∷ field_text schema field ∷ []
 command_words schema (Share field) = codes "share" ∷ field_text schema field ∷ []
 command_words schema Restart = codes "restart" ∷ []

@@ -123,8 +123,8 @@ pub(crate) fn command(line: &mut Words<'_>, fields: &Fields<'_>) -> Option<(Site
     Some((site, command))
 }
 
-/// The site and the command that the line, without its LF, spells under the schema. The site may lie
-/// outside the schema. None where the line spells no command.
+/// The site and the command that the line, without its LF, spells under the schema. The site may
+/// lie outside the schema. None where the line spells no command.
 ///
 /// Costs a pass over the line and at most one look-up in a map, and no memory.
 pub fn read_command(schema: &Schema, line: &[u8]) -> Option<(SiteNo, Command)>

@@ -1,5 +1,5 @@
-//! Commands, replies and entries as text, both ways: each value has one text, and each text is of at
-//! most one value.
+//! Commands, replies and entries as text, both ways: each value has one text, and each text is of
+//! at most one value.
 //!
 //! A text is words with one space between them. The first word of a command, a reply or a refusal
 //! says which it is, and the arm of that word reads the words after it.

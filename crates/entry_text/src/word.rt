@@ -117,8 +117,8 @@ pub fn read_field(schema: &Schema, word: &[u8]) -> Option<FieldNo>
     Fields::new(schema).read(word)
 }
 
-/// Takes the next word as a number, 0 to 18,446,744,073,709,551,615, or tells None where it is no such
-/// number or no word is left. Costs a pass over the word, and no memory.
+/// Takes the next word as a number, 0 to 18,446,744,073,709,551,615, or tells None where it is no
+/// such number or no word is left. Costs a pass over the word, and no memory.
 #[inline]
 #[tactic(auto, unfolding(line_words::specs::Reading::word_at))]
 pub fn number_at(line: &mut Words<'_>) -> Option<u64>
@@ -146,8 +146,8 @@ pub fn signed_at(line: &mut Words<'_>) -> Option<i64>
     read_signed(line.next()?)
 }
 
-/// Takes the next word as a site, a number up to 65535, or tells None where it is no site or no word
-/// is left. Costs a pass over the word, and no memory.
+/// Takes the next word as a site, a number up to 65535, or tells None where it is no site or no
+/// word is left. Costs a pass over the word, and no memory.
 #[inline(always)]
 #[tactic(auto, unfolding(line_words::specs::Reading::word_at, crate::specs::Reading::site_of))]
 pub fn site_at(line: &mut Words<'_>) -> Option<SiteNo>
@@ -169,8 +169,8 @@ pub(crate) fn txn_at(line: &mut Words<'_>) -> Option<TxnId>
     Some(TxnId { epoch, number })
 }
 
-/// Takes the next word as a kind, `lower` or `raise`, or tells None where it is no kind or no word is
-/// left. Costs no memory.
+/// Takes the next word as a kind, `lower` or `raise`, or tells None where it is no kind or no word
+/// is left. Costs no memory.
 #[tactic(auto, unfolding(line_words::specs::Reading::word_at))]
 pub fn kind_at(line: &mut Words<'_>) -> Option<Kind>
     ensures word { Gives result line.new (word_at kind_of line.old) }

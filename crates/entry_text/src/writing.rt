@@ -52,9 +52,9 @@ fn put_entry(text: &mut String, schema: &Schema, entry: Entry) -> Result<(), All
     write!(text, "{command} -> {reply}")
 }
 
-/// Adds the text of the entry under the schema, without an LF, behind what `out` holds. The error is
-/// want of memory, and leaves `out` as it was. The line is made in `text`, whatever that held: its
-/// memory is used again, so that line after line costs no memory but that of `out`.
+/// Adds the text of the entry under the schema, without an LF, behind what `out` holds. The error
+/// is want of memory, and leaves `out` as it was. The line is made in `text`, whatever that held:
+/// its memory is used again, so that line after line costs no memory but that of `out`.
 pub fn append_entry(
     out: &mut Vec<u8>,
     text: &mut String,

@@ -1,5 +1,5 @@
-//! The program `escrow`: a script of commands on standard input and its answers on standard output, all
-//! sites at work at the same time, or such answers and their audit.
+//! The program `escrow`: a script of commands on standard input and its answers on standard output,
+//! all sites at work at the same time, or such answers and their audit.
 #![tactic(auto)]
 
 use clap::error::ErrorKind;

@@ -8,7 +8,8 @@ use Rattle.escrow_audit.specs.Audit.{AreEntries, HasEntries, IsGood}
 use Rattle.escrow_audit.specs.Reading.{Notes, Moves, IsAfterLines}
 
 -- a line behind entries that begin with one
-notes_behind : (schema : SchemaValue) (line : List ℕ) (entry : Entry) (later old new : List Entry) → old ≡ entry ∷ later → Notes schema line old new
+notes_behind : (schema : SchemaValue) (line : List ℕ) (entry : Entry) (later old new : List Entry) → old ≡ entry ∷ later
+    → Notes schema line old new
     → (rest : List Entry) × (Notes schema line later rest × (new ≡ entry ∷ rest))
 notes_behind schema line entry later old new e notes = elim notes [
   | inl remark ↦ (later, (inl (remark.0, refl), remark.1 ∙ e))
@@ -52,9 +53,11 @@ StandsFor-next None (Some schema) lines line old new stands moves =
     (subst (HasEntries schema []) (sym first) (HasEntries-start schema line moves.0))
 StandsFor-next (Some schema) None lines line old new stands moves = absurd moves
 StandsFor-next (Some schema) (Some same) lines line old new stands moves =
-    subst (λ (s : SchemaValue). HasEntries s new (lines ++ line ∷ [])) (sym moves.0) (HasEntries-more schema lines line old new stands moves.1)
+    subst (λ (s : SchemaValue). HasEntries s new (lines ++ line ∷ [])) (sym moves.0)
+    (HasEntries-more schema lines line old new stands moves.1)
 
-pub StandsFor-along : (s t : Option SchemaValue) (a b : List Entry) (ks ls : List (List ℕ)) → s ≡ t → a ≡ b → ks ≡ ls → IsAfterLines s a ks → IsAfterLines t b ls
+pub StandsFor-along : (s t : Option SchemaValue) (a b : List Entry) (ks ls : List (List ℕ)) → s ≡ t → a ≡ b → ks ≡ ls → IsAfterLines s a ks
+    → IsAfterLines t b ls
 StandsFor-along s t a b ks ls es ee el stands =
     subst (λ x. IsAfterLines x b ls) es (subst (λ x. IsAfterLines s x ls) ee (subst (λ x. IsAfterLines s a x) el stands))
 
@@ -62,7 +65,8 @@ pub good_stands : (s : Option SchemaValue) (entries : List Entry) (lines : List 
 good_stands None entries lines stands = inl stands.0
 good_stands (Some schema) entries lines stands = inr (schema, (entries, stands))
 
-pub none_lines : (s : Option SchemaValue) (entries : List Entry) (lines : List (List ℕ)) → IsNone s → IsAfterLines s entries lines → lines ≡ []
+pub none_lines : (s : Option SchemaValue) (entries : List Entry) (lines : List (List ℕ)) → IsNone s → IsAfterLines s entries lines
+    → lines ≡ []
 none_lines None entries lines none stands = stands.0
 none_lines (Some schema) entries lines none stands = cc
 

@@ -15,7 +15,8 @@ use Rattle.escrow_audit.specs.Reading.{At, HasRead, IsFresh, StopsAfter, GoesOn,
 use Rattle.escrow_audit.proofs.States.{Stops-along, Stops-weaker, Stops-past, Stops-memory}
 
 -- what is said of an error, and of any
-pub err_and : {T E : Type 0} (r : Result T E) (P : E → Type 0) (Q : Type 0) (S : E → Type 0) → ((e : E) → P e → Q → S e) → IfErr r P → OnErr r Q → IfErr r S
+pub err_and : {T E : Type 0} (r : Result T E) (P : E → Type 0) (Q : Type 0) (S : E → Type 0) → ((e : E) → P e → Q → S e) → IfErr r P
+    → OnErr r Q → IfErr r S
 err_and (Ok x) P Q S f p q = tt
 err_and (Err e) P Q S f p q = f e p q
 
@@ -25,7 +26,8 @@ on_err_always (Err e) Q q = q
 
 module _ (from middle to : Option (List ℕ)) (old new : Reading) where
   -- the read gave nothing
-  pub Stands-end : (n : ℕ) (buf : List ℕ) (last : End) → n ≡ 0 → 0 < length buf → Consumes middle to (take n buf) × (n ≡ 0 → 0 < length buf → IsAtEnd to)
+  pub Stands-end : (n : ℕ) (buf : List ℕ) (last : End) → n ≡ 0 → 0 < length buf → Consumes middle to (take n buf)
+      × (n ≡ 0 → 0 < length buf → IsAtEnd to)
       → (n ≡ 0 → 0 < length buf → last ≡ Nothing) → {bytes : ℕ} → HasRead from middle old bytes
       → HasRead from to old (bytes + 0) × (◌≡◌ {A = ℕ} 0 0 → HasEndedAt to last)
   Stands-end n buf last none room consumed nothing {bytes} stands =
@@ -64,7 +66,8 @@ module _ (from middle to : Option (List ℕ)) (old new : Reading) where
       )
 
   -- the piece went past the limit
-  pub Stops-over : (n k : ℕ) (buf piece : List ℕ) (last : End) → piece ≡ take k buf → k < n → n ≤ length buf → {bytes : ℕ} → bytes + k ≡ 268435456
+  pub Stops-over : (n k : ℕ) (buf piece : List ℕ) (last : End) → piece ≡ take k buf → k < n → n ≤ length buf → {bytes : ℕ}
+      → bytes + k ≡ 268435456
       → Consumes middle to (take n buf) → GoesOn old new piece → HasRead from middle old bytes → StopsAfter from to last new (Fault TooLong)
   Stops-over n k buf piece last e h fits {bytes} full consumed goes stands =
       let rest = drop k (take n buf) in
@@ -75,7 +78,8 @@ module _ (from middle to : Option (List ℕ)) (old new : Reading) where
           Consumes-trans from middle to stands.read (take n buf) stands.consumed consumed,
           Stops-along (Fault TooLong) (stands.read ++ (piece ++ rest)) (stands.read ++ take n buf) new.lines (HasEndedAt to last)
               (ap (λ l. stands.read ++ l) (split_piece n k buf piece e (omega arith)))
-              (Stops-past stands.read piece rest new new.lines (HasEndedAt to last) (omega (arith, size, full, stands.count)) (rest_some n k buf h fits)
+              (Stops-past stands.read piece rest new new.lines (HasEndedAt to last) (omega (arith, size, full, stands.count))
+              (rest_some n k buf h fits)
               (goes stands.read stands.at)),
         ),
       )

@@ -71,7 +71,8 @@ ending_read = table_read ending_text ending_table (refl, (refl, tt)) refl ending
 
 -- ---- outcomes
 
-outcome_rest : (ws : List (List ℕ)) (v : Outcome) (rest : List (List ℕ)) (ending : Ending) (r : List (List ℕ)) → ws ≡ ending_text ending ∷ r → outcome_after ending r ≡ found v rest → OutcomeFits v × (ws ≡ outcome_words v ++ rest)
+outcome_rest : (ws : List (List ℕ)) (v : Outcome) (rest : List (List ℕ)) (ending : Ending) (r : List (List ℕ)) → ws ≡ ending_text ending ∷ r
+    → outcome_after ending r ≡ found v rest → OutcomeFits v × (ws ≡ outcome_words v ++ rest)
 unfolding outcome_after
 outcome_rest ws v rest endings.Steps r w e =
     taking number_read _ r _ e (λ steps r1 f1 w1 e1.
@@ -80,7 +81,8 @@ outcome_rest ws v rest endings.No r w e =
     taking reason_read _ r _ e (λ reason r1 f1 w1 e1.
     made_of OutcomeFits outcome_words ws (outcomes.Unreached reason) v r1 rest e1 tt (cc (w, w1)))
 
-outcome_takes : (ws : List (List ℕ)) (v : Outcome) (rest : List (List ℕ)) → outcome_at ws ≡ found v rest → OutcomeFits v × (ws ≡ outcome_words v ++ rest)
+outcome_takes : (ws : List (List ℕ)) (v : Outcome) (rest : List (List ℕ)) → outcome_at ws ≡ found v rest → OutcomeFits v
+    × (ws ≡ outcome_words v ++ rest)
 unfolding outcome_at
 outcome_takes ws v rest e = taking ending_read _ ws _ e (λ ending r f w e1. outcome_rest ws v rest ending r w e1)
 
@@ -98,10 +100,12 @@ outcome_form = record { takes = outcome_takes; again = outcome_again; plain = ou
 
 -- ---- remarks
 
-made : {ws : List (List ℕ)} (schema : SchemaValue) (b v : Remark) (after rest : List (List ℕ)) → found b after ≡ found v rest → RemarkFits b → ws ≡ remark_words schema b ++ after → RemarkFits v × (ws ≡ remark_words schema v ++ rest)
+made : {ws : List (List ℕ)} (schema : SchemaValue) (b v : Remark) (after rest : List (List ℕ)) → found b after ≡ found v rest → RemarkFits b
+    → ws ≡ remark_words schema b ++ after → RemarkFits v × (ws ≡ remark_words schema v ++ rest)
 made {ws} schema b v after rest e fits is = made_of RemarkFits (remark_words schema) ws b v after rest e fits is
 
-remark_rest : (schema : SchemaValue) → IsSchema schema → (o : Opening) (ws : List (List ℕ)) (v : Remark) (rest : List (List ℕ)) → remark_after schema o ws ≡ found v rest → RemarkFits v × (opening_text o ∷ ws ≡ remark_words schema v ++ rest)
+remark_rest : (schema : SchemaValue) → IsSchema schema → (o : Opening) (ws : List (List ℕ)) (v : Remark) (rest : List (List ℕ))
+    → remark_after schema o ws ≡ found v rest → RemarkFits v × (opening_text o ∷ ws ≡ remark_words schema v ++ rest)
 unfolding remark_after no_statement_at level_at reach_at
 remark_rest schema is openings.Bad ws v rest e =
     taking (only_read (codes "line") refl) _ ws _ e (λ u r1 f1 w1 e1.
@@ -129,15 +133,18 @@ remark_rest schema is openings.Reach ws v rest e =
     taking_form outcome_form _ r4 _ e4 (λ outcome r5 f5 w5 e5.
     made schema (remarks.Reach site field target outcome) v r5 rest e5 (f1, f2, f3, f5) (cc (w1, w2, w3, w4, w5)))))))
 
-remark_takes : (schema : SchemaValue) → IsSchema schema → (ws : List (List ℕ)) (v : Remark) (rest : List (List ℕ)) → remark_at schema ws ≡ found v rest → RemarkFits v × (ws ≡ remark_words schema v ++ rest)
+remark_takes : (schema : SchemaValue) → IsSchema schema → (ws : List (List ℕ)) (v : Remark) (rest : List (List ℕ))
+    → remark_at schema ws ≡ found v rest → RemarkFits v × (ws ≡ remark_words schema v ++ rest)
 unfolding remark_at
 remark_takes schema is ws v rest e =
     taking opening_read _ ws _ e (λ opening r f w e1.
     let t = remark_rest schema is opening r v rest e1 in (t.0, w ∙ t.1))
 
-remark_again : (schema : SchemaValue) → IsSchema schema → (v : Remark) (rest : List (List ℕ)) → RemarkFits v → remark_at schema (remark_words schema v ++ rest) ≡ found v rest
+remark_again : (schema : SchemaValue) → IsSchema schema → (v : Remark) (rest : List (List ℕ)) → RemarkFits v
+    → remark_at schema (remark_words schema v ++ rest) ≡ found v rest
 unfolding remark_at remark_after no_statement_at level_at reach_at
-remark_again schema is remarks.BadLine rest fits = word_again opening_read _ openings.Bad _ tt ∙ word_again (only_read (codes "line") refl) _ tt _ tt
+remark_again schema is remarks.BadLine rest fits =
+    word_again opening_read _ openings.Bad _ tt ∙ word_again (only_read (codes "line") refl) _ tt _ tt
 remark_again schema is (remarks.NoStatement number) rest fits =
     word_again opening_read _ openings.Deliver _ tt ∙ word_again number_read _ number _ fits
     ∙ word_again (only_read (codes "->") refl) _ tt _ tt ∙ word_again (only_read (codes "refused") refl) _ tt _ tt
@@ -148,7 +155,8 @@ remark_again schema is (remarks.Level field kind moves) rest fits =
     ∙ word_again (only_read (codes "->") refl) _ tt _ tt ∙ word_again (only_read (codes "moves") refl) _ tt _ tt
     ∙ word_again number_read _ moves _ fits.1
 remark_again schema is (remarks.Reach site field target outcome) rest fits =
-    word_again opening_read _ openings.Reach _ tt ∙ word_again site_read _ site _ fits.0 ∙ word_again (field_read schema is) _ field _ fits.1
+    word_again opening_read _ openings.Reach _ tt ∙ word_again site_read _ site _ fits.0
+    ∙ word_again (field_read schema is) _ field _ fits.1
     ∙ word_again signed_read _ target _ fits.2 ∙ word_again (only_read (codes "->") refl) _ tt _ tt
     ∙ form_again outcome_form _ outcome rest fits.3
 

@@ -22,7 +22,8 @@ use Rattle.escrow_audit.specs.Reading.{HasKept, KeepStop, LineStop, HasEnded, Ha
 use Rattle.escrow_audit.proofs.Entries.{StandsFor-next, StandsFor-along, good_stands, none_lines, first_line, moved_some}
 
 -- with a piece that has no LF
-pub At-kept : (read piece : List ℕ) (old new : Reading) → All (λ b. b ≢ 10) piece → At read old → HasKept old new piece → At (read ++ piece) new
+pub At-kept : (read piece : List ℕ) (old new : Reading) → All (λ b. b ≢ 10) piece → At read old → HasKept old new piece
+    → At (read ++ piece) new
 At-kept read piece old new unbroken at step =
     let same = whole_lines-unbroken read piece unbroken in record {
       stands = StandsFor-along _ _ _ _ _ _ (sym step.schema) (sym step.entries) (sym same) at.stands;
@@ -35,7 +36,8 @@ pub At-ended : (read : List ℕ) (old new : Reading) → At read old → HasEnde
 At-ended read old new at step =
     let more = whole_lines-broken read in
     let stands : IsAfterLines new.schema new.entries.items (whole_lines read ++ old.line.items ∷ []) =
-    StandsFor-next old.schema new.schema (whole_lines read) old.line.items old.entries.items new.entries.items at.stands step.moves in record {
+    StandsFor-next old.schema new.schema (whole_lines read) old.line.items old.entries.items new.entries.items at.stands step.moves in
+    record {
       stands = subst (IsAfterLines new.schema new.entries.items) (ap (λ l. whole_lines read ++ l ∷ []) at.line ∙ sym more) stands;
       line = step.line ∙ sym (last_part-broken read);
       lines = step.lines ∙ ap (λ n. n + 1) at.lines ∙ sym (length_push (whole_lines read) (last_part read)) ∙ ap length (sym more);
@@ -65,7 +67,8 @@ At-whole read line old new unbroken empty at step =
 
 -- ---- the lines of bytes that go on
 
-lines_on : (a more : List ℕ) → lines_of (a ++ more) ≡ whole_lines a ++ (whole_lines_after (last_part a) more ++ last_line (last_part_after (last_part a) more))
+lines_on : (a more : List ℕ) → lines_of (a ++ more) ≡ whole_lines a
+    ++ (whole_lines_after (last_part a) more ++ last_line (last_part_after (last_part a) more))
 lines_on a more =
     ap (λ (l : List (List ℕ)). l ++ last_line (last_part (a ++ more))) (whole_lines_after-append [] a more)
     ∙ append_assoc (whole_lines a) (whole_lines_after (last_part a) more) (last_line (last_part (a ++ more)))
@@ -101,8 +104,10 @@ Ends part more = (rest : List ℕ) × ((back : List (List ℕ)) × (whole_lines_
 part_on : (part more : List ℕ) → Ends part more ⊎ ((whole_lines_after part more ≡ []) × (last_part_after part more ≡ part ++ more))
 part_on part [] = inr (refl, sym (append-nil part))
 part_on part (b ∷ bs) =
-    elim (eqb b 10) as (λ v. ((rest : List ℕ) × ((back : List (List ℕ)) × (cond v (part ∷ whole_lines_after [] bs) (whole_lines_after (part ++ b ∷ []) bs) ≡ (part ++ rest) ∷ back)))
-    ⊎ ((cond v (part ∷ whole_lines_after [] bs) (whole_lines_after (part ++ b ∷ []) bs) ≡ []) × (cond v (last_part_after [] bs) (last_part_after (part ++ b ∷ []) bs) ≡ part ++ b ∷ bs))) [
+    elim (eqb b 10) as (λ v. ((rest : List ℕ) × ((back : List (List ℕ))
+    × (cond v (part ∷ whole_lines_after [] bs) (whole_lines_after (part ++ b ∷ []) bs) ≡ (part ++ rest) ∷ back)))
+    ⊎ ((cond v (part ∷ whole_lines_after [] bs) (whole_lines_after (part ++ b ∷ []) bs) ≡ [])
+    × (cond v (last_part_after [] bs) (last_part_after (part ++ b ∷ []) bs) ≡ part ++ b ∷ bs))) [
       | true ↦ inl ([], (whole_lines_after [] bs, ap (λ l. l ∷ whole_lines_after [] bs) (sym (append-nil part))))
       | false ↦ elim (part_on (part ++ b ∷ []) bs) [
         | inl ends ↦ inl (b ∷ ends.0, (ends.1.0, ends.1.1 ∙ ap (λ l. l ∷ ends.1.0) (append_assoc part (b ∷ []) ends.0)))
@@ -131,16 +136,19 @@ bad_goes_on stop_at a more s entries ended stands some at long bad =
           let count : length (whole_lines (a ++ more)) ≡ length w + suc (length ends.1.0) =
           ap length whole ∙ length-append w ((p ++ ends.0) ∷ ends.1.0) in record {
             first = subst (λ (n : ℕ). IsFirstBad (script_lines (a ++ more)) n) (ap (λ n. n + 1) (sym at))
-                (first_bad s entries w (p ++ ends.0) _ _ stands some (λ schema e. bad schema ends.0 e) (script_on s entries w _ _ some stands lines));
+                (first_bad s entries w (p ++ ends.0) _ _ stands some (λ schema e. bad schema ends.0 e)
+                (script_on s entries w _ _ some stands lines));
             reached = inl (omega (arith, count, at));
           }
       | inr on ↦
           let lines : lines_of (a ++ more) ≡ w ++ (p ++ more) ∷ [] =
           lines_on a more ∙ ap (λ (l : List (List ℕ)). w ++ (l ++ last_line (last_part_after p more))) on.0
-          ∙ ap (λ (l : List ℕ). w ++ last_line l) on.1 ∙ ap (λ (l : List (List ℕ)). w ++ l) (last_line-some (p ++ more) (long_some p more long)) in
+          ∙ ap (λ (l : List ℕ). w ++ last_line l) on.1
+          ∙ ap (λ (l : List (List ℕ)). w ++ l) (last_line-some (p ++ more) (long_some p more long)) in
           let last : last_part (a ++ more) ≡ p ++ more = last_part_after-append [] a more ∙ on.1 in record {
             first = subst (λ (n : ℕ). IsFirstBad (script_lines (a ++ more)) n) (ap (λ n. n + 1) (sym at))
-                (first_bad s entries w (p ++ more) [] _ stands some (λ schema e. bad schema more e) (script_on s entries w _ _ some stands lines));
+                (first_bad s entries w (p ++ more) [] _ stands some (λ schema e. bad schema more e)
+                (script_on s entries w _ _ some stands lines));
             reached = inr (inl (omega (arith, ap length last, length-append p more, long)));
           }
     ]
@@ -221,12 +229,14 @@ Stops-keep BadEntry read piece more old new ended unbroken at why same =
     (subst (IsAfterLines old.schema old.entries.items) (sym keeps) at.stands) why.0 (same ∙ at.lines ∙ ap length (sym keeps)) long
     (λ schema rest e. long_is_bad schema (last_part a ++ rest) (omega (arith, long, length-append (last_part a) rest))))
 
-line_is_bad : (s : Option SchemaValue) (line : List ℕ) → LineStop s line BadEntry → IsSome s × ((schema : SchemaValue) → s ≡ Some schema → IsBadEntry schema line)
+line_is_bad : (s : Option SchemaValue) (line : List ℕ) → LineStop s line BadEntry → IsSome s
+    × ((schema : SchemaValue) → s ≡ Some schema → IsBadEntry schema line)
 line_is_bad None line bad = absurd bad
 line_is_bad (Some schema) line bad = (refl, λ other e. subst (λ (t : SchemaValue). IsBadEntry t line) (same_Some schema other e) bad)
 
 -- a header line that tells no schema
-stops_header : (e : SchemaFault) (read back : List ℕ) (s : Option SchemaValue) (entries : List Entry) (ended : Type 0) → IsNone s → schema_of (last_part read) ≡ Err e
+stops_header : (e : SchemaFault) (read back : List ℕ) (s : Option SchemaValue) (entries : List Entry) (ended : Type 0) → IsNone s
+    → schema_of (last_part read) ≡ Err e
     → IsAfterLines s entries (whole_lines read) → (BeginsWithBreak back ⊎ ((back ≡ []) × ended)) → FaultIn (Header e) (read ++ back) ended
 stops_header e read back s entries ended is_none told stands breaks =
     let none = none_lines s entries (whole_lines read) is_none stands in record {
@@ -256,7 +266,8 @@ pub Stops-last : (stop : Stop) (read : List ℕ) (s : Option SchemaValue) (entri
     → IsAfterLines s entries (whole_lines read) → lines ≡ length (whole_lines read) → (IsSome s → last_part read ≡ [] → ⊥)
     → LineStop s (last_part read) stop → ended → Stops read lines ended stop
 Stops-last (Fault (Header e)) read s entries lines ended stands at some why is =
-    subst (λ (l : List ℕ). FaultIn (Header e) l ended) (append-nil read) (stops_header e read [] s entries ended why.0 why.1 stands (inr (refl, is)))
+    subst (λ (l : List ℕ). FaultIn (Header e) l ended) (append-nil read)
+    (stops_header e read [] s entries ended why.0 why.1 stands (inr (refl, is)))
 Stops-last (Fault NoMemory) read s entries lines ended stands at some why is = stops_no_memory read ended
 Stops-last (Fault Read) read s entries lines ended stands at some why is = absurd why
 Stops-last (Fault TooLong) read s entries lines ended stands at some why is = absurd why
@@ -265,7 +276,8 @@ Stops-last BadEntry read s entries lines ended stands at some why is =
     let bad = line_is_bad s (last_part read) why in bad_last lines read s entries ended stands bad.0 at (some bad.0) bad.1 is
 
 -- a line of which nothing was kept, and that isn't taken in
-pub Stops-whole : (stop : Stop) (read line more : List ℕ) (old new : Reading) (ended : Type 0) → All (λ b. b ≢ 10) line → old.line.items ≡ [] → At read old
+pub Stops-whole : (stop : Stop) (read line more : List ℕ) (old new : Reading) (ended : Type 0) → All (λ b. b ≢ 10) line
+    → old.line.items ≡ [] → At read old
     → LineStop old.schema line stop → new.lines ≡ old.lines → Stops (read ++ (line ++ 10 ∷ more)) new.lines ended stop
 Stops-whole stop read line more old new ended unbroken empty at why same =
     let keeps : whole_lines (read ++ line) ≡ whole_lines read = whole_lines-unbroken read line unbroken in
@@ -275,7 +287,8 @@ Stops-whole stop read line more old new ended unbroken empty at why same =
     (subst (IsAfterLines old.schema old.entries.items) (sym keeps) at.stands) (same ∙ at.lines ∙ ap length (sym keeps))
     (subst (λ (l : List ℕ). LineStop old.schema l stop) (sym last) why))
 
-pub Stops-along : (stop : Stop) (read other : List ℕ) (lines : ℕ) (ended : Type 0) → read ≡ other → Stops read lines ended stop → Stops other lines ended stop
+pub Stops-along : (stop : Stop) (read other : List ℕ) (lines : ℕ) (ended : Type 0) → read ≡ other → Stops read lines ended stop
+    → Stops other lines ended stop
 Stops-along stop read other lines ended e stops = subst (λ (l : List ℕ). Stops l lines ended stop) e stops
 
 -- more lines than the limit
@@ -291,7 +304,8 @@ Stops-full read back r lines ended full some at = record {
 }
 
 -- more bytes than the limit
-pub Stops-past : (read piece more : List ℕ) (r : Reading) (lines : ℕ) (ended : Type 0) → 268435456 ≤ length (read ++ piece) → more ≢ [] → At (read ++ piece) r
+pub Stops-past : (read piece more : List ℕ) (r : Reading) (lines : ℕ) (ended : Type 0) → 268435456 ≤ length (read ++ piece) → more ≢ []
+    → At (read ++ piece) r
     → Stops (read ++ (piece ++ more)) lines ended (Fault TooLong)
 Stops-past read piece more r lines ended long some at = record {
   front = read ++ piece;
@@ -315,7 +329,8 @@ Stops-read read r lines ended at = record {
 pub Stops-memory : (read : List ℕ) (lines : ℕ) (ended : Type 0) → Stops read lines ended (Fault NoMemory)
 Stops-memory read lines ended = stops_no_memory read ended
 
-explains_weaker : (fault : ScriptFault) (front back : List ℕ) (P Q : Type 0) → (P → Q) → Explains fault front back P → Explains fault front back Q
+explains_weaker : (fault : ScriptFault) (front back : List ℕ) (P Q : Type 0) → (P → Q) → Explains fault front back P
+    → Explains fault front back Q
 explains_weaker (Header e) front back P Q f why = (
   why.0,
   elim why.1 [
@@ -356,18 +371,23 @@ Holds-between read r some empty at =
     let same : script_lines read ≡ w = script_on r.schema r.entries.items w [] (lines_of read) some at.stands lines ∙ append-nil w in
     (some, subst (IsAfterLines r.schema r.entries.items) (sym same) at.stands)
 
-last_lines : (s : Option SchemaValue) (entries : List Entry) (w : List (List ℕ)) (p : List ℕ) → IsAfterLines s entries w → (IsSome s → p ≡ [] → ⊥)
+last_lines : (s : Option SchemaValue) (entries : List Entry) (w : List (List ℕ)) (p : List ℕ) → IsAfterLines s entries w
+    → (IsSome s → p ≡ [] → ⊥)
     → with_header (w ++ last_line p) ≡ w ++ p ∷ []
 last_lines None entries w p stands some =
-    ap (λ (l : List (List ℕ)). with_header (l ++ last_line p)) stands.0 ∙ with_header-last p ∙ ap (λ (l : List (List ℕ)). l ++ p ∷ []) (sym stands.0)
+    ap (λ (l : List (List ℕ)). with_header (l ++ last_line p)) stands.0 ∙ with_header-last p
+    ∙ ap (λ (l : List (List ℕ)). l ++ p ∷ []) (sym stands.0)
 last_lines (Some schema) entries w p stands some =
-    with_header-some w (last_line p) stands.header stands.behind stands.parts ∙ ap (λ (l : List (List ℕ)). w ++ l) (last_line-some p (some refl))
+    with_header-some w (last_line p) stands.header stands.behind stands.parts
+    ∙ ap (λ (l : List (List ℕ)). w ++ l) (last_line-some p (some refl))
 
-pub Holds-ended : (read : List ℕ) (old new : Reading) → (IsSome old.schema → old.line.items ≡ [] → ⊥) → At read old → HasEnded old new → Holds new (script_lines read)
+pub Holds-ended : (read : List ℕ) (old new : Reading) → (IsSome old.schema → old.line.items ≡ [] → ⊥) → At read old → HasEnded old new
+    → Holds new (script_lines read)
 Holds-ended read old new not_both at step =
     let w = whole_lines read in
     let p = last_part read in
-    let same : script_lines read ≡ w ++ p ∷ [] = last_lines old.schema old.entries.items w p at.stands (λ some e. not_both some (at.line ∙ e)) in (
+    let same : script_lines read ≡ w ++ p ∷ [] = last_lines old.schema old.entries.items w p at.stands
+    (λ some e. not_both some (at.line ∙ e)) in (
       moved_some old.schema new.schema old.line.items old.entries.items new.entries.items step.moves,
       subst (IsAfterLines new.schema new.entries.items) (ap (λ (l : List ℕ). w ++ l ∷ []) at.line ∙ sym same)
           (StandsFor-next old.schema new.schema w old.line.items old.entries.items new.entries.items at.stands step.moves),

@@ -22,11 +22,15 @@ use Rattle.escrow_audit.specs.Reading.{IsAfterLines, ReadsThrough, StopsAfter, T
 use Rattle.escrow_audit.proofs.States.{Stops-memory}
 
 -- a verdict ends an audit at the end of the input
-by_verdict : (v : Verdict) (end : AuditEnd) (read : List ℕ) (ended : Type 0) (text : List ℕ) → end ≡ end_of v → ended × IsJudged (script_lines read) end text → IsAudit end read ended text
-by_verdict verdicts.Legal end read ended text e told = subst (λ (x : AuditEnd). ended × IsJudged (script_lines read) x text → IsAudit x read ended text) (sym e) (λ h. h) told
-by_verdict (verdicts.Illegal at rule) end read ended text e told = subst (λ (x : AuditEnd). ended × IsJudged (script_lines read) x text → IsAudit x read ended text) (sym e) (λ h. h) told
+by_verdict : (v : Verdict) (end : AuditEnd) (read : List ℕ) (ended : Type 0) (text : List ℕ) → end ≡ end_of v → ended
+    × IsJudged (script_lines read) end text → IsAudit end read ended text
+by_verdict verdicts.Legal end read ended text e told =
+    subst (λ (x : AuditEnd). ended × IsJudged (script_lines read) x text → IsAudit x read ended text) (sym e) (λ h. h) told
+by_verdict (verdicts.Illegal at rule) end read ended text e told =
+    subst (λ (x : AuditEnd). ended × IsJudged (script_lines read) x text → IsAudit x read ended text) (sym e) (λ h. h) told
 
-judged_audit : (s : Option SchemaValue) (entries : List Entry) (end : AuditEnd) (read text : List ℕ) (ended : Type 0) → IsSome s → IsAfterLines s entries (script_lines read)
+judged_audit : (s : Option SchemaValue) (entries : List Entry) (end : AuditEnd) (read text : List ℕ) (ended : Type 0) → IsSome s
+    → IsAfterLines s entries (script_lines read)
     → ((schema : SchemaValue) → s ≡ Some schema → end ≡ end_of (verdict_of schema entries))
     → ((schema : SchemaValue) → s ≡ Some schema → text ≡ verdict_text (verdict_of schema entries) (length entries))
     → ended → IsAudit end read ended text
@@ -51,11 +55,13 @@ Tells-bad from to last r number text stops is told =
 pub FaultsIn-through : (from to : Option (List ℕ)) (last : End) (r : Reading) → ReadsThrough from to last r → FaultsIn from to last NoMemory
 FaultsIn-through from to last r through = (through.0, (through.1.0, Stops-memory through.0 0 (HasEndedAt to last)))
 
-pub FaultsIn-bad : (from to : Option (List ℕ)) (last : End) (r : Reading) (stop : Stop) → StopsAfter from to last r stop → FaultsIn from to last NoMemory
+pub FaultsIn-bad : (from to : Option (List ℕ)) (last : End) (r : Reading) (stop : Stop) → StopsAfter from to last r stop
+    → FaultsIn from to last NoMemory
 FaultsIn-bad from to last r stop stops = (stops.0, (stops.1.0, Stops-memory stops.0 0 (HasEndedAt to last)))
 
 -- the answer wasn't written whole
-pub Fails-write : (from to before after : Option (List ℕ)) (last : End) (end : AuditEnd) (text bytes : List ℕ) → Tells from to last end text → bytes ≡ text
+pub Fails-write : (from to before after : Option (List ℕ)) (last : End) (end : AuditEnd) (text bytes : List ℕ) → Tells from to last end text
+    → bytes ≡ text
     → AppendsPrefix before after bytes → Fails from to before after last Write
 Fails-write from to before after last end text bytes tells same front =
     let (read, (consumed, audit)) = tells in record {

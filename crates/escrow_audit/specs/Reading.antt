@@ -20,7 +20,8 @@ use Rattle.escrow_audit.specs.Audit.{IsEntry, IsBadEntry, HasEntries, IsGood, Fi
 
 -- A line behind the header is taken in: an entry joins the others, and a remark is left out.
 abbrev pub Notes : SchemaValue → List ℕ → List Entry → List Entry → Type 0
-Notes schema line old new = (IsRemark schema line × (new ≡ old)) ⊎ ((entry : Entry) × (IsEntry schema line entry × (new ≡ old ++ entry ∷ [])))
+Notes schema line old new = (IsRemark schema line × (new ≡ old))
+    ⊎ ((entry : Entry) × (IsEntry schema line entry × (new ≡ old ++ entry ∷ [])))
 
 -- Why a line behind the header isn't taken in.
 abbrev pub NoteStop : SchemaValue → List ℕ → Stop → Type 0

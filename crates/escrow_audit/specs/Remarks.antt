@@ -84,8 +84,10 @@ pub record IsRemark (schema : SchemaValue) (bytes : List ℕ) : Type 0 where
 
 -- The reasons by their words.
 abbrev pub reason_table : List (List ℕ × Reason)
-reason_table = (codes "site", reasons.Site) ∷ (codes "field", reasons.Field) ∷ (codes "down", reasons.Down) ∷ (codes "flight", reasons.Flight)
-    ∷ (codes "unstated", reasons.Unstated) ∷ (codes "tightened", reasons.Tightened) ∷ (codes "numbers", reasons.Numbers) ∷ (codes "outside", reasons.Outside) ∷ []
+reason_table = (codes "site", reasons.Site) ∷ (codes "field", reasons.Field) ∷ (codes "down", reasons.Down)
+    ∷ (codes "flight", reasons.Flight)
+    ∷ (codes "unstated", reasons.Unstated) ∷ (codes "tightened", reasons.Tightened) ∷ (codes "numbers", reasons.Numbers)
+    ∷ (codes "outside", reasons.Outside) ∷ []
 
 -- The reason that the word names.
 unfoldable pub reason_of : List ℕ → Option Reason
@@ -93,7 +95,8 @@ reason_of w = beside reason_table w
 
 -- What remarks begin with.
 abbrev pub opening_table : List (List ℕ × Opening)
-opening_table = (codes "bad", openings.Bad) ∷ (codes "deliver", openings.Deliver) ∷ (codes "level", openings.Level) ∷ (codes "reach", openings.Reach) ∷ []
+opening_table = (codes "bad", openings.Bad) ∷ (codes "deliver", openings.Deliver) ∷ (codes "level", openings.Level)
+    ∷ (codes "reach", openings.Reach) ∷ []
 
 -- What the word begins.
 unfoldable pub opening_of : List ℕ → Option Opening

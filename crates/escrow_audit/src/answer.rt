@@ -106,7 +106,8 @@ fn judge_all(
     ensures end { IfOk result (λ told. (schema : SchemaValue) → reading.now.schema ≡ Some schema
         → told.0 ≡ end_of (verdict_of schema reading.now.entries.items)) }
     ensures text { IfOk result (λ told. (schema : SchemaValue) → reading.now.schema ≡ Some schema
-        → string_bytes told.1 ≡ verdict_text (verdict_of schema reading.now.entries.items) (length reading.now.entries.items)) }
+        → string_bytes told.1 ≡ verdict_text (verdict_of schema reading.now.entries.items)
+        (length reading.now.entries.items)) }
 {
     let Some(schema) = &reading.schema else {
         unreachable!()
@@ -127,7 +128,8 @@ fn answer<R: Source>(
         (R.last reader.new) told.0 (string_bytes told.1)) }
     ensures fault { IfErr result (FaultsIn (R.bytes reader.old) (R.bytes reader.new)
         (R.last reader.new)) }
-    ensures read { IfErr result (λ fault. fault ≡ ScriptFault.Read → HasFailed (R.last reader.new)) }
+    ensures read { IfErr result (λ fault. fault ≡ ScriptFault.Read
+        → HasFailed (R.last reader.new)) }
     ensures reads { CountsReads result (R.failures reader.old) (R.failures reader.new) }
 {
     let mut reading = Reading::new(alloc);
@@ -160,34 +162,35 @@ fn write_out<W: Sink>(writer: &mut W, bytes: &[u8]) -> Result<(), ScriptFault>
 /// reply was owed.
 ///
 /// Line 1 is a header. Every other line is an entry under it, `COMMAND -> REPLY`, or one of the
-/// remarks that a run writes, which are skipped: `bad line`; `deliver K -> refused 16 no statement`;
-/// `level FIELD KIND -> moves M`; `reach SITE FIELD TARGET -> steps M`; and
-/// `reach SITE FIELD TARGET -> no REASON`, where REASON is `site`, `field`, `down`, `flight`,
-/// `unstated`, `tightened`, `numbers` or `outside`. A line ends with LF; a last line without LF counts
-/// where it has at least one byte.
+/// remarks that a run writes, which are skipped: `bad line`; `deliver K -> refused 16 no
+/// statement`; `level FIELD KIND -> moves M`; `reach SITE FIELD TARGET -> steps M`; and `reach SITE
+/// FIELD TARGET -> no REASON`, where REASON is `site`, `field`, `down`, `flight`, `unstated`,
+/// `tightened`, `numbers` or `outside`. A line ends with LF; a last line without LF counts where it
+/// has at least one byte.
 ///
-/// What is written at Ok is one line. `legal N` says that the N entries are legal, `illegal AT RULE`
-/// that the entry AT, counted from 1, is the first that breaks a rule, and RULE the first rule that it
-/// breaks: `site`, `grant`, `shortage`, `interval`, `statement` or `reply`. `bad entry L` says that
-/// line L, counted from 1 with the header, is the first that is neither an entry nor a remark, as any
-/// line of more than 256 bytes; then nothing behind it is read and nothing is judged.
+/// What is written at Ok is one line. `legal N` says that the N entries are legal, `illegal AT
+/// RULE` that the entry AT, counted from 1, is the first that breaks a rule, and RULE the first
+/// rule that it breaks: `site`, `grant`, `shortage`, `interval`, `statement` or `reply`. `bad entry
+/// L` says that line L, counted from 1 with the header, is the first that is neither an entry nor a
+/// remark, as any line of more than 256 bytes; then nothing behind it is read and nothing is
+/// judged.
 ///
 /// The faults are those of the input, line by line: `Header` and `NoMemory`; `TooLong` where a byte
-/// follows the 1,000,000th line or the 268,435,456th byte; `Read` where a read answers an error of any
-/// kind, which isn't tried again. At each of them nothing is written. `Write` comes where a write
-/// answers an error of any kind or takes no byte; then a front of the answer was written.
+/// follows the 1,000,000th line or the 268,435,456th byte; `Read` where a read answers an error of
+/// any kind, which isn't tried again. At each of them nothing is written. `Write` comes where a
+/// write answers an error of any kind or takes no byte; then a front of the answer was written.
 ///
-/// Reader and writer tell the contract how their calls end, and how many failed; `Watched::new` makes
-/// such ones of std's. No call is made again after one that failed.
+/// Reader and writer tell the contract how their calls end, and how many failed; `Watched::new`
+/// makes such ones of std's. No call is made again after one that failed.
 ///
-/// With `fields` the entries are judged field by field, by threads, and else in one pass: the answer is
-/// the same.
+/// With `fields` the entries are judged field by field, by threads, and else in one pass: the
+/// answer is the same.
 ///
-/// Costs 64 KiB for input and memory for the entries and for the judge, and time in proportion to the
-/// input.
+/// Costs 64 KiB for input and memory for the entries and for the judge, and time in proportion to
+/// the input.
 ///
-/// Source: O'Neil 1986 for the central store, Balegas and others 2015 for rights that are divided among
-/// sites and given, this project for the audit.
+/// Source: O'Neil 1986 for the central store, Balegas and others 2015 for rights that are divided
+/// among sites and given, this project for the audit.
 pub fn audit_text<R: Source, W: Sink>(
     rt: &(impl Threads + Sync),
     alloc: Global,
@@ -207,10 +210,12 @@ pub fn audit_text<R: Source, W: Sink>(
         (W.bytes writer.old) (W.bytes writer.new) (R.last reader.new)) }
 
     // A read fault comes only where a read failed.
-    ensures read { IfErr result (λ fault. fault ≡ ScriptFault.Read → HasFailed (R.last reader.new)) }
+    ensures read { IfErr result (λ fault. fault ≡ ScriptFault.Read
+        → HasFailed (R.last reader.new)) }
 
     // A write fault comes only where a write failed, or took none of its bytes.
-    ensures write { IfErr result (λ fault. fault ≡ ScriptFault.Write → HasRefused (W.last writer.new)) }
+    ensures write { IfErr result (λ fault. fault ≡ ScriptFault.Write
+        → HasRefused (W.last writer.new)) }
 
     // One read failed in this call at a read fault, and else none.
     ensures reads { CountsReads result (R.failures reader.old) (R.failures reader.new) }

@@ -67,8 +67,8 @@ fn note(entries: &mut Vec<Entry>, schema: &Schema, line: &[u8]) -> Result<(), St
     }
 }
 
-/// The schema once the header line came, the bytes of the line that is being read, the whole lines so
-/// far, and their entries.
+/// The schema once the header line came, the bytes of the line that is being read, the whole lines
+/// so far, and their entries.
 #[derive(Drop)]
 pub(crate) struct Reading {
     alloc: Global,
@@ -156,7 +156,8 @@ impl Reading {
         self.schema.is_some() && self.line.is_empty()
     }
 
-    // Takes the rest of a line, whose LF was read. A line that lies whole in the piece isn't copied.
+    // Takes the rest of a line, whose LF was read. A line that lies whole in the piece isn't
+    // copied.
     fn end_with(&mut self, line: &[u8]) -> Result<(), Stop>
         requires room { self.old.lines < 1000000 }
         requires unbroken { All (λ b. b ≢ 10) line.now }
@@ -227,7 +228,8 @@ impl Reading {
             self.old self.new (R.last reader.new) bytes) }
         ensures lines { OnOk result (self.new.lines ≤ 1000000) }
         ensures within { IfOk result (λ count. bytes + count ≤ 268435456) }
-        ensures failed { IfErr result (λ stop. stop ≡ Fault ScriptFault.Read → HasFailed (R.last reader.new)) }
+        ensures failed { IfErr result (λ stop. stop ≡ Fault ScriptFault.Read
+            → HasFailed (R.last reader.new)) }
         ensures reads { CountsStops result (R.failures reader.old) (R.failures reader.new) }
     {
         let count = match reader.read(buffer) {
@@ -260,7 +262,8 @@ impl Reading {
             (R.last reader.new) self.new) }
         ensures err { IfErr result (StopsAfter (R.bytes reader.old) (R.bytes reader.new)
             (R.last reader.new) self.new) }
-        ensures failed { IfErr result (λ stop. stop ≡ Fault ScriptFault.Read → HasFailed (R.last reader.new)) }
+        ensures failed { IfErr result (λ stop. stop ≡ Fault ScriptFault.Read
+            → HasFailed (R.last reader.new)) }
         ensures reads { CountsStops result (R.failures reader.old) (R.failures reader.new) }
     {
         let mut buffer = new_buffer(self.alloc)?;

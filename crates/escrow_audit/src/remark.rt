@@ -244,7 +244,8 @@ fn any_remark(line: &mut Words<'_>, fields: &Fields<'_>) -> Option<Remark>
 fn read_remark(schema: &Schema, line: &[u8]) -> Option<Remark>
     ensures found { IfSome result (λ remark. line.now ≡ remark_text schema.now remark) }
     ensures fits { IfSome result RemarkFits }
-    ensures only { (remark : RemarkType) → RemarkFits remark → line.now ≡ remark_text schema.now remark
+    ensures only { (remark : RemarkType) → RemarkFits remark
+        → line.now ≡ remark_text schema.now remark
         → result ≡ Some remark }
 {
     let mut words = Words::new(line);

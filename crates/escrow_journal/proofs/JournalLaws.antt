@@ -15,7 +15,8 @@ use Rattle.field_bounds.proofs.Lawful.{same_txn-true}
 use Rattle.field_bounds.proofs.Steps.{same_txn-sym}
 use Rattle.escrow_journal.specs.Journal.{Row, is_listed, escrows_at, with_escrow, rows_with, without, AreDistinct, IsShort, IsJournal}
 
-pub position_or_len-none : {X : Type 0} (p : X → Bool) (xs : List X) → ((k : ℕ) (d : X) → k < length xs → p (get_or xs k d) ≡ false) → position_or_len p xs ≡ length xs
+pub position_or_len-none : {X : Type 0} (p : X → Bool) (xs : List X) → ((k : ℕ) (d : X) → k < length xs → p (get_or xs k d) ≡ false)
+    → position_or_len p xs ≡ length xs
 position_or_len-none p [] h = refl
 position_or_len-none p (x ∷ xs) h =
     rw (h 0 x (omega arith), position_or_len-none p xs (λ k d l. h (suc k) d (omega arith))) (omega arith)
@@ -23,10 +24,12 @@ position_or_len-none p (x ∷ xs) h =
 pub position_or_len-here : {X : Type 0} (p : X → Bool) (x : X) (xs : List X) → p x ≡ true → position_or_len p (x ∷ xs) ≡ 0
 position_or_len-here p x xs h = rw h refl
 
-pub position_or_len-there : {X : Type 0} (p : X → Bool) (x : X) (xs : List X) → p x ≡ false → position_or_len p (x ∷ xs) ≡ suc (position_or_len p xs)
+pub position_or_len-there : {X : Type 0} (p : X → Bool) (x : X) (xs : List X) → p x ≡ false
+    → position_or_len p (x ∷ xs) ≡ suc (position_or_len p xs)
 position_or_len-there p x xs h = rw h (omega arith)
 
-pub position_or_len-map : {X Y : Type 0} (p : Y → Bool) (h : X → Y) (xs : List X) → position_or_len p (map h xs) ≡ position_or_len (λ x. p (h x)) xs
+pub position_or_len-map : {X Y : Type 0} (p : Y → Bool) (h : X → Y) (xs : List X)
+    → position_or_len p (map h xs) ≡ position_or_len (λ x. p (h x)) xs
 position_or_len-map p h [] = refl
 position_or_len-map p h (x ∷ xs) = ap (λ n. cond (not (p (h x))) (1 + n) 0) (position_or_len-map p h xs)
 
@@ -79,7 +82,8 @@ remove-is t (r ∷ rs) d h =
           (ap (λ ys. r ∷ ys) (remove-is t rs d.1 (rw there at h)))
     ]
 
-pub set-is : (t : TxnId) (e : Escrow) (rows : List Row) (y d0 : Row) → AreDistinct rows → is_listed t rows ≡ true → y ≡ with_escrow t e (get_or rows (place_in t rows) d0) → set rows (place_in t rows) y ≡ rows_with t e rows
+pub set-is : (t : TxnId) (e : Escrow) (rows : List Row) (y d0 : Row) → AreDistinct rows → is_listed t rows ≡ true
+    → y ≡ with_escrow t e (get_or rows (place_in t rows) d0) → set rows (place_in t rows) y ≡ rows_with t e rows
 set-is t e [] y d0 d h w = absurd (false≢true h)
 set-is t e (r ∷ rs) y d0 d h w =
     elim (cases_Bool (same_txn r.0 t)) [
@@ -94,7 +98,8 @@ set-is t e (r ∷ rs) y d0 d h w =
           rw (at, there) (ap (λ ys. r ∷ ys) (set-is t e rs y d0 d.1 (rw there at h) w'))
     ]
 
-pub escrows_at-place : (t : TxnId) (rows : List Row) (d : Row) → is_listed t rows ≡ true → (get_or rows (place_in t rows) d).1 ≡ escrows_at t rows
+pub escrows_at-place : (t : TxnId) (rows : List Row) (d : Row) → is_listed t rows ≡ true
+    → (get_or rows (place_in t rows) d).1 ≡ escrows_at t rows
 escrows_at-place t [] d h = absurd (false≢true h)
 escrows_at-place t (r ∷ rs) d h =
     elim (cases_Bool (same_txn r.0 t)) [
@@ -156,7 +161,8 @@ AreDistinct-push (x ∷ xs) r d h =
 
 -- ---- what keeps the rows a journal: one more transaction, one fewer, one more escrow
 
-pub begun_is : (rows : List Row) (t : TxnId) → IsJournal rows → is_listed t rows ≡ false → length rows < max_open → IsJournal (rows ++ (t, []) ∷ [])
+pub begun_is : (rows : List Row) (t : TxnId) → IsJournal rows → is_listed t rows ≡ false → length rows < max_open
+    → IsJournal (rows ++ (t, []) ∷ [])
 begun_is rows t was closed room =
     record {
       distinct = AreDistinct-push rows (t, []) was.distinct closed;
@@ -172,7 +178,8 @@ removed_is rows i was =
       short = All-remove IsShort rows i was.short;
     }
 
-pub added-short : (t : TxnId) (e : Escrow) (rows : List Row) → AreDistinct rows → All IsShort rows → length (escrows_at t rows) < max_escrows → All IsShort (rows_with t e rows)
+pub added-short : (t : TxnId) (e : Escrow) (rows : List Row) → AreDistinct rows → All IsShort rows
+    → length (escrows_at t rows) < max_escrows → All IsShort (rows_with t e rows)
 added-short t e [] d short room = All-nil IsShort
 added-short t e (r ∷ rs) d short room =
     elim (cases_Bool (same_txn r.0 t)) [
@@ -184,10 +191,12 @@ added-short t e (r ∷ rs) d short room =
           All-cons IsShort (with_escrow t e r) (rows_with t e rs) (rw row (omega (arith, length-append r.1 (e ∷ [])))) rest
       | inr there ↦
           let row : with_escrow t e r ≡ r = rw there refl in
-          All-cons IsShort (with_escrow t e r) (rows_with t e rs) (rw row (All-head IsShort r rs short)) (added-short t e rs d.1 (All-tail IsShort r rs short) (rw there at room))
+          All-cons IsShort (with_escrow t e r) (rows_with t e rs) (rw row (All-head IsShort r rs short))
+          (added-short t e rs d.1 (All-tail IsShort r rs short) (rw there at room))
     ]
 
-pub added_is : (rows : List Row) (t : TxnId) (e : Escrow) → IsJournal rows → length (escrows_at t rows) < max_escrows → IsJournal (rows_with t e rows)
+pub added_is : (rows : List Row) (t : TxnId) (e : Escrow) → IsJournal rows → length (escrows_at t rows) < max_escrows
+    → IsJournal (rows_with t e rows)
 added_is rows t e was room =
     record {
       distinct = AreDistinct-added t e rows was.distinct;

@@ -49,7 +49,8 @@ module _ (s : List Row) (items : List OpenTransaction) (t : TxnId) (view : rows_
       ]
 
 -- the place i is found in ds, which are the items
-module _ (s : List Row) (items ds : List OpenTransaction) (t : TxnId) (view : rows_of items ≡ s) (deref : ds ≡ items) (i : ℕ) (within : i < length ds) (at : i ≡ index_of t ds) where
+module _ (s : List Row) (items ds : List OpenTransaction) (t : TxnId) (view : rows_of items ≡ s) (deref : ds ≡ items) (i : ℕ)
+    (within : i < length ds) (at : i ≡ index_of t ds) where
   found : i < length items
   found = omega (arith, ap length deref)
 
@@ -62,7 +63,8 @@ module _ (s : List Row) (items ds : List OpenTransaction) (t : TxnId) (view : ro
   pub item_escrows : (x : OpenTransaction) → x ≡ get_or items i x → x.escrows.items ≡ escrows_at t s
   item_escrows x e =
       ap (λ (r : OpenTransaction). r.escrows.items) e ∙ ap (λ (r : Row). r.1) (sym (get_or-map row_of items i x (row_of x) found))
-      ∙ ap (λ (xs : List Row). (get_or xs i (row_of x)).1) view ∙ ap (λ (k : ℕ). (get_or s k (row_of x)).1) here_is ∙ escrows_at-place t s (row_of x) open_is
+      ∙ ap (λ (xs : List Row). (get_or xs i (row_of x)).1) view ∙ ap (λ (k : ℕ). (get_or s k (row_of x)).1) here_is
+      ∙ escrows_at-place t s (row_of x) open_is
 
   module _ (was : IsJournal (rows_of items)) where
     seen : IsJournal s
@@ -77,33 +79,43 @@ module _ (s : List Row) (items ds : List OpenTransaction) (t : TxnId) (view : ro
         ap rows_of e ∙ map-remove row_of items i ∙ ap (λ xs. remove xs i) view ∙ ap (remove s) here_is ∙ remove-is t s seen.distinct open_is
 
     -- the row at the place has one more escrow
-    pub added_view : (x y : OpenTransaction) (e : Escrow) → x ≡ get_or items i x → y.txn ≡ x.txn → y.escrows.items ≡ x.escrows.items ++ e ∷ [] → rows_of (set items i y) ≡ rows_with t e s
+    pub added_view : (x y : OpenTransaction) (e : Escrow) → x ≡ get_or items i x → y.txn ≡ x.txn
+        → y.escrows.items ≡ x.escrows.items ++ e ∷ [] → rows_of (set items i y) ≡ rows_with t e s
     added_view x y e ex et es =
         let here : get_or s (place_in t s) (row_of x) ≡ row_of x =
-        ap (λ (k : ℕ). get_or s k (row_of x)) (sym here_is) ∙ ap (λ (xs : List Row). get_or xs i (row_of x)) (sym view) ∙ get_or-map row_of items i x (row_of x) found ∙ ap row_of (sym ex) in
-        let passes : same_txn (get_or s (place_in t s) (row_of x)).0 t ≡ true = passes_at_first (λ (r : Row). same_txn r.0 t) s (row_of x) (list_any-place (λ (r : Row). same_txn r.0 t) s open_is) in
+        ap (λ (k : ℕ). get_or s k (row_of x)) (sym here_is) ∙ ap (λ (xs : List Row). get_or xs i (row_of x)) (sym view)
+        ∙ get_or-map row_of items i x (row_of x) found ∙ ap row_of (sym ex) in
+        let passes : same_txn (get_or s (place_in t s) (row_of x)).0 t ≡ true =
+        passes_at_first (λ (r : Row). same_txn r.0 t) s (row_of x) (list_any-place (λ (r : Row). same_txn r.0 t) s open_is) in
         let mine : same_txn x.txn t ≡ true = rw here at passes in
         let w : row_of y ≡ with_escrow t e (get_or s (place_in t s) (row_of x)) =
         rw here (rw mine (ap (λ k. (k, y.escrows.items)) et ∙ ap (λ l. (x.txn, l)) es)) in
-        map-set row_of items i y ∙ ap (λ xs. set xs i (row_of y)) view ∙ ap (λ k. set s k (row_of y)) here_is ∙ set-is t e s (row_of y) (row_of x) seen.distinct open_is w
+        map-set row_of items i y ∙ ap (λ xs. set xs i (row_of y)) view ∙ ap (λ k. set s k (row_of y)) here_is
+        ∙ set-is t e s (row_of y) (row_of x) seen.distinct open_is w
 
-    pub more_is : (x y : OpenTransaction) (e : Escrow) → length (escrows_at t s) < max_escrows → x ≡ get_or items i x → y.txn ≡ x.txn → y.escrows.items ≡ x.escrows.items ++ e ∷ [] → IsJournal (rows_of (set items i y))
+    pub more_is : (x y : OpenTransaction) (e : Escrow) → length (escrows_at t s) < max_escrows → x ≡ get_or items i x → y.txn ≡ x.txn
+        → y.escrows.items ≡ x.escrows.items ++ e ∷ [] → IsJournal (rows_of (set items i y))
     more_is x y e room ex et es = subst IsJournal (sym (added_view x y e ex et es)) (added_is s t e seen room)
 
     -- the row at the place is as it was
-    pub same_view : (x y : OpenTransaction) → x ≡ get_or items i x → y.txn ≡ x.txn → y.escrows.items ≡ x.escrows.items → rows_of (set items i y) ≡ s
+    pub same_view : (x y : OpenTransaction) → x ≡ get_or items i x → y.txn ≡ x.txn → y.escrows.items ≡ x.escrows.items
+        → rows_of (set items i y) ≡ s
     same_view x y ex et es =
         map-set_same row_of items i y x (ap (λ k. (k, y.escrows.items)) et ∙ ap (λ l. (x.txn, l)) es ∙ ap row_of ex) ∙ view
 
-    pub same_is : (x y : OpenTransaction) → x ≡ get_or items i x → y.txn ≡ x.txn → y.escrows.items ≡ x.escrows.items → IsJournal (rows_of (set items i y))
+    pub same_is : (x y : OpenTransaction) → x ≡ get_or items i x → y.txn ≡ x.txn → y.escrows.items ≡ x.escrows.items
+        → IsJournal (rows_of (set items i y))
     same_is x y ex et es = subst IsJournal (sym (same_view x y ex et es)) seen
 
 -- one more row, with no escrow
-pub pushed_is : (s : List Row) (items more : List OpenTransaction) (x : OpenTransaction) (t : TxnId) → more ≡ items ++ x ∷ [] → x.txn ≡ t → x.escrows.items ≡ [] → rows_of items ≡ s → IsJournal (rows_of items) → is_listed t s ≡ false → length s < max_open → IsJournal (rows_of more)
+pub pushed_is : (s : List Row) (items more : List OpenTransaction) (x : OpenTransaction) (t : TxnId) → more ≡ items ++ x ∷ [] → x.txn ≡ t
+    → x.escrows.items ≡ [] → rows_of items ≡ s → IsJournal (rows_of items) → is_listed t s ≡ false → length s < max_open
+    → IsJournal (rows_of more)
 pushed_is s items more x t e same none view was closed room =
     let row : ◌≡◌ {A = Row} (row_of x) (t, []) = ap (λ (u : TxnId). (u, x.escrows.items)) same ∙ ap (λ (xs : List Escrow). (t, xs)) none in
     let seen : rows_of more ≡ s ++ (t, []) ∷ [] =
-    ap rows_of e ∙ map-append row_of items (x ∷ []) ∙ ap (λ (r : Row). rows_of items ++ r ∷ []) row ∙ ap (λ (rows : List Row). rows ++ (t, []) ∷ []) view in
+    ap rows_of e ∙ map-append row_of items (x ∷ []) ∙ ap (λ (r : Row). rows_of items ++ r ∷ []) row
+    ∙ ap (λ (rows : List Row). rows ++ (t, []) ∷ []) view in
     subst IsJournal (sym seen) (begun_is s t (subst IsJournal view was) closed room)
 
 -- one row fewer, whichever it is

@@ -103,9 +103,9 @@ impl Journal {
         Ok(())
     }
 
-    /// Adds an escrow behind those of an open transaction, and changes nothing else. The transaction
-    /// has to be open with fewer than 16 escrows: `is_open` and `escrows` tell both. The error is
-    /// want of memory, and changes nothing. Costs a look through at most 64 rows.
+    /// Adds an escrow behind those of an open transaction, and changes nothing else. The
+    /// transaction has to be open with fewer than 16 escrows: `is_open` and `escrows` tell both.
+    /// The error is want of memory, and changes nothing. Costs a look through at most 64 rows.
     pub fn add(&mut self, txn: TxnId, escrow: Escrow) -> Result<(), AllocError>
         requires open { is_listed txn self.old ≡ true }
         requires room { length (escrows_at txn self.old) < max_escrows }
@@ -118,8 +118,8 @@ impl Journal {
     }
 
     /// Takes a transaction out and answers its escrows in order of grant; the others stay in their
-    /// order. None exactly where it isn't open, and then nothing has changed. Takes no memory; costs
-    /// a look through at most 64 rows, and a step for each row behind it.
+    /// order. None exactly where it isn't open, and then nothing has changed. Takes no memory;
+    /// costs a look through at most 64 rows, and a step for each row behind it.
     pub fn take_out(&mut self, txn: TxnId) -> Option<Vec<Escrow>>
         ensures open { is_some result ≡ is_listed txn self.old }
         ensures escrows { IfSome result (λ escrows. escrows.items ≡ escrows_at txn self.old) }

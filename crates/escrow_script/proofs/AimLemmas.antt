@@ -28,7 +28,10 @@ all_fit : (schema : SchemaValue) (steps : List WorldStep) → All (StepFits sche
 all_fit schema [] h = tt
 all_fit schema (x ∷ steps) h =
     subst (λ (l : List WorldStep). StepsFit schema l) (sym (reverse-append (x ∷ []) steps))
-    (fit_both schema (reverse steps) (x ∷ []) (all_fit schema steps (All-tail (StepFits schema) x steps h)) (tt, All-head (StepFits schema) x steps h))
+    (fit_both schema (reverse steps) (x ∷ []) (all_fit schema steps (All-tail (StepFits schema) x steps h)) (
+      tt,
+      All-head (StepFits schema) x steps h,
+    ))
 
 fit_all : (schema : SchemaValue) (steps : List WorldStep) → StepsFit schema steps → All (StepFits schema) (reverse steps)
 fit_all schema [] h = All-nil (StepFits schema)
@@ -39,21 +42,26 @@ fit_all schema (x ∷ older) h =
 again : (schema : SchemaValue) (steps : List WorldStep) → trace schema steps ≡ trace_by schema (reverse steps)
 again schema steps = ap (λ (l : List WorldStep). entries (world_of schema l)) (sym (reverse-reverse steps))
 
-taken_fit : (schema : SchemaValue) → IsSchema schema → (aim : Aim) (old steps : List WorldStep) (head : List ℕ) (first : Option ReachFault) → StepsFit schema old
-    → first ≡ reach_fault schema (trace schema old) aim.site aim.field aim.target → IsReached schema aim old first steps head → StepsFit schema (reverse steps)
+taken_fit : (schema : SchemaValue) → IsSchema schema → (aim : Aim) (old steps : List WorldStep) (head : List ℕ) (first : Option ReachFault)
+    → StepsFit schema old
+    → first ≡ reach_fault schema (trace schema old) aim.site aim.field aim.target → IsReached schema aim old first steps head
+    → StepsFit schema (reverse steps)
 taken_fit schema good aim old steps head None fit is reached =
     let clear : reach_fault schema (trace_by schema (reverse old)) aim.site aim.field aim.target ≡ None =
     ap (λ (t : List Entry). reach_fault schema t aim.site aim.field aim.target) (sym (again schema old)) ∙ sym is in
     subst (λ (l : List WorldStep). StepsFit schema (reverse l)) (sym reached.0)
     (all_fit schema (reach_steps schema (reverse old) aim.site aim.field aim.target)
     (all_reached schema good (reverse old) (fit_all schema old fit) aim.site aim.field aim.target clear).fit)
-taken_fit schema good aim old steps head (Some fault) fit is reached = subst (λ (l : List WorldStep). StepsFit schema (reverse l)) (sym reached.0) tt
+taken_fit schema good aim old steps head (Some fault) fit is reached =
+    subst (λ (l : List WorldStep). StepsFit schema (reverse l)) (sym reached.0) tt
 
-pub reach_fits : (schema : SchemaValue) → IsSchema schema → (line : List ℕ) (old steps : List WorldStep) (head : List ℕ) → StepsFit schema old
+pub reach_fits : (schema : SchemaValue) → IsSchema schema → (line : List ℕ) (old steps : List WorldStep) (head : List ℕ)
+    → StepsFit schema old
     → AsksReach schema line old steps head → StepsFit schema (reverse steps ++ old)
 reach_fits schema good line old steps head fit asks =
     fit_both schema (reverse steps) old
-    (taken_fit schema good asks.aim old steps head (reach_fault schema (trace schema old) asks.aim.site asks.aim.field asks.aim.target) fit refl asks.reached) fit
+    (taken_fit schema good asks.aim old steps head
+    (reach_fault schema (trace schema old) asks.aim.site asks.aim.field asks.aim.target) fit refl asks.reached) fit
 
 -- ---- they are the only ones
 
@@ -68,7 +76,8 @@ one_reason (Numbers site) word other a b = a ∙ sym b
 one_reason (Outside lo hi) word other a b = a ∙ sym b
 one_reason NoMemory word other a b = absurd a
 
-one_reached : (schema : SchemaValue) (aim : Aim) (old : List WorldStep) (first : Option ReachFault) (steps others : List WorldStep) (head other : List ℕ)
+one_reached : (schema : SchemaValue) (aim : Aim) (old : List WorldStep) (first : Option ReachFault) (steps others : List WorldStep)
+    (head other : List ℕ)
     → IsReached schema aim old first steps head → IsReached schema aim old first others other → (steps ≡ others) × (head ≡ other)
 one_reached schema aim old None steps others head other a b =
     let same : steps ≡ others = a.0 ∙ sym b.0 in
@@ -82,11 +91,13 @@ pub one_reach : (schema : SchemaValue) → IsSchema schema → (line : List ℕ)
 one_reach schema good line old steps others head other a b =
     let aims : a.aim ≡ b.aim = one_aim schema good line a.aim b.aim a.aims b.aims in
     one_reached schema b.aim old (reach_fault schema (trace schema old) b.aim.site b.aim.field b.aim.target) steps others head other
-    (subst (λ (x : Aim). IsReached schema x old (reach_fault schema (trace schema old) x.site x.field x.target) steps head) aims a.reached) b.reached
+    (subst (λ (x : Aim). IsReached schema x old (reach_fault schema (trace schema old) x.site x.field x.target) steps head) aims a.reached)
+    b.reached
 
 -- ---- they are those that a call answers
 
-pub explained : (fault : ReachFault) (first : Option ReachFault) (word : List ℕ) → Explains fault first → IsReason fault word → first ≡ Some fault
+pub explained : (fault : ReachFault) (first : Option ReachFault) (word : List ℕ) → Explains fault first → IsReason fault word
+    → first ≡ Some fault
 explained NoSite first word is reason = is
 explained NoField first word is reason = is
 explained (NotUp site) first word is reason = is
@@ -98,7 +109,8 @@ explained (Outside lo hi) first word is reason = is
 explained NoMemory first word is reason = absurd reason
 
 pub asks_reach : (w : WorldValue) (line : List ℕ) (aim : Aim) (steps : List WorldStep) (head : List ℕ) → Aims w.schema line aim
-    → reach_fault w.schema (trace_of w) aim.site aim.field aim.target ≡ None → steps ≡ reach_steps w.schema w.steps aim.site aim.field aim.target
+    → reach_fault w.schema (trace_of w) aim.site aim.field aim.target ≡ None
+    → steps ≡ reach_steps w.schema w.steps aim.site aim.field aim.target
     → head ≡ line ++ codes " -> steps " ++ decimal (length steps) → AsksSteps w.schema line (reverse w.steps) steps head
 asks_reach w line aim steps head aims clear are is = inr (record {
   aim = aim;
@@ -115,8 +127,9 @@ pub asks_in_vain : (w : WorldValue) (line : List ℕ) (aim : Aim) (fault : Reach
 asks_in_vain w line aim fault word aims is reason = inr (record {
   aim = aim;
   aims = aims;
-  reached = subst (λ (o : Option ReachFault). IsReached w.schema aim (reverse w.steps) o [] (line ++ codes " -> no " ++ word)) (sym (explained fault (reach_fault w.schema (trace_of w) aim.site aim.field aim.target) word is reason)) (
-    refl,
-    (word, reason, ap (λ (l : List ℕ). l ++ codes " -> no " ++ word) aims.text),
-  );
+  reached = subst (λ (o : Option ReachFault). IsReached w.schema aim (reverse w.steps) o [] (line ++ codes " -> no " ++ word))
+      (sym (explained fault (reach_fault w.schema (trace_of w) aim.site aim.field aim.target) word is reason)) (
+        refl,
+        (word, reason, ap (λ (l : List ℕ). l ++ codes " -> no " ++ word) aims.text),
+      );
 })

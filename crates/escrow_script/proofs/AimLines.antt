@@ -28,24 +28,32 @@ use Rattle.escrow_script.proofs.LuckLemmas.{no_digit}
 
 -- ---- it is read as it is spelled
 
-aim_takes : (schema : SchemaValue) → IsSchema schema → (ws : List (List ℕ)) (v : Aim) (rest : List (List ℕ)) → aim_at schema ws ≡ found v rest → AimFits v × (ws ≡ aim_words schema v ++ rest)
+aim_takes : (schema : SchemaValue) → IsSchema schema → (ws : List (List ℕ)) (v : Aim) (rest : List (List ℕ))
+    → aim_at schema ws ≡ found v rest → AimFits v × (ws ≡ aim_words schema v ++ rest)
 unfolding aim_at
 aim_takes schema is ws v rest e =
     taking (only_read (codes "reach") refl) _ ws _ e (λ u1 r1 f1 w1 e1.
     taking site_read _ r1 _ e1 (λ site r2 f2 w2 e2.
     taking (field_read schema is) _ r2 _ e2 (λ field r3 f3 w3 e3.
     taking signed_read _ r3 _ e3 (λ target r4 f4 w4 e4.
-    made_of AimFits (aim_words schema) ws (record { site = site; field = field; target = target }) v r4 rest e4 (f2, f3, f4) (cc (w1, w2, w3, w4))))))
+    made_of AimFits (aim_words schema) ws (record { site = site; field = field; target = target }) v r4 rest e4 (f2, f3, f4)
+    (cc (w1, w2, w3, w4))))))
 
-aim_again : (schema : SchemaValue) → IsSchema schema → (v : Aim) (rest : List (List ℕ)) → AimFits v → aim_at schema (aim_words schema v ++ rest) ≡ found v rest
+aim_again : (schema : SchemaValue) → IsSchema schema → (v : Aim) (rest : List (List ℕ)) → AimFits v
+    → aim_at schema (aim_words schema v ++ rest) ≡ found v rest
 unfolding aim_at
 aim_again schema is v rest fits =
     word_again (only_read (codes "reach") refl) _ tt _ tt ∙ word_again site_read _ v.site _ fits.0
     ∙ word_again (field_read schema is) _ v.field _ fits.1 ∙ word_again signed_read _ v.target _ fits.2
 
 aim_plain : (schema : SchemaValue) → IsSchema schema → (v : Aim) → AimFits v → AllByRecursion IsWord (aim_words schema v)
-aim_plain schema is v fits =
-    (word_from_test (codes "reach") refl, (site_read.plain v.site fits.0, ((field_read schema is).plain v.field fits.1, (signed_read.plain v.target fits.2, tt))))
+aim_plain schema is v fits = (
+  word_from_test (codes "reach") refl,
+  (
+    site_read.plain v.site fits.0,
+    ((field_read schema is).plain v.field fits.1, (signed_read.plain v.target fits.2, tt)),
+  ),
+)
 
 aim_form : (schema : SchemaValue) → IsSchema schema → IsForm AimFits (aim_words schema) (aim_at schema)
 aim_form schema is = record { takes = aim_takes schema is; again = aim_again schema is; plain = aim_plain schema is }
@@ -67,9 +75,11 @@ aim_says schema is bytes r e = record {
   only = λ v fits h. e ∙ ap (aim_of schema) h ∙ aim_only schema is v fits;
 }
 
-pub one_aim : (schema : SchemaValue) → IsSchema schema → (line : List ℕ) (aim other : Aim) → Aims schema line aim → Aims schema line other → aim ≡ other
+pub one_aim : (schema : SchemaValue) → IsSchema schema → (line : List ℕ) (aim other : Aim) → Aims schema line aim → Aims schema line other
+    → aim ≡ other
 one_aim schema is line aim other a b =
-    same_Some aim other (sym (aim_only schema is aim a.numbers) ∙ ap (aim_of schema) (sym a.text ∙ b.text) ∙ aim_only schema is other b.numbers)
+    same_Some aim other (sym (aim_only schema is aim a.numbers) ∙ ap (aim_of schema) (sym a.text ∙ b.text)
+    ∙ aim_only schema is other b.numbers)
 
 -- ---- it asks no step, and levels no field
 
@@ -87,5 +97,6 @@ asks_no_reach schema line step aim asks aims = no_reach schema step aim asks.num
 no_levelling : (schema : SchemaValue) (field : FieldNo) (kind : Kind) (aim : Aim) → level_text schema field kind ≡ reach_text schema aim → ⊥
 no_levelling schema field kind aim e = absurd (omega (arith, head_is _ _ _ _ e))
 
-pub levels_no_reach : (schema : SchemaValue) (line : List ℕ) (field : FieldNo) (kind : Kind) (aim : Aim) → Levels schema line field kind → Aims schema line aim → ⊥
+pub levels_no_reach : (schema : SchemaValue) (line : List ℕ) (field : FieldNo) (kind : Kind) (aim : Aim) → Levels schema line field kind
+    → Aims schema line aim → ⊥
 levels_no_reach schema line field kind aim levels aims = no_levelling schema field kind aim (sym levels.text ∙ aims.text)

@@ -20,11 +20,13 @@ abbrev with_steps : WorldValue → List WorldStep → WorldValue
 with_steps world steps = record world { steps = world.steps ++ steps }
 
 -- the entry that a step made answers it
-pub made_reply : (old new : WorldValue) (step : WorldStep) (entry : Entry) → new ≡ with_steps old (step ∷ []) → Answers (Made entry) old step new
+pub made_reply : (old new : WorldValue) (step : WorldStep) (entry : Entry) → new ≡ with_steps old (step ∷ [])
+    → Answers (Made entry) old step new
     → IsReply old.schema (reverse old.steps) step (line_text (entry_text old.schema entry))
 made_reply old new step entry taken grows = inl (
   entry,
-  ap (λ (l : List WorldStep). trace old.schema l) (sym (reverse-append old.steps (step ∷ []))) ∙ ap (λ (w : WorldValue). entries (lucky_trace w)) (sym taken) ∙ ap entries grows,
+  ap (λ (l : List WorldStep). trace old.schema l) (sym (reverse-append old.steps (step ∷ [])))
+      ∙ ap (λ (w : WorldValue). entries (lucky_trace w)) (sym taken) ∙ ap entries grows,
   refl,
 )
 
@@ -33,7 +35,8 @@ pub missed_reply : (old new : WorldValue) (step : WorldStep) → Answers NoState
     → IsReply old.schema (reverse old.steps) step (line_text (remark_text old.schema step))
 missed_reply old new step missed = inr (missed.0, refl)
 
-pub took_one : (old new : WorldValue) (step : WorldStep) (out grown reply : List ℕ) → new ≡ with_steps old (step ∷ []) → IsReply old.schema (reverse old.steps) step reply
+pub took_one : (old new : WorldValue) (step : WorldStep) (out grown reply : List ℕ) → new ≡ with_steps old (step ∷ [])
+    → IsReply old.schema (reverse old.steps) step reply
     → grown ≡ out ++ reply → HasTaken (step ∷ []) old new out grown
 took_one old new step out grown reply taken is written = record {
   replies = reply;
@@ -53,19 +56,29 @@ took_none old out = record {
 }
 
 replies_more : (schema : SchemaValue) (earlier steps : List WorldStep) (step : WorldStep) (front last : List ℕ)
-    → AreReplies schema earlier (reverse steps) front → IsReply schema (reverse steps ++ earlier) step last → AreReplies schema earlier (reverse (steps ++ step ∷ [])) (front ++ last)
+    → AreReplies schema earlier (reverse steps) front → IsReply schema (reverse steps ++ earlier) step last
+    → AreReplies schema earlier (reverse (steps ++ step ∷ [])) (front ++ last)
 replies_more schema earlier steps step front last before is =
-    subst (λ (l : List WorldStep). AreReplies schema earlier l (front ++ last)) (sym (reverse-append steps (step ∷ []))) (front, last, before, is, refl)
+    subst (λ (l : List WorldStep). AreReplies schema earlier l (front ++ last)) (sym (reverse-append steps (step ∷ []))) (
+      front,
+      last,
+      before,
+      is,
+      refl,
+    )
 
-only_reply : (schema : SchemaValue) (earlier : List WorldStep) (step : WorldStep) (reply : List ℕ) → AreReplies schema earlier (step ∷ []) reply → IsReply schema earlier step reply
+only_reply : (schema : SchemaValue) (earlier : List WorldStep) (step : WorldStep) (reply : List ℕ)
+    → AreReplies schema earlier (step ∷ []) reply → IsReply schema earlier step reply
 only_reply schema earlier step reply answered =
     let (front, last, none, is, all) = answered in
     subst (IsReply schema earlier step) (sym (all ∙ ap (λ (l : List ℕ). l ++ last) none)) is
 
 pub took_more : (steps : List WorldStep) (step : WorldStep) (old middle new : WorldValue) (out between grown : List ℕ)
-    → HasTaken steps old middle out between → HasTaken (step ∷ []) middle new between grown → HasTaken (steps ++ step ∷ []) old new out grown
+    → HasTaken steps old middle out between → HasTaken (step ∷ []) middle new between grown
+    → HasTaken (steps ++ step ∷ []) old new out grown
 took_more steps step old middle new out between grown before last =
-    let after : HasTaken (step ∷ []) (with_steps old steps) new between grown = subst (λ (w : WorldValue). HasTaken (step ∷ []) w new between grown) before.taken last in
+    let after : HasTaken (step ∷ []) (with_steps old steps) new between grown =
+    subst (λ (w : WorldValue). HasTaken (step ∷ []) w new between grown) before.taken last in
     let is : IsReply old.schema (reverse steps ++ reverse old.steps) step after.replies =
     subst (λ (l : List WorldStep). IsReply old.schema l step after.replies) (reverse-append old.steps steps)
     (only_reply old.schema (reverse (old.steps ++ steps)) step after.replies after.answered) in
@@ -78,21 +91,27 @@ took_more steps step old middle new out between grown before last =
 
 -- the next of many steps
 pub took_next : (steps : List WorldStep) (i : ℕ) (d step : WorldStep) (old middle new : WorldValue) (out between grown : List ℕ)
-    → i < length steps → step ≡ get_or steps i d → HasTaken (take i steps) old middle out between → HasTaken (step ∷ []) middle new between grown
+    → i < length steps → step ≡ get_or steps i d → HasTaken (take i steps) old middle out between
+    → HasTaken (step ∷ []) middle new between grown
     → HasTaken (take (i + 1) steps) old new out grown
 took_next steps i d step old middle new out between grown below is before last =
     let all : take (i + 1) steps ≡ take i steps ++ step ∷ [] =
     take_more steps i d below ∙ ap (λ (s : WorldStep). take i steps ++ s ∷ []) (sym is) in
-    subst (λ (l : List WorldStep). HasTaken l old new out grown) (sym all) (took_more (take i steps) step old middle new out between grown before last)
+    subst (λ (l : List WorldStep). HasTaken l old new out grown) (sym all)
+    (took_more (take i steps) step old middle new out between grown before last)
 
 -- the gift of the next move of a plan
-pub took_gift : (gift : Move → WorldStep) (plan : List Move) (i : ℕ) (d : Move) (step : WorldStep) (old middle new : WorldValue) (out between grown : List ℕ)
-    → i < length plan → step ≡ gift (get_or plan i d) → HasTaken (map gift (take i plan)) old middle out between → HasTaken (step ∷ []) middle new between grown
+pub took_gift : (gift : Move → WorldStep) (plan : List Move) (i : ℕ) (d : Move) (step : WorldStep) (old middle new : WorldValue)
+    (out between grown : List ℕ)
+    → i < length plan → step ≡ gift (get_or plan i d) → HasTaken (map gift (take i plan)) old middle out between
+    → HasTaken (step ∷ []) middle new between grown
     → HasTaken (map gift (take (i + 1) plan)) old new out grown
 took_gift gift plan i d step old middle new out between grown below is before last =
     let all : map gift (take (i + 1) plan) ≡ map gift (take i plan) ++ step ∷ [] =
-    ap (map gift) (take_more plan i d below) ∙ map-append gift (take i plan) (get_or plan i d ∷ []) ∙ ap (λ (s : WorldStep). map gift (take i plan) ++ s ∷ []) (sym is) in
-    subst (λ (l : List WorldStep). HasTaken l old new out grown) (sym all) (took_more (map gift (take i plan)) step old middle new out between grown before last)
+    ap (map gift) (take_more plan i d below) ∙ map-append gift (take i plan) (get_or plan i d ∷ [])
+    ∙ ap (λ (s : WorldStep). map gift (take i plan) ++ s ∷ []) (sym is) in
+    subst (λ (l : List WorldStep). HasTaken l old new out grown) (sym all)
+    (took_more (map gift (take i plan)) step old middle new out between grown before last)
 
 -- ---- a line
 
@@ -103,12 +122,15 @@ take_twice (suc n) (suc m) [] h = refl
 take_twice (suc n) (suc m) (x ∷ xs) h = ap (λ (l : List ℕ). x ∷ l) (take_twice n m xs (omega arith))
 
 -- what is cut back to a front is cut back to a front of that
-pub front_stays : (out more between grown : List ℕ) → between ≡ out ++ more → take (length between) grown ≡ between → take (length out) grown ≡ out
+pub front_stays : (out more between grown : List ℕ) → between ≡ out ++ more → take (length between) grown ≡ between
+    → take (length out) grown ≡ out
 front_stays out more between grown is front =
     let longer : length out + length more ≡ length between = sym (length-append out more) ∙ ap (λ (l : List ℕ). length l) (sym is) in
-    sym (take_twice (length out) (length between) grown (omega (arith, longer))) ∙ ap (take (length out)) (front ∙ is) ∙ take-append_seam out more
+    sym (take_twice (length out) (length between) grown (omega (arith, longer))) ∙ ap (take (length out)) (front ∙ is)
+    ∙ take-append_seam out more
 
-pub answered_bad : (line : List ℕ) (old : WorldValue) (out grown : List ℕ) → IsBad old.schema line → grown ≡ out ++ line_text (codes "bad line") → Answered line old old out grown
+pub answered_bad : (line : List ℕ) (old : WorldValue) (out grown : List ℕ) → IsBad old.schema line
+    → grown ≡ out ++ line_text (codes "bad line") → Answered line old old out grown
 answered_bad line old out grown bad written = record {
   text = line_text (codes "bad line");
   schema = refl;

@@ -35,5 +35,6 @@ pub writes_again : (first last : ScriptFault) (before middle after : ℕ) → fi
 writes_again first last before middle after other none is one =
     subst (λ f. CountsWrite f middle after) is one ∙ ap one_more (none_refused first before middle other none)
 
-pub writes_other : (fault : ScriptFault) (before middle after : ℕ) → CountsWrite fault before middle → after ≡ middle → CountsWrite fault before after
+pub writes_other : (fault : ScriptFault) (before middle after : ℕ) → CountsWrite fault before middle → after ≡ middle
+    → CountsWrite fault before after
 writes_other fault before middle after counts same = subst (CountsWrite fault before) (sym same) counts

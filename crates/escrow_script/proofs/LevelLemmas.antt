@@ -50,13 +50,15 @@ from_among : (f g : ℕ → ℕ) (n from to : ℕ) → from < n → to ≤ n →
 unfolding moves_from
 from_among f g n from zero p q = tt
 from_among f g n from (suc to) p q =
-    all_both (IsAmong n) (moves_from f g from to) (pair_moves f g from to) (from_among f g n from to p (omega arith)) (pair_among f g n from to p (omega arith))
+    all_both (IsAmong n) (moves_from f g from to) (pair_moves f g from to) (from_among f g n from to p (omega arith))
+    (pair_among f g n from to p (omega arith))
 
 before_among : (f g : ℕ → ℕ) (n from : ℕ) → from ≤ n → AllByRecursion (IsAmong n) (moves_before f g n from)
 unfolding moves_before
 before_among f g n zero p = tt
 before_among f g n (suc from) p =
-    all_both (IsAmong n) (moves_before f g n from) (moves_from f g from n) (before_among f g n from (omega arith)) (from_among f g n from n (omega arith) (omega arith))
+    all_both (IsAmong n) (moves_before f g n from) (moves_from f g from n) (before_among f g n from (omega arith))
+    (from_among f g n from n (omega arith) (omega arith))
 
 plan_among : (xs : List ℕ) → AllByRecursion (IsAmong (length xs)) (even_plan xs)
 unfolding even_plan
@@ -87,15 +89,19 @@ pub fit_both : (schema : SchemaValue) (xs ys : List WorldStep) → StepsFit sche
 fit_both schema [] ys h k = k
 fit_both schema (x ∷ xs) ys h k = (fit_both schema xs ys h.0 k, h.1)
 
-moves_fit : (schema : SchemaValue) (sites : List SiteNo) (field : FieldNo) (kind : Kind) (ms : List Move) → All (λ (site : SiteNo). site.0 < schema.sites) sites
+moves_fit : (schema : SchemaValue) (sites : List SiteNo) (field : FieldNo) (kind : Kind) (ms : List Move)
+    → All (λ (site : SiteNo). site.0 < schema.sites) sites
     → AllByRecursion (IsAmong (length sites)) ms → StepsFit schema (reverse (map (gift_of sites field kind) ms))
 moves_fit schema sites field kind [] within among = tt
 moves_fit schema sites field kind (m ∷ ms) within among =
-    subst (λ (l : List WorldStep). StepsFit schema l) (sym (reverse-append (gift_of sites field kind m ∷ []) (map (gift_of sites field kind) ms)))
-    (fit_both schema (reverse (map (gift_of sites field kind) ms)) (gift_of sites field kind m ∷ []) (moves_fit schema sites field kind ms within among.1)
+    subst (λ (l : List WorldStep). StepsFit schema l)
+    (sym (reverse-append (gift_of sites field kind m ∷ []) (map (gift_of sites field kind) ms)))
+    (fit_both schema (reverse (map (gift_of sites field kind) ms)) (gift_of sites field kind m ∷ [])
+    (moves_fit schema sites field kind ms within among.1)
     (tt, gift_fits schema sites field kind m within among.0.0))
 
-gifts_fit : (schema : SchemaValue) (t : List Entry) (sites : List SiteNo) (field : FieldNo) (kind : Kind) → All (λ (site : SiteNo). site.0 < schema.sites) sites
+gifts_fit : (schema : SchemaValue) (t : List Entry) (sites : List SiteNo) (field : FieldNo) (kind : Kind)
+    → All (λ (site : SiteNo). site.0 < schema.sites) sites
     → StepsFit schema (reverse (gifts_among schema t sites field kind))
 gifts_fit schema t sites field kind within =
     let held : List ℕ = map (free_at schema t field kind) sites in
@@ -106,7 +112,8 @@ gifts_fit schema t sites field kind within =
 pub level_fits : (schema : SchemaValue) (t : List Entry) (field : FieldNo) (kind : Kind) (old : List WorldStep)
     → StepsFit schema old → StepsFit schema (reverse (level_gifts schema t field kind) ++ old)
 level_fits schema t field kind old fit =
-    fit_both schema (reverse (level_gifts schema t field kind)) old (gifts_fit schema t (sites_up schema t schema.sites) field kind (sites_in schema t)) fit
+    fit_both schema (reverse (level_gifts schema t field kind)) old
+    (gifts_fit schema t (sites_up schema t schema.sites) field kind (sites_in schema t)) fit
 
 -- the moves that a plan lists are among the sites whose shares it evens
 pub planned_among : (sites : List SiteNo) (held : List ℕ) (ms : List Move) → length held ≡ length sites → ms ≡ even_plan held
@@ -116,7 +123,8 @@ planned_among sites held ms same plan =
     (subst (λ (l : List Move). All (IsAmong (length held)) l) (sym plan) (All-from_recursion _ (even_plan held) (plan_among held)))
 
 -- gifts by the plan of the shares of the sites that are up
-pub gifts_are : (schema : SchemaValue) (t : List Entry) (field : FieldNo) (kind : Kind) (sites : List SiteNo) (held : List ℕ) (ms : List Move)
+pub gifts_are : (schema : SchemaValue) (t : List Entry) (field : FieldNo) (kind : Kind) (sites : List SiteNo) (held : List ℕ)
+    (ms : List Move)
     → sites ≡ sites_up schema t schema.sites → held ≡ map (free_at schema t field kind) sites → ms ≡ even_plan held
     → map (gift_of sites field kind) ms ≡ level_gifts schema t field kind
 gifts_are schema t field kind sites held ms up shares plan =
@@ -126,7 +134,8 @@ gifts_are schema t field kind sites held ms up shares plan =
 
 -- what a site is told to have free, by whether it is up and whether the field is past the schema
 told_by : (up past : Bool) (x : ℕ × ℕ) → past ≡ false
-    → ◌≡◌ {A = Option (ℕ × ℕ)} (if is_none (first (when (not up) Down ∷ when past NoField ∷ [])) then Some x else None) (if up then Some x else None)
+    → ◌≡◌ {A = Option (ℕ × ℕ)} (if is_none (first (when (not up) Down ∷ when past NoField ∷ [])) then Some x else None)
+    (if up then Some x else None)
 told_by true true x in_schema = cc
 told_by true false x in_schema = refl
 told_by false past x in_schema = refl
@@ -135,7 +144,8 @@ told_by false past x in_schema = refl
 abbrev pub IsTold : SchemaValue → List Entry → FieldNo → ℕ → Option (ℕ × ℕ) → Type 0
 IsTold schema t field s told =
     told ≡ (if is_up (fresh schema s) (own s t)
-    then Some (share (fresh schema s) field.0 Lower (at_site schema t s), share (fresh schema s) field.0 Raise (at_site schema t s)) else None)
+    then Some (share (fresh schema s) field.0 Lower (at_site schema t s), share (fresh schema s) field.0 Raise (at_site schema t s))
+    else None)
 
 pub is_told : (schema : SchemaValue) (t : List Entry) (field : FieldNo) (s : ℕ) (told : Option (ℕ × ℕ)) → field.0 < length schema.fields
     → told ≡ shares_of (place schema s (fresh schema s) (own s t)) field → IsTold schema t field s told
@@ -153,7 +163,8 @@ some_more true x y s sites told = (same_Some y x told, refl)
 some_more false x y s sites told = cc
 
 -- a site that is down takes no part
-pub up_same : (schema : SchemaValue) (t : List Entry) (field : FieldNo) (s : ℕ) → IsTold schema t field s None → sites_up schema t s ≡ sites_up schema t (suc s)
+pub up_same : (schema : SchemaValue) (t : List Entry) (field : FieldNo) (s : ℕ) → IsTold schema t field s None
+    → sites_up schema t s ≡ sites_up schema t (suc s)
 up_same schema t field s told = none_more (is_up (fresh schema s) (own s t)) _ s (sites_up schema t s) told
 
 -- a site that is up does
@@ -162,17 +173,24 @@ pub up_more : (schema : SchemaValue) (t : List Entry) (field : FieldNo) (s lower
 up_more schema t field s lower raise told = (some_more (is_up (fresh schema s) (own s t)) _ (lower, raise) s (sites_up schema t s) told).1
 
 -- the sites with one more
-pub up_pushed : (old new before after : List SiteNo) (site : SiteNo) → new ≡ old ++ site ∷ [] → old ≡ before → before ++ site ∷ [] ≡ after → new ≡ after
+pub up_pushed : (old new before after : List SiteNo) (site : SiteNo) → new ≡ old ++ site ∷ [] → old ≡ before → before ++ site ∷ [] ≡ after
+    → new ≡ after
 up_pushed old new before after site push is more = push ∙ ap (λ (l : List SiteNo). l ++ site ∷ []) is ∙ more
 
 both_told : (schema : SchemaValue) (t : List Entry) (field : FieldNo) (s lower raise : ℕ) → IsTold schema t field s (Some (lower, raise))
-    → ◌≡◌ {A = ℕ × ℕ} (lower, raise) (share (fresh schema s) field.0 Lower (at_site schema t s), share (fresh schema s) field.0 Raise (at_site schema t s))
+    → ◌≡◌ {A = ℕ × ℕ} (lower, raise) (
+      share (fresh schema s) field.0 Lower (at_site schema t s),
+      share (fresh schema s) field.0 Raise (at_site schema t s),
+    )
 both_told schema t field s lower raise told = (some_more (is_up (fresh schema s) (own s t)) _ (lower, raise) s [] told).0
 
-pub share_told : (schema : SchemaValue) (t : List Entry) (field : FieldNo) (kind : Kind) (s lower raise free : ℕ) → IsTold schema t field s (Some (lower, raise))
+pub share_told : (schema : SchemaValue) (t : List Entry) (field : FieldNo) (kind : Kind) (s lower raise free : ℕ)
+    → IsTold schema t field s (Some (lower, raise))
     → (kind ≡ Lower → free ≡ lower) → (kind ≡ Raise → free ≡ raise) → free ≡ free_at schema t field kind (record { 0 = s })
-share_told schema t field Lower s lower raise free told low high = low refl ∙ ap (λ (x : ℕ × ℕ). x.0) (both_told schema t field s lower raise told)
-share_told schema t field Raise s lower raise free told low high = high refl ∙ ap (λ (x : ℕ × ℕ). x.1) (both_told schema t field s lower raise told)
+share_told schema t field Lower s lower raise free told low high =
+    low refl ∙ ap (λ (x : ℕ × ℕ). x.0) (both_told schema t field s lower raise told)
+share_told schema t field Raise s lower raise free told low high =
+    high refl ∙ ap (λ (x : ℕ × ℕ). x.1) (both_told schema t field s lower raise told)
 
 -- the shares with one more site's
 pub shares_more : (f : SiteNo → ℕ) (sites : List SiteNo) (shares : List ℕ) (site : SiteNo) (free : ℕ) → shares ≡ map f sites → free ≡ f site
@@ -187,13 +205,15 @@ width_few : (floor value ceiling : ℤ) → neg_ℤ (pos max_quantity) ≤ℤ fl
     → unsigned_abs (ceiling -ℤ floor) ≤ 2_000_000_000_000_000
 width_few floor value ceiling least low high most = omega (arith, ints, least, low, high, most)
 
-field_few : (schema : SchemaValue) → IsSchema schema → (f : ℕ) → f < length schema.fields → width_of (field_at schema f) ≤ 2_000_000_000_000_000
+field_few : (schema : SchemaValue) → IsSchema schema → (f : ℕ) → f < length schema.fields
+    → width_of (field_at schema f) ≤ 2_000_000_000_000_000
 field_few schema good f known =
     let of : IsField (field_at schema f) = All-from_recursion IsField schema.fields good.each f no_field known in
     width_few (field_at schema f).floor (field_at schema f).value (field_at schema f).ceiling of.least of.floor of.ceiling of.most
 
 pub share_few : (schema : SchemaValue) → IsSchema schema → (f : ℕ) → f < length schema.fields → (kind : Kind) (lower raise free : ℕ)
-    → lower + raise ≤ width_of (field_at schema f) → (kind ≡ Lower → free ≡ lower) → (kind ≡ Raise → free ≡ raise) → free ≤ 2_000_000_000_000_000
+    → lower + raise ≤ width_of (field_at schema f) → (kind ≡ Lower → free ≡ lower) → (kind ≡ Raise → free ≡ raise)
+    → free ≤ 2_000_000_000_000_000
 share_few schema good f known Lower lower raise free within low high = omega (arith, field_few schema good f known, low refl)
 share_few schema good f known Raise lower raise free within low high = omega (arith, field_few schema good f known, high refl)
 
@@ -203,7 +223,8 @@ sum_within shares free s few small = omega (arith, sum_by_push (λ (y : ℕ). y)
 
 -- ---- the line asks the gifts of the plan
 
-pub asks_level : (w : WorldValue) (line : List ℕ) (field : FieldNo) (kind : Kind) (gifts : List WorldStep) (count : ℕ) → Levels w.schema line field kind
+pub asks_level : (w : WorldValue) (line : List ℕ) (field : FieldNo) (kind : Kind) (gifts : List WorldStep) (count : ℕ)
+    → Levels w.schema line field kind
     → gifts ≡ level_gifts w.schema (trace_of w) field kind → count ≡ length gifts
     → AsksSteps w.schema line (reverse w.steps) gifts (line ++ codes " -> moves " ++ decimal count)
 asks_level w line field kind gifts count levels are many = inl (record {
@@ -211,5 +232,6 @@ asks_level w line field kind gifts count levels are many = inl (record {
   kind = kind;
   levels = levels;
   steps_are = are;
-  head_is = ap (λ (l : List ℕ). l ++ codes " -> moves " ++ decimal count) levels.text ∙ ap (λ (n : ℕ). moves_text w.schema field kind n) many;
+  head_is = ap (λ (l : List ℕ). l ++ codes " -> moves " ++ decimal count) levels.text
+      ∙ ap (λ (n : ℕ). moves_text w.schema field kind n) many;
 })

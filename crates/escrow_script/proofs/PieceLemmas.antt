@@ -32,13 +32,22 @@ Stops-weaker (Header e) read s before after P Q f stops = record {
   );
   text = stops.text;
 }
-Stops-weaker Read read s before after P Q f stops = record { front = stops.front; back = stops.back; parts = stops.parts; why = stops.why; text = stops.text }
-Stops-weaker TooLong read s before after P Q f stops = record { front = stops.front; back = stops.back; parts = stops.parts; why = stops.why; text = stops.text }
-Stops-weaker Write read s before after P Q f stops = record { front = stops.front; back = stops.back; parts = stops.parts; why = stops.why; text = stops.text }
-Stops-weaker NoMemory read s before after P Q f stops = record { front = stops.front; back = stops.back; parts = stops.parts; why = stops.why; text = stops.text }
+Stops-weaker Read read s before after P Q f stops =
+    record { front = stops.front; back = stops.back; parts = stops.parts; why = stops.why; text = stops.text }
+Stops-weaker TooLong read s before after P Q f stops =
+    record { front = stops.front; back = stops.back; parts = stops.parts; why = stops.why; text = stops.text }
+Stops-weaker Write read s before after P Q f stops =
+    record { front = stops.front; back = stops.back; parts = stops.parts; why = stops.why; text = stops.text }
+Stops-weaker NoMemory read s before after P Q f stops =
+    record { front = stops.front; back = stops.back; parts = stops.parts; why = stops.why; text = stops.text }
 
-leaves : (read : List ℕ) (s : Script) (before after : Option (List ℕ)) → At read s before after → Leaves before after s.out.items (whole_lines read)
-leaves read s before after at = (at.written, at.appended, IsTextOf-stands s.machine (whole_lines read) (at.written ++ s.out.items) at.stands)
+leaves : (read : List ℕ) (s : Script) (before after : Option (List ℕ)) → At read s before after
+    → Leaves before after s.out.items (whole_lines read)
+leaves read s before after at = (
+  at.written,
+  at.appended,
+  IsTextOf-stands s.machine (whole_lines read) (at.written ++ s.out.items) at.stands,
+)
 
 pub Stops-read : (read : List ℕ) (s : Script) (before after : Option (List ℕ)) (ended : Type 0)
     → At read s before after → Stops Read read s before after ended
@@ -128,7 +137,8 @@ module _ (from middle to before written after : Option (List ℕ)) (old new : Sc
         Consumes-trans from middle to stands.read (take n buf) stands.consumed consumed,
         Stops-along TooLong (stands.read ++ (piece ++ rest)) (stands.read ++ take n buf) new before after (HasEndedAt to ended)
             (ap (λ l. stands.read ++ l) (split_piece n k buf piece e (omega arith)))
-            (Stops-past stands.read piece rest new before after (HasEndedAt to ended) (omega (arith, size, full, stands.count)) (rest_some n k buf h fits)
+            (Stops-past stands.read piece rest new before after (HasEndedAt to ended) (omega (arith, size, full, stands.count))
+            (rest_some n k buf h fits)
             (goes stands.read before (At-written stands.read old wrote before written wrote_to stands.at step appended))),
       )
 
@@ -152,7 +162,8 @@ Stands-start from before s fresh = record {
   within = omega arith;
 }
 
-pub Stops-memory : (from before : Option (List ℕ)) (s : Script) (ended : End) → IsFresh s → StopsAfter from from before before s ended NoMemory
+pub Stops-memory : (from before : Option (List ℕ)) (s : Script) (ended : End) → IsFresh s
+    → StopsAfter from from before before s ended NoMemory
 Stops-memory from before s ended fresh = (
   [],
   Consumes-nil from,
@@ -203,7 +214,8 @@ AppendsFront-after before middle after written out wrote front = (
 
 -- the last write failed after a run that was through
 -- what is said where a call ends by a write fault
-pub on_write : {T : Type 0} (r : Result T ScriptFault) (P : Type 0) (Q : ScriptFault → Type 0) → (P → Q Write) → IfErr r (λ fault. fault ≡ Write) → OnErr r P → IfErr r Q
+pub on_write : {T : Type 0} (r : Result T ScriptFault) (P : Type 0) (Q : ScriptFault → Type 0) → (P → Q Write)
+    → IfErr r (λ fault. fault ≡ Write) → OnErr r P → IfErr r Q
 on_write (Ok x) P Q f is p = tt
 on_write (Err fault) P Q f is p = subst Q (sym is) (f p)
 

@@ -20,7 +20,8 @@ use Rattle.escrow_script.specs.Run.{At, HasKept, CannotKeep, HasEnded, CannotEnd
 use Rattle.script_input.proofs.LineLemmas.{whole_lines-unbroken, last_part-unbroken, whole_lines-broken, last_part-broken, last_part_after-none, last_line-some, with_header-last, with_header-some}
 use Rattle.escrow_script.proofs.TextLemmas.{StandsFor-next, StandsFor-more, with_piece-kept}
 
-StandsFor-along : (m n : Option Machine) (ks ls : List (List ℕ)) (s t : List ℕ) → m ≡ n → ks ≡ ls → s ≡ t → IsAfterLines m ks s → IsAfterLines n ls t
+StandsFor-along : (m n : Option Machine) (ks ls : List (List ℕ)) (s t : List ℕ) → m ≡ n → ks ≡ ls → s ≡ t → IsAfterLines m ks s
+    → IsAfterLines n ls t
 StandsFor-along m n ks ls s t em el et stands =
     subst (λ x. IsAfterLines x ls t) em (subst (λ x. IsAfterLines m x t) el (subst (λ x. IsAfterLines m ks x) et stands))
 
@@ -37,7 +38,8 @@ At-kept read piece old new before after unbroken at step =
       appended = at.appended;
       stands = StandsFor-along _ _ _ _ _ _ (sym step.machine) (sym same) (ap (λ l. at.written ++ l) (sym step.out)) at.stands;
       line = step.line ∙ ap (λ l. with_piece old.machine l piece) at.line ∙ with_piece-kept old.machine (last_part read) piece
-          ∙ ap (line_held old.machine) (sym (last_part-unbroken read piece unbroken)) ∙ ap (λ m. line_held m (last_part (read ++ piece))) (sym step.machine);
+          ∙ ap (line_held old.machine) (sym (last_part-unbroken read piece unbroken))
+          ∙ ap (λ m. line_held m (last_part (read ++ piece))) (sym step.machine);
       lines = step.lines ∙ at.lines ∙ ap length (sym same);
     }
 
@@ -69,7 +71,8 @@ At-ended read old new before after at step =
     record {
       written = at.written;
       appended = at.appended;
-      stands = subst (λ ls. IsAfterLines new.machine ls (at.written ++ new.out.items)) (sym more) (Ended-stands read old new before after at step);
+      stands = subst (λ ls. IsAfterLines new.machine ls (at.written ++ new.out.items)) (sym more)
+          (Ended-stands read old new before after at step);
       line = step.line ∙ sym (ap (line_held new.machine) (last_part-broken read) ∙ kept-nil new.machine);
       lines = step.lines ∙ ap (λ n. n + 1) at.lines ∙ sym (length_push (whole_lines read) (last_part read)) ∙ ap length (sym more);
     }
@@ -209,7 +212,8 @@ last_lines (Some m) wl lp text stands not_both =
 Completes-stands : (m : Option Machine) (lines : List (List ℕ)) (before after : Option (List ℕ)) (written out : List ℕ) → IsSome m
     → Appends before after written → IsAfterLines m lines (written ++ out) → Completes before after out lines
 Completes-stands None lines before after written out some appended stands = cc
-Completes-stands (Some m) lines before after written out some appended stands = (m.world.schema, (reverse m.world.steps, (written, appended, stands)))
+Completes-stands (Some m) lines before after written out some appended stands =
+    (m.world.schema, (reverse m.world.steps, (written, appended, stands)))
 
 some_lines : (m : Option Machine) (wl : List (List ℕ)) (text : List ℕ) → IsSome m → IsAfterLines m wl text → with_header (wl ++ []) ≡ wl
 some_lines None wl text some stands = cc
@@ -250,7 +254,8 @@ pub Finishes-between : (read : List ℕ) (s : Script) (before after : Option (Li
 Finishes-between read s before after some empty at =
     let none : last_part read ≡ [] = kept-empty s.machine (last_part read) (sym at.line ∙ empty) in
     let same : script_lines read ≡ whole_lines read =
-    ap (λ l. with_header (whole_lines read ++ last_line l)) none ∙ some_lines s.machine (whole_lines read) (at.written ++ s.out.items) some at.stands in
+    ap (λ l. with_header (whole_lines read ++ last_line l)) none
+    ∙ some_lines s.machine (whole_lines read) (at.written ++ s.out.items) some at.stands in
     subst (Completes before after s.out.items) (sym same)
     (Completes-stands s.machine (whole_lines read) before after at.written s.out.items some at.appended at.stands)
 
@@ -270,4 +275,5 @@ Finishes-ended read old new before after not_both at step =
     let same : script_lines read ≡ wl ++ lp ∷ [] = last_lines old.machine wl lp (at.written ++ old.out.items) at.stands some in
     subst (Completes before after new.out.items) (sym same)
     (Completes-stands new.machine (wl ++ lp ∷ []) before after at.written new.out.items
-    (moved_some old.machine new.machine old.line.items old.out.items new.out.items step.machine) at.appended (Ended-stands read old new before after at step))
+    (moved_some old.machine new.machine old.line.items old.out.items new.out.items step.machine) at.appended
+    (Ended-stands read old new before after at step))

@@ -59,8 +59,10 @@ abbrev pub step_words : SchemaValue → WorldStep → List (List ℕ)
 step_words schema step = plain_words schema step ++ luck_words (luck_of step)
 
 pub spelled : (schema : SchemaValue) (step : WorldStep) → step_text schema step ≡ line (step_words schema step)
-spelled schema (Do site command Fine) = append-nil (command_text schema site command) ∙ ap line (sym (append-nil (site_text site ∷ command_words schema command)))
-spelled schema (Do site command (Torn bytes)) = sym (line-append (site_text site) (command_words schema command) (codes "torn") (decimal bytes ∷ []))
+spelled schema (Do site command Fine) = append-nil (command_text schema site command)
+    ∙ ap line (sym (append-nil (site_text site ∷ command_words schema command)))
+spelled schema (Do site command (Torn bytes)) = sym
+    (line-append (site_text site) (command_words schema command) (codes "torn") (decimal bytes ∷ []))
 spelled schema (Deliver k Fine) = append-nil (codes "deliver " ++ decimal k)
 spelled schema (Deliver k (Torn bytes)) = sym (line-append (codes "deliver") (decimal k ∷ []) (codes "torn") (decimal bytes ∷ []))
 
@@ -68,16 +70,21 @@ luck_plain : (luck : Luck) → LuckFits luck → AllByRecursion IsWord (luck_wor
 luck_plain Fine fits = tt
 luck_plain (Torn bytes) fits = (word_from_test (codes "torn") refl, (decimal_word bytes fits, tt))
 
-step_plain : (schema : SchemaValue) → IsSchema schema → (step : WorldStep) → NumbersFit step → AllByRecursion IsWord (step_words schema step)
+step_plain : (schema : SchemaValue) → IsSchema schema → (step : WorldStep) → NumbersFit step
+    → AllByRecursion IsWord (step_words schema step)
 step_plain schema is (Do site command luck) fits =
-    all_append (site_text site ∷ command_words schema command) (luck_words luck) ((command_form schema is).plain (site, command) (fits.0, fits.1)) (luck_plain luck fits.2)
+    all_append (site_text site ∷ command_words schema command) (luck_words luck)
+    ((command_form schema is).plain (site, command) (fits.0, fits.1)) (luck_plain luck fits.2)
 step_plain schema is (Deliver k luck) fits =
-    all_append (codes "deliver" ∷ decimal k ∷ []) (luck_words luck) (word_from_test (codes "deliver") refl, (decimal_word k fits.0, tt)) (luck_plain luck fits.1)
+    all_append (codes "deliver" ∷ decimal k ∷ []) (luck_words luck) (word_from_test (codes "deliver") refl, (decimal_word k fits.0, tt))
+    (luck_plain luck fits.1)
 
-cut : (schema : SchemaValue) → IsSchema schema → (step : WorldStep) → NumbersFit step → words (step_text schema step) ≡ step_words schema step
+cut : (schema : SchemaValue) → IsSchema schema → (step : WorldStep) → NumbersFit step
+    → words (step_text schema step) ≡ step_words schema step
 cut schema is (Do site command luck) fits =
     let all = step_plain schema is (Do site command luck) fits in
-    ap words (spelled schema (Do site command luck)) ∙ words-join (site_text site) (command_words schema command ++ luck_words luck) all.0 all.1
+    ap words (spelled schema (Do site command luck))
+    ∙ words-join (site_text site) (command_words schema command ++ luck_words luck) all.0 all.1
 cut schema is (Deliver k luck) fits =
     let all = step_plain schema is (Deliver k luck) fits in
     ap words (spelled schema (Deliver k luck)) ∙ words-join (codes "deliver") (decimal k ∷ luck_words luck) all.0 all.1
@@ -90,7 +97,8 @@ first (w ∷ ws) = w
 
 abbrev counts : List (List ℕ × ℕ)
 counts = (codes "begin", 1) ∷ (codes "escrow", 4) ∷ (codes "commit", 2) ∷ (codes "abort", 2) ∷ (codes "give", 5)
-    ∷ (codes "restate", 4) ∷ (codes "spare", 5) ∷ (codes "tighten", 4) ∷ (codes "accept", 6) ∷ (codes "read", 2) ∷ (codes "share", 2) ∷ (codes "restart", 1) ∷ []
+    ∷ (codes "restate", 4) ∷ (codes "spare", 5) ∷ (codes "tighten", 4) ∷ (codes "accept", 6) ∷ (codes "read", 2) ∷ (codes "share", 2)
+    ∷ (codes "restart", 1) ∷ []
 
 counted : (schema : SchemaValue) (c : Command) → beside counts (first (command_words schema c)) ≡ Some (length (command_words schema c))
 counted schema Begin = refl
@@ -106,7 +114,8 @@ counted schema (Read field) = refl
 counted schema (Share field) = refl
 counted schema Restart = refl
 
-first_of : (schema : SchemaValue) (c : Command) (more : List (List ℕ)) → first (command_words schema c ++ more) ≡ first (command_words schema c)
+first_of : (schema : SchemaValue) (c : Command) (more : List (List ℕ))
+    → first (command_words schema c ++ more) ≡ first (command_words schema c)
 first_of schema Begin more = refl
 first_of schema (Escrow txn field change) more = refl
 first_of schema (Commit txn) more = refl
@@ -121,7 +130,8 @@ first_of schema (Share field) more = refl
 first_of schema Restart more = refl
 
 -- so a command's words with more words behind them are no command's
-no_more : (schema : SchemaValue) (c d : Command) (more : List (List ℕ)) → command_words schema c ≡ command_words schema d ++ more → length more ≡ 0
+no_more : (schema : SchemaValue) (c d : Command) (more : List (List ℕ)) → command_words schema c ≡ command_words schema d ++ more
+    → length more ≡ 0
 no_more schema c d more e =
     let same : first (command_words schema c) ≡ first (command_words schema d) = ap first e ∙ first_of schema d more in
     let count : length (command_words schema c) ≡ length (command_words schema d) =
@@ -132,7 +142,8 @@ no_more schema c d more e =
 
 pub decimal_one : (n m : ℕ) → n < 2 ^ 64 → m < 2 ^ 64 → decimal n ≡ decimal m → n ≡ m
 decimal_one n m small below e =
-    same_Some n m (sym (number_again (2 ^ 64) n (omega arith) small) ∙ ap (number_of (2 ^ 64)) e ∙ number_again (2 ^ 64) m (omega arith) below)
+    same_Some n m (sym (number_again (2 ^ 64) n (omega arith) small) ∙ ap (number_of (2 ^ 64)) e
+    ∙ number_again (2 ^ 64) m (omega arith) below)
 
 no_deliver : (n : ℕ) → n < 2 ^ 64 → decimal n ≡ codes "deliver" → ⊥
 no_deliver n small e =
@@ -141,20 +152,24 @@ no_deliver n small e =
 
 -- ---- a line is of one step
 
-command_same : (schema : SchemaValue) → IsSchema schema → (s t : SiteNo) (c d : Command) (luck other : Luck) → NumbersFit (Do s c luck) → NumbersFit (Do t d other)
+command_same : (schema : SchemaValue) → IsSchema schema → (s t : SiteNo) (c d : Command) (luck other : Luck) → NumbersFit (Do s c luck)
+    → NumbersFit (Do t d other)
     → site_text s ∷ command_words schema c ≡ site_text t ∷ command_words schema d → luck ≡ other → Do s c luck ≡ Do t d other
 command_same schema is s t c d luck other fits fit e lucks =
     let both : (s, c) ≡ (t, d) =
     same_Some (s, c) (t, d)
-    (sym (command_only schema is (s, c) fits.0 fits.1) ∙ ap (λ (ws : List (List ℕ)). command_of schema (line ws)) e ∙ command_only schema is (t, d) fit.0 fit.1) in
+    (sym (command_only schema is (s, c) fits.0 fits.1) ∙ ap (λ (ws : List (List ℕ)). command_of schema (line ws)) e
+    ∙ command_only schema is (t, d) fit.0 fit.1) in
     ap (λ (x : SiteNo × Command). Do x.0 x.1 luck) both ∙ ap (Do t d) lucks
 
-by_words : (schema : SchemaValue) → IsSchema schema → (a b : WorldStep) → NumbersFit a → NumbersFit b → step_words schema a ≡ step_words schema b → a ≡ b
+by_words : (schema : SchemaValue) → IsSchema schema → (a b : WorldStep) → NumbersFit a → NumbersFit b
+    → step_words schema a ≡ step_words schema b → a ≡ b
 by_words schema is (Do s c Fine) (Do t d Fine) fits fit e =
     let same = parts_same (site_text s ∷ command_words schema c) (site_text t ∷ command_words schema d) [] [] refl e in
     command_same schema is s t c d Fine Fine fits fit same.0 refl
 by_words schema is (Do s c (Torn n)) (Do t d (Torn m)) fits fit e =
-    let same = parts_same (site_text s ∷ command_words schema c) (site_text t ∷ command_words schema d) (luck_words (Torn n)) (luck_words (Torn m)) refl e in
+    let same = parts_same (site_text s ∷ command_words schema c) (site_text t ∷ command_words schema d) (luck_words (Torn n))
+    (luck_words (Torn m)) refl e in
     let bytes = decimal_one n m fits.2 fit.2 (head_is _ _ _ _ (tail_is _ _ _ _ same.1)) in
     command_same schema is s t c d (Torn n) (Torn m) fits fit same.0 (ap Torn bytes)
 by_words schema is (Do s c Fine) (Do t d (Torn m)) fits fit e =
@@ -175,5 +190,6 @@ by_words schema is (Deliver n (Torn x)) (Deliver m (Torn y)) fits fit e =
 by_words schema is (Deliver n Fine) (Deliver m (Torn y)) fits fit e = absurd (omega (arith, ap length e))
 by_words schema is (Deliver n (Torn x)) (Deliver m Fine) fits fit e = absurd (omega (arith, ap length e))
 
-pub one_step : (schema : SchemaValue) → IsSchema schema → (a b : WorldStep) → NumbersFit a → NumbersFit b → step_text schema a ≡ step_text schema b → a ≡ b
+pub one_step : (schema : SchemaValue) → IsSchema schema → (a b : WorldStep) → NumbersFit a → NumbersFit b
+    → step_text schema a ≡ step_text schema b → a ≡ b
 one_step schema is a b fits fit e = by_words schema is a b fits fit (sym (cut schema is a fits) ∙ ap words e ∙ cut schema is b fit)

@@ -20,14 +20,16 @@ use Rattle.escrow_script.proofs.AimLemmas.{reach_fits}
 
 -- ---- as much of a line as is kept
 
-kept_cases : (line : List ℕ) → (take (max_line + 1) line ≡ line) ⊎ ((max_line < length line) × (max_line < length (take (max_line + 1) line)))
+kept_cases : (line : List ℕ) → (take (max_line + 1) line ≡ line)
+    ⊎ ((max_line < length line) × (max_line < length (take (max_line + 1) line)))
 kept_cases line = elim (cases_lt max_line (length line)) [
   | inl h ↦ inr (h, rw (length-take (max_line + 1) line) (omega arith))
   | inr h ↦ inl (take_all (max_line + 1) line (omega arith))
 ]
 
 -- a world that is given as much of a line as is kept answers as to the whole line
-IsAnswer-kept : (schema : SchemaValue) (line : List ℕ) (old new : List WorldStep) (text : List ℕ) → IsAnswer schema (take (max_line + 1) line) old new text → IsAnswer schema line old new text
+IsAnswer-kept : (schema : SchemaValue) (line : List ℕ) (old new : List WorldStep) (text : List ℕ)
+    → IsAnswer schema (take (max_line + 1) line) old new text → IsAnswer schema line old new text
 IsAnswer-kept schema line old new text answer = elim (kept_cases line) [
   | inl e ↦ subst (λ l. IsAnswer schema l old new text) e answer
   | inr long ↦ elim answer [
@@ -50,7 +52,8 @@ IsAnswer-kept schema line old new text answer = elim (kept_cases line) [
   ]
 ]
 
-Answered-kept : (line : List ℕ) (old new : WorldValue) (out grown : List ℕ) → Answered (take (max_line + 1) line) old new out grown → Answered line old new out grown
+Answered-kept : (line : List ℕ) (old new : WorldValue) (out grown : List ℕ) → Answered (take (max_line + 1) line) old new out grown
+    → Answered line old new out grown
 Answered-kept line old new out grown answered = record {
   text = answered.text;
   schema = answered.schema;
@@ -77,14 +80,17 @@ with_piece-kept (Some m) line piece = take_of_append (max_line + 1) line piece
 -- ---- one more line
 
 -- the steps that a line asks together are steps that a world takes
-carried_fit : (schema : SchemaValue) → IsSchema schema → (line : List ℕ) (old steps : List WorldStep) (head : List ℕ) → StepsFit schema old → AsksSteps schema line old steps head
+carried_fit : (schema : SchemaValue) → IsSchema schema → (line : List ℕ) (old steps : List WorldStep) (head : List ℕ) → StepsFit schema old
+    → AsksSteps schema line old steps head
     → StepsFit schema (reverse steps ++ old)
 carried_fit schema is line old steps head earlier (inl level) =
-    subst (λ (l : List WorldStep). StepsFit schema (reverse l ++ old)) (sym level.steps_are) (level_fits schema (trace schema old) level.field level.kind old earlier)
+    subst (λ (l : List WorldStep). StepsFit schema (reverse l ++ old)) (sym level.steps_are)
+    (level_fits schema (trace schema old) level.field level.kind old earlier)
 carried_fit schema is line old steps head earlier (inr reach) = reach_fits schema is line old steps head earlier reach
 
 -- and so are those that lines ask
-answers_fit : (schema : SchemaValue) → IsSchema schema → (lines : List (List ℕ)) (steps : List WorldStep) (text : List ℕ) → AreAnswers schema lines steps text → StepsFit schema steps
+answers_fit : (schema : SchemaValue) → IsSchema schema → (lines : List (List ℕ)) (steps : List WorldStep) (text : List ℕ)
+    → AreAnswers schema lines steps text → StepsFit schema steps
 answers_fit schema is [] steps text answers = subst (λ (l : List WorldStep). StepsFit schema l) (sym answers.0) tt
 answers_fit schema is (line ∷ before) steps text answers =
     let earlier = answers_fit schema is before answers.0 answers.1.0 answers.1.2 in
@@ -93,7 +99,8 @@ answers_fit schema is (line ∷ before) steps text answers =
       | inr good ↦ elim good [
         | inl asked ↦ subst (λ (l : List WorldStep). StepsFit schema l) (sym asked.2) (earlier, asked.1.fits)
         | inr carried ↦
-            subst (λ (l : List WorldStep). StepsFit schema l) (sym carried.taken) (carried_fit schema is line answers.0 carried.steps carried.head earlier carried.asked)
+            subst (λ (l : List WorldStep). StepsFit schema l) (sym carried.taken)
+            (carried_fit schema is line answers.0 carried.steps carried.head earlier carried.asked)
       ]
     ]
 
@@ -102,7 +109,8 @@ HasText-more : (schema : SchemaValue) (old new : List WorldStep) (lines : List (
     → HasText schema old lines text → IsAnswer schema line old new reply → HasText schema new (lines ++ line ∷ []) (text ++ reply)
 HasText-more schema old new lines line text reply has answer =
     let back : reverse (has.behind ++ line ∷ []) ≡ line ∷ reverse has.behind = reverse-append has.behind (line ∷ []) in
-    let answers : AreAnswers schema (line ∷ reverse has.behind) new (has.body ++ reply) = (old, (has.body, reply, has.answers, answer, refl)) in
+    let answers : AreAnswers schema (line ∷ reverse has.behind) new (has.body ++ reply) =
+    (old, (has.body, reply, has.answers, answer, refl)) in
     let is = schema_of-limits has.header schema has.start in
     record {
       header = has.header;
@@ -144,7 +152,8 @@ StandsFor-next (Some m) (Some n) lines line written out grown stands moves =
     append_assoc written out moves.text ∙ ap (λ t. written ++ t) (sym moves.written) in
     subst (λ (s : SchemaValue). HasText s (reverse n.world.steps) (lines ++ line ∷ []) (written ++ grown)) (sym moves.schema)
     (subst (HasText m.world.schema (reverse n.world.steps) (lines ++ line ∷ [])) text
-    (HasText-more m.world.schema (reverse m.world.steps) (reverse n.world.steps) lines line (written ++ out) moves.text stands moves.answer))
+    (HasText-more m.world.schema (reverse m.world.steps) (reverse n.world.steps) lines line
+    (written ++ out) moves.text stands moves.answer))
 
 Moves-kept : (m n : Option Machine) (line out grown : List ℕ) → Moves m (line_held m line) n out grown → Moves m line n out grown
 Moves-kept None None line out grown moves = moves
@@ -154,6 +163,7 @@ Moves-kept (Some m) (Some n) line out grown moves = Answered-kept line m.world n
 
 -- the same, where the machine has as much of the line as is kept
 pub StandsFor-more : (m n : Option Machine) (lines : List (List ℕ)) (line written out grown : List ℕ)
-    → IsAfterLines m lines (written ++ out) → Moves m (line_held m line) n out grown → IsAfterLines n (lines ++ line ∷ []) (written ++ grown)
+    → IsAfterLines m lines (written ++ out) → Moves m (line_held m line) n out grown
+    → IsAfterLines n (lines ++ line ∷ []) (written ++ grown)
 StandsFor-more m n lines line written out grown stands moves =
     StandsFor-next m n lines line written out grown stands (Moves-kept m n line out grown moves)

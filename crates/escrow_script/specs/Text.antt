@@ -155,7 +155,8 @@ IsAnswer schema line old new text =
 abbrev pub AreAnswers : SchemaValue → List (List ℕ) → List WorldStep → List ℕ → Type 0
 AreAnswers schema [] steps text = (steps ≡ []) × (text ≡ [])
 AreAnswers schema (line ∷ before) steps text =
-    (old : List WorldStep) × ((front last : List ℕ) × AreAnswers schema before old front × IsAnswer schema line old steps last × (text ≡ front ++ last))
+    (old : List WorldStep) × ((front last : List ℕ) × AreAnswers schema before old front × IsAnswer schema line old steps last
+    × (text ≡ front ++ last))
 
 -- The text of lines, the oldest first: the header line as it was read, and an answer for each line behind it, by the one
 -- trace of the steps that the lines ask, in their order. The trace is one of a world, a run of one central store.

@@ -36,7 +36,8 @@ pub(crate) fn sites_up(alloc: Global, world: &World, level: Level) -> Result<Sit
     ensures sites { IfOk result (λ up. up.sites.items
         ≡ sites_up world.now.schema (trace_of world.now) world.now.schema.sites) }
     ensures shares { IfOk result (λ up. up.shares.items
-        ≡ map (free_at world.now.schema (trace_of world.now) level.field level.kind) up.sites.items) }
+        ≡ map (free_at world.now.schema (trace_of world.now) level.field level.kind)
+        up.sites.items) }
     ensures few { IfOk result (λ up. sum up.shares.items < 2 ^ 64) }
 {
     let mut up = SitesUp {

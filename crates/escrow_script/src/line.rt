@@ -42,7 +42,8 @@ fn before_torn(bytes: &[u8]) -> Option<&[u8]>
 
 // The line without its luck, where it has one, and how many bytes of the append are kept.
 fn split_luck(line: &[u8]) -> Option<(&[u8], u64)>
-    ensures found { IfSome result (λ parts. (line.now ≡ parts.0.now ++ luck_text (Torn parts.1)) × LuckFits (Torn parts.1)) }
+    ensures found { IfSome result (λ parts. (line.now ≡ parts.0.now ++ luck_text (Torn parts.1))
+        × LuckFits (Torn parts.1)) }
     ensures none { IfNone result ((front : List ℕ) (bytes : ℕ) → LuckFits (Torn bytes) →
         line.now ≢ front ++ luck_text (Torn bytes)) }
 {
@@ -64,7 +65,8 @@ fn delivery(line: &[u8]) -> Option<u64>
 // The step of this luck that a line without luck asks.
 fn plain_step(schema: &Schema, line: &[u8], luck: Luck) -> Option<WorldStep>
     requires luck { LuckFits luck }
-    ensures found { IfSome result (λ step. (line.now ≡ plain_text schema.now step) × NumbersFit step × (luck_of step ≡ luck)) }
+    ensures found { IfSome result (λ step. (line.now ≡ plain_text schema.now step) × NumbersFit step
+        × (luck_of step ≡ luck)) }
     ensures only { (step : StepType) → NumbersFit step → line.now ≡ plain_text schema.now step
         → luck_of step ≡ luck → result ≡ Some step }
 {
@@ -83,9 +85,11 @@ fn plain_step(schema: &Schema, line: &[u8], luck: Luck) -> Option<WorldStep>
 
 // The step whose line this is, whether or not a world takes it.
 fn any_step<'a>(schema: &Schema, line: &'a [u8]) -> Option<Asked<'a>>
-    ensures found { IfSome result (λ asked. (line.now ≡ step_text schema.now asked.step) × NumbersFit asked.step
+    ensures found { IfSome result (λ asked. (line.now ≡ step_text schema.now asked.step)
+        × NumbersFit asked.step
         × (asked.plain.now ≡ plain_text schema.now asked.step)) }
-    ensures none { IfNone result ((step : StepType) → NumbersFit step → line.now ≢ step_text schema.now step) }
+    ensures none { IfNone result ((step : StepType) → NumbersFit step
+        → line.now ≢ step_text schema.now step) }
 {
     if let Some(step) = plain_step(schema, line, Luck::Fine) {
         return Some(Asked { step, plain: line });
@@ -99,7 +103,8 @@ fn any_step<'a>(schema: &Schema, line: &'a [u8]) -> Option<Asked<'a>>
 /// none. Costs no memory.
 pub(crate) fn line_step<'a>(world: &World, line: &'a [u8]) -> Option<Asked<'a>>
     ensures asks { IfSome result (λ asked. Asks world.now.schema line.now asked.step) }
-    ensures plain { IfSome result (λ asked. asked.plain.now ≡ plain_text world.now.schema asked.step) }
+    ensures plain { IfSome result (λ asked. asked.plain.now
+        ≡ plain_text world.now.schema asked.step) }
     ensures none { IfNone result (AsksNone world.now.schema line.now) }
 {
     if line.len() > MAX_LINE {
@@ -131,8 +136,10 @@ fn after_level(bytes: &[u8]) -> Option<&[u8]>
 
 // The field and the kind whose line this is, whatever field it names.
 fn any_level(schema: &Schema, line: &[u8]) -> Option<Level>
-    ensures found { IfSome result (λ level. line.now ≡ level_text schema.now level.field level.kind) }
-    ensures only { (field : FieldNumber) (kind : KindType) → field.0 < 2 ^ 16 → line.now ≡ level_text schema.now field kind
+    ensures found { IfSome result (λ level. line.now
+        ≡ level_text schema.now level.field level.kind) }
+    ensures only { (field : FieldNumber) (kind : KindType) → field.0 < 2 ^ 16
+        → line.now ≡ level_text schema.now field kind
         → result ≡ Some (record { field = field; kind = kind }) }
 {
     let rest = after_level(line)?;
@@ -145,7 +152,8 @@ fn any_level(schema: &Schema, line: &[u8]) -> Option<Level>
 /// The field that a line behind the header, without its LF, levels in a world, and the kind, or
 /// None where it levels none. Costs no memory.
 pub(crate) fn line_level(world: &World, line: &[u8]) -> Option<Level>
-    ensures levels { IfSome result (λ level. Levels world.now.schema line.now level.field level.kind) }
+    ensures levels { IfSome result (λ level. Levels world.now.schema line.now level.field
+        level.kind) }
     ensures none { IfNone result (LevelsNone world.now.schema line.now) }
 {
     if MAX_LINE < line.len() {

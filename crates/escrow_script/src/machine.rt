@@ -90,7 +90,8 @@ fn add_whole(
     schema: &Schema,
     entry: Entry,
 ) -> Result<(), AllocError>
-    ensures ok { OnOk result (out.new.items ≡ out.old.items ++ line_text (entry_text schema.now entry)) }
+    ensures ok { OnOk result (out.new.items ≡ out.old.items
+        ++ line_text (entry_text schema.now entry)) }
     ensures err { OnErr result (out.new.items ≡ out.old.items) }
 {
     let kept = out.len();
@@ -109,7 +110,8 @@ fn add_made(
 ) -> Result<(), AllocError>
     requires plain { asked.now.plain.now ≡ plain_text schema.now asked.now.step }
     requires made { IsMadeBy asked.now.step entry }
-    ensures ok { OnOk result (out.new.items ≡ out.old.items ++ line_text (entry_text schema.now entry)) }
+    ensures ok { OnOk result (out.new.items ≡ out.old.items
+        ++ line_text (entry_text schema.now entry)) }
     ensures err { OnErr result (out.new.items ≡ out.old.items) }
 {
     match asked.step {
@@ -149,7 +151,8 @@ fn add_reason(out: &mut Vec<u8>, line: &[u8], word: &str) -> Result<(), AllocErr
 // Adds the remark on a delivery of no statement, or changes nothing where memory is refused.
 fn add_undelivered(out: &mut Vec<u8>, k: u64) -> Result<(), AllocError>
     ensures ok { OnOk result (out.new.items
-        ≡ out.old.items ++ line_text ((codes "deliver " ++ decimal k) ++ codes " -> refused 16 no statement")) }
+        ≡ out.old.items ++ line_text ((codes "deliver " ++ decimal k)
+        ++ codes " -> refused 16 no statement")) }
     ensures err { OnErr result (out.new.items ≡ out.old.items) }
 {
     let kept = out.len();
@@ -261,7 +264,8 @@ impl Machine {
         out: &mut Vec<u8>,
     ) -> Result<(), AllocError>
         requires there { All (λ site. site.0 < self.old.world.schema.sites) sites.now }
-        requires within { All (λ planned. (planned.from < length sites.now) × (planned.to < length sites.now)) plan.now }
+        requires within { All (λ planned. (planned.from < length sites.now)
+            × (planned.to < length sites.now)) plan.now }
         ensures ok { OnOk result (HasTaken (map (gift_of sites.now level.field level.kind) plan.now)
             self.old.world self.new.world out.old.items out.new.items) }
         ensures err { OnErr result (take (length out.old.items) out.new.items ≡ out.old.items) }
@@ -303,8 +307,10 @@ impl Machine {
     ) -> Result<(), AllocError>
         requires aims { Aims self.old.world.schema line.now aim }
         requires fit { All (StepFits self.old.world.schema) steps.now }
-        requires clear { reach_fault self.old.world.schema (trace_of self.old.world) aim.site aim.field aim.target ≡ None }
-        requires steps { steps.now ≡ reach_steps self.old.world.schema self.old.world.steps aim.site aim.field aim.target }
+        requires clear { reach_fault self.old.world.schema
+            (trace_of self.old.world) aim.site aim.field aim.target ≡ None }
+        requires steps { steps.now ≡ reach_steps self.old.world.schema self.old.world.steps aim.site
+            aim.field aim.target }
         ensures ok { OnOk result (Answered line.now self.old.world self.new.world
             out.old.items out.new.items) }
         ensures err { OnErr result (take (length out.old.items) out.new.items ≡ out.old.items) }
@@ -323,7 +329,8 @@ impl Machine {
     ) -> Result<(), AllocError>
         requires aims { Aims self.now.world.schema line.now aim }
         requires why { Explains fault
-            (reach_fault self.now.world.schema (trace_of self.now.world) aim.site aim.field aim.target) }
+            (reach_fault self.now.world.schema (trace_of self.now.world) aim.site aim.field
+            aim.target) }
         ensures ok { OnOk result (Answered line.now self.now.world self.now.world
             out.old.items out.new.items) }
         ensures err { OnErr result (out.new.items ≡ out.old.items) }
@@ -334,7 +341,8 @@ impl Machine {
         }
     }
 
-    // Reaches a value: adds how many steps that takes, and what answers each, or why it isn't reached.
+    // Reaches a value: adds how many steps that takes, and what answers each, or why it isn't
+    // reached.
     fn reach_for(
         &mut self,
         alloc: Global,

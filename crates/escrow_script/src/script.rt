@@ -117,7 +117,8 @@ impl Script {
         Ok(())
     }
 
-    // Takes the rest of a line, whose LF was read. A line that lies whole in the piece isn't copied.
+    // Takes the rest of a line, whose LF was read. A line that lies whole in the piece isn't
+    // copied.
     fn end_with(&mut self, line: &[u8]) -> Result<(), ScriptFault>
         requires room { self.old.lines < 1000000 }
         requires unbroken { All (λ b. b ≢ 10) line.now }
@@ -145,7 +146,8 @@ impl Script {
         ensures err { IfErr result (StopsIn self.old self.new
             (W.bytes writer.old) (W.bytes writer.new) (line.now ++ 10 ∷ [])) }
         ensures lines { OnOk result (self.new.lines ≡ self.old.lines + 1) }
-        ensures refused { IfErr result (λ fault. fault ≡ ScriptFault.Write → HasRefused (W.last writer.new)) }
+        ensures refused { IfErr result (λ fault. fault ≡ ScriptFault.Write
+            → HasRefused (W.last writer.new)) }
         ensures writes { CountsWrites result (W.refusals writer.old) (W.refusals writer.new) }
         ensures not_read { IfErr result (λ fault. fault ≢ ScriptFault.Read) }
     {
@@ -164,7 +166,8 @@ impl Script {
         ensures err { IfErr result (StopsIn self.old self.new
             (W.bytes writer.old) (W.bytes writer.new) piece.now) }
         ensures lines { OnOk result (self.new.lines ≤ 1000000) }
-        ensures refused { IfErr result (λ fault. fault ≡ ScriptFault.Write → HasRefused (W.last writer.new)) }
+        ensures refused { IfErr result (λ fault. fault ≡ ScriptFault.Write
+            → HasRefused (W.last writer.new)) }
         ensures writes { CountsWrites result (W.refusals writer.old) (W.refusals writer.new) }
         ensures not_read { IfErr result (λ fault. fault ≢ ScriptFault.Read) }
     {
@@ -224,8 +227,10 @@ impl Script {
             (W.bytes writer.old) (W.bytes writer.new) self.old self.new (R.last reader.new) bytes) }
         ensures lines { OnOk result (self.new.lines ≤ 1000000) }
         ensures within { IfOk result (λ count. bytes + count ≤ 268435456) }
-        ensures refused { IfErr result (λ fault. fault ≡ ScriptFault.Write → HasRefused (W.last writer.new)) }
-        ensures failed { IfErr result (λ fault. fault ≡ ScriptFault.Read → HasFailed (R.last reader.new)) }
+        ensures refused { IfErr result (λ fault. fault ≡ ScriptFault.Write
+            → HasRefused (W.last writer.new)) }
+        ensures failed { IfErr result (λ fault. fault ≡ ScriptFault.Read
+            → HasFailed (R.last reader.new)) }
         ensures reads { CountsReads result (R.failures reader.old) (R.failures reader.new) }
         ensures writes { CountsWrites result (W.refusals writer.old) (W.refusals writer.new) }
         ensures empty { IfErr result (λ fault. fault ≡ ScriptFault.Read → self.new.out.items ≡ []) }
@@ -259,8 +264,10 @@ impl Script {
         ensures err { IfErr result (StopsAfter (R.bytes reader.old) (R.bytes reader.new)
             (W.bytes writer.old) (W.bytes writer.new) self.new (R.last reader.new)) }
         ensures end { OnOk result (GaveNothing (R.last reader.new)) }
-        ensures refused { IfErr result (λ fault. fault ≡ ScriptFault.Write → HasRefused (W.last writer.new)) }
-        ensures failed { IfErr result (λ fault. fault ≡ ScriptFault.Read → HasFailed (R.last reader.new)) }
+        ensures refused { IfErr result (λ fault. fault ≡ ScriptFault.Write
+            → HasRefused (W.last writer.new)) }
+        ensures failed { IfErr result (λ fault. fault ≡ ScriptFault.Read
+            → HasFailed (R.last reader.new)) }
         ensures reads { CountsReads result (R.failures reader.old) (R.failures reader.new) }
         ensures writes { CountsWrites result (W.refusals writer.old) (W.refusals writer.new) }
         ensures empty { IfErr result (λ fault. fault ≡ ScriptFault.Read → self.new.out.items ≡ []) }
@@ -278,23 +285,23 @@ impl Script {
     }
 }
 
-/// Runs a script: a header line, and then the lines of steps, each answered by a line, or by more where
-/// a field is levelled or a value is reached.
+/// Runs a script: a header line, and then the lines of steps, each answered by a line, or by more
+/// where a field is levelled or a value is reached.
 ///
 /// Line 1 is a header, and is written as it was read. Every other line asks a step of a world of
 /// the header's sites: a command, answered by `COMMAND -> REPLY` at the site that it names, or
 /// `deliver K`, by which the statement of that number, counted from 1 as they were issued, is taken
-/// in by the site that it is for, answered by that site's entry, or by
-/// `deliver K -> refused 16 no statement`. Such a line may end in ` torn N`: then the append of its
-/// step keeps the first N bytes. `level FIELD KIND` evens out the free rights of a field of the schema
-/// among the sites that are up: it is answered by ` -> moves M` behind the line, and then by the
-/// entries of M gifts, those of the even plan of the sites' shares, one after another.
-/// `reach SITE FIELD TARGET` takes the M steps at the other sites after which the committed value of the
-/// field is the target, as `reaching_steps::reach` answers them: it is answered by ` -> steps M` behind
-/// the line, and then by their entries; or, where a fault holds, by ` -> no REASON`, and nothing changes:
-/// REASON is `down`, `flight`, `unstated`, `tightened`, `numbers` or `outside`. Any other line is answered
-/// by `bad line` and changes nothing. A line ends with LF; a last line without LF counts where it has at
-/// least one byte.
+/// in by the site that it is for, answered by that site's entry, or by `deliver K -> refused 16 no
+/// statement`. Such a line may end in ` torn N`: then the append of its step keeps the first N
+/// bytes. `level FIELD KIND` evens out the free rights of a field of the schema among the sites
+/// that are up: it is answered by ` -> moves M` behind the line, and then by the entries of M
+/// gifts, those of the even plan of the sites' shares, one after another. `reach SITE FIELD TARGET`
+/// takes the M steps at the other sites after which the committed value of the field is the target,
+/// as `reaching_steps::reach` answers them: it is answered by ` -> steps M` behind the line, and
+/// then by their entries; or, where a fault holds, by ` -> no REASON`, and nothing changes: REASON
+/// is `down`, `flight`, `unstated`, `tightened`, `numbers` or `outside`. Any other line is answered
+/// by `bad line` and changes nothing. A line ends with LF; a last line without LF counts where it
+/// has at least one byte.
 ///
 /// So what is written at Ok is the text of the one trace that the steps make, and that trace is a
 /// run of one central escrow store, with all that `World::trace` says of it: rights are conserved,
@@ -311,8 +318,8 @@ impl Script {
 ///
 /// Output is written before each read, once 64 KiB of it have gathered behind a line, and at the
 /// end. Costs 64 KiB for input and somewhat more for output, and memory for the world, which keeps
-/// each entry in its trace and in its site's history. A line that reaches for a value costs what `reach`
-/// does, so time and memory for all steps so far once more.
+/// each entry in its trace and in its site's history. A line that reaches for a value costs what
+/// `reach` does, so time and memory for all steps so far once more.
 ///
 /// Source: O'Neil 1986 for the central store, Balegas and others 2015 for rights that are divided
 /// among sites and given, this project for the script.
@@ -333,10 +340,12 @@ pub fn run_script<R: Source, W: Sink>(
         (W.bytes writer.old) (W.bytes writer.new) (R.last reader.new)) }
 
     // A read fault comes only where a read failed.
-    ensures read { IfErr result (λ fault. fault ≡ ScriptFault.Read → HasFailed (R.last reader.new)) }
+    ensures read { IfErr result (λ fault. fault ≡ ScriptFault.Read
+        → HasFailed (R.last reader.new)) }
 
     // A write fault comes only where a write failed, or took none of its bytes.
-    ensures write { IfErr result (λ fault. fault ≡ ScriptFault.Write → HasRefused (W.last writer.new)) }
+    ensures write { IfErr result (λ fault. fault ≡ ScriptFault.Write
+        → HasRefused (W.last writer.new)) }
 
     // One read failed in this call at a read fault, and else none.
     ensures reads { CountsReads result (R.failures reader.old) (R.failures reader.new) }

@@ -70,7 +70,8 @@ fn answer<R: Source>(
         Tells (R.bytes reader.old) (R.bytes reader.new) (R.last reader.new) text.items) }
     ensures fault { IfErr result
         (FaultsIn (R.bytes reader.old) (R.bytes reader.new) (R.last reader.new)) }
-    ensures read { IfErr result (λ fault. fault ≡ Script ScriptFault.Read → HasFailed (R.last reader.new)) }
+    ensures read { IfErr result (λ fault. fault ≡ Script ScriptFault.Read
+        → HasFailed (R.last reader.new)) }
     ensures reads { CountsWorkReads result (R.failures reader.old) (R.failures reader.new) }
     ensures not_written { IfErr result (λ fault. fault ≢ Script ScriptFault.Write) }
 {
@@ -148,7 +149,8 @@ pub fn work_text<R: Source, W: Sink>(
         (W.bytes writer.old) (W.bytes writer.new) (R.last reader.new)) }
 
     // A read fault comes only where a read failed.
-    ensures read { IfErr result (λ fault. fault ≡ Script ScriptFault.Read → HasFailed (R.last reader.new)) }
+    ensures read { IfErr result (λ fault. fault ≡ Script ScriptFault.Read
+        → HasFailed (R.last reader.new)) }
 
     // A write fault comes only where a write failed, or took none of its bytes.
     ensures write { IfErr result (λ fault.

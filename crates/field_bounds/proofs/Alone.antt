@@ -27,7 +27,8 @@ unfolding of_parts
 of_parts-limits sites fields s h = by (is_site_count sites) (is_field_count (length fields)) refl refl h
   where
     by : (some few : Bool) → is_site_count sites ≡ some → is_field_count (length fields) ≡ few
-        → cond some (cond few (unless (first_fault [] fields) (record { sites = sites; fields = fields })) (Err FieldCount)) (Err SiteCount) ≡ Ok s → IsSchema s
+        → cond some (cond few (unless (first_fault [] fields) (record { sites = sites; fields = fields })) (Err FieldCount)) (Err SiteCount)
+        ≡ Ok s → IsSchema s
     by true true some few made =
         let a = and_parts (nat_le 1 sites) (nat_le sites max_sites) some in
         let b = and_parts (nat_le 1 (length fields)) (nat_le (length fields) max_fields) few in
@@ -35,11 +36,13 @@ of_parts-limits sites fields s h = by (is_site_count sites) (is_field_count (len
     by true false some few made = absurd cc
     by false few some fits made = absurd cc
 
-then_limits : (r : Result (ℤ × List FieldValue) SchemaFault) (s : SchemaValue) → (r >>= λ p. of_parts (count_of p.0) p.1) ≡ Ok s → IsSchema s
+then_limits : (r : Result (ℤ × List FieldValue) SchemaFault) (s : SchemaValue) → (r >>= λ p. of_parts (count_of p.0) p.1) ≡ Ok s
+    → IsSchema s
 then_limits (Ok p) s h = of_parts-limits (count_of p.0) p.1 s h
 then_limits (Err e) s h = absurd cc
 
-data_limits : (r : Result Data SchemaFault) (s : SchemaValue) → (r >>= λ d. parts_of d >>= λ p. of_parts (count_of p.0) p.1) ≡ Ok s → IsSchema s
+data_limits : (r : Result Data SchemaFault) (s : SchemaValue) → (r >>= λ d. parts_of d >>= λ p. of_parts (count_of p.0) p.1) ≡ Ok s
+    → IsSchema s
 data_limits (Ok d) s h = then_limits (parts_of d) s h
 data_limits (Err e) s h = absurd cc
 
@@ -47,7 +50,8 @@ pub schema_of-limits : (bytes : List ℕ) (s : SchemaValue) → schema_of bytes 
 unfolding schema_of
 schema_of-limits bytes s h = by (nat_lt max_header (length bytes)) h
   where
-    by : (long : Bool) → cond long (Err TooLong) (data_of bytes >>= λ d. parts_of d >>= λ p. of_parts (count_of p.0) p.1) ≡ Ok s → IsSchema s
+    by : (long : Bool) → cond long (Err TooLong) (data_of bytes >>= λ d. parts_of d >>= λ p. of_parts (count_of p.0) p.1) ≡ Ok s
+        → IsSchema s
     by true h = absurd cc
     by false h = data_limits (data_of bytes) s h
 
@@ -66,7 +70,8 @@ at_sites schema s [] below h = tt
 at_sites schema s (e ∷ o) below h = (at_sites schema s o below h.1, subst (λ (x : ℕ). x < schema.sites) (sym h.0) below)
 
 -- A history of owed replies at one site, in which each statement that is accepted was issued, is a sound trace.
-pub alone_is_sound : (schema : SchemaValue) (s : ℕ) (o : List Entry) → s < schema.sites → AreOf s o → IsTold o → IsRun schema s (fresh schema s) o → IsSound schema o
+pub alone_is_sound : (schema : SchemaValue) (s : ℕ) (o : List Entry) → s < schema.sites → AreOf s o → IsTold o
+    → IsRun schema s (fresh schema s) o → IsSound schema o
 alone_is_sound schema s o below are told run =
     record {
       sites = at_sites schema s o below are;
@@ -75,18 +80,21 @@ alone_is_sound schema s o below are told run =
           elim (cases_Bool (eqb other s)) [
             | inl same ↦
                 let e : other ≡ s = eqb-true other s same in
-                subst (λ (x : ℕ). IsRun schema x (fresh schema x) (own x o)) (sym e) (subst (IsRun schema s (fresh schema s)) (sym (own-all s o are)) run)
+                subst (λ (x : ℕ). IsRun schema x (fresh schema x) (own x o)) (sym e)
+                (subst (IsRun schema s (fresh schema s)) (sym (own-all s o are)) run)
             | inr apart ↦ subst (IsRun schema other (fresh schema other)) (sym (own-none s other o (λ e. eqb-false other s apart e) are)) tt
           ];
     }
 
 -- the only site of a schema accepts nothing: no other site can give to it
-only_site_refuses : (at : Place) (told : Statement) (r : Reply) → at.schema.sites ≡ 1 → at.site ≡ 0 → AnswerFits at (Accept told) r → is_refused r ≡ false → ⊥
+only_site_refuses : (at : Place) (told : Statement) (r : Reply) → at.schema.sites ≡ 1 → at.site ≡ 0 → AnswerFits at (Accept told) r
+    → is_refused r ≡ false → ⊥
 only_site_refuses at told r one here fits met =
     let none = not_refused at (Accept told) r fits met in
     accept_is_from_another at told none (omega (arith, accept_is_from_a_site at told none, one, here))
 
-only_site_rule : (at : Place) (t : List Entry) (c : Command) (r : Reply) → at.schema.sites ≡ 1 → at.site ≡ 0 → Fits at c r → StatementRule t c r
+only_site_rule : (at : Place) (t : List Entry) (c : Command) (r : Reply) → at.schema.sites ≡ 1 → at.site ≡ 0 → Fits at c r
+    → StatementRule t c r
 only_site_rule at t (Accept told) (Accepted gain) one here fits = absurd (only_site_refuses at told (Accepted gain) one here fits refl)
 only_site_rule at t (Accept told) Unsure one here fits = absurd (only_site_refuses at told Unsure one here fits refl)
 only_site_rule at t c r one here fits = tt

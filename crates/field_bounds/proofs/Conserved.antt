@@ -23,7 +23,8 @@ use Rattle.field_bounds.proofs.Ledgers.{accepted_is_given}
 use Rattle.field_bounds.proofs.Traces.{effects_sizes, sizes_split, changes_split, sizes-mono, sizes-or, sound_front}
 
 -- every outcome lies from inf to sup
-pub outcomes_between : (schema : SchemaValue) (t : List Entry) (f : ℕ) (chosen : ℕ → TxnId → Bool) → (inf schema t f ≤ℤ outcome schema t f chosen) × (outcome schema t f chosen ≤ℤ sup schema t f)
+pub outcomes_between : (schema : SchemaValue) (t : List Entry) (f : ℕ) (chosen : ℕ → TxnId → Bool)
+    → (inf schema t f ≤ℤ outcome schema t f chosen) × (outcome schema t f chosen ≤ℤ sup schema t f)
 outcomes_between schema t f chosen =
     let kept = is_committed_in schema t in
     let opened = is_open_in schema t in
@@ -31,8 +32,14 @@ outcomes_between schema t f chosen =
     let all : ℕ → TxnId → Bool = λ s id. kept s id || taken s id in
     let before = changes_split kept f t in
     let later = changes_split all f t in
-    let more : (k : Kind) → sizes kept f k t ≤ sizes all f k t = λ k. sizes-mono kept all (λ s id h. or_left (kept s id) (taken s id) h) f k t in
-    let most : (k : Kind) → sizes all f k t ≤ sizes kept f k t + sizes opened f k t = λ k. omega (arith, sizes-or kept taken f k t, sizes-mono taken opened (λ s id h. (and_parts (opened s id) (chosen s id) h).0) f k t) in (
+    let more : (k : Kind) → sizes kept f k t ≤ sizes all f k t =
+    λ k. sizes-mono kept all (λ s id h. or_left (kept s id) (taken s id) h) f k t in
+    let most : (k : Kind) → sizes all f k t ≤ sizes kept f k t + sizes opened f k t =
+    λ k. omega (
+      arith,
+      sizes-or kept taken f k t,
+      sizes-mono taken opened (λ s id h. (and_parts (opened s id) (chosen s id) h).0) f k t,
+    ) in (
       omega (arith, ints, before, later, more Raise, most Lower),
       omega (arith, ints, before, later, more Lower, most Raise),
     )
@@ -85,7 +92,8 @@ module _ (schema : SchemaValue) (good : IsSchema schema) (t : List Entry) (sound
 
   -- one site: its share, with what it has committed, holds open, gave and gave up
   site_balance : (f : ℕ) (k : Kind) (s : ℕ) → s < schema.sites
-      → ((free_of f k s + committed_of f k s) + open_of f k s) + (given_by f k s + cut_by f k s) ≡ (part_of schema s f k + committed_of f (other k) s) + accepted_by f k s
+      → ((free_of f k s + committed_of f k s) + open_of f k s) + (given_by f k s + cut_by f k s)
+      ≡ (part_of schema s f k + committed_of f (other k) s) + accepted_by f k s
   unfolding given_by cut_by accepted_by
   site_balance f k s below =
       let lawful = lawful_at s below in
@@ -95,7 +103,8 @@ module _ (schema : SchemaValue) (good : IsSchema schema) (t : List Entry) (sound
         gifts_split schema (fresh schema s) (at_site schema t s) lawful f k,
         gains_split schema (fresh schema s) (at_site schema t s) lawful f k,
         sum_below-zero schema.sites,
-        sum_below-same schema.sites (λ to. gifts (is_to to) f k (at_site schema t s)) (λ to. given_between schema t f k s to) (λ to less. omega arith),
+        sum_below-same schema.sites (λ to. gifts (is_to to) f k (at_site schema t s)) (λ to. given_between schema t f k s to)
+            (λ to less. omega arith),
       )
 
   total : (ℕ → ℕ) → ℕ
@@ -103,12 +112,14 @@ module _ (schema : SchemaValue) (good : IsSchema schema) (t : List Entry) (sound
 
   -- all sites
   all_balance : (f : ℕ) (k : Kind)
-      → ((shares schema t f k + total (committed_of f k)) + total (open_of f k)) + (total (given_by f k) + cuts schema t f k) ≡ (total_of (field_at schema f) k + total (committed_of f (other k))) + total (accepted_by f k)
+      → ((shares schema t f k + total (committed_of f k)) + total (open_of f k)) + (total (given_by f k) + cuts schema t f k)
+      ≡ (total_of (field_at schema f) k + total (committed_of f (other k))) + total (accepted_by f k)
   unfolding total cut_by
   all_balance f k =
       omega (
         arith,
-        sum_below-same schema.sites (λ s. ((free_of f k s + committed_of f k s) + open_of f k s) + (given_by f k s + cut_by f k s)) (λ s. (part_of schema s f k + committed_of f (other k) s) + accepted_by f k s) (site_balance f k),
+        sum_below-same schema.sites (λ s. ((free_of f k s + committed_of f k s) + open_of f k s) + (given_by f k s + cut_by f k s))
+            (λ s. (part_of schema s f k + committed_of f (other k) s) + accepted_by f k s) (site_balance f k),
         sum_below-add schema.sites (λ s. (free_of f k s + committed_of f k s) + open_of f k s) (λ s. given_by f k s + cut_by f k s),
         sum_below-add schema.sites (given_by f k) (cut_by f k),
         sum_below-add schema.sites (λ s. free_of f k s + committed_of f k s) (open_of f k),
@@ -126,27 +137,33 @@ module _ (schema : SchemaValue) (good : IsSchema schema) (t : List Entry) (sound
       omega (
         arith,
         sum_below-swap schema.sites schema.sites (λ from to. between from to),
-        sum_below-add schema.sites (λ from. sum_below schema.sites (λ to. given_between schema t f k from to - between from to)) (λ from. sum_below schema.sites (λ to. between from to)),
+        sum_below-add schema.sites (λ from. sum_below schema.sites (λ to. given_between schema t f k from to - between from to))
+            (λ from. sum_below schema.sites (λ to. between from to)),
         sum_below-same schema.sites
-            (λ from. sum_below schema.sites (λ to. given_between schema t f k from to - between from to) + sum_below schema.sites (λ to. between from to))
+            (λ from. sum_below schema.sites (λ to. given_between schema t f k from to - between from to)
+            + sum_below schema.sites (λ to. between from to))
             (given_by f k)
             (λ from less. omega (
               arith,
               sum_below-add schema.sites (λ to. given_between schema t f k from to - between from to) (λ to. between from to),
-              sum_below-same schema.sites (λ to. (given_between schema t f k from to - between from to) + between from to) (λ to. given_between schema t f k from to)
+              sum_below-same schema.sites (λ to. (given_between schema t f k from to - between from to) + between from to)
+                  (λ to. given_between schema t f k from to)
                   (λ to small. omega (arith, accepted_is_given schema t sound false f k from to)),
             )),
       )
 
   -- a sum over the trace is the sum over what took effect at each site
-  pub traced : (p : ℕ → TxnId → Bool) (f : ℕ) (k : Kind) → sizes p f k t ≡ sum_below schema.sites (λ s. granted_sizes (p s) f k (at_site schema t s))
+  pub traced : (p : ℕ → TxnId → Bool) (f : ℕ) (k : Kind)
+      → sizes p f k t ≡ sum_below schema.sites (λ s. granted_sizes (p s) f k (at_site schema t s))
   traced p f k =
       sizes_split p f k schema t sound.sites
-      ∙ sum_below-same schema.sites (λ s. sizes (λ _. p s) f k (own s t)) (λ s. granted_sizes (p s) f k (at_site schema t s)) (λ s below. sym (effects_sizes (fresh schema s) (p s) f k false (own s t)))
+      ∙ sum_below-same schema.sites (λ s. sizes (λ _. p s) f k (own s t)) (λ s. granted_sizes (p s) f k (at_site schema t s))
+      (λ s below. sym (effects_sizes (fresh schema s) (p s) f k false (own s t)))
 
   -- what the sites may take, with what is in flight and what was given up, is what is not taken yet
   pub conserved : (f : ℕ) (k : Kind)
-      → shares schema t f k + in_flight schema t f k + cuts schema t f k + sizes (is_committed_in schema t) f k t + open_sizes schema t f k ≡ total_of (field_at schema f) k + sizes (is_committed_in schema t) f (other k) t
+      → shares schema t f k + in_flight schema t f k + cuts schema t f k + sizes (is_committed_in schema t) f k t + open_sizes schema t f k
+      ≡ total_of (field_at schema f) k + sizes (is_committed_in schema t) f (other k) t
   unfolding total
   conserved f k =
       omega (

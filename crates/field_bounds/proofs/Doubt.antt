@@ -21,7 +21,8 @@ counts_sure kept Unsure h = cc
 counts_sure kept r h = refl
 
 -- only an answer in doubt depends on what is kept
-pub after_kept : (base : Base) (kept : Bool) (c : Command) (r : Reply) (es : List Effect) → is_unsure r ≡ false → after base kept c r es ≡ after base false c r es
+pub after_kept : (base : Base) (kept : Bool) (c : Command) (r : Reply) (es : List Effect) → is_unsure r ≡ false
+    → after base kept c r es ≡ after base false c r es
 after_kept base kept c r es h = ap (λ (counted : Bool). with_effect counted (effect_of base es c r) es) (counts_sure kept r h)
 
 -- a refusal has no effect
@@ -32,12 +33,15 @@ refusal_passes base es c x = refl
 pub after_refused : (base : Base) (kept : Bool) (c : Command) (x : Refusal) (es : List Effect) → after base kept c (Refused x) es ≡ es
 after_refused base kept c x es = ap (λ (effect : Option Effect). with_effect true effect es) (refusal_passes base es c x)
 
-up_step : (base : Base) (kept : Bool) (o : List Entry) (c : Command) (r : Reply) → (is_up base o ≡ true → effects base kept o ≡ effects base false o) → up_after (is_up base o) r ≡ true
+up_step : (base : Base) (kept : Bool) (o : List Entry) (c : Command) (r : Reply)
+    → (is_up base o ≡ true → effects base kept o ≡ effects base false o) → up_after (is_up base o) r ≡ true
     → after base kept c r (effects base (doubt_kept_before kept r) o) ≡ after base false c r (effects base (doubt_kept_before false r) o)
-up_step base kept o c (Restarted epoch found) before up = after_kept base kept c (Restarted epoch found) (effects base (says_doubt_kept found) o) refl
+up_step base kept o c (Restarted epoch found) before up =
+    after_kept base kept c (Restarted epoch found) (effects base (says_doubt_kept found) o) refl
 up_step base kept o c Unsure before up = cc
 up_step base kept o c StillDown before up = cc
-up_step base kept o c r before up = after_kept base kept c r (effects base kept o) refl ∙ ap (λ (es : List Effect). after base false c r es) (before up)
+up_step base kept o c r before up = after_kept base kept c r (effects base kept o) refl
+    ∙ ap (λ (es : List Effect). after base false c r es) (before up)
 
 -- what took effect at a site that is up doesn't rest on what the next restart finds
 pub nothing_in_doubt : (base : Base) (kept : Bool) (o : List Entry) → is_up base o ≡ true → effects base kept o ≡ effects base false o
@@ -68,7 +72,8 @@ epoch_answer at c n = refl
 -- ---- a restart
 
 -- what took effect after a restart is what it found, and the stop
-pub restarted_is : (base : Base) (kept : Bool) (e : Entry) (o : List Entry) (found : Last) → IsRestarted e found → effects base kept (e ∷ o) ≡ Stops ∷ effects base (says_doubt_kept found) o
+pub restarted_is : (base : Base) (kept : Bool) (e : Entry) (o : List Entry) (found : Last) → IsRestarted e found
+    → effects base kept (e ∷ o) ≡ Stops ∷ effects base (says_doubt_kept found) o
 restarted_is base kept e o found is =
     rw (is.0, is.2) refl
 
@@ -81,10 +86,12 @@ pub record IsKeptBy (schema : SchemaValue) (s : ℕ) (base : Base) (Holds : ℕ 
   pub stop : (n count m : ℕ) (es : List Effect) → n < m → Holds n count es → Holds m 0 (Stops ∷ es)
   pub carried : (o : List Entry) (c : Command) → first (refusals (place schema s base o) c) ≡ None → (kept : Bool)
       → Holds (epoch_of base o) (count_since is_begun_reply o) (effects base false o)
-      → Holds (epoch_of base o) (count_after is_begun_reply (count_since is_begun_reply o) (answer (place schema s base o) c)) (after base kept c (answer (place schema s base o) c) (effects base false o))
+      → Holds (epoch_of base o) (count_after is_begun_reply (count_since is_begun_reply o) (answer (place schema s base o) c))
+      (after base kept c (answer (place schema s base o) c) (effects base false o))
       × Holds (epoch_of base o) (count_since is_begun_reply o) (after base kept c Unsure (effects base false o))
 
-module _ (schema : SchemaValue) (s : ℕ) (base : Base) (Holds : ℕ → ℕ → List Effect → Type 0) (is : IsKeptBy schema s base Holds) (o : List Entry) where
+module _ (schema : SchemaValue) (s : ℕ) (base : Base) (Holds : ℕ → ℕ → List Effect
+    → Type 0) (is : IsKeptBy schema s base Holds) (o : List Entry) where
   abbrev here : Place
   here = place schema s base o
 
@@ -98,7 +105,8 @@ module _ (schema : SchemaValue) (s : ℕ) (base : Base) (Holds : ℕ → ℕ →
   Before = (kept : Bool) → Holds epoch count (effects base kept o)
 
   abbrev Then : Bool → Command → Reply → Type 0
-  Then kept c r = Holds (epoch_after epoch r) (count_after is_begun_reply count r) (after base kept c r (effects base (doubt_kept_before kept r) o))
+  Then kept c r = Holds (epoch_after epoch r) (count_after is_begun_reply count r)
+      (after base kept c r (effects base (doubt_kept_before kept r) o))
 
   same : (es : List Effect) → Holds epoch count es → Holds epoch (0 + count) es
   same es h = subst (λ (n : ℕ). Holds epoch n es) (sym (zero-add count)) h
@@ -108,7 +116,8 @@ module _ (schema : SchemaValue) (s : ℕ) (base : Base) (Holds : ℕ → ℕ →
       elim (match_cases (first (refusals here c)) _ _ fits) [
         | inl refused ↦
             subst (λ (x : Reply). Then kept c x) (sym refused.2)
-            (subst (λ (es : List Effect). Holds epoch (0 + count) es) (sym (after_refused base kept c refused.0 (effects base kept o))) (same (effects base kept o) (before kept)))
+            (subst (λ (es : List Effect). Holds epoch (0 + count) es) (sym (after_refused base kept c refused.0 (effects base kept o)))
+            (same (effects base kept o) (before kept)))
         | inr met ↦
             let may = is.carried o c met.0 kept (before false) in
             let sure = sym (nothing_in_doubt base kept o (up_there here c n met.0)) in
@@ -117,9 +126,11 @@ module _ (schema : SchemaValue) (s : ℕ) (base : Base) (Holds : ℕ → ℕ →
                   let reply = answer here c in
                   let number = count_after is_begun_reply count reply in
                   subst (λ (x : Reply). Then kept c x) (sym answered)
-                  (subst (λ (k : Bool). Holds (epoch_after epoch reply) number (after base kept c reply (effects base k o))) (sym (kept_before_answer here c kept))
+                  (subst (λ (k : Bool). Holds (epoch_after epoch reply) number (after base kept c reply (effects base k o)))
+                  (sym (kept_before_answer here c kept))
                   (subst (λ (es : List Effect). Holds (epoch_after epoch reply) number (after base kept c reply es)) sure
-                  (subst (λ (n : ℕ). Holds n number (after base kept c reply (effects base false o))) (sym (epoch_answer here c epoch)) may.0)))
+                  (subst (λ (n : ℕ). Holds n number (after base kept c reply (effects base false o)))
+                  (sym (epoch_answer here c epoch)) may.0)))
               | inr unsure ↦
                   subst (λ (x : Reply). Then kept c x) (sym unsure.0)
                   (subst (λ (es : List Effect). Holds epoch (0 + count) (after base kept c Unsure es)) sure
@@ -130,7 +141,8 @@ module _ (schema : SchemaValue) (s : ℕ) (base : Base) (Holds : ℕ → ℕ →
   restart_holds : (r : Reply) (kept : Bool) → RestartFits here r → Before → Then kept Restart r
   restart_holds StillDown kept fits before = same (effects base kept o) (before kept)
   restart_holds (Refused x) kept fits before = same (effects base kept o) (before kept)
-  restart_holds (Restarted next found) kept fits before = is.stop epoch count next _ (omega (arith, fits.0)) (before (says_doubt_kept found))
+  restart_holds (Restarted next found) kept fits before =
+      is.stop epoch count next _ (omega (arith, fits.0)) (before (says_doubt_kept found))
   restart_holds r kept fits before = absurd fits
 
   step_holds : (c : Command) (r : Reply) (kept : Bool) → Fits here c r → Before → Then kept c r
@@ -138,7 +150,9 @@ module _ (schema : SchemaValue) (s : ℕ) (base : Base) (Holds : ℕ → ℕ →
   step_holds c r kept fits before = answer_holds c r kept refl fits before
 
 -- so it holds after a run, whatever is kept
-pub run_holds : (schema : SchemaValue) (s : ℕ) (base : Base) (Holds : ℕ → ℕ → List Effect → Type 0) → IsKeptBy schema s base Holds → (o : List Entry) → IsRun schema s base o
+pub run_holds : (schema : SchemaValue) (s : ℕ) (base : Base) (Holds : ℕ → ℕ → List Effect → Type 0) → IsKeptBy schema s base Holds
+    → (o : List Entry) → IsRun schema s base o
     → (kept : Bool) → Holds (epoch_of base o) (count_since is_begun_reply o) (effects base kept o)
 run_holds schema s base Holds is [] run kept = is.start
-run_holds schema s base Holds is (e ∷ o) run kept = step_holds schema s base Holds is o e.command e.reply kept run.1 (run_holds schema s base Holds is o run.0)
+run_holds schema s base Holds is (e ∷ o) run kept =
+    step_holds schema s base Holds is o e.command e.reply kept run.1 (run_holds schema s base Holds is o run.0)

@@ -12,7 +12,12 @@ use Rattle.field_bounds.specs.Schema.{FieldValue, SchemaValue, same_field, same_
 use Rattle.field_bounds.specs.Kept.{stored_values}
 
 field_is_itself : (f : FieldValue) → same_field f f ≡ true
-field_is_itself f = rw ((bytes_eq-Decides f.name f.name).1 refl, (signed_Decides f.floor f.floor).1 refl, (signed_Decides f.ceiling f.ceiling).1 refl, (signed_Decides f.value f.value).1 refl) refl
+field_is_itself f = rw (
+  (bytes_eq-Decides f.name f.name).1 refl,
+  (signed_Decides f.floor f.floor).1 refl,
+  (signed_Decides f.ceiling f.ceiling).1 refl,
+  (signed_Decides f.value f.value).1 refl,
+) refl
 
 same_fields : (f g : FieldValue) → same_field f g ≡ true → f ≡ g
 same_fields f g h =
@@ -23,7 +28,8 @@ same_fields f g h =
     let floor = (signed_Decides f.floor g.floor).0 two.1 in
     let ceiling = (signed_Decides f.ceiling g.ceiling).0 three.1 in
     let value = (signed_Decides f.value g.value).0 all.1 in
-    let made : ◌≡◌ {A = FieldValue} (record { name = f.name; floor = f.floor; ceiling = f.ceiling; value = f.value }) (record { name = g.name; floor = g.floor; ceiling = g.ceiling; value = g.value }) = cc in
+    let made : ◌≡◌ {A = FieldValue} (record { name = f.name; floor = f.floor; ceiling = f.ceiling; value = f.value })
+    (record { name = g.name; floor = g.floor; ceiling = g.ceiling; value = g.value }) = cc in
     made
 
 field_decides : (f g : FieldValue) → Decides (same_field f g) (f ≡ g)
@@ -53,7 +59,8 @@ grouped false b c d = refl
 grouped true false c d = refl
 grouped true true c d = refl
 
-pub kept_same : (es fs : List (String Global × FieldBounds)) → pointwise kept_alike es fs ≡ pointwise same_field (stored_values es) (stored_values fs)
+pub kept_same : (es fs : List (String Global × FieldBounds))
+    → pointwise kept_alike es fs ≡ pointwise same_field (stored_values es) (stored_values fs)
 kept_same [] [] = refl
 kept_same [] (f ∷ fs) = refl
 kept_same (e ∷ es) [] = refl
@@ -62,5 +69,6 @@ kept_same (e ∷ es) (f ∷ fs) =
     rw (here, kept_same es fs) refl
 
 -- so where the numbers of sites are equal, schemas are told equal by their fields
-pub alike_is_same : (a b : SchemaValue) (es fs : List (String Global × FieldBounds)) → a.sites ≡ b.sites → a.fields ≡ stored_values es → b.fields ≡ stored_values fs → pointwise kept_alike es fs ≡ same_schema a b
+pub alike_is_same : (a b : SchemaValue) (es fs : List (String Global × FieldBounds)) → a.sites ≡ b.sites → a.fields ≡ stored_values es
+    → b.fields ≡ stored_values fs → pointwise kept_alike es fs ≡ same_schema a b
 alike_is_same a b es fs sites here there = rw (eq-eqb a.sites b.sites sites, here, there) (kept_same es fs)

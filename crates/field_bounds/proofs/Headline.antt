@@ -37,7 +37,8 @@ ShortHolds (test ∷ rest) h = short_here test.0 test.1 h (ShortHolds rest h)
 some_short : (x h : ℕ) → Some (Short x) ≡ Some (Short h) → x ≡ h
 some_short x h e = cc
 
-short_step : (b : Bool) (r : Refusal) (rest : List Test) (h : ℕ) → (if b then Some r else first rest) ≡ Some (Short h) → (first rest ≡ Some (Short h) → ShortHolds rest h) → short_here b r h (ShortHolds rest h)
+short_step : (b : Bool) (r : Refusal) (rest : List Test) (h : ℕ) → (if b then Some r else first rest) ≡ Some (Short h)
+    → (first rest ≡ Some (Short h) → ShortHolds rest h) → short_here b r h (ShortHolds rest h)
 short_step true (Short x) rest h e more = inl (refl, some_short x h e)
 short_step false (Short x) rest h e more = inr (more e)
 short_step true r rest h e more = cc
@@ -56,7 +57,8 @@ abbrev NoneBefore : List Test → Type 0
 NoneBefore [] = Unit {0}
 NoneBefore (test ∷ rest) = before_short test.0 test.1 (NoneBefore rest)
 
-before_step : (b : Bool) (r : Refusal) (rest : List Test) (h : ℕ) → (if b then Some r else first rest) ≡ Some (Short h) → (first rest ≡ Some (Short h) → NoneBefore rest) → before_short b r (NoneBefore rest)
+before_step : (b : Bool) (r : Refusal) (rest : List Test) (h : ℕ) → (if b then Some r else first rest) ≡ Some (Short h)
+    → (first rest ≡ Some (Short h) → NoneBefore rest) → before_short b r (NoneBefore rest)
 before_step b (Short x) rest h e more = tt
 before_step true r rest h e more = cc
 before_step false r rest h e more = (refl, more e)
@@ -72,14 +74,16 @@ answer_is_no_refusal : (at : Place) (c : Command) → is_refused (answer at c) �
 answer_is_no_refusal at Begin = refl
 answer_is_no_refusal at c = refl
 
-short_fits : (at : Place) (c : Command) (h : ℕ) → AnswerFits at c (Refused (Short h)) → ShortHolds (refusals at c) h × NoneBefore (refusals at c)
+short_fits : (at : Place) (c : Command) (h : ℕ) → AnswerFits at c (Refused (Short h)) → ShortHolds (refusals at c) h
+    × NoneBefore (refusals at c)
 short_fits at c h fits =
     elim (match_cases (first (refusals at c)) _ _ fits) [
       | inl refused ↦
           let is = refused.1 ∙ ap Some (sym (refused_same (Short h) refused.0 refused.2)) in
           (short_holds (refusals at c) h is, none_before (refusals at c) h is)
       | inr met ↦ elim met.1 [
-        | inl same ↦ let refuses : is_refused (answer at c) ≡ true = ap is_refused (sym same) in let not_so = answer_is_no_refusal at c in cc
+        | inl same ↦ let refuses : is_refused (answer at c) ≡ true = ap is_refused (sym same) in let not_so = answer_is_no_refusal at c in
+            cc
         | inr unsure ↦ let refuses : is_refused Unsure ≡ true = ap is_refused (sym unsure.0) in cc
       ]
     ]
@@ -89,7 +93,8 @@ short_fits at c h fits =
 between_same : (a b c d : ℤ) → Between a b ≡ Between c d → (a ≡ c) × (b ≡ d)
 between_same a b c d e = (cc, cc)
 
-module _ (schema : SchemaValue) (good : IsSchema schema) (t : List Entry) (sound : IsSound schema t) (s : ℕ) (below : s < schema.sites) where
+module _ (schema : SchemaValue) (good : IsSchema schema) (t : List Entry) (sound : IsSound schema t) (s : ℕ)
+    (below : s < schema.sites) where
   law : IsConserved schema t
   law = is_conserved schema good t sound
 
@@ -99,7 +104,8 @@ module _ (schema : SchemaValue) (good : IsSchema schema) (t : List Entry) (sound
   cut_within : (f : ℕ) (k : Kind) → cut (fresh schema s) f k (at_site schema t s) ≤ cuts schema t f k
   cut_within f k = term_below schema.sites (λ i. cut (fresh schema i) f k (at_site schema t i)) s below
 
-  open_within : (f : ℕ) (k : Kind) → granted_sizes (λ id. is_open id (at_site schema t s)) f k (at_site schema t s) ≤ open_sizes schema t f k
+  open_within : (f : ℕ) (k : Kind) → granted_sizes (λ id. is_open id (at_site schema t s)) f k (at_site schema t s)
+      ≤ open_sizes schema t f k
   open_within f k =
       omega (arith, traced schema good t sound (is_open_in schema t) f k, term_below schema.sites (open_of schema good t sound f k) s below)
 
@@ -149,8 +155,12 @@ module _ (schema : SchemaValue) (good : IsSchema schema) (t : List Entry) (sound
   interval_step : (c : Command) (r : Reply) → Fits (place schema s (fresh schema s) (own s t)) c r → IntervalRule schema t c r
   interval_step (Read field) (Between lo hi) fits =
       let both = between_same _ _ _ _ (answered (place schema s (fresh schema s) (own s t)) (Read field) (Between lo hi) fits refl).1 in
-      let low : lo ≡ ((field_at schema field.0).floor +ℤ pos (cut (fresh schema s) field.0 Lower (at_site schema t s) + own_rights (fresh schema s) field.0 Lower (at_site schema t s))) = both.0 in
-      let high : hi ≡ ((field_at schema field.0).ceiling -ℤ pos (cut (fresh schema s) field.0 Raise (at_site schema t s) + own_rights (fresh schema s) field.0 Raise (at_site schema t s))) = both.1 in
+      let low : lo ≡ ((field_at schema field.0).floor +ℤ pos
+      (cut (fresh schema s) field.0 Lower (at_site schema t s) + own_rights (fresh schema s) field.0 Lower (at_site schema t s))) =
+      both.0 in
+      let high : hi ≡ ((field_at schema field.0).ceiling -ℤ pos
+      (cut (fresh schema s) field.0 Raise (at_site schema t s) + own_rights (fresh schema s) field.0 Raise (at_site schema t s))) =
+      both.1 in
       λ known. (
         omega (arith, ints, low, law.lowering field.0, share_within field.0 Lower, cut_within field.0 Lower, open_within field.0 Lower),
         omega (arith, ints, high, law.raising field.0, share_within field.0 Raise, cut_within field.0 Raise, open_within field.0 Raise),
@@ -177,7 +187,8 @@ sound_is_central schema good (e ∷ t) sound =
     (sound_is_central schema good t (sound_front schema e t sound), keeps_rules schema good e t sound)
 
 -- the infimum is not below the floor, and the supremum not above the ceiling
-pub within_bounds : (schema : SchemaValue) → IsSchema schema → (t : List Entry) → IsSound schema t → (f : ℕ) → (floor_in schema t f ≤ℤ inf schema t f) × (sup schema t f ≤ℤ ceiling_in schema t f)
+pub within_bounds : (schema : SchemaValue) → IsSchema schema → (t : List Entry) → IsSound schema t → (f : ℕ)
+    → (floor_in schema t f ≤ℤ inf schema t f) × (sup schema t f ≤ℤ ceiling_in schema t f)
 within_bounds schema good t sound f =
     let law = is_conserved schema good t sound in
     (omega (arith, ints, law.lowering f), omega (arith, ints, law.raising f))

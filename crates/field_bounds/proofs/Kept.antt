@@ -17,17 +17,23 @@ use Rattle.field_bounds.specs.Schema.{FieldValue, SchemaValue}
 use Rattle.field_bounds.specs.Limits.{max_sites, max_fields, is_name, is_used, has_bounds, field_fault, first_fault, or_else, unless, IsField, HasOwnNames, IsSchema}
 use Rattle.field_bounds.specs.Kept.{entry_value, stored_values}
 
-pub field_is : (es : List (String Global × FieldBounds)) (i : ℕ) (e : String Global × FieldBounds) (d : FieldValue) → slice_get es i ≡ Some e → slice_index_or (stored_values es) i d ≡ entry_value e
-field_is es i e d h = get_or_from_slice_get (stored_values es) i (entry_value e) d (slice_get-map entry_value es i ∙ ap (λ o. option_map entry_value o) h)
+pub field_is : (es : List (String Global × FieldBounds)) (i : ℕ) (e : String Global × FieldBounds) (d : FieldValue)
+    → slice_get es i ≡ Some e → slice_index_or (stored_values es) i d ≡ entry_value e
+field_is es i e d h = get_or_from_slice_get (stored_values es) i (entry_value e) d
+    (slice_get-map entry_value es i ∙ ap (λ o. option_map entry_value o) h)
 
-prefix_len-kept : (p : List ℕ → Bool) (es : List (String Global × FieldBounds)) → prefix_len (λ k. not (p (string_bytes k))) (keys_of es) ≡ prefix_len (λ f. not (p f.name)) (stored_values es)
+prefix_len-kept : (p : List ℕ → Bool) (es : List (String Global × FieldBounds))
+    → prefix_len (λ k. not (p (string_bytes k))) (keys_of es) ≡ prefix_len (λ f. not (p f.name)) (stored_values es)
 prefix_len-kept p [] = refl
 prefix_len-kept p (e ∷ es) = ap (λ n. cond (not (p (string_bytes e.0))) (1 + n) 0) (prefix_len-kept p es)
 
-pub place_is : (name : List ℕ) (es : List (String Global × FieldBounds)) → position (λ k. bytes_eq name (string_bytes k)) (keys_of es) ≡ position (λ f. bytes_eq name f.name) (stored_values es)
+pub place_is : (name : List ℕ) (es : List (String Global × FieldBounds))
+    → position (λ k. bytes_eq name (string_bytes k)) (keys_of es) ≡ position (λ f. bytes_eq name f.name) (stored_values es)
 place_is name es = rw (prefix_len-kept (bytes_eq name) es, length-map es (λ e. e.0), length-map es entry_value) refl
 
-pub clone_is : (D : FieldBounds → FieldBounds → Type 0) → ((x y : FieldBounds) → D x y → y ≡ x) → (es fs : List (String Global × FieldBounds)) → AllZip (λ p q. (string_bytes q.0 ≡ string_bytes p.0) × D p.1 q.1) es fs → stored_values fs ≡ stored_values es
+pub clone_is : (D : FieldBounds → FieldBounds → Type 0) → ((x y : FieldBounds) → D x y → y ≡ x)
+    → (es fs : List (String Global × FieldBounds)) → AllZip (λ p q. (string_bytes q.0 ≡ string_bytes p.0) × D p.1 q.1) es fs
+    → stored_values fs ≡ stored_values es
 clone_is D same [] [] h = refl
 clone_is D same [] (f ∷ fs) h = absurd h
 clone_is D same (e ∷ es) [] h = absurd h
@@ -49,11 +55,13 @@ ordered : (a b : ℤ) → int_le a b ≡ true → a ≤ℤ b
 ordered a b h = le_z_yes (subst T (sym h) tt)
 
 -- what a field without a fault is
-field_passed : (before : List FieldValue) (f : FieldValue) → field_fault before f ≡ None → (is_name f.name ≡ true) × (is_used before f.name ≡ false) × (has_bounds f ≡ true)
+field_passed : (before : List FieldValue) (f : FieldValue) → field_fault before f ≡ None → (is_name f.name ≡ true)
+    × (is_used before f.name ≡ false) × (has_bounds f ≡ true)
 unfolding field_fault
 field_passed before f h = by (is_name f.name) (is_used before f.name) (has_bounds f) h
   where
-    by : (named used bounded : Bool) → cond named (cond used (Some NameUsed) (cond bounded None (Some Bounds))) (Some Name) ≡ None → (named ≡ true) × (used ≡ false) × (bounded ≡ true)
+    by : (named used bounded : Bool) → cond named (cond used (Some NameUsed) (cond bounded None (Some Bounds))) (Some Name) ≡ None
+        → (named ≡ true) × (used ≡ false) × (bounded ≡ true)
     by true false true h = (refl, refl, refl)
     by true false false h = absurd cc
     by true true bounded h = absurd cc
@@ -80,18 +88,27 @@ kept_all None x y h = (refl, cc)
 kept_all (Some e) x y h = absurd cc
 
 -- what the limits let pass is within them
-pub IsSchema-of : (sites : ℕ) (fs : List FieldValue) (s : SchemaValue) → 1 ≤ sites → sites ≤ max_sites → 1 ≤ length fs → length fs ≤ max_fields → unless (first_fault [] fs) (record { sites = sites; fields = fs }) ≡ Ok s → IsSchema s
+pub IsSchema-of : (sites : ℕ) (fs : List FieldValue) (s : SchemaValue) → 1 ≤ sites → sites ≤ max_sites → 1 ≤ length fs
+    → length fs ≤ max_fields → unless (first_fault [] fs) (record { sites = sites; fields = fs }) ≡ Ok s → IsSchema s
 IsSchema-of sites fs s some few some_field few_fields h =
     let made : SchemaValue = record { sites = sites; fields = fs } in
     let p = kept_all (first_fault [] fs) made s h in
     let q = all_pass [] fs p.0 in
-    subst IsSchema p.1 (record { some_site = some; few_sites = few; some_field = some_field; few_fields = few_fields; each = q.0; own_names = q.1 })
+    subst IsSchema p.1 (record {
+      some_site = some;
+      few_sites = few;
+      some_field = some_field;
+      few_fields = few_fields;
+      each = q.0;
+      own_names = q.1;
+    })
 
 made_of : {A B : Type 0} (g : A → B) (o : Option SchemaFault) (x y : A) → unless o x ≡ Ok y → unless o (g x) ≡ Ok (g y)
 made_of g None x y h = let same : x ≡ y = cc in ap (λ z. Ok (g z)) same
 made_of g (Some e) x y h = absurd cc
 
-pub IsSchema-from : (sites : ℕ) (fs kept : List FieldValue) → 1 ≤ sites → sites ≤ max_sites → 1 ≤ length fs → length fs ≤ max_fields → unless (first_fault [] fs) fs ≡ Ok kept → IsSchema (record { sites = sites; fields = kept })
+pub IsSchema-from : (sites : ℕ) (fs kept : List FieldValue) → 1 ≤ sites → sites ≤ max_sites → 1 ≤ length fs → length fs ≤ max_fields
+    → unless (first_fault [] fs) fs ≡ Ok kept → IsSchema (record { sites = sites; fields = kept })
 IsSchema-from sites fs kept some few some_field few_fields h =
     let of : List FieldValue → SchemaValue = λ (k : List FieldValue). record { sites = sites; fields = k } in
     IsSchema-of sites fs (of kept) some few some_field few_fields (made_of of (first_fault [] fs) fs kept h)
@@ -105,14 +122,18 @@ not_at name key not_text = by (bytes_eq name (string_bytes key)) (bytes_eq-Decid
     by true d = absurd (not_text (subst IsUtf8 (sym (d.0 refl)) (IsUtf8-string_bytes key)))
     by false d = refl
 
-passes_all : (name : List ℕ) (es : List (String Global × FieldBounds)) → ¬ IsUtf8 name → prefix_len (λ f. not (bytes_eq name f.name)) (stored_values es) ≡ length (stored_values es)
+passes_all : (name : List ℕ) (es : List (String Global × FieldBounds)) → ¬ IsUtf8 name
+    → prefix_len (λ f. not (bytes_eq name f.name)) (stored_values es) ≡ length (stored_values es)
 passes_all name [] not_text = refl
 passes_all name (e ∷ es) not_text =
-    ap (λ b. cond (not b) (1 + prefix_len (λ f. not (bytes_eq name f.name)) (stored_values es)) 0) (not_at name e.0 not_text) ∙ omega (arith, passes_all name es not_text)
+    ap (λ b. cond (not b) (1 + prefix_len (λ f. not (bytes_eq name f.name)) (stored_values es)) 0) (not_at name e.0 not_text)
+    ∙ omega (arith, passes_all name es not_text)
 
 -- bytes that are no text name no field
-pub no_place : (name : List ℕ) (es : List (String Global × FieldBounds)) → ¬ IsUtf8 name → position (λ f. bytes_eq name f.name) (stored_values es) ≡ None
+pub no_place : (name : List ℕ) (es : List (String Global × FieldBounds)) → ¬ IsUtf8 name
+    → position (λ f. bytes_eq name f.name) (stored_values es) ≡ None
 no_place name es not_text =
     let all = passes_all name es not_text in
-    let past : ltb (prefix_len (λ f. not (bytes_eq name f.name)) (stored_values es)) (length (stored_values es)) ≡ false = le-ltb _ _ (omega (arith, all)) in
+    let past : ltb (prefix_len (λ f. not (bytes_eq name f.name)) (stored_values es)) (length (stored_values es)) ≡ false =
+    le-ltb _ _ (omega (arith, all)) in
     rw past refl

@@ -25,7 +25,8 @@ IsReceiver schema None = Unit {0}
 IsReceiver schema (Some site) = site.0 < schema.sites
 
 -- what leaves keeps to
-pub record MayGive (schema : SchemaValue) (base : Base) (es : List Effect) (to : Option SiteNo) (f : ℕ) (k : Kind) (amount : ℕ) : Type 0 where
+pub record MayGive (schema : SchemaValue) (base : Base) (es : List Effect) (to : Option SiteNo) (f : ℕ) (k : Kind)
+    (amount : ℕ) : Type 0 where
   pub to_site : IsReceiver schema to
   pub in_schema : f < length schema.fields
   pub enough : amount ≤ share base f k es
@@ -69,10 +70,16 @@ counted-mono true false q n h = omega arith
 counted-mono true true q n h = rw (h refl) (omega arith)
 
 -- more transactions that pass, a greater sum
-pub granted-mono : (p q : TxnId → Bool) → ((id : TxnId) → p id ≡ true → q id ≡ true) → (f : ℕ) (k : Kind) (es : List Effect) → granted_sizes p f k es ≤ granted_sizes q f k es
+pub granted-mono : (p q : TxnId → Bool) → ((id : TxnId) → p id ≡ true → q id ≡ true) → (f : ℕ) (k : Kind) (es : List Effect)
+    → granted_sizes p f k es ≤ granted_sizes q f k es
 granted-mono p q h f k [] = omega arith
 granted-mono p q h f k (Grants txn field change ∷ es) =
-    omega (arith, granted-mono p q h f k es, counted-mono (eqb field.0 f && same_kind (kind_of change) k) (p txn) (q txn) (unsigned_abs change) (h txn))
+    omega (
+      arith,
+      granted-mono p q h f k es,
+      counted-mono (eqb field.0 f && same_kind (kind_of change) k) (p txn) (q txn)
+          (unsigned_abs change) (h txn),
+    )
 granted-mono p q h f k (Begins txn ∷ es) = granted-mono p q h f k es
 granted-mono p q h f k (Commits txn ∷ es) = granted-mono p q h f k es
 granted-mono p q h f k (Aborts txn ∷ es) = granted-mono p q h f k es
@@ -81,7 +88,8 @@ granted-mono p q h f k (Accepts from field kind total ∷ es) = granted-mono p q
 granted-mono p q h f k (Stops ∷ es) = granted-mono p q h f k es
 
 -- an escrow or a gift of the kind takes at most the share, and one of another kind or field takes nothing
-taken : (share_of : ℕ → Kind → ℕ) (field f : ℕ) (kind k : Kind) (p : Bool) (n : ℕ) → n ≤ share_of field kind → cond (eqb field f && same_kind kind k && p) n 0 ≤ share_of f k
+taken : (share_of : ℕ → Kind → ℕ) (field f : ℕ) (kind k : Kind) (p : Bool) (n : ℕ) → n ≤ share_of field kind
+    → cond (eqb field f && same_kind kind k && p) n 0 ≤ share_of f k
 taken share_of field f kind k p n h =
     elim (cases_Bool (eqb field f && same_kind kind k && p)) as (λ _. cond (eqb field f && same_kind kind k && p) n 0 ≤ share_of f k) [
       | inl is ↦
@@ -107,29 +115,40 @@ open_parts false true h = cc
 open_parts false false h = (refl, refl)
 
 -- the rights out are within the rights in, so that no share is cut off at zero
-pub covered : (schema : SchemaValue) (base : Base) (es : List Effect) → IsLawful schema base es → (f : ℕ) (k : Kind) → rights_out f k es ≤ rights_in base f k es
+pub covered : (schema : SchemaValue) (base : Base) (es : List Effect) → IsLawful schema base es → (f : ℕ) (k : Kind)
+    → rights_out f k es ≤ rights_in base f k es
 covered schema base [] lawful f k = omega arith
 covered schema base (Begins txn ∷ es) lawful f k = covered schema base es lawful.0 f k
 covered schema base (Grants txn field change ∷ es) lawful f k =
-    omega (arith, covered schema base es lawful.0 f k, taken (λ f' k'. share base f' k' es) field.0 f (kind_of change) k true (unsigned_abs change) lawful.1.enough)
+    omega (
+      arith,
+      covered schema base es lawful.0 f k,
+      taken (λ f' k'. share base f' k' es) field.0 f (kind_of change) k true (unsigned_abs change) lawful.1.enough,
+    )
 covered schema base (Commits txn ∷ es) lawful f k =
     omega (
       arith,
       covered schema base es lawful.0 f k,
-      granted-mono (λ id. is_aborted id es) (λ id. is_aborted id (Commits txn ∷ es)) (λ id. commits_open (same_txn txn id) (is_committed id es) (is_dropped id es) (λ same. ap (λ (x : TxnId). is_dropped x es) (sym (same_txn-true txn id same)) ∙ (open_parts (is_committed txn es) (is_dropped txn es) lawful.1.1).1)) f k es,
-      granted-mono (λ id. is_committed id es) (λ id. is_committed id (Commits txn ∷ es)) (λ id h. or_right (same_txn txn id) (is_committed id es) h) f (other k) es,
+      granted-mono (λ id. is_aborted id es) (λ id. is_aborted id (Commits txn ∷ es))
+          (λ id. commits_open (same_txn txn id) (is_committed id es) (is_dropped id es)
+          (λ same. ap (λ (x : TxnId). is_dropped x es) (sym (same_txn-true txn id same))
+          ∙ (open_parts (is_committed txn es) (is_dropped txn es) lawful.1.1).1)) f k es,
+      granted-mono (λ id. is_committed id es) (λ id. is_committed id (Commits txn ∷ es))
+          (λ id h. or_right (same_txn txn id) (is_committed id es) h) f (other k) es,
     )
 covered schema base (Aborts txn ∷ es) lawful f k =
     omega (
       arith,
       covered schema base es lawful.0 f k,
-      granted-mono (λ id. is_aborted id es) (λ id. is_aborted id (Aborts txn ∷ es)) (λ id. stays_dropped (is_committed id es) (is_dropped id es) (same_txn txn id)) f k es,
+      granted-mono (λ id. is_aborted id es) (λ id. is_aborted id (Aborts txn ∷ es))
+          (λ id. stays_dropped (is_committed id es) (is_dropped id es) (same_txn txn id)) f k es,
     )
 covered schema base (Stops ∷ es) lawful f k =
     omega (
       arith,
       covered schema base es lawful.0 f k,
-      granted-mono (λ id. is_aborted id es) (λ id. is_aborted id (Stops ∷ es)) (λ id. stays_dropped (is_committed id es) (is_dropped id es) (is_begun id es)) f k es,
+      granted-mono (λ id. is_aborted id es) (λ id. is_aborted id (Stops ∷ es))
+          (λ id. stays_dropped (is_committed id es) (is_dropped id es) (is_begun id es)) f k es,
     )
 covered schema base (Gives to field kind amount ∷ es) lawful f k =
     omega (arith, covered schema base es lawful.0 f k, taken (λ f' k'. share base f' k' es) field.0 f kind k true amount lawful.1.enough)

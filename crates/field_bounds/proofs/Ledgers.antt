@@ -31,7 +31,8 @@ all_count Unsure = refl
 all_count r = refl
 
 -- only what a spare in doubt does rests on what took effect before it
-sure_effect : (base : Base) (es before : List Effect) (c : Command) (r : Reply) → is_unsure r ≡ false → effect_of base es c r ≡ effect_of base before c r
+sure_effect : (base : Base) (es before : List Effect) (c : Command) (r : Reply) → is_unsure r ≡ false
+    → effect_of base es c r ≡ effect_of base before c r
 sure_effect base es before (Spare to field kind want) Unsure h = cc
 sure_effect base es before c r h = refl
 
@@ -49,7 +50,8 @@ module _ (base : Base) (p : Option SiteNo → Bool) (f : ℕ) (k : Kind) where
   gifts_grow : (kept : Bool) (c : Command) (r : Reply) (es : List Effect) → gifts p f k es ≤ gifts p f k (after base kept c r es)
   gifts_grow kept c r es = gifts_with (counts kept r) (effect_of base es c r) es
 
-  more_with : (few many : Bool) (effect : Option Effect) (less more : List Effect) → (few ≡ true → many ≡ true) → gifts p f k less ≤ gifts p f k more
+  more_with : (few many : Bool) (effect : Option Effect) (less more : List Effect) → (few ≡ true → many ≡ true)
+      → gifts p f k less ≤ gifts p f k more
       → gifts p f k (with_effect few effect less) ≤ gifts p f k (with_effect many effect more)
   more_with few many None less more counted h = h
   more_with true false (Some effect) less more counted h = cc (counted refl)
@@ -57,16 +59,25 @@ module _ (base : Base) (p : Option SiteNo → Bool) (f : ℕ) (k : Kind) where
   more_with true true (Some effect) less more counted h = h
   more_with false many (Some effect) less more counted h = omega (arith, h, gifts_with many (Some effect) more)
 
-  kept_more : (c : Command) (r : Reply) (less more : List Effect) → gifts p f k less ≤ gifts p f k more → gifts p f k (after base false c r less) ≤ gifts p f k (after base true c r more)
+  kept_more : (c : Command) (r : Reply) (less more : List Effect) → gifts p f k less ≤ gifts p f k more
+      → gifts p f k (after base false c r less) ≤ gifts p f k (after base true c r more)
   kept_more c Unsure less more h =
-      omega (arith, h, ap (gifts p f k) (uncounted (effect_of base less c Unsure) less), gifts_with true (effect_of base more c Unsure) more)
+      omega (
+        arith,
+        h,
+        ap (gifts p f k) (uncounted (effect_of base less c Unsure) less),
+        gifts_with true (effect_of base more c Unsure) more,
+      )
   kept_more c r less more h =
-      subst (λ (effect : Option Effect). gifts p f k (with_effect (counts false r) effect less) ≤ gifts p f k (after base true c r more)) (sym (sure_effect base less more c r refl))
+      subst (λ (effect : Option Effect). gifts p f k (with_effect (counts false r) effect less) ≤ gifts p f k (after base true c r more))
+      (sym (sure_effect base less more c r refl))
       (more_with (counts false r) (counts true r) (effect_of base more c r) less more (λ _. all_count r) h)
 
   kept_step : (c : Command) (r : Reply) (o : List Entry) → gifts p f k (effects base false o) ≤ gifts p f k (effects base true o)
-      → gifts p f k (after base false c r (effects base (doubt_kept_before false r) o)) ≤ gifts p f k (after base true c r (effects base (doubt_kept_before true r) o))
-  kept_step c (Restarted epoch found) o before = kept_more c (Restarted epoch found) (effects base (says_doubt_kept found) o) (effects base (says_doubt_kept found) o) (omega arith)
+      → gifts p f k (after base false c r (effects base (doubt_kept_before false r) o))
+      ≤ gifts p f k (after base true c r (effects base (doubt_kept_before true r) o))
+  kept_step c (Restarted epoch found) o before = kept_more c (Restarted epoch found) (effects base (says_doubt_kept found) o)
+      (effects base (says_doubt_kept found) o) (omega arith)
   kept_step c r o before = kept_more c r (effects base false o) (effects base true o) before
 
   -- what is kept can only add to what was given
@@ -86,7 +97,8 @@ module _ (base : Base) (p : Option SiteNo → Bool) (f : ℕ) (k : Kind) where
         any_kept (doubt_kept_before false e.reply) o,
       )
 
-left_grows : (schema : SchemaValue) (e : Entry) (t : List Entry) (p : Option SiteNo → Bool) (f : ℕ) (k : Kind) (s : ℕ) → gifts p f k (at_site schema t s) ≤ gifts p f k (at_site schema (e ∷ t) s)
+left_grows : (schema : SchemaValue) (e : Entry) (t : List Entry) (p : Option SiteNo → Bool) (f : ℕ) (k : Kind) (s : ℕ)
+    → gifts p f k (at_site schema t s) ≤ gifts p f k (at_site schema (e ∷ t) s)
 left_grows schema e t p f k s =
     let of : List Entry → ℕ = λ o. gifts p f k (effects (fresh schema s) false o) in
     elim (cases_eq e.site.0 s) [
@@ -94,14 +106,17 @@ left_grows schema e t p f k s =
       | inr there ↦ omega (arith, ap of (own_there s e t there))
     ]
 
-pub given_grows : (schema : SchemaValue) (e : Entry) (t : List Entry) (f : ℕ) (k : Kind) (from to : ℕ) → given_between schema t f k from to ≤ given_between schema (e ∷ t) f k from to
+pub given_grows : (schema : SchemaValue) (e : Entry) (t : List Entry) (f : ℕ) (k : Kind) (from to : ℕ)
+    → given_between schema t f k from to ≤ given_between schema (e ∷ t) f k from to
 given_grows schema e t f k from to = omega (arith, left_grows schema e t (is_to to) f k from)
 
-cut_grows : (schema : SchemaValue) (e : Entry) (t : List Entry) (f : ℕ) (k : Kind) (s : ℕ) → cut (fresh schema s) f k (at_site schema t s) ≤ cut (fresh schema s) f k (at_site schema (e ∷ t) s)
+cut_grows : (schema : SchemaValue) (e : Entry) (t : List Entry) (f : ℕ) (k : Kind) (s : ℕ)
+    → cut (fresh schema s) f k (at_site schema t s) ≤ cut (fresh schema s) f k (at_site schema (e ∷ t) s)
 cut_grows schema e t f k s = omega (arith, left_grows schema e t is_for_good f k s)
 
 -- what was given up is never less behind more entries
-pub cuts_grow : (schema : SchemaValue) (later before : List Entry) (f : ℕ) (k : Kind) → cuts schema before f k ≤ cuts schema (later ++ before) f k
+pub cuts_grow : (schema : SchemaValue) (later before : List Entry) (f : ℕ) (k : Kind)
+    → cuts schema before f k ≤ cuts schema (later ++ before) f k
 cuts_grow schema [] before f k = omega arith
 cuts_grow schema (e ∷ later) before f k =
     omega (
@@ -137,28 +152,40 @@ stated_total m n h = cc
 spared_parts : (a m b n : ℕ) → Spared a m ≡ Spared b n → (a ≡ b) × (m ≡ n)
 spared_parts a m b n h = (cc, cc)
 
-pub told_is_covered : (at : Place) (from : SiteNo) (c : Command) (r : Reply) (told : Statement) → Fits at c r → told_by from c r ≡ Some told → (told.from ≡ from) × IsCovered at c r told
+pub told_is_covered : (at : Place) (from : SiteNo) (c : Command) (r : Reply) (told : Statement) → Fits at c r → told_by from c r ≡ Some told
+    → (told.from ≡ from) × IsCovered at c r told
 told_is_covered at from (Give to field kind amount) (Given total) told fits h =
     let made : Statement = record { from = from; to = to; field = field; kind = kind; total = total } in
     let is = given_total _ _ (answered at (Give to field kind amount) (Given total) fits refl).1 in
     let on = same_here field.0 kind to.0 in
-    let covers : total ≤ total_given at.base to.0 field.0 kind (Gives (Some to) field kind amount ∷ at.effects) = rw on (omega (arith, is)) in
-    subst (λ (x : Statement). (x.from ≡ from) × IsCovered at (Give to field kind amount) (Given total) x) (some_same made told h) (refl, covers)
+    let covers : total ≤ total_given at.base to.0 field.0 kind (Gives (Some to) field kind amount ∷ at.effects) =
+    rw on (omega (arith, is)) in
+    subst (λ (x : Statement). (x.from ≡ from) × IsCovered at (Give to field kind amount) (Given total) x) (some_same made told h) (
+      refl,
+      covers,
+    )
 told_is_covered at from (Restate to field kind) (Stated total) told fits h =
     let made : Statement = record { from = from; to = to; field = field; kind = kind; total = total } in
     let is = stated_total _ _ (answered at (Restate to field kind) (Stated total) fits refl).1 in
     let covers : total ≤ total_given at.base to.0 field.0 kind at.effects = omega (arith, is) in
-    subst (λ (x : Statement). (x.from ≡ from) × IsCovered at (Restate to field kind) (Stated total) x) (some_same made told h) (refl, covers)
+    subst (λ (x : Statement). (x.from ≡ from) × IsCovered at (Restate to field kind) (Stated total) x) (some_same made told h) (
+      refl,
+      covers,
+    )
 told_is_covered at from (Spare to field kind want) (Spared amount total) told fits h =
     let made : Statement = record { from = from; to = to; field = field; kind = kind; total = total } in
     let spares = spare_of at field kind want in
-    let is = spared_parts amount total spares (told_so_far at to field kind + spares) (answered at (Spare to field kind want) (Spared amount total) fits refl).1 in
+    let is = spared_parts amount total spares (told_so_far at to field kind + spares)
+    (answered at (Spare to field kind want) (Spared amount total) fits refl).1 in
     let on = same_here field.0 kind to.0 in
-    let covers : total ≤ total_given at.base to.0 field.0 kind (Gives (Some to) field kind amount ∷ at.effects) = rw on (omega (arith, is.0, is.1)) in
-    subst (λ (x : Statement). (x.from ≡ from) × IsCovered at (Spare to field kind want) (Spared amount total) x) (some_same made told h) (refl, covers)
+    let covers : total ≤ total_given at.base to.0 field.0 kind (Gives (Some to) field kind amount ∷ at.effects) =
+    rw on (omega (arith, is.0, is.1)) in
+    subst (λ (x : Statement). (x.from ≡ from) × IsCovered at (Spare to field kind want) (Spared amount total) x) (some_same made told h)
+    (refl, covers)
 told_is_covered at from c r told fits h = cc
 
-kept_before_told : (from : SiteNo) (c : Command) (r : Reply) (told : Statement) → told_by from c r ≡ Some told → doubt_kept_before false r ≡ false
+kept_before_told : (from : SiteNo) (c : Command) (r : Reply) (told : Statement) → told_by from c r ≡ Some told
+    → doubt_kept_before false r ≡ false
 kept_before_told from (Give to field kind amount) (Given total) told h = refl
 kept_before_told from (Restate to field kind) (Stated total) told h = refl
 kept_before_told from (Spare to field kind want) (Spared amount total) told h = refl
@@ -180,7 +207,8 @@ issued_is_covered schema (e ∷ t) sound told (inl now) =
     let told_now = told_is_covered (place schema s base (own s t)) e.site e.command e.reply told (sound_fits schema e t sound) now in
     let of : List Effect → ℕ = λ es. total_given base told.to.0 told.field.0 told.kind es in
     let last_was : of (after base false e.command e.reply (effects base false (own s t))) ≡ of (effects base false (e ∷ own s t)) =
-    ap (λ (b : Bool). of (after base false e.command e.reply (effects base b (own s t)))) (sym (kept_before_told e.site e.command e.reply told now)) in
+    ap (λ (b : Bool). of (after base false e.command e.reply (effects base b (own s t))))
+    (sym (kept_before_told e.site e.command e.reply told now)) in
     let here : of (effects base false (own s (e ∷ t))) ≡ of (effects base false (e ∷ own s t)) =
     ap (λ (o : List Entry). of (effects base false o)) (own_here s e t refl) in
     let from_here : s ≡ told.from.0 = ap (λ (x : SiteNo). x.0) (sym told_now.0) in
@@ -195,10 +223,12 @@ AcceptsWithin bound from f k (Some (Accepts site field kind total)) = site.0 ≡
 AcceptsWithin bound from f k effect = Unit {0}
 
 module _ (base : Base) (bound from f : ℕ) (k : Kind) where
-  merged : (site : SiteNo) (field : FieldNo) (kind : Kind) (total before : ℕ) → before ≤ bound → (site.0 ≡ from → field.0 ≡ f → kind ≡ k → total ≤ bound)
+  merged : (site : SiteNo) (field : FieldNo) (kind : Kind) (total before : ℕ) → before ≤ bound
+      → (site.0 ≡ from → field.0 ≡ f → kind ≡ k → total ≤ bound)
       → cond (eqb field.0 f && same_kind kind k && eqb site.0 from) (max total before) before ≤ bound
   merged site field kind total before low within =
-      elim (cases_Bool (eqb field.0 f && same_kind kind k && eqb site.0 from)) as (λ _. cond (eqb field.0 f && same_kind kind k && eqb site.0 from) (max total before) before ≤ bound) [
+      elim (cases_Bool (eqb field.0 f && same_kind kind k && eqb site.0 from)) as
+      (λ _. cond (eqb field.0 f && same_kind kind k && eqb site.0 from) (max total before) before ≤ bound) [
         | inl on ↦
             let parts = and_parts (eqb field.0 f && same_kind kind k) (eqb site.0 from) on in
             let both = and_parts (eqb field.0 f) (same_kind kind k) parts.0 in
@@ -207,15 +237,18 @@ module _ (base : Base) (bound from f : ℕ) (k : Kind) where
         | inr off ↦ rw off low
       ]
 
-  accepted_after : (counted : Bool) (effect : Option Effect) (es : List Effect) → total_accepted base from f k es ≤ bound → AcceptsWithin bound from f k effect
+  accepted_after : (counted : Bool) (effect : Option Effect) (es : List Effect) → total_accepted base from f k es ≤ bound
+      → AcceptsWithin bound from f k effect
       → total_accepted base from f k (with_effect counted effect es) ≤ bound
   accepted_after counted None es low within = low
   accepted_after false (Some effect) es low within = low
-  accepted_after true (Some (Accepts site field kind total)) es low within = merged site field kind total (total_accepted base from f k es) low within
+  accepted_after true (Some (Accepts site field kind total)) es low within =
+      merged site field kind total (total_accepted base from f k es) low within
   accepted_after true (Some effect) es low within = low
 
 module _ (schema : SchemaValue) (e : Entry) (t : List Entry) (sound : IsSound schema (e ∷ t)) (from f : ℕ) (k : Kind) where
-  bounded : (told : Statement) → IsIssued told t → told.to.0 ≡ e.site.0 → told.from.0 ≡ from → told.field.0 ≡ f → told.kind ≡ k → told.total ≤ given_between schema (e ∷ t) f k from e.site.0
+  bounded : (told : Statement) → IsIssued told t → told.to.0 ≡ e.site.0 → told.from.0 ≡ from → told.field.0 ≡ f → told.kind ≡ k
+      → told.total ≤ given_between schema (e ∷ t) f k from e.site.0
   bounded told issued mine from_is field_is kind_is =
       let covered = issued_is_covered schema t (sound_front schema e t sound) told issued in
       let same : given_between schema t told.field.0 told.kind told.from.0 told.to.0 ≡ given_between schema t f k from e.site.0 = cc in
@@ -224,7 +257,8 @@ module _ (schema : SchemaValue) (e : Entry) (t : List Entry) (sound : IsSound sc
   abbrev here : Place
   here = place schema e.site.0 (fresh schema e.site.0) (own e.site.0 t)
 
-  accepts_within : (c : Command) (r : Reply) (base : Base) (es : List Effect) → Fits here c r → StatementRule t c r → AcceptsWithin (given_between schema (e ∷ t) f k from e.site.0) from f k (effect_of base es c r)
+  accepts_within : (c : Command) (r : Reply) (base : Base) (es : List Effect) → Fits here c r → StatementRule t c r
+      → AcceptsWithin (given_between schema (e ∷ t) f k from e.site.0) from f k (effect_of base es c r)
   accepts_within (Accept told) (Accepted gain) base es fits issued =
       bounded told issued (accept_is_mine here told (not_refused here (Accept told) (Accepted gain) fits refl))
   accepts_within (Accept told) Unsure base es fits issued =
@@ -242,16 +276,20 @@ accepted_is_given schema (e ∷ t) sound kept f k from to =
     elim (cases_eq e.site.0 to) [
       | inl here ↦
           let s = e.site.0 in
-          let IsLow : ℕ → List Entry → Type 0 = λ site o. total_accepted (fresh schema site) from f k (effects (fresh schema site) kept o) ≤ most site in
+          let IsLow : ℕ → List Entry → Type 0 = λ site o. total_accepted (fresh schema site) from f k (effects (fresh schema site) kept o)
+          ≤ most site in
           let was = effects (fresh schema s) (doubt_kept_before kept e.reply) (own s t) in
           let before = accepted_is_given schema t front (doubt_kept_before kept e.reply) f k from s in
           let low : total_accepted (fresh schema s) from f k was ≤ most s = omega (arith, before, given_grows schema e t f k from s) in
           let step : IsLow s (e ∷ own s t) =
           accepted_after (fresh schema s) (most s) from f k (counts kept e.reply) (effect_of (fresh schema s) was e.command e.reply) was low
-          (accepts_within schema e t sound from f k e.command e.reply (fresh schema s) was (sound_fits schema e t sound) sound.statements.1) in
+          (accepts_within schema e t sound from f k e.command e.reply (fresh schema s) was (sound_fits schema e t sound) sound.statements.1)
+          in
           subst (λ (x : ℕ). IsLow x (own x (e ∷ t))) here (subst (λ (o : List Entry). IsLow s o) (sym (own_here s e t refl)) step)
       | inr there ↦
           let before = accepted_is_given schema t front kept f k from to in
-          let low : total_accepted (fresh schema to) from f k (effects (fresh schema to) kept (own to t)) ≤ most to = omega (arith, before, given_grows schema e t f k from to) in
-          subst (λ (o : List Entry). total_accepted (fresh schema to) from f k (effects (fresh schema to) kept o) ≤ most to) (sym (own_there to e t there)) low
+          let low : total_accepted (fresh schema to) from f k (effects (fresh schema to) kept (own to t)) ≤ most to =
+          omega (arith, before, given_grows schema e t f k from to) in
+          subst (λ (o : List Entry). total_accepted (fresh schema to) from f k (effects (fresh schema to) kept o) ≤ most to)
+          (sym (own_there to e t there)) low
     ]

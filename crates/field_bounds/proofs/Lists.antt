@@ -35,7 +35,8 @@ one_passes p x xs = filter-append p xs (x ∷ [])
 pub filter-reverse : {X : Type 0} (p : X → Bool) (xs : List X) → filter p (reverse xs) ≡ reverse (filter p xs)
 filter-reverse p [] = refl
 filter-reverse p (x ∷ xs) =
-    ap (filter p) (reverse-cons x xs) ∙ one_passes p x (reverse xs) ∙ ap (λ ys. ys ++ cond (p x) (x ∷ []) []) (filter-reverse p xs) ∙ by (p x)
+    ap (filter p) (reverse-cons x xs) ∙ one_passes p x (reverse xs) ∙ ap (λ ys. ys ++ cond (p x) (x ∷ []) []) (filter-reverse p xs)
+    ∙ by (p x)
   where
     by : (b : Bool) → reverse (filter p xs) ++ cond b (x ∷ []) [] ≡ reverse (cond b (x ∷ filter p xs) (filter p xs))
     by true = sym (reverse-cons x (filter p xs))
@@ -43,7 +44,8 @@ filter-reverse p (x ∷ xs) =
 
 pub All-reverse : {X : Type 0} (P : X → Type 0) (xs : List X) → All P xs → All P (reverse xs)
 All-reverse P [] h = h
-All-reverse P (x ∷ xs) h = subst (All P) (sym (reverse-cons x xs)) (All-push P (reverse xs) x (All-reverse P xs (All-tail P x xs h)) (All-head P x xs h))
+All-reverse P (x ∷ xs) h = subst (All P) (sym (reverse-cons x xs))
+    (All-push P (reverse xs) x (All-reverse P xs (All-tail P x xs h)) (All-head P x xs h))
 
 pub list_any-map : {X Y : Type 0} (p : Y → Bool) (h : X → Y) (xs : List X) → list_any p (map h xs) ≡ list_any (λ x. p (h x)) xs
 list_any-map p h [] = refl

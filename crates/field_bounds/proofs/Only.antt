@@ -41,32 +41,39 @@ unsure_chosen c r h = cc
 both_unsure : (c : Command) (reply other : Reply) → chosen_by c reply ≡ chosen_by c other → reply ≡ Unsure → other ≡ Unsure
 both_unsure c reply other same h = unsure_chosen c other (sym same ∙ ap (chosen_by c) h ∙ chosen_unsure c)
 
-one_answer : (at : Place) (c : Command) (reply other : Reply) → AnswerFits at c reply → AnswerFits at c other → chosen_by c reply ≡ chosen_by c other → reply ≡ other
+one_answer : (at : Place) (c : Command) (reply other : Reply) → AnswerFits at c reply → AnswerFits at c other
+    → chosen_by c reply ≡ chosen_by c other → reply ≡ other
 one_answer at c reply other h g same =
-    one_of c (first (refusals at c)) (answer at c) reply other (IsTrue (writes at c)) h g (both_unsure c reply other same) (both_unsure c other reply (sym same))
+    one_of c (first (refusals at c)) (answer at c) reply other (IsTrue (writes at c)) h g (both_unsure c reply other same)
+    (both_unsure c other reply (sym same))
 
 -- a command is owed one reply, where it is told which are in doubt and how a restart ended
-pub only_reply : (at : Place) (command : Command) (reply other : Reply) → Fits at command reply → Fits at command other → chosen_by command reply ≡ chosen_by command other → reply ≡ other
+pub only_reply : (at : Place) (command : Command) (reply other : Reply) → Fits at command reply → Fits at command other
+    → chosen_by command reply ≡ chosen_by command other → reply ≡ other
 only_reply at Restart reply other h g same = some_same reply other same
 only_reply at c reply other h g same = one_answer at c reply other h g same
 
 -- the same, where the places and the commands are known to be equal
-same_reply : (at here : Place) (c d : Command) (reply other : Reply) → at ≡ here → c ≡ d → Fits at c reply → Fits here d other → chosen_by c reply ≡ chosen_by d other → reply ≡ other
+same_reply : (at here : Place) (c d : Command) (reply other : Reply) → at ≡ here → c ≡ d → Fits at c reply → Fits here d other
+    → chosen_by c reply ≡ chosen_by d other → reply ≡ other
 same_reply at here c d reply other same_place same_command h g same =
-    only_reply here d reply other (subst (λ (x : Command). Fits here x reply) same_command (subst (λ (x : Place). Fits x c reply) same_place h)) g
+    only_reply here d reply other (subst (λ (x : Command). Fits here x reply) same_command
+    (subst (λ (x : Place). Fits x c reply) same_place h)) g
     (subst (λ (x : Command). chosen_by x reply ≡ chosen_by d other) same_command same)
 
 -- ---- one history
 
 same_entry : (e d : Entry) → e.site.0 ≡ d.site.0 → e.command ≡ d.command → e.reply ≡ d.reply → e ≡ d
 same_entry e d site command reply =
-    let made : ◌≡◌ {A = Entry} (record { site = record { 0 = e.site.0 }; command = e.command; reply = e.reply }) (record { site = record { 0 = d.site.0 }; command = d.command; reply = d.reply }) = cc in
+    let made : ◌≡◌ {A = Entry} (record { site = record { 0 = e.site.0 }; command = e.command; reply = e.reply })
+    (record { site = record { 0 = d.site.0 }; command = d.command; reply = d.reply }) = cc in
     made
 
 abbrev Decided : Type 0
 Decided = (SiteNo × Command) × Option Reply
 
-pub only_history : (schema : SchemaValue) (s : ℕ) (base : Base) (o p : List Entry) → IsRun schema s base o → IsRun schema s base p → AreOf s o → AreOf s p
+pub only_history : (schema : SchemaValue) (s : ℕ) (base : Base) (o p : List Entry) → IsRun schema s base o → IsRun schema s base p
+    → AreOf s o → AreOf s p
     → map decided_of o ≡ map decided_of p → o ≡ p
 only_history schema s base [] [] run ran are is h = refl
 only_history schema s base [] (d ∷ p) run ran are is h = absurd cc
@@ -77,7 +84,8 @@ only_history schema s base (e ∷ o) (d ∷ p) run ran are is h =
     let chosen : chosen_by e.command e.reply ≡ chosen_by d.command d.reply = ap (λ (x : Decided). x.1) same_decided in
     let rest : map decided_of o ≡ map decided_of p = cc in
     let before = only_history schema s base o p run.0 ran.0 are.1 is.1 rest in
-    let reply = same_reply (place schema s base o) (place schema s base p) e.command d.command e.reply d.reply (ap (place schema s base) before) command run.1 ran.1 chosen in
+    let reply = same_reply (place schema s base o) (place schema s base p) e.command d.command e.reply d.reply
+    (ap (place schema s base) before) command run.1 ran.1 chosen in
     let same = same_entry e d (are.0 ∙ sym is.0) command reply in
     cc
 
@@ -97,7 +105,8 @@ only_trace schema (e ∷ t) (d ∷ u) sound is h =
     let before = only_trace schema t u (sound_front schema e t sound) (sound_front schema d u is) rest in
     let here : ℕ → List Entry → Place = λ s l. place schema s (fresh schema s) (own s l) in
     let same_place : here e.site.0 t ≡ here d.site.0 u = ap (λ (s : ℕ). here s t) number ∙ ap (here d.site.0) before in
-    let reply = same_reply (here e.site.0 t) (here d.site.0 u) e.command d.command e.reply d.reply same_place command (sound_fits schema e t sound) (sound_fits schema d u is) chosen in
+    let reply = same_reply (here e.site.0 t) (here d.site.0 u) e.command d.command e.reply d.reply same_place command
+    (sound_fits schema e t sound) (sound_fits schema d u is) chosen in
     let same = same_entry e d number command reply in
     cc
 

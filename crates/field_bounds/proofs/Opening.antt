@@ -9,12 +9,16 @@ use Rattle.field_bounds.specs.Effects.{same_txn, begun_txns, is_begun, is_open}
 use Rattle.field_bounds.proofs.Lawful.{same_txn-true}
 
 -- among the transactions begun that are open after some effects is just the one that was begun and is open after them
-pub any_open : (t : TxnId) (es all : List Effect) → list_any (λ u. same_txn u t) (filter (λ id. is_open id all) (begun_txns es)) ≡ (is_begun t es && is_open t all)
+pub any_open : (t : TxnId) (es all : List Effect) → list_any (λ u. same_txn u t) (filter (λ id. is_open id all) (begun_txns es))
+    ≡ (is_begun t es && is_open t all)
 any_open t [] all = refl
 any_open t (Begins txn ∷ es) all =
     elim (cases_Bool (is_open txn all)) [
-      | inl opened ↦ rw opened (ap (λ b. same_txn txn t || b) (any_open t es all) ∙ joined (same_txn txn t) (is_begun t es) (is_open t all) (λ same. ap (λ (x : TxnId). is_open x all) (sym (same_txn-true txn t same)) ∙ opened))
-      | inr closed ↦ rw closed (any_open t es all ∙ passed (same_txn txn t) (is_begun t es) (is_open t all) (λ same. ap (λ (x : TxnId). is_open x all) (sym (same_txn-true txn t same)) ∙ closed))
+      | inl opened ↦ rw opened (ap (λ b. same_txn txn t || b) (any_open t es all)
+          ∙ joined (same_txn txn t) (is_begun t es) (is_open t all)
+          (λ same. ap (λ (x : TxnId). is_open x all) (sym (same_txn-true txn t same)) ∙ opened))
+      | inr closed ↦ rw closed (any_open t es all ∙ passed (same_txn txn t) (is_begun t es) (is_open t all)
+          (λ same. ap (λ (x : TxnId). is_open x all) (sym (same_txn-true txn t same)) ∙ closed))
     ]
   where
     joined : (s b o : Bool) → (s ≡ true → o ≡ true) → (s || (b && o)) ≡ ((s || b) && o)

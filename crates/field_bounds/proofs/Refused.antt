@@ -21,7 +21,8 @@ abbrev pub NoneHolds : List Test → Type 0
 NoneHolds [] = Unit {0}
 NoneHolds (test ∷ rest) = (test.0 ≡ false) × NoneHolds rest
 
-none_step : (b : Bool) (r : Refusal) (rest : List Test) → (if b then Some r else first rest) ≡ None → (first rest ≡ None → NoneHolds rest) → (b ≡ false) × NoneHolds rest
+none_step : (b : Bool) (r : Refusal) (rest : List Test) → (if b then Some r else first rest) ≡ None → (first rest ≡ None → NoneHolds rest)
+    → (b ≡ false) × NoneHolds rest
 none_step true r rest h more = cc
 none_step false r rest h more = (refl, more h)
 
@@ -29,7 +30,8 @@ pub none_holds : (tests : List Test) → first tests ≡ None → NoneHolds test
 none_holds [] h = tt
 none_holds (test ∷ rest) h = none_step test.0 test.1 rest h (none_holds rest)
 
-pub match_cases : (o : Option Refusal) (P : Type 0) (Q : Refusal → Type 0) → MatchOption o P Q → ((x : Refusal) × (o ≡ Some x) × Q x) ⊎ ((o ≡ None) × P)
+pub match_cases : (o : Option Refusal) (P : Type 0) (Q : Refusal → Type 0) → MatchOption o P Q → ((x : Refusal) × (o ≡ Some x) × Q x)
+    ⊎ ((o ≡ None) × P)
 match_cases None P Q h = inr (refl, h)
 match_cases (Some x) P Q h = inl (x, refl, h)
 
@@ -47,13 +49,18 @@ is_restart command = false
 
 pub up_there : (at : Place) (c : Command) → is_restart c ≡ false → first (refusals at c) ≡ None → is_up at.base at.entries ≡ true
 up_there at Begin n h = not-false (is_up at.base at.entries) (assumption (none_holds (refusals at Begin) h))
-up_there at (Escrow txn field change) n h = not-false (is_up at.base at.entries) (assumption (none_holds (refusals at (Escrow txn field change)) h))
+up_there at (Escrow txn field change) n h = not-false (is_up at.base at.entries)
+    (assumption (none_holds (refusals at (Escrow txn field change)) h))
 up_there at (Commit txn) n h = not-false (is_up at.base at.entries) (assumption (none_holds (refusals at (Commit txn)) h))
 up_there at (Abort txn) n h = not-false (is_up at.base at.entries) (assumption (none_holds (refusals at (Abort txn)) h))
-up_there at (Give to field kind amount) n h = not-false (is_up at.base at.entries) (assumption (none_holds (refusals at (Give to field kind amount)) h))
-up_there at (Restate to field kind) n h = not-false (is_up at.base at.entries) (assumption (none_holds (refusals at (Restate to field kind)) h))
-up_there at (Spare to field kind want) n h = not-false (is_up at.base at.entries) (assumption (none_holds (refusals at (Spare to field kind want)) h))
-up_there at (Tighten field kind amount) n h = not-false (is_up at.base at.entries) (assumption (none_holds (refusals at (Tighten field kind amount)) h))
+up_there at (Give to field kind amount) n h = not-false (is_up at.base at.entries)
+    (assumption (none_holds (refusals at (Give to field kind amount)) h))
+up_there at (Restate to field kind) n h = not-false (is_up at.base at.entries)
+    (assumption (none_holds (refusals at (Restate to field kind)) h))
+up_there at (Spare to field kind want) n h = not-false (is_up at.base at.entries)
+    (assumption (none_holds (refusals at (Spare to field kind want)) h))
+up_there at (Tighten field kind amount) n h = not-false (is_up at.base at.entries)
+    (assumption (none_holds (refusals at (Tighten field kind amount)) h))
 up_there at (Accept told) n h = not-false (is_up at.base at.entries) (assumption (none_holds (refusals at (Accept told)) h))
 up_there at (Read field) n h = not-false (is_up at.base at.entries) (assumption (none_holds (refusals at (Read field)) h))
 up_there at (Share field) n h = not-false (is_up at.base at.entries) (assumption (none_holds (refusals at (Share field)) h))
@@ -77,7 +84,8 @@ not_refused at c r fits plain =
       | inr met ↦ none_holds (refusals at c) met.0
     ]
 
-pub answered : (at : Place) (c : Command) (r : Reply) → AnswerFits at c r → is_plain r ≡ true → NoneHolds (refusals at c) × (r ≡ answer at c)
+pub answered : (at : Place) (c : Command) (r : Reply) → AnswerFits at c r → is_plain r ≡ true → NoneHolds (refusals at c)
+    × (r ≡ answer at c)
 answered at c r fits plain =
     elim (match_cases (first (refusals at c)) _ _ fits) [
       | inl refused ↦ let not_so : is_plain r ≡ false = ap is_plain refused.2 in cc
@@ -115,10 +123,12 @@ module _ (at : Place) where
     pub escrow_is_one_of_few : count_escrows txn at.effects < max_escrows
     escrow_is_one_of_few = leb-false max_escrows (count_escrows txn at.effects) (assumption none)
 
-  pub commit_is_opened : (txn : TxnId) → NoneHolds (refusals at (Commit txn)) → (is_begun txn at.effects ≡ true) × (is_open txn at.effects ≡ true)
+  pub commit_is_opened : (txn : TxnId) → NoneHolds (refusals at (Commit txn)) → (is_begun txn at.effects ≡ true)
+      × (is_open txn at.effects ≡ true)
   commit_is_opened txn none = begun_and_open (is_begun txn at.effects) (is_open txn at.effects) (assumption none)
 
-  pub abort_is_opened : (txn : TxnId) → NoneHolds (refusals at (Abort txn)) → (is_begun txn at.effects ≡ true) × (is_open txn at.effects ≡ true)
+  pub abort_is_opened : (txn : TxnId) → NoneHolds (refusals at (Abort txn)) → (is_begun txn at.effects ≡ true)
+      × (is_open txn at.effects ≡ true)
   abort_is_opened txn none = begun_and_open (is_begun txn at.effects) (is_open txn at.effects) (assumption none)
 
   module _ (to : SiteNo) (field : FieldNo) (kind : Kind) (amount : ℕ) (none : NoneHolds (refusals at (Give to field kind amount))) where
@@ -140,7 +150,8 @@ module _ (at : Place) where
     pub give_has_room : told_so_far at to field kind + amount ≤ max_total
     give_has_room = ltb-false max_total (told_so_far at to field kind + amount) (assumption none)
 
-  pub restate_is_to_a_site : (to : SiteNo) (field : FieldNo) (kind : Kind) → NoneHolds (refusals at (Restate to field kind)) → to.0 < at.schema.sites
+  pub restate_is_to_a_site : (to : SiteNo) (field : FieldNo) (kind : Kind) → NoneHolds (refusals at (Restate to field kind))
+      → to.0 < at.schema.sites
   restate_is_to_a_site to field kind none = leb-false at.schema.sites to.0 (assumption none)
 
   module _ (to : SiteNo) (field : FieldNo) (kind : Kind) (want : ℕ) (none : NoneHolds (refusals at (Spare to field kind want))) where

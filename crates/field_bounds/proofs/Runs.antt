@@ -25,7 +25,12 @@ pub record IsNumbered (epoch count : ℕ) (es : List Effect) : Type 0 where
 
 numbered_more : (epoch few many : ℕ) (es : List Effect) → few ≤ many → IsNumbered epoch few es → IsNumbered epoch many es
 numbered_more epoch few many es le numbered =
-    record { epochs = numbered.epochs; numbers = λ id begun same. omega (arith, numbered.numbers id begun same); current = numbered.current }
+    record {
+      epochs = numbered.epochs;
+      numbers = λ id begun same. omega (arith, numbered.numbers id begun same);
+      current =
+          numbered.current;
+    }
 
 abbrev pub next_id : ℕ → ℕ → TxnId
 next_id epoch count = record { epoch = epoch; number = count + 1 }
@@ -38,17 +43,20 @@ next_is_new epoch count es numbered =
       | inr new ↦ new
     ]
 
-numbered_begin : (epoch count : ℕ) (es : List Effect) → IsNumbered epoch count es → IsNumbered epoch (count + 1) (Begins (next_id epoch count) ∷ es)
+numbered_begin : (epoch count : ℕ) (es : List Effect) → IsNumbered epoch count es
+    → IsNumbered epoch (count + 1) (Begins (next_id epoch count) ∷ es)
 numbered_begin epoch count es numbered =
     record {
       epochs = λ id begun.
           elim (or_cases (same_txn (next_id epoch count) id) (is_begun id es) begun) [
-            | inl same ↦ let e : epoch ≡ id.epoch = ap (λ (t : TxnId). t.epoch) (same_txn-true (next_id epoch count) id same) in omega (arith, e)
+            | inl same ↦ let e : epoch ≡ id.epoch = ap (λ (t : TxnId). t.epoch) (same_txn-true (next_id epoch count) id same) in
+                omega (arith, e)
             | inr before ↦ numbered.epochs id before
           ];
       numbers = λ id begun here.
           elim (or_cases (same_txn (next_id epoch count) id) (is_begun id es) begun) [
-            | inl same ↦ let n : count + 1 ≡ id.number = ap (λ (t : TxnId). t.number) (same_txn-true (next_id epoch count) id same) in omega (arith, n)
+            | inl same ↦ let n : count + 1 ≡ id.number = ap (λ (t : TxnId). t.number) (same_txn-true (next_id epoch count) id same) in
+                omega (arith, n)
             | inr before ↦ omega (arith, numbered.numbers id before here)
           ];
       current = λ id begun undropped.
@@ -71,7 +79,8 @@ numbered_stop n count m es later numbered =
     record {
       epochs = λ id begun. omega (arith, later, numbered.epochs id begun);
       numbers = λ id begun same. absurd (omega (arith, later, same, numbered.epochs id begun));
-      current = λ id begun undropped. let not_begun : is_begun id es ≡ false = (or_parts (is_begun id es) (is_dropped id es) undropped).0 in cc;
+      current = λ id begun undropped. let not_begun : is_begun id es ≡ false = (or_parts (is_begun id es) (is_dropped id es) undropped).0 in
+          cc;
     }
 
 -- what holds of the effects of a run
@@ -96,7 +105,8 @@ module _ (schema : SchemaValue) (s : ℕ) (base : Base) (o : List Entry) where
   Now n now = Stands schema base epoch n now
 
   abbrev Carries : Bool → Command → Type 0
-  Carries kept c = Now (count_after is_begun_reply count (answer at c)) (after base kept c (answer at c) es) × Now count (after base kept c Unsure es)
+  Carries kept c = Now (count_after is_begun_reply count (answer at c)) (after base kept c (answer at c) es)
+      × Now count (after base kept c Unsure es)
 
   -- no transaction was begun
   still : (now : List Effect) → Now count now → Now (0 + count) now
@@ -109,7 +119,8 @@ module _ (schema : SchemaValue) (s : ℕ) (base : Base) (o : List Entry) where
   -- what is answered may take effect, and so may what is in doubt
   carries : (c : Command) → first (refusals at c) ≡ None → (kept : Bool) → Now count es → Carries kept c
   carries Begin h kept l =
-      let begun = numbered_more epoch (count + 1) (1 + count) (Begins (next_id epoch count) ∷ es) (omega arith) (numbered_begin epoch count es l.numbered) in
+      let begun = numbered_more epoch (count + 1) (1 + count) (Begins (next_id epoch count) ∷ es) (omega arith)
+      (numbered_begin epoch count es l.numbered) in
       (record { numbered = begun; lawful = (l.lawful, next_is_new epoch count es l.numbered) }, l)
   carries (Escrow txn field change) h kept l =
       let none = none_holds (refusals at (Escrow txn field change)) h in
@@ -117,13 +128,26 @@ module _ (schema : SchemaValue) (s : ℕ) (base : Base) (o : List Entry) where
       let may : Now count (Grants txn field change ∷ es) =
       record {
         numbered = record { epochs = l.numbered.epochs; numbers = l.numbered.numbers; current = l.numbered.current };
-        lawful = (l.lawful, record { in_schema = escrow_is_in_schema at txn field change none; enough = escrow_is_enough at txn field change none; begun = both.0; opened = both.1 });
+        lawful = (
+          l.lawful,
+          record {
+            in_schema = escrow_is_in_schema at txn field change none;
+            enough =
+                escrow_is_enough at txn field change none;
+            begun = both.0;
+            opened = both.1;
+          },
+        );
       } in
       (still (Grants txn field change ∷ es) may, l)
   carries (Commit txn) h kept l =
       let both = commit_is_opened at txn (none_holds (refusals at (Commit txn)) h) in
       let may : Now count (Commits txn ∷ es) =
-      record { numbered = record { epochs = l.numbered.epochs; numbers = l.numbered.numbers; current = l.numbered.current }; lawful = (l.lawful, both) } in
+      record {
+        numbered = record { epochs = l.numbered.epochs; numbers = l.numbered.numbers; current = l.numbered.current };
+        lawful =
+            (l.lawful, both);
+      } in
       (still (Commits txn ∷ es) may, either kept (Commits txn ∷ es) may l)
   carries (Abort txn) h kept l =
       let both = abort_is_opened at txn (none_holds (refusals at (Abort txn)) h) in
@@ -134,7 +158,15 @@ module _ (schema : SchemaValue) (s : ℕ) (base : Base) (o : List Entry) where
       let may : Now count more =
       record {
         numbered = record { epochs = l.numbered.epochs; numbers = l.numbered.numbers; current = l.numbered.current };
-        lawful = (l.lawful, record { to_site = give_is_to_a_site at to field kind amount none; in_schema = give_is_in_schema at to field kind amount none; enough = give_is_enough at to field kind amount none });
+        lawful = (
+          l.lawful,
+          record {
+            to_site = give_is_to_a_site at to field kind amount none;
+            in_schema =
+                give_is_in_schema at to field kind amount none;
+            enough = give_is_enough at to field kind amount none;
+          },
+        );
       } in
       (still more may, either kept more may l)
   carries (Restate to field kind) h kept l = (still es l, l)
@@ -144,7 +176,15 @@ module _ (schema : SchemaValue) (s : ℕ) (base : Base) (o : List Entry) where
       let may : Now count more =
       record {
         numbered = record { epochs = l.numbered.epochs; numbers = l.numbered.numbers; current = l.numbered.current };
-        lawful = (l.lawful, record { to_site = spare_is_to_a_site at to field kind want none; in_schema = spare_is_in_schema at to field kind want none; enough = spared_is_there (free at field kind) want });
+        lawful = (
+          l.lawful,
+          record {
+            to_site = spare_is_to_a_site at to field kind want none;
+            in_schema =
+                spare_is_in_schema at to field kind want none;
+            enough = spared_is_there (free at field kind) want;
+          },
+        );
       } in
       (still more may, either kept more may l)
   carries (Tighten field kind amount) h kept l =
@@ -153,7 +193,15 @@ module _ (schema : SchemaValue) (s : ℕ) (base : Base) (o : List Entry) where
       let may : Now count more =
       record {
         numbered = record { epochs = l.numbered.epochs; numbers = l.numbered.numbers; current = l.numbered.current };
-        lawful = (l.lawful, record { to_site = tt; in_schema = tighten_is_in_schema at field kind amount none; enough = tighten_is_enough at field kind amount none });
+        lawful = (
+          l.lawful,
+          record {
+            to_site = tt;
+            in_schema = tighten_is_in_schema at field kind amount none;
+            enough =
+                tighten_is_enough at field kind amount none;
+          },
+        );
       } in
       (still more may, either kept more may l)
   carries (Accept told) h kept l =
@@ -190,7 +238,8 @@ run_leaves schema s base o run =
     let l = run_stands schema s base o run false in
     record { numbered = l.numbered; lawful = l.lawful }
 
-pub run_is_lawful : (schema : SchemaValue) (s : ℕ) (base : Base) (o : List Entry) → IsRun schema s base o → (kept : Bool) → IsLawful schema base (effects base kept o)
+pub run_is_lawful : (schema : SchemaValue) (s : ℕ) (base : Base) (o : List Entry) → IsRun schema s base o → (kept : Bool)
+    → IsLawful schema base (effects base kept o)
 run_is_lawful schema s base o run kept = (run_stands schema s base o run kept).lawful
 
 -- an open transaction is of the site's epoch

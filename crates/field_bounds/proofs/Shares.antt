@@ -13,7 +13,8 @@ use Rattle.field_bounds.specs.Parts.{sum_below}
 use Rattle.field_bounds.proofs.Lawful.{IsLawful, covered}
 use Rattle.field_bounds.proofs.Sums.{sum_below_bump, sum_below-zero, sum_below-same}
 
-split_step : (on c d : Bool) (n : ℕ) → cond (on && true) n 0 ≡ cond (on && (not c && d)) n 0 + cond (on && c) n 0 + cond (on && (not c && not d)) n 0
+split_step : (on c d : Bool) (n : ℕ) → cond (on && true) n 0 ≡ cond (on && (not c && d)) n 0 + cond (on && c) n 0
+    + cond (on && (not c && not d)) n 0
 split_step false c d n = refl
 split_step true true d n = omega arith
 split_step true false true n = omega arith
@@ -21,10 +22,16 @@ split_step true false false n = omega arith
 
 -- each granted escrow is aborted, committed or open
 pub granted_split : (c d : TxnId → Bool) (f : ℕ) (k : Kind) (es : List Effect)
-    → granted_sizes (λ _. true) f k es ≡ granted_sizes (λ id. not (c id) && d id) f k es + granted_sizes c f k es + granted_sizes (λ id. not (c id) && not (d id)) f k es
+    → granted_sizes (λ _. true) f k es ≡ granted_sizes (λ id. not (c id) && d id) f k es + granted_sizes c f k es
+    + granted_sizes (λ id. not (c id) && not (d id)) f k es
 granted_split c d f k [] = refl
 granted_split c d f k (Grants txn field change ∷ es) =
-    omega (arith, granted_split c d f k es, split_step (eqb field.0 f && same_kind (kind_of change) k) (c txn) (d txn) (unsigned_abs change))
+    omega (
+      arith,
+      granted_split c d f k es,
+      split_step (eqb field.0 f && same_kind (kind_of change) k) (c txn) (d txn)
+          (unsigned_abs change),
+    )
 granted_split c d f k (Begins txn ∷ es) = granted_split c d f k es
 granted_split c d f k (Commits txn ∷ es) = granted_split c d f k es
 granted_split c d f k (Aborts txn ∷ es) = granted_split c d f k es
@@ -34,7 +41,8 @@ granted_split c d f k (Stops ∷ es) = granted_split c d f k es
 
 -- the rights of one site, without the aborted escrows on either side
 pub balance : (schema : SchemaValue) (base : Base) (es : List Effect) → IsLawful schema base es → (f : ℕ) (k : Kind)
-    → share base f k es + granted_sizes (λ id. is_committed id es) f k es + granted_sizes (λ id. is_open id es) f k es + gifts (λ _. true) f k es
+    → share base f k es + granted_sizes (λ id. is_committed id es) f k es + granted_sizes (λ id. is_open id es) f k es
+    + gifts (λ _. true) f k es
     ≡ base.rights f k + granted_sizes (λ id. is_committed id es) f (other k) es + gains base f k es
 balance schema base es lawful f k =
     omega (arith, covered schema base es lawful f k, granted_split (λ id. is_committed id es) (λ id. is_dropped id es) f k es)
@@ -87,7 +95,8 @@ gifts_split schema base (Aborts txn ∷ es) lawful f k = gifts_split schema base
 gifts_split schema base (Accepts from field kind total ∷ es) lawful f k = gifts_split schema base es lawful.0 f k
 gifts_split schema base (Stops ∷ es) lawful f k = gifts_split schema base es lawful.0 f k
 
-gain_there : (on : Bool) (from total before : ℕ) → cond (on && eqb from from) (max total before) before ≡ before + cond on (total - before) 0
+gain_there : (on : Bool) (from total before : ℕ) → cond (on && eqb from from) (max total before) before ≡ before
+    + cond on (total - before) 0
 gain_there true from total before = rw (eq-eqb from from refl) (omega arith)
 gain_there false from total before = omega arith
 
@@ -97,7 +106,8 @@ gain_here false site from total before apart = refl
 
 -- the gains of all are what was accepted from each
 pub gains_split : (schema : SchemaValue) (base : Base) (es : List Effect) → IsLawful schema base es → (f : ℕ) (k : Kind)
-    → gains base f k es + sum_below schema.sites (λ from. base.accepted from f k) ≡ sum_below schema.sites (λ from. total_accepted base from f k es)
+    → gains base f k es + sum_below schema.sites (λ from. base.accepted from f k)
+    ≡ sum_below schema.sites (λ from. total_accepted base from f k es)
 gains_split schema base [] lawful f k = omega arith
 gains_split schema base (Accepts site field kind total ∷ es) lawful f k =
     let on = eqb field.0 f && same_kind kind k in

@@ -21,10 +21,16 @@ both_step true true q n h = rw (h refl) (omega arith)
 both_step true false q n h = omega arith
 
 -- what passes either of two tests that exclude each other
-pub granted-or : (p q : TxnId → Bool) → ((id : TxnId) → p id ≡ true → q id ≡ false) → (f : ℕ) (k : Kind) (es : List Effect) → granted_sizes (λ id. p id || q id) f k es ≡ granted_sizes p f k es + granted_sizes q f k es
+pub granted-or : (p q : TxnId → Bool) → ((id : TxnId) → p id ≡ true → q id ≡ false) → (f : ℕ) (k : Kind) (es : List Effect)
+    → granted_sizes (λ id. p id || q id) f k es ≡ granted_sizes p f k es + granted_sizes q f k es
 granted-or p q h f k [] = refl
 granted-or p q h f k (Grants txn field change ∷ es) =
-    omega (arith, granted-or p q h f k es, both_step (eqb field.0 f && same_kind (kind_of change) k) (p txn) (q txn) (unsigned_abs change) (h txn))
+    omega (
+      arith,
+      granted-or p q h f k es,
+      both_step (eqb field.0 f && same_kind (kind_of change) k) (p txn) (q txn) (unsigned_abs change)
+          (h txn),
+    )
 granted-or p q h f k (Begins txn ∷ es) = granted-or p q h f k es
 granted-or p q h f k (Commits txn ∷ es) = granted-or p q h f k es
 granted-or p q h f k (Aborts txn ∷ es) = granted-or p q h f k es
@@ -33,13 +39,16 @@ granted-or p q h f k (Accepts from field kind total ∷ es) = granted-or p q h f
 granted-or p q h f k (Stops ∷ es) = granted-or p q h f k es
 
 -- tests that agree on what was begun
-pub granted-same : (schema : SchemaValue) (base : Base) (p q : TxnId → Bool) (f : ℕ) (k : Kind) (es : List Effect) → IsLawful schema base es → ((id : TxnId) → is_begun id es ≡ true → p id ≡ q id) → granted_sizes p f k es ≡ granted_sizes q f k es
+pub granted-same : (schema : SchemaValue) (base : Base) (p q : TxnId → Bool) (f : ℕ) (k : Kind) (es : List Effect) → IsLawful schema base es
+    → ((id : TxnId) → is_begun id es ≡ true → p id ≡ q id) → granted_sizes p f k es ≡ granted_sizes q f k es
 granted-same schema base p q f k [] lawful h = refl
 granted-same schema base p q f k (Grants txn field change ∷ es) lawful h =
     let rest = granted-same schema base p q f k es lawful.0 h in
-    let here = ap (λ (b : Bool). cond (eqb field.0 f && same_kind (kind_of change) k && b) (unsigned_abs change) 0) (h txn lawful.1.begun) in
+    let here = ap (λ (b : Bool). cond (eqb field.0 f && same_kind (kind_of change) k && b) (unsigned_abs change) 0)
+    (h txn lawful.1.begun) in
     omega (arith, rest, here)
-granted-same schema base p q f k (Begins txn ∷ es) lawful h = granted-same schema base p q f k es lawful.0 (λ id begun. h id (or_right (same_txn txn id) (is_begun id es) begun))
+granted-same schema base p q f k (Begins txn ∷ es) lawful h =
+    granted-same schema base p q f k es lawful.0 (λ id begun. h id (or_right (same_txn txn id) (is_begun id es) begun))
 granted-same schema base p q f k (Commits txn ∷ es) lawful h = granted-same schema base p q f k es lawful.0 h
 granted-same schema base p q f k (Aborts txn ∷ es) lawful h = granted-same schema base p q f k es lawful.0 h
 granted-same schema base p q f k (Gives to field kind amount ∷ es) lawful h = granted-same schema base p q f k es lawful.0 h
@@ -73,9 +82,11 @@ abbrev pub of_txn : TxnId → ℕ → Kind → List Effect → ℕ
 of_txn txn f k es = granted_sizes (λ id. same_txn txn id) f k es
 
 module _ (schema : SchemaValue) (base : Base) (es : List Effect) (lawful : IsLawful schema base es) (f : ℕ) (k : Kind) where
-  pub fate_here : (txn id : TxnId) → is_open txn es ≡ true → same_txn txn id ≡ true → (is_committed id es ≡ false) × (is_dropped id es ≡ false)
+  pub fate_here : (txn id : TxnId) → is_open txn es ≡ true → same_txn txn id ≡ true → (is_committed id es ≡ false)
+      × (is_dropped id es ≡ false)
   fate_here txn id opened same =
-      subst (λ (x : TxnId). (is_committed x es ≡ false) × (is_dropped x es ≡ false)) (same_txn-true txn id same) (open_parts (is_committed txn es) (is_dropped txn es) opened)
+      subst (λ (x : TxnId). (is_committed x es ≡ false)
+      × (is_dropped x es ≡ false)) (same_txn-true txn id same) (open_parts (is_committed txn es) (is_dropped txn es) opened)
 
   commit_aborted : (s c d : Bool) → (s ≡ true → d ≡ false) → (not (s || c) && d) ≡ (not c && d)
   commit_aborted true c d h = rw (h refl) (elim c as (λ x. false ≡ (not x && false)) [ true ↦ refl | false ↦ refl ])
@@ -85,14 +96,16 @@ module _ (schema : SchemaValue) (base : Base) (es : List Effect) (lawful : IsLaw
   still_open true c d h = rw ((h refl).0, (h refl).1) refl
   still_open false c d h = refl
 
-  pub share_commit : (txn : TxnId) → is_open txn es ≡ true → share base f k (Commits txn ∷ es) ≡ share base f k es + of_txn txn f (other k) es
+  pub share_commit : (txn : TxnId) → is_open txn es ≡ true
+      → share base f k (Commits txn ∷ es) ≡ share base f k es + of_txn txn f (other k) es
   share_commit txn opened =
       omega (
         arith,
         covered schema base es lawful f k,
         granted-or (λ id. same_txn txn id) (λ id. is_committed id es) (λ id same. (fate_here txn id opened same).0) f (other k) es,
         granted-same schema base (λ id. is_aborted id (Commits txn ∷ es)) (λ id. is_aborted id es) f k es lawful
-            (λ id begun. commit_aborted (same_txn txn id) (is_committed id es) (is_dropped id es) (λ same. (fate_here txn id opened same).1)),
+            (λ id begun. commit_aborted (same_txn txn id) (is_committed id es) (is_dropped id es)
+            (λ same. (fate_here txn id opened same).1)),
       )
 
   pub held_commit : (txn : TxnId) → is_open txn es ≡ true → held_rights f k (Commits txn ∷ es) + of_txn txn f k es ≡ held_rights f k es
@@ -101,7 +114,8 @@ module _ (schema : SchemaValue) (base : Base) (es : List Effect) (lawful : IsLaw
         arith,
         granted-same schema base (λ id. is_open id es) (λ id. same_txn txn id || is_open id (Commits txn ∷ es)) f k es lawful
             (λ id begun. still_open (same_txn txn id) (is_committed id es) (is_dropped id es) (fate_here txn id opened)),
-        granted-or (λ id. same_txn txn id) (λ id. is_open id (Commits txn ∷ es)) (λ id same. ap (λ (b : Bool). not (b || is_committed id es) && not (is_dropped id es)) same) f k es,
+        granted-or (λ id. same_txn txn id) (λ id. is_open id (Commits txn ∷ es))
+            (λ id same. ap (λ (b : Bool). not (b || is_committed id es) && not (is_dropped id es)) same) f k es,
       )
 
   abort_aborted : (s c d : Bool) → (s ≡ true → (c ≡ false) × (d ≡ false)) → (not c && (s || d)) ≡ (s || (not c && d))
@@ -119,7 +133,9 @@ module _ (schema : SchemaValue) (base : Base) (es : List Effect) (lawful : IsLaw
         covered schema base es lawful f k,
         granted-same schema base (λ id. is_aborted id (Aborts txn ∷ es)) (λ id. same_txn txn id || is_aborted id es) f k es lawful
             (λ id begun. abort_aborted (same_txn txn id) (is_committed id es) (is_dropped id es) (fate_here txn id opened)),
-        granted-or (λ id. same_txn txn id) (λ id. is_aborted id es) (λ id same. abort_excludes (same_txn txn id) (is_committed id es) (is_dropped id es) (λ s. (fate_here txn id opened s).1) same) f k es,
+        granted-or (λ id. same_txn txn id) (λ id. is_aborted id es)
+            (λ id same. abort_excludes (same_txn txn id) (is_committed id es) (is_dropped id es) (λ s. (fate_here txn id opened s).1) same)
+            f k es,
       )
 
   open_aborted : (s c d : Bool) → (s ≡ true → (c ≡ false) × (d ≡ false)) → (not c && not d) ≡ (s || (not c && not (s || d)))
@@ -137,11 +153,13 @@ module _ (schema : SchemaValue) (base : Base) (es : List Effect) (lawful : IsLaw
         arith,
         granted-same schema base (λ id. is_open id es) (λ id. same_txn txn id || is_open id (Aborts txn ∷ es)) f k es lawful
             (λ id begun. open_aborted (same_txn txn id) (is_committed id es) (is_dropped id es) (fate_here txn id opened)),
-        granted-or (λ id. same_txn txn id) (λ id. is_open id (Aborts txn ∷ es)) (λ id same. dropped_excludes (same_txn txn id) (is_committed id es) (is_dropped id es) same) f k es,
+        granted-or (λ id. same_txn txn id) (λ id. is_open id (Aborts txn ∷ es))
+            (λ id same. dropped_excludes (same_txn txn id) (is_committed id es) (is_dropped id es) same) f k es,
       )
 
   -- an escrow that is granted is taken from the share and held
-  pub share_grant : (txn : TxnId) (e : Escrow) → is_open txn es ≡ true → share base f k (Grants txn e.field e.change ∷ es) ≡ share base f k es - takes f k e
+  pub share_grant : (txn : TxnId) (e : Escrow) → is_open txn es ≡ true
+      → share base f k (Grants txn e.field e.change ∷ es) ≡ share base f k es - takes f k e
   share_grant txn e opened =
       let fate = open_parts (is_committed txn es) (is_dropped txn es) opened in
       let aborted : is_aborted txn es ≡ false = rw (fate.0, fate.1) refl in
@@ -152,7 +170,8 @@ module _ (schema : SchemaValue) (base : Base) (es : List Effect) (lawful : IsLaw
         weigh_true (eqb e.field.0 f && same_kind (kind_of e.change) k) (unsigned_abs e.change),
       )
 
-  pub held_grant : (txn : TxnId) (e : Escrow) → is_open txn es ≡ true → held_rights f k (Grants txn e.field e.change ∷ es) ≡ held_rights f k es + takes f k e
+  pub held_grant : (txn : TxnId) (e : Escrow) → is_open txn es ≡ true
+      → held_rights f k (Grants txn e.field e.change ∷ es) ≡ held_rights f k es + takes f k e
   held_grant txn e opened =
       omega (arith, weigh_one (eqb e.field.0 f && same_kind (kind_of e.change) k) (is_open txn es) (unsigned_abs e.change) opened)
 
@@ -164,7 +183,8 @@ module _ (schema : SchemaValue) (base : Base) (es : List Effect) (lawful : IsLaw
 
   -- a gain comes to the share
   pub share_accept : (from : SiteNo) (field : FieldNo) (kind : Kind) (total : ℕ)
-      → share base f k (Accepts from field kind total ∷ es) ≡ share base f k es + cond (eqb field.0 f && same_kind kind k) (total - total_accepted base from.0 f k es) 0
+      → share base f k (Accepts from field kind total ∷ es) ≡ share base f k es
+      + cond (eqb field.0 f && same_kind kind k) (total - total_accepted base from.0 f k es) 0
   share_accept from field kind total = omega (arith, covered schema base es lawful f k)
 
 -- ---- the escrows of one transaction
@@ -175,7 +195,8 @@ weigh_case true false n = refl
 weigh_case false true n = refl
 weigh_case false false n = refl
 
-sum_by_case : (b : Bool) (f : ℕ) (k : Kind) (e : Escrow) (rest : List Escrow) → sum_by (takes f k) (cond b (e ∷ rest) rest) ≡ cond b (takes f k e) 0 + sum_by (takes f k) rest
+sum_by_case : (b : Bool) (f : ℕ) (k : Kind) (e : Escrow) (rest : List Escrow)
+    → sum_by (takes f k) (cond b (e ∷ rest) rest) ≡ cond b (takes f k e) 0 + sum_by (takes f k) rest
 sum_by_case true f k e rest = sum_by-cons (takes f k) e rest
 sum_by_case false f k e rest = omega arith
 
@@ -185,7 +206,12 @@ of_txn_is id f k [] = refl
 of_txn_is id f k (Grants txn field change ∷ es) =
     let e : Escrow = record { field = field; change = change } in
     let on = eqb field.0 f && same_kind (kind_of change) k in
-    omega (arith, of_txn_is id f k es, weigh_case on (same_txn id txn) (unsigned_abs change), sum_by_case (same_txn id txn) f k e (escrows_of id es))
+    omega (
+      arith,
+      of_txn_is id f k es,
+      weigh_case on (same_txn id txn) (unsigned_abs change),
+      sum_by_case (same_txn id txn) f k e (escrows_of id es),
+    )
 of_txn_is id f k (Begins txn ∷ es) = of_txn_is id f k es
 of_txn_is id f k (Commits txn ∷ es) = of_txn_is id f k es
 of_txn_is id f k (Aborts txn ∷ es) = of_txn_is id f k es
@@ -208,7 +234,8 @@ pub record IsUnused (id : TxnId) (es : List Effect) : Type 0 where
   pub undropped : is_dropped id es ≡ false
   pub no_escrow : escrows_of id es ≡ []
 
-pub new_is_unused : (schema : SchemaValue) (base : Base) (id : TxnId) (es : List Effect) → IsLawful schema base es → is_begun id es ≡ false → IsUnused id es
+pub new_is_unused : (schema : SchemaValue) (base : Base) (id : TxnId) (es : List Effect) → IsLawful schema base es → is_begun id es ≡ false
+    → IsUnused id es
 new_is_unused schema base id [] lawful new = record { uncommitted = refl; undropped = refl; no_escrow = refl }
 new_is_unused schema base id (Begins txn ∷ es) lawful new =
     let was = new_is_unused schema base id es lawful.0 (or_parts (same_txn txn id) (is_begun id es) new).1 in

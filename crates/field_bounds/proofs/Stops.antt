@@ -27,11 +27,13 @@ closed_by_stop id es begun_txns = closes (is_begun id es) (is_committed id es) (
 same_txn-refl : (id : TxnId) → same_txn id id ≡ true
 same_txn-refl id = rw (eq-eqb id.epoch id.epoch refl, eq-eqb id.number id.number refl) refl
 
-none_open : (all es : List Effect) → ((id : TxnId) → is_begun id es ≡ true → is_begun id all ≡ true) → filter (λ id. is_open id (Stops ∷ all)) (begun_txns es) ≡ []
+none_open : (all es : List Effect) → ((id : TxnId) → is_begun id es ≡ true → is_begun id all ≡ true)
+    → filter (λ id. is_open id (Stops ∷ all)) (begun_txns es) ≡ []
 none_open all [] h = refl
 none_open all (Begins txn ∷ es) h =
     let here : is_begun txn (Begins txn ∷ es) ≡ true = rw (same_txn-refl txn) refl in
-    rw (closed_by_stop txn all (h txn here)) (none_open all es (λ id begun_txns. h id (or_right (same_txn txn id) (is_begun id es) begun_txns)))
+    rw (closed_by_stop txn all (h txn here)) (none_open all es
+    (λ id begun_txns. h id (or_right (same_txn txn id) (is_begun id es) begun_txns)))
 none_open all (Grants txn field change ∷ es) h = none_open all es h
 none_open all (Commits txn ∷ es) h = none_open all es h
 none_open all (Aborts txn ∷ es) h = none_open all es h
@@ -51,7 +53,11 @@ weigh_false false n = refl
 
 granted-none : (f : ℕ) (k : Kind) (es : List Effect) → granted_sizes (λ _. false) f k es ≡ 0
 granted-none f k [] = refl
-granted-none f k (Grants txn field change ∷ es) = omega (arith, granted-none f k es, weigh_false (eqb field.0 f && same_kind (kind_of change) k) (unsigned_abs change))
+granted-none f k (Grants txn field change ∷ es) = omega (
+  arith,
+  granted-none f k es,
+  weigh_false (eqb field.0 f && same_kind (kind_of change) k) (unsigned_abs change),
+)
 granted-none f k (Begins txn ∷ es) = granted-none f k es
 granted-none f k (Commits txn ∷ es) = granted-none f k es
 granted-none f k (Aborts txn ∷ es) = granted-none f k es
@@ -79,14 +85,16 @@ module _ (schema : SchemaValue) (base : Base) (es : List Effect) (lawful : IsLaw
         covered schema base es lawful f k,
         granted-same schema base (λ id. is_aborted id (Stops ∷ es)) (λ id. is_open id es || is_aborted id es) f k es lawful
             (λ id begun_txns. stop_aborted (is_begun id es) (is_committed id es) (is_dropped id es) begun_txns),
-        granted-or (λ id. is_open id es) (λ id. is_aborted id es) (λ id is. open_excludes (is_committed id es) (is_dropped id es) is) f k es,
+        granted-or (λ id. is_open id es) (λ id. is_aborted id es)
+            (λ id is. open_excludes (is_committed id es) (is_dropped id es) is) f k es,
       )
 
   pub held_stop : held_rights f k (Stops ∷ es) ≡ 0
   held_stop =
       omega (
         arith,
-        granted-same schema base (λ id. is_open id (Stops ∷ es)) (λ _. false) f k es lawful (λ id begun_txns. closed_by_stop id es begun_txns),
+        granted-same schema base (λ id. is_open id (Stops ∷ es)) (λ _. false) f k es lawful
+            (λ id begun_txns. closed_by_stop id es begun_txns),
         granted-none f k es,
       )
 
@@ -102,19 +110,22 @@ kept_sizes f k [] = 0
 kept_sizes f k (Commits txn ∷ es) = of_txn txn f k es + kept_sizes f k es
 kept_sizes f k (_ ∷ es) = kept_sizes f k es
 
-pub kept_is_committed : (schema : SchemaValue) (base : Base) (es : List Effect) → IsLawful schema base es → (f : ℕ) (k : Kind) → kept_sizes f k es ≡ granted_sizes (λ id. is_committed id es) f k es
+pub kept_is_committed : (schema : SchemaValue) (base : Base) (es : List Effect) → IsLawful schema base es → (f : ℕ) (k : Kind)
+    → kept_sizes f k es ≡ granted_sizes (λ id. is_committed id es) f k es
 kept_is_committed schema base [] lawful f k = refl
 kept_is_committed schema base (Commits txn ∷ es) lawful f k =
     omega (
       arith,
       kept_is_committed schema base es lawful.0 f k,
-      granted-or (λ id. same_txn txn id) (λ id. is_committed id es) (λ id same. (fate_here schema base es lawful.0 f k txn id lawful.1.1 same).0) f k es,
+      granted-or (λ id. same_txn txn id) (λ id. is_committed id es)
+          (λ id same. (fate_here schema base es lawful.0 f k txn id lawful.1.1 same).0) f k es,
     )
 kept_is_committed schema base (Grants txn field change ∷ es) lawful f k =
     omega (
       arith,
       kept_is_committed schema base es lawful.0 f k,
-      weigh_none (eqb field.0 f && same_kind (kind_of change) k) (is_committed txn es) (unsigned_abs change) (open_parts (is_committed txn es) (is_dropped txn es) lawful.1.opened).0,
+      weigh_none (eqb field.0 f && same_kind (kind_of change) k) (is_committed txn es) (unsigned_abs change)
+          (open_parts (is_committed txn es) (is_dropped txn es) lawful.1.opened).0,
     )
 kept_is_committed schema base (Begins txn ∷ es) lawful f k = kept_is_committed schema base es lawful.0 f k
 kept_is_committed schema base (Aborts txn ∷ es) lawful f k = kept_is_committed schema base es lawful.0 f k
@@ -124,7 +135,8 @@ kept_is_committed schema base (Stops ∷ es) lawful f k = kept_is_committed sche
 
 -- after a stop the share is what the commits, the gifts and the gains leave
 pub share_stands : (schema : SchemaValue) (base : Base) (es : List Effect) → IsLawful schema base es → (f : ℕ) (k : Kind)
-    → share base f k (Stops ∷ es) + kept_sizes f k es + gifts (λ _. true) f k es ≡ base.rights f k + kept_sizes f (other k) es + gains base f k es
+    → share base f k (Stops ∷ es) + kept_sizes f k es + gifts (λ _. true) f k es ≡ base.rights f k + kept_sizes f (other k) es
+    + gains base f k es
 share_stands schema base es lawful f k =
     omega (
       arith,

@@ -24,7 +24,8 @@ sum_below-zero zero = refl
 sum_below-zero (suc n) = omega (arith, sum_below-zero n)
 
 -- one term is greater by x, and no other differs
-pub sum_below_bump : (n : ℕ) (F G : ℕ → ℕ) (i x : ℕ) → i < n → G i ≡ F i + x → ((j : ℕ) → j ≢ i → G j ≡ F j) → sum_below n G ≡ sum_below n F + x
+pub sum_below_bump : (n : ℕ) (F G : ℕ → ℕ) (i x : ℕ) → i < n → G i ≡ F i + x → ((j : ℕ) → j ≢ i → G j ≡ F j)
+    → sum_below n G ≡ sum_below n F + x
 sum_below_bump zero F G i x below at rest = absurd (omega arith)
 sum_below_bump (suc n) F G i x below at rest =
     elim (cases_eq n i) [

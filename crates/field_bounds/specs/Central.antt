@@ -308,7 +308,8 @@ accepted_between schema t f k from to = total_accepted (fresh schema to) from f 
 -- The rights in flight: what was given and isn't accepted yet, between any two sites, added up (this project).
 abbrev pub in_flight : SchemaValue → List Entry → ℕ → Kind → ℕ
 in_flight schema t f k =
-    sum_below schema.sites (λ from. sum_below schema.sites (λ to. given_between schema t f k from to - accepted_between schema t f k from to))
+    sum_below schema.sites (λ from. sum_below schema.sites
+    (λ to. given_between schema t f k from to - accepted_between schema t f k from to))
 
 -- ---- conservation
 

@@ -34,7 +34,8 @@ is_name bytes = is_name_length (length bytes) && list_all is_name_byte bytes
 
 -- The floor is at most the value and the value at most the ceiling, all within the greatest quantity.
 unfoldable pub has_bounds : FieldValue → Bool
-has_bounds f = int_le (neg_ℤ (pos max_quantity)) f.floor && int_le f.floor f.value && int_le f.value f.ceiling && int_le f.ceiling (pos max_quantity)
+has_bounds f = int_le (neg_ℤ (pos max_quantity)) f.floor && int_le f.floor f.value && int_le f.value f.ceiling
+    && int_le f.ceiling (pos max_quantity)
 
 -- A name stands among the fields before.
 unfoldable pub is_used : List FieldValue → List ℕ → Bool
@@ -77,7 +78,8 @@ is_field_count n = nat_le 1 n && nat_le n max_fields
 unfoldable pub of_parts : ℕ → List FieldValue → Result SchemaValue SchemaFault
 of_parts sites fields =
     if is_site_count sites
-    then (if is_field_count (length fields) then unless (first_fault [] fields) (record { sites = sites; fields = fields }) else Err FieldCount)
+    then (if is_field_count (length fields) then unless (first_fault [] fields) (record { sites = sites; fields = fields })
+    else Err FieldCount)
     else Err SiteCount
 
 -- What is so of each field of a schema.

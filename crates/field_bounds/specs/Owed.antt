@@ -262,7 +262,8 @@ abbrev pub test_not_yours : Place → SiteNo → Test
 test_not_yours at to = when (not (to.0 == at.site)) NotYours
 
 abbrev pub test_forged : Place → Statement → Test
-test_forged at told = when (nat_lt (room at told.field) (gain_of at told.from told.field told.kind told.total)) (Forged (room at told.field))
+test_forged at told = when (nat_lt (room at told.field) (gain_of at told.from told.field told.kind told.total))
+    (Forged (room at told.field))
 
 abbrev pub test_nothing_given : Place → SiteNo → FieldNo → Kind → Test
 test_nothing_given at to field kind = when (told_so_far at to field kind == 0) NothingGiven
@@ -281,7 +282,8 @@ abbrev pub refusals : Place → Command → List Test
 refusals at Begin = test_down at ∷ test_too_many_open at ∷ test_numbers_full at ∷ []
 refusals at (Escrow txn field change) =
     test_down at ∷ test_no_field at field ∷ test_no_transaction at txn ∷ test_zero (unsigned_abs change)
-    ∷ test_too_large max_change (unsigned_abs change) ∷ test_short at field (kind_of change) (unsigned_abs change) ∷ test_too_many_escrows at txn ∷ []
+    ∷ test_too_large max_change (unsigned_abs change) ∷ test_short at field (kind_of change) (unsigned_abs change)
+    ∷ test_too_many_escrows at txn ∷ []
 refusals at (Commit txn) = test_down at ∷ test_no_transaction at txn ∷ []
 refusals at (Abort txn) = test_down at ∷ test_no_transaction at txn ∷ []
 refusals at (Give to field kind amount) =
@@ -306,8 +308,10 @@ refusals at Restart = []
 -- Between which values the committed value of a field lies: as far above the schema's floor as the site has rights to lower
 -- and has given such up, and as far below the schema's ceiling as it has rights to raise and has given such up.
 abbrev pub interval_at : Place → FieldNo → ℤ × ℤ
-interval_at at field =
-    ((field_at at.schema field.0).floor +ℤ pos (guarded_rights at field Lower), (field_at at.schema field.0).ceiling -ℤ pos (guarded_rights at field Raise))
+interval_at at field = (
+  (field_at at.schema field.0).floor +ℤ pos (guarded_rights at field Lower),
+  (field_at at.schema field.0).ceiling -ℤ pos (guarded_rights at field Raise),
+)
 
 -- The free rights of a field, to lower and to raise it.
 abbrev pub shares_at : Place → FieldNo → ℕ × ℕ

@@ -20,7 +20,8 @@ told_by from (Give to field kind amount) (Given total) = Some (record { from = f
 told_by from (Give to field kind amount) reply = None
 told_by from (Restate to field kind) (Stated total) = Some (record { from = from; to = to; field = field; kind = kind; total = total })
 told_by from (Restate to field kind) reply = None
-told_by from (Spare to field kind want) (Spared amount total) = Some (record { from = from; to = to; field = field; kind = kind; total = total })
+told_by from (Spare to field kind want) (Spared amount total) =
+    Some (record { from = from; to = to; field = field; kind = kind; total = total })
 told_by from (Spare to field kind want) reply = None
 told_by from (Tighten field kind amount) reply = None
 told_by from (Accept told) reply = None

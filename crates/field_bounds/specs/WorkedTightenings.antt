@@ -63,11 +63,13 @@ tighten_unsure = row_entry (raise_floor 5) Unsure ∷ row_entry (raise_floor 5) 
 
 -- It was kept: the rights are gone.
 abbrev pub tighten_kept : List Entry
-tighten_kept = take 1 tighten_unsure ++ entry_restarted 1 Kept ∷ row_entry (Share stock) (Shares 15 30) ∷ row_entry (raise_floor 1) (Tightened 6) ∷ []
+tighten_kept = take 1 tighten_unsure ++ entry_restarted 1 Kept ∷ row_entry (Share stock) (Shares 15 30)
+    ∷ row_entry (raise_floor 1) (Tightened 6) ∷ []
 
 -- It was lost: they are free.
 abbrev pub tighten_lost : List Entry
-tighten_lost = take 1 tighten_unsure ++ entry_restarted 1 Lost ∷ row_entry (Share stock) (Shares 20 30) ∷ row_entry (raise_floor 1) (Tightened 1) ∷ []
+tighten_lost = take 1 tighten_unsure ++ entry_restarted 1 Lost ∷ row_entry (Share stock) (Shares 20 30)
+    ∷ row_entry (raise_floor 1) (Tightened 1) ∷ []
 
 -- At site 1, which gave up its 20, there is room for as much as before, 50.
 abbrev pub cut_room : List Entry

@@ -61,16 +61,16 @@ pub enum Command {
         field: FieldNo,
         kind: Kind,
     },
-    /// Gives free rights of a kind on a field to another site: as many as it wants, and at most half
-    /// of the share, rounded up.
+    /// Gives free rights of a kind on a field to another site: as many as it wants, and at most
+    /// half of the share, rounded up.
     Spare {
         to: SiteNo,
         field: FieldNo,
         kind: Kind,
         want: u64,
     },
-    /// Gives free rights of a kind on a field up for good, so many: rights to lower raise the field's
-    /// floor, and rights to raise lower its ceiling.
+    /// Gives free rights of a kind on a field up for good, so many: rights to lower raise the
+    /// field's floor, and rights to raise lower its ceiling.
     Tighten {
         field: FieldNo,
         kind: Kind,
@@ -106,8 +106,8 @@ pub enum Refusal {
     NoTransaction,
     /// The amount, the change or the stated total is 0.
     Zero,
-    /// The amount or the change without its sign is above 2,000,000,000,000,000, or the stated total
-    /// above 1,000,000,000,000,000,000.
+    /// The amount or the change without its sign is above 2,000,000,000,000,000, or the stated
+    /// total above 1,000,000,000,000,000,000.
     TooLarge,
     /// More is asked than the site's share of the kind, which is told. A spare is short only where
     /// that share is 0.
@@ -172,8 +172,8 @@ pub enum Reply {
     /// aborted, and `last` settles what was in doubt.
     Restarted { epoch: u32, last: Last },
     /// The command may be kept or not, and the site is down: the next restart tells which. Only a
-    /// commit of a transaction with an escrow, a give, a spare, a tighten, and an accept that brings a
-    /// gain are answered so.
+    /// commit of a transaction with an escrow, a give, a spare, a tighten, and an accept that
+    /// brings a gain are answered so.
     Unsure,
     /// The restart failed, and the site is down.
     StillDown,

@@ -29,32 +29,37 @@ pub fn worked_gifts()
 
 /// In those rows these other replies aren't owed: 21 rights given of 20, an amount answered where a
 /// total is owed, a restatement that counts again, a total taken in as if all of it were new, a
-/// lower total taken in as the greatest, a second taking in of the same, a refusal of what is within
-/// the room, more spared than half of the share, half of an odd share rounded down, and a spare
-/// refused where there is a share.
+/// lower total taken in as the greatest, a second taking in of the same, a refusal of what is
+/// within the room, more spared than half of the share, half of an odd share rounded down, and a
+/// spare refused where there is a share.
 pub fn wrong_gifts()
     ensures too_many { IsWrongAt 0 (take 0 given_away) (give_lower 1 21) (Given 21) }
     ensures amount { IsWrongAt 0 (take 1 given_twice) (give_lower 1 2) (Given 2) }
-    ensures counted_again { IsWrongAt 0 (take 2 given_twice) (Restate (site 1) stock Lower) (Stated 10) }
+    ensures counted_again { IsWrongAt 0 (take 2 given_twice) (Restate (site 1) stock Lower)
+        (Stated 10) }
     ensures all_new { IsWrongAt 1 (take 1 late_and_twice) (Accept (statement_to 7)) (Accepted 7) }
     ensures late { IsWrongAt 1 (take 1 late_and_twice) (Accept (statement_to 3)) (Accepted 3) }
     ensures forgotten { IsWrongAt 1 (take 2 late_and_twice) (Accept (statement_to 5)) (Accepted 2) }
     ensures twice { IsWrongAt 1 (take 2 late_and_twice) (Accept (statement_to 5)) (Accepted 5) }
-    ensures in_room { (room : ℕ) → IsWrongAt 1 (take 0 late_and_twice) (Accept (statement_to 50)) (Refused (Forged room)) }
+    ensures in_room { (room : ℕ) → IsWrongAt 1 (take 0 late_and_twice) (Accept (statement_to 50))
+        (Refused (Forged room)) }
     ensures all_spared { IsWrongAt 0 (take 0 spared_twice) (spare_raise 1 100) (Spared 30 30) }
     ensures rounded_down { IsWrongAt 0 (take 1 spared_twice) (spare_raise 1 100) (Spared 7 22) }
-    ensures spare_short { IsWrongAt 0 (take 0 spared_twice) (spare_raise 1 100) (Refused (Short 30)) }
+    ensures spare_short { IsWrongAt 0 (take 0 spared_twice) (spare_raise 1 100)
+        (Refused (Short 30)) }
 {}
 
-/// The row of both sites is a sound trace. After the gift, 5 rights are in flight, and the shares of
-/// both sites and these are still the 40 by which the infimum lies above the floor. At the end site 1
-/// has accepted the 5 that it was given, none are in flight, and 25 are open: the infimum is 15, the
-/// supremum and the committed value 40. A trace that takes in what nobody gave isn't sound.
+/// The row of both sites is a sound trace. After the gift, 5 rights are in flight, and the shares
+/// of both sites and these are still the 40 by which the infimum lies above the floor. At the end
+/// site 1 has accepted the 5 that it was given, none are in flight, and 25 are open: the infimum is
+/// 15, the supremum and the committed value 40. A trace that takes in what nobody gave isn't sound.
 pub fn worked_flight()
     ensures sound { IsSound halved_shelf (reverse passed_on) }
     ensures issued { statement_of (row_entry (give_lower 1 5) (Given 5)) ≡ Some (statement_to 5) }
-    ensures restated { statement_of (row_entry (Restate (site 1) stock Lower) (Stated 5)) ≡ Some (statement_to 5) }
-    ensures spared { statement_of (row_entry (Spare (site 1) stock Lower 9) (Spared 2 5)) ≡ Some (statement_to 5) }
+    ensures restated { statement_of (row_entry (Restate (site 1) stock Lower) (Stated 5))
+        ≡ Some (statement_to 5) }
+    ensures spared { statement_of (row_entry (Spare (site 1) stock Lower 9) (Spared 2 5))
+        ≡ Some (statement_to 5) }
     ensures unissued { statement_of (takes_in 5 (Accepted 5)) ≡ None }
     ensures flying { let front = reverse (take 1 passed_on) in
         (in_flight halved_shelf front 0 Lower ≡ 5)

@@ -21,10 +21,10 @@ pub fn share_is_exact()
         rights_out f k (effects base kept o) ≤ rights_in base f k (effects base kept o) }
 {}
 
-/// What a site is asked leaves one list of owed replies, once it is told which replies were in doubt
-/// and how each restart ended: these two rest on what is kept across a stop too. With that told, a
-/// command is owed one reply where its site stands (`only`), a site's history is told by its
-/// commands alone (`history`), and a sound trace by its commands with their sites (`trace`).
+/// What a site is asked leaves one list of owed replies, once it is told which replies were in
+/// doubt and how each restart ended: these two rest on what is kept across a stop too. With that
+/// told, a command is owed one reply where its site stands (`only`), a site's history is told by
+/// its commands alone (`history`), and a sound trace by its commands with their sites (`trace`).
 pub fn one_reply()
     ensures only { (at : Place) (command : Command) (reply other : Reply) →
         Fits at command reply → Fits at command other →
@@ -58,13 +58,13 @@ pub fn restarts_settle()
 /// Every sound trace is a run of one central store. If each site gave the replies that it owes
 /// after its own entries alone, and took in only statements that were issued before, then, over the
 /// entries of all sites in one order: an escrow was granted only where the infimum and supremum of
-/// one central store allow it, rights were given up only where they allow that, an escrow, a gift or
-/// a tightening refused as short was told the site's share, which is less than was asked, and an
+/// one central store allow it, rights were given up only where they allow that, an escrow, a gift
+/// or a tightening refused as short was told the site's share, which is less than was asked, and an
 /// interval that was read holds the committed value (`central`). At every moment the infimum lies
 /// above the floor, and the supremum below the ceiling, by exactly the rights that the sites have
-/// free and those in flight, which were given and aren't accepted yet; and no site has accepted more
-/// than it was given (`conserved`). So the infimum is never below the floor, and the supremum never
-/// above the ceiling (`bounded`), and no field can be taken past a bound, however the open
+/// free and those in flight, which were given and aren't accepted yet; and no site has accepted
+/// more than it was given (`conserved`). So the infimum is never below the floor, and the supremum
+/// never above the ceiling (`bounded`), and no field can be taken past a bound, however the open
 /// transactions end, and whichever statements come late, twice or never (`outcomes`). The floor and
 /// the ceiling are those of the trace so far: the schema's, as far inwards as the sites have given
 /// rights up. A trace has the newest entry first.

@@ -9,15 +9,15 @@ mod field;
 mod gift_rows;
 mod header;
 mod id;
-mod statements;
 mod kind;
 mod laws;
 mod limits;
 mod macros;
 mod restart_rows;
 mod schema;
-mod tighten_rows;
 mod site_rows;
+mod statements;
+mod tighten_rows;
 
 pub use effect::Effect;
 pub use entry::{Command, Entry, Escrow, Last, Refusal, Reply, Statement};
@@ -25,7 +25,6 @@ pub use fault::SchemaFault;
 pub use field::FieldSpec;
 pub use gift_rows::{worked_flight, worked_gifts, wrong_gifts};
 pub use id::{FieldNo, SiteNo, TxnId};
-pub use statements::statement_of;
 pub use kind::Kind;
 pub use laws::{
     bounds_never_loosen, one_central_store, one_reply, outcomes_lie_between, restarts_settle,
@@ -34,8 +33,9 @@ pub use laws::{
 pub use limits::{MAX_CHANGE, MAX_EPOCH, MAX_ESCROWS, MAX_HEADER, MAX_NUMBER, MAX_OPEN, MAX_TOTAL};
 pub use restart_rows::{worked_doubt, worked_restarts, wrong_restarts};
 pub use schema::Schema;
-pub use tighten_rows::{worked_bounds, worked_tightenings, wrong_tightenings, wrong_traces};
 pub use site_rows::{worked_runs, worked_sites, worked_values, wrong_replies, wrong_shares};
+pub use statements::statement_of;
+pub use tighten_rows::{worked_bounds, worked_tightenings, wrong_tightenings, wrong_traces};
 
 #[cfg(test)]
 mod tests;

@@ -48,7 +48,10 @@ macro_rules! refuse_first {
 /// this stands.
 #[macro_export]
 macro_rules! by_command {
-    ($command:expr; $($name:ident $({ $($field:ident),* })? $(($part:ident))? => $arm:expr),* $(,)?) => {
+    (
+        $command:expr;
+        $($name:ident $({ $($field:ident),* })? $(($part:ident))? => $arm:expr),* $(,)?
+    ) => {
         match $command {
             $(Command::$name $({ $($field),* })? $(($part))? => $arm,)*
         }

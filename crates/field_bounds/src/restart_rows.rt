@@ -47,16 +47,18 @@ pub fn wrong_restarts()
     ensures again { (last : Last) → IsWrongAt 0 in_doubt Restart (Restarted 0 last) }
     ensures begun { IsWrongAt 0 (take 0 row_aborted) Begin Unsure }
     ensures full { IsWrongAt 0 in_doubt Restart (Refused NumbersFull) }
-    ensures unstated { IsWrongAt 0 (take 2 gift_kept) (Restate (site 1) stock Lower) (Refused NothingGiven) }
+    ensures unstated { IsWrongAt 0 (take 2 gift_kept) (Restate (site 1) stock Lower)
+        (Refused NothingGiven) }
 {}
 
 /// The rows `kept` and `lost` are sound traces. While the commit of 20 is in doubt it counts as
 /// open: the committed value is 40, the infimum 20 and the supremum 40. Once it was kept all three
-/// are 20, once it was lost all three are 40. A gift or a spare in doubt issues no statement; once it was kept
-/// its rights are in flight, 5 of the gift and 15 of the spare. A trace that takes in what nobody gave isn't sound, also where that
-/// is in doubt.
+/// are 20, once it was lost all three are 40. A gift or a spare in doubt issues no statement; once
+/// it was kept its rights are in flight, 5 of the gift and 15 of the spare. A trace that takes in
+/// what nobody gave isn't sound, also where that is in doubt.
 pub fn worked_doubt()
-    ensures sound { IsSound halved_shelf (reverse row_kept) × IsSound halved_shelf (reverse row_lost) }
+    ensures sound { IsSound halved_shelf (reverse row_kept)
+        × IsSound halved_shelf (reverse row_lost) }
     ensures waiting { let front = reverse in_doubt in
         (committed_value halved_shelf front 0 ≡ pos 40)
         × (inf halved_shelf front 0 ≡ pos 20)

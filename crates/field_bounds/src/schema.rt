@@ -45,7 +45,11 @@ impl Model for Schema {
 
     ghost view = { λ s. record { sites = s.sites; fields = map entry_value s.fields.entries } };
 
-    ghost invariant = { λ s. IsSchema (record { sites = s.sites; fields = map entry_value s.fields.entries }) };
+    ghost invariant = { λ s. IsSchema (record {
+      sites = s.sites;
+      fields =
+          map entry_value s.fields.entries;
+    }) };
 }
 
 /// Two schemas are equal where they have as many sites, and the same fields in the same order, each
@@ -112,7 +116,8 @@ fn has_bounds(spec: &FieldSpec) -> bool
 
 #[tactic(auto, unfolding(crate::specs::Limits::field_fault))]
 fn check_field(fields: &IndexMap<String, FieldBounds>, spec: &FieldSpec) -> Result<(), SchemaFault>
-    ensures { result ≡ unless (field_fault (stored_values fields.now.entries) (spec_value spec.now)) tt }
+    ensures { result ≡ unless (field_fault (stored_values fields.now.entries) (spec_value spec.now))
+        tt }
 {
     if !is_name(spec.name.as_str()) {
         return Err(SchemaFault::Name);
@@ -193,7 +198,8 @@ impl Schema {
 
     #[tactic(auto, unfolding(crate::specs::Limits::of_parts))]
     fn of_parts(alloc: Global, sites: i64, fields: Vec<FieldSpec>) -> Result<Schema, SchemaFault>
-        ensures reads { Gives (λ s. s) result (of_parts (count_of sites) (map spec_value fields.items)) }
+        ensures reads { Gives (λ s. s) result (of_parts (count_of sites)
+            (map spec_value fields.items)) }
     {
         if sites < 1 || sites > MAX_SITES {
             return Err(SchemaFault::SiteCount);

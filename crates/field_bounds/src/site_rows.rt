@@ -1,5 +1,5 @@
-//! Worked rows of one site, of two and of two fields, computed against the definitions, each as a clause of a function that
-//! does nothing.
+//! Worked rows of one site, of two and of two fields, computed against the definitions, each as a
+//! clause of a function that does nothing.
 
 ghost use Rattle.std.specs.Prelude.{◌≡◌, pos, reverse, take};
 ghost use Rattle.field_bounds.specs.declared.kind.Kind.TheVariants.{Lower, Raise};
@@ -32,10 +32,13 @@ pub fn wrong_replies()
     ensures escrow_refused { (refusal : Refusal) →
         IsWrong shelf (take 1 row_lowered) (lower_by 1 20) (Refused refusal) }
     ensures escrow_committed { IsWrong shelf (take 1 row_lowered) (lower_by 1 20) Committed }
-    ensures read_wide { IsWrong shelf (take 2 row_lowered) (Read stock) (Between (pos 0) (pos 100)) }
-    ensures read_early { IsWrong shelf (take 2 row_lowered) (Read stock) (Between (pos 20) (pos 20)) }
+    ensures read_wide { IsWrong shelf (take 2 row_lowered) (Read stock)
+        (Between (pos 0) (pos 100)) }
+    ensures read_early { IsWrong shelf (take 2 row_lowered) (Read stock)
+        (Between (pos 20) (pos 20)) }
     ensures commit_aborted { IsWrong shelf (take 3 row_lowered) (Commit (txn 1)) Aborted }
-    ensures read_late { IsWrong shelf (take 4 row_lowered) (Read stock) (Between (pos 40) (pos 40)) }
+    ensures read_late { IsWrong shelf (take 4 row_lowered) (Read stock)
+        (Between (pos 40) (pos 40)) }
 {}
 
 /// The three schemas of the rows are within the limits, and the row `lowered` is a sound trace: the

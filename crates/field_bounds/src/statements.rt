@@ -5,9 +5,9 @@ ghost use Rattle.field_bounds.specs.Statements.{statement_of};
 
 use crate::entry::{Command, Entry, Reply, Statement};
 
-/// The statement that an entry issues: that of a Give answered Given, a Restate answered Stated, or a
-/// Spare answered Spared, with the entry's site as giver and the reply's total. None for every other entry. Takes
-/// no memory.
+/// The statement that an entry issues: that of a Give answered Given, a Restate answered Stated, or
+/// a Spare answered Spared, with the entry's site as giver and the reply's total. None for every
+/// other entry. Takes no memory.
 pub fn statement_of(entry: &Entry) -> Option<Statement>
     ensures value { result ≡ statement_of entry.now }
 {

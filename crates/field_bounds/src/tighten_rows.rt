@@ -30,7 +30,8 @@ pub fn worked_tightenings()
 pub fn wrong_tightenings()
     ensures share_kept { IsWrongAt 0 (take 1 row_tightened) (Share stock) (Shares 20 30) }
     ensures other_kind { IsWrongAt 0 (take 1 row_tightened) (Share stock) (Shares 20 25) }
-    ensures read_wide { IsWrongAt 0 (take 1 row_tightened) (Read stock) (Between (pos 15) (pos 70)) }
+    ensures read_wide { IsWrongAt 0 (take 1 row_tightened) (Read stock)
+        (Between (pos 15) (pos 70)) }
     ensures forgotten { IsWrongAt 0 (take 5 tightened_twice) (raise_floor 2) (Tightened 2) }
     ensures both_counted { IsWrongAt 0 (take 5 tightened_twice) (raise_floor 2) (Tightened 10) }
     ensures too_many { IsWrongAt 0 (take 1 row_tightened) (raise_floor 16) (Tightened 21) }
@@ -41,9 +42,9 @@ pub fn wrong_tightenings()
 {}
 
 /// The bounds of a trace. At its end the row of one site leaves the field the bounds 5 and 70. What
-/// is in doubt moves no bound, and once it was kept the floor is 5. The row of both sites is a sound
-/// trace: its floor is 25, and so is the committed value once site 0 has lowered by all that it may.
-/// A tightening issues no statement.
+/// is in doubt moves no bound, and once it was kept the floor is 5. The row of both sites is a
+/// sound trace: its floor is 25, and so is the committed value once site 0 has lowered by all that
+/// it may. A tightening issues no statement.
 pub fn worked_bounds()
     ensures bounds { let whole = reverse row_tightened in
         (floor_in halved_shelf whole 0 ≡ pos 5) × (ceiling_in halved_shelf whole 0 ≡ pos 70) }
@@ -60,8 +61,8 @@ pub fn worked_bounds()
 {}
 
 /// One central store holds to the bounds of the trace. Where both sites have given up all their
-/// rights to lower, the floor is the committed value, and a trace in which an escrow is granted then
-/// is no run of it; nor is one in which more is given up than the floor leaves.
+/// rights to lower, the floor is the committed value, and a trace in which an escrow is granted
+/// then is no run of it; nor is one in which more is given up than the floor leaves.
 pub fn wrong_traces()
     ensures floor { let front = reverse (take 2 over_cut) in
         (floor_in halved_shelf front 0 ≡ pos 40)

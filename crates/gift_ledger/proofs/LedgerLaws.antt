@@ -23,7 +23,8 @@ at-set xs i j x d h =
     ]
 
 -- the account of a kind after one was replaced
-of-with : (accounts : FieldAccounts) (kind k : Kind) (account : Account) → account_of (with_account accounts kind account) k ≡ cond (same_kind kind k) account (account_of accounts k)
+of-with : (accounts : FieldAccounts) (kind k : Kind) (account : Account)
+    → account_of (with_account accounts kind account) k ≡ cond (same_kind kind k) account (account_of accounts k)
 of-with accounts Lower Lower account = refl
 of-with accounts Lower Raise account = refl
 of-with accounts Raise Lower account = refl
@@ -36,7 +37,9 @@ in-put fields f g kind k account h =
     ap (λ (x : FieldAccounts). account_of x k) (at-set fields f g (with_account (get_or fields f no_accounts) kind account) no_accounts h)
     ∙ elim (cases_Bool (f == g)) [
       | inl same ↦
-          rw same (subst (λ n. account_of (with_account (get_or fields f no_accounts) kind account) k ≡ cond (same_kind kind k) account (account_of (get_or fields n no_accounts) k)) (eqb-true f g same) (of-with (get_or fields f no_accounts) kind k account))
+          rw same (subst (λ n. account_of (with_account (get_or fields f no_accounts) kind account) k
+          ≡ cond (same_kind kind k) account (account_of (get_or fields n no_accounts) k)) (eqb-true f g same)
+          (of-with (get_or fields f no_accounts) kind k account))
       | inr differs ↦ rw differs refl
     ]
 
@@ -44,15 +47,19 @@ in-put fields f g kind k account h =
 pub account_at-put_at : (ledger : LedgerValue) (s f r g : ℕ) (kind k : Kind) (account : Account) → IsSlot ledger s f
     → account_at (put_at ledger s f kind account) r g k ≡ cond ((s == r) && (f == g) && same_kind kind k) account (account_at ledger r g k)
 account_at-put_at ledger s f r g kind k account place =
-    ap (λ (fields : List FieldAccounts). account_in fields g k) (at-set ledger.rows s r (put_in (accounts_with ledger.rows s) f kind account) [] place.site_in)
+    ap (λ (fields : List FieldAccounts). account_in fields g k)
+    (at-set ledger.rows s r (put_in (accounts_with ledger.rows s) f kind account) [] place.site_in)
     ∙ elim (cases_Bool (s == r)) [
       | inl same ↦
-          rw same (subst (λ n. account_in (put_in (accounts_with ledger.rows s) f kind account) g k ≡ cond ((f == g) && same_kind kind k) account (account_in (accounts_with ledger.rows n) g k)) (eqb-true s r same) (in-put (accounts_with ledger.rows s) f g kind k account place.field_in))
+          rw same (subst (λ n. account_in (put_in (accounts_with ledger.rows s) f kind account) g k
+          ≡ cond ((f == g) && same_kind kind k) account (account_in (accounts_with ledger.rows n) g k)) (eqb-true s r same)
+          (in-put (accounts_with ledger.rows s) f g kind k account place.field_in))
       | inr differs ↦ rw differs refl
     ]
 
 -- no account is more or fewer
-pub sites-put_at : (ledger : LedgerValue) (s f : ℕ) (kind : Kind) (account : Account) → length (put_at ledger s f kind account).rows ≡ length ledger.rows
+pub sites-put_at : (ledger : LedgerValue) (s f : ℕ) (kind : Kind) (account : Account)
+    → length (put_at ledger s f kind account).rows ≡ length ledger.rows
 sites-put_at ledger s f kind account = length-set ledger.rows s _
 
 pub fields-put_at : (ledger : LedgerValue) (s f r : ℕ) (kind : Kind) (account : Account) → IsSlot ledger s f
@@ -61,12 +68,14 @@ fields-put_at ledger s f r kind account place =
     ap length (at-set ledger.rows s r (put_in (accounts_with ledger.rows s) f kind account) [] place.site_in)
     ∙ elim (cases_Bool (s == r)) [
       | inl same ↦
-          rw same (subst (λ n. length (put_in (accounts_with ledger.rows s) f kind account) ≡ length (accounts_with ledger.rows n)) (eqb-true s r same) (length-set (accounts_with ledger.rows s) f _))
+          rw same (subst (λ n. length (put_in (accounts_with ledger.rows s) f kind account) ≡ length (accounts_with ledger.rows n))
+          (eqb-true s r same) (length-set (accounts_with ledger.rows s) f _))
       | inr differs ↦ rw differs refl
     ]
 
 -- so a place stays one
-pub place_stays : (ledger : LedgerValue) (s f r g : ℕ) (kind : Kind) (account : Account) → IsSlot ledger s f → IsSlot ledger r g → IsSlot (put_at ledger s f kind account) r g
+pub place_stays : (ledger : LedgerValue) (s f r g : ℕ) (kind : Kind) (account : Account) → IsSlot ledger s f → IsSlot ledger r g
+    → IsSlot (put_at ledger s f kind account) r g
 place_stays ledger s f r g kind account place there =
     record {
       other = there.other;
@@ -96,15 +105,18 @@ chosen_given true a c h g = h
 chosen_given false a c h g = g
 
 -- a total within the greatest leaves all within it
-pub within-put_at : (ledger : LedgerValue) (s f : ℕ) (kind : Kind) (account : Account) → IsSlot ledger s f → account.given ≤ max_total → IsWithinTotal ledger.rows → IsWithinTotal (put_at ledger s f kind account).rows
+pub within-put_at : (ledger : LedgerValue) (s f : ℕ) (kind : Kind) (account : Account) → IsSlot ledger s f → account.given ≤ max_total
+    → IsWithinTotal ledger.rows → IsWithinTotal (put_at ledger s f kind account).rows
 within-put_at ledger s f kind account place small within r g k =
     subst (λ (x : Account). x.given ≤ max_total) (sym (account_at-put_at ledger s f r g kind k account place))
     (chosen_given ((s == r) && (f == g) && same_kind kind k) account (account_at ledger r g k) small (within r g k))
 
 -- what is read of an account after one was replaced
 read_at-put_at : (read : Account → ℕ) (ledger : LedgerValue) (s f r g : ℕ) (kind k : Kind) (account : Account) → IsSlot ledger s f
-    → read (account_at (put_at ledger s f kind account) r g k) ≡ cond ((s == r) && (f == g) && same_kind kind k) (read account) (read (account_at ledger r g k))
-read_at-put_at read ledger s f r g kind k account place = ap read (account_at-put_at ledger s f r g kind k account place) ∙ chosen ((s == r) && (f == g) && same_kind kind k)
+    → read (account_at (put_at ledger s f kind account) r g k)
+    ≡ cond ((s == r) && (f == g) && same_kind kind k) (read account) (read (account_at ledger r g k))
+read_at-put_at read ledger s f r g kind k account place =
+    ap read (account_at-put_at ledger s f r g kind k account place) ∙ chosen ((s == r) && (f == g) && same_kind kind k)
   where
     chosen : (b : Bool) → read (cond b account (account_at ledger r g k)) ≡ cond b (read account) (read (account_at ledger r g k))
     chosen true = refl
@@ -127,7 +139,8 @@ same_place s r f g kind k h =
     let places = and_parts (s == r) (f == g) both.0 in
     (eqb-true s r places.0, eqb-true f g places.1, same_kind-true kind k both.1)
 
-stays-put_at : (read : Account → ℕ) (ledger : LedgerValue) (s f r g : ℕ) (kind k : Kind) (account : Account) → IsSlot ledger s f → read account ≡ read (account_at ledger s f kind)
+stays-put_at : (read : Account → ℕ) (ledger : LedgerValue) (s f r g : ℕ) (kind k : Kind) (account : Account) → IsSlot ledger s f
+    → read account ≡ read (account_at ledger s f kind)
     → read (account_at (put_at ledger s f kind account) r g k) ≡ read (account_at ledger r g k)
 stays-put_at read ledger s f r g kind k account place same =
     read_at-put_at read ledger s f r g kind k account place
@@ -149,7 +162,8 @@ total_at-with_accepted ledger s f r g kind k n place =
 -- ---- a fresh ledger
 
 -- every other site and every field of the schema has a place
-pub fresh_place : (schema : SchemaValue) (site s f : ℕ) → s ≢ site → s < schema.sites → f < length schema.fields → IsSlot (fresh_ledger schema site) s f
+pub fresh_place : (schema : SchemaValue) (site s f : ℕ) → s ≢ site → s < schema.sites → f < length schema.fields
+    → IsSlot (fresh_ledger schema site) s f
 fresh_place schema site s f other site_in field_in =
     let row = get_or-replicate schema.sites s (replicate (length schema.fields) no_accounts) [] site_in in
     record {
@@ -159,10 +173,13 @@ fresh_place schema site s f other site_in field_in =
     }
 
 -- and nothing is given or accepted at any
-pub fresh_account : (schema : SchemaValue) (site s f : ℕ) (k : Kind) → account_at (fresh_ledger schema site) s f k ≡ record { given = 0; accepted = 0 }
+pub fresh_account : (schema : SchemaValue) (site s f : ℕ) (k : Kind)
+    → account_at (fresh_ledger schema site) s f k ≡ record { given = 0; accepted = 0 }
 fresh_account schema site s f k =
-    replicate-or (λ fields. account_in fields f k ≡ record { given = 0; accepted = 0 }) schema.sites s (replicate (length schema.fields) no_accounts) []
-    (replicate-or (λ accounts. account_of accounts k ≡ record { given = 0; accepted = 0 }) (length schema.fields) f no_accounts no_accounts (nothing k) (nothing k))
+    replicate-or (λ fields. account_in fields f k ≡ record { given = 0; accepted = 0 }) schema.sites s
+    (replicate (length schema.fields) no_accounts) []
+    (replicate-or (λ accounts. account_of accounts k ≡ record { given = 0; accepted = 0 }) (length schema.fields) f no_accounts no_accounts
+    (nothing k) (nothing k))
     (nothing k)
   where
     nothing : (k : Kind) → account_of no_accounts k ≡ record { given = 0; accepted = 0 }

@@ -11,8 +11,8 @@ use std::alloc::{AllocError, Global};
 use std::marker::Model;
 
 /// What a site has given to each other site and accepted from each, on each field and of each kind,
-/// as totals in rights. Contracts see the site and the totals by number of the other site, number of
-/// field, and kind.
+/// as totals in rights. Contracts see the site and the totals by number of the other site, number
+/// of field, and kind.
 ///
 /// Every call after `new` costs the same, whatever the size of the ledger, and takes no memory.
 ///
@@ -64,7 +64,8 @@ impl Ledger {
         self.account(to, field, kind).given
     }
 
-    /// The greatest total accepted so far from another site, of a kind on a field; 0 where none was.
+    /// The greatest total accepted so far from another site, of a kind on a field; 0 where none
+    /// was.
     pub fn accepted(&self, from: SiteNo, field: FieldNo, kind: Kind) -> u64
         requires place { IsSlot self.now from.0 field.0 }
         ensures value { result ≡ accepted_at self.now from.0 field.0 kind }
@@ -84,8 +85,10 @@ impl Ledger {
     ) -> Result<u64, LedgerFull>
         requires place { IsSlot self.old to.0 field.0 }
         ensures full { IsErr result ↔ (max_total < total_at self.old to.0 field.0 kind + amount) }
-        ensures total { IfOk result (λ total. total ≡ total_at self.old to.0 field.0 kind + amount) }
-        ensures ok { OnOk result (self.new ≡ with_total self.old to.0 field.0 kind (total_at self.old to.0 field.0 kind + amount)) }
+        ensures total { IfOk result (λ total. total ≡ total_at self.old to.0 field.0 kind
+            + amount) }
+        ensures ok { OnOk result (self.new ≡ with_total self.old to.0 field.0 kind
+            (total_at self.old to.0 field.0 kind + amount)) }
         ensures so_far { IfErr result (λ full. full.total ≡ total_at self.old to.0 field.0 kind) }
         ensures err { OnErr result (self.new ≡ self.old) }
     {
@@ -111,13 +114,14 @@ impl Ledger {
         if total == 0 { None } else { Some(total) }
     }
 
-    /// Takes in a total that another site has stated, and answers the gain: what the total has above
-    /// the greatest one accepted from it before, 0 where it has nothing above that. The greatest of
-    /// both is kept.
+    /// Takes in a total that another site has stated, and answers the gain: what the total has
+    /// above the greatest one accepted from it before, 0 where it has nothing above that. The
+    /// greatest of both is kept.
     pub fn accept(&mut self, from: SiteNo, field: FieldNo, kind: Kind, total: u64) -> u64
         requires place { IsSlot self.old from.0 field.0 }
         ensures gain { result ≡ total - accepted_at self.old from.0 field.0 kind }
-        ensures accepted { self.new ≡ with_accepted self.old from.0 field.0 kind (max total (accepted_at self.old from.0 field.0 kind)) }
+        ensures accepted { self.new ≡ with_accepted self.old from.0 field.0 kind
+            (max total (accepted_at self.old from.0 field.0 kind)) }
     {
         let account = self.account(from, field, kind);
         let accepted = total.max(account.accepted);

@@ -102,8 +102,8 @@ fn are_told(
             == Err(ReceiptFault::Twice { site, number: 2 })
 }
 
-/// How many calls are answered as told, from the first on, and whether the desk closes and its receipts
-/// are told so. None where memory was refused before the first call.
+/// How many calls are answered as told, from the first on, and whether the desk closes and its
+/// receipts are told so. None where memory was refused before the first call.
 fn count_over<L: Ledger, R: Wait>(
     rt: &R,
     alloc: Global,

@@ -1,7 +1,7 @@
 //! Takes worked steps by library calls while memory is refused now and then: after a call that was
-//! refused, a world and a site show what they showed before it, and the call taken again is answered as
-//! told. So one refusal, wherever it falls, leaves the output as it is, but for its last line: it tells
-//! how many calls were refused.
+//! refused, a world and a site show what they showed before it, and the call taken again is
+//! answered as told. So one refusal, wherever it falls, leaves the output as it is, but for its
+//! last line: it tells how many calls were refused.
 #![tactic(auto)]
 
 mod commands;

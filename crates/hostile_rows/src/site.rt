@@ -171,7 +171,8 @@ const WITH_SUMMARY: [Step; 6] = [
     (Mishap::Never, SHARE, SPENT),
 ];
 
-/// The commit's record, `C 999 1 0 -20`, has 14 bytes with its line feed: the summary behind it is torn.
+/// The commit's record, `C 999 1 0 -20`, has 14 bytes with its line feed: the summary behind it is
+/// torn.
 const TORN_SUMMARY: [Step; 7] = [
     UP_IN_999,
     (Mishap::Never, Command::Begin, Reply::Begun(IN_999)),
@@ -189,8 +190,8 @@ const TORN_SUMMARY: [Step; 7] = [
     (Mishap::Never, SHARE, SPENT),
 ];
 
-/// The restart's record, `R 1000`, has 7 bytes with its line feed: it stands whole, without the summary
-/// that is due behind it, and uses its epoch up.
+/// The restart's record, `R 1000`, has 7 bytes with its line feed: it stands whole, without the
+/// summary that is due behind it, and uses its epoch up.
 const WITHOUT_SUMMARY: [Step; 4] = [
     UP_IN_999,
     (Mishap::Append(7), Command::Restart, Reply::StillDown),
@@ -252,8 +253,8 @@ fn open_over(
     Site::open(alloc, schema, SiteNo(0), medium)
 }
 
-/// Site 0 over these bytes, of two tries: after one that was refused memory the medium that came back
-/// holds the bytes as before. None where it doesn't.
+/// Site 0 over these bytes, of two tries: after one that was refused memory the medium that came
+/// back holds the bytes as before. None where it doesn't.
 fn site_over(alloc: Global, bytes: &[u8], refusals: &mut Refusals) -> Option<Site<TornMedium>> {
     let medium = medium_over(alloc, bytes, refusals)?;
     match open_over(alloc, medium) {
@@ -280,8 +281,8 @@ fn look_alike(site: &Site<TornMedium>, twin: &Site<TornMedium>) -> bool {
         && site.replayed() == twin.replayed()
 }
 
-/// The site's reply, of two tries: after one that was refused memory the site looks like its twin, which
-/// hasn't been asked. None where it doesn't.
+/// The site's reply, of two tries: after one that was refused memory the site looks like its twin,
+/// which hasn't been asked. None where it doesn't.
 fn reply_of(
     alloc: Global,
     site: &mut Site<TornMedium>,
@@ -317,8 +318,8 @@ fn follows(
     false
 }
 
-/// How many of the steps are answered as told, from the first on, by a site over the log and then by its
-/// twin. None where one of them couldn't be opened.
+/// How many of the steps are answered as told, from the first on, by a site over the log and then
+/// by its twin. None where one of them couldn't be opened.
 pub fn count_told(
     alloc: Global,
     log: Log,

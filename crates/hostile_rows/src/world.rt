@@ -166,8 +166,8 @@ fn take_step(
     Some(world.step(alloc, &step))
 }
 
-/// The reply of the step's entry, of two tries: after one that was refused memory the world looks like
-/// its twin, which hasn't taken the step. None where it doesn't.
+/// The reply of the step's entry, of two tries: after one that was refused memory the world looks
+/// like its twin, which hasn't taken the step. None where it doesn't.
 fn reply_of(
     alloc: Global,
     world: &mut World,
@@ -200,7 +200,8 @@ fn follows(alloc: Global, twin: &mut World, step: WorldStep, refusals: &mut Refu
     false
 }
 
-/// How many steps of the row are answered as told, from the first on, by a world and then by its twin.
+/// How many steps of the row are answered as told, from the first on, by a world and then by its
+/// twin.
 pub fn count_told(alloc: Global, row: &[Told], refusals: &mut Refusals) -> Option<usize> {
     let mut world = fresh_world(alloc, refusals)?;
     let mut twin = fresh_world(alloc, refusals)?;

@@ -30,13 +30,16 @@ pub record Next (rs : List Record) (r : Record) (rest new : List ℕ) : Type 0 w
 pub has_lf : (r : Record) (new : List ℕ) → list_any (λ x. eqb x 10) (text r ++ new) ≡ true
 has_lf r new = ap (list_any (λ x. eqb x 10)) (regrouped r new) ∙ has_it 10 (body r) new
 
-pub next_in : (bytes : List ℕ) (rs : List Record) (rest : List ℕ) (r : Record) (new : List ℕ) → IsLog bytes rs rest → bytes ≡ text r ++ new → IsRecord r → Next rs r rest new
+pub next_in : (bytes : List ℕ) (rs : List Record) (rest : List ℕ) (r : Record) (new : List ℕ) → IsLog bytes rs rest → bytes ≡ text r ++ new
+    → IsRecord r → Next rs r rest new
 next_in bytes [] rest r new log is fits =
     let t : list_any (λ x. eqb x 10) rest ≡ true = ap (list_any (λ x. eqb x 10)) (sym log.parts ∙ is) ∙ has_lf r new in
     absurd (let none : list_any (λ x. eqb x 10) rest ≡ false = log.no_lf in cc)
 next_in bytes (s ∷ ss) rest r new log is fits =
-    let same = one_cut 10 (body s) (body r) (flat_map text ss ++ rest) new (body_without s log.each.0) (body_without r fits) (sym (first_text s ss rest) ∙ sym log.parts ∙ is ∙ regrouped r new) in
-    let heads : s ≡ r = same_Some s r (sym (body_again s log.each.0) ∙ ap (λ (l : List ℕ). record_of (words l)) same.front ∙ body_again r fits) in
+    let same = one_cut 10 (body s) (body r) (flat_map text ss ++ rest) new (body_without s log.each.0) (body_without r fits)
+    (sym (first_text s ss rest) ∙ sym log.parts ∙ is ∙ regrouped r new) in
+    let heads : s ≡ r = same_Some s r (sym (body_again s log.each.0) ∙ ap (λ (l : List ℕ). record_of (words l)) same.front
+    ∙ body_again r fits) in
     record {
       more = ss;
       parts = ap (λ (x : Record). x ∷ ss) heads;
@@ -46,7 +49,8 @@ next_in bytes (s ∷ ss) rest r new log is fits =
 pub none_in : (bytes : List ℕ) (rs : List Record) (rest : List ℕ) → IsLog bytes rs rest → HasNoLf bytes → rs ≡ []
 none_in bytes [] rest log none = refl
 none_in bytes (s ∷ ss) rest log none =
-    let t : list_any (λ x. eqb x 10) bytes ≡ true = ap (list_any (λ x. eqb x 10)) (log.parts ∙ first_text s ss rest) ∙ has_it 10 (body s) (flat_map text ss ++ rest) in
+    let t : list_any (λ x. eqb x 10) bytes ≡ true =
+    ap (list_any (λ x. eqb x 10)) (log.parts ∙ first_text s ss rest) ∙ has_it 10 (body s) (flat_map text ss ++ rest) in
     absurd (let no : list_any (λ x. eqb x 10) bytes ≡ false = none in cc)
 
 pub kept_behind : (bytes new : List ℕ) (r : Record) → IsKept bytes → bytes ≡ text r ++ new → IsRecord r → IsKept new
@@ -110,7 +114,12 @@ summary_line r v more =
     let here : length (text r) + 0 ≡ length (text r) = omega arith in
     record {
       some = omega (arith, size);
-      within = omega (arith, length-append (text r) next, length-append (text (Summary v)) more, length-append (body (Summary v)) (10 ∷ []));
+      within = omega (
+        arith,
+        length-append (text r) next,
+        length-append (text (Summary v)) more,
+        length-append (body (Summary v)) (10 ∷ []),
+      );
       behind =
           ap (λ (i : ℕ). get_or (text r ++ next) i 0) before ∙ ap (λ (l : List ℕ). get_or l (length (body r)) 0) (regrouped r next)
           ∙ get_or-append_seam (body r) 10 next 0;
@@ -130,22 +139,26 @@ pub plain_behind : (r : Record) (rs : List Record) (rest : List ℕ) → NoSumma
 plain_behind r [] rest none = tt
 plain_behind r (q ∷ qs) rest none =
     let more : flat_map text (q ∷ qs) ++ rest ≡ text q ++ (flat_map text qs ++ rest) = append_assoc (text q) (flat_map text qs) rest in
-    let here : NoSummaryLine (text r ++ (text q ++ (flat_map text qs ++ rest))) = subst (λ (l : List ℕ). NoSummaryLine (text r ++ l)) more none in (
+    let here : NoSummaryLine (text r ++ (text q ++ (flat_map text qs ++ rest))) =
+    subst (λ (l : List ℕ). NoSummaryLine (text r ++ l)) more none in (
       plain_next r q (flat_map text qs ++ rest) here,
       plain_behind q qs rest (λ j line. here (length (text r) + j) (shifted (text r) (text q ++ (flat_map text qs ++ rest)) j line)),
     )
 
 -- the same of a log
-pub plain_after : (bytes : List ℕ) (r : Record) (rs : List Record) (rest : List ℕ) → IsLog bytes (r ∷ rs) rest → NoSummaryLine bytes → AllPlain rs
+pub plain_after : (bytes : List ℕ) (r : Record) (rs : List Record) (rest : List ℕ) → IsLog bytes (r ∷ rs) rest → NoSummaryLine bytes
+    → AllPlain rs
 plain_after bytes r rs rest log none =
     plain_behind r rs rest (subst NoSummaryLine (log.parts ∙ append_assoc (text r) (flat_map text rs) rest) none)
 
 -- a line of the rest of the bytes is one of the bytes
-pub lines_behind : (bytes : List ℕ) (start : ℕ) → start ≤ length bytes → ((j : ℕ) → start < j → IsSummaryLine bytes j → ⊥) → NoSummaryLine (drop start bytes)
+pub lines_behind : (bytes : List ℕ) (start : ℕ) → start ≤ length bytes → ((j : ℕ) → start < j → IsSummaryLine bytes j → ⊥)
+    → NoSummaryLine (drop start bytes)
 lines_behind bytes start within last = λ j line.
     let size : length (take start bytes) ≡ start = omega (arith, length-take start bytes, within) in
     let moved = shifted (take start bytes) (drop start bytes) j line in
-    last (length (take start bytes) + j) (omega (arith, size, line.some)) (subst (λ (l : List ℕ). IsSummaryLine l (length (take start bytes) + j)) (take-append-drop start bytes) moved)
+    last (length (take start bytes) + j) (omega (arith, size, line.some))
+    (subst (λ (l : List ℕ). IsSummaryLine l (length (take start bytes) + j)) (take-append-drop start bytes) moved)
 
 -- ---- what was handed out of the end of a log
 
@@ -154,7 +167,8 @@ pub left_behind : (bytes front left : List ℕ) (n : ℕ) → bytes ≡ front ++
 left_behind bytes front left n is size =
     ap (drop n) is ∙ drop_at front left n (omega (arith, size, ap length is, length-append front left))
 
-pub handed_left : (bytes left : List ℕ) (summary : Option SummaryValue) (n : ℕ) → HandsSummary bytes summary left → n ≡ length bytes - length left → HandsSummary bytes summary (drop n bytes)
+pub handed_left : (bytes left : List ℕ) (summary : Option SummaryValue) (n : ℕ) → HandsSummary bytes summary left
+    → n ≡ length bytes - length left → HandsSummary bytes summary (drop n bytes)
 handed_left bytes left None n handed size =
     let none : n ≡ 0 = omega (arith, size, ap length handed.1) in
     (handed.0, ap (λ (i : ℕ). drop i bytes) none)

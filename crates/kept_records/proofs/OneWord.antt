@@ -21,7 +21,8 @@ use Rattle.kept_records.proofs.Bytes.{Without}
 -- a line feed is no byte of a word
 pub word_without_lf : (w : List ℕ) → IsWord w → Without 10 w
 word_without_lf [] h = refl
-word_without_lf (b ∷ w) h = or_from (eqb b 10) (list_any (λ x. eqb x 10) w) (ne_eqb b 10 (λ e. omega (arith, h.0.0))) (word_without_lf w h.1)
+word_without_lf (b ∷ w) h = or_from (eqb b 10) (list_any (λ x. eqb x 10) w) (ne_eqb b 10 (λ e. omega (arith, h.0.0)))
+    (word_without_lf w h.1)
 
 -- ---- numbers
 
@@ -70,9 +71,11 @@ kind_takes : (w : List ℕ) (k : Kind) → kind_of w ≡ Some k → w ≡ kind_w
 kind_takes [] k e = absurd cc
 kind_takes (c ∷ d ∷ ds) k e = absurd cc
 kind_takes (c ∷ []) k e = elim (cases_Bool (eqb c 108)) [
-  | inl is ↦ let h : Some Lower ≡ Some k = sym (rw is refl) ∙ e in ap (λ (x : ℕ). x ∷ []) (eqb-true _ _ is) ∙ ap kind_word (same_Some Lower k h)
+  | inl is ↦ let h : Some Lower ≡ Some k = sym (rw is refl) ∙ e in
+      ap (λ (x : ℕ). x ∷ []) (eqb-true _ _ is) ∙ ap kind_word (same_Some Lower k h)
   | inr isnt ↦ elim (cases_Bool (eqb c 114)) [
-    | inl is ↦ let h : Some Raise ≡ Some k = sym (rw (isnt, is) refl) ∙ e in ap (λ (x : ℕ). x ∷ []) (eqb-true _ _ is) ∙ ap kind_word (same_Some Raise k h)
+    | inl is ↦ let h : Some Raise ≡ Some k = sym (rw (isnt, is) refl) ∙ e in
+        ap (λ (x : ℕ). x ∷ []) (eqb-true _ _ is) ∙ ap kind_word (same_Some Raise k h)
     | inr other ↦ let h : None ≡ Some k = sym (rw (isnt, other) refl) ∙ e in absurd cc
   ]
 ]

@@ -19,7 +19,8 @@ take_past xs ys k le =
     let whole : k ≡ length xs + (k - length xs) = omega arith in
     ap (λ (n : ℕ). take n (xs ++ ys)) whole ∙ take-append-add xs ys (k - length xs)
 
-torn_first : (bytes : List ℕ) (rs : List Record) (r : Record) (ps : List Record) (k : ℕ) → IsLog bytes rs [] → IsRecord r → k < length (text r)
+torn_first : (bytes : List ℕ) (rs : List Record) (r : Record) (ps : List Record) (k : ℕ) → IsLog bytes rs [] → IsRecord r
+    → k < length (text r)
     → LeavesPrefix bytes rs (r ∷ ps) k (bytes ++ take k (flat_map text (r ∷ ps)))
 torn_first bytes rs r ps k log fits few =
     let cut : take k (flat_map text (r ∷ ps)) ≡ take k (text r) = take-append-le k (text r) (flat_map text ps) (omega arith) in
@@ -38,26 +39,30 @@ torn_first bytes rs r ps k log fits few =
     }
 
 whole_first : (bytes : List ℕ) (rs : List Record) (r : Record) (ps : List Record) (k : ℕ) → length (text r) ≤ k
-    → LeavesPrefix (bytes ++ text r) (rs ++ r ∷ []) ps (k - length (text r)) ((bytes ++ text r) ++ take (k - length (text r)) (flat_map text ps))
+    → LeavesPrefix (bytes ++ text r) (rs ++ r ∷ []) ps (k - length (text r))
+    ((bytes ++ text r) ++ take (k - length (text r)) (flat_map text ps))
     → LeavesPrefix bytes rs (r ∷ ps) k (bytes ++ take k (flat_map text (r ∷ ps)))
 whole_first bytes rs r ps k all more =
     let m = k - length (text r) in
     let cut : bytes ++ take k (flat_map text (r ∷ ps)) ≡ (bytes ++ text r) ++ take m (flat_map text ps) =
-    ap (λ (x : List ℕ). bytes ++ x) (take_past (text r) (flat_map text ps) k all) ∙ sym (append_assoc bytes (text r) (take m (flat_map text ps))) in
+    ap (λ (x : List ℕ). bytes ++ x) (take_past (text r) (flat_map text ps) k all)
+    ∙ sym (append_assoc bytes (text r) (take m (flat_map text ps))) in
     record {
       front = r ∷ more.front;
       behind = more.behind;
       rest = more.rest;
       parts = ap (λ (x : List Record). r ∷ x) more.parts;
       log = subst (λ (x : List ℕ). IsLog x (rs ++ r ∷ more.front) more.rest) (sym cut)
-          (subst (λ (x : List Record). IsLog ((bytes ++ text r) ++ take m (flat_map text ps)) x more.rest) (append_assoc rs (r ∷ []) more.front) more.log);
+          (subst (λ (x : List Record). IsLog ((bytes ++ text r) ++ take m (flat_map text ps)) x more.rest)
+          (append_assoc rs (r ∷ []) more.front) more.log);
       torn = λ r' rs' is less.
           let same : r ≡ r' = cc in
           absurd (let e : length (text r) ≡ length (text r') = ap (λ (x : Record). length (text x)) same in omega (arith, all, less, e));
       whole = λ r' rs' is more'. let same : r ≡ r' = cc in (more.front, ap (λ (x : Record). x ∷ more.front) same);
     }
 
-pub leaves_front : (bytes : List ℕ) (rs ps : List Record) (k : ℕ) → IsLog bytes rs [] → AllByRecursion IsRecord ps → LeavesPrefix bytes rs ps k (bytes ++ take k (flat_map text ps))
+pub leaves_front : (bytes : List ℕ) (rs ps : List Record) (k : ℕ) → IsLog bytes rs [] → AllByRecursion IsRecord ps
+    → LeavesPrefix bytes rs ps k (bytes ++ take k (flat_map text ps))
 leaves_front bytes rs [] k log fits =
     let none : take k (flat_map text []) ≡ [] = nothing k in
     record {
@@ -66,7 +71,8 @@ leaves_front bytes rs [] k log fits =
       rest = [];
       parts = refl;
       log = subst (λ (x : List ℕ). IsLog (bytes ++ x) (rs ++ []) []) (sym none)
-          (subst (λ (x : List ℕ). IsLog x (rs ++ []) []) (sym (append-nil bytes)) (subst (λ (x : List Record). IsLog bytes x []) (sym (append-nil rs)) log));
+          (subst (λ (x : List ℕ). IsLog x (rs ++ []) []) (sym (append-nil bytes))
+          (subst (λ (x : List Record). IsLog bytes x []) (sym (append-nil rs)) log));
       torn = λ r' rs' is less. absurd cc;
       whole = λ r' rs' is more. absurd cc;
     }
@@ -76,7 +82,8 @@ leaves_front bytes rs [] k log fits =
     nothing (suc k) = refl
 leaves_front bytes rs (r ∷ ps) k log fits = elim (cases_lt k (length (text r))) [
   | inl few ↦ torn_first bytes rs r ps k log fits.0 few
-  | inr all ↦ whole_first bytes rs r ps k all (leaves_front (bytes ++ text r) (rs ++ r ∷ []) ps (k - length (text r)) (added bytes rs r log fits.0) fits.1)
+  | inr all ↦ whole_first bytes rs r ps k all (leaves_front (bytes ++ text r) (rs ++ r ∷ []) ps (k - length (text r))
+      (added bytes rs r log fits.0) fits.1)
 ]
 
 -- the text of a record, and of the summary behind it

@@ -57,12 +57,20 @@ Fits t = (t.site.0 ≤ max_place) × (t.field.0 ≤ max_place) × IsTotal t.tota
 total_takes : (ws : List (List ℕ)) (t : Total) → total_from ws ≡ Some t → (words_in t ≡ ws) × Fits t
 unfolding total_from
 total_takes ws t e =
-    taking (number_law 0 max_place (omega arith)) (λ other. word_at (number_within 0 max_place) other.1 >>= λ field. word_at kind_of field.1 >>= λ kind. word_at (number_within 1 max_total) kind.1 >>= λ total. only_value (made other.0 field.0 kind.0 total.0, total.1)) ws t e (λ other as1 a-fits a-is a-on.
-    taking (number_law 0 max_place (omega arith)) (λ field. word_at kind_of field.1 >>= λ kind. word_at (number_within 1 max_total) kind.1 >>= λ total. only_value (made other field.0 kind.0 total.0, total.1)) as1 t a-on (λ field bs b-fits b-is b-on.
-    taking kind_law (λ kind. word_at (number_within 1 max_total) kind.1 >>= λ total. only_value (made other field kind.0 total.0, total.1)) bs t b-on (λ kind cs c-fits c-is c-on.
-    taking (number_law 1 max_total (omega arith)) (λ total. only_value (made other field kind total.0, total.1)) cs t c-on (λ total ds d-fits d-is d-on.
+    taking (number_law 0 max_place (omega arith)) (λ other. word_at (number_within 0 max_place) other.1 >>= λ field. word_at kind_of field.1
+    >>= λ kind. word_at (number_within 1 max_total) kind.1
+    >>= λ total. only_value (made other.0 field.0 kind.0 total.0, total.1)) ws t e (λ other as1 a-fits a-is a-on.
+    taking (number_law 0 max_place (omega arith)) (λ field. word_at kind_of field.1 >>= λ kind. word_at (number_within 1 max_total) kind.1
+    >>= λ total. only_value (made other field.0 kind.0 total.0, total.1)) as1 t a-on (λ field bs b-fits b-is b-on.
+    taking kind_law (λ kind. word_at (number_within 1 max_total) kind.1
+    >>= λ total. only_value (made other field kind.0 total.0, total.1)) bs t b-on (λ kind cs c-fits c-is c-on.
+    taking (number_law 1 max_total (omega arith)) (λ total. only_value (made other field kind total.0, total.1)) cs t c-on
+    (λ total ds d-fits d-is d-on.
     let end = ended_is (made other field kind total) ds t d-on in
-    let is : ws ≡ words_in (made other field kind total) = a-is ∙ ap (λ (l : List (List ℕ)). decimal other ∷ l) (b-is ∙ ap (λ (l : List (List ℕ)). decimal field ∷ l) (c-is ∙ ap (λ (l : List (List ℕ)). kind_word kind ∷ l) (d-is ∙ ap (λ (l : List (List ℕ)). decimal total ∷ l) end.0))) in
+    let is : ws ≡ words_in (made other field kind total) =
+    a-is ∙ ap (λ (l : List (List ℕ)). decimal other ∷ l)
+    (b-is ∙ ap (λ (l : List (List ℕ)). decimal field ∷ l)
+    (c-is ∙ ap (λ (l : List (List ℕ)). kind_word kind ∷ l) (d-is ∙ ap (λ (l : List (List ℕ)). decimal total ∷ l) end.0))) in
     subst (λ (x : Total). (words_in x ≡ ws) × Fits x) end.1 (sym is, (a-fits.1, b-fits.1, (omega (arith, d-fits.0), d-fits.1)))))))
 
 total_again : (t : Total) → Fits t → total_from (words_in t) ≡ Some t
@@ -76,7 +84,8 @@ total_again t fits =
 -- ---- gifts and acceptances
 
 -- what is made of a total is spelled by the words of the total
-told_takes : (letter : ℕ) (make : Total → Record) → ((t : Total) → Fits t → Spells letter (words_in t) (make t)) → (ws : List (List ℕ)) (r : Record)
+told_takes : (letter : ℕ) (make : Total → Record) → ((t : Total) → Fits t → Spells letter (words_in t) (make t))
+    → (ws : List (List ℕ)) (r : Record)
     → (total_from ws >>= λ t. Some (make t)) ≡ Some r → Spells letter ws r
 told_takes letter make spells ws r e =
     let b = bind_some (total_from ws) (λ t. Some (make t)) r e in
@@ -110,11 +119,16 @@ words_of_cut t = cut_words t.field t.kind t.total
 cut_takes : (ws : List (List ℕ)) (t : Cut) → cut_from ws ≡ Some t → (words_of_cut t ≡ ws) × IsListedCut t
 unfolding cut_from
 cut_takes ws t e =
-    taking (number_law 0 max_place (omega arith)) (λ field. word_at kind_of field.1 >>= λ kind. word_at (number_within 1 max_change) kind.1 >>= λ total. only_value (cut_made field.0 kind.0 total.0, total.1)) ws t e (λ field bs b-fits b-is b-on.
-    taking kind_law (λ kind. word_at (number_within 1 max_change) kind.1 >>= λ total. only_value (cut_made field kind.0 total.0, total.1)) bs t b-on (λ kind cs c-fits c-is c-on.
-    taking (number_law 1 max_change (omega arith)) (λ total. only_value (cut_made field kind total.0, total.1)) cs t c-on (λ total ds d-fits d-is d-on.
+    taking (number_law 0 max_place (omega arith)) (λ field. word_at kind_of field.1 >>= λ kind. word_at (number_within 1 max_change) kind.1
+    >>= λ total. only_value (cut_made field.0 kind.0 total.0, total.1)) ws t e (λ field bs b-fits b-is b-on.
+    taking kind_law (λ kind. word_at (number_within 1 max_change) kind.1
+    >>= λ total. only_value (cut_made field kind.0 total.0, total.1)) bs t b-on (λ kind cs c-fits c-is c-on.
+    taking (number_law 1 max_change (omega arith)) (λ total. only_value (cut_made field kind total.0, total.1)) cs t c-on
+    (λ total ds d-fits d-is d-on.
     let end = ended_is (cut_made field kind total) ds t d-on in
-    let is : ws ≡ decimal field ∷ kind_word kind ∷ decimal total ∷ [] = b-is ∙ ap (λ (l : List (List ℕ)). decimal field ∷ l) (c-is ∙ ap (λ (l : List (List ℕ)). kind_word kind ∷ l) (d-is ∙ ap (λ (l : List (List ℕ)). decimal total ∷ l) end.0)) in
+    let is : ws ≡ decimal field ∷ kind_word kind ∷ decimal total ∷ [] =
+    b-is ∙ ap (λ (l : List (List ℕ)). decimal field ∷ l)
+    (c-is ∙ ap (λ (l : List (List ℕ)). kind_word kind ∷ l) (d-is ∙ ap (λ (l : List (List ℕ)). decimal total ∷ l) end.0)) in
     subst (λ (x : Cut). (words_of_cut x ≡ ws) × IsListedCut x) end.1 (sym is, (b-fits.1, (omega (arith, d-fits.0), d-fits.1))))))
 
 cut_again : (t : Cut) → IsListedCut t → cut_from (words_of_cut t) ≡ Some t
@@ -146,23 +160,31 @@ restart_takes ws r e =
 
 restart_again : (epoch : ℕ) → IsRecord (Restart epoch) → restart_from (decimal epoch ∷ []) ≡ Some (Restart epoch)
 unfolding restart_from
-restart_again epoch fits = word_again (number_law 1 max_epoch (omega arith)) (λ e. only_value (Restart e.0, e.1)) epoch [] (omega (arith, fits.0), fits.1)
+restart_again epoch fits = word_again (number_law 1 max_epoch (omega arith)) (λ e. only_value (Restart e.0, e.1)) epoch []
+    (omega (arith, fits.0), fits.1)
 
 -- ---- commits
 
-one_more : (w v : List ℕ) (ws : List (List ℕ)) (f : ℕ) (z : ℤ) (rest es : List Escrow) → w ≡ decimal f → f ≤ max_place → v ≡ signed_decimal z → IsChange z → escrow_words rest ≡ ws → AllByRecursion IsEscrow rest
+one_more : (w v : List ℕ) (ws : List (List ℕ)) (f : ℕ) (z : ℤ) (rest es : List Escrow) → w ≡ decimal f → f ≤ max_place
+    → v ≡ signed_decimal z → IsChange z → escrow_words rest ≡ ws → AllByRecursion IsEscrow rest
     → record { field = record { 0 = f }; change = z } ∷ rest ≡ es → (escrow_words es ≡ (w ∷ v ∷ ws)) × AllByRecursion IsEscrow es
 one_more w v ws f z rest es field below change fits words all is =
-    subst (λ (l : List Escrow). (escrow_words l ≡ (w ∷ v ∷ ws)) × AllByRecursion IsEscrow l) is
-    (ap (λ (l : List (List ℕ)). decimal f ∷ signed_decimal z ∷ l) words ∙ ap (λ (t : List ℕ). decimal f ∷ t ∷ ws) (sym change) ∙ ap (λ (t : List ℕ). t ∷ v ∷ ws) (sym field), ((below, fits), all))
+    subst (λ (l : List Escrow). (escrow_words l ≡ (w ∷ v ∷ ws)) × AllByRecursion IsEscrow l) is (
+      ap (λ (l : List (List ℕ)). decimal f ∷ signed_decimal z ∷ l) words ∙ ap (λ (t : List ℕ). decimal f ∷ t ∷ ws) (sym change)
+          ∙ ap (λ (t : List ℕ). t ∷ v ∷ ws) (sym field),
+      ((below, fits), all),
+    )
 
 escrows_take : (ws : List (List ℕ)) (es : List Escrow) → escrows_from ws ≡ Some es → (escrow_words es ≡ ws) × AllByRecursion IsEscrow es
 unfolding escrows_from
 escrows_take [] es e = subst (λ (x : List Escrow). (escrow_words x ≡ []) × AllByRecursion IsEscrow x) (same_Some [] es e) (refl, tt)
 escrows_take (w ∷ []) es e = absurd cc
 escrows_take (w ∷ v ∷ ws) es e =
-    let a = bind_some (number_within 0 max_place w) (λ field. change_of v >>= λ change. escrows_from ws >>= λ rest. Some (record { field = record { 0 = field }; change = change } ∷ rest)) es e in
-    let b = bind_some (change_of v) (λ change. escrows_from ws >>= λ rest. Some (record { field = record { 0 = a.0 }; change = change } ∷ rest)) es a.2 in
+    let a = bind_some (number_within 0 max_place w)
+    (λ field. change_of v >>= λ change. escrows_from ws
+    >>= λ rest. Some (record { field = record { 0 = field }; change = change } ∷ rest)) es e in
+    let b = bind_some (change_of v) (λ change. escrows_from ws
+    >>= λ rest. Some (record { field = record { 0 = a.0 }; change = change } ∷ rest)) es a.2 in
     let c = bind_some (escrows_from ws) (λ rest. Some (record { field = record { 0 = a.0 }; change = b.0 } ∷ rest)) es b.2 in
     let x = (number_law 0 max_place (omega arith)).takes w a.0 a.1 in
     let y = change_law.takes v b.0 b.1 in
@@ -173,22 +195,45 @@ escrows_again : (es : List Escrow) → AllByRecursion IsEscrow es → escrows_fr
 unfolding escrows_from
 escrows_again [] fits = refl
 escrows_again (e ∷ es) fits =
-    rw ((number_law 0 max_place (omega arith)).again e.field.0 (omega arith, fits.0.0), change_law.again e.change fits.0.1, escrows_again es fits.1) refl
+    rw (
+      (number_law 0 max_place (omega arith)).again e.field.0 (omega arith, fits.0.0),
+      change_law.again e.change fits.0.1,
+      escrows_again es fits.1,
+    ) refl
 
 commit_takes : (ws : List (List ℕ)) (r : Record) → commit_from ws ≡ Some r → Spells 67 ws r
 unfolding commit_from
 commit_takes ws r e =
-    taking (number_law 0 max_epoch (omega arith)) (λ epoch. word_at (number_within 1 max_number) epoch.1 >>= λ number. escrows_from number.1 >>= λ es. cond (leb 1 (length es) && leb (length es) max_escrows) (Some (Commit (record { epoch = epoch.0; number = number.0 }) es)) None) ws r e (λ epoch as1 a-fits a-is a-on.
-    taking (number_law 1 max_number (omega arith)) (λ number. escrows_from number.1 >>= λ es. cond (leb 1 (length es) && leb (length es) max_escrows) (Some (Commit (record { epoch = epoch; number = number.0 }) es)) None) as1 r a-on (λ number bs b-fits b-is b-on.
-    let c = bind_some (escrows_from bs) (λ es. cond (leb 1 (length es) && leb (length es) max_escrows) (Some (Commit (record { epoch = epoch; number = number }) es)) None) r b-on in
+    taking (number_law 0 max_epoch (omega arith)) (λ epoch. word_at (number_within 1 max_number) epoch.1 >>= λ number. escrows_from number.1
+    >>= λ es. cond (leb 1 (length es) && leb (length es) max_escrows)
+    (Some (Commit (record { epoch = epoch.0; number = number.0 }) es)) None) ws r e (λ epoch as1 a-fits a-is a-on.
+    taking (number_law 1 max_number (omega arith))
+    (λ number. escrows_from number.1 >>= λ es.
+    cond (leb 1 (length es) && leb (length es) max_escrows) (Some (Commit (record { epoch = epoch; number = number.0 }) es)) None) as1 r
+    a-on (λ number bs b-fits b-is b-on.
+    let c = bind_some (escrows_from bs) (λ es. cond (leb 1 (length es) && leb (length es) max_escrows)
+    (Some (Commit (record { epoch = epoch; number = number }) es)) None) r b-on in
     let all : Record = Commit (record { epoch = epoch; number = number }) c.0 in
     let h = cond_some (leb 1 (length c.0) && leb (length c.0) max_escrows) all r c.2 in
     let g = and_parts (leb 1 (length c.0)) (leb (length c.0) max_escrows) h.0 in
     let z = escrows_take bs c.0 c.1 in
-    let is : ws ≡ decimal epoch ∷ decimal number ∷ escrow_words c.0 = a-is ∙ ap (λ (l : List (List ℕ)). decimal epoch ∷ l) (b-is ∙ ap (λ (l : List (List ℕ)). decimal number ∷ l) (sym z.0)) in
-    subst (Spells 67 ws) h.1 (refl, sym is, (a-fits.1, omega (arith, b-fits.0), b-fits.1, omega (arith, leb-true _ _ g.0), leb-true _ _ g.1, z.1))))
+    let is : ws ≡ decimal epoch ∷ decimal number ∷ escrow_words c.0 =
+    a-is ∙ ap (λ (l : List (List ℕ)). decimal epoch ∷ l) (b-is ∙ ap (λ (l : List (List ℕ)). decimal number ∷ l) (sym z.0)) in
+    subst (Spells 67 ws) h.1 (
+      refl,
+      sym is,
+      (
+        a-fits.1,
+        omega (arith, b-fits.0),
+        b-fits.1,
+        omega (arith, leb-true _ _ g.0),
+        leb-true _ _ g.1,
+        z.1,
+      ),
+    )))
 
-commit_again : (txn : TxnId) (es : List Escrow) → IsRecord (Commit txn es) → commit_from (decimal txn.epoch ∷ decimal txn.number ∷ escrow_words es) ≡ Some (Commit txn es)
+commit_again : (txn : TxnId) (es : List Escrow) → IsRecord (Commit txn es)
+    → commit_from (decimal txn.epoch ∷ decimal txn.number ∷ escrow_words es) ≡ Some (Commit txn es)
 unfolding commit_from
 commit_again txn es fits =
     let low : leb 1 (length es) ≡ true = le-leb _ _ (omega (arith, fits.3)) in
@@ -207,15 +252,23 @@ pub record RightsRead (read : List (ℕ × ℕ)) (n : ℕ) (ws : List (List ℕ)
   pub words : ws ≡ rights_words more ++ rest
   pub fits : AllByRecursion AreRights more
 
-rights_take : (n : ℕ) (read : List (ℕ × ℕ)) (ws : List (List ℕ)) (all : List (ℕ × ℕ)) (rest : List (List ℕ)) → rights_from n read ws ≡ Some (all, rest) → RightsRead read n ws all rest
+rights_take : (n : ℕ) (read : List (ℕ × ℕ)) (ws : List (List ℕ)) (all : List (ℕ × ℕ)) (rest : List (List ℕ))
+    → rights_from n read ws ≡ Some (all, rest) → RightsRead read n ws all rest
 unfolding rights_from
 rights_take zero read ws all rest e =
     let p = some_pair_parts read all ws rest e in
     record { more = []; parts = sym p.0 ∙ sym (append-nil read); count = refl; words = p.1; fits = tt }
 rights_take (suc n) read ws all rest e =
     let law = number_law 0 max_change (omega arith) in
-    taking law (λ lower. word_at (number_within 0 max_change) lower.1 >>= λ raise. cond (leb (lower.0 + raise.0) max_change) (rights_from n (read ++ (lower.0, raise.0) ∷ []) raise.1) None) ws (all, rest) e (λ lower as1 a-fits a-is a-on.
-    taking law (λ raise. cond (leb (lower + raise.0) max_change) (rights_from n (read ++ (lower, raise.0) ∷ []) raise.1) None) as1 (all, rest) a-on (λ raise bs b-fits b-is b-on.
+    taking law (λ lower. word_at (number_within 0 max_change) lower.1
+    >>= λ raise. cond (leb (lower.0 + raise.0) max_change) (rights_from n (read ++ (lower.0, raise.0) ∷ []) raise.1) None) ws (
+      all,
+      rest,
+    ) e (λ lower as1 a-fits a-is a-on.
+    taking law (λ raise. cond (leb (lower + raise.0) max_change) (rights_from n (read ++ (lower, raise.0) ∷ []) raise.1) None) as1 (
+      all,
+      rest,
+    ) a-on (λ raise bs b-fits b-is b-on.
     let h = cond_is (leb (lower + raise) max_change) (rights_from n (read ++ (lower, raise) ∷ []) bs) (all, rest) b-on in
     let later = rights_take n (read ++ (lower, raise) ∷ []) bs all rest h.1 in
     record {
@@ -226,7 +279,8 @@ rights_take (suc n) read ws all rest e =
       fits = (leb-true _ _ h.0, later.fits);
     }))
 
-rights_again : (more read : List (ℕ × ℕ)) (rest : List (List ℕ)) → AllByRecursion AreRights more → rights_from (length more) read (rights_words more ++ rest) ≡ Some (read ++ more, rest)
+rights_again : (more read : List (ℕ × ℕ)) (rest : List (List ℕ)) → AllByRecursion AreRights more
+    → rights_from (length more) read (rights_words more ++ rest) ≡ Some (read ++ more, rest)
 unfolding rights_from
 rights_again [] read rest fits = ap (λ (l : List (ℕ × ℕ)). Some (l, rest)) (sym (append-nil read))
 rights_again (r ∷ more) read rest fits =
@@ -266,7 +320,8 @@ some_of : {A : Type 0} (ts : List A) (t : A) → is_none_of (ts ++ t ∷ []) ≡
 some_of [] t = refl
 some_of (x ∷ ts) t = refl
 
-one_group : (letter : ℕ) (l w v x y : List ℕ) (ws : List (List ℕ)) (t : Total) (more : List Total) (behind : List (List ℕ)) → l ≡ letter ∷ [] → words_in t ≡ (w ∷ v ∷ x ∷ y ∷ []) → ws ≡ group_words letter more ++ behind
+one_group : (letter : ℕ) (l w v x y : List ℕ) (ws : List (List ℕ)) (t : Total) (more : List Total) (behind : List (List ℕ))
+    → l ≡ letter ∷ [] → words_in t ≡ (w ∷ v ∷ x ∷ y ∷ []) → ws ≡ group_words letter more ++ behind
     → (l ∷ w ∷ v ∷ x ∷ y ∷ ws) ≡ group_words letter (t ∷ more) ++ behind
 one_group letter l w v x y ws t more behind is told rest =
     ap (λ (a : List ℕ). a ∷ w ∷ v ∷ x ∷ y ∷ ws) is
@@ -274,11 +329,13 @@ one_group letter l w v x y ws t more behind is told rest =
     ∙ ap (λ (b : List (List ℕ)). (letter ∷ []) ∷ (words_in t ++ b)) rest
     ∙ ap (λ (b : List (List ℕ)). (letter ∷ []) ∷ b) (sym (append_assoc (words_in t) (group_words letter more) behind))
 
-no_groups : (more_gifts more_accepts : List Total) (more_cuts : List Cut) → more_gifts ≡ [] → more_accepts ≡ [] → groups_words more_gifts more_accepts more_cuts ≡ cuts_words more_cuts
+no_groups : (more_gifts more_accepts : List Total) (more_cuts : List Cut) → more_gifts ≡ [] → more_accepts ≡ []
+    → groups_words more_gifts more_accepts more_cuts ≡ cuts_words more_cuts
 no_groups g a c no-g no-a = ap (λ (x : List Total). groups_words x a c) no-g ∙ ap (λ (x : List Total). groups_words [] x c) no-a
 
 -- one total given up more
-group_cut : (gifts accepts : List Total) (cuts : List Cut) (l w v x : List ℕ) (ws : List (List ℕ)) (all : Groups) (t : Cut) → word_is 116 l ≡ true → cut_from (w ∷ v ∷ x ∷ []) ≡ Some t
+group_cut : (gifts accepts : List Total) (cuts : List Cut) (l w v x : List ℕ) (ws : List (List ℕ)) (all : Groups) (t : Cut)
+    → word_is 116 l ≡ true → cut_from (w ∷ v ∷ x ∷ []) ≡ Some t
     → GroupsRead gifts accepts (cuts ++ t ∷ []) ws all → GroupsRead gifts accepts cuts (l ∷ w ∷ v ∷ x ∷ ws) all
 group_cut gifts accepts cuts l w v x ws all t is found later =
     let told = cut_takes (w ∷ v ∷ x ∷ []) t found in
@@ -293,7 +350,8 @@ group_cut gifts accepts cuts l w v x ws all t is found later =
       words =
           ap (λ (a : List ℕ). a ∷ w ∷ v ∷ x ∷ ws) (letter_word_is 116 l is)
           ∙ ap (λ (b : List (List ℕ)). (116 ∷ []) ∷ (b ++ ws)) (sym told.0)
-          ∙ ap (λ (b : List (List ℕ)). (116 ∷ []) ∷ (words_of_cut t ++ b)) (later.words ∙ no_groups later.more_gifts later.more_accepts later.more_cuts none.0 none.1);
+          ∙ ap (λ (b : List (List ℕ)). (116 ∷ []) ∷ (words_of_cut t ++ b))
+          (later.words ∙ no_groups later.more_gifts later.more_accepts later.more_cuts none.0 none.1);
       gifts_fit = tt;
       accepts_fit = tt;
       cuts_fit = (told.1, later.cuts_fit);
@@ -301,7 +359,8 @@ group_cut gifts accepts cuts l w v x ws all t is found later =
       cuts_last = λ h. (refl, refl);
     }
 
-no_more : (gifts accepts : List Total) (cuts : List Cut) (all : Groups) → Some (gifts, accepts, cuts) ≡ Some all → GroupsRead gifts accepts cuts [] all
+no_more : (gifts accepts : List Total) (cuts : List Cut) (all : Groups) → Some (gifts, accepts, cuts) ≡ Some all
+    → GroupsRead gifts accepts cuts [] all
 no_more gifts accepts cuts all e =
     let same : (gifts, accepts, cuts) ≡ all = same_Some (gifts, accepts, cuts) all e in
     record {
@@ -328,7 +387,8 @@ three_parts true true false h = cc
 not_none : {A : Type 0} {B : Type 0} (ts : List A) → is_none_of ts ≡ true → is_none_of ts ≡ false → B
 not_none ts yes_ no_ = absurd cc
 
-groups_take : (gifts accepts : List Total) (cuts : List Cut) (ws : List (List ℕ)) (all : Groups) → groups_from gifts accepts cuts ws ≡ Some all → GroupsRead gifts accepts cuts ws all
+groups_take : (gifts accepts : List Total) (cuts : List Cut) (ws : List (List ℕ)) (all : Groups)
+    → groups_from gifts accepts cuts ws ≡ Some all → GroupsRead gifts accepts cuts ws all
 unfolding groups_from
 groups_take gifts accepts cuts [] all e = no_more gifts accepts cuts all e
 groups_take gifts accepts cuts (l ∷ []) all e = absurd cc
@@ -347,16 +407,19 @@ groups_take gifts accepts cuts (l ∷ w ∷ v ∷ x ∷ y ∷ ws) all e =
     let as_cut = cut_from (w ∷ v ∷ x ∷ []) >>= λ t. groups_from gifts accepts (cuts ++ t ∷ []) (y ∷ ws) in
     elim (cases_Bool (word_is 116 l)) [
       | inl is ↦
-          let b = bind_some (cut_from (w ∷ v ∷ x ∷ [])) (λ t. groups_from gifts accepts (cuts ++ t ∷ []) (y ∷ ws)) all (cond_then (word_is 116 l) as_cut as_total all is e) in
+          let b = bind_some (cut_from (w ∷ v ∷ x ∷ [])) (λ t. groups_from gifts accepts (cuts ++ t ∷ []) (y ∷ ws)) all
+          (cond_then (word_is 116 l) as_cut as_total all is e) in
           group_cut gifts accepts cuts l w v x (y ∷ ws) all b.0 is b.1 (groups_take gifts accepts (cuts ++ b.0 ∷ []) (y ∷ ws) all b.2)
       | inr no-cut ↦
-          let b = bind_some (total_from (w ∷ v ∷ x ∷ y ∷ [])) (λ t. cond (is_next_accept l cuts) (as_accept t) (gift_or t)) all (cond_else (word_is 116 l) as_cut as_total all no-cut e) in
+          let b = bind_some (total_from (w ∷ v ∷ x ∷ y ∷ [])) (λ t. cond (is_next_accept l cuts) (as_accept t) (gift_or t)) all
+          (cond_else (word_is 116 l) as_cut as_total all no-cut e) in
           let t = b.0 in
           let told = total_takes (w ∷ v ∷ x ∷ y ∷ []) t b.1 in
           elim (cases_Bool (is_next_accept l cuts)) [
             | inl is ↦
                 let parts = and_parts (is_none_of cuts) (word_is 97 l) is in
-                let later = groups_take gifts (accepts ++ t ∷ []) cuts ws all (cond_then (is_next_accept l cuts) (as_accept t) (gift_or t) all is b.2) in
+                let later = groups_take gifts (accepts ++ t ∷ []) cuts ws all
+                (cond_then (is_next_accept l cuts) (as_accept t) (gift_or t) all is b.2) in
                 let none : later.more_gifts ≡ [] = later.in_order (some_of accepts t) in
                 record {
                   more_gifts = [];
@@ -376,7 +439,9 @@ groups_take gifts accepts cuts (l ∷ w ∷ v ∷ x ∷ y ∷ ws) all e =
             | inr isnt ↦ elim (cases_Bool (is_next_gift l accepts cuts)) [
               | inl is ↦
                   let parts = three_parts (is_none_of accepts) (is_none_of cuts) (word_is 103 l) is in
-                  let later = groups_take (gifts ++ t ∷ []) accepts cuts ws all (cond_then (is_next_gift l accepts cuts) (as_gift t) None all is (cond_else (is_next_accept l cuts) (as_accept t) (gift_or t) all isnt b.2)) in
+                  let later = groups_take (gifts ++ t ∷ []) accepts cuts ws all
+                  (cond_then (is_next_gift l accepts cuts) (as_gift t) None all is
+                  (cond_else (is_next_accept l cuts) (as_accept t) (gift_or t) all isnt b.2)) in
                   record {
                     more_gifts = t ∷ later.more_gifts;
                     more_accepts = later.more_accepts;
@@ -384,51 +449,68 @@ groups_take gifts accepts cuts (l ∷ w ∷ v ∷ x ∷ y ∷ ws) all e =
                     gifts_parts = later.gifts_parts ∙ append_assoc gifts (t ∷ []) later.more_gifts;
                     accepts_parts = later.accepts_parts;
                     cuts_parts = later.cuts_parts;
-                    words = one_group 103 l w v x y ws t later.more_gifts (group_words 97 later.more_accepts ++ cuts_words later.more_cuts) (letter_word_is 103 l parts.2) told.0 later.words;
+                    words = one_group 103 l w v x y ws t later.more_gifts (group_words 97 later.more_accepts ++ cuts_words later.more_cuts)
+                        (letter_word_is 103 l parts.2) told.0 later.words;
                     gifts_fit = (told.1, later.gifts_fit);
                     accepts_fit = later.accepts_fit;
                     cuts_fit = later.cuts_fit;
                     in_order = λ h. not_none accepts parts.0 h;
                     cuts_last = λ h. not_none cuts parts.1 h;
                   }
-              | inr neither ↦ let h : None ≡ Some all = cond_else (is_next_gift l accepts cuts) (as_gift t) None all neither (cond_else (is_next_accept l cuts) (as_accept t) (gift_or t) all isnt b.2) in absurd cc
+              | inr neither ↦ let h : None ≡ Some all =
+                  cond_else (is_next_gift l accepts cuts) (as_gift t) None all neither
+                  (cond_else (is_next_accept l cuts) (as_accept t) (gift_or t) all isnt b.2) in absurd cc
             ]
           ]
     ]
 
-cuts_again : (gifts accepts : List Total) (cuts more : List Cut) → AllByRecursion IsListedCut more → groups_from gifts accepts cuts (cuts_words more) ≡ Some (gifts, accepts, cuts ++ more)
+cuts_again : (gifts accepts : List Total) (cuts more : List Cut) → AllByRecursion IsListedCut more
+    → groups_from gifts accepts cuts (cuts_words more) ≡ Some (gifts, accepts, cuts ++ more)
 unfolding groups_from
 cuts_again gifts accepts cuts [] fits = ap (λ (l : List Cut). Some (gifts, accepts, l)) (sym (append-nil cuts))
 cuts_again gifts accepts cuts (t ∷ []) fits = rw (cut_again t fits.0) refl
 cuts_again gifts accepts cuts (t ∷ s ∷ more) fits =
-    rw (cut_again t fits.0) (cuts_again gifts accepts (cuts ++ t ∷ []) (s ∷ more) fits.1 ∙ ap (λ (l : List Cut). Some (gifts, accepts, l)) (append_assoc cuts (t ∷ []) (s ∷ more)))
+    rw (cut_again t fits.0) (cuts_again gifts accepts (cuts ++ t ∷ []) (s ∷ more) fits.1
+    ∙ ap (λ (l : List Cut). Some (gifts, accepts, l)) (append_assoc cuts (t ∷ []) (s ∷ more)))
 
-accepts_again : (gifts accepts more : List Total) (cuts : List Cut) → AllByRecursion IsListed more → AllByRecursion IsListedCut cuts → groups_from gifts accepts [] (group_words 97 more ++ cuts_words cuts) ≡ Some (gifts, accepts ++ more, cuts)
+accepts_again : (gifts accepts more : List Total) (cuts : List Cut) → AllByRecursion IsListed more → AllByRecursion IsListedCut cuts
+    → groups_from gifts accepts [] (group_words 97 more ++ cuts_words cuts) ≡ Some (gifts, accepts ++ more, cuts)
 unfolding groups_from
-accepts_again gifts accepts [] cuts fits fit = cuts_again gifts accepts [] cuts fit ∙ ap (λ (l : List Total). Some (gifts, l, cuts)) (sym (append-nil accepts))
+accepts_again gifts accepts [] cuts fits fit = cuts_again gifts accepts [] cuts fit
+    ∙ ap (λ (l : List Total). Some (gifts, l, cuts)) (sym (append-nil accepts))
 accepts_again gifts accepts (t ∷ more) cuts fits fit =
-    rw (total_again t fits.0) (accepts_again gifts (accepts ++ t ∷ []) more cuts fits.1 fit ∙ ap (λ (l : List Total). Some (gifts, l, cuts)) (append_assoc accepts (t ∷ []) more))
+    rw (total_again t fits.0) (accepts_again gifts (accepts ++ t ∷ []) more cuts fits.1 fit
+    ∙ ap (λ (l : List Total). Some (gifts, l, cuts)) (append_assoc accepts (t ∷ []) more))
 
-groups_again : (gifts more accepts : List Total) (cuts : List Cut) → AllByRecursion IsListed more → AllByRecursion IsListed accepts → AllByRecursion IsListedCut cuts
+groups_again : (gifts more accepts : List Total) (cuts : List Cut) → AllByRecursion IsListed more → AllByRecursion IsListed accepts
+    → AllByRecursion IsListedCut cuts
     → groups_from gifts [] [] (groups_words more accepts cuts) ≡ Some (gifts ++ more, accepts, cuts)
 unfolding groups_from
-groups_again gifts [] accepts cuts fits fit cut = accepts_again gifts [] accepts cuts fit cut ∙ ap (λ (l : List Total). Some (l, accepts, cuts)) (sym (append-nil gifts))
+groups_again gifts [] accepts cuts fits fit cut = accepts_again gifts [] accepts cuts fit cut
+    ∙ ap (λ (l : List Total). Some (l, accepts, cuts)) (sym (append-nil gifts))
 groups_again gifts (t ∷ more) accepts cuts fits fit cut =
-    rw (total_again t fits.0) (groups_again (gifts ++ t ∷ []) more accepts cuts fits.1 fit cut ∙ ap (λ (l : List Total). Some (l, accepts, cuts)) (append_assoc gifts (t ∷ []) more))
+    rw (total_again t fits.0) (groups_again (gifts ++ t ∷ []) more accepts cuts fits.1 fit cut
+    ∙ ap (λ (l : List Total). Some (l, accepts, cuts)) (append_assoc gifts (t ∷ []) more))
 
 abbrev all_rise : Groups → Bool
 all_rise groups = rises groups.0 && rises groups.1 && cuts_rise groups.2
 
 abbrev summary_then : ℕ → List (ℕ × ℕ) → Groups → Option Record
 summary_then epoch rights groups =
-    cond (all_rise groups) (Some (Summary (record { epoch = epoch; rights = rights; gifts = groups.0; accepts = groups.1; tightenings = groups.2 }))) None
+    cond (all_rise groups)
+    (Some (Summary (record { epoch = epoch; rights = rights; gifts = groups.0; accepts = groups.1; tightenings = groups.2 }))) None
 
 summary_takes : (ws : List (List ℕ)) (r : Record) → summary_from ws ≡ Some r → Spells 83 ws r
 unfolding summary_from
 summary_takes ws r e =
-    taking (number_law 0 max_epoch (omega arith)) (λ epoch. word_at (number_within 1 max_fields) epoch.1 >>= λ count. rights_from count.0 [] count.1 >>= λ rights. groups_from [] [] [] rights.1 >>= λ groups. summary_then epoch.0 rights.0 groups) ws r e (λ epoch as1 a-fits a-is a-on.
-    taking (number_law 1 max_fields (omega arith)) (λ count. rights_from count.0 [] count.1 >>= λ rights. groups_from [] [] [] rights.1 >>= λ groups. summary_then epoch rights.0 groups) as1 r a-on (λ count bs b-fits b-is b-on.
-    let c = bind_some (rights_from count [] bs) (λ rights. groups_from [] [] [] rights.1 >>= λ groups. summary_then epoch rights.0 groups) r b-on in
+    taking (number_law 0 max_epoch (omega arith)) (λ epoch. word_at (number_within 1 max_fields) epoch.1
+    >>= λ count. rights_from count.0 [] count.1 >>= λ rights. groups_from [] [] [] rights.1
+    >>= λ groups. summary_then epoch.0 rights.0 groups) ws r e (λ epoch as1 a-fits a-is a-on.
+    taking (number_law 1 max_fields (omega arith))
+    (λ count. rights_from count.0 [] count.1 >>= λ rights. groups_from [] [] [] rights.1
+    >>= λ groups. summary_then epoch rights.0 groups) as1 r a-on (λ count bs b-fits b-is b-on.
+    let c = bind_some (rights_from count [] bs) (λ rights. groups_from [] [] [] rights.1
+    >>= λ groups. summary_then epoch rights.0 groups) r b-on in
     let d = bind_some (groups_from [] [] [] c.0.1) (λ groups. summary_then epoch c.0.0 groups) r c.2 in
     let rows = rights_take count [] bs c.0.0 c.0.1 c.1 in
     let told = groups_take [] [] [] c.0.1 d.0 d.1 in
@@ -447,7 +529,9 @@ summary_takes ws r e =
     ∙ ap (λ (l : List (List ℕ)). decimal (length c.0.0) ∷ l)
     (rows.words ∙ ap (λ (x : List (ℕ × ℕ)). rights_words x ++ c.0.1) (sym rights-are)
     ∙ ap (λ (l : List (List ℕ)). rights_words c.0.0 ++ l)
-    (told.words ∙ ap (λ (x : List Total). groups_words x told.more_accepts told.more_cuts) (sym gifts-are) ∙ ap (λ (x : List Total). groups_words d.0.0 x told.more_cuts) (sym accepts-are) ∙ ap (λ (x : List Cut). groups_words d.0.0 d.0.1 x) (sym cuts-are)))) in
+    (told.words ∙ ap (λ (x : List Total). groups_words x told.more_accepts told.more_cuts) (sym gifts-are)
+    ∙ ap (λ (x : List Total). groups_words d.0.0 x told.more_cuts) (sym accepts-are)
+    ∙ ap (λ (x : List Cut). groups_words d.0.0 d.0.1 x) (sym cuts-are)))) in
     let fits : IsSummary v =
     record {
       epoch = a-fits.1;
@@ -469,8 +553,10 @@ summary_again v fits =
     let behind = groups_words v.gifts v.accepts v.tightenings in
     word_again (number_law 0 max_epoch (omega arith)) _ v.epoch _ (omega arith, fits.epoch)
     ∙ word_again (number_law 1 max_fields (omega arith)) _ (length v.rights) _ (omega (arith, fits.some), fits.few)
-    ∙ ap (λ (x : Option (List (ℕ × ℕ) × List (List ℕ))). x >>= λ rights. groups_from [] [] [] rights.1 >>= λ groups. summary_then v.epoch rights.0 groups) (rights_again v.rights [] behind fits.rights)
-    ∙ ap (λ (x : Option Groups). x >>= λ groups. summary_then v.epoch v.rights groups) (groups_again [] v.gifts v.accepts v.tightenings fits.gifts fits.accepts fits.tightenings)
+    ∙ ap (λ (x : Option (List (ℕ × ℕ) × List (List ℕ))). x >>= λ rights. groups_from [] [] [] rights.1
+    >>= λ groups. summary_then v.epoch rights.0 groups) (rights_again v.rights [] behind fits.rights)
+    ∙ ap (λ (x : Option Groups). x >>= λ groups. summary_then v.epoch v.rights groups)
+    (groups_again [] v.gifts v.accepts v.tightenings fits.gifts fits.accepts fits.tightenings)
     ∙ rw (fits.gifts_rise, fits.accepts_rise, fits.tightenings_rise) refl
 
 -- ---- all kinds
@@ -492,7 +578,8 @@ from_letter c ws r e = elim (cases_Bool (eqb c 67)) [
         | inr f ↦ elim (cases_Bool (eqb c 83)) [
           | inl is ↦ subst (λ (x : ℕ). Spells x ws r) (sym (eqb-true c 83 is)) (summary_takes ws r (sym (rw (a, b, d, f, is) refl) ∙ e))
           | inr g ↦ elim (cases_Bool (eqb c 84)) [
-            | inl is ↦ subst (λ (x : ℕ). Spells x ws r) (sym (eqb-true c 84 is)) (tighten_takes ws r (sym (rw (a, b, d, f, g, is) refl) ∙ e))
+            | inl is ↦ subst (λ (x : ℕ). Spells x ws r) (sym (eqb-true c 84 is))
+                (tighten_takes ws r (sym (rw (a, b, d, f, g, is) refl) ∙ e))
             | inr h ↦ let no : None ≡ Some r = sym (rw (a, b, d, f, g, h) refl) ∙ e in absurd cc
           ]
         ]
@@ -506,8 +593,11 @@ unfolding record_of
 record_takes [] r e = absurd cc
 record_takes (w ∷ ws) r e =
     let b = bind_some (letter_at w) (λ letter. record_from letter ws) r e in
-    let h = from_letter b.0 ws r b.2 in
-    (ap (λ (l : List (List ℕ)). (letter_of r ∷ []) ∷ l) h.1 ∙ ap (λ (c : ℕ). (c ∷ []) ∷ ws) h.0 ∙ ap (λ (x : List ℕ). x ∷ ws) (sym (letter_is w b.0 b.1)), h.2)
+    let h = from_letter b.0 ws r b.2 in (
+      ap (λ (l : List (List ℕ)). (letter_of r ∷ []) ∷ l) h.1 ∙ ap (λ (c : ℕ). (c ∷ []) ∷ ws) h.0
+          ∙ ap (λ (x : List ℕ). x ∷ ws) (sym (letter_is w b.0 b.1)),
+      h.2,
+    )
 
 pub record_again : (r : Record) → IsRecord r → record_of ((letter_of r ∷ []) ∷ words_of r) ≡ Some r
 unfolding record_of
@@ -521,15 +611,26 @@ record_again (Summary v) fits = summary_again v fits
 -- ---- the words of a record can be seen
 
 total_plain : (t : Total) → Fits t → AllByRecursion IsWord (words_in t)
-total_plain t fits =
-    ((number_law 0 max_place (omega arith)).plain t.site.0 (omega arith, fits.0), ((number_law 0 max_place (omega arith)).plain t.field.0 (omega arith, fits.1), (kind_law.plain t.kind tt, ((number_law 1 max_total (omega arith)).plain t.total (omega (arith, fits.2.0), fits.2.1), tt))))
+total_plain t fits = (
+  (number_law 0 max_place (omega arith)).plain t.site.0 (omega arith, fits.0),
+  (
+    (number_law 0 max_place (omega arith)).plain t.field.0 (omega arith, fits.1),
+    (kind_law.plain t.kind tt, ((number_law 1 max_total (omega arith)).plain t.total (omega (arith, fits.2.0), fits.2.1), tt)),
+  ),
+)
 
 cut_plain : (t : Cut) → IsListedCut t → AllByRecursion IsWord (words_of_cut t)
-cut_plain t fits = ((number_law 0 max_place (omega arith)).plain t.field.0 (omega arith, fits.0), (kind_law.plain t.kind tt, ((number_law 1 max_change (omega arith)).plain t.total (omega (arith, fits.1.0), fits.1.1), tt)))
+cut_plain t fits = (
+  (number_law 0 max_place (omega arith)).plain t.field.0 (omega arith, fits.0),
+  (kind_law.plain t.kind tt, ((number_law 1 max_change (omega arith)).plain t.total (omega (arith, fits.1.0), fits.1.1), tt)),
+)
 
 escrows_plain : (es : List Escrow) → AllByRecursion IsEscrow es → AllByRecursion IsWord (escrow_words es)
 escrows_plain [] fits = tt
-escrows_plain (e ∷ es) fits = ((number_law 0 max_place (omega arith)).plain e.field.0 (omega arith, fits.0.0), (change_law.plain e.change fits.0.1, escrows_plain es fits.1))
+escrows_plain (e ∷ es) fits = (
+  (number_law 0 max_place (omega arith)).plain e.field.0 (omega arith, fits.0.0),
+  (change_law.plain e.change fits.0.1, escrows_plain es fits.1),
+)
 
 words_append : (as1 bs : List (List ℕ)) → AllByRecursion IsWord as1 → AllByRecursion IsWord bs → AllByRecursion IsWord (as1 ++ bs)
 words_append [] bs p q = q
@@ -541,21 +642,42 @@ rights_plain (r ∷ rs) fits =
     let law = number_law 0 max_change (omega arith) in
     (law.plain r.0 (omega arith, omega (arith, fits.0)), (law.plain r.1 (omega arith, omega (arith, fits.0)), rights_plain rs fits.1))
 
-group_plain : (letter : ℕ) (ts : List Total) → 33 ≤ letter → letter ≤ 126 → AllByRecursion IsListed ts → AllByRecursion IsWord (group_words letter ts)
+group_plain : (letter : ℕ) (ts : List Total) → 33 ≤ letter → letter ≤ 126 → AllByRecursion IsListed ts
+    → AllByRecursion IsWord (group_words letter ts)
 group_plain letter [] low high fits = tt
-group_plain letter (t ∷ ts) low high fits = (letter_word letter low high, words_append (words_in t) (group_words letter ts) (total_plain t fits.0) (group_plain letter ts low high fits.1))
+group_plain letter (t ∷ ts) low high fits = (
+  letter_word letter low high,
+  words_append (words_in t) (group_words letter ts) (total_plain t fits.0) (group_plain letter ts low high fits.1),
+)
 
 cuts_plain : (ts : List Cut) → AllByRecursion IsListedCut ts → AllByRecursion IsWord (cuts_words ts)
 cuts_plain [] fits = tt
-cuts_plain (t ∷ ts) fits = (letter_word 116 (omega arith) (omega arith), words_append (words_of_cut t) (cuts_words ts) (cut_plain t fits.0) (cuts_plain ts fits.1))
+cuts_plain (t ∷ ts) fits = (
+  letter_word 116 (omega arith) (omega arith),
+  words_append (words_of_cut t) (cuts_words ts) (cut_plain t fits.0) (cuts_plain ts fits.1),
+)
 
 pub words_plain : (r : Record) → IsRecord r → AllByRecursion IsWord ((letter_of r ∷ []) ∷ words_of r)
-words_plain (Commit txn es) fits =
-    (letter_word 67 (omega arith) (omega arith), ((number_law 0 max_epoch (omega arith)).plain txn.epoch (omega arith, fits.0), ((number_law 1 max_number (omega arith)).plain txn.number (omega (arith, fits.1), fits.2), escrows_plain es fits.5)))
-words_plain (Gift to f k n) fits = (letter_word 71 (omega arith) (omega arith), total_plain (record { site = to; field = f; kind = k; total = n }) fits)
-words_plain (Accept from f k n) fits = (letter_word 65 (omega arith) (omega arith), total_plain (record { site = from; field = f; kind = k; total = n }) fits)
+words_plain (Commit txn es) fits = (
+  letter_word 67 (omega arith) (omega arith),
+  (
+    (number_law 0 max_epoch (omega arith)).plain txn.epoch (omega arith, fits.0),
+    ((number_law 1 max_number (omega arith)).plain txn.number (omega (arith, fits.1), fits.2), escrows_plain es fits.5),
+  ),
+)
+words_plain (Gift to f k n) fits = (
+  letter_word 71 (omega arith) (omega arith),
+  total_plain (record { site = to; field = f; kind = k; total = n }) fits,
+)
+words_plain (Accept from f k n) fits = (
+  letter_word 65 (omega arith) (omega arith),
+  total_plain (record { site = from; field = f; kind = k; total = n }) fits,
+)
 words_plain (Tighten f k n) fits = (letter_word 84 (omega arith) (omega arith), cut_plain (record { field = f; kind = k; total = n }) fits)
-words_plain (Restart epoch) fits = (letter_word 82 (omega arith) (omega arith), ((number_law 1 max_epoch (omega arith)).plain epoch (omega (arith, fits.0), fits.1), tt))
+words_plain (Restart epoch) fits = (
+  letter_word 82 (omega arith) (omega arith),
+  ((number_law 1 max_epoch (omega arith)).plain epoch (omega (arith, fits.0), fits.1), tt),
+)
 words_plain (Summary v) fits = (
   letter_word 83 (omega arith) (omega arith),
   (
@@ -563,8 +685,10 @@ words_plain (Summary v) fits = (
     (
       (number_law 1 max_fields (omega arith)).plain (length v.rights) (omega (arith, fits.some), fits.few),
       words_append (rights_words v.rights) (groups_words v.gifts v.accepts v.tightenings) (rights_plain v.rights fits.rights)
-          (words_append (group_words 103 v.gifts) (group_words 97 v.accepts ++ cuts_words v.tightenings) (group_plain 103 v.gifts (omega arith) (omega arith) fits.gifts)
-          (words_append (group_words 97 v.accepts) (cuts_words v.tightenings) (group_plain 97 v.accepts (omega arith) (omega arith) fits.accepts) (cuts_plain v.tightenings fits.tightenings))),
+          (words_append (group_words 103 v.gifts) (group_words 97 v.accepts ++ cuts_words v.tightenings)
+          (group_plain 103 v.gifts (omega arith) (omega arith) fits.gifts)
+          (words_append (group_words 97 v.accepts) (cuts_words v.tightenings)
+          (group_plain 97 v.accepts (omega arith) (omega arith) fits.accepts) (cuts_plain v.tightenings fits.tightenings))),
     ),
   ),
 )

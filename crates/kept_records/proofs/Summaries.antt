@@ -31,10 +31,13 @@ unfolding greatest given_in accepted_in cut_in committed_in
 same_push as1 bs r h =
     record {
       epoch = fold_push later 0 as1 r ∙ ap (λ (n : ℕ). later n r) h.epoch ∙ sym (fold_push later 0 bs r);
-      given = λ to f k. fold_push (given_more to f k) 0 as1 r ∙ ap (λ (n : ℕ). given_more to f k n r) (h.given to f k) ∙ sym (fold_push (given_more to f k) 0 bs r);
-      accepted = λ from f k. fold_push (accepted_more from f k) 0 as1 r ∙ ap (λ (n : ℕ). accepted_more from f k n r) (h.accepted from f k) ∙ sym (fold_push (accepted_more from f k) 0 bs r);
+      given = λ to f k. fold_push (given_more to f k) 0 as1 r ∙ ap (λ (n : ℕ). given_more to f k n r) (h.given to f k)
+          ∙ sym (fold_push (given_more to f k) 0 bs r);
+      accepted = λ from f k. fold_push (accepted_more from f k) 0 as1 r ∙ ap (λ (n : ℕ). accepted_more from f k n r) (h.accepted from f k)
+          ∙ sym (fold_push (accepted_more from f k) 0 bs r);
       cut = λ f k. fold_push (cut_more f k) 0 as1 r ∙ ap (λ (n : ℕ). cut_more f k n r) (h.cut f k) ∙ sym (fold_push (cut_more f k) 0 bs r);
-      committed = λ f k. sum_by_push (commits f k) as1 r ∙ ap (λ (n : ℕ). n + commits f k r) (h.committed f k) ∙ sym (sum_by_push (commits f k) bs r);
+      committed = λ f k. sum_by_push (commits f k) as1 r ∙ ap (λ (n : ℕ). n + commits f k r) (h.committed f k)
+          ∙ sym (sum_by_push (commits f k) bs r);
     }
 
 -- a summary more on one side
@@ -50,7 +53,8 @@ same_summary_push as1 bs v h =
       committed = λ f k. omega (arith, sum_by_push (commits f k) as1 r, h.committed f k);
     }
 
-pub own_same : (schema : SchemaValue) (s : ℕ) (as1 bs : List Record) → SameSums as1 bs → (f : ℕ) (k : Kind) → own_in schema s as1 f k ≡ own_in schema s bs f k
+pub own_same : (schema : SchemaValue) (s : ℕ) (as1 bs : List Record) → SameSums as1 bs → (f : ℕ) (k : Kind)
+    → own_in schema s as1 f k ≡ own_in schema s bs f k
 unfolding own_in
 own_same schema s as1 bs h f k =
     omega (
@@ -64,8 +68,10 @@ own_same schema s as1 bs h f k =
 
 -- ---- the summary of records that stand for the same is the same
 
-one_same : (F G : ℕ → ℕ → Kind → ℕ) → ((r f : ℕ) (k : Kind) → F r f k ≡ G r f k) → (r f : ℕ) (k : Kind) → one_total F r f k ≡ one_total G r f k
-one_same F G h r f k = ap (λ (n : ℕ). cond (n == 0) [] (record { site = record { 0 = r }; field = record { 0 = f }; kind = k; total = n } ∷ [])) (h r f k)
+one_same : (F G : ℕ → ℕ → Kind → ℕ) → ((r f : ℕ) (k : Kind) → F r f k ≡ G r f k) → (r f : ℕ) (k : Kind)
+    → one_total F r f k ≡ one_total G r f k
+one_same F G h r f k = ap (λ (n : ℕ). cond (n == 0) []
+    (record { site = record { 0 = r }; field = record { 0 = f }; kind = k; total = n } ∷ [])) (h r f k)
 
 site_same : (F G : ℕ → ℕ → Kind → ℕ) → ((r f : ℕ) (k : Kind) → F r f k ≡ G r f k) → (r m : ℕ) → totals_of_site F r m ≡ totals_of_site G r m
 unfolding totals_of_site
@@ -90,7 +96,8 @@ unfolding rights_of
 rights_same F G h zero = refl
 rights_same F G h (suc m) = rw (rights_same F G h m, h m Lower, h m Raise) refl
 
-pub summary_same : (schema : SchemaValue) (s : ℕ) (as1 bs : List Record) → SameSums as1 bs → summary_of schema s as1 ≡ summary_of schema s bs
+pub summary_same : (schema : SchemaValue) (s : ℕ) (as1 bs : List Record) → SameSums as1 bs
+    → summary_of schema s as1 ≡ summary_of schema s bs
 unfolding summary_of
 summary_same schema s as1 bs h =
     rw (
@@ -107,15 +114,23 @@ all_same : (p q : Escrow → Bool) → ((e : Escrow) → p e ≡ q e) → (es : 
 all_same p q h [] = refl
 all_same p q h (e ∷ es) = rw (h e, all_same p q h es) refl
 
-pub may_same : (schema : SchemaValue) (s : ℕ) (as1 bs : List Record) → SameSums as1 bs → (r : Record) → may_follow schema s as1 r ≡ may_follow schema s bs r
+pub may_same : (schema : SchemaValue) (s : ℕ) (as1 bs : List Record) → SameSums as1 bs → (r : Record)
+    → may_follow schema s as1 r ≡ may_follow schema s bs r
 may_same schema s as1 bs h (Commit txn es) =
     rw (
       h.epoch,
-      all_same (may_commit schema s as1 es) (may_commit schema s bs es) (λ e. rw (own_same schema s as1 bs h e.field.0 Lower, own_same schema s as1 bs h e.field.0 Raise) refl) es,
+      all_same (may_commit schema s as1 es) (may_commit schema s bs es)
+          (λ e. rw (own_same schema s as1 bs h e.field.0 Lower, own_same schema s as1 bs h e.field.0 Raise) refl) es,
     ) refl
 may_same schema s as1 bs h (Gift to field kind total) = rw (h.given to.0 field.0 kind, own_same schema s as1 bs h field.0 kind) refl
 may_same schema s as1 bs h (Accept from field kind total) =
-    rw (h.accepted from.0 field.0 kind, h.cut field.0 Lower, h.cut field.0 Raise, own_same schema s as1 bs h field.0 Lower, own_same schema s as1 bs h field.0 Raise) refl
+    rw (
+      h.accepted from.0 field.0 kind,
+      h.cut field.0 Lower,
+      h.cut field.0 Raise,
+      own_same schema s as1 bs h field.0 Lower,
+      own_same schema s as1 bs h field.0 Raise,
+    ) refl
 may_same schema s as1 bs h (Tighten field kind total) = rw (h.cut field.0 kind, own_same schema s as1 bs h field.0 kind) refl
 may_same schema s as1 bs h (Restart epoch) = rw h.epoch refl
 may_same schema s as1 bs h (Summary v) = ap (λ (x : SummaryValue). same_summary v x) (summary_same schema s as1 bs h)
@@ -126,13 +141,21 @@ plain_keeps : (front rs : List Record) (r : Record) → is_summary r ≡ false �
 plain_keeps front rs r is = rw is (sym (append_assoc front (r ∷ []) (plain rs)))
 
 plain_sums : (as1 bs rs : List Record) → SameSums as1 bs → SameSums (as1 ++ plain rs) (bs ++ rs)
-plain_sums as1 bs [] h = subst (λ (x : List Record). SameSums x (bs ++ [])) (sym (append-nil as1)) (subst (λ (x : List Record). SameSums as1 x) (sym (append-nil bs)) h)
+plain_sums as1 bs [] h = subst (λ (x : List Record). SameSums x (bs ++ [])) (sym (append-nil as1))
+    (subst (λ (x : List Record). SameSums as1 x) (sym (append-nil bs)) h)
 plain_sums as1 bs (Summary v ∷ rs) h =
     subst (λ (x : List Record). SameSums (as1 ++ plain rs) x) (append_assoc bs (Summary v ∷ []) rs)
     (plain_sums as1 (bs ++ Summary v ∷ []) rs (turned (same_summary_push bs as1 v (turned h))))
   where
     turned : {x y : List Record} → SameSums x y → SameSums y x
-    turned h = record { epoch = sym h.epoch; given = λ to f k. sym (h.given to f k); accepted = λ from f k. sym (h.accepted from f k); cut = λ f k. sym (h.cut f k); committed = λ f k. sym (h.committed f k) }
+    turned h = record {
+      epoch = sym h.epoch;
+      given = λ to f k. sym (h.given to f k);
+      accepted = λ from f k. sym (h.accepted from f k);
+      cut =
+          λ f k. sym (h.cut f k);
+      committed = λ f k. sym (h.committed f k);
+    }
 plain_sums as1 bs (r ∷ rs) h =
     subst (λ (x : List Record). SameSums (as1 ++ plain (r ∷ rs)) x) (append_assoc bs (r ∷ []) rs)
     (subst (λ (x : List Record). SameSums x ((bs ++ r ∷ []) ++ rs)) (sym (plain_keeps as1 rs r refl))
@@ -142,12 +165,21 @@ plain_sums as1 bs (r ∷ rs) h =
 pub plain_same : (rs : List Record) → SameSums (plain rs) rs
 plain_same rs = plain_sums [] [] rs (same_sums [])
 
-plain_behind : (schema : SchemaValue) (s : ℕ) (as1 bs rs : List Record) → SameSums as1 bs → LawfulBehind schema s bs rs → LawfulBehind schema s as1 (plain rs)
+plain_behind : (schema : SchemaValue) (s : ℕ) (as1 bs rs : List Record) → SameSums as1 bs → LawfulBehind schema s bs rs
+    → LawfulBehind schema s as1 (plain rs)
 plain_behind schema s as1 bs [] h lawful = tt
-plain_behind schema s as1 bs (Summary v ∷ rs) h lawful = plain_behind schema s as1 (bs ++ Summary v ∷ []) rs (turned (same_summary_push bs as1 v (turned h))) lawful.1
+plain_behind schema s as1 bs (Summary v ∷ rs) h lawful =
+    plain_behind schema s as1 (bs ++ Summary v ∷ []) rs (turned (same_summary_push bs as1 v (turned h))) lawful.1
   where
     turned : {x y : List Record} → SameSums x y → SameSums y x
-    turned h = record { epoch = sym h.epoch; given = λ to f k. sym (h.given to f k); accepted = λ from f k. sym (h.accepted from f k); cut = λ f k. sym (h.cut f k); committed = λ f k. sym (h.committed f k) }
+    turned h = record {
+      epoch = sym h.epoch;
+      given = λ to f k. sym (h.given to f k);
+      accepted = λ from f k. sym (h.accepted from f k);
+      cut =
+          λ f k. sym (h.cut f k);
+      committed = λ f k. sym (h.committed f k);
+    }
 plain_behind schema s as1 bs (r ∷ rs) h lawful =
     (may_same schema s as1 bs h r ∙ lawful.0, plain_behind schema s (as1 ++ r ∷ []) (bs ++ r ∷ []) rs (same_push as1 bs r h) lawful.1)
 
@@ -167,17 +199,30 @@ rights_refl (r ∷ rs) = rw (eq-eqb r.0 r.0 refl, eq-eqb r.1 r.1 refl, rights_re
 
 totals_refl : (ts : List Total) → same_totals ts ts ≡ true
 totals_refl [] = refl
-totals_refl (t ∷ ts) = rw (eq-eqb t.site.0 t.site.0 refl, eq-eqb t.field.0 t.field.0 refl, kind_refl t.kind, eq-eqb t.total t.total refl, totals_refl ts) refl
+totals_refl (t ∷ ts) = rw (
+  eq-eqb t.site.0 t.site.0 refl,
+  eq-eqb t.field.0 t.field.0 refl,
+  kind_refl t.kind,
+  eq-eqb t.total t.total refl,
+  totals_refl ts,
+) refl
 
 cuts_refl : (ts : List Cut) → same_cuts ts ts ≡ true
 cuts_refl [] = refl
 cuts_refl (t ∷ ts) = rw (eq-eqb t.field.0 t.field.0 refl, kind_refl t.kind, eq-eqb t.total t.total refl, cuts_refl ts) refl
 
 pub summary_refl : (v : SummaryValue) → same_summary v v ≡ true
-summary_refl v = rw (eq-eqb v.epoch v.epoch refl, rights_refl v.rights, totals_refl v.gifts, totals_refl v.accepts, cuts_refl v.tightenings) refl
+summary_refl v = rw (
+  eq-eqb v.epoch v.epoch refl,
+  rights_refl v.rights,
+  totals_refl v.gifts,
+  totals_refl v.accepts,
+  cuts_refl v.tightenings,
+) refl
 
 -- so what is appended for a lawful record is lawful
-pub piece_lawful : (schema : SchemaValue) (s : ℕ) (rs : List Record) (r : Record) → Lawful schema s rs → may_follow schema s rs r ≡ true → Lawful schema s (rs ++ piece schema s rs r)
+pub piece_lawful : (schema : SchemaValue) (s : ℕ) (rs : List Record) (r : Record) → Lawful schema s rs → may_follow schema s rs r ≡ true
+    → Lawful schema s (rs ++ piece schema s rs r)
 piece_lawful schema s rs r lawful may = by (nat_le max_behind (since_summary rs + 1))
   where
     all : Record

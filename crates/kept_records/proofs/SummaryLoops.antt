@@ -16,7 +16,8 @@ abbrev right_at : Words → Option (ℕ × Words)
 right_at ws = word_at (number_within 0 2_000_000_000_000_000) ws
 
 -- one pair more
-step_rights : (n : ℕ) (read : List (ℕ × ℕ)) (ws as1 bs : Words) (lower raise : ℕ) (total : Option (List (ℕ × ℕ) × Words)) → right_at ws ≡ Some (lower, as1) → right_at as1 ≡ Some (raise, bs) → lower + raise ≤ 2_000_000_000_000_000
+step_rights : (n : ℕ) (read : List (ℕ × ℕ)) (ws as1 bs : Words) (lower raise : ℕ) (total : Option (List (ℕ × ℕ) × Words))
+    → right_at ws ≡ Some (lower, as1) → right_at as1 ≡ Some (raise, bs) → lower + raise ≤ 2_000_000_000_000_000
     → rights_from (suc n) read ws ≡ total → rights_from n (read ++ (lower, raise) ∷ []) bs ≡ total
 unfolding rights_from
 step_rights n read ws as1 bs lower raise total a b few so_far =
@@ -24,18 +25,22 @@ step_rights n read ws as1 bs lower raise total a b few so_far =
     let one : rights_from (suc n) read ws ≡ rights_from n (read ++ (lower, raise) ∷ []) bs = rw (a, b, low) refl in
     sym one ∙ so_far
 
-none_lower : (n : ℕ) (read : List (ℕ × ℕ)) (ws : Words) (total : Option (List (ℕ × ℕ) × Words)) → right_at ws ≡ None → rights_from (suc n) read ws ≡ total → total ≡ None
+none_lower : (n : ℕ) (read : List (ℕ × ℕ)) (ws : Words) (total : Option (List (ℕ × ℕ) × Words)) → right_at ws ≡ None
+    → rights_from (suc n) read ws ≡ total → total ≡ None
 unfolding rights_from
 none_lower n read ws total a so_far = let one : rights_from (suc n) read ws ≡ None = rw a refl in sym so_far ∙ one
 
-none_raise : (n : ℕ) (read : List (ℕ × ℕ)) (ws as1 : Words) (lower : ℕ) (total : Option (List (ℕ × ℕ) × Words)) → right_at ws ≡ Some (lower, as1) → right_at as1 ≡ None → rights_from (suc n) read ws ≡ total → total ≡ None
+none_raise : (n : ℕ) (read : List (ℕ × ℕ)) (ws as1 : Words) (lower : ℕ) (total : Option (List (ℕ × ℕ) × Words))
+    → right_at ws ≡ Some (lower, as1) → right_at as1 ≡ None → rights_from (suc n) read ws ≡ total → total ≡ None
 unfolding rights_from
 none_raise n read ws as1 lower total a b so_far = let one : rights_from (suc n) read ws ≡ None = rw (a, b) refl in sym so_far ∙ one
 
-none_sum : (n : ℕ) (read : List (ℕ × ℕ)) (ws as1 bs : Words) (lower raise : ℕ) (total : Option (List (ℕ × ℕ) × Words)) → right_at ws ≡ Some (lower, as1) → right_at as1 ≡ Some (raise, bs) → leb (lower + raise) 2_000_000_000_000_000 ≡ false
+none_sum : (n : ℕ) (read : List (ℕ × ℕ)) (ws as1 bs : Words) (lower raise : ℕ) (total : Option (List (ℕ × ℕ) × Words))
+    → right_at ws ≡ Some (lower, as1) → right_at as1 ≡ Some (raise, bs) → leb (lower + raise) 2_000_000_000_000_000 ≡ false
     → rights_from (suc n) read ws ≡ total → total ≡ None
 unfolding rights_from
-none_sum n read ws as1 bs lower raise total a b many so_far = let one : rights_from (suc n) read ws ≡ None = rw (a, b, many) refl in sym so_far ∙ one
+none_sum n read ws as1 bs lower raise total a b many so_far = let one : rights_from (suc n) read ws ≡ None = rw (a, b, many) refl in
+    sym so_far ∙ one
 
 pred_is : (n : ℕ) → 0 < n → n ≡ suc (n - 1)
 pred_is n some = omega arith
@@ -43,17 +48,22 @@ pred_is n some = omega arith
 abbrev SoFar : ℕ → List (ℕ × ℕ) → Words → Option (List (ℕ × ℕ) × Words) → Type 0
 SoFar n read ws total = rights_from n read ws ≡ total
 
-at_suc : (n : ℕ) (read : List (ℕ × ℕ)) (ws : Words) (total : Option (List (ℕ × ℕ) × Words)) → 0 < n → SoFar n read ws total → SoFar (suc (n - 1)) read ws total
+at_suc : (n : ℕ) (read : List (ℕ × ℕ)) (ws : Words) (total : Option (List (ℕ × ℕ) × Words)) → 0 < n → SoFar n read ws total
+    → SoFar (suc (n - 1)) read ws total
 at_suc n read ws total some h = subst (λ (x : ℕ). SoFar x read ws total) (pred_is n some) h
 
-pub rights_step : (n : ℕ) (read : List (ℕ × ℕ)) (ws as1 bs : Words) (lower raise : ℕ) (total : Option (List (ℕ × ℕ) × Words)) → 0 < n → right_at ws ≡ Some (lower, as1) → right_at as1 ≡ Some (raise, bs) → lower + raise ≤ 2_000_000_000_000_000
+pub rights_step : (n : ℕ) (read : List (ℕ × ℕ)) (ws as1 bs : Words) (lower raise : ℕ) (total : Option (List (ℕ × ℕ) × Words)) → 0 < n
+    → right_at ws ≡ Some (lower, as1) → right_at as1 ≡ Some (raise, bs) → lower + raise ≤ 2_000_000_000_000_000
     → rights_from n read ws ≡ total → rights_from (n - 1) (read ++ (lower, raise) ∷ []) bs ≡ total
-rights_step n read ws as1 bs lower raise total some a b few h = step_rights (n - 1) read ws as1 bs lower raise total a b few (at_suc n read ws total some h)
+rights_step n read ws as1 bs lower raise total some a b few h =
+    step_rights (n - 1) read ws as1 bs lower raise total a b few (at_suc n read ws total some h)
 
-pub rights_none_lower : (n : ℕ) (read : List (ℕ × ℕ)) (ws : Words) (total : Option (List (ℕ × ℕ) × Words)) → 0 < n → right_at ws ≡ None → rights_from n read ws ≡ total → total ≡ None
+pub rights_none_lower : (n : ℕ) (read : List (ℕ × ℕ)) (ws : Words) (total : Option (List (ℕ × ℕ) × Words)) → 0 < n → right_at ws ≡ None
+    → rights_from n read ws ≡ total → total ≡ None
 rights_none_lower n read ws total some a h = none_lower (n - 1) read ws total a (at_suc n read ws total some h)
 
-pub rights_none_raise : (n : ℕ) (read : List (ℕ × ℕ)) (ws as1 : Words) (lower : ℕ) (total : Option (List (ℕ × ℕ) × Words)) → 0 < n → right_at ws ≡ Some (lower, as1) → right_at as1 ≡ None → rights_from n read ws ≡ total → total ≡ None
+pub rights_none_raise : (n : ℕ) (read : List (ℕ × ℕ)) (ws as1 : Words) (lower : ℕ) (total : Option (List (ℕ × ℕ) × Words)) → 0 < n
+    → right_at ws ≡ Some (lower, as1) → right_at as1 ≡ None → rights_from n read ws ≡ total → total ≡ None
 rights_none_raise n read ws as1 lower total some a b h = none_raise (n - 1) read ws as1 lower total a b (at_suc n read ws total some h)
 
 not_le : (m n : ℕ) → n < m → leb m n ≡ false
@@ -63,11 +73,15 @@ not_le m n more = by (leb m n) refl
     by true is = absurd (omega (arith, leb-true m n is, more))
     by false is = is
 
-pub rights_none_sum : (n : ℕ) (read : List (ℕ × ℕ)) (ws as1 bs : Words) (lower raise : ℕ) (total : Option (List (ℕ × ℕ) × Words)) → 0 < n → right_at ws ≡ Some (lower, as1) → right_at as1 ≡ Some (raise, bs) → 2_000_000_000_000_000 < lower + raise
+pub rights_none_sum : (n : ℕ) (read : List (ℕ × ℕ)) (ws as1 bs : Words) (lower raise : ℕ) (total : Option (List (ℕ × ℕ) × Words)) → 0 < n
+    → right_at ws ≡ Some (lower, as1) → right_at as1 ≡ Some (raise, bs) → 2_000_000_000_000_000 < lower + raise
     → rights_from n read ws ≡ total → total ≡ None
-rights_none_sum n read ws as1 bs lower raise total some a b many h = none_sum (n - 1) read ws as1 bs lower raise total a b (not_le (lower + raise) 2_000_000_000_000_000 many) (at_suc n read ws total some h)
+rights_none_sum n read ws as1 bs lower raise total some a b many h =
+    none_sum (n - 1) read ws as1 bs lower raise total a b (not_le (lower + raise) 2_000_000_000_000_000 many)
+    (at_suc n read ws total some h)
 
-pub rights_end : (n : ℕ) (read : List (ℕ × ℕ)) (ws : Words) (total : Option (List (ℕ × ℕ) × Words)) → n ≡ 0 → rights_from n read ws ≡ total → total ≡ Some (read, ws)
+pub rights_end : (n : ℕ) (read : List (ℕ × ℕ)) (ws : Words) (total : Option (List (ℕ × ℕ) × Words)) → n ≡ 0 → rights_from n read ws ≡ total
+    → total ≡ Some (read, ws)
 unfolding rights_from
 rights_end n read ws total none h = sym h ∙ ap (λ (x : ℕ). rights_from x read ws) none
 
@@ -80,12 +94,14 @@ bind_none : {A B : Type 0} (o : Option A) (ws : B) → ◌>>=◌ {A = A} {B = A 
 bind_none None ws e = refl
 bind_none (Some t) ws e = absurd cc
 
-found_at : {A : Type 0} (o : Option A) (ws rest : Words) (t : A) → ◌>>=◌ {A = A} {B = A × Words} o (λ t'. Some (t', ws)) ≡ Some (t, rest) → (o ≡ Some t) × (ws ≡ rest)
+found_at : {A : Type 0} (o : Option A) (ws rest : Words) (t : A) → ◌>>=◌ {A = A} {B = A × Words} o (λ t'. Some (t', ws)) ≡ Some (t, rest)
+    → (o ≡ Some t) × (ws ≡ rest)
 found_at None ws rest t e = absurd cc
 found_at (Some x) ws rest t e = let p = some_pair_parts x t ws rest e in (ap (λ z. Some z) p.0, p.1)
 
 -- a total given up
-pub cut_step : (gifts accepts : List Total) (cuts : List Cut) (l : List ℕ) (ws : Words) (t : Cut) (rest : Words) (total : Option Three) → word_is 116 l ≡ true → cut_at ws ≡ Some (t, rest) → groups_from gifts accepts cuts (l ∷ ws) ≡ total
+pub cut_step : (gifts accepts : List Total) (cuts : List Cut) (l : List ℕ) (ws : Words) (t : Cut) (rest : Words) (total : Option Three)
+    → word_is 116 l ≡ true → cut_at ws ≡ Some (t, rest) → groups_from gifts accepts cuts (l ∷ ws) ≡ total
     → groups_from gifts accepts (cuts ++ t ∷ []) rest ≡ total
 unfolding groups_from cut_at
 cut_step gifts accepts cuts l [] t rest total is a h = absurd cc
@@ -97,10 +113,12 @@ cut_step gifts accepts cuts l (w ∷ v ∷ x ∷ []) t rest total is a h =
     ap (λ (z : Words). groups_from gifts accepts (cuts ++ t ∷ []) z) (sym p.1) ∙ sym one ∙ h
 cut_step gifts accepts cuts l (w ∷ v ∷ x ∷ y ∷ ws) t rest total is a h =
     let p = found_at (cut_from (w ∷ v ∷ x ∷ [])) (y ∷ ws) rest t a in
-    let one : groups_from gifts accepts cuts (l ∷ w ∷ v ∷ x ∷ y ∷ ws) ≡ groups_from gifts accepts (cuts ++ t ∷ []) (y ∷ ws) = rw (is, p.0) refl in
+    let one : groups_from gifts accepts cuts (l ∷ w ∷ v ∷ x ∷ y ∷ ws) ≡ groups_from gifts accepts (cuts ++ t ∷ []) (y ∷ ws) =
+    rw (is, p.0) refl in
     ap (λ (z : Words). groups_from gifts accepts (cuts ++ t ∷ []) z) (sym p.1) ∙ sym one ∙ h
 
-pub cut_none : (gifts accepts : List Total) (cuts : List Cut) (l : List ℕ) (ws : Words) (total : Option Three) → word_is 116 l ≡ true → cut_at ws ≡ None → groups_from gifts accepts cuts (l ∷ ws) ≡ total → total ≡ None
+pub cut_none : (gifts accepts : List Total) (cuts : List Cut) (l : List ℕ) (ws : Words) (total : Option Three) → word_is 116 l ≡ true
+    → cut_at ws ≡ None → groups_from gifts accepts cuts (l ∷ ws) ≡ total → total ≡ None
 unfolding groups_from cut_at
 cut_none gifts accepts cuts l [] total is a h = sym h
 cut_none gifts accepts cuts l (w ∷ []) total is a h = sym h
@@ -117,9 +135,11 @@ cut_none gifts accepts cuts l (w ∷ v ∷ x ∷ y ∷ ws) total is a h =
 -- a total given or accepted
 abbrev pub groups_then : List Total → List Total → List Cut → List ℕ → Total → Words → Option Three
 groups_then gifts accepts cuts l t rest =
-    cond (is_next_accept l cuts) (groups_from gifts (accepts ++ t ∷ []) cuts rest) (cond (is_next_gift l accepts cuts) (groups_from (gifts ++ t ∷ []) accepts cuts rest) None)
+    cond (is_next_accept l cuts) (groups_from gifts (accepts ++ t ∷ []) cuts rest)
+    (cond (is_next_gift l accepts cuts) (groups_from (gifts ++ t ∷ []) accepts cuts rest) None)
 
-groups_step : (gifts accepts : List Total) (cuts : List Cut) (l : List ℕ) (ws : Words) (t : Total) (rest : Words) (total : Option Three) → word_is 116 l ≡ false → listed_at ws ≡ Some (t, rest) → groups_from gifts accepts cuts (l ∷ ws) ≡ total
+groups_step : (gifts accepts : List Total) (cuts : List Cut) (l : List ℕ) (ws : Words) (t : Total) (rest : Words) (total : Option Three)
+    → word_is 116 l ≡ false → listed_at ws ≡ Some (t, rest) → groups_from gifts accepts cuts (l ∷ ws) ≡ total
     → groups_then gifts accepts cuts l t rest ≡ total
 unfolding groups_from listed_at
 groups_step gifts accepts cuts l [] t rest total is a h = absurd cc
@@ -131,7 +151,8 @@ groups_step gifts accepts cuts l (w ∷ v ∷ x ∷ y ∷ ws) t rest total is a 
     let one : groups_from gifts accepts cuts (l ∷ w ∷ v ∷ x ∷ y ∷ ws) ≡ groups_then gifts accepts cuts l t ws = rw (is, p.0) refl in
     ap (λ (z : Words). groups_then gifts accepts cuts l t z) (sym p.1) ∙ sym one ∙ h
 
-pub groups_none : (gifts accepts : List Total) (cuts : List Cut) (l : List ℕ) (ws : Words) (total : Option Three) → word_is 116 l ≡ false → listed_at ws ≡ None → groups_from gifts accepts cuts (l ∷ ws) ≡ total → total ≡ None
+pub groups_none : (gifts accepts : List Total) (cuts : List Cut) (l : List ℕ) (ws : Words) (total : Option Three) → word_is 116 l ≡ false
+    → listed_at ws ≡ None → groups_from gifts accepts cuts (l ∷ ws) ≡ total → total ≡ None
 unfolding groups_from listed_at
 groups_none gifts accepts cuts l [] total is a h = sym h
 groups_none gifts accepts cuts l (w ∷ []) total is a h = sym h
@@ -144,13 +165,15 @@ groups_none gifts accepts cuts l (w ∷ v ∷ x ∷ y ∷ ws) total is a h =
     let one : groups_from gifts accepts cuts (l ∷ w ∷ v ∷ x ∷ y ∷ ws) ≡ None = rw (is, none) refl in
     sym h ∙ one
 
-pub groups_end : (gifts accepts : List Total) (cuts : List Cut) (total : Option Three) → groups_from gifts accepts cuts [] ≡ total → total ≡ Some (gifts, accepts, cuts)
+pub groups_end : (gifts accepts : List Total) (cuts : List Cut) (total : Option Three) → groups_from gifts accepts cuts [] ≡ total
+    → total ≡ Some (gifts, accepts, cuts)
 unfolding groups_from
 groups_end gifts accepts cuts total h = sym h
 
 -- ---- totals that rise
 
-pub rises_step : (ts : List Total) (d e : Total) → 1 < length ts → rises ts ≡ (is_before (get_or ts 0 d) (get_or ts 1 e) && rises (drop 1 ts))
+pub rises_step : (ts : List Total) (d e : Total) → 1 < length ts
+    → rises ts ≡ (is_before (get_or ts 0 d) (get_or ts 1 e) && rises (drop 1 ts))
 rises_step [] d e many = absurd (omega arith)
 rises_step (a ∷ []) d e many = absurd (omega arith)
 rises_step (a ∷ b ∷ ts) d e many = refl
@@ -160,7 +183,8 @@ rises_few [] few = refl
 rises_few (a ∷ []) few = refl
 rises_few (a ∷ b ∷ ts) few = absurd (omega arith)
 
-pub cuts_rise_step : (ts : List Cut) (d e : Cut) → 1 < length ts → cuts_rise ts ≡ (is_cut_before (get_or ts 0 d) (get_or ts 1 e) && cuts_rise (drop 1 ts))
+pub cuts_rise_step : (ts : List Cut) (d e : Cut) → 1 < length ts
+    → cuts_rise ts ≡ (is_cut_before (get_or ts 0 d) (get_or ts 1 e) && cuts_rise (drop 1 ts))
 cuts_rise_step [] d e many = absurd (omega arith)
 cuts_rise_step (a ∷ []) d e many = absurd (omega arith)
 cuts_rise_step (a ∷ b ∷ ts) d e many = refl
@@ -209,7 +233,8 @@ module _ (gifts accepts : List Total) (cuts : List Cut) (l : List ℕ) (ws : Wor
   not_accept : is_next_accept l cuts ≡ false → gift_or (is_next_gift l accepts cuts) ≡ total
   not_accept is = sym (ap (λ (b : Bool). cond b as_accept (gift_or (is_next_gift l accepts cuts))) is) ∙ step
 
-  pub then_gift : is_next_accept l cuts ≡ false → is_next_gift l accepts cuts ≡ true → groups_from (gifts ++ t ∷ []) accepts cuts rest ≡ total
+  pub then_gift : is_next_accept l cuts ≡ false → is_next_gift l accepts cuts ≡ true
+      → groups_from (gifts ++ t ∷ []) accepts cuts rest ≡ total
   then_gift isnt is = sym (ap gift_or is) ∙ not_accept isnt
 
   pub then_neither : is_next_accept l cuts ≡ false → is_next_gift l accepts cuts ≡ false → total ≡ None

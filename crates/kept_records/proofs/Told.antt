@@ -26,13 +26,15 @@ use Rattle.kept_records.proofs.Summaries.{same_sums, same_summary_push, own_same
 
 module _ (F : ℕ → ℕ → Kind → ℕ) (r f : ℕ) (k : Kind) where
   one_by : (on none : Bool) (n z : ℕ) (r' f' : ℕ) (k' : Kind) → ((r' == r) && (f' == f) && same_kind k' k) ≡ on
-      → fold (told_more r f k) z (cond none [] (record { site = record { 0 = r' }; field = record { 0 = f' }; kind = k'; total = n } ∷ [])) ≡ cond on (cond none z n) z
+      → fold (told_more r f k) z (cond none [] (record { site = record { 0 = r' }; field = record { 0 = f' }; kind = k'; total = n } ∷ []))
+      ≡ cond on (cond none z n) z
   one_by true true n z r' f' k' is = refl
   one_by false true n z r' f' k' is = refl
   one_by true false n z r' f' k' is = rw is refl
   one_by false false n z r' f' k' is = rw is refl
 
-  one_misses : (z r' f' : ℕ) (k' : Kind) → ((r' == r) && (f' == f) && same_kind k' k) ≡ false → fold (told_more r f k) z (one_total F r' f' k') ≡ z
+  one_misses : (z r' f' : ℕ) (k' : Kind) → ((r' == r) && (f' == f) && same_kind k' k) ≡ false
+      → fold (told_more r f k) z (one_total F r' f' k') ≡ z
   one_misses z r' f' k' off = one_by false (F r' f' k' == 0) (F r' f' k') z r' f' k' off
 
   zero_or : (n : ℕ) → cond (n == 0) 0 n ≡ n
@@ -55,18 +57,21 @@ module _ (F : ℕ → ℕ → Kind → ℕ) (r f : ℕ) (k : Kind) where
   off_site r' f' k' apart = rw (ne_eqb r' r apart) refl
 
   off_field : (r' f' : ℕ) (k' : Kind) → f' ≢ f → ((r' == r) && (f' == f) && same_kind k' k) ≡ false
-  off_field r' f' k' apart = rw (ne_eqb f' f apart) (elim (r' == r) as (λ b. (b && false && same_kind k' k) ≡ false) [ true ↦ refl | false ↦ refl ])
+  off_field r' f' k' apart = rw (ne_eqb f' f apart)
+      (elim (r' == r) as (λ b. (b && false && same_kind k' k) ≡ false) [ true ↦ refl | false ↦ refl ])
 
   -- ---- those of one site
 
   two : (z r' m : ℕ) → fold (told_more r f k) z (totals_of_site F r' (suc m))
-      ≡ fold (told_more r f k) (fold (told_more r f k) (fold (told_more r f k) z (totals_of_site F r' m)) (one_total F r' m Lower)) (one_total F r' m Raise)
+      ≡ fold (told_more r f k) (fold (told_more r f k) (fold (told_more r f k) z (totals_of_site F r' m)) (one_total F r' m Lower))
+      (one_total F r' m Raise)
   unfolding totals_of_site
   two z r' m =
       fold-append (told_more r f k) z (totals_of_site F r' m) (one_total F r' m Lower ++ one_total F r' m Raise)
       ∙ fold-append (told_more r f k) (fold (told_more r f k) z (totals_of_site F r' m)) (one_total F r' m Lower) (one_total F r' m Raise)
 
-  both_miss : (z z' r' m : ℕ) → fold (told_more r f k) z (totals_of_site F r' m) ≡ z' → ((k' : Kind) → ((r' == r) && (m == f) && same_kind k' k) ≡ false)
+  both_miss : (z z' r' m : ℕ) → fold (told_more r f k) z (totals_of_site F r' m) ≡ z'
+      → ((k' : Kind) → ((r' == r) && (m == f) && same_kind k' k) ≡ false)
       → fold (told_more r f k) z (totals_of_site F r' (suc m)) ≡ z'
   both_miss z z' r' m is off =
       two z r' m
@@ -91,7 +96,8 @@ module _ (F : ℕ → ℕ → Kind → ℕ) (r f : ℕ) (k : Kind) where
       start = site_before 0 m (omega (arith, is))
 
       here : (k' : Kind) → k' ≡ k → fold (told_more r f k) 0 (one_total F r m k') ≡ F r f k
-      here k' same = ap (λ (x : ℕ). fold (told_more r f k) 0 (one_total F r x k')) is ∙ ap (λ (x : Kind). fold (told_more r f k) 0 (one_total F r f x)) same ∙ one_hits
+      here k' same = ap (λ (x : ℕ). fold (told_more r f k) 0 (one_total F r x k')) is
+          ∙ ap (λ (x : Kind). fold (told_more r f k) 0 (one_total F r f x)) same ∙ one_hits
 
       off : (a b : Kind) → same_kind a b ≡ false → b ≡ k → ((r == r) && (m == f) && same_kind a k) ≡ false
       off a b apart same = ap (λ (x : Kind). (r == r) && (m == f) && same_kind a x) (sym same) ∙ rw apart (none (r == r) (m == f))
@@ -102,12 +108,14 @@ module _ (F : ℕ → ℕ → Kind → ℕ) (r f : ℕ) (k : Kind) where
           none false q = refl
 
       by : (x : Kind) → x ≡ k
-          → fold (told_more r f k) (fold (told_more r f k) (fold (told_more r f k) 0 (totals_of_site F r m)) (one_total F r m Lower)) (one_total F r m Raise) ≡ F r f k
+          → fold (told_more r f k) (fold (told_more r f k) (fold (told_more r f k) 0 (totals_of_site F r m)) (one_total F r m Lower))
+          (one_total F r m Raise) ≡ F r f k
       by Lower same =
           one_misses _ r m Raise (off Raise Lower refl same)
           ∙ ap (λ (z : ℕ). fold (told_more r f k) z (one_total F r m Lower)) start ∙ here Lower same
       by Raise same =
-          ap (λ (z : ℕ). fold (told_more r f k) z (one_total F r m Raise)) (one_misses _ r m Lower (off Lower Raise refl same) ∙ start) ∙ here Raise same
+          ap (λ (z : ℕ). fold (told_more r f k) z (one_total F r m Raise)) (one_misses _ r m Lower (off Lower Raise refl same) ∙ start)
+          ∙ here Raise same
 
   site_hits : (m : ℕ) → f < m → fold (told_more r f k) 0 (totals_of_site F r m) ≡ F r f k
   site_hits zero below = absurd (omega arith)
@@ -119,7 +127,8 @@ module _ (F : ℕ → ℕ → Kind → ℕ) (r f : ℕ) (k : Kind) where
 
   -- ---- those of all sites but one
 
-  more_sites : (z s m n : ℕ) → fold (told_more r f k) z (totals_of F s m (suc n)) ≡ fold (told_more r f k) (fold (told_more r f k) z (totals_of F s m n)) (cond (n == s) [] (totals_of_site F n m))
+  more_sites : (z s m n : ℕ) → fold (told_more r f k) z (totals_of F s m (suc n))
+      ≡ fold (told_more r f k) (fold (told_more r f k) z (totals_of F s m n)) (cond (n == s) [] (totals_of_site F n m))
   unfolding totals_of
   more_sites z s m n = fold-append (told_more r f k) z (totals_of F s m n) (cond (n == s) [] (totals_of_site F n m))
 
@@ -130,7 +139,8 @@ module _ (F : ℕ → ℕ → Kind → ℕ) (r f : ℕ) (k : Kind) where
   sites_before : (z s m n : ℕ) → n ≤ r → fold (told_more r f k) z (totals_of F s m n) ≡ z
   unfolding totals_of
   sites_before z s m zero le = refl
-  sites_before z s m (suc n) le = more_sites z s m n ∙ skip_apart (n == s) _ n m (omega (arith, le)) ∙ sites_before z s m n (omega (arith, le))
+  sites_before z s m (suc n) le = more_sites z s m n ∙ skip_apart (n == s) _ n m (omega (arith, le))
+      ∙ sites_before z s m n (omega (arith, le))
 
   sites_hit : (s m n : ℕ) → r < n → r ≢ s → f < m → fold (told_more r f k) 0 (totals_of F s m n) ≡ F r f k
   sites_hit s m zero below apart in_fields = absurd (omega arith)
@@ -139,7 +149,8 @@ module _ (F : ℕ → ℕ → Kind → ℕ) (r f : ℕ) (k : Kind) where
         | inl same ↦
             let skip : (n == s) ≡ false = ne_eqb n s (λ e. apart (sym same ∙ e)) in
             more_sites 0 s m n
-            ∙ ap (λ (z : ℕ). fold (told_more r f k) z (cond (n == s) [] (totals_of_site F n m))) (sites_before 0 s m n (omega (arith, same)))
+            ∙ ap (λ (z : ℕ). fold (told_more r f k) z (cond (n == s) [] (totals_of_site F n m)))
+            (sites_before 0 s m n (omega (arith, same)))
             ∙ ap (λ (b : Bool). fold (told_more r f k) 0 (cond b [] (totals_of_site F n m))) skip
             ∙ ap (λ (x : ℕ). fold (told_more r f k) 0 (totals_of_site F x m)) same
             ∙ site_hits m in_fields
@@ -166,7 +177,8 @@ as_totals_append (a ∷ as1) bs = ap (λ (l : List Total). as_total a ∷ l) (as
 one_as_total : (F : ℕ → Kind → ℕ) (f : ℕ) (k : Kind) → as_totals (one_cut F f k) ≡ one_total (λ r. F) 0 f k
 one_as_total F f k = by (F f k == 0)
   where
-    by : (b : Bool) → as_totals (cond b [] (record { field = record { 0 = f }; kind = k; total = F f k } ∷ [])) ≡ cond b [] (record { site = record { 0 = 0 }; field = record { 0 = f }; kind = k; total = F f k } ∷ [])
+    by : (b : Bool) → as_totals (cond b [] (record { field = record { 0 = f }; kind = k; total = F f k } ∷ []))
+        ≡ cond b [] (record { site = record { 0 = 0 }; field = record { 0 = f }; kind = k; total = F f k } ∷ [])
     by true = refl
     by false = refl
 
@@ -177,7 +189,9 @@ cuts_as_totals F (suc m) =
     as_totals_append (cuts_of F m) (one_cut F m Lower ++ one_cut F m Raise)
     ∙ ap (λ (l : List Total). l ++ as_totals (one_cut F m Lower ++ one_cut F m Raise)) (cuts_as_totals F m)
     ∙ ap (λ (l : List Total). totals_of_site (λ r. F) 0 m ++ l)
-    (as_totals_append (one_cut F m Lower) (one_cut F m Raise) ∙ ap (λ (l : List Total). l ++ as_totals (one_cut F m Raise)) (one_as_total F m Lower) ∙ ap (λ (l : List Total). one_total (λ r. F) 0 m Lower ++ l) (one_as_total F m Raise))
+    (as_totals_append (one_cut F m Lower) (one_cut F m Raise)
+    ∙ ap (λ (l : List Total). l ++ as_totals (one_cut F m Raise)) (one_as_total F m Lower)
+    ∙ ap (λ (l : List Total). one_total (λ r. F) 0 m Lower ++ l) (one_as_total F m Raise))
 
 told_as_total : (f : ℕ) (k : Kind) (z : ℕ) (ts : List Cut) → fold (cut_told_more f k) z ts ≡ fold (told_more 0 f k) z (as_totals ts)
 told_as_total f k z [] = refl
@@ -231,7 +245,8 @@ rights_equal (a ∷ as1) (b ∷ bs) h =
 
 total_equal : (a b : Total) → a.site.0 ≡ b.site.0 → a.field.0 ≡ b.field.0 → a.kind ≡ b.kind → a.total ≡ b.total → a ≡ b
 total_equal a b site field kind total =
-    let made : ◌≡◌ {A = Total} (record { site = record { 0 = a.site.0 }; field = record { 0 = a.field.0 }; kind = a.kind; total = a.total }) (record { site = record { 0 = b.site.0 }; field = record { 0 = b.field.0 }; kind = b.kind; total = b.total }) = cc in
+    let made : ◌≡◌ {A = Total} (record { site = record { 0 = a.site.0 }; field = record { 0 = a.field.0 }; kind = a.kind; total = a.total })
+    (record { site = record { 0 = b.site.0 }; field = record { 0 = b.field.0 }; kind = b.kind; total = b.total }) = cc in
     made
 
 totals_equal : (as1 bs : List Total) → same_totals as1 bs ≡ true → as1 ≡ bs
@@ -239,7 +254,8 @@ totals_equal [] [] h = refl
 totals_equal [] (b ∷ bs) h = cc
 totals_equal (a ∷ as1) [] h = cc
 totals_equal (a ∷ as1) (b ∷ bs) h =
-    let p = five_parts (a.site.0 == b.site.0) (a.field.0 == b.field.0) (same_kind a.kind b.kind) (a.total == b.total) (same_totals as1 bs) h in
+    let p = five_parts (a.site.0 == b.site.0) (a.field.0 == b.field.0) (same_kind a.kind b.kind) (a.total == b.total)
+    (same_totals as1 bs) h in
     let head : a ≡ b = total_equal a b (eqb-true _ _ p.0) (eqb-true _ _ p.1) (same_kind-true _ _ p.2) (eqb-true _ _ p.3) in
     ap (λ (z : Total). z ∷ as1) head ∙ ap (λ (z : List Total). b ∷ z) (totals_equal as1 bs p.4)
   where
@@ -253,7 +269,8 @@ totals_equal (a ∷ as1) (b ∷ bs) h =
 
 cut_equal : (a b : Cut) → a.field.0 ≡ b.field.0 → a.kind ≡ b.kind → a.total ≡ b.total → a ≡ b
 cut_equal a b field kind total =
-    let made : ◌≡◌ {A = Cut} (record { field = record { 0 = a.field.0 }; kind = a.kind; total = a.total }) (record { field = record { 0 = b.field.0 }; kind = b.kind; total = b.total }) = cc in
+    let made : ◌≡◌ {A = Cut} (record { field = record { 0 = a.field.0 }; kind = a.kind; total = a.total })
+    (record { field = record { 0 = b.field.0 }; kind = b.kind; total = b.total }) = cc in
     made
 
 cuts_equal : (as1 bs : List Cut) → same_cuts as1 bs ≡ true → as1 ≡ bs
@@ -274,8 +291,10 @@ cuts_equal (a ∷ as1) (b ∷ bs) h =
 
 pub summary_equal : (v w : SummaryValue) → same_summary v w ≡ true → v ≡ w
 summary_equal v w h =
-    let o = and_parts ((v.epoch == w.epoch) && same_rights v.rights w.rights && same_totals v.gifts w.gifts && same_totals v.accepts w.accepts) (same_cuts v.tightenings w.tightenings) h in
-    let p = and_parts ((v.epoch == w.epoch) && same_rights v.rights w.rights && same_totals v.gifts w.gifts) (same_totals v.accepts w.accepts) o.0 in
+    let o = and_parts ((v.epoch == w.epoch) && same_rights v.rights w.rights && same_totals v.gifts w.gifts
+    && same_totals v.accepts w.accepts) (same_cuts v.tightenings w.tightenings) h in
+    let p = and_parts ((v.epoch == w.epoch) && same_rights v.rights w.rights && same_totals v.gifts w.gifts)
+    (same_totals v.accepts w.accepts) o.0 in
     let q = and_parts ((v.epoch == w.epoch) && same_rights v.rights w.rights) (same_totals v.gifts w.gifts) p.0 in
     let t = and_parts (v.epoch == w.epoch) (same_rights v.rights w.rights) q.0 in
     let e : v.epoch ≡ w.epoch = eqb-true _ _ t.0 in
@@ -283,7 +302,15 @@ summary_equal v w h =
     let b : v.gifts ≡ w.gifts = totals_equal _ _ q.1 in
     let c : v.accepts ≡ w.accepts = totals_equal _ _ p.1 in
     let d : v.tightenings ≡ w.tightenings = cuts_equal _ _ o.1 in
-    let made : ◌≡◌ {A = SummaryValue} (record { epoch = v.epoch; rights = v.rights; gifts = v.gifts; accepts = v.accepts; tightenings = v.tightenings }) (record { epoch = w.epoch; rights = w.rights; gifts = w.gifts; accepts = w.accepts; tightenings = w.tightenings }) = cc in
+    let made : ◌≡◌ {A = SummaryValue} (record {
+      epoch = v.epoch;
+      rights = v.rights;
+      gifts = v.gifts;
+      accepts = v.accepts;
+      tightenings =
+          v.tightenings;
+    }) (record { epoch = w.epoch; rights = w.rights; gifts = w.gifts; accepts = w.accepts; tightenings = w.tightenings })
+    = cc in
     made
 
 -- ---- where the totals of a summary stand
@@ -299,7 +326,8 @@ module _ (schema : SchemaValue) (s : ℕ) (F : ℕ → ℕ → Kind → ℕ) whe
   one_placed : (r f : ℕ) (k : Kind) → r < schema.sites → r ≢ s → f < length schema.fields → AllByRecursion Here (one_total F r f k)
   one_placed r f k site_in other field_in = by (F r f k == 0)
     where
-      by : (b : Bool) → AllByRecursion Here (cond b [] (record { site = record { 0 = r }; field = record { 0 = f }; kind = k; total = F r f k } ∷ []))
+      by : (b : Bool) → AllByRecursion Here (cond b []
+          (record { site = record { 0 = r }; field = record { 0 = f }; kind = k; total = F r f k } ∷ []))
       by true = tt
       by false = (record { site_in = site_in; other = other; field_in = field_in }, tt)
 
@@ -309,13 +337,15 @@ module _ (schema : SchemaValue) (s : ℕ) (F : ℕ → ℕ → Kind → ℕ) whe
   site_placed r (suc m) site_in other le =
       let in_ : m < length schema.fields = omega (arith, le) in
       all_append (totals_of_site F r m) (one_total F r m Lower ++ one_total F r m Raise) (site_placed r m site_in other (omega (arith, le)))
-      (all_append (one_total F r m Lower) (one_total F r m Raise) (one_placed r m Lower site_in other in_) (one_placed r m Raise site_in other in_))
+      (all_append (one_total F r m Lower) (one_total F r m Raise) (one_placed r m Lower site_in other in_)
+      (one_placed r m Raise site_in other in_))
 
   pub all_placed : (n : ℕ) → n ≤ schema.sites → AllByRecursion Here (totals_of F s (length schema.fields) n)
   unfolding totals_of
   all_placed zero le = tt
   all_placed (suc n) le =
-      all_append (totals_of F s (length schema.fields) n) (cond (n == s) [] (totals_of_site F n (length schema.fields))) (all_placed n (omega (arith, le))) (by (n == s) refl)
+      all_append (totals_of F s (length schema.fields) n) (cond (n == s) [] (totals_of_site F n (length schema.fields)))
+      (all_placed n (omega (arith, le))) (by (n == s) refl)
     where
       by : (b : Bool) → (n == s) ≡ b → AllByRecursion Here (cond b [] (totals_of_site F n (length schema.fields)))
       by true is = tt
@@ -339,9 +369,11 @@ summary_tells schema s rs =
     }
 
 -- a summary that may stand behind records tells what they stand for, and so what they and itself stand for
-pub lawful_tells : (schema : SchemaValue) (s : ℕ) (rs : List Record) (v : SummaryValue) → may_follow schema s rs (Summary v) ≡ true → TellsOf schema s v (rs ++ Summary v ∷ [])
+pub lawful_tells : (schema : SchemaValue) (s : ℕ) (rs : List Record) (v : SummaryValue) → may_follow schema s rs (Summary v) ≡ true
+    → TellsOf schema s v (rs ++ Summary v ∷ [])
 lawful_tells schema s rs v may =
-    let before : TellsOf schema s v rs = subst (λ (x : SummaryValue). TellsOf schema s x rs) (sym (summary_equal v (summary_of schema s rs) may)) (summary_tells schema s rs) in
+    let before : TellsOf schema s v rs = subst (λ (x : SummaryValue). TellsOf schema s x rs)
+    (sym (summary_equal v (summary_of schema s rs) may)) (summary_tells schema s rs) in
     let same : SameSums (rs ++ Summary v ∷ []) rs = same_summary_push rs rs v (same_sums rs) in
     record {
       epoch = before.epoch ∙ sym same.epoch;

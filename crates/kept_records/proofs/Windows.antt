@@ -32,7 +32,8 @@ data FirstLf (bytes : List ℕ) : Type 0 where
 
 one_more : (b : ℕ) (bytes : List ℕ) → eqb b 10 ≡ false → FirstLf bytes → FirstLf (b ∷ bytes)
 one_more b bytes other (never none) = never (or_from (eqb b 10) (list_any (λ x. eqb x 10) bytes) other none)
-one_more b bytes other (at front behind none is) = at (b ∷ front) behind (or_from (eqb b 10) (list_any (λ x. eqb x 10) front) other none) (ap (λ (l : List ℕ). b ∷ l) is)
+one_more b bytes other (at front behind none is) =
+    at (b ∷ front) behind (or_from (eqb b 10) (list_any (λ x. eqb x 10) front) other none) (ap (λ (l : List ℕ). b ∷ l) is)
 
 first_by : (b : ℕ) (bytes : List ℕ) → FirstLf bytes → (t : Bool) → eqb b 10 ≡ t → FirstLf (b ∷ bytes)
 first_by b bytes more true same = at [] bytes refl (ap (λ (x : ℕ). x ∷ bytes) (eqb-true b 10 same))
@@ -50,32 +51,47 @@ record Cut (rs : List Record) (rest behind : List ℕ) : Type 0 where
   bytes : behind ≡ flat_map text after ++ rest
   each : AllByRecursion IsRecord after
 
-cut_by : (r : Record) (rs : List Record) (rest front behind : List ℕ) → AllByRecursion IsRecord (r ∷ rs) → HasNoLf rest → flat_map text (r ∷ rs) ++ rest ≡ front ++ 10 ∷ behind
+cut_by : (r : Record) (rs : List Record) (rest front behind : List ℕ) → AllByRecursion IsRecord (r ∷ rs) → HasNoLf rest
+    → flat_map text (r ∷ rs) ++ rest ≡ front ++ 10 ∷ behind
     → ((f b : List ℕ) → flat_map text rs ++ rest ≡ f ++ 10 ∷ b → Cut rs rest b) → FirstLf front → Cut (r ∷ rs) rest behind
 cut_by r rs rest front behind each none is more (never without) =
-    let same = one_cut 10 (body r) front (flat_map text rs ++ rest) behind (body_without r each.0) without (sym (first_text r rs rest) ∙ is) in
+    let same = one_cut 10 (body r) front (flat_map text rs ++ rest) behind (body_without r each.0) without
+    (sym (first_text r rs rest) ∙ is) in
     record { before = r ∷ []; after = rs; parts = refl; bytes = sym same.rest; each = each.1 }
 cut_by r rs rest front behind each none is more (at f1 f2 without parts_) =
-    let longer : front ++ 10 ∷ behind ≡ f1 ++ 10 ∷ (f2 ++ 10 ∷ behind) = ap (λ (l : List ℕ). l ++ 10 ∷ behind) parts_ ∙ append_assoc f1 (10 ∷ f2) (10 ∷ behind) in
-    let same = one_cut 10 (body r) f1 (flat_map text rs ++ rest) (f2 ++ 10 ∷ behind) (body_without r each.0) without (sym (first_text r rs rest) ∙ is ∙ longer) in
+    let longer : front ++ 10 ∷ behind ≡ f1 ++ 10 ∷ (f2 ++ 10 ∷ behind) =
+    ap (λ (l : List ℕ). l ++ 10 ∷ behind) parts_ ∙ append_assoc f1 (10 ∷ f2) (10 ∷ behind) in
+    let same = one_cut 10 (body r) f1 (flat_map text rs ++ rest) (f2 ++ 10 ∷ behind) (body_without r each.0) without
+    (sym (first_text r rs rest) ∙ is ∙ longer) in
     let left = more f2 behind same.rest in
-    record { before = r ∷ left.before; after = left.after; parts = ap (λ (l : List Record). r ∷ l) left.parts; bytes = left.bytes; each = left.each }
+    record {
+      before = r ∷ left.before;
+      after = left.after;
+      parts = ap (λ (l : List Record). r ∷ l) left.parts;
+      bytes = left.bytes;
+      each =
+          left.each;
+    }
 
-cut_lf : (rs : List Record) (rest front behind : List ℕ) → AllByRecursion IsRecord rs → HasNoLf rest → flat_map text rs ++ rest ≡ front ++ 10 ∷ behind → Cut rs rest behind
+cut_lf : (rs : List Record) (rest front behind : List ℕ) → AllByRecursion IsRecord rs → HasNoLf rest
+    → flat_map text rs ++ rest ≡ front ++ 10 ∷ behind → Cut rs rest behind
 cut_lf [] rest front behind each none is =
     let t : list_any (λ x. eqb x 10) rest ≡ true = ap (list_any (λ x. eqb x 10)) is ∙ has_it 10 front behind in
     absurd cc
-cut_lf (r ∷ rs) rest front behind each none is = cut_by r rs rest front behind each none is (λ f b same. cut_lf rs rest f b each.1 none same) (first_lf front)
+cut_lf (r ∷ rs) rest front behind each none is = cut_by r rs rest front behind each none is
+    (λ f b same. cut_lf rs rest f b each.1 none same) (first_lf front)
 
 -- the first record is a summary
 abbrev StartsWithSummary : List Record → Type 0
 StartsWithSummary [] = ⊥
 StartsWithSummary (r ∷ rs) = is_summary r ≡ true
 
-starts : (rs : List Record) (rest after : List ℕ) → HasNoLf rest → list_any (λ x. eqb x 10) (83 ∷ after) ≡ true → 83 ∷ after ≡ flat_map text rs ++ rest → StartsWithSummary rs
+starts : (rs : List Record) (rest after : List ℕ) → HasNoLf rest → list_any (λ x. eqb x 10) (83 ∷ after) ≡ true
+    → 83 ∷ after ≡ flat_map text rs ++ rest → StartsWithSummary rs
 starts [] rest after none some is =
     let t : list_any (λ x. eqb x 10) rest ≡ true = ap (list_any (λ x. eqb x 10)) (sym is) ∙ some in absurd cc
-starts (r ∷ rs) rest after none some is = is_one r (flat_map text rs ++ rest) (ap (λ (l : List ℕ). get_or l 0 0) (sym (is ∙ append_assoc (text r) (flat_map text rs) rest)))
+starts (r ∷ rs) rest after none some is = is_one r (flat_map text rs ++ rest)
+    (ap (λ (l : List ℕ). get_or l 0 0) (sym (is ∙ append_assoc (text r) (flat_map text rs) rest)))
 
 -- the last records of a log, from a line on with a summary's letter, or all
 pub record LastAt (rs : List Record) (rest found : List ℕ) : Type 0 where
@@ -85,7 +101,8 @@ pub record LastAt (rs : List Record) (rest found : List ℕ) : Type 0 where
   pub start : (before ≡ []) ⊎ StartsWithSummary records
   pub log : IsLog found records rest
 
-summary_at : (bytes : List ℕ) (rs : List Record) (rest front after : List ℕ) → IsLog bytes rs rest → bytes ≡ front ++ 10 ∷ (83 ∷ after) → list_any (λ x. eqb x 10) (83 ∷ after) ≡ true → LastAt rs rest (83 ∷ after)
+summary_at : (bytes : List ℕ) (rs : List Record) (rest front after : List ℕ) → IsLog bytes rs rest → bytes ≡ front ++ 10 ∷ (83 ∷ after)
+    → list_any (λ x. eqb x 10) (83 ∷ after) ≡ true → LastAt rs rest (83 ∷ after)
 summary_at bytes rs rest front after log is some =
     let cut = cut_lf rs rest front (83 ∷ after) log.each log.no_lf (sym log.parts ∙ is) in
     record {
@@ -99,7 +116,8 @@ summary_at bytes rs rest front after log is some =
 -- ---- the end of the bytes
 
 -- the window starts where so many bytes are left out
-pub window_is : (bytes window : List ℕ) (most from : ℕ) → window ≡ last_bytes most bytes → from ≡ length bytes - length window → window ≡ drop from bytes
+pub window_is : (bytes window : List ℕ) (most from : ℕ) → window ≡ last_bytes most bytes → from ≡ length bytes - length window
+    → window ≡ drop from bytes
 window_is bytes window most from is from_is =
     let size : length window ≡ length bytes - (length bytes - most) = ap length is ∙ length-drop (length bytes - most) bytes in
     let same : from ≡ length bytes - most = omega (arith, size, from_is) in
@@ -109,7 +127,8 @@ at_drop : (bytes : List ℕ) (i b : ℕ) → i < length bytes → slice_index_or
 at_drop bytes i b less is = drop_more bytes i 0 less ∙ ap (λ (x : ℕ). x ∷ drop (i + 1) bytes) is
 
 -- a summary's line in the window
-pub window_last : (bytes window : List ℕ) (from start : ℕ) (rs : List Record) (rest : List ℕ) → window ≡ drop from bytes → IsSummaryLine window start → IsLog bytes rs rest → LastAt rs rest (drop start window)
+pub window_last : (bytes window : List ℕ) (from start : ℕ) (rs : List Record) (rest : List ℕ) → window ≡ drop from bytes
+    → IsSummaryLine window start → IsLog bytes rs rest → LastAt rs rest (drop start window)
 window_last bytes window from start rs rest is line log =
     let i : ℕ = start - 1 in
     let next : i + 1 ≡ start = omega (arith, line.some) in
@@ -117,14 +136,17 @@ window_last bytes window from start rs rest is line log =
     let at_start : drop start window ≡ 83 ∷ after = at_drop window start 83 line.within line.letter in
     let at_i : drop i window ≡ 10 ∷ drop (i + 1) window = at_drop window i 10 (omega (arith, line.within)) line.behind in
     let whole : window ≡ take i window ++ 10 ∷ (83 ∷ after) =
-    sym (take-append-drop i window) ∙ ap (λ (l : List ℕ). take i window ++ l) (at_i ∙ ap (λ (n : ℕ). 10 ∷ drop n window) next ∙ ap (λ (l : List ℕ). 10 ∷ l) at_start) in
+    sym (take-append-drop i window) ∙ ap (λ (l : List ℕ). take i window ++ l)
+    (at_i ∙ ap (λ (n : ℕ). 10 ∷ drop n window) next ∙ ap (λ (l : List ℕ). 10 ∷ l) at_start) in
     let all : bytes ≡ (take from bytes ++ take i window) ++ 10 ∷ (83 ∷ after) =
-    sym (take-append-drop from bytes) ∙ ap (λ (l : List ℕ). take from bytes ++ l) (sym is ∙ whole) ∙ sym (append_assoc (take from bytes) (take i window) (10 ∷ (83 ∷ after))) in
+    sym (take-append-drop from bytes) ∙ ap (λ (l : List ℕ). take from bytes ++ l) (sym is ∙ whole)
+    ∙ sym (append_assoc (take from bytes) (take i window) (10 ∷ (83 ∷ after))) in
     subst (λ (l : List ℕ). LastAt rs rest l) (sym at_start)
     (summary_at bytes rs rest (take from bytes ++ take i window) after log all (ap (list_any (λ x. eqb x 10)) (sym at_start) ∙ line.ends))
 
 -- all of them
-pub window_all : (bytes window : List ℕ) (from : ℕ) (rs : List Record) (rest : List ℕ) → window ≡ drop from bytes → from ≡ 0 → IsLog bytes rs rest → LastAt rs rest (drop 0 window)
+pub window_all : (bytes window : List ℕ) (from : ℕ) (rs : List Record) (rest : List ℕ) → window ≡ drop from bytes → from ≡ 0
+    → IsLog bytes rs rest → LastAt rs rest (drop 0 window)
 window_all bytes window from rs rest is none log = record {
   records = rs;
   before = [];
@@ -134,7 +156,8 @@ window_all bytes window from rs rest is none log = record {
 }
 
 -- what stands behind the place
-pub window_behind : (bytes window : List ℕ) (from place : ℕ) (before behind : List Record) (rest : List ℕ) → window ≡ drop from bytes → from ≤ place → IsLog bytes (before ++ behind) rest → length bytes < 2 ^ 64
+pub window_behind : (bytes window : List ℕ) (from place : ℕ) (before behind : List Record) (rest : List ℕ) → window ≡ drop from bytes
+    → from ≤ place → IsLog bytes (before ++ behind) rest → length bytes < 2 ^ 64
     → place ≡ told_length (length (flat_map text before)) → IsLog (drop (place - from) window) behind rest
 window_behind bytes window from place before behind rest is within log few place_is =
     let moved : drop (place - from) window ≡ drop place bytes =
@@ -144,7 +167,8 @@ window_behind bytes window from place before behind rest is within log few place
     drop_drop : (n m : ℕ) (xs : List ℕ) → drop m (drop n xs) ≡ drop (n + m) xs
     drop_drop n m xs = drop-drop m n xs
 
-pub window_start : (bytes window : List ℕ) (from start : ℕ) (rs : List Record) (rest : List ℕ) → window ≡ drop from bytes → IsSummaryLine window start ⊎ ((from ≡ 0) × (start ≡ 0)) → IsLog bytes rs rest
+pub window_start : (bytes window : List ℕ) (from start : ℕ) (rs : List Record) (rest : List ℕ) → window ≡ drop from bytes
+    → IsSummaryLine window start ⊎ ((from ≡ 0) × (start ≡ 0)) → IsLog bytes rs rest
     → LastAt rs rest (drop start window)
 window_start bytes window from start rs rest is (inl line) log = window_last bytes window from start rs rest is line log
 window_start bytes window from start rs rest is (inr front) log =
@@ -155,11 +179,14 @@ slice_all start window = take_all (length window - start) (drop start window) (o
 
 -- ---- the last summary, and what stands behind it
 
-starts_none : (records : List Record) (bytes rest : List ℕ) → IsLog bytes records rest → ((v : SummaryValue) (more : List ℕ) → bytes ≡ text (Summary v) ++ more → ⊥) → StartsWithSummary records → ⊥
+starts_none : (records : List Record) (bytes rest : List ℕ) → IsLog bytes records rest
+    → ((v : SummaryValue) (more : List ℕ) → bytes ≡ text (Summary v) ++ more → ⊥) → StartsWithSummary records → ⊥
 starts_none [] bytes rest log none is = is
-starts_none (r ∷ rs) bytes rest log none is = plain_first r rs bytes rest (log.parts ∙ append_assoc (text r) (flat_map text rs) rest) none is
+starts_none (r ∷ rs) bytes rest log none is = plain_first r rs bytes rest
+    (log.parts ∙ append_assoc (text r) (flat_map text rs) rest) none is
   where
-    plain_first : (r : Record) (rs : List Record) (bytes rest : List ℕ) → bytes ≡ text r ++ (flat_map text rs ++ rest) → ((v : SummaryValue) (more : List ℕ) → bytes ≡ text (Summary v) ++ more → ⊥) → is_summary r ≡ true → ⊥
+    plain_first : (r : Record) (rs : List Record) (bytes rest : List ℕ) → bytes ≡ text r ++ (flat_map text rs ++ rest)
+        → ((v : SummaryValue) (more : List ℕ) → bytes ≡ text (Summary v) ++ more → ⊥) → is_summary r ≡ true → ⊥
     plain_first (Summary v) rs bytes rest is none on = none v (flat_map text rs ++ rest) is
     plain_first (Commit txn es) rs bytes rest is none on = cc
     plain_first (Gift to f k t) rs bytes rest is none on = cc
@@ -167,7 +194,8 @@ starts_none (r ∷ rs) bytes rest log none is = plain_first r rs bytes rest (log
     plain_first (Tighten f k t) rs bytes rest is none on = cc
     plain_first (Restart epoch) rs bytes rest is none on = cc
 
-none_plain : (records : List Record) (bytes rest : List ℕ) → IsLog bytes records rest → (StartsWithSummary records → ⊥) → NoSummaryLine bytes → AllPlain records
+none_plain : (records : List Record) (bytes rest : List ℕ) → IsLog bytes records rest → (StartsWithSummary records → ⊥)
+    → NoSummaryLine bytes → AllPlain records
 none_plain [] bytes rest log apart none = tt
 none_plain (r ∷ rs) bytes rest log apart none = (off (is_summary r) apart, plain_after bytes r rs rest log none)
   where
@@ -179,7 +207,8 @@ no_before : (before records : List Record) → (before ≡ []) ⊎ StartsWithSum
 no_before before records (inl none) apart = none
 no_before before records (inr is) apart = absurd (apart is)
 
-holds : (rs : List Record) (rest bytes lines : List ℕ) (summary : Option SummaryValue) → LastAt rs rest bytes → NoSummaryLine bytes → HandsSummary bytes summary lines → HoldsLast rs rest summary lines
+holds : (rs : List Record) (rest bytes lines : List ℕ) (summary : Option SummaryValue) → LastAt rs rest bytes → NoSummaryLine bytes
+    → HandsSummary bytes summary lines → HoldsLast rs rest summary lines
 holds rs rest bytes lines None from none handed =
     let apart = starts_none from.records bytes rest from.log handed.0 in
     record {
@@ -207,7 +236,8 @@ holds rs rest bytes lines (Some v) from none handed =
 
 -- ---- what is read of the window
 
-module _ (bytes window : List ℕ) (most place from size : ℕ) (is_window : window ≡ last_bytes most bytes) (sized : size ≡ length bytes) (from_is : from ≡ size - length window) (few : size < 2 ^ 64) (parts : PartsAt bytes place) where
+module _ (bytes window : List ℕ) (most place from size : ℕ) (is_window : window ≡ last_bytes most bytes) (sized : size ≡ length bytes)
+    (from_is : from ≡ size - length window) (few : size < 2 ^ 64) (parts : PartsAt bytes place) where
   is : window ≡ drop from bytes
   is = window_is bytes window most from is_window (from_is ∙ ap (λ (n : ℕ). n - length window) sized)
 
@@ -220,15 +250,26 @@ module _ (bytes window : List ℕ) (most place from size : ℕ) (is_window : win
   within_size : length window ≤ size
   within_size = omega (arith, ap length is_window, length-drop (length bytes - most) bytes, sized)
 
-  pub behind_in : (n : ℕ) → from ≤ place → n ≤ length (take (length window - (place - from)) (drop (place - from) window)) → place + n ≤ size
-  behind_in n within few_ = omega (arith, few_, ap length (slice_all (place - from) window), length-drop (place - from) window, place_in, from_is, within, within_size)
+  pub behind_in : (n : ℕ) → from ≤ place → n ≤ length (take (length window - (place - from)) (drop (place - from) window))
+      → place + n ≤ size
+  behind_in n within few_ = omega (
+    arith,
+    few_,
+    ap length (slice_all (place - from) window),
+    length-drop (place - from) window,
+    place_in,
+    from_is,
+    within,
+    within_size,
+  )
 
   module _ (start : ℕ) (which : IsSummaryLine window start ⊎ ((from ≡ 0) × (start ≡ 0))) where
     abbrev slice : List ℕ
     slice = take (length window - start) (drop start window)
 
     last_at : (rs : List Record) (rest : List ℕ) → IsLog bytes rs rest → LastAt rs rest (take (length window - start) (drop start window))
-    last_at rs rest log = subst (λ (l : List ℕ). LastAt rs rest l) (sym (slice_all start window)) (window_start bytes window from start rs rest is which log)
+    last_at rs rest log = subst (λ (l : List ℕ). LastAt rs rest l) (sym (slice_all start window))
+        (window_start bytes window from start rs rest is which log)
 
     pub kept_start : IsKept (take (length window - start) (drop start window))
     kept_start = let here = last_at (parts.before ++ parts.behind) parts.rest parts.log in (here.records, parts.rest, here.log)
@@ -236,13 +277,16 @@ module _ (bytes window : List ℕ) (most place from size : ℕ) (is_window : win
     pub lines_are : (size : ℕ) → drop size (take (length window - start) (drop start window)) ≡ drop (start + size) window
     lines_are size = ap (drop size) (slice_all start window) ∙ drop-drop size start window
 
-    pub last_from : (summary : Option SummaryValue) (lines : List ℕ) → start ≤ length window → IsLastLine window start → HandsSummary (take (length window - start) (drop start window)) summary lines → AreLast bytes summary lines
+    pub last_from : (summary : Option SummaryValue) (lines : List ℕ) → start ≤ length window → IsLastLine window start
+        → HandsSummary (take (length window - start) (drop start window)) summary lines → AreLast bytes summary lines
     last_from summary lines within last handed rs rest log =
-        let none : NoSummaryLine (take (length window - start) (drop start window)) = subst NoSummaryLine (sym (slice_all start window)) (lines_behind window start within last) in
+        let none : NoSummaryLine (take (length window - start) (drop start window)) =
+        subst NoSummaryLine (sym (slice_all start window)) (lines_behind window start within last) in
         holds rs rest (take (length window - start) (drop start window)) lines summary (last_at rs rest log) none handed
 
   module _ (within : from ≤ place) where
-    at_place : (before behind : List Record) (rest : List ℕ) → IsLog bytes (before ++ behind) rest → place ≡ told_length (length (flat_map text before))
+    at_place : (before behind : List Record) (rest : List ℕ) → IsLog bytes (before ++ behind) rest
+        → place ≡ told_length (length (flat_map text before))
         → IsLog (take (length window - (place - from)) (drop (place - from) window)) behind rest
     at_place before behind rest log place_is =
         subst (λ (l : List ℕ). IsLog l behind rest) (sym (slice_all (place - from) window))
@@ -259,8 +303,10 @@ module _ (bytes window : List ℕ) (most place from size : ℕ) (is_window : win
       whole_is size_is rs rest log =
           let same = (same_log bytes (parts.before ++ parts.behind) rs parts.rest rest parts.log log).0 in
           let found_is = stand_behind parts.before parts.behind parts.rest parts.log parts.place_is in
-          let texts : length (flat_map text (parts.before ++ parts.behind)) ≡ length (flat_map text parts.before) + length (flat_map text parts.behind) =
-          ap length (flat_map-append text parts.before parts.behind) ∙ length-append (flat_map text parts.before) (flat_map text parts.behind) in
+          let texts : length (flat_map text (parts.before ++ parts.behind)) ≡ length (flat_map text parts.before)
+          + length (flat_map text parts.behind) =
+          ap length (flat_map-append text parts.before parts.behind)
+          ∙ length-append (flat_map text parts.before) (flat_map text parts.behind) in
           let exact : place ≡ length (flat_map text parts.before) =
           omega (arith, parts.place_is, inside bytes parts.before parts.behind parts.rest parts.log, few_bytes) in
           let long : place + n ≡ length (flat_map text (parts.before ++ parts.behind)) =
@@ -280,14 +326,17 @@ NoByteFrom c bytes n = (k : ℕ) → n ≤ k → k < length bytes → eqb (get_o
 pub no_lf_from : (bytes : List ℕ) (n : ℕ) → NoByteFrom 10 bytes n → HasNoLf (drop n bytes)
 no_lf_from bytes n none =
     list_any_none (λ x. eqb x 10) (drop n bytes) (All-from_get_or (λ x. eqb x 10 ≡ false) (drop n bytes) 0 (λ k less.
-    off (eqb (get_or (drop n bytes) k 0) 10) (λ is. none (n + k) (omega arith) (omega (arith, less, length-drop n bytes)) (ap (λ (x : ℕ). eqb x 10) (sym (get_or-drop n bytes k 0)) ∙ is))))
+    off (eqb (get_or (drop n bytes) k 0) 10) (λ is.
+    none (n + k) (omega arith) (omega (arith, less, length-drop n bytes))
+    (ap (λ (x : ℕ). eqb x 10) (sym (get_or-drop n bytes k 0)) ∙ is))))
   where
     off : (b : Bool) → (b ≡ true → ⊥) → b ≡ false
     off true apart = absurd (apart refl)
     off false apart = refl
 
 no_line_in : (bytes : List ℕ) (j : ℕ) → HasNoLf (drop j bytes) → IsSummaryLine bytes j → ⊥
-no_line_in bytes j none line = let t : list_any (λ x. eqb x 10) (drop j bytes) ≡ true = line.ends in let no : list_any (λ x. eqb x 10) (drop j bytes) ≡ false = none in cc
+no_line_in bytes j none line = let t : list_any (λ x. eqb x 10) (drop j bytes) ≡ true = line.ends in
+    let no : list_any (λ x. eqb x 10) (drop j bytes) ≡ false = none in cc
 
 -- no line ends in the bytes
 pub none_at_all : (bytes : List ℕ) → NoByteFrom 10 bytes 0 → NoneFrom bytes 0
@@ -308,20 +357,24 @@ none_behind_lf bytes w here none j low line = elim (cases_lt w j) [
 abbrev pub NoLetterBehind : List ℕ → ℕ → ℕ → Type 0
 NoLetterBehind bytes end n = (k : ℕ) → n ≤ k → k < length (take end bytes) → eqb (get_or (take end bytes) k 0) 83 ≡ true → ⊥
 
-pub none_behind_letter : (bytes : List ℕ) (end here : ℕ) → end ≤ length bytes → NoneFrom bytes end → NoLetterBehind bytes end (here + 1) → NoneFrom bytes (here + 1)
+pub none_behind_letter : (bytes : List ℕ) (end here : ℕ) → end ≤ length bytes → NoneFrom bytes end → NoLetterBehind bytes end (here + 1)
+    → NoneFrom bytes (here + 1)
 none_behind_letter bytes end here within none letters j low line = elim (cases_lt j end) [
-  | inl below ↦ letters j low (omega (arith, below, within, length-take end bytes)) (eq-eqb (get_or (take end bytes) j 0) 83 (get_or-take end bytes j 0 below ∙ line.letter))
+  | inl below ↦ letters j low (omega (arith, below, within, length-take end bytes))
+      (eq-eqb (get_or (take end bytes) j 0) 83 (get_or-take end bytes j 0 below ∙ line.letter))
   | inr past ↦ none j past line
 ]
 
 pub none_with_letters : (bytes : List ℕ) (end : ℕ) → end ≤ length bytes → NoneFrom bytes end → NoLetterBehind bytes end 0 → NoneFrom bytes 0
 none_with_letters bytes end within none letters j low line = elim (cases_lt j end) [
-  | inl below ↦ letters j low (omega (arith, below, within, length-take end bytes)) (eq-eqb (get_or (take end bytes) j 0) 83 (get_or-take end bytes j 0 below ∙ line.letter))
+  | inl below ↦ letters j low (omega (arith, below, within, length-take end bytes))
+      (eq-eqb (get_or (take end bytes) j 0) 83 (get_or-take end bytes j 0 below ∙ line.letter))
   | inr past ↦ none j past line
 ]
 
 -- the letter at this place starts no line
-pub none_at_letter : (bytes : List ℕ) (here : ℕ) → NoneFrom bytes (here + 1) → (0 < here → get_or bytes (here - 1) 0 ≡ 10 → ⊥) → NoneFrom bytes here
+pub none_at_letter : (bytes : List ℕ) (here : ℕ) → NoneFrom bytes (here + 1) → (0 < here → get_or bytes (here - 1) 0 ≡ 10 → ⊥)
+    → NoneFrom bytes here
 none_at_letter bytes here none apart j low line = elim (cases_lt here j) [
   | inl past ↦ none j (omega (arith, past)) line
   | inr back ↦
@@ -329,7 +382,8 @@ none_at_letter bytes here none apart j low line = elim (cases_lt here j) [
       apart (omega (arith, same, line.some)) (ap (λ (i : ℕ). get_or bytes (i - 1) 0) (sym same) ∙ line.behind)
 ]
 
-pub is_line : (bytes : List ℕ) (here end w : ℕ) → 0 < here → here < end → end ≤ w → w < length bytes → eqb (get_or bytes w 0) 10 ≡ true → get_or bytes (here - 1) 0 ≡ 10 → eqb (get_or (take end bytes) here 0) 83 ≡ true → IsSummaryLine bytes here
+pub is_line : (bytes : List ℕ) (here end w : ℕ) → 0 < here → here < end → end ≤ w → w < length bytes → eqb (get_or bytes w 0) 10 ≡ true
+    → get_or bytes (here - 1) 0 ≡ 10 → eqb (get_or (take end bytes) here 0) 83 ≡ true → IsSummaryLine bytes here
 is_line bytes here end w some below before within lf behind letter = record {
   some = some;
   within = omega (arith, below, before, within);
@@ -340,5 +394,6 @@ is_line bytes here end w some below before within lf behind letter = record {
       let n : ℕ = w - here in
       let there : here + n ≡ w = omega (arith, below, before) in
       let moved : drop n (drop here bytes) ≡ drop w bytes = drop-drop n here bytes ∙ ap (λ (i : ℕ). drop i bytes) there in
-      ap (list_any (λ x. eqb x 10)) (sym (take-append-drop n (drop here bytes)) ∙ ap (λ (l : List ℕ). take n (drop here bytes) ++ l) (moved ∙ at_w)) ∙ has_it 10 (take n (drop here bytes)) (drop (w + 1) bytes);
+      ap (list_any (λ x. eqb x 10)) (sym (take-append-drop n (drop here bytes))
+      ∙ ap (λ (l : List ℕ). take n (drop here bytes) ++ l) (moved ∙ at_w)) ∙ has_it 10 (take n (drop here bytes)) (drop (w + 1) bytes);
 }

@@ -151,7 +151,8 @@ groups_from gifts accepts cuts (l ∷ w ∷ v ∷ x ∷ y ∷ ws) =
       t ← cut_from (w ∷ v ∷ x ∷ [])
       groups_from gifts accepts (cuts ++ t ∷ []) (y ∷ ws)) else (do
         t ← total_from (w ∷ v ∷ x ∷ y ∷ [])
-        if is_next_accept l cuts then groups_from gifts (accepts ++ t ∷ []) cuts ws else (if is_next_gift l accepts cuts then groups_from (gifts ++ t ∷ []) accepts cuts ws else None))
+        if is_next_accept l cuts then groups_from gifts (accepts ++ t ∷ []) cuts ws
+            else (if is_next_gift l accepts cuts then groups_from (gifts ++ t ∷ []) accepts cuts ws else None))
 groups_from gifts accepts cuts ws = None
 
 -- An epoch, how many fields there are and the rights of each, the three groups, and no word more.
@@ -161,7 +162,9 @@ summary_from ws = do
   count ← word_at (number_within 1 max_fields) epoch.1
   rights ← rights_from count.0 [] count.1
   groups ← groups_from [] [] [] rights.1
-  if rises groups.0 && rises groups.1 && cuts_rise groups.2 then Some (Summary (record { epoch = epoch.0; rights = rights.0; gifts = groups.0; accepts = groups.1; tightenings = groups.2 })) else None
+  if rises groups.0 && rises groups.1 && cuts_rise groups.2
+      then Some (Summary (record { epoch = epoch.0; rights = rights.0; gifts = groups.0; accepts = groups.1; tightenings = groups.2 }))
+      else None
 
 -- ---- a line
 
@@ -173,7 +176,10 @@ letter_at (c ∷ d ∷ ds) = None
 
 -- The record of a letter, C (67), G (71), A (65), R (82), S (83) or T (84), and the words behind it.
 abbrev pub record_from : ℕ → List (List ℕ) → Option Record
-record_from letter ws = if letter == 67 then commit_from ws else (if letter == 71 then gift_from ws else (if letter == 65 then accept_from ws else (if letter == 82 then restart_from ws else (if letter == 83 then summary_from ws else (if letter == 84 then tighten_from ws else None)))))
+record_from letter ws = if letter == 67 then commit_from ws
+    else (if letter == 71 then gift_from ws else (if letter == 65 then accept_from ws
+    else (if letter == 82 then restart_from ws else
+    (if letter == 83 then summary_from ws else (if letter == 84 then tighten_from ws else None)))))
 
 -- The record that the words of a line spell.
 unfoldable pub record_of : List (List ℕ) → Option Record

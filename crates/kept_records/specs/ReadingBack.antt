@@ -26,7 +26,8 @@ pub record PartsAt (bytes : List ℕ) (place : ℕ) : Type 0 where
 -- These are all the records of a log that stand behind the place.
 abbrev pub AreBehind : List ℕ → ℕ → List Record → Type 0
 AreBehind bytes place found =
-    (before behind : List Record) (rest : List ℕ) → IsLog bytes (before ++ behind) rest → place ≡ told_length (length (flat_map text before)) → found ≡ behind
+    (before behind : List Record) (rest : List ℕ) → IsLog bytes (before ++ behind) rest
+    → place ≡ told_length (length (flat_map text before)) → found ≡ behind
 
 -- These records, behind the summary where there is one.
 abbrev pub with_summary : Option SummaryValue → List Record → List Record

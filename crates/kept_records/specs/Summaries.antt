@@ -43,7 +43,8 @@ pub record TellsOf (schema : SchemaValue) (s : ℕ) (v : SummaryValue) (rs : Lis
   pub count : length v.rights ≡ length schema.fields
   pub rights : (f : ℕ) (k : Kind) → f < length schema.fields → rights_told v.rights f k ≡ own_in schema s rs f k
   pub given : (r f : ℕ) (k : Kind) → r < schema.sites → r ≢ s → f < length schema.fields → total_told v.gifts r f k ≡ given_in rs r f k
-  pub accepted : (r f : ℕ) (k : Kind) → r < schema.sites → r ≢ s → f < length schema.fields → total_told v.accepts r f k ≡ accepted_in rs r f k
+  pub accepted : (r f : ℕ) (k : Kind) → r < schema.sites → r ≢ s → f < length schema.fields
+      → total_told v.accepts r f k ≡ accepted_in rs r f k
   pub cut : (f : ℕ) (k : Kind) → f < length schema.fields → cut_told v.tightenings f k ≡ cut_in rs f k
   pub gifts_placed : AllByRecursion (λ t. IsWhereDue schema s t) v.gifts
   pub accepts_placed : AllByRecursion (λ t. IsWhereDue schema s t) v.accepts

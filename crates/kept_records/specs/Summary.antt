@@ -82,7 +82,8 @@ kind_number Raise = 1
 abbrev pub is_before : Total → Total → Bool
 is_before a b =
     nat_lt a.site.0 b.site.0
-    || ((a.site.0 == b.site.0) && (nat_lt a.field.0 b.field.0 || ((a.field.0 == b.field.0) && nat_lt (kind_number a.kind) (kind_number b.kind))))
+    || ((a.site.0 == b.site.0) && (nat_lt a.field.0 b.field.0
+    || ((a.field.0 == b.field.0) && nat_lt (kind_number a.kind) (kind_number b.kind))))
 
 abbrev pub rises : List Total → Bool
 rises [] = true

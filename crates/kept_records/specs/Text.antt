@@ -55,7 +55,8 @@ cuts_words (t ∷ ts) = (116 ∷ []) ∷ cut_words t.field t.kind t.total ++ cut
 -- what was given (g, 103), what was accepted (a, 97) and what was given up.
 abbrev pub summary_words : SummaryValue → List (List ℕ)
 summary_words v =
-    decimal v.epoch ∷ decimal (length v.rights) ∷ (rights_words v.rights ++ (group_words 103 v.gifts ++ (group_words 97 v.accepts ++ cuts_words v.tightenings)))
+    decimal v.epoch ∷ decimal (length v.rights) ∷ (rights_words v.rights
+    ++ (group_words 103 v.gifts ++ (group_words 97 v.accepts ++ cuts_words v.tightenings)))
 
 -- The letter of a record: C (67), G (71), A (65), T (84), R (82) or S (83).
 abbrev pub letter_of : Record → ℕ

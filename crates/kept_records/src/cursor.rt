@@ -12,9 +12,9 @@ use field_bounds::Escrow;
 use std::alloc::{AllocError, Global};
 use std::marker::Model;
 
-/// A cursor over the bytes of a log. It hands out one record after another, each read from its line as
-/// it is asked for, and no list of them is made. The memory of a commit's escrows can be given back, and
-/// serves the next commit. Contracts see the bytes that are left.
+/// A cursor over the bytes of a log. It hands out one record after another, each read from its line
+/// as it is asked for, and no list of them is made. The memory of a commit's escrows can be given
+/// back, and serves the next commit. Contracts see the bytes that are left.
 #[derive(Drop)]
 pub struct Cursor<'a> {
     left: &'a [u8],
@@ -47,15 +47,16 @@ impl<'a> Cursor<'a> {
         self.left.len()
     }
 
-    /// Takes the next record, whose line is then behind the cursor, or tells None where no line ends in
-    /// the bytes that are left. The bytes are a log. The error is want of memory; it leaves the cursor
-    /// where it was. Costs a pass over the line. Memory is taken for a summary, and for the escrows of a
-    /// commit that has more of them than each one before that was given back.
+    /// Takes the next record, whose line is then behind the cursor, or tells None where no line
+    /// ends in the bytes that are left. The bytes are a log. The error is want of memory; it leaves
+    /// the cursor where it was. Costs a pass over the line. Memory is taken for a summary, and for
+    /// the escrows of a commit that has more of them than each one before that was given back.
     pub fn next(&mut self, alloc: Global) -> Result<Option<Record>, AllocError>
         requires log { IsKept self.old }
         ensures handed { IfOk result (λ next. HandsOut self.old next self.new) }
         ensures log { IfOk result (λ _. IsKept self.new) }
-        ensures shorter { IfOk result (λ next. IfSome next (λ _. length self.new < length self.old)) }
+        ensures shorter { IfOk result (λ next. IfSome next
+            (λ _. length self.new < length self.old)) }
         ensures stays { OnErr result (self.new ≡ self.old) }
     {
         let Some(end) = line_feed(self.left) else {
@@ -71,8 +72,8 @@ impl<'a> Cursor<'a> {
         }
     }
 
-    /// Takes the next record where it is a summary. The same is said of the bytes, the error and the
-    /// cost as of `next`.
+    /// Takes the next record where it is a summary. The same is said of the bytes, the error and
+    /// the cost as of `next`.
     pub fn next_summary(&mut self, alloc: Global) -> Result<Option<Summary>, AllocError>
         requires log { IsKept self.old }
         ensures handed { IfOk result (λ next. HandsSummary self.old next self.new) }

@@ -119,8 +119,9 @@ fn handed_out(alloc: Global, lines: &[u8]) -> Option<u64>
     Some(count)
 }
 
-/// What the end of a log is read as, with all records behind the place: the epoch of the last summary;
-/// how many records stand behind it, and in all; and the length of the records and of all bytes.
+/// What the end of a log is read as, with all records behind the place: the epoch of the last
+/// summary; how many records stand behind it, and in all; and the length of the records and of all
+/// bytes.
 fn told_back(alloc: Global, text: &str) -> Option<(Option<u32>, (u64, usize), (usize, usize))> {
     let mut medium = MemoryMedium::new(log_of(alloc, text)?);
     let read = read_back(alloc, &mut medium, 0).ok()?;

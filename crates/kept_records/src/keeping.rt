@@ -30,8 +30,8 @@ pub struct ReadLog {
 
 /// Reads the log that a medium holds: bytes that are the texts of some records, and behind them
 /// perhaps a torn record. These are all its records, and the torn record takes up the bytes from
-/// `whole` up to `present`. The bytes stay as they are. The errors are a fault of the device and want
-/// of memory. Costs a pass over the bytes, and memory for the bytes and the records.
+/// `whole` up to `present`. The bytes stay as they are. The errors are a fault of the device and
+/// want of memory. Costs a pass over the bytes, and memory for the bytes and the records.
 pub fn read_log<M: Medium>(alloc: Global, medium: &mut M) -> Result<ReadLog, MediumFault>
     requires log { IsKept (M.bytes medium.old) }
     ensures reads { IfOk result (λ read. Reads (M.bytes medium.old) read.records.items read.whole) }
@@ -39,7 +39,8 @@ pub fn read_log<M: Medium>(alloc: Global, medium: &mut M) -> Result<ReadLog, Med
     ensures whole { IfOk result (λ read. read.whole ≡ length (flat_map text read.records.items)) }
     ensures present { IfOk result (λ read. read.present ≡ length (M.bytes medium.old)) }
     ensures within { IfOk result (λ read. read.whole ≤ read.present) }
-    ensures torn { IfOk result (λ read. (rs : List Record) (rest : List ℕ) → IsLog (M.bytes medium.old) rs rest → read.present ≡ read.whole + length rest) }
+    ensures torn { IfOk result (λ read. (rs : List Record) (rest : List ℕ)
+        → IsLog (M.bytes medium.old) rs rest → read.present ≡ read.whole + length rest) }
     ensures bytes { M.bytes medium.new ≡ M.bytes medium.old }
     ensures failed { CountsRead result (M.failed medium.old) (M.failed medium.new) }
     ensures foretold { ReadFate (M.foretold medium.old) result (M.foretold medium.new) }
@@ -58,18 +59,20 @@ pub fn read_log<M: Medium>(alloc: Global, medium: &mut M) -> Result<ReadLog, Med
 
 /// Adds a record behind the bytes of a medium. The inner result tells how it went: Ok where the
 /// record's whole text stands there; its error is a fault of the device, which leaves some front of
-/// the text: none of it, a part, or all. The outer error is want of memory, which leaves the medium as
-/// it was. The record's numbers have to lie in the ranges that `Record` tells. The text is made in
-/// `line`, whatever that held, and its memory is used again: record after record costs none for the
-/// text but where one is longer than each before it.
+/// the text: none of it, a part, or all. The outer error is want of memory, which leaves the medium
+/// as it was. The record's numbers have to lie in the ranges that `Record` tells. The text is made
+/// in `line`, whatever that held, and its memory is used again: record after record costs none for
+/// the text but where one is longer than each before it.
 pub fn append_record<M: Medium>(
     line: &mut Vec<u8>,
     medium: &mut M,
     kept: &Record,
 ) -> Result<Result<(), Device>, AllocError>
     requires ranges { IsRecord kept.now }
-    ensures added { IfOk result (λ added. Appends added (M.bytes medium.old) (text kept.now) (M.bytes medium.new) (M.failed medium.old) (M.failed medium.new)) }
-    ensures fate { IfOk result (λ added. AppendFate (M.foretold medium.old) (M.bytes medium.old) (text kept.now) added (M.bytes medium.new) (M.foretold medium.new)) }
+    ensures added { IfOk result (λ added. Appends added (M.bytes medium.old) (text kept.now)
+        (M.bytes medium.new) (M.failed medium.old) (M.failed medium.new)) }
+    ensures fate { IfOk result (λ added. AppendFate (M.foretold medium.old) (M.bytes medium.old)
+        (text kept.now) added (M.bytes medium.new) (M.foretold medium.new)) }
     ensures bytes { OnErr result (M.bytes medium.new ≡ M.bytes medium.old) }
     ensures failed { OnErr result (M.failed medium.new ≡ M.failed medium.old) }
     ensures foretold { OnErr result (M.foretold medium.new ≡ M.foretold medium.old) }
@@ -80,12 +83,12 @@ pub fn append_record<M: Medium>(
     Ok(medium.append(line))
 }
 
-/// Adds a record behind the bytes of a medium, and in the same piece, with one call of the medium, the
-/// summary that is due behind it. The inner result tells how it went: Ok where the whole text of the
-/// piece stands there; its error is a fault of the device, which leaves some front of that text: none
-/// of it, a part, or all. The outer error is want of memory, which leaves the medium as it was. The
-/// numbers of both have to lie in the ranges that `Record` tells. The text is made in `line`, whatever
-/// that held, and its memory is used again.
+/// Adds a record behind the bytes of a medium, and in the same piece, with one call of the medium,
+/// the summary that is due behind it. The inner result tells how it went: Ok where the whole text
+/// of the piece stands there; its error is a fault of the device, which leaves some front of that
+/// text: none of it, a part, or all. The outer error is want of memory, which leaves the medium as
+/// it was. The numbers of both have to lie in the ranges that `Record` tells. The text is made in
+/// `line`, whatever that held, and its memory is used again.
 pub fn append_piece<M: Medium>(
     line: &mut Vec<u8>,
     medium: &mut M,
@@ -93,8 +96,12 @@ pub fn append_piece<M: Medium>(
     due: Option<Summary>,
 ) -> Result<Result<(), Device>, AllocError>
     requires ranges { AllByRecursion IsRecord (with_due kept.now due) }
-    ensures added { IfOk result (λ added. Appends added (M.bytes medium.old) (flat_map text (with_due kept.now due)) (M.bytes medium.new) (M.failed medium.old) (M.failed medium.new)) }
-    ensures fate { IfOk result (λ added. AppendFate (M.foretold medium.old) (M.bytes medium.old) (flat_map text (with_due kept.now due)) added (M.bytes medium.new) (M.foretold medium.new)) }
+    ensures added { IfOk result (λ added. Appends added (M.bytes medium.old)
+        (flat_map text (with_due kept.now due)) (M.bytes medium.new) (M.failed medium.old)
+        (M.failed medium.new)) }
+    ensures fate { IfOk result (λ added. AppendFate (M.foretold medium.old) (M.bytes medium.old)
+        (flat_map text (with_due kept.now due)) added (M.bytes medium.new)
+        (M.foretold medium.new)) }
     ensures line { IfOk result (λ _. line.new.items ≡ flat_map text (with_due kept.now due)) }
     ensures bytes { OnErr result (M.bytes medium.new ≡ M.bytes medium.old) }
     ensures failed { OnErr result (M.failed medium.new ≡ M.failed medium.old) }
@@ -116,8 +123,10 @@ fn cut_and_append<M: Medium>(
     requires room { length line.now ≤ M.room medium.old }
     requires present { present ≡ length (M.bytes medium.old) }
     requires within { whole ≤ present }
-    ensures added { CutsAndAppends result whole (M.bytes medium.old) line.now (M.bytes medium.new) (M.failed medium.old) (M.failed medium.new) }
-    ensures fate { CutAndAppendFate (M.foretold medium.old) whole (M.bytes medium.old) line.now result (M.bytes medium.new) (M.foretold medium.new) }
+    ensures added { CutsAndAppends result whole (M.bytes medium.old) line.now (M.bytes medium.new)
+        (M.failed medium.old) (M.failed medium.new) }
+    ensures fate { CutAndAppendFate (M.foretold medium.old) whole
+        (M.bytes medium.old) line.now result (M.bytes medium.new) (M.foretold medium.new) }
 {
     if whole < present {
         medium.cut(whole)?;
@@ -125,13 +134,13 @@ fn cut_and_append<M: Medium>(
     medium.append(line)
 }
 
-/// Cuts the torn end of a medium, where it has one, and adds the record of a restart. `whole` is the
-/// length of the whole records, and `present` that of all bytes, as `read_log` answers them. The
-/// inner result tells how it went: Ok where the record stands behind the whole ones; its error is a
-/// fault of the device, which leaves the bytes as they were, or the whole records and some front of
-/// the record's text. The outer error is want of memory, which leaves the medium as it was. The epoch
-/// is 1 to 1,000,000,000. The text is made in `line`, whatever that held, and its memory is used
-/// again.
+/// Cuts the torn end of a medium, where it has one, and adds the record of a restart. `whole` is
+/// the length of the whole records, and `present` that of all bytes, as `read_log` answers them.
+/// The inner result tells how it went: Ok where the record stands behind the whole ones; its error
+/// is a fault of the device, which leaves the bytes as they were, or the whole records and some
+/// front of the record's text. The outer error is want of memory, which leaves the medium as it
+/// was. The epoch is 1 to 1,000,000,000. The text is made in `line`, whatever that held, and its
+/// memory is used again.
 pub fn append_restart<M: Medium>(
     line: &mut Vec<u8>,
     medium: &mut M,
@@ -143,8 +152,11 @@ pub fn append_restart<M: Medium>(
     requires within { whole ≤ present }
     requires some { 0 < epoch }
     requires most { epoch ≤ max_epoch }
-    ensures added { IfOk result (λ added. CutsAndAppends added whole (M.bytes medium.old) (text (Restart epoch)) (M.bytes medium.new) (M.failed medium.old) (M.failed medium.new)) }
-    ensures fate { IfOk result (λ added. CutAndAppendFate (M.foretold medium.old) whole (M.bytes medium.old) (text (Restart epoch)) added (M.bytes medium.new) (M.foretold medium.new)) }
+    ensures added { IfOk result (λ added. CutsAndAppends added whole (M.bytes medium.old)
+        (text (Restart epoch)) (M.bytes medium.new) (M.failed medium.old) (M.failed medium.new)) }
+    ensures fate { IfOk result (λ added. CutAndAppendFate (M.foretold medium.old) whole
+        (M.bytes medium.old) (text (Restart epoch)) added (M.bytes medium.new)
+        (M.foretold medium.new)) }
     ensures bytes { OnErr result (M.bytes medium.new ≡ M.bytes medium.old) }
     ensures failed { OnErr result (M.failed medium.new ≡ M.failed medium.old) }
     ensures foretold { OnErr result (M.foretold medium.new ≡ M.foretold medium.old) }
@@ -155,14 +167,14 @@ pub fn append_restart<M: Medium>(
     Ok(cut_and_append(medium, whole, present, line))
 }
 
-/// Cuts the torn end of a medium, where it has one, and adds the record of a restart, and in the same
-/// piece, with one call of the medium, the summary that is due behind it. `whole` is the length of the
-/// whole records, and `present` that of all bytes, as `read_log` answers them. The inner result tells
-/// how it went: Ok where the piece stands behind the whole records; its error is a fault of the device,
-/// which leaves the bytes as they were, or the whole records and some front of the piece's text. The
-/// outer error is want of memory, which leaves the medium as it was. The epoch is 1 to
-/// 1,000,000,000, and the summary's numbers lie in the ranges that `Record` tells. The text is made in
-/// `line`, whatever that held, and its memory is used again.
+/// Cuts the torn end of a medium, where it has one, and adds the record of a restart, and in the
+/// same piece, with one call of the medium, the summary that is due behind it. `whole` is the
+/// length of the whole records, and `present` that of all bytes, as `read_log` answers them. The
+/// inner result tells how it went: Ok where the piece stands behind the whole records; its error is
+/// a fault of the device, which leaves the bytes as they were, or the whole records and some front
+/// of the piece's text. The outer error is want of memory, which leaves the medium as it was. The
+/// epoch is 1 to 1,000,000,000, and the summary's numbers lie in the ranges that `Record` tells.
+/// The text is made in `line`, whatever that held, and its memory is used again.
 pub fn append_restart_piece<M: Medium>(
     line: &mut Vec<u8>,
     medium: &mut M,
@@ -174,9 +186,14 @@ pub fn append_restart_piece<M: Medium>(
     requires present { present ≡ length (M.bytes medium.old) }
     requires within { whole ≤ present }
     requires ranges { AllByRecursion IsRecord (with_due (Restart epoch) due) }
-    ensures added { IfOk result (λ added. CutsAndAppends added whole (M.bytes medium.old) (flat_map text (with_due (Restart epoch) due)) (M.bytes medium.new) (M.failed medium.old) (M.failed medium.new)) }
-    ensures fate { IfOk result (λ added. CutAndAppendFate (M.foretold medium.old) whole (M.bytes medium.old) (flat_map text (with_due (Restart epoch) due)) added (M.bytes medium.new) (M.foretold medium.new)) }
-    ensures line { IfOk result (λ _. line.new.items ≡ flat_map text (with_due (Restart epoch) due)) }
+    ensures added { IfOk result (λ added. CutsAndAppends added whole (M.bytes medium.old)
+        (flat_map text (with_due (Restart epoch) due)) (M.bytes medium.new) (M.failed medium.old)
+        (M.failed medium.new)) }
+    ensures fate { IfOk result (λ added. CutAndAppendFate (M.foretold medium.old) whole
+        (M.bytes medium.old) (flat_map text (with_due (Restart epoch) due)) added
+        (M.bytes medium.new) (M.foretold medium.new)) }
+    ensures line { IfOk result (λ _. line.new.items
+        ≡ flat_map text (with_due (Restart epoch) due)) }
     ensures bytes { OnErr result (M.bytes medium.new ≡ M.bytes medium.old) }
     ensures failed { OnErr result (M.failed medium.new ≡ M.failed medium.old) }
     ensures foretold { OnErr result (M.foretold medium.new ≡ M.foretold medium.old) }

@@ -52,8 +52,10 @@ pub(crate) fn line_feed(bytes: &[u8]) -> Option<usize>
 /// is the text of no record. The error is want of memory. Costs a pass over the bytes, and memory
 /// for the records.
 pub fn read_front(alloc: Global, bytes: &[u8]) -> Result<Front, AllocError>
-    ensures front { IfOk result (λ front. AreGoodRecords bytes.now front.records.items front.length front.bad_line) }
-    ensures length { IfOk result (λ front. front.length ≡ length (flat_map text front.records.items)) }
+    ensures front { IfOk result (λ front. AreGoodRecords bytes.now front.records.items front.length
+        front.bad_line) }
+    ensures length { IfOk result (λ front. front.length
+        ≡ length (flat_map text front.records.items)) }
 {
     let mut records = Vec::new(alloc);
     let mut spare = Vec::new(alloc);
@@ -84,10 +86,11 @@ pub fn read_front(alloc: Global, bytes: &[u8]) -> Result<Front, AllocError>
 }
 
 /// The records whose texts the bytes are, and the length of these texts in bytes: up to and with
-/// the last line feed. What lies behind it is a torn record, whatever it is, and is left out. A line
-/// up to and with its line feed that is the text of no record is the fault `Line`, counted from 1,
-/// and the lines before it are records; so bytes that are a log are never refused for a line. The
-/// other fault is want of memory. Costs a pass over the bytes, and memory for the records.
+/// the last line feed. What lies behind it is a torn record, whatever it is, and is left out. A
+/// line up to and with its line feed that is the text of no record is the fault `Line`, counted
+/// from 1, and the lines before it are records; so bytes that are a log are never refused for a
+/// line. The other fault is want of memory. Costs a pass over the bytes, and memory for the
+/// records.
 pub fn read_records(alloc: Global, bytes: &[u8]) -> Result<(Vec<Record>, usize), RecordFault>
     ensures reads { IfOk result (λ read. Reads bytes.now read.0.items read.1) }
     ensures only { IfOk result (λ read. AreAll bytes.now read.0.items read.1) }

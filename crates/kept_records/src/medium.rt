@@ -106,7 +106,8 @@ pub trait Medium {
         ensures ok { OnOk result (bytes self.new ≡ bytes self.old ++ piece.now) }
         ensures err { OnErr result (IsCutShort (bytes self.old) piece.now (bytes self.new)) }
         ensures failed { Counts result (failed self.old) (failed self.new) }
-        ensures foretold { AppendFate (foretold self.old) (bytes self.old) piece.now result (bytes self.new) (foretold self.new) };
+        ensures foretold { AppendFate (foretold self.old) (bytes self.old) piece.now result
+            (bytes self.new) (foretold self.new) };
 
     /// Drops the bytes behind the first `kept`, which may be at most as many as there are. The
     /// error is a fault of the device, which leaves the bytes as they were. Takes no memory, and

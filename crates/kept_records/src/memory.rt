@@ -19,7 +19,11 @@ impl Model for MemoryMedium {
 
     ghost Value = { Memory };
 
-    ghost view = { λ m. record { bytes = m.held.items; room = vec_capacity m.held - vec_len m.held } };
+    ghost view = { λ m. record {
+      bytes = m.held.items;
+      room =
+          vec_capacity m.held - vec_len m.held;
+    } };
 }
 
 impl MemoryMedium {

@@ -224,8 +224,8 @@ fn take_commit(
     }
 }
 
-/// The record whose text is the line and a line feed. A commit's escrows are put into the spare memory,
-/// whatever it held.
+/// The record whose text is the line and a line feed. A commit's escrows are put into the spare
+/// memory, whatever it held.
 #[tactic(auto, unfolding(crate::specs::Reading::record_of))]
 pub(crate) fn read_line(
     alloc: Global,

@@ -23,8 +23,8 @@ use std::marker::Model;
 /// How many bytes are read at first. Where they don't tell all, twice as many are read.
 const FIRST_READ: usize = 16_384;
 
-/// The lines of a log behind its last summary, or all of them, with what is torn behind them. Contracts
-/// see their bytes.
+/// The lines of a log behind its last summary, or all of them, with what is torn behind them.
+/// Contracts see their bytes.
 #[derive(Drop)]
 pub struct LastLines {
     held: Vec<u8>,
@@ -96,10 +96,11 @@ fn last_summary(bytes: &[u8]) -> Option<usize>
     None
 }
 
-/// Where to read the last records from, in the end of a log that starts behind so many bytes: from its
-/// last whole summary on, or from the front.
+/// Where to read the last records from, in the end of a log that starts behind so many bytes: from
+/// its last whole summary on, or from the front.
 fn start_in(bytes: &[u8], from: usize) -> Option<usize>
-    ensures start { IfSome result (λ start. IsSummaryLine bytes.now start ⊎ ((from ≡ 0) × (start ≡ 0))) }
+    ensures start { IfSome result (λ start. IsSummaryLine bytes.now start
+        ⊎ ((from ≡ 0) × (start ≡ 0))) }
     ensures last { IfSome result (λ start. IsLastLine bytes.now start) }
     ensures within { IfSome result (λ start. start ≤ length bytes.now) }
     ensures none { result ≡ None → 0 < from }
@@ -124,11 +125,12 @@ fn first_summary(alloc: Global, bytes: &[u8]) -> Result<(Option<Summary>, usize)
     }
 }
 
-/// What the end of a log tells, where it reaches back to the place and to a whole summary, or is all
-/// of the log.
+/// What the end of a log tells, where it reaches back to the place and to a whole summary, or is
+/// all of the log.
 fn take_end(alloc: Global, end: End, place: usize) -> Result<Option<ReadBack>, MediumFault>
     requires ends { (bytes : List ℕ) × (most : ℕ) × EndsAt bytes most place end }
-    ensures reads { IfOk result (λ read. IfSome read (λ told. (bytes : List ℕ) (most : ℕ) → EndsAt bytes most place end → ReadsEnd bytes place told)) }
+    ensures reads { IfOk result (λ read. IfSome read (λ told. (bytes : List ℕ) (most : ℕ)
+        → EndsAt bytes most place end → ReadsEnd bytes place told)) }
     ensures more { IfOk result (λ read. read ≡ None → length end.bytes.items < end.length) }
     ensures fault { IfErr result (λ fault. fault ≡ NoMemory) }
 {
@@ -153,15 +155,15 @@ fn take_end(alloc: Global, end: End, place: usize) -> Result<Option<ReadBack>, M
     }))
 }
 
-/// Reads the end of the log that a medium holds: its last whole summary and the lines behind it, or all
-/// lines where it has none; and the records that stand behind a place, in bytes, where the texts of some
-/// records end. A torn record takes up the bytes from `whole` up to `present`. The bytes stay as they
-/// are. The errors are a fault of the device and want of memory.
+/// Reads the end of the log that a medium holds: its last whole summary and the lines behind it, or
+/// all lines where it has none; and the records that stand behind a place, in bytes, where the
+/// texts of some records end. A torn record takes up the bytes from `whole` up to `present`. The
+/// bytes stay as they are. The errors are a fault of the device and want of memory.
 ///
-/// Reads 16,384 bytes, and while these don't reach back to a whole summary and to the place, twice as
-/// many, up to all. Costs a look for the summary, and a pass over it and over the bytes behind the place;
-/// and memory for the bytes that are read, for the summary and for the records behind the place. The
-/// lines behind the summary aren't read as records: a `Cursor` does that.
+/// Reads 16,384 bytes, and while these don't reach back to a whole summary and to the place, twice
+/// as many, up to all. Costs a look for the summary, and a pass over it and over the bytes behind
+/// the place; and memory for the bytes that are read, for the summary and for the records behind
+/// the place. The lines behind the summary aren't read as records: a `Cursor` does that.
 pub fn read_back<M: Medium>(
     alloc: Global,
     medium: &mut M,

@@ -77,8 +77,8 @@ pub enum Record {
         kind: Kind,
         total: u64,
     },
-    /// Rights of a kind on a field were given up for good. `total` is all that was given up of them so
-    /// far, 1 to 2,000,000,000,000,000 rights.
+    /// Rights of a kind on a field were given up for good. `total` is all that was given up of them
+    /// so far, 1 to 2,000,000,000,000,000 rights.
     Tighten {
         field: FieldNo,
         kind: Kind,
@@ -88,7 +88,7 @@ pub enum Record {
     Restart {
         epoch: u32,
     },
-    /// What the records before it stand for. It tells nothing new: a log stands for the same with it
-    /// and without it, and what it tells needn't be read again.
+    /// What the records before it stand for. It tells nothing new: a log stands for the same with
+    /// it and without it, and what it tells needn't be read again.
     Summary(Summary),
 }

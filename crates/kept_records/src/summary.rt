@@ -5,9 +5,9 @@ ghost use Rattle.std.specs.Prelude.{◌≡◌};
 use crate::total::{Cut, Total};
 use std::marker::Model;
 
-/// What records stand for: the epoch, the own rights of each field, to lower and to raise it, and the
-/// totals given to and accepted from other sites that are above 0, each group rising strictly by
-/// site, field and kind, and the totals given up for good, rising strictly by field and kind.
+/// What records stand for: the epoch, the own rights of each field, to lower and to raise it, and
+/// the totals given to and accepted from other sites that are above 0, each group rising strictly
+/// by site, field and kind, and the totals given up for good, rising strictly by field and kind.
 /// Contracts see lists.
 #[derive(Drop)]
 pub struct Summary {
@@ -23,7 +23,13 @@ impl Model for Summary {
 
     ghost Value = { SummaryValue };
 
-    ghost view = { λ s. record { epoch = s.epoch; rights = s.rights.items; gifts = s.gifts.items; accepts = s.accepts.items; tightenings = s.tightenings.items } };
+    ghost view = { λ s. record {
+      epoch = s.epoch;
+      rights = s.rights.items;
+      gifts = s.gifts.items;
+      accepts = s.accepts.items;
+      tightenings = s.tightenings.items;
+    } };
 }
 
 impl Summary {
@@ -35,7 +41,13 @@ impl Summary {
         accepts: Vec<Total>,
         tightenings: Vec<Cut>,
     ) -> Summary
-        ensures all { result ≡ record { epoch = epoch; rights = rights.items; gifts = gifts.items; accepts = accepts.items; tightenings = tightenings.items } }
+        ensures all { result ≡ record {
+          epoch = epoch;
+          rights = rights.items;
+          gifts = gifts.items;
+          accepts = accepts.items;
+          tightenings = tightenings.items;
+        } }
     {
         Summary {
             epoch,

@@ -7,8 +7,8 @@ use crate::medium::{Device, End, Medium, MediumFault, Mishap, end_of};
 use std::alloc::{AllocError, Global};
 use std::marker::Model;
 
-/// Bytes in memory, and the mishap that strikes the next call of its kind. Once it has struck, it is
-/// Never. Where the count of failures is at the greatest `u64`, no mishap strikes.
+/// Bytes in memory, and the mishap that strikes the next call of its kind. Once it has struck, it
+/// is Never. Where the count of failures is at the greatest `u64`, no mishap strikes.
 #[derive(Drop)]
 pub struct TornMedium {
     held: Vec<u8>,
@@ -22,7 +22,12 @@ impl Model for TornMedium {
 
     ghost Value = { Torn };
 
-    ghost view = { λ m. record { bytes = m.held.items; room = vec_capacity m.held - vec_len m.held; mishap = m.mishap; failures = m.failures } };
+    ghost view = { λ m. record {
+      bytes = m.held.items;
+      room = vec_capacity m.held - vec_len m.held;
+      mishap = m.mishap;
+      failures = m.failures;
+    } };
 }
 
 impl TornMedium {

@@ -53,7 +53,8 @@ fn kind_letter(kind: Kind) -> &'static [u8]
 
 // Adds the words of the escrows, a space before each.
 fn push_escrows(line: &mut Vec<u8>, escrows: &[Escrow]) -> Result<(), AllocError>
-    ensures { OnOk result (line.new.items ≡ line.old.items ++ words_spaced (escrow_words escrows.now)) }
+    ensures { OnOk result (line.new.items ≡ line.old.items
+        ++ words_spaced (escrow_words escrows.now)) }
 {
     for escrow in escrows {
         push_number(line, u64::from(escrow.field.0))?;
@@ -70,7 +71,8 @@ fn push_total(
     kind: Kind,
     total: u64,
 ) -> Result<(), AllocError>
-    ensures { OnOk result (line.new.items ≡ line.old.items ++ words_spaced (total_words other field kind total)) }
+    ensures { OnOk result (line.new.items ≡ line.old.items
+        ++ words_spaced (total_words other field kind total)) }
 {
     push_number(line, u64::from(other.0))?;
     push_number(line, u64::from(field.0))?;
@@ -80,7 +82,8 @@ fn push_total(
 
 // Adds the rights of each field, a space before each.
 fn push_rights(line: &mut Vec<u8>, rights: &[(u64, u64)]) -> Result<(), AllocError>
-    ensures { OnOk result (line.new.items ≡ line.old.items ++ words_spaced (rights_words rights.now)) }
+    ensures { OnOk result (line.new.items ≡ line.old.items
+        ++ words_spaced (rights_words rights.now)) }
 {
     for row in rights {
         push_number(line, row.0)?;
@@ -91,7 +94,8 @@ fn push_rights(line: &mut Vec<u8>, rights: &[(u64, u64)]) -> Result<(), AllocErr
 
 // Adds totals, each behind the letter of its group, a space before each word.
 fn push_group(line: &mut Vec<u8>, letter: u8, totals: &[Total]) -> Result<(), AllocError>
-    ensures { OnOk result (line.new.items ≡ line.old.items ++ words_spaced (group_words letter totals.now)) }
+    ensures { OnOk result (line.new.items ≡ line.old.items
+        ++ words_spaced (group_words letter totals.now)) }
 {
     for told in totals {
         push_word(line, &[letter])?;
@@ -102,7 +106,8 @@ fn push_group(line: &mut Vec<u8>, letter: u8, totals: &[Total]) -> Result<(), Al
 
 // Adds the words behind the letter of a tightening, a space before each.
 fn push_cut(line: &mut Vec<u8>, field: FieldNo, kind: Kind, total: u64) -> Result<(), AllocError>
-    ensures { OnOk result (line.new.items ≡ line.old.items ++ words_spaced (cut_words field kind total)) }
+    ensures { OnOk result (line.new.items ≡ line.old.items
+        ++ words_spaced (cut_words field kind total)) }
 {
     push_number(line, u64::from(field.0))?;
     push_word(line, kind_letter(kind))?;
@@ -111,7 +116,8 @@ fn push_cut(line: &mut Vec<u8>, field: FieldNo, kind: Kind, total: u64) -> Resul
 
 // Adds totals given up, each behind its letter, a space before each word.
 fn push_cuts(line: &mut Vec<u8>, totals: &[Cut]) -> Result<(), AllocError>
-    ensures { OnOk result (line.new.items ≡ line.old.items ++ words_spaced (cuts_words totals.now)) }
+    ensures { OnOk result (line.new.items ≡ line.old.items
+        ++ words_spaced (cuts_words totals.now)) }
 {
     for told in totals {
         push_word(line, b"t")?;
@@ -122,7 +128,9 @@ fn push_cuts(line: &mut Vec<u8>, totals: &[Cut]) -> Result<(), AllocError>
 
 // Adds the totals of a summary, a space before each word.
 fn push_groups(line: &mut Vec<u8>, summary: &Summary) -> Result<(), AllocError>
-    ensures { OnOk result (line.new.items ≡ line.old.items ++ words_spaced (group_words 103 summary.now.gifts ++ (group_words 97 summary.now.accepts ++ cuts_words summary.now.tightenings))) }
+    ensures { OnOk result (line.new.items ≡ line.old.items
+        ++ words_spaced (group_words 103 summary.now.gifts
+        ++ (group_words 97 summary.now.accepts ++ cuts_words summary.now.tightenings))) }
 {
     push_group(line, b'g', summary.gifts())?;
     push_group(line, b'a', summary.accepts())?;
@@ -131,7 +139,8 @@ fn push_groups(line: &mut Vec<u8>, summary: &Summary) -> Result<(), AllocError>
 
 // Adds the words of a summary, a space before each.
 fn push_summary(line: &mut Vec<u8>, summary: &Summary) -> Result<(), AllocError>
-    ensures { OnOk result (line.new.items ≡ line.old.items ++ words_spaced (summary_words summary.now)) }
+    ensures { OnOk result (line.new.items ≡ line.old.items
+        ++ words_spaced (summary_words summary.now)) }
 {
     push_number(line, u64::from(summary.epoch()))?;
     push_number(line, summary.rights().len() as u64)?;
@@ -199,8 +208,8 @@ pub(crate) fn put_record(line: &mut Vec<u8>, kept: &Record) -> Result<(), AllocE
     push_record(line, kept)
 }
 
-/// Writes the text of a record, and behind it that of the summary that is due, in place of what `line`
-/// holds. The error is want of memory; `line` then holds anything.
+/// Writes the text of a record, and behind it that of the summary that is due, in place of what
+/// `line` holds. The error is want of memory; `line` then holds anything.
 pub(crate) fn put_piece(
     line: &mut Vec<u8>,
     kept: &Record,

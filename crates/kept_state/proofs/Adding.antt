@@ -14,7 +14,8 @@ use Rattle.kept_state.specs.Keeps.{record_at, record_left, adds, Keeps}
 use Rattle.field_bounds.proofs.Refused.{is_restart}
 
 -- an answer leaves the record of its command
-pub adds_answer : (at : Place) (c : Command) (stood : Bool) (rs : List Record) → is_restart c ≡ false → adds at c (answer at c) stood rs ≡ record_left at c
+pub adds_answer : (at : Place) (c : Command) (stood : Bool) (rs : List Record) → is_restart c ≡ false
+    → adds at c (answer at c) stood rs ≡ record_left at c
 adds_answer at Begin stood rs n = refl
 adds_answer at (Escrow txn field change) stood rs n = refl
 adds_answer at (Commit txn) stood rs n = refl
@@ -45,7 +46,8 @@ length_adds at c StillDown stood front = length_cond stood _
 length_adds at c Unsure stood front = length_stood stood (record_left at c) (length_cond (writes at c) (record_at at c))
 length_adds at c r stood front = length_cond (writes at c) (record_at at c)
 
-pub keeps_length : (schema : SchemaValue) (s : ℕ) (base : Base) (bs : List Record) (kept : Bool) (o : List Entry) (rs : List Record) → Keeps schema s base bs kept o rs → length rs ≤ length bs + length o
+pub keeps_length : (schema : SchemaValue) (s : ℕ) (base : Base) (bs : List Record) (kept : Bool) (o : List Entry) (rs : List Record)
+    → Keeps schema s base bs kept o rs → length rs ≤ length bs + length o
 keeps_length schema s base bs kept [] rs keeps = omega (arith, ap length keeps)
 keeps_length schema s base bs kept (e ∷ o) rs keeps =
     omega (

@@ -105,8 +105,10 @@ module _ (base : Base) (bs : List Record) (es : List Effect) (rs : List Record) 
   agree_give to field kind amount total is =
       let r : Record = Gift to field kind total in
       record {
-        gives = λ site f k. give_step (key field.0 kind to.0 f k site) amount (given_in rs site f k) total (gifts (is_to site) f k es) (base.given site f k)
-            (λ on. omega (arith, is, at_key (λ x y z. total_given base x y z es) field.0 kind to.0 f k site on, agree.gives site f k)) (agree.gives site f k)
+        gives = λ site f k. give_step (key field.0 kind to.0 f k site) amount (given_in rs site f k) total (gifts (is_to site) f k es)
+            (base.given site f k)
+            (λ on. omega (arith, is, at_key (λ x y z. total_given base x y z es) field.0 kind to.0 f k site on, agree.gives site f k))
+            (agree.gives site f k)
             ∙ sym (given_push site f k rs r);
         accepts = λ from f k. agree.accepts from f k ∙ sym (accepted_push from f k rs r);
         cuts = λ f k. omega (arith, agree.cuts f k, cut_push f k rs r, no_weight (eqb field.0 f && same_kind kind k) amount);
@@ -118,7 +120,12 @@ module _ (base : Base) (bs : List Record) (es : List Effect) (rs : List Record) 
   agree_cut field kind amount total is =
       let r : Record = Tighten field kind total in
       record {
-        gives = λ site f k. omega (arith, agree.gives site f k, given_push site f k rs r, no_weight (eqb field.0 f && same_kind kind k) amount);
+        gives = λ site f k. omega (
+          arith,
+          agree.gives site f k,
+          given_push site f k rs r,
+          no_weight (eqb field.0 f && same_kind kind k) amount,
+        );
         accepts = λ from f k. agree.accepts from f k ∙ sym (accepted_push from f k rs r);
         cuts = λ f k.
             let on = eqb field.0 f && same_kind kind k in
@@ -138,7 +145,8 @@ module _ (base : Base) (bs : List Record) (es : List Effect) (rs : List Record) 
       let r : Record = Accept from field kind total in
       record {
         gives = λ to f k. agree.gives to f k ∙ sym (given_push to f k rs r);
-        accepts = λ site f k. ap (λ (n : ℕ). cond (key field.0 kind from.0 f k site) (max total n) n) (agree.accepts site f k) ∙ sym (accepted_push site f k rs r);
+        accepts = λ site f k. ap (λ (n : ℕ). cond (key field.0 kind from.0 f k site) (max total n) n) (agree.accepts site f k)
+            ∙ sym (accepted_push site f k rs r);
         cuts = λ f k. agree.cuts f k ∙ sym (cut_push f k rs r);
         commits = λ f k. omega (arith, agree.commits f k, committed_push f k rs r);
       }
@@ -149,7 +157,8 @@ module _ (base : Base) (bs : List Record) (es : List Effect) (rs : List Record) 
       record {
         gives = λ to f k. agree.gives to f k;
         accepts = λ site f k. accept_step (key field.0 kind from.0 f k site) total (total_accepted base site f k es)
-            (λ on. omega (arith, old, at_key (λ x y z. total_accepted base x y z es) field.0 kind from.0 f k site on)) ∙ agree.accepts site f k;
+            (λ on. omega (arith, old, at_key (λ x y z. total_accepted base x y z es) field.0 kind from.0 f k site on))
+            ∙ agree.accepts site f k;
         cuts = λ f k. agree.cuts f k;
         commits = λ f k. agree.commits f k;
       }
@@ -196,10 +205,12 @@ module _ (base : Base) (bs : List Record) (es : List Effect) (rs : List Record) 
         sum_below-same schema.sites (λ to. total_given base to f k es) (λ to. given_in rs to f k) (λ to below. agree.gives to f k),
         sum_below-same schema.sites (λ to. base.given to f k) (λ to. given_in bs to f k) (λ to below. is.given to f k),
         sum_below-add schema.sites (λ to. base.given to f k) (λ to. gifts (is_to to) f k es),
-        sum_below-same schema.sites (λ from. total_accepted base from f k es) (λ from. accepted_in rs from f k) (λ from below. agree.accepts from f k),
+        sum_below-same schema.sites (λ from. total_accepted base from f k es) (λ from. accepted_in rs from f k)
+            (λ from below. agree.accepts from f k),
         sum_below-same schema.sites (λ from. base.accepted from f k) (λ from. accepted_in bs from f k) (λ from below. is.accepted from f k),
       )
 
-  pub own_is_kept : (schema : SchemaValue) (s : ℕ) → IsBase schema s base bs → IsLawful schema base es → (f : ℕ) (k : Kind) → own_rights base f k es ≡ own_in schema s rs f k
+  pub own_is_kept : (schema : SchemaValue) (s : ℕ) → IsBase schema s base bs → IsLawful schema base es → (f : ℕ) (k : Kind)
+      → own_rights base f k es ≡ own_in schema s rs f k
   unfolding own_in
   own_is_kept schema s is lawful f k = omega (arith, rights_agree schema s is lawful f k)

@@ -8,7 +8,8 @@ use Rattle.kept_records.proofs.Pushes.{greatest_none, given_none, accepted_none,
 use Rattle.kept_records.proofs.Covering.{spent_none, gained_none, own_whole}
 use Rattle.kept_state.specs.Keeps.{IsBase}
 
-pub stands_is_base : (schema : SchemaValue) (s : ℕ) (up : Bool) (rs : List Record) → Lawful schema s rs → IsBase schema s (base_stood_for schema s up rs) rs
+pub stands_is_base : (schema : SchemaValue) (s : ℕ) (up : Bool) (rs : List Record) → Lawful schema s rs
+    → IsBase schema s (base_stood_for schema s up rs) rs
 stands_is_base schema s up rs lawful =
     record {
       epoch = refl;

@@ -41,11 +41,19 @@ record_is_note at (Share field) w = cc
 record_is_note at Restart w = cc
 
 -- a record that was just in doubt
-pub doubt_new : (front : List Record) (note : Record) (kept : Bool) → is_restart_record note ≡ false → InDoubt kept front note (front ++ cond kept (note ∷ []) [])
-doubt_new front note kept h = record { restarts = []; all = ap (λ (x : List Record). front ++ x) (sym (append-nil (cond kept (note ∷ []) []))); only = refl; noted_ = h }
+pub doubt_new : (front : List Record) (note : Record) (kept : Bool) → is_restart_record note ≡ false
+    → InDoubt kept front note (front ++ cond kept (note ∷ []) [])
+doubt_new front note kept h = record {
+  restarts = [];
+  all =
+      ap (λ (x : List Record). front ++ x) (sym (append-nil (cond kept (note ∷ []) [])));
+  only = refl;
+  noted_ = h;
+}
 
 -- a restart that failed and left its record
-pub doubt_restart : (kept : Bool) (before : List Record) (note : Record) (rs : List Record) (epoch : ℕ) → InDoubt kept before note rs → InDoubt kept before note (rs ++ records.Restart epoch ∷ [])
+pub doubt_restart : (kept : Bool) (before : List Record) (note : Record) (rs : List Record) (epoch : ℕ) → InDoubt kept before note rs
+    → InDoubt kept before note (rs ++ records.Restart epoch ∷ [])
 doubt_restart kept before note rs epoch h =
     record {
       restarts = h.restarts ++ records.Restart epoch ∷ [];
@@ -60,13 +68,15 @@ no_notes : (restarts : List Record) → list_all is_restart_record restarts ≡ 
 no_notes [] h = refl
 no_notes (r ∷ rs) h = rw ((and_parts (is_restart_record r) (list_all is_restart_record rs) h).0) refl
 
-note_first : (kept : Bool) (note : Record) (restarts : List Record) → is_restart_record note ≡ false → list_all is_restart_record restarts ≡ true
+note_first : (kept : Bool) (note : Record) (restarts : List Record) → is_restart_record note ≡ false
+    → list_all is_restart_record restarts ≡ true
     → starts_with_no_restart (cond kept (note ∷ []) [] ++ restarts) ≡ kept
 note_first true note restarts h only = rw h refl
 note_first false note restarts h only = no_notes restarts only
 
 -- the code finds the record by the count of those before it
-pub found_is_kept : (kept : Bool) (before : List Record) (note : Record) (rs : List Record) → InDoubt kept before note rs → is_record_behind (length before) rs ≡ kept
+pub found_is_kept : (kept : Bool) (before : List Record) (note : Record) (rs : List Record) → InDoubt kept before note rs
+    → is_record_behind (length before) rs ≡ kept
 found_is_kept kept before note rs h =
     ap (λ (x : List Record). starts_with_no_restart (drop (length before) x)) h.all
     ∙ ap starts_with_no_restart (drop-append_seam before (cond kept (note ∷ []) [] ++ h.restarts))
@@ -83,7 +93,8 @@ module _ (schema : SchemaValue) (s : ℕ) (base : Base) (o : List Entry) (front 
   abbrev Then : Bool → Bool → Command → Reply → Type 0
   Then kept stood c r = (count_after is_unsure (count_since is_unsure o) r ≡ 0) ⊎ Doubted kept (front ++ adds here c r stood front)
 
-  same_doubt : (kept : Bool) → (count_since is_unsure o ≡ 0) ⊎ Doubted kept front → (0 + count_since is_unsure o ≡ 0) ⊎ Doubted kept (front ++ [])
+  same_doubt : (kept : Bool) → (count_since is_unsure o ≡ 0) ⊎ Doubted kept front → (0 + count_since is_unsure o ≡ 0)
+      ⊎ Doubted kept (front ++ [])
   same_doubt kept (inl none) = inl (omega (arith, none))
   same_doubt kept (inr doubted) = inr (subst (λ (x : List Record). Doubted kept x) (sym (append-nil front)) doubted)
 
@@ -117,23 +128,31 @@ module _ (schema : SchemaValue) (s : ℕ) (base : Base) (o : List Entry) (front 
 
   still_doubts : (kept stood : Bool) → (count_since is_unsure o ≡ 0) ⊎ Doubted kept front → Then kept stood Restart StillDown
   still_doubts kept true (inl none) = inl (omega (arith, none))
-  still_doubts kept true (inr doubted) = inr (doubted.0, doubted.1, doubt_restart kept doubted.0 doubted.1 front (greatest front + 1) doubted.2)
+  still_doubts kept true (inr doubted) = inr (
+    doubted.0,
+    doubted.1,
+    doubt_restart kept doubted.0 doubted.1 front (greatest front + 1) doubted.2,
+  )
   still_doubts kept false h = same_doubt kept h
 
-  restart_doubts : (r : Reply) (kept stood : Bool) → RestartFits here r → (count_since is_unsure o ≡ 0) ⊎ Doubted (doubt_kept_before kept r) front → Then kept stood Restart r
+  restart_doubts : (r : Reply) (kept stood : Bool) → RestartFits here r → (count_since is_unsure o ≡ 0)
+      ⊎ Doubted (doubt_kept_before kept r) front → Then kept stood Restart r
   restart_doubts StillDown kept stood fits ih = still_doubts kept stood ih
   restart_doubts (Refused x) kept stood fits ih = same_doubt kept ih
   restart_doubts (Restarted epoch found) kept stood fits ih = inl refl
   restart_doubts r kept stood fits ih = absurd fits
 
-  step_doubts : (c : Command) (r : Reply) (kept stood : Bool) → Fits here c r → Tells kept stood front r → (count_since is_unsure o ≡ 0) ⊎ Doubted (doubt_kept_before kept r) front → Then kept stood c r
+  step_doubts : (c : Command) (r : Reply) (kept stood : Bool) → Fits here c r → Tells kept stood front r → (count_since is_unsure o ≡ 0)
+      ⊎ Doubted (doubt_kept_before kept r) front → Then kept stood c r
   step_doubts Restart r kept stood fits tells ih = restart_doubts r kept stood fits ih
   step_doubts c r kept stood fits tells ih = answer_doubts c r kept stood refl fits tells ih
 
 -- where an answer is in doubt, its record stands behind some of the records, if it is kept, and only restarts behind that place
-pub run_doubts : (schema : SchemaValue) (s : ℕ) (base : Base) (bs : List Record) (kept : Bool) (o : List Entry) (rs : List Record) → IsRun schema s base o → Keeps schema s base bs kept o rs
+pub run_doubts : (schema : SchemaValue) (s : ℕ) (base : Base) (bs : List Record) (kept : Bool) (o : List Entry) (rs : List Record)
+    → IsRun schema s base o → Keeps schema s base bs kept o rs
     → (count_since is_unsure o ≡ 0) ⊎ ((before : List Record) × (note : Record) × InDoubt kept before note rs)
 run_doubts schema s base bs kept [] rs run keeps = inl refl
 run_doubts schema s base bs kept (e ∷ o) rs run keeps =
     subst (λ (all : List Record). (count_since is_unsure (e ∷ o) ≡ 0) ⊎ Doubted kept all) (sym keeps.4)
-    (step_doubts schema s base o keeps.0 e.command e.reply kept keeps.1 run.1 keeps.3 (run_doubts schema s base bs (doubt_kept_before kept e.reply) o keeps.0 run.0 keeps.2))
+    (step_doubts schema s base o keeps.0 e.command e.reply kept keeps.1 run.1 keeps.3
+    (run_doubts schema s base bs (doubt_kept_before kept e.reply) o keeps.0 run.0 keeps.2))

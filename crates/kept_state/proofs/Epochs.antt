@@ -19,7 +19,8 @@ use Rattle.kept_records.specs.Stands.{later, greatest}
 use Rattle.kept_state.specs.Keeps.{IsBase, record_left, adds, Tells, Keeps}
 use Rattle.kept_records.proofs.Pushes.{greatest_push}
 
-greatest_cond : (b : Bool) (rs : List Record) (r : Record) → later (greatest rs) r ≡ greatest rs → greatest (rs ++ cond b (r ∷ []) []) ≡ greatest rs
+greatest_cond : (b : Bool) (rs : List Record) (r : Record) → later (greatest rs) r ≡ greatest rs
+    → greatest (rs ++ cond b (r ∷ []) []) ≡ greatest rs
 greatest_cond true rs r h = greatest_push rs r ∙ h
 greatest_cond false rs r h = ap greatest (append-nil rs)
 
@@ -41,21 +42,29 @@ greatest_noted at Restart rs = ap greatest (append-nil rs)
 abbrev pub Between : ℕ → ℕ → ℕ → Type 0
 Between epoch n greatest_ = (epoch ≤ greatest_) × (greatest_ ≤ epoch + n)
 
-epoch_step : (at : Place) (c : Command) (r : Reply) (kept stood : Bool) (front : List Record) (epoch n : ℕ) → Tells kept stood front r → Between epoch n (greatest front)
+epoch_step : (at : Place) (c : Command) (r : Reply) (kept stood : Bool) (front : List Record) (epoch n : ℕ) → Tells kept stood front r
+    → Between epoch n (greatest front)
     → Between (epoch_after epoch r) (count_after is_still_down n r) (greatest (front ++ adds at c r stood front))
 epoch_step at c (Restarted new found) kept stood front epoch n tells ih =
     let more = greatest_push front (records.Restart new) in (omega (arith, more, tells), omega (arith, more, tells))
 epoch_step at c StillDown kept true front epoch n tells ih =
     let more = greatest_push front (records.Restart (greatest front + 1)) in (omega (arith, more, ih), omega (arith, more, ih))
-epoch_step at c StillDown kept false front epoch n tells ih = let more = ap greatest (append-nil front) in (omega (arith, more, ih), omega (arith, more, ih))
-epoch_step at c (Refused x) kept stood front epoch n tells ih = let more = ap greatest (append-nil front) in (omega (arith, more, ih), omega (arith, more, ih))
-epoch_step at c Unsure kept true front epoch n tells ih = let more = greatest_noted at c front in (omega (arith, more, ih), omega (arith, more, ih))
-epoch_step at c Unsure kept false front epoch n tells ih = let more = ap greatest (append-nil front) in (omega (arith, more, ih), omega (arith, more, ih))
-epoch_step at c r kept stood front epoch n tells ih = let more = greatest_noted at c front in (omega (arith, more, ih), omega (arith, more, ih))
+epoch_step at c StillDown kept false front epoch n tells ih = let more = ap greatest (append-nil front) in
+    (omega (arith, more, ih), omega (arith, more, ih))
+epoch_step at c (Refused x) kept stood front epoch n tells ih = let more = ap greatest (append-nil front) in
+    (omega (arith, more, ih), omega (arith, more, ih))
+epoch_step at c Unsure kept true front epoch n tells ih = let more = greatest_noted at c front in
+    (omega (arith, more, ih), omega (arith, more, ih))
+epoch_step at c Unsure kept false front epoch n tells ih = let more = ap greatest (append-nil front) in
+    (omega (arith, more, ih), omega (arith, more, ih))
+epoch_step at c r kept stood front epoch n tells ih = let more = greatest_noted at c front in
+    (omega (arith, more, ih), omega (arith, more, ih))
 
-pub keeps_epoch : (schema : SchemaValue) (s : ℕ) (base : Base) (bs : List Record) → IsBase schema s base bs → (kept : Bool) (o : List Entry) (rs : List Record)
+pub keeps_epoch : (schema : SchemaValue) (s : ℕ) (base : Base) (bs : List Record) → IsBase schema s base bs
+    → (kept : Bool) (o : List Entry) (rs : List Record)
     → Keeps schema s base bs kept o rs → Between (epoch_of base o) (count_since is_still_down o) (greatest rs)
-keeps_epoch schema s base bs is kept [] rs keeps = let same = ap greatest keeps in (omega (arith, same, is.epoch), omega (arith, same, is.epoch))
+keeps_epoch schema s base bs is kept [] rs keeps = let same = ap greatest keeps in
+    (omega (arith, same, is.epoch), omega (arith, same, is.epoch))
 keeps_epoch schema s base bs is kept (e ∷ o) rs keeps =
     subst (λ (all : List Record). Between (epoch_of base (e ∷ o)) (count_since is_still_down (e ∷ o)) (greatest all)) (sym keeps.4)
     (epoch_step (place schema s base o) e.command e.reply kept keeps.1 keeps.0 (epoch_of base o) (count_since is_still_down o) keeps.3
@@ -72,19 +81,23 @@ up_none_still base [] up = refl
 up_none_still base (e ∷ o) up = none_step (is_up base o) (count_since is_still_down o) e.reply (up_none_still base o) up
 
 -- at a site that is up the greatest epoch is the last restart's
-pub up_epoch : (schema : SchemaValue) (s : ℕ) (base : Base) (bs : List Record) → IsBase schema s base bs → (kept : Bool) (o : List Entry) (rs : List Record)
+pub up_epoch : (schema : SchemaValue) (s : ℕ) (base : Base) (bs : List Record) → IsBase schema s base bs
+    → (kept : Bool) (o : List Entry) (rs : List Record)
     → Keeps schema s base bs kept o rs → is_up base o ≡ true → epoch_of base o ≡ greatest rs
 up_epoch schema s base bs is kept o rs keeps up = omega (arith, keeps_epoch schema s base bs is kept o rs keeps, up_none_still base o up)
 
 -- ---- the epochs that a restart may answer are the greatest kept one plus 1
 
-pub restart_fits : (schema : SchemaValue) (s : ℕ) (base : Base) (bs : List Record) → IsBase schema s base bs → (kept : Bool) (o : List Entry) (rs : List Record) → Keeps schema s base bs kept o rs
-    → (found : Last) → greatest rs < max_epoch → (count_since is_unsure o ≡ 0 → found ≡ Nothing) → (found ≡ Nothing → count_since is_unsure o ≡ 0)
+pub restart_fits : (schema : SchemaValue) (s : ℕ) (base : Base) (bs : List Record) → IsBase schema s base bs
+    → (kept : Bool) (o : List Entry) (rs : List Record) → Keeps schema s base bs kept o rs
+    → (found : Last) → greatest rs < max_epoch → (count_since is_unsure o ≡ 0 → found ≡ Nothing)
+    → (found ≡ Nothing → count_since is_unsure o ≡ 0)
     → RestartFits (place schema s base o) (Restarted (greatest rs + 1) found)
 restart_fits schema s base bs is kept o rs keeps found below there back =
     let between = keeps_epoch schema s base bs is kept o rs keeps in
     (omega (arith, between), omega (arith, between), omega (arith, below), (there, back))
 
-pub refused_fits : (schema : SchemaValue) (s : ℕ) (base : Base) (bs : List Record) → IsBase schema s base bs → (kept : Bool) (o : List Entry) (rs : List Record) → Keeps schema s base bs kept o rs
+pub refused_fits : (schema : SchemaValue) (s : ℕ) (base : Base) (bs : List Record) → IsBase schema s base bs
+    → (kept : Bool) (o : List Entry) (rs : List Record) → Keeps schema s base bs kept o rs
     → max_epoch ≤ greatest rs → RestartFits (place schema s base o) (Refused NumbersFull)
 refused_fits schema s base bs is kept o rs keeps full = (refl, omega (arith, full, keeps_epoch schema s base bs is kept o rs keeps))

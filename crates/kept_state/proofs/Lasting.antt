@@ -19,7 +19,8 @@ use Rattle.field_bounds.proofs.Refused.{match_cases, is_restart}
 use Rattle.kept_state.proofs.Adding.{adds_answer}
 use Rattle.kept_state.proofs.Staying.{run_lawful_more}
 
-module _ (schema : SchemaValue) (s : ℕ) (base : Base) (bs : List Record) (is : IsBase schema s base bs) (o : List Entry) (front : List Record) (kept : Bool)
+module _ (schema : SchemaValue) (s : ℕ) (base : Base) (bs : List Record) (is : IsBase schema s base bs) (o : List Entry)
+    (front : List Record) (kept : Bool)
     (run : IsRun schema s base o) (keeps : Keeps schema s base bs kept o front) (lawful : Lawful schema s front) where
   abbrev there : Place
   there = place schema s base o
@@ -27,46 +28,55 @@ module _ (schema : SchemaValue) (s : ℕ) (base : Base) (bs : List Record) (is :
   same_lawful : Lawful schema s (front ++ [])
   same_lawful = subst (λ (all : List Record). Lawful schema s all) (sym (append-nil front)) lawful
 
-  noted_lawful : (c : Command) → is_restart c ≡ false → first (refusals there c) ≡ None → (b : Bool) → writes there c ≡ b → Lawful schema s (front ++ cond b (record_at there c ∷ []) [])
+  noted_lawful : (c : Command) → is_restart c ≡ false → first (refusals there c) ≡ None → (b : Bool) → writes there c ≡ b
+      → Lawful schema s (front ++ cond b (record_at there c ∷ []) [])
   noted_lawful c n h true w =
       lawful_push schema s front (record_at there c) lawful (run_lawful_more schema s base bs is kept o front run keeps c h w)
   noted_lawful c n h false w = same_lawful
 
-  stood_lawful : (c : Command) (stood : Bool) → is_restart c ≡ false → first (refusals there c) ≡ None → Lawful schema s (front ++ cond stood (record_left there c) [])
+  stood_lawful : (c : Command) (stood : Bool) → is_restart c ≡ false → first (refusals there c) ≡ None
+      → Lawful schema s (front ++ cond stood (record_left there c) [])
   stood_lawful c true n h = noted_lawful c n h (writes there c) refl
   stood_lawful c false n h = same_lawful
 
-  answer_lawful : (c : Command) (r : Reply) (stood : Bool) → is_restart c ≡ false → AnswerFits there c r → Lawful schema s (front ++ adds there c r stood front)
+  answer_lawful : (c : Command) (r : Reply) (stood : Bool) → is_restart c ≡ false → AnswerFits there c r
+      → Lawful schema s (front ++ adds there c r stood front)
   answer_lawful c r stood n fits =
       elim (match_cases (first (refusals there c)) _ _ fits) [
         | inl refused ↦ subst (λ (x : Reply). Lawful schema s (front ++ adds there c x stood front)) (sym refused.2) same_lawful
         | inr met ↦ elim met.1 [
           | inl answered ↦
               subst (λ (x : Reply). Lawful schema s (front ++ adds there c x stood front)) (sym answered)
-              (subst (λ (more : List Record). Lawful schema s (front ++ more)) (sym (adds_answer there c stood front n)) (stood_lawful c true n met.0))
-          | inr unsure ↦ subst (λ (x : Reply). Lawful schema s (front ++ adds there c x stood front)) (sym unsure.0) (stood_lawful c stood n met.0)
+              (subst (λ (more : List Record). Lawful schema s (front ++ more)) (sym (adds_answer there c stood front n))
+              (stood_lawful c true n met.0))
+          | inr unsure ↦ subst (λ (x : Reply). Lawful schema s (front ++ adds there c x stood front)) (sym unsure.0)
+              (stood_lawful c stood n met.0)
         ]
       ]
 
   restart_may : (epoch : ℕ) → epoch ≡ greatest front + 1 → Lawful schema s (front ++ records.Restart epoch ∷ [])
   restart_may epoch h = lawful_push schema s front (records.Restart epoch) lawful (lt-ltb (greatest front) epoch (omega (arith, h)))
 
-  restart_lawful : (r : Reply) (kept stood : Bool) → RestartFits there r → Tells kept stood front r → Lawful schema s (front ++ adds there Restart r stood front)
+  restart_lawful : (r : Reply) (kept stood : Bool) → RestartFits there r → Tells kept stood front r
+      → Lawful schema s (front ++ adds there Restart r stood front)
   restart_lawful StillDown kept true fits tells = restart_may (greatest front + 1) refl
   restart_lawful StillDown kept false fits tells = same_lawful
   restart_lawful (Refused x) kept stood fits tells = same_lawful
   restart_lawful (Restarted epoch found) kept stood fits tells = restart_may epoch tells
   restart_lawful r kept stood fits tells = absurd fits
 
-  pub step_lawful : (c : Command) (r : Reply) (kept stood : Bool) → Fits there c r → Tells kept stood front r → Lawful schema s (front ++ adds there c r stood front)
+  pub step_lawful : (c : Command) (r : Reply) (kept stood : Bool) → Fits there c r → Tells kept stood front r
+      → Lawful schema s (front ++ adds there c r stood front)
   step_lawful Restart r kept stood fits tells = restart_lawful r kept stood fits tells
   step_lawful c r kept stood fits tells = answer_lawful c r stood refl fits
 
 -- what a run keeps behind lawful records is lawful
-pub run_stays_lawful : (schema : SchemaValue) (s : ℕ) (base : Base) (bs : List Record) → IsBase schema s base bs → Lawful schema s bs → (kept : Bool) (o : List Entry) (rs : List Record)
+pub run_stays_lawful : (schema : SchemaValue) (s : ℕ) (base : Base) (bs : List Record) → IsBase schema s base bs → Lawful schema s bs
+    → (kept : Bool) (o : List Entry) (rs : List Record)
     → IsRun schema s base o → Keeps schema s base bs kept o rs → Lawful schema s rs
 run_stays_lawful schema s base bs is lawful kept [] rs run keeps = subst (λ (all : List Record). Lawful schema s all) (sym keeps) lawful
 run_stays_lawful schema s base bs is lawful kept (e ∷ o) rs run keeps =
     let before = run_stays_lawful schema s base bs is lawful (doubt_kept_before kept e.reply) o keeps.0 run.0 keeps.2 in
     subst (λ (all : List Record). Lawful schema s all) (sym keeps.4)
-    (step_lawful schema s base bs is o keeps.0 (doubt_kept_before kept e.reply) run.0 keeps.2 before e.command e.reply kept keeps.1 run.1 keeps.3)
+    (step_lawful schema s base bs is o keeps.0 (doubt_kept_before kept e.reply) run.0 keeps.2 before e.command e.reply kept keeps.1 run.1
+    keeps.3)

@@ -10,7 +10,13 @@ use Rattle.kept_state.specs.Worked.{Leaves, IsLawfulAtZero, commit, commit_of_tw
 
 pub commit_kept : Leaves found_kept (commit ∷ records.Restart 1 ∷ records.Restart 2 ∷ [])
 unfolding greatest
-commit_kept = (commit ∷ records.Restart 1 ∷ [], true, (commit ∷ [], true, ([], true, ([], true, ([], true, refl, tt, refl), tt, refl), refl, refl), tt, refl), refl, refl)
+commit_kept = (
+  commit ∷ records.Restart 1 ∷ [],
+  true,
+  (commit ∷ [], true, ([], true, ([], true, ([], true, refl, tt, refl), tt, refl), refl, refl), tt, refl),
+  refl,
+  refl,
+)
 
 pub commit_lost : Leaves found_lost (records.Restart 1 ∷ [])
 unfolding greatest
@@ -26,16 +32,24 @@ spare_kept = (gift 10 ∷ gift 13 ∷ [], true, (gift 10 ∷ [], true, ([], true
 
 pub cut_kept : Leaves cuts_kept (cut_lower 3 ∷ cut_raise 4 ∷ cut_lower 5 ∷ records.Restart 1 ∷ [])
 unfolding greatest
-cut_kept = (cut_lower 3 ∷ cut_raise 4 ∷ cut_lower 5 ∷ [], true, (cut_lower 3 ∷ cut_raise 4 ∷ [], true, (cut_lower 3 ∷ [], true, ([], true, refl, tt, refl), tt, refl), refl, refl), refl, refl)
+cut_kept = (
+  cut_lower 3 ∷ cut_raise 4 ∷ cut_lower 5 ∷ [],
+  true,
+  (cut_lower 3 ∷ cut_raise 4 ∷ [], true, (cut_lower 3 ∷ [], true, ([], true, refl, tt, refl), tt, refl), refl, refl),
+  refl,
+  refl,
+)
 
 pub in_order : Leaves row_committed (commit_of_two ∷ [])
 in_order = ([], true, ([], true, ([], true, ([], true, refl, tt, refl), tt, refl), tt, refl), tt, refl)
 
-pub kept_rights : let rs = commit ∷ records.Restart 1 ∷ records.Restart 2 ∷ [] in (own_in halved_shelf 0 rs 0 Lower ≡ 0) × (own_in halved_shelf 0 rs 0 Raise ≡ 50)
+pub kept_rights : let rs = commit ∷ records.Restart 1 ∷ records.Restart 2 ∷ [] in (own_in halved_shelf 0 rs 0 Lower ≡ 0)
+    × (own_in halved_shelf 0 rs 0 Raise ≡ 50)
 unfolding own_in committed_in given_in accepted_in cut_in
 kept_rights = (refl, refl)
 
-pub cut_rights : let rs = cut_lower 3 ∷ cut_raise 4 ∷ cut_lower 5 ∷ records.Restart 1 ∷ [] in (own_in halved_shelf 0 rs 0 Lower ≡ 15) × (own_in halved_shelf 0 rs 0 Raise ≡ 26)
+pub cut_rights : let rs = cut_lower 3 ∷ cut_raise 4 ∷ cut_lower 5 ∷ records.Restart 1 ∷ [] in (own_in halved_shelf 0 rs 0 Lower ≡ 15)
+    × (own_in halved_shelf 0 rs 0 Raise ≡ 26)
 unfolding own_in committed_in given_in accepted_in cut_in
 cut_rights = (refl, refl)
 

@@ -38,7 +38,8 @@ each_pushed P (y ∷ ys) x h p = (h.0, each_pushed P ys x h.1 p)
 
 each_reversed : (P : EscrowOf → Type 0) (xs : List EscrowOf) → AllByRecursion P xs → AllByRecursion P (reverse xs)
 each_reversed P [] h = tt
-each_reversed P (x ∷ xs) h = subst (λ (ys : List EscrowOf). AllByRecursion P ys) (sym (reverse_onto xs x [])) (each_pushed P (reverse xs) x (each_reversed P xs h.1) h.0)
+each_reversed P (x ∷ xs) h = subst (λ (ys : List EscrowOf). AllByRecursion P ys) (sym (reverse_onto xs x []))
+    (each_pushed P (reverse xs) x (each_reversed P xs h.1) h.0)
 
 each_weaker : (P Q : EscrowOf → Type 0) → ((x : EscrowOf) → P x → Q x) → (xs : List EscrowOf) → AllByRecursion P xs → AllByRecursion Q xs
 each_weaker P Q weaker [] h = tt
@@ -56,15 +57,18 @@ pub record IsRanged (n : ℕ) (es : List Effect) : Type 0 where
   pub few : (id : TxnId) → count_escrows id es ≤ max_escrows
   pub each : (id : TxnId) → AllByRecursion (IsGrantable n) (escrows_of id es)
 
-one_more : (b : Bool) (e : EscrowOf) (xs : List EscrowOf) → (b ≡ true → length xs < max_escrows) → length xs ≤ max_escrows → length (cond b (e ∷ xs) xs) ≤ max_escrows
+one_more : (b : Bool) (e : EscrowOf) (xs : List EscrowOf) → (b ≡ true → length xs < max_escrows) → length xs ≤ max_escrows
+    → length (cond b (e ∷ xs) xs) ≤ max_escrows
 one_more true e xs room few = omega (arith, room refl)
 one_more false e xs room few = few
 
-each_more : (n : ℕ) (b : Bool) (e : EscrowOf) (xs : List EscrowOf) → IsGrantable n e → AllByRecursion (IsGrantable n) xs → AllByRecursion (IsGrantable n) (cond b (e ∷ xs) xs)
+each_more : (n : ℕ) (b : Bool) (e : EscrowOf) (xs : List EscrowOf) → IsGrantable n e → AllByRecursion (IsGrantable n) xs
+    → AllByRecursion (IsGrantable n) (cond b (e ∷ xs) xs)
 each_more n true e xs p h = (p, h)
 each_more n false e xs p h = h
 
-ranged_grant : (n : ℕ) (es : List Effect) (txn : TxnId) (field : FieldNo) (change : ℤ) → field.0 < n → IsChange change → count_escrows txn es < max_escrows → IsRanged n es
+ranged_grant : (n : ℕ) (es : List Effect) (txn : TxnId) (field : FieldNo) (change : ℤ) → field.0 < n → IsChange change
+    → count_escrows txn es < max_escrows → IsRanged n es
     → IsRanged n (Grants txn field change ∷ es)
 ranged_grant n es txn field change below within room l =
     let e : EscrowOf = record { field = field; change = change } in
@@ -75,7 +79,8 @@ ranged_grant n es txn field change below within room l =
       each = λ id. each_more n (same_txn id txn) e (escrows_of id es) (below, within) (l.each id);
     }
 
-ranged_begin : (n : ℕ) (es : List Effect) (txn : TxnId) → 0 < txn.number → txn.number ≤ max_number → IsRanged n es → IsRanged n (Begins txn ∷ es)
+ranged_begin : (n : ℕ) (es : List Effect) (txn : TxnId) → 0 < txn.number → txn.number ≤ max_number → IsRanged n es
+    → IsRanged n (Begins txn ∷ es)
 ranged_begin n es txn some most l =
     record {
       numbers = λ id begun.
@@ -91,7 +96,8 @@ either : (n : ℕ) (kept : Bool) (more es : List Effect) → IsRanged n more →
 either n true more es m l = m
 either n false more es m l = l
 
-carried : (at : Place) (n : ℕ) → n ≡ length at.schema.fields → (c : Command) → first (refusals at c) ≡ None → (kept : Bool) → IsRanged n at.effects
+carried : (at : Place) (n : ℕ) → n ≡ length at.schema.fields → (c : Command) → first (refusals at c) ≡ None → (kept : Bool)
+    → IsRanged n at.effects
     → IsRanged n (after at.base kept c (answer at c) at.effects) × IsRanged n (after at.base kept c Unsure at.effects)
 carried at n is Begin h kept l =
     let none = none_holds (refusals at Begin) h in
@@ -113,19 +119,22 @@ carried at n is (Give to field kind amount) h kept l =
     (made, either n kept _ _ made l)
 carried at n is (Restate to field kind) h kept l = (l, l)
 carried at n is (Spare to field kind want) h kept l =
-    let made : IsRanged n (Gives (Some to) field kind (spare_of at field kind want) ∷ at.effects) = record { numbers = l.numbers; few = l.few; each = l.each } in
+    let made : IsRanged n (Gives (Some to) field kind (spare_of at field kind want) ∷ at.effects) =
+    record { numbers = l.numbers; few = l.few; each = l.each } in
     (made, either n kept _ _ made l)
 carried at n is (Tighten field kind amount) h kept l =
     let made : IsRanged n (Gives None field kind amount ∷ at.effects) = record { numbers = l.numbers; few = l.few; each = l.each } in
     (made, either n kept _ _ made l)
 carried at n is (Accept told) h kept l =
-    let made : IsRanged n (Accepts told.from told.field told.kind told.total ∷ at.effects) = record { numbers = l.numbers; few = l.few; each = l.each } in
+    let made : IsRanged n (Accepts told.from told.field told.kind told.total ∷ at.effects) =
+    record { numbers = l.numbers; few = l.few; each = l.each } in
     (made, either n kept _ _ made l)
 carried at n is (Read field) h kept l = (l, l)
 carried at n is (Share field) h kept l = (l, l)
 carried at n is Restart h kept l = (l, l)
 
-pub run_is_ranged : (schema : SchemaValue) (s : ℕ) (base : Base) (o : List Entry) → IsRun schema s base o → (kept : Bool) → IsRanged (length schema.fields) (effects base kept o)
+pub run_is_ranged : (schema : SchemaValue) (s : ℕ) (base : Base) (o : List Entry) → IsRun schema s base o → (kept : Bool)
+    → IsRanged (length schema.fields) (effects base kept o)
 run_is_ranged schema s base o run kept =
     run_holds schema s base (λ epoch count es. IsRanged (length schema.fields) es)
     (record {
@@ -151,9 +160,11 @@ epoch_step at n c r fits h =
     ]
 
 -- a run's epoch is in the range, if its base's is
-pub epoch_in_range : (schema : SchemaValue) (s : ℕ) (base : Base) (o : List Entry) → IsRun schema s base o → base.epoch ≤ max_epoch → epoch_of base o ≤ max_epoch
+pub epoch_in_range : (schema : SchemaValue) (s : ℕ) (base : Base) (o : List Entry) → IsRun schema s base o → base.epoch ≤ max_epoch
+    → epoch_of base o ≤ max_epoch
 epoch_in_range schema s base [] run h = h
-epoch_in_range schema s base (e ∷ o) run h = epoch_step (place schema s base o) (epoch_of base o) e.command e.reply run.1 (epoch_in_range schema s base o run.0 h)
+epoch_in_range schema s base (e ∷ o) run h = epoch_step (place schema s base o) (epoch_of base o) e.command e.reply run.1
+    (epoch_in_range schema s base o run.0 h)
 
 -- ---- epochs of records
 
@@ -171,15 +182,18 @@ unfolding greatest
 greatest_in_range rs is = fold_in_range 0 rs is (omega arith)
 
 -- so a site's base is in the range
-pub opened_in_range : (schema : SchemaValue) (s : ℕ) (empty : Bool) (bs : List Record) → AllByRecursion IsRecord bs → (base_of_records schema s empty bs).epoch ≤ max_epoch
+pub opened_in_range : (schema : SchemaValue) (s : ℕ) (empty : Bool) (bs : List Record) → AllByRecursion IsRecord bs
+    → (base_of_records schema s empty bs).epoch ≤ max_epoch
 opened_in_range schema s true bs is = omega arith
 opened_in_range schema s false bs is = greatest_in_range bs is
 
 -- ---- records
 
 -- the record of a command that writes one is in the ranges of its text
-pub record_in_range : (schema : SchemaValue) (s : ℕ) (base : Base) (o : List Entry) → IsSchema schema → IsRun schema s base o → base.epoch ≤ max_epoch → (c : Command)
-    → IsCutWithin (place schema s base o) c → first (refusals (place schema s base o) c) ≡ None → writes (place schema s base o) c ≡ true → IsRecord (record_at (place schema s base o) c)
+pub record_in_range : (schema : SchemaValue) (s : ℕ) (base : Base) (o : List Entry) → IsSchema schema → IsRun schema s base o
+    → base.epoch ≤ max_epoch → (c : Command)
+    → IsCutWithin (place schema s base o) c → first (refusals (place schema s base o) c) ≡ None → writes (place schema s base o) c ≡ true
+    → IsRecord (record_at (place schema s base o) c)
 record_in_range schema s base o limits run small (Commit txn) few h w =
     let at = place schema s base o in
     let none = none_holds (refusals at (Commit txn)) h in
@@ -193,7 +207,8 @@ record_in_range schema s base o limits run small (Commit txn) few h w =
       omega (arith, same, ltb-true 0 (count_escrows txn at.effects) w),
       omega (arith, same, ranged.few txn),
       each_reversed IsEscrow (escrows_of txn at.effects)
-          (each_weaker (IsGrantable (length schema.fields)) IsEscrow (λ e p. (omega (arith, p.0, limits.few_fields), p.1)) (escrows_of txn at.effects) (ranged.each txn)),
+          (each_weaker (IsGrantable (length schema.fields)) IsEscrow (λ e p. (omega (arith, p.0, limits.few_fields), p.1))
+          (escrows_of txn at.effects) (ranged.each txn)),
     )
 record_in_range schema s base o limits run small (Give to field kind amount) few h w =
     let at = place schema s base o in
@@ -205,7 +220,8 @@ record_in_range schema s base o limits run small (Give to field kind amount) few
 record_in_range schema s base o limits run small (Spare to field kind want) few h w =
     let at = place schema s base o in
     let none = none_holds (refusals at (Spare to field kind want)) h in
-    let some = spared_is_some (free at field kind) want (spare_has_a_share at to field kind want none) (spare_is_some at to field kind want none) in (
+    let some = spared_is_some (free at field kind) want (spare_has_a_share at to field kind want none)
+    (spare_is_some at to field kind want none) in (
       omega (arith, limits.few_sites, spare_is_to_a_site at to field kind want none),
       omega (arith, limits.few_fields, spare_is_in_schema at to field kind want none),
       (omega (arith, some), spare_has_room at to field kind want none),

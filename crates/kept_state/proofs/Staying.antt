@@ -41,7 +41,8 @@ all_reversed p (x ∷ xs) h =
     ap (list_all p) (reverse_onto xs x []) ∙ list_all-append p (reverse xs) (x ∷ []) ∙ rw (all_reversed p xs parts.1, parts.0) refl
 
 -- what holds of each escrow on a field of the schema holds of all that a transaction was granted
-all_granted : (schema : SchemaValue) (base : Base) (p : EscrowOf → Bool) (id : TxnId) → ((e : EscrowOf) → e.field.0 < length schema.fields → p e ≡ true) → (es : List Effect)
+all_granted : (schema : SchemaValue) (base : Base) (p : EscrowOf → Bool) (id : TxnId)
+    → ((e : EscrowOf) → e.field.0 < length schema.fields → p e ≡ true) → (es : List Effect)
     → IsLawful schema base es → list_all p (escrows_of id es) ≡ true
 all_granted schema base p id h [] lawful = refl
 all_granted schema base p id h (Grants txn field change ∷ es) lawful =
@@ -70,41 +71,50 @@ module _ (at : Place) (rs : List Record)
     (current : (id : TxnId) → is_begun id at.effects ≡ true → is_open id at.effects ≡ true → id.epoch ≡ epoch_of at.base at.entries)
   where
     -- what an open transaction holds is within the own rights
-    escrows_within : (txn : TxnId) → is_open txn at.effects ≡ true → (f : ℕ) (k : Kind) → sum_by (takes f k) (reverse (escrows_of txn at.effects)) ≤ own_in at.schema at.site rs f k
+    escrows_within : (txn : TxnId) → is_open txn at.effects ≡ true → (f : ℕ) (k : Kind)
+        → sum_by (takes f k) (reverse (escrows_of txn at.effects)) ≤ own_in at.schema at.site rs f k
     escrows_within txn opened f k =
         omega (
           arith,
           of_txn_kept txn f k at.effects,
           own_is f k,
-          granted-mono (λ id. same_txn txn id) (λ id. is_open id at.effects) (λ id same. subst (λ (x : TxnId). is_open x at.effects ≡ true) (same_txn-true txn id same) opened) f k at.effects,
+          granted-mono (λ id. same_txn txn id) (λ id. is_open id at.effects)
+              (λ id same. subst (λ (x : TxnId). is_open x at.effects ≡ true) (same_txn-true txn id same) opened) f k at.effects,
         )
 
     other_site : (site : SiteNo) → site.0 < at.schema.sites → site.0 ≢ at.site → is_other_site at.schema at.site site.0 ≡ true
     other_site site known apart = rw (lt-ltb site.0 at.schema.sites known, ne_eqb site.0 at.site apart) refl
 
-    gift_stands : (to : SiteNo) (field : FieldNo) (kind : Kind) (amount : ℕ) → to.0 < at.schema.sites → field.0 < length at.schema.fields → to.0 ≢ at.site
-        → 0 < amount → amount ≤ share at.base field.0 kind at.effects → may_follow at.schema at.site rs (records.Gift to field kind (told_so_far at to field kind + amount)) ≡ true
+    gift_stands : (to : SiteNo) (field : FieldNo) (kind : Kind) (amount : ℕ) → to.0 < at.schema.sites → field.0 < length at.schema.fields
+        → to.0 ≢ at.site
+        → 0 < amount → amount ≤ share at.base field.0 kind at.effects
+        → may_follow at.schema at.site rs (records.Gift to field kind (told_so_far at to field kind + amount)) ≡ true
     gift_stands to field kind amount site known apart some enough =
         let total = told_so_far at to field kind + amount in
         rw (
           other_site to site apart,
           lt-ltb field.0 (length at.schema.fields) known,
           lt-ltb (given_in rs to.0 field.0 kind) total (omega (arith, given_is to.0 field.0 kind, some)),
-          le-leb (total - given_in rs to.0 field.0 kind) (own_in at.schema at.site rs field.0 kind) (omega (arith, given_is to.0 field.0 kind, own_is field.0 kind, enough)),
+          le-leb (total - given_in rs to.0 field.0 kind) (own_in at.schema at.site rs field.0 kind)
+              (omega (arith, given_is to.0 field.0 kind, own_is field.0 kind, enough)),
         ) refl
 
-    pub stands_there : (c : Command) → first (refusals at c) ≡ None → writes at c ≡ true → may_follow at.schema at.site rs (record_at at c) ≡ true
+    pub stands_there : (c : Command) → first (refusals at c) ≡ None → writes at c ≡ true
+        → may_follow at.schema at.site rs (record_at at c) ≡ true
     stands_there (Commit txn) h w =
         let none = none_holds (refusals at (Commit txn)) h in
         let both = commit_is_opened at txn none in
         let escrows = reverse (escrows_of txn at.effects) in
         rw (
           eq-eqb txn.epoch (greatest rs) (current txn both.0 both.1 ∙ greatest_is),
-          all_reversed (may_commit at.schema at.site rs escrows) (escrows_of txn at.effects) (all_granted at.schema at.base (may_commit at.schema at.site rs escrows) txn
+          all_reversed (may_commit at.schema at.site rs escrows) (escrows_of txn at.effects)
+              (all_granted at.schema at.base (may_commit at.schema at.site rs escrows) txn
               (λ e below. rw (
                 lt-ltb e.field.0 (length at.schema.fields) below,
-                le-leb (sum_by (takes e.field.0 Lower) escrows) (own_in at.schema at.site rs e.field.0 Lower) (escrows_within txn both.1 e.field.0 Lower),
-                le-leb (sum_by (takes e.field.0 Raise) escrows) (own_in at.schema at.site rs e.field.0 Raise) (escrows_within txn both.1 e.field.0 Raise),
+                le-leb (sum_by (takes e.field.0 Lower) escrows) (own_in at.schema at.site rs e.field.0 Lower)
+                    (escrows_within txn both.1 e.field.0 Lower),
+                le-leb (sum_by (takes e.field.0 Raise) escrows) (own_in at.schema at.site rs e.field.0 Raise)
+                    (escrows_within txn both.1 e.field.0 Raise),
               ) refl)
               at.effects lawful),
         ) refl
@@ -130,7 +140,8 @@ module _ (at : Place) (rs : List Record)
         rw (
           lt-ltb field.0 (length at.schema.fields) (tighten_is_in_schema at field kind amount none),
           lt-ltb (cut_in rs field.0 kind) total (omega (arith, cut_is field.0 kind, tighten_is_some at field kind amount none)),
-          le-leb (total - cut_in rs field.0 kind) (own_in at.schema at.site rs field.0 kind) (omega (arith, cut_is field.0 kind, own_is field.0 kind, tighten_is_enough at field kind amount none)),
+          le-leb (total - cut_in rs field.0 kind) (own_in at.schema at.site rs field.0 kind)
+              (omega (arith, cut_is field.0 kind, own_is field.0 kind, tighten_is_enough at field kind amount none)),
         ) refl
     stands_there (Accept told) h w =
         let none = none_holds (refusals at (Accept told)) h in
@@ -139,7 +150,8 @@ module _ (at : Place) (rs : List Record)
         rw (
           other_site told.from (accept_is_from_a_site at told none) (accept_is_from_another at told none),
           lt-ltb f (length at.schema.fields) (accept_is_in_schema at told none),
-          lt-ltb (accepted_in rs told.from.0 f told.kind) told.total (omega (arith, old, ltb-true 0 (gain_of at told.from told.field told.kind told.total) w)),
+          lt-ltb (accepted_in rs told.from.0 f told.kind) told.total
+              (omega (arith, old, ltb-true 0 (gain_of at told.from told.field told.kind told.total) w)),
           le-leb (told.total - accepted_in rs told.from.0 f told.kind) (room_in at.schema at.site rs f)
               (omega (arith, old, own_is f Lower, own_is f Raise, cut_is f Lower, cut_is f Raise, accept_has_room at told none)),
         ) refl
@@ -158,7 +170,8 @@ writes_no_restart at Restart w = cc
 writes_no_restart at c w = refl
 
 -- the record of a command that writes one may stand behind those that the run has left
-pub run_lawful_more : (schema : SchemaValue) (s : ℕ) (base : Base) (bs : List Record) → IsBase schema s base bs → (kept : Bool) (o : List Entry) (rs : List Record)
+pub run_lawful_more : (schema : SchemaValue) (s : ℕ) (base : Base) (bs : List Record) → IsBase schema s base bs
+    → (kept : Bool) (o : List Entry) (rs : List Record)
     → IsRun schema s base o → Keeps schema s base bs kept o rs → (c : Command) → first (refusals (place schema s base o) c) ≡ None
     → writes (place schema s base o) c ≡ true → may_follow schema s rs (record_at (place schema s base o) c) ≡ true
 run_lawful_more schema s base bs is kept o rs run keeps c h w =
@@ -166,10 +179,13 @@ run_lawful_more schema s base bs is kept o rs run keeps c h w =
     let same = nothing_in_doubt base kept o up in
     stands_there (place schema s base o) rs
     (up_epoch schema s base bs is kept o rs keeps up)
-    (λ f k. subst (λ (es : List Effect). own_rights base f k es ≡ own_in schema s rs f k) same (run_owns schema s base bs kept o rs is run keeps f k))
-    (λ to f k. subst (λ (es : List Effect). total_given base to f k es ≡ given_in rs to f k) same (run_gives schema s base bs kept o rs is run keeps to f k))
+    (λ f k. subst (λ (es : List Effect). own_rights base f k es ≡ own_in schema s rs f k) same
+    (run_owns schema s base bs kept o rs is run keeps f k))
+    (λ to f k. subst (λ (es : List Effect). total_given base to f k es ≡ given_in rs to f k) same
+    (run_gives schema s base bs kept o rs is run keeps to f k))
     (λ f k. subst (λ (es : List Effect). cut base f k es ≡ cut_in rs f k) same (run_cuts schema s base bs kept o rs is run keeps f k))
-    (λ from f k. subst (λ (es : List Effect). total_accepted base from f k es ≡ accepted_in rs from f k) same (run_accepts schema s base bs kept o rs is run keeps from f k))
+    (λ from f k. subst (λ (es : List Effect). total_accepted base from f k es ≡ accepted_in rs from f k) same
+    (run_accepts schema s base bs kept o rs is run keeps from f k))
     (run_is_lawful schema s base o run false)
     (λ id. open_is_current schema s base o run false id)
     c h w

@@ -16,13 +16,16 @@ use Rattle.kept_state.proofs.Lasting.{run_stays_lawful}
 use Rattle.kept_state.proofs.Ranges.{record_in_range}
 use Rattle.kept_state.proofs.Staying.{run_lawful_more}
 
-module _ (schema : SchemaValue) (s : ℕ) (base : Base) (bs : List Record) (is : IsBase schema s base bs) (lawful : Lawful schema s bs) (kept : Bool) (o : List Entry) (rs : List Record)
+module _ (schema : SchemaValue) (s : ℕ) (base : Base) (bs : List Record) (is : IsBase schema s base bs) (lawful : Lawful schema s bs)
+    (kept : Bool) (o : List Entry) (rs : List Record)
     (good : IsSchema schema) (below : s < schema.sites) (run : IsRun schema s base o) (keeps : Keeps schema s base bs kept o rs)
   where
     -- what is guarded of a field is no more than its width, and so is what was given up
-    pub cut_within : (c : Command) → first (refusals (place schema s base o) c) ≡ None → writes (place schema s base o) c ≡ true → IsCutWithin (place schema s base o) c
+    pub cut_within : (c : Command) → first (refusals (place schema s base o) c) ≡ None → writes (place schema s base o) c ≡ true
+        → IsCutWithin (place schema s base o) c
     cut_within (Tighten field kind amount) h w =
-        tighten_few schema good s below rs (run_stays_lawful schema s base bs is lawful kept o rs run keeps) field kind (cut_so_far (place schema s base o) field kind + amount)
+        tighten_few schema good s below rs (run_stays_lawful schema s base bs is lawful kept o rs run keeps) field kind
+        (cut_so_far (place schema s base o) field kind + amount)
         (run_lawful_more schema s base bs is kept o rs run keeps (Tighten field kind amount) h w)
     cut_within Begin h w = tt
     cut_within (Escrow txn field change) h w = tt
@@ -36,5 +39,6 @@ module _ (schema : SchemaValue) (s : ℕ) (base : Base) (bs : List Record) (is :
     cut_within (Share field) h w = tt
     cut_within Restart h w = tt
 
-    pub written_in_range : (c : Command) → base.epoch ≤ max_epoch → first (refusals (place schema s base o) c) ≡ None → writes (place schema s base o) c ≡ true → IsRecord (record_at (place schema s base o) c)
+    pub written_in_range : (c : Command) → base.epoch ≤ max_epoch → first (refusals (place schema s base o) c) ≡ None
+        → writes (place schema s base o) c ≡ true → IsRecord (record_at (place schema s base o) c)
     written_in_range c small h w = record_in_range schema s base o good run small c (cut_within c h w) h w

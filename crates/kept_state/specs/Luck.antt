@@ -145,4 +145,5 @@ epoch_kept (Shares lower raise) luck kept = kept
 -- The one reply after what a site has lived through.
 abbrev pub lucky_reply : SchemaValue → ℕ → Base → List Lucky → Command → Luck → Reply
 lucky_reply schema s base xs command luck =
-    owed_with (place schema s base (entries xs)) (epoch_of base (entries xs) + covered_restarts base xs) (doubt schema s base xs) command luck
+    owed_with (place schema s base (entries xs)) (epoch_of base (entries xs) + covered_restarts base xs)
+    (doubt schema s base xs) command luck

@@ -21,14 +21,14 @@ ghost use Rattle.kept_state.specs.Doubt.{InDoubt};
 ghost use Rattle.kept_state.specs.Luck.{Lucky, entries, lucky_reply};
 
 /// What a site's records stand for is what its entries come to. The site stands on a base, which is
-/// what the records `bs` stand for, and has lived through the entries `o`, the newest first, each of
-/// whose replies it owed; these left the records `rs`, the oldest first. `kept` tells whether a
+/// what the records `bs` stand for, and has lived through the entries `o`, the newest first, each
+/// of whose replies it owed; these left the records `rs`, the oldest first. `kept` tells whether a
 /// record that is in doubt is kept.
 ///
 /// At every time, not only after a restart, its own rights (`owned`) and the totals of what it gave
-/// (`gives`), gave up (`cuts`) and accepted (`accepts`) are those of its records, in rights. After a
-/// restart its share is what the records own, and nothing is held (`restarts`). While it is up its
-/// epoch is the greatest that is kept (`epoch`), and no reply is in doubt (`counts`).
+/// (`gives`), gave up (`cuts`) and accepted (`accepts`) are those of its records, in rights. After
+/// a restart its share is what the records own, and nothing is held (`restarts`). While it is up
+/// its epoch is the greatest that is kept (`epoch`), and no reply is in doubt (`counts`).
 ///
 /// Each record that it adds may stand behind those before it (`lawful`). A record that is in doubt
 /// stands behind some of the records, if it is kept, and only records of restarts behind it
@@ -36,8 +36,8 @@ ghost use Rattle.kept_state.specs.Luck.{Lucky, entries, lucky_reply};
 /// kept and 1 more is one that a restart may answer (`fits`), up to the last, at which it may be
 /// refused (`refused`).
 ///
-/// A site may stand on what any lawful records stand for (`stands`), and on a fresh base where there
-/// are none (`fresh`). An entry leaves at most one record (`length`).
+/// A site may stand on what any lawful records stand for (`stands`), and on a fresh base where
+/// there are none (`fresh`). An entry leaves at most one record (`length`).
 ///
 /// Source: Balegas and others 2015 for rights as totals that only grow, this project for the law.
 pub fn records_stand()
@@ -60,7 +60,8 @@ pub fn records_stand()
         total_accepted base from f k (effects base kept o) ≡ accepted_in rs from f k }
     ensures restarts { (schema : SchemaValue) (s : ℕ) (base : Base) (bs : List Record) (kept : Bool)
         (e : Entry) (o : List Entry) (rs : List Record) (epoch : ℕ) (found : Last) →
-        IsBase schema s base bs → IsRun schema s base (e ∷ o) → Keeps schema s base bs kept (e ∷ o) rs →
+        IsBase schema s base bs → IsRun schema s base (e ∷ o)
+        → Keeps schema s base bs kept (e ∷ o) rs →
         e.command ≡ Restart → e.reply ≡ Restarted epoch found → (f : ℕ) (k : Kind) →
         (share base f k (effects base kept (e ∷ o)) ≡ own_in schema s rs f k)
         × (held_rights f k (effects base kept (e ∷ o)) ≡ 0) }
@@ -99,10 +100,11 @@ pub fn records_stand()
         Keeps schema s base bs kept o rs → length rs ≤ length bs + length o }
 {}
 
-/// The one reply that luck leaves is owed: whatever a site has lived through, and however the append
-/// of its next step goes, the reply that this gives is one that it owes there.
+/// The one reply that luck leaves is owed: whatever a site has lived through, and however the
+/// append of its next step goes, the reply that this gives is one that it owes there.
 pub fn lucky_replies_are_owed()
     ensures owed { (schema : SchemaValue) (s : ℕ) (base : Base) (xs : List Lucky)
         (command : Command) (luck : Luck) →
-        Fits (place schema s base (entries xs)) command (lucky_reply schema s base xs command luck) }
+        Fits (place schema s base (entries xs)) command
+        (lucky_reply schema s base xs command luck) }
 {}

@@ -5,7 +5,7 @@
 pub enum Luck {
     /// The append is whole.
     Fine,
-    /// The append is torn: the medium keeps so many bytes of the record, or all of it where it has no more, and the site
-    /// doesn't learn which.
+    /// The append is torn: the medium keeps so many bytes of the record, or all of it where it has
+    /// no more, and the site doesn't learn which.
     Torn(u64),
 }

@@ -31,10 +31,12 @@ pub fn replies_leave()
     ensures answered { (schema : SchemaValue) (s : ℕ) (base : Base) (bs : List Record) (kept : Bool)
         (o : List Entry) (rs : List Record) (site : SiteNo) (command : Command) →
         Keeps schema s base bs kept o rs → command ≢ Restart →
-        Keeps schema s base bs kept (entry_at site command (answer (place schema s base o) command) ∷ o)
+        Keeps schema s base bs kept (entry_at site command (answer (place schema s base o) command)
+        ∷ o)
         (rs ++ record_left (place schema s base o) command) }
     ensures refused { (schema : SchemaValue) (s : ℕ) (base : Base) (bs : List Record) (kept : Bool)
-        (o : List Entry) (rs : List Record) (site : SiteNo) (command : Command) (refusal : Refusal) →
+        (o : List Entry) (rs : List Record) (site : SiteNo) (command : Command)
+        (refusal : Refusal) →
         Keeps schema s base bs kept o rs →
         Keeps schema s base bs kept (entry_at site command (Refused refusal) ∷ o) rs }
     ensures unsure { (schema : SchemaValue) (s : ℕ) (base : Base) (bs : List Record) (kept : Bool)
@@ -42,7 +44,8 @@ pub fn replies_leave()
         Keeps schema s base bs kept o rs → is_up base o ≡ true →
         Keeps schema s base bs stood (entry_at site command Unsure ∷ o)
         (rs ++ adds (place schema s base o) command Unsure stood rs) }
-    ensures still_down { (schema : SchemaValue) (s : ℕ) (base : Base) (bs : List Record) (kept : Bool)
+    ensures still_down { (schema : SchemaValue) (s : ℕ) (base : Base) (bs : List Record)
+        (kept : Bool)
         (o : List Entry) (rs : List Record) (site : SiteNo) (command : Command) (stood : Bool) →
         Keeps schema s base bs kept o rs →
         Keeps schema s base bs kept (entry_at site command StillDown ∷ o)
@@ -55,10 +58,10 @@ pub fn replies_leave()
         (rs ++ records.Restart (greatest rs + 1) ∷ []) }
 {}
 
-/// Where the record in doubt stands after one more reply. A reply in doubt puts its record behind all
-/// those before it (`unsure`); a restart that failed (`still_down`) and a refusal (`refused`) leave
-/// it where it is. Where nothing is in doubt, any other reply leaves nothing in doubt (`sure`), and
-/// so does a restart (`restarted`).
+/// Where the record in doubt stands after one more reply. A reply in doubt puts its record behind
+/// all those before it (`unsure`); a restart that failed (`still_down`) and a refusal (`refused`)
+/// leave it where it is. Where nothing is in doubt, any other reply leaves nothing in doubt
+/// (`sure`), and so does a restart (`restarted`).
 ///
 /// A restart tells of a record in doubt exactly where there is one (`tells`), and that it is kept
 /// exactly where it is (`finds`).
@@ -70,12 +73,14 @@ pub fn doubt_is_settled()
     ensures still_down { (at : Place) (site : SiteNo) (command : Command) (kept : Bool)
         (o : List Entry) (rs : List Record) (stood : Bool) (doubt : Option ℕ) →
         IsDoubt kept o rs doubt →
-        IsDoubt kept (entry_at site command StillDown ∷ o) (rs ++ adds at command StillDown stood rs) doubt }
+        IsDoubt kept (entry_at site command StillDown ∷ o)
+        (rs ++ adds at command StillDown stood rs) doubt }
     ensures refused { (site : SiteNo) (command : Command) (refusal : Refusal) (kept : Bool)
         (o : List Entry) (rs : List Record) (doubt : Option ℕ) → IsDoubt kept o rs doubt →
         IsDoubt kept (entry_at site command (Refused refusal) ∷ o) rs doubt }
     ensures sure { (site : SiteNo) (command : Command) (reply : Reply) (kept later : Bool)
-        (o : List Entry) (rs more : List Record) → is_unsure reply ≡ false → IsDoubt kept o rs None →
+        (o : List Entry) (rs more : List Record) → is_unsure reply ≡ false
+        → IsDoubt kept o rs None →
         IsDoubt later (entry_at site command reply ∷ o) more None }
     ensures restarted { (site : SiteNo) (command : Command) (epoch : ℕ) (found : Last) (kept : Bool)
         (o : List Entry) (rs : List Record) →

@@ -39,14 +39,16 @@ pub number_again : (limit n : ℕ) → limit ≤ 2 ^ 64 → n < limit → number
 unfolding number_of
 number_again limit n small lt =
     let is : digits_value 10 (decimal n) ≡ n = (decimal_is_IsNumeral n (omega arith)).1 in
-    rw is (cond-true _ _ _ (and_from (ltb n limit) (bytes_eq (decimal n) (decimal n)) (lt-ltb n limit lt) ((bytes_eq-Decides (decimal n) (decimal n)).1 refl)))
+    rw is (cond-true _ _ _ (and_from (ltb n limit) (bytes_eq (decimal n) (decimal n)) (lt-ltb n limit lt)
+    ((bytes_eq-Decides (decimal n) (decimal n)).1 refl)))
 
 -- where no number below the limit has this spelling
 pub number_none : (limit : ℕ) (w : List ℕ) → ((n : ℕ) → n < limit → w ≡ decimal n → ⊥) → number_of limit w ≡ None
 number_none limit w never = none_by (number_of limit w) (λ n e. let t = number_takes limit w n e in never n t.0 t.1)
 
 -- no digits, or a leading zero
-pub number_bad_start : (limit : ℕ) (w : List ℕ) → limit ≤ 2 ^ 64 → (length w ≡ 0) ⊎ ((get_or w 0 0 ≡ 48) × (1 < length w)) → number_of limit w ≡ None
+pub number_bad_start : (limit : ℕ) (w : List ℕ) → limit ≤ 2 ^ 64 → (length w ≡ 0) ⊎ ((get_or w 0 0 ≡ 48) × (1 < length w))
+    → number_of limit w ≡ None
 number_bad_start limit w small bad = number_none limit w (λ n lt e.
     elim bad [
       | inl empty ↦ omega (arith, ap length e, decimal_nonempty n (omega arith))
@@ -59,7 +61,8 @@ number_bad_start limit w small bad = number_none limit w (λ n lt e.
     ])
 
 -- digits with no leading zero
-pub number_good : (limit : ℕ) (w : List ℕ) (v : ℕ) → limit ≤ 2 ^ 64 → AllDigits 10 w → 0 < length w → (get_or w 0 0 ≡ 48 → length w ≡ 1) → v ≡ digits_value 10 w → v < limit → number_of limit w ≡ Some v
+pub number_good : (limit : ℕ) (w : List ℕ) (v : ℕ) → limit ≤ 2 ^ 64 → AllDigits 10 w → 0 < length w → (get_or w 0 0 ≡ 48 → length w ≡ 1)
+    → v ≡ digits_value 10 w → v < limit → number_of limit w ≡ Some v
 number_good limit w v small all long start v-is lt =
     let lt' : digits_value 10 w < 2 ^ 64 = omega arith in
     let spelled : decimal v ≡ w = ap decimal v-is ∙ decimal-digits_value (numerals_by_value _ tells_digits) w all long start lt' in
@@ -73,13 +76,15 @@ pub digit_is_not : (c : ℕ) → is_ascii_digit c ≡ false → ¬ (IsInRange 48
 digit_is_not c e h = grind (arith, nat_tests)
 
 -- a byte that is no digit
-pub number_no_digit : (limit : ℕ) (w : List ℕ) (i : ℕ) → limit ≤ 2 ^ 64 → i < length w → is_ascii_digit (get_or w i 0) ≡ false → number_of limit w ≡ None
+pub number_no_digit : (limit : ℕ) (w : List ℕ) (i : ℕ) → limit ≤ 2 ^ 64 → i < length w → is_ascii_digit (get_or w i 0) ≡ false
+    → number_of limit w ≡ None
 number_no_digit limit w i small lt e = number_none limit w (λ n below e'.
     let all : AllDigits 10 w = subst (λ (l : List ℕ). AllDigits 10 l) (sym e') (decimal_is_IsNumeral n (omega arith)).0.1 in
     digit_is_not (get_or w i 0) e (digit_at w i all lt))
 
 -- the digits so far are too much
-pub number_too_large : (limit : ℕ) (w : List ℕ) (i : ℕ) → limit ≤ 2 ^ 64 → i < length w → limit ≤ digits_value 10 (take i w) * 10 + digit_value (get_or w i 0) → number_of limit w ≡ None
+pub number_too_large : (limit : ℕ) (w : List ℕ) (i : ℕ) → limit ≤ 2 ^ 64 → i < length w
+    → limit ≤ digits_value 10 (take i w) * 10 + digit_value (get_or w i 0) → number_of limit w ≡ None
 number_too_large limit w i small lt over = number_none limit w (λ n below e.
     let is : digits_value 10 w ≡ n = ap (digits_value 10) e ∙ (decimal_is_IsNumeral n (omega arith)).1 in
     omega (arith, digits_value_more 10 w i lt, digits_value-take-le 10 w (i + 1) (omega arith)))

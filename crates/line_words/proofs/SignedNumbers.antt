@@ -53,8 +53,10 @@ signed_takes (c ∷ w) z e =
           let small : n ≤ 2 ^ 63 = ltb-false (2 ^ 63) n k.0 in
           let c-is : c ≡ 45 = eqb-true c 45 h.0 in
           let n-is : n ≡ suc (n - 1) = omega arith in
-          let fits : FitsSigned w64 (negsuc (n - 1)) = omega (arith, ints) in
-          (subst (λ (y : ℤ). FitsSigned w64 y) z-is fits, ap (λ (b : ℕ). b ∷ w) c-is ∙ ap (λ (l : List ℕ). 45 ∷ l) (t.1 ∙ ap decimal n-is) ∙ ap signed_decimal z-is)
+          let fits : FitsSigned w64 (negsuc (n - 1)) = omega (arith, ints) in (
+            subst (λ (y : ℤ). FitsSigned w64 y) z-is fits,
+            ap (λ (b : ℕ). b ∷ w) c-is ∙ ap (λ (l : List ℕ). 45 ∷ l) (t.1 ∙ ap decimal n-is) ∙ ap signed_decimal z-is,
+          )
       | inr h ↦
           let b = bind_some (number_of (2 ^ 64) (c ∷ w)) plain_of z h.1 in
           let n = b.0 in
@@ -87,7 +89,8 @@ unfolding signed_of negative_of positive_of
 signed_again (pos n) fits =
     let lt : n < 2 ^ 63 = omega (arith, ints, fits) in
     let d = decimal_first n (omega arith) in
-    plain_word (decimal n) (λ e. omega arith) ∙ positive_is (decimal n) n (number_again (2 ^ 64) n (omega arith) (omega arith)) (omega arith)
+    plain_word (decimal n) (λ e. omega arith) ∙ positive_is (decimal n) n (number_again (2 ^ 64) n (omega arith) (omega arith))
+    (omega arith)
 signed_again (negsuc n) fits =
     let lt : n < 2 ^ 63 = omega (arith, ints, fits) in
     let n-is : suc n - 1 ≡ n = omega arith in

@@ -56,7 +56,8 @@ below_read limit small = record {
 abbrev pub IsTable : {A : Type 0} → (A → List ℕ) → List (List ℕ × A) → Type 0
 IsTable text table = AllByRecursion (λ e. e.0 ≡ text e.1) table
 
-beside_takes : {A : Type 0} (text : A → List ℕ) (table : List (List ℕ × A)) → IsTable text table → (w : List ℕ) (v : A) → beside table w ≡ Some v → w ≡ text v
+beside_takes : {A : Type 0} (text : A → List ℕ) (table : List (List ℕ × A)) → IsTable text table → (w : List ℕ) (v : A)
+    → beside table w ≡ Some v → w ≡ text v
 beside_takes text [] all w v e = absurd cc
 beside_takes text (k ∷ table) all w v e =
     elim (chosen (bytes_eq w k.0) (Some k.1) (beside table w) (Some v) e) [
@@ -65,7 +66,8 @@ beside_takes text (k ∷ table) all w v e =
     ]
 
 -- what a table finds, it finds at one of its words
-beside_word : {A : Type 0} (table : List (List ℕ × A)) (w : List ℕ) (v : A) → list_all (λ e. is_word e.0) table ≡ true → beside table w ≡ Some v → IsWord w
+beside_word : {A : Type 0} (table : List (List ℕ × A)) (w : List ℕ) (v : A) → list_all (λ e. is_word e.0) table ≡ true
+    → beside table w ≡ Some v → IsWord w
 beside_word [] w v all e = absurd cc
 beside_word (k ∷ table) w v all e =
     let words = and_parts (is_word k.0) (list_all (λ e. is_word e.0) table) all in
@@ -75,7 +77,8 @@ beside_word (k ∷ table) w v all e =
     ]
 
 -- a table of words, at which each value is found by its text
-pub table_read : {A : Type 0} (text : A → List ℕ) (table : List (List ℕ × A)) → IsTable text table → list_all (λ e. is_word e.0) table ≡ true → ((v : A) → beside table (text v) ≡ Some v) → IsRead (λ v. Unit {0}) text (beside table)
+pub table_read : {A : Type 0} (text : A → List ℕ) (table : List (List ℕ × A)) → IsTable text table
+    → list_all (λ e. is_word e.0) table ≡ true → ((v : A) → beside table (text v) ≡ Some v) → IsRead (λ v. Unit {0}) text (beside table)
 table_read text table is words again = record {
   takes = λ w v e. (tt, beside_takes text table is w v e);
   again = λ v fits. again v;

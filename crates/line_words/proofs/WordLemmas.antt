@@ -18,12 +18,16 @@ abbrev is_space : ℕ → Bool
 is_space b = b == 32
 
 -- up to the first space
-pub words_first : (bytes : List ℕ) (i : ℕ) → position (λ b. b == 32) bytes ≡ Some i → (i < length bytes) × (words bytes ≡ take i bytes ∷ words (drop (i + 1) bytes))
+pub words_first : (bytes : List ℕ) (i : ℕ) → position (λ b. b == 32) bytes ≡ Some i → (i < length bytes)
+    × (words bytes ≡ take i bytes ∷ words (drop (i + 1) bytes))
 words_first bytes i e =
     let p = cond_some (ltb (position_or_len is_space bytes) (length bytes)) (position_or_len is_space bytes) i e in
     let lt : position_or_len is_space bytes < length bytes = ltb-true _ _ p.0 in
-    let i-is : position_or_len is_space bytes ≡ i = p.1 in
-    (subst (λ (n : ℕ). n < length bytes) i-is lt, slice_split_first is_space bytes 0 lt ∙ ap (λ (n : ℕ). take n bytes ∷ words (drop (n + 1) bytes)) i-is)
+    let i-is : position_or_len is_space bytes ≡ i = p.1 in (
+      subst (λ (n : ℕ). n < length bytes) i-is lt,
+      slice_split_first is_space bytes 0 lt
+          ∙ ap (λ (n : ℕ). take n bytes ∷ words (drop (n + 1) bytes)) i-is,
+    )
 
 none_past : {A : Type 0} (b : Bool) (x : A) → cond b (Some x) None ≡ None → b ≡ false
 none_past true x e = absurd cc
@@ -33,7 +37,8 @@ none_past false x e = refl
 pub words_last : (bytes : List ℕ) → position (λ b. b == 32) bytes ≡ None → words bytes ≡ bytes ∷ []
 words_last bytes e =
     let le : length bytes ≤ position_or_len is_space bytes = ltb-false _ _ (none_past _ _ e) in
-    slice_split_none is_space bytes (All-from_get_or (λ x. is_space x ≡ false) bytes 0 (λ k lt. fails_before_first is_space bytes k 0 (omega arith)))
+    slice_split_none is_space bytes (All-from_get_or (λ x. is_space x ≡ false) bytes 0
+    (λ k lt. fails_before_first is_space bytes k 0 (omega arith)))
 
 -- a byte that can be seen: no space, no line feed, ASCII
 abbrev pub IsWordByte : ℕ → Type 0
@@ -53,7 +58,8 @@ no_space w h = All-from_recursion _ w (weaker w h)
 -- cutting undoes joining
 pub words-join : (w : List ℕ) (ws : List (List ℕ)) → IsWord w → AllByRecursion IsWord ws → words (join_with_byte 32 (w ∷ ws)) ≡ w ∷ ws
 words-join w [] h hs = slice_split_none is_space w (no_space w h)
-words-join w (v ∷ ws) h hs = slice_split_at is_space w 32 (join_with_byte 32 (v ∷ ws)) (no_space w h) refl ∙ ap (λ (l : List (List ℕ)). w ∷ l) (words-join v ws hs.0 hs.1)
+words-join w (v ∷ ws) h hs = slice_split_at is_space w 32 (join_with_byte 32 (v ∷ ws)) (no_space w h) refl
+    ∙ ap (λ (l : List (List ℕ)). w ∷ l) (words-join v ws hs.0 hs.1)
 
 -- joining undoes cutting
 pub join-words : (bytes : List ℕ) → join_with_byte 32 (words bytes) ≡ bytes
@@ -98,6 +104,8 @@ word_from_test (b ∷ w) e =
     ((omega arith, omega arith), word_from_test w p.1)
 
 -- two lines with a space between them are the line of all words
-pub line-append : (w : List ℕ) (ws : List (List ℕ)) (v : List ℕ) (vs : List (List ℕ)) → join_with_byte 32 (w ∷ ws ++ v ∷ vs) ≡ join_with_byte 32 (w ∷ ws) ++ (32 ∷ join_with_byte 32 (v ∷ vs))
+pub line-append : (w : List ℕ) (ws : List (List ℕ)) (v : List ℕ) (vs : List (List ℕ))
+    → join_with_byte 32 (w ∷ ws ++ v ∷ vs) ≡ join_with_byte 32 (w ∷ ws) ++ (32 ∷ join_with_byte 32 (v ∷ vs))
 line-append w [] v vs = refl
-line-append w (x ∷ ws) v vs = ap (λ (l : List ℕ). w ++ (32 ∷ l)) (line-append x ws v vs) ∙ sym (append_assoc w (32 ∷ join_with_byte 32 (x ∷ ws)) (32 ∷ join_with_byte 32 (v ∷ vs)))
+line-append w (x ∷ ws) v vs = ap (λ (l : List ℕ). w ++ (32 ∷ l)) (line-append x ws v vs)
+    ∙ sym (append_assoc w (32 ∷ join_with_byte 32 (x ∷ ws)) (32 ∷ join_with_byte 32 (v ∷ vs)))

@@ -48,7 +48,8 @@ each_at P (x ∷ xs) (suc i) d below all = each_at P xs i d (omega (arith, below
 pub gifts_none : (ledger : LedgerValue) → NotesGifts ledger [] ledger
 gifts_none ledger = record { site = refl; place = λ r f h. h; given = λ r f k. refl; accepted = λ r f k. refl }
 
-pub gifts_more : (old now : LedgerValue) (ts : List Total) (i : ℕ) → i < length ts → NotesGifts old (take i ts) now → (t : Total) → t ≡ get_or ts i no_total → IsSlot now t.site.0 t.field.0
+pub gifts_more : (old now : LedgerValue) (ts : List Total) (i : ℕ) → i < length ts → NotesGifts old (take i ts) now → (t : Total)
+    → t ≡ get_or ts i no_total → IsSlot now t.site.0 t.field.0
     → NotesGifts old (take (i + 1) ts) (with_total now t.site.0 t.field.0 t.kind t.total)
 gifts_more old now ts i below was t is here =
     let new : Account = record { given = t.total; accepted = accepted_at now t.site.0 t.field.0 t.kind } in
@@ -66,7 +67,8 @@ gifts_more old now ts i below was t is here =
 pub accepts_none : (ledger : LedgerValue) → NotesAccepts ledger [] ledger
 accepts_none ledger = record { site = refl; place = λ r f h. h; given = λ r f k. refl; accepted = λ r f k. refl }
 
-pub accepts_more : (old now : LedgerValue) (ts : List Total) (i : ℕ) → i < length ts → NotesAccepts old (take i ts) now → (t : Total) → t ≡ get_or ts i no_total → IsSlot now t.site.0 t.field.0
+pub accepts_more : (old now : LedgerValue) (ts : List Total) (i : ℕ) → i < length ts → NotesAccepts old (take i ts) now → (t : Total)
+    → t ≡ get_or ts i no_total → IsSlot now t.site.0 t.field.0
     → NotesAccepts old (take (i + 1) ts) (with_accepted now t.site.0 t.field.0 t.kind t.total)
 accepts_more old now ts i below was t is here =
     let new : Account = record { given = total_at now t.site.0 t.field.0 t.kind; accepted = t.total } in
@@ -82,11 +84,16 @@ accepts_more old now ts i below was t is here =
     }
 
 -- totals of a summary have places in a fresh ledger
-pub placed_fresh : (schema : SchemaValue) (s : ℕ) (ts : List Total) → AllByRecursion (λ t. IsWhereDue schema s t) ts → AllByRecursion (λ t. IsSlot (fresh_ledger schema s) t.site.0 t.field.0) ts
+pub placed_fresh : (schema : SchemaValue) (s : ℕ) (ts : List Total) → AllByRecursion (λ t. IsWhereDue schema s t) ts
+    → AllByRecursion (λ t. IsSlot (fresh_ledger schema s) t.site.0 t.field.0) ts
 placed_fresh schema s [] all = tt
-placed_fresh schema s (t ∷ ts) all = (fresh_place schema s t.site.0 t.field.0 all.0.other all.0.site_in all.0.field_in, placed_fresh schema s ts all.1)
+placed_fresh schema s (t ∷ ts) all = (
+  fresh_place schema s t.site.0 t.field.0 all.0.other all.0.site_in all.0.field_in,
+  placed_fresh schema s ts all.1,
+)
 
-pub placed_still : (old new : LedgerValue) → ((r f : ℕ) → IsSlot old r f → IsSlot new r f) → (ts : List Total) → AllByRecursion (λ t. IsSlot old t.site.0 t.field.0) ts → AllByRecursion (λ t. IsSlot new t.site.0 t.field.0) ts
+pub placed_still : (old new : LedgerValue) → ((r f : ℕ) → IsSlot old r f → IsSlot new r f) → (ts : List Total)
+    → AllByRecursion (λ t. IsSlot old t.site.0 t.field.0) ts → AllByRecursion (λ t. IsSlot new t.site.0 t.field.0) ts
 placed_still old new stays [] all = tt
 placed_still old new stays (t ∷ ts) all = (stays t.site.0 t.field.0 all.0, placed_still old new stays ts all.1)
 
@@ -104,13 +111,16 @@ told_kind rights f Raise = refl
 abbrev pub cuts_told : SchemaValue → SummaryValue → List (ℕ × ℕ)
 cuts_told schema v = rights_of (cut_told v.tightenings) (length schema.fields)
 
-pub cuts_read : (schema : SchemaValue) (v : SummaryValue) (ts : List Cut) (fields : ℕ) (pairs : List (ℕ × ℕ)) → ts ≡ v.tightenings → fields ≡ length schema.fields → pairs ≡ rights_of (cut_told ts) fields → pairs ≡ cuts_told schema v
-cuts_read schema v ts fields pairs told-is fields-is is = is ∙ ap (λ (x : List Cut). rights_of (cut_told x) fields) told-is ∙ ap (λ (n : ℕ). rights_of (cut_told v.tightenings) n) fields-is
+pub cuts_read : (schema : SchemaValue) (v : SummaryValue) (ts : List Cut) (fields : ℕ) (pairs : List (ℕ × ℕ)) → ts ≡ v.tightenings
+    → fields ≡ length schema.fields → pairs ≡ rights_of (cut_told ts) fields → pairs ≡ cuts_told schema v
+cuts_read schema v ts fields pairs told-is fields-is is =
+    is ∙ ap (λ (x : List Cut). rights_of (cut_told x) fields) told-is ∙ ap (λ (n : ℕ). rights_of (cut_told v.tightenings) n) fields-is
 
 pub cuts_count : (schema : SchemaValue) (v : SummaryValue) → length (cuts_told schema v) ≡ length schema.fields
 cuts_count schema v = rights_length (cut_told v.tightenings) (length schema.fields)
 
-pub rights_within : (schema : SchemaValue) → IsSchema schema → (s : ℕ) → s < schema.sites → (v : SummaryValue) (rs : List Record) → Lawful schema s rs → TellsOf schema s v rs
+pub rights_within : (schema : SchemaValue) → IsSchema schema → (s : ℕ) → s < schema.sites → (v : SummaryValue) (rs : List Record)
+    → Lawful schema s rs → TellsOf schema s v rs
     → AreWithin schema v.rights (cuts_told schema v)
 rights_within schema good s below v rs lawful tells f few =
     let l : f < length schema.fields = omega (arith, few, tells.count) in
@@ -128,16 +138,24 @@ told_fold : (ts : List Total) (r f : ℕ) (k : Kind) → fold (told_more r f k) 
 unfolding total_told
 told_fold ts r f k = refl
 
-pub stands_told : (schema : SchemaValue) (s : ℕ) (v : SummaryValue) (rs : List Record) (rows : List FieldRights) (mid ledger : LedgerValue) → TellsOf schema s v rs → AreTold schema v.rights (cuts_told schema v) rows
+pub stands_told : (schema : SchemaValue) (s : ℕ) (v : SummaryValue) (rs : List Record) (rows : List FieldRights) (mid ledger : LedgerValue)
+    → TellsOf schema s v rs → AreTold schema v.rights (cuts_told schema v) rows
     → NotesGifts (fresh_ledger schema s) v.gifts mid → NotesAccepts mid v.accepts ledger → StandsFor schema s rs rows ledger v.epoch
 stands_told schema s v rs rows mid ledger tells rights gifts accepts =
     record {
       count = rights.count;
       width = λ f l. (rights.each f l).width;
-      own = λ f k l. omega (arith, (rights.each f l).free k, told_kind v.rights f k, tells.rights f k (omega (arith, l, rights.count)), (rights.each f l).held k);
+      own = λ f k l. omega (
+        arith,
+        (rights.each f l).free k,
+        told_kind v.rights f k,
+        tells.rights f k (omega (arith, l, rights.count)),
+        (rights.each f l).held k,
+      );
       cut = λ f k l.
           let below : f < length schema.fields = omega (arith, l, rights.count) in
-          (rights.each f l).cut k ∙ told_kind (cuts_told schema v) f k ∙ rights_told_at (cut_told v.tightenings) (length schema.fields) f k below ∙ tells.cut f k below;
+          (rights.each f l).cut k ∙ told_kind (cuts_told schema v) f k
+          ∙ rights_told_at (cut_told v.tightenings) (length schema.fields) f k below ∙ tells.cut f k below;
       place = λ r f o. accepts.place r f (gifts.place r f (fresh_place schema s r f o.other o.site_in o.field_in));
       given = λ r f k o.
           accepts.given r f k ∙ gifts.given r f k
@@ -145,7 +163,8 @@ stands_told schema s v rs rows mid ledger tells rights gifts accepts =
           ∙ told_fold v.gifts r f k ∙ tells.given r f k o.site_in o.other o.field_in;
       accepted = λ r f k o.
           accepts.accepted r f k
-          ∙ ap (λ (n : ℕ). fold (told_more r f k) n v.accepts) (gifts.accepted r f k ∙ ap (λ (x : Account). x.accepted) (fresh_account schema s r f k))
+          ∙ ap (λ (n : ℕ). fold (told_more r f k) n v.accepts)
+          (gifts.accepted r f k ∙ ap (λ (x : Account). x.accepted) (fresh_account schema s r f k))
           ∙ told_fold v.accepts r f k ∙ tells.accepted r f k o.site_in o.other o.field_in;
       site = accepts.site ∙ gifts.site;
       epoch = tells.epoch;
@@ -164,7 +183,8 @@ count_plain n (Accept from f k t) h = refl
 count_plain n (Tighten f k t) h = refl
 count_plain n (Restart epoch) h = refl
 
-in_front : (schema : SchemaValue) (s : ℕ) (before found : List Record) (v : SummaryValue) → Lawful schema s (before ++ Summary v ∷ found) → Lawful schema s (before ++ Summary v ∷ []) × TellsOf schema s v (before ++ Summary v ∷ [])
+in_front : (schema : SchemaValue) (s : ℕ) (before found : List Record) (v : SummaryValue) → Lawful schema s (before ++ Summary v ∷ found)
+    → Lawful schema s (before ++ Summary v ∷ []) × TellsOf schema s v (before ++ Summary v ∷ [])
 in_front schema s before found v lawful =
     let parted = lawful_at schema s before (Summary v) found lawful in
     (lawful_push schema s before (Summary v) parted.0 parted.1, lawful_tells schema s before v parted.1)
@@ -179,26 +199,32 @@ pub record Begun (schema : SchemaValue) (s : ℕ) (rs : List Record) (v : Summar
   pub tells : TellsOf schema s v rs
   pub ranges : IsSummary v
 
-pub begun_some : (schema : SchemaValue) (s : ℕ) (all : List Record) (read : ReadBack) (end_ : IsEnd schema s all read) (v : SummaryValue) → read.summary ≡ Some v
+pub begun_some : (schema : SchemaValue) (s : ℕ) (all : List Record) (read : ReadBack) (end_ : IsEnd schema s all read) (v : SummaryValue)
+    → read.summary ≡ Some v
     → Begun schema s (up_to end_.holds.last.before read.summary) v
 begun_some schema s all read end_ v is =
     let before = end_.holds.last.before in
     let found = end_.holds.found in
-    let parts : all ≡ before ++ Summary v ∷ found = end_.holds.last.parts ∙ ap (λ (o : Option SummaryValue). before ++ with_summary o found) is in
+    let parts : all ≡ before ++ Summary v ∷ found =
+    end_.holds.last.parts ∙ ap (λ (o : Option SummaryValue). before ++ with_summary o found) is in
     let both = in_front schema s before found v (subst (λ (x : List Record). Lawful schema s x) parts end_.lawful) in
-    let front : before ++ Summary v ∷ [] ≡ up_to before read.summary = ap (λ (o : Option SummaryValue). before ++ with_summary o []) (sym is) in
+    let front : before ++ Summary v ∷ [] ≡ up_to before read.summary =
+    ap (λ (o : Option SummaryValue). before ++ with_summary o []) (sym is) in
     record {
       lawful = subst (λ (x : List Record). Lawful schema s x) front both.0;
       tells = subst (λ (x : List Record). TellsOf schema s v x) front both.1;
       ranges = summary_fits v (one_of before found (Summary v) (subst (λ (x : List Record). AllByRecursion IsRecord x) parts end_.each));
     }
 
-pub begun_none : (schema : SchemaValue) (s : ℕ) (all : List Record) (read : ReadBack) (end_ : IsEnd schema s all read) → read.summary ≡ None → up_to end_.holds.last.before read.summary ≡ []
+pub begun_none : (schema : SchemaValue) (s : ℕ) (all : List Record) (read : ReadBack) (end_ : IsEnd schema s all read) → read.summary ≡ None
+    → up_to end_.holds.last.before read.summary ≡ []
 begun_none schema s all read end_ is =
-    ap (λ (o : Option SummaryValue). end_.holds.last.before ++ with_summary o []) is ∙ ap (λ (x : List Record). x ++ []) (end_.holds.last.all is)
+    ap (λ (o : Option SummaryValue). end_.holds.last.before ++ with_summary o []) is
+    ∙ ap (λ (x : List Record). x ++ []) (end_.holds.last.all is)
 
 -- a standing is for a summary more where it is for the records before it
-pub stands_summary : (schema : SchemaValue) (s : ℕ) (rs : List Record) (v : SummaryValue) (rows : List FieldRights) (ledger : LedgerValue) (epoch : ℕ) → StandsFor schema s rs rows ledger epoch → StandsFor schema s (rs ++ Summary v ∷ []) rows ledger epoch
+pub stands_summary : (schema : SchemaValue) (s : ℕ) (rs : List Record) (v : SummaryValue) (rows : List FieldRights) (ledger : LedgerValue)
+    (epoch : ℕ) → StandsFor schema s rs rows ledger epoch → StandsFor schema s (rs ++ Summary v ∷ []) rows ledger epoch
 stands_summary schema s rs v rows ledger epoch was =
     let same = same_summary_push rs rs v (same_sums rs) in
     record {
@@ -219,7 +245,8 @@ front_summary : (summary : Option SummaryValue) (found : List Record) → with_s
 front_summary None found = refl
 front_summary (Some v) found = refl
 
-plain_at : (before behind : List Record) (r : Record) → AllByRecursion (λ x. is_summary x ≡ false) (before ++ r ∷ behind) → is_summary r ≡ false
+plain_at : (before behind : List Record) (r : Record) → AllByRecursion (λ x. is_summary x ≡ false) (before ++ r ∷ behind)
+    → is_summary r ≡ false
 plain_at [] behind r all = all.0
 plain_at (b ∷ before) behind r all = plain_at before behind r all.1
 
@@ -228,7 +255,8 @@ fold_plain n [] all = omega arith
 fold_plain n (r ∷ rs) all =
     ap (λ (m : ℕ). fold count_behind m rs) (count_plain n r all.0) ∙ fold_plain (n + 1) rs all.1 ∙ omega arith
 
-since_plain : (rs found : List Record) → AllByRecursion (λ x. is_summary x ≡ false) found → since_summary (rs ++ found) ≡ since_summary rs + length found
+since_plain : (rs found : List Record) → AllByRecursion (λ x. is_summary x ≡ false) found
+    → since_summary (rs ++ found) ≡ since_summary rs + length found
 unfolding since_summary
 since_plain rs found all = fold-append count_behind 0 rs found ∙ fold_plain (fold count_behind 0 rs) found all
 
@@ -236,7 +264,8 @@ since_none : since_summary [] ≡ 0
 unfolding since_summary
 since_none = refl
 
-since_up_to : (before : List Record) (summary : Option SummaryValue) → (summary ≡ None → before ≡ []) → since_summary (up_to before summary) ≡ 0
+since_up_to : (before : List Record) (summary : Option SummaryValue) → (summary ≡ None → before ≡ [])
+    → since_summary (up_to before summary) ≡ 0
 since_up_to before None all = ap (λ (x : List Record). since_summary (x ++ [])) (all refl) ∙ since_none
 since_up_to before (Some v) all = since_push before (Summary v)
 
@@ -256,13 +285,15 @@ module _ (schema : SchemaValue) (s : ℕ) (all : List Record) (read : ReadBack) 
       ∙ ap (λ (x : List Record). end_.holds.last.before ++ x) (sym (front_summary read.summary end_.holds.found))
       ∙ sym end_.holds.last.parts
 
-  pub walks_start : (standing : Standing) (bytes : List ℕ) → bytes ≡ read.lines → BeginsAt schema s all read end_ standing → Walks schema s all read end_ standing 0 bytes
+  pub walks_start : (standing : Standing) (bytes : List ℕ) → bytes ≡ read.lines → BeginsAt schema s all read end_ standing
+      → Walks schema s all read end_ standing 0 bytes
   walks_start standing bytes is begins = record {
     taken = [];
     left = end_.holds.found;
     parts = refl;
     log = subst (λ (l : List ℕ). IsLog l end_.holds.found end_.rest) (sym is) end_.holds.log;
-    stands = subst (λ (x : List Record). IsStandingFor schema s x standing) (sym (append-nil (up_to end_.holds.last.before read.summary))) begins;
+    stands = subst (λ (x : List Record). IsStandingFor schema s x standing)
+        (sym (append-nil (up_to end_.holds.last.before read.summary))) begins;
     count = refl;
   }
 
@@ -270,20 +301,24 @@ module _ (schema : SchemaValue) (s : ℕ) (all : List Record) (read : ReadBack) 
     abbrev so_far : List Record
     so_far = front ++ walks.taken
 
-    pub turn_of : (r : Record) (new : List ℕ) → bytes ≡ text r ++ new → IsRecord r → Turn schema s (up_to end_.holds.last.before read.summary ++ walks.taken) r
+    pub turn_of : (r : Record) (new : List ℕ) → bytes ≡ text r ++ new → IsRecord r
+        → Turn schema s (up_to end_.holds.last.before read.summary ++ walks.taken) r
     turn_of r new is fits =
         let next = next_in bytes walks.left end_.rest r new walks.log is fits in
-        let found_is : end_.holds.found ≡ walks.taken ++ r ∷ next.more = walks.parts ∙ ap (λ (x : List Record). walks.taken ++ x) next.parts in
+        let found_is : end_.holds.found ≡ walks.taken ++ r ∷ next.more =
+        walks.parts ∙ ap (λ (x : List Record). walks.taken ++ x) next.parts in
         let all_is : all ≡ so_far ++ r ∷ next.more =
         sym whole ∙ ap (λ (x : List Record). front ++ x) found_is ∙ sym (append_assoc front walks.taken (r ∷ next.more)) in
         let parted = lawful_at schema s so_far r next.more (subst (λ (x : List Record). Lawful schema s x) all_is end_.lawful) in
         record {
           lawful = parted.0;
           may = parted.1;
-          plain = plain_at walks.taken next.more r (subst (λ (x : List Record). AllByRecursion (λ y. is_summary y ≡ false) x) found_is end_.holds.last.plain);
+          plain = plain_at walks.taken next.more r
+              (subst (λ (x : List Record). AllByRecursion (λ y. is_summary y ≡ false) x) found_is end_.holds.last.plain);
         }
 
-    pub walks_on : (r : Record) (new : List ℕ) (after : Standing) → bytes ≡ text r ++ new → IsRecord r → IsStandingFor schema s ((up_to end_.holds.last.before read.summary ++ walks.taken) ++ r ∷ []) after
+    pub walks_on : (r : Record) (new : List ℕ) (after : Standing) → bytes ≡ text r ++ new → IsRecord r
+        → IsStandingFor schema s ((up_to end_.holds.last.before read.summary ++ walks.taken) ++ r ∷ []) after
         → Walks schema s all read end_ after (turns + 1) new
     walks_on r new after is fits stands =
         let next = next_in bytes walks.left end_.rest r new walks.log is fits in
@@ -298,13 +333,22 @@ module _ (schema : SchemaValue) (s : ℕ) (all : List Record) (read : ReadBack) 
 
     taken_is : HasNoLf bytes → end_.holds.found ≡ walks.taken
     taken_is none =
-        walks.parts ∙ ap (λ (x : List Record). walks.taken ++ x) (none_in bytes walks.left end_.rest walks.log none) ∙ append-nil walks.taken
+        walks.parts ∙ ap (λ (x : List Record). walks.taken ++ x) (none_in bytes walks.left end_.rest walks.log none)
+        ∙ append-nil walks.taken
 
     pub walks_end : HasNoLf bytes → IsStandingFor schema s all standing × (turns ≡ since_summary all)
     walks_end none =
         let found_is = taken_is none in
         let all_is : so_far ≡ all = ap (λ (x : List Record). front ++ x) (sym found_is) ∙ whole in
-        let since : since_summary (front ++ end_.holds.found) ≡ since_summary front + length end_.holds.found = since_plain front end_.holds.found end_.holds.last.plain in (
+        let since : since_summary (front ++ end_.holds.found) ≡ since_summary front + length end_.holds.found =
+        since_plain front end_.holds.found end_.holds.last.plain in (
           subst (λ (x : List Record). IsStandingFor schema s x standing) all_is walks.stands,
-          omega (arith, walks.count, ap length found_is, since, since_up_to end_.holds.last.before read.summary end_.holds.last.all, ap since_summary whole),
+          omega (
+            arith,
+            walks.count,
+            ap length found_is,
+            since,
+            since_up_to end_.holds.last.before read.summary end_.holds.last.all,
+            ap since_summary whole,
+          ),
         )

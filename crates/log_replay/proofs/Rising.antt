@@ -42,8 +42,10 @@ all_weaker P Q h [] all = tt
 all_weaker P Q h (t ∷ ts) all = (h t all.0, all_weaker P Q h ts all.1)
 
 -- each of one list before each of another, by what holds of them
-each_before : (P Q : Total → Type 0) → ((a b : Total) → P a → Q b → is_before a b ≡ true) → (as1 bs : List Total) → AllByRecursion P as1 → AllByRecursion Q bs → AllByRecursion (BeforeAll bs) as1
-each_before P Q h as1 bs p q = all_weaker P (BeforeAll bs) (λ a pa. all_weaker Q (λ b. is_before a b ≡ true) (λ b qb. h a b pa qb) bs q) as1 p
+each_before : (P Q : Total → Type 0) → ((a b : Total) → P a → Q b → is_before a b ≡ true) → (as1 bs : List Total) → AllByRecursion P as1
+    → AllByRecursion Q bs → AllByRecursion (BeforeAll bs) as1
+each_before P Q h as1 bs p q = all_weaker P (BeforeAll bs)
+    (λ a pa. all_weaker Q (λ b. is_before a b ≡ true) (λ b qb. h a b pa qb) bs q) as1 p
 
 by_site : (a b : Total) → a.site.0 < b.site.0 → is_before a b ≡ true
 by_site a b h = rw (lt-ltb a.site.0 b.site.0 h) refl
@@ -58,7 +60,8 @@ by_field a b same h = rw (eq-eqb a.site.0 b.site.0 same, lt-ltb a.field.0 b.fiel
 by_kind : (a b : Total) → a.site.0 ≡ b.site.0 → a.field.0 ≡ b.field.0 → a.kind ≡ Lower → b.kind ≡ Raise → is_before a b ≡ true
 by_kind a b same there low high =
     let kinds : nat_lt (kind_number a.kind) (kind_number b.kind) ≡ true = rw (low, high) refl in
-    rw (eq-eqb a.site.0 b.site.0 same, eq-eqb a.field.0 b.field.0 there, kinds) (ap (λ (x : Bool). nat_lt a.site.0 b.site.0 || x) (or_true (nat_lt a.field.0 b.field.0)) ∙ or_true (nat_lt a.site.0 b.site.0))
+    rw (eq-eqb a.site.0 b.site.0 same, eq-eqb a.field.0 b.field.0 there, kinds)
+    (ap (λ (x : Bool). nat_lt a.site.0 b.site.0 || x) (or_true (nat_lt a.field.0 b.field.0)) ∙ or_true (nat_lt a.site.0 b.site.0))
 
 -- ---- the totals of a site, and of all
 
@@ -85,14 +88,25 @@ module _ (F : ℕ → ℕ → Kind → ℕ) (most : ℕ) (small : (r f : ℕ) (k
   one_at : (r f : ℕ) (k : Kind) → AllByRecursion (At r f k most) (one_total F r f k)
   one_at r f k = by (F r f k == 0) refl
     where
-      by : (b : Bool) → (F r f k == 0) ≡ b → AllByRecursion (At r f k most) (cond b [] (record { site = record { 0 = r }; field = record { 0 = f }; kind = k; total = F r f k } ∷ []))
+      by : (b : Bool) → (F r f k == 0) ≡ b → AllByRecursion (At r f k most)
+          (cond b [] (record { site = record { 0 = r }; field = record { 0 = f }; kind = k; total = F r f k } ∷ []))
       by true is = tt
-      by false is = (record { site = refl; field = refl; kind = refl; some = let apart = eqb-false (F r f k) 0 is in omega (arith, apart); few = small r f k }, tt)
+      by false is = (
+        record {
+          site = refl;
+          field = refl;
+          kind = refl;
+          some = let apart = eqb-false (F r f k) 0 is in omega (arith, apart);
+          few = small r f k;
+        },
+        tt,
+      )
 
   one_rises : (r f : ℕ) (k : Kind) → rises (one_total F r f k) ≡ true
   one_rises r f k = by (F r f k == 0)
     where
-      by : (b : Bool) → rises (cond b [] (record { site = record { 0 = r }; field = record { 0 = f }; kind = k; total = F r f k } ∷ [])) ≡ true
+      by : (b : Bool) → rises (cond b [] (record { site = record { 0 = r }; field = record { 0 = f }; kind = k; total = F r f k } ∷ []))
+          ≡ true
       by true = refl
       by false = refl
 
@@ -104,10 +118,14 @@ module _ (F : ℕ → ℕ → Kind → ℕ) (most : ℕ) (small : (r f : ℕ) (k
   site_in r zero = tt
   site_in r (suc m) =
       all_append (In r (suc m) most) (totals_of_site F r m) (one_total F r m Lower ++ one_total F r m Raise)
-      (all_weaker (In r m most) (In r (suc m) most) (λ t i. record { site = i.site; field = omega (arith, i.field); some = i.some; few = i.few }) (totals_of_site F r m) (site_in r m))
+      (all_weaker (In r m most) (In r (suc m) most)
+      (λ t i. record { site = i.site; field = omega (arith, i.field); some = i.some; few = i.few }) (totals_of_site F r m)
+      (site_in r m))
       (all_append (In r (suc m) most) (one_total F r m Lower) (one_total F r m Raise)
-      (all_weaker (At r m Lower most) (In r (suc m) most) (widen r (suc m) m Lower (omega arith)) (one_total F r m Lower) (one_at r m Lower))
-      (all_weaker (At r m Raise most) (In r (suc m) most) (widen r (suc m) m Raise (omega arith)) (one_total F r m Raise) (one_at r m Raise)))
+      (all_weaker (At r m Lower most) (In r (suc m) most) (widen r (suc m) m Lower (omega arith)) (one_total F r m Lower)
+      (one_at r m Lower))
+      (all_weaker (At r m Raise most) (In r (suc m) most) (widen r (suc m) m Raise (omega arith)) (one_total F r m Raise)
+      (one_at r m Raise)))
 
   abbrev AtField : ℕ → ℕ → Total → Type 0
   AtField r m t = (t.site.0 ≡ r) × (t.field.0 ≡ m)
@@ -117,13 +135,16 @@ module _ (F : ℕ → ℕ → Kind → ℕ) (most : ℕ) (small : (r f : ℕ) (k
   site_rises r zero = refl
   site_rises r (suc m) =
       let two = rises_append (one_total F r m Lower) (one_total F r m Raise) (one_rises r m Lower) (one_rises r m Raise)
-      (each_before (At r m Lower most) (At r m Raise most) (λ a b p q. by_kind a b (p.site ∙ sym q.site) (p.field ∙ sym q.field) p.kind q.kind) (one_total F r m Lower) (one_total F r m Raise) (one_at r m Lower) (one_at r m Raise)) in
+      (each_before (At r m Lower most) (At r m Raise most)
+      (λ a b p q. by_kind a b (p.site ∙ sym q.site) (p.field ∙ sym q.field) p.kind q.kind) (one_total F r m Lower)
+      (one_total F r m Raise) (one_at r m Lower) (one_at r m Raise)) in
       let at_field : AllByRecursion (AtField r m) (one_total F r m Lower ++ one_total F r m Raise) =
       all_append (AtField r m) (one_total F r m Lower) (one_total F r m Raise)
       (all_weaker (At r m Lower most) (AtField r m) (λ t at. (at.site, at.field)) (one_total F r m Lower) (one_at r m Lower))
       (all_weaker (At r m Raise most) (AtField r m) (λ t at. (at.site, at.field)) (one_total F r m Raise) (one_at r m Raise)) in
       rises_append (totals_of_site F r m) (one_total F r m Lower ++ one_total F r m Raise) (site_rises r m) two
-      (each_before (In r m most) (AtField r m) (λ a b p q. by_field a b (p.site ∙ sym q.0) (omega (arith, p.field, q.1))) (totals_of_site F r m) (one_total F r m Lower ++ one_total F r m Raise) (site_in r m) at_field)
+      (each_before (In r m most) (AtField r m) (λ a b p q. by_field a b (p.site ∙ sym q.0) (omega (arith, p.field, q.1)))
+      (totals_of_site F r m) (one_total F r m Lower ++ one_total F r m Raise) (site_in r m) at_field)
 
   own_part : (b : Bool) (n m : ℕ) → AllByRecursion (In n m most) (cond b [] (totals_of_site F n m))
   own_part true n m = tt
@@ -138,21 +159,29 @@ module _ (F : ℕ → ℕ → Kind → ℕ) (most : ℕ) (small : (r f : ℕ) (k
   all_under s m zero = tt
   all_under s m (suc n) =
       all_append (Under (suc n) m most) (totals_of F s m n) (cond (n == s) [] (totals_of_site F n m))
-      (all_weaker (Under n m most) (Under (suc n) m most) (λ t u. record { site = omega (arith, u.site); field = u.field; some = u.some; few = u.few }) (totals_of F s m n) (all_under s m n))
-      (all_weaker (In n m most) (Under (suc n) m most) (λ t i. record { site = omega (arith, i.site); field = i.field; some = i.some; few = i.few }) (cond (n == s) [] (totals_of_site F n m)) (own_part (n == s) n m))
+      (all_weaker (Under n m most) (Under (suc n) m most)
+      (λ t u. record { site = omega (arith, u.site); field = u.field; some = u.some; few = u.few }) (totals_of F s m n)
+      (all_under s m n))
+      (all_weaker (In n m most) (Under (suc n) m most)
+      (λ t i. record { site = omega (arith, i.site); field = i.field; some = i.some; few = i.few })
+      (cond (n == s) [] (totals_of_site F n m)) (own_part (n == s) n m))
 
   pub all_rise : (s m n : ℕ) → rises (totals_of F s m n) ≡ true
   unfolding totals_of
   all_rise s m zero = refl
   all_rise s m (suc n) =
       rises_append (totals_of F s m n) (cond (n == s) [] (totals_of_site F n m)) (all_rise s m n) (own_rises (n == s) n m)
-      (each_before (Under n m most) (In n m most) (λ a b p q. by_site a b (omega (arith, p.site, q.site))) (totals_of F s m n) (cond (n == s) [] (totals_of_site F n m)) (all_under s m n) (own_part (n == s) n m))
+      (each_before (Under n m most) (In n m most) (λ a b p q. by_site a b (omega (arith, p.site, q.site))) (totals_of F s m n)
+      (cond (n == s) [] (totals_of_site F n m)) (all_under s m n) (own_part (n == s) n m))
 
 -- ---- the numbers of lawful records
 
-given_small : (to f : ℕ) (k : Kind) (n : ℕ) (rs : List Record) → n ≤ max_total → AllByRecursion IsRecord rs → fold (given_more to f k) n rs ≤ max_total
+given_small : (to f : ℕ) (k : Kind) (n : ℕ) (rs : List Record) → n ≤ max_total → AllByRecursion IsRecord rs
+    → fold (given_more to f k) n rs ≤ max_total
 given_small to f k n [] small fits = small
-given_small to f k n (Gift site field kind total ∷ rs) small fits = given_small to f k (given_more to f k n (Gift site field kind total)) rs (by ((field.0 == f) && same_kind kind k && (site.0 == to))) fits.1
+given_small to f k n (Gift site field kind total ∷ rs) small fits =
+    given_small to f k (given_more to f k n (Gift site field kind total)) rs
+    (by ((field.0 == f) && same_kind kind k && (site.0 == to))) fits.1
   where
     by : (b : Bool) → cond b (max total n) n ≤ max_total
     by true = omega (arith, small, fits.0.2.1)
@@ -163,9 +192,12 @@ given_small to f k n (Tighten field kind total ∷ rs) small fits = given_small 
 given_small to f k n (Restart epoch ∷ rs) small fits = given_small to f k n rs small fits.1
 given_small to f k n (Summary v ∷ rs) small fits = given_small to f k n rs small fits.1
 
-accepted_small : (from f : ℕ) (k : Kind) (n : ℕ) (rs : List Record) → n ≤ max_total → AllByRecursion IsRecord rs → fold (accepted_more from f k) n rs ≤ max_total
+accepted_small : (from f : ℕ) (k : Kind) (n : ℕ) (rs : List Record) → n ≤ max_total → AllByRecursion IsRecord rs
+    → fold (accepted_more from f k) n rs ≤ max_total
 accepted_small from f k n [] small fits = small
-accepted_small from f k n (Accept site field kind total ∷ rs) small fits = accepted_small from f k (accepted_more from f k n (Accept site field kind total)) rs (by ((field.0 == f) && same_kind kind k && (site.0 == from))) fits.1
+accepted_small from f k n (Accept site field kind total ∷ rs) small fits =
+    accepted_small from f k (accepted_more from f k n (Accept site field kind total)) rs
+    (by ((field.0 == f) && same_kind kind k && (site.0 == from))) fits.1
   where
     by : (b : Bool) → cond b (max total n) n ≤ max_total
     by true = omega (arith, small, fits.0.2.1)
@@ -226,7 +258,8 @@ module _ (F : ℕ → Kind → ℕ) (small : (f : ℕ) (k : Kind) → F f k ≤ 
   one_cut_fits : (f : ℕ) (k : Kind) → f ≤ max_place → AllByRecursion IsListedCut (one_cut F f k)
   one_cut_fits f k below = by (F f k == 0) refl
     where
-      by : (b : Bool) → (F f k == 0) ≡ b → AllByRecursion IsListedCut (cond b [] (record { field = record { 0 = f }; kind = k; total = F f k } ∷ []))
+      by : (b : Bool) → (F f k == 0) ≡ b → AllByRecursion IsListedCut
+          (cond b [] (record { field = record { 0 = f }; kind = k; total = F f k } ∷ []))
       by true is = tt
       by false is = ((below, (let apart = eqb-false (F f k) 0 is in omega (arith, apart), small f k)), tt)
 
@@ -242,7 +275,8 @@ module _ (F : ℕ → Kind → ℕ) (small : (f : ℕ) (k : Kind) → F f k ≤ 
   all_cuts_rise m = cuts_rise_same (cuts_of F m) ∙ ap rises (cuts_as_totals F m) ∙ site_rises (λ r. F) max_change (λ r f k. small f k) 0 m
 
 -- the summary of lawful records is in the ranges of its text
-pub summary_fits : (schema : SchemaValue) (s : ℕ) (rs : List Record) → IsSchema schema → s < schema.sites → Lawful schema s rs → AllByRecursion IsRecord rs → IsSummary (summary_of schema s rs)
+pub summary_fits : (schema : SchemaValue) (s : ℕ) (rs : List Record) → IsSchema schema → s < schema.sites → Lawful schema s rs
+    → AllByRecursion IsRecord rs → IsSummary (summary_of schema s rs)
 unfolding summary_of
 summary_fits schema s rs good below lawful fits =
     let m = length schema.fields in
@@ -251,15 +285,19 @@ summary_fits schema s rs good below lawful fits =
     let given = given_few rs fits in
     let accepted = accepted_few rs fits in
     let cut : (f : ℕ) (k : Kind) → cut_in rs f k ≤ max_change = λ f k. cut_few schema good s below rs lawful f k in
-    let listed : (t : Total) → Under n m max_total t → IsListed t = λ t u. (omega (arith, u.site, good.few_sites), omega (arith, u.field, good.few_fields), (u.some, u.few)) in
+    let listed : (t : Total) → Under n m max_total t
+    → IsListed t = λ t u. (omega (arith, u.site, good.few_sites), omega (arith, u.field, good.few_fields), (u.some, u.few)) in
     record {
       epoch = greatest_few rs fits;
       some = omega (arith, count, good.some_field);
       few = omega (arith, count, good.few_fields);
-      rights = rows_small (own_in schema s rs) m (λ f. omega (arith, own_within schema good s below rs lawful f, width_few schema.fields good.each f));
-      gifts = all_weaker (Under n m max_total) IsListed listed (totals_of (given_in rs) s m n) (all_under (given_in rs) max_total given s m n);
+      rights = rows_small (own_in schema s rs) m (λ f.
+          omega (arith, own_within schema good s below rs lawful f, width_few schema.fields good.each f));
+      gifts = all_weaker (Under n m max_total) IsListed listed (totals_of (given_in rs) s m n)
+          (all_under (given_in rs) max_total given s m n);
       gifts_rise = all_rise (given_in rs) max_total given s m n;
-      accepts = all_weaker (Under n m max_total) IsListed listed (totals_of (accepted_in rs) s m n) (all_under (accepted_in rs) max_total accepted s m n);
+      accepts = all_weaker (Under n m max_total) IsListed listed (totals_of (accepted_in rs) s m n)
+          (all_under (accepted_in rs) max_total accepted s m n);
       accepts_rise = all_rise (accepted_in rs) max_total accepted s m n;
       tightenings = cuts_fit (cut_in rs) cut m (omega (arith, good.few_fields));
       tightenings_rise = all_cuts_rise (cut_in rs) cut m;

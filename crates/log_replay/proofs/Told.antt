@@ -20,9 +20,11 @@ use Rattle.log_replay.specs.Standing.{IsOther, Stands}
 use Rattle.log_replay.specs.Telling.{side, side_with, is_of_site, summary_now}
 
 one_same : (F G : ℕ → ℕ → Kind → ℕ) (r f : ℕ) (k : Kind) → F r f k ≡ G r f k → one_total F r f k ≡ one_total G r f k
-one_same F G r f k h = ap (λ (n : ℕ). cond (n == 0) [] (record { site = record { 0 = r }; field = record { 0 = f }; kind = k; total = n } ∷ [])) h
+one_same F G r f k h = ap (λ (n : ℕ). cond (n == 0) []
+    (record { site = record { 0 = r }; field = record { 0 = f }; kind = k; total = n } ∷ [])) h
 
-site_same : (F G : ℕ → ℕ → Kind → ℕ) (r m : ℕ) → ((f : ℕ) (k : Kind) → f < m → F r f k ≡ G r f k) → totals_of_site F r m ≡ totals_of_site G r m
+site_same : (F G : ℕ → ℕ → Kind → ℕ) (r m : ℕ) → ((f : ℕ) (k : Kind) → f < m → F r f k ≡ G r f k)
+    → totals_of_site F r m ≡ totals_of_site G r m
 unfolding totals_of_site
 site_same F G r zero h = refl
 site_same F G r (suc m) h =
@@ -44,12 +46,14 @@ other_site anew given ledger r m start off =
     ap (λ (l : List Total). start ++ l)
     (site_same (side given ledger) (side_with anew given ledger) r m (λ f k below. of_other anew given ledger r f k off))
 
-pub totals_same : (F G : ℕ → ℕ → Kind → ℕ) (s m n : ℕ) → ((r f : ℕ) (k : Kind) → r < n → r ≢ s → f < m → F r f k ≡ G r f k) → totals_of F s m n ≡ totals_of G s m n
+pub totals_same : (F G : ℕ → ℕ → Kind → ℕ) (s m n : ℕ) → ((r f : ℕ) (k : Kind) → r < n → r ≢ s → f < m → F r f k ≡ G r f k)
+    → totals_of F s m n ≡ totals_of G s m n
 unfolding totals_of
 totals_same F G s m zero h = refl
 totals_same F G s m (suc n) h =
     let rest = totals_same F G s m n (λ r f k below apart in_. h r f k (omega (arith, below)) apart in_) in
-    ap (λ (l : List Total). l ++ cond (n == s) [] (totals_of_site F n m)) rest ∙ ap (λ (l : List Total). totals_of G s m n ++ l) (by (n == s) refl)
+    ap (λ (l : List Total). l ++ cond (n == s) [] (totals_of_site F n m)) rest
+    ∙ ap (λ (l : List Total). totals_of G s m n ++ l) (by (n == s) refl)
   where
     by : (b : Bool) → (n == s) ≡ b → cond b [] (totals_of_site F n m) ≡ cond b [] (totals_of_site G n m)
     by true is = refl
@@ -76,7 +80,8 @@ cuts_same F G (suc m) h =
     let rest = cuts_same F G m (λ f k below. h f k (omega (arith, below))) in
     rw (rest, low, high) refl
 
-pub summary_is : (schema : SchemaValue) (standing : Standing) (s : ℕ) (rs : List Record) → Stands schema s rs standing → summary_now schema standing ≡ summary_of schema s rs
+pub summary_is : (schema : SchemaValue) (standing : Standing) (s : ℕ) (rs : List Record) → Stands schema s rs standing
+    → summary_now schema standing ≡ summary_of schema s rs
 unfolding summary_of
 summary_is schema standing s rs was =
     let m = length schema.fields in
@@ -84,19 +89,38 @@ summary_is schema standing s rs was =
     let rights = rights_same (own_at standing.rights) (own_in schema s rs) m
     (λ f k below. let l : f < length standing.rights = omega (arith, below, was.count) in was.own f k l) in
     let cuts = cuts_same (cut_at standing.rights) (cut_in rs) m (λ f k below. was.cut f k (omega (arith, below, was.count))) in
-    let other : (r f : ℕ) → r < schema.sites → r ≢ s → f < m → IsOther schema s r f = λ r f site_in apart field_in. record { other = apart; site_in = site_in; field_in = field_in } in
-    let gifts = totals_same (side true ledger) (given_in rs) s m schema.sites (λ r f k site_in apart field_in. was.given r f k (other r f site_in apart field_in)) in
-    let accepts = totals_same (side false ledger) (accepted_in rs) s m schema.sites (λ r f k site_in apart field_in. was.accepted r f k (other r f site_in apart field_in)) in
+    let other : (r f : ℕ) → r < schema.sites → r ≢ s → f < m
+    → IsOther schema s r f = λ r f site_in apart field_in. record { other = apart; site_in = site_in; field_in = field_in } in
+    let gifts = totals_same (side true ledger) (given_in rs) s m schema.sites
+    (λ r f k site_in apart field_in. was.given r f k (other r f site_in apart field_in)) in
+    let accepts = totals_same (side false ledger) (accepted_in rs) s m schema.sites
+    (λ r f k site_in apart field_in. was.accepted r f k (other r f site_in apart field_in)) in
     let here : ledger.site ≡ s = was.site in
     let gifts-here = ap (λ (x : ℕ). totals_of (side true ledger) x m schema.sites) here ∙ gifts in
     let accepts-here = ap (λ (x : ℕ). totals_of (side false ledger) x m schema.sites) here ∙ accepts in
-    let made : ◌≡◌ {A = SummaryValue} (record { epoch = standing.epoch; rights = rights_of (own_at standing.rights) m; gifts = totals_of (side true ledger) ledger.site m schema.sites; accepts = totals_of (side false ledger) ledger.site m schema.sites; tightenings = cuts_of (cut_at standing.rights) m })
-    (record { epoch = greatest rs; rights = rights_of (own_in schema s rs) m; gifts = totals_of (given_in rs) s m schema.sites; accepts = totals_of (accepted_in rs) s m schema.sites; tightenings = cuts_of (cut_in rs) m }) = cc (was.epoch, rights, gifts-here, accepts-here, cuts) in
+    let made : ◌≡◌ {A = SummaryValue} (record {
+      epoch = standing.epoch;
+      rights = rights_of (own_at standing.rights) m;
+      gifts =
+          totals_of (side true ledger) ledger.site m schema.sites;
+      accepts = totals_of (side false ledger) ledger.site m schema.sites;
+      tightenings = cuts_of (cut_at standing.rights) m;
+    })
+    (record {
+      epoch = greatest rs;
+      rights = rights_of (own_in schema s rs) m;
+      gifts = totals_of (given_in rs) s m schema.sites;
+      accepts =
+          totals_of (accepted_in rs) s m schema.sites;
+      tightenings = cuts_of (cut_in rs) m;
+    }) =
+    cc (was.epoch, rights, gifts-here, accepts-here, cuts) in
     made
 
 -- ---- one more field, one more site
 
-pub site_more : (F : ℕ → ℕ → Kind → ℕ) (r m : ℕ) (start before mid after : List Total) → before ≡ start ++ totals_of_site F r m → mid ≡ before ++ one_total F r m Lower → after ≡ mid ++ one_total F r m Raise
+pub site_more : (F : ℕ → ℕ → Kind → ℕ) (r m : ℕ) (start before mid after : List Total) → before ≡ start ++ totals_of_site F r m
+    → mid ≡ before ++ one_total F r m Lower → after ≡ mid ++ one_total F r m Raise
     → after ≡ start ++ totals_of_site F r (m + 1)
 unfolding totals_of_site
 site_more F r m start before mid after b a c =
@@ -116,7 +140,8 @@ pub sites_none : (F : ℕ → ℕ → Kind → ℕ) (s m : ℕ) → totals_of F 
 unfolding totals_of
 sites_none F s m = refl
 
-pub sites_more : (F : ℕ → ℕ → Kind → ℕ) (s m n : ℕ) (before after : List Total) → before ≡ totals_of F s m n → n ≢ s → after ≡ before ++ totals_of_site F n m → after ≡ totals_of F s m (n + 1)
+pub sites_more : (F : ℕ → ℕ → Kind → ℕ) (s m n : ℕ) (before after : List Total) → before ≡ totals_of F s m n → n ≢ s
+    → after ≡ before ++ totals_of_site F n m → after ≡ totals_of F s m (n + 1)
 unfolding totals_of
 sites_more F s m n before after b apart a =
     a ∙ ap (λ (l : List Total). l ++ totals_of_site F n m) b
@@ -126,7 +151,8 @@ sites_more F s m n before after b apart a =
     one : suc n ≡ n + 1
     one = omega arith
 
-pub sites_same : (F : ℕ → ℕ → Kind → ℕ) (s m n : ℕ) (before : List Total) → before ≡ totals_of F s m n → n ≡ s → before ≡ totals_of F s m (n + 1)
+pub sites_same : (F : ℕ → ℕ → Kind → ℕ) (s m n : ℕ) (before : List Total) → before ≡ totals_of F s m n → n ≡ s
+    → before ≡ totals_of F s m (n + 1)
 unfolding totals_of
 sites_same F s m n before b same =
     b ∙ sym (append-nil (totals_of F s m n))
@@ -140,7 +166,8 @@ pub rights_none : (F : ℕ → Kind → ℕ) → rights_of F 0 ≡ []
 unfolding rights_of
 rights_none F = refl
 
-pub rights_more : (F : ℕ → Kind → ℕ) (m : ℕ) (before after : List (ℕ × ℕ)) (low high : ℕ) → before ≡ rights_of F m → low ≡ F m Lower → high ≡ F m Raise → after ≡ before ++ (low, high) ∷ [] → after ≡ rights_of F (m + 1)
+pub rights_more : (F : ℕ → Kind → ℕ) (m : ℕ) (before after : List (ℕ × ℕ)) (low high : ℕ) → before ≡ rights_of F m → low ≡ F m Lower
+    → high ≡ F m Raise → after ≡ before ++ (low, high) ∷ [] → after ≡ rights_of F (m + 1)
 unfolding rights_of
 rights_more F m before after low high b l h a =
     a ∙ ap (λ (x : List (ℕ × ℕ)). x ++ (low, high) ∷ []) b
@@ -188,7 +215,8 @@ pub cuts_none : (F : ℕ → Kind → ℕ) → cuts_of F 0 ≡ []
 unfolding cuts_of
 cuts_none F = refl
 
-pub cuts_more : (F : ℕ → Kind → ℕ) (m : ℕ) (before mid after : List Cut) → before ≡ cuts_of F m → mid ≡ before ++ one_cut F m Lower → after ≡ mid ++ one_cut F m Raise → after ≡ cuts_of F (m + 1)
+pub cuts_more : (F : ℕ → Kind → ℕ) (m : ℕ) (before mid after : List Cut) → before ≡ cuts_of F m → mid ≡ before ++ one_cut F m Lower
+    → after ≡ mid ++ one_cut F m Raise → after ≡ cuts_of F (m + 1)
 unfolding cuts_of
 cuts_more F m before mid after b a c =
     c ∙ ap (λ (l : List Cut). l ++ one_cut F m Raise) (a ∙ ap (λ (l : List Cut). l ++ one_cut F m Lower) b)
@@ -206,7 +234,8 @@ unfolding cut_told
 cut_told_none f k = refl
 
 -- one total more that is told
-pub cut_told_one : (ts : List Cut) (i f : ℕ) (k : Kind) (before after : ℕ) → i < length ts → before ≡ cut_told (take i ts) f k → after ≡ cut_told_more f k before (get_or ts i no_cut) → after ≡ cut_told (take (i + 1) ts) f k
+pub cut_told_one : (ts : List Cut) (i f : ℕ) (k : Kind) (before after : ℕ) → i < length ts → before ≡ cut_told (take i ts) f k
+    → after ≡ cut_told_more f k before (get_or ts i no_cut) → after ≡ cut_told (take (i + 1) ts) f k
 unfolding cut_told
 cut_told_one ts i f k before after below b a =
     a ∙ ap (λ (n : ℕ). cut_told_more f k n (get_or ts i no_cut)) b ∙ sym (fold_more (cut_told_more f k) 0 ts i no_cut below)

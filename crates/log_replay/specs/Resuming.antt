@@ -55,7 +55,8 @@ abbrev pub BeginsAt : (schema : SchemaValue) (s : ℕ) (all : List Record) (read
 BeginsAt schema s all read end_ standing = IsStandingFor schema s (up_to end_.holds.last.before read.summary) standing
 
 -- Of the records behind it so many were taken in, and the bytes are a log of those that are left.
-pub record Walks (schema : SchemaValue) (s : ℕ) (all : List Record) (read : ReadBack) (end_ : IsEnd schema s all read) (standing : Standing) (turns : ℕ) (bytes : List ℕ) : Type 0 where
+pub record Walks (schema : SchemaValue) (s : ℕ) (all : List Record) (read : ReadBack) (end_ : IsEnd schema s all read) (standing : Standing)
+    (turns : ℕ) (bytes : List ℕ) : Type 0 where
   pub taken : List Record
   pub left : List Record
   pub parts : end_.holds.found ≡ taken ++ left

@@ -28,7 +28,8 @@ pub record HasSlots (schema : SchemaValue) (rows : List FieldRights) (ledger : L
 -- The rights, the ledger and the epoch are what the records of a site stand for: on each field of the schema its own
 -- rights, free and held together, and the greatest totals given up; and for each other site the ledger has the greatest
 -- totals given and accepted.
-pub record StandsFor (schema : SchemaValue) (s : ℕ) (rs : List Record) (rows : List FieldRights) (ledger : LedgerValue) (latest : ℕ) : Type 0 where
+pub record StandsFor (schema : SchemaValue) (s : ℕ) (rs : List Record) (rows : List FieldRights) (ledger : LedgerValue)
+    (latest : ℕ) : Type 0 where
   pub count : length rows ≡ length schema.fields
   pub width : (f : ℕ) → f < length rows → (row_at rows f).width ≡ width_of (field_at schema f)
   pub own : (f : ℕ) (k : Kind) → f < length rows → own_at rows f k ≡ own_in schema s rs f k

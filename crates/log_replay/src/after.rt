@@ -205,7 +205,8 @@ fn own_rights_after(
 ) -> Result<Vec<(u64, u64)>, AllocError>
     requires count { fields ≤ length rights.now }
     requires can { (f : ℕ) (k : Kind) → f < fields → CanMove rights.now next.now rise f k }
-    ensures { IfOk result (λ told. told.items ≡ rights_of (own_after rights.now next.now rise) fields) }
+    ensures { IfOk result (λ told. told.items ≡ rights_of
+        (own_after rights.now next.now rise) fields) }
 {
     let mut told = Vec::new(alloc);
     for number in 0..fields {
@@ -233,10 +234,10 @@ fn epoch_after(epoch: u32, next: &Record) -> u32
 }
 
 /// The summary that tells what stands after one record more, which may stand behind those that the
-/// standing is for. The standing stays as it is, rights that are held included: so the summary that is
-/// appended behind a record in one piece is there before either is. The error is want of memory. Costs
-/// a pass over the rights and the ledger, for each field a pass over the record's escrows, and memory
-/// for the summary.
+/// standing is for. The standing stays as it is, rights that are held included: so the summary that
+/// is appended behind a record in one piece is there before either is. The error is want of memory.
+/// Costs a pass over the rights and the ledger, for each field a pass over the record's escrows,
+/// and memory for the summary.
 pub fn summary_after(
     alloc: Global,
     schema: &Schema,
@@ -246,7 +247,9 @@ pub fn summary_after(
     requires in_range { IsRecord next.now }
     requires plain { is_summary next.now ≡ false }
     requires may { (rs : List Record) × MayFollowNext schema.now standing.now rs next.now }
-    ensures after { IfOk result (λ summary. (rs : List Record) → MayFollowNext schema.now standing.now rs next.now → summary ≡ summary_of schema.now standing.now.ledger.site (rs ++ next.now ∷ [])) }
+    ensures after { IfOk result (λ summary. (rs : List Record)
+        → MayFollowNext schema.now standing.now rs next.now
+        → summary ≡ summary_of schema.now standing.now.ledger.site (rs ++ next.now ∷ [])) }
 {
     let _sites = schema.sites();
     let rise = rise_of(standing, next);

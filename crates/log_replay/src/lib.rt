@@ -1,7 +1,7 @@
 //! What the records of a log stand for: a machine that takes them in one by one, from the parts of
 //! the site on, and names the first that breaks a rule. A site that is up takes in by the same call
-//! what it appends. What it comes to is told in a summary, and a log is taken in from its last summary
-//! on as well as from its front.
+//! what it appends. What it comes to is told in a summary, and a log is taken in from its last
+//! summary on as well as from its front.
 //!
 //! Source: O'Neil 1986 for the committed escrows, whose sizes turn; Balegas and others 2015 for
 //! totals given and accepted; this project for the rules of a log.

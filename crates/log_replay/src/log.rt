@@ -15,16 +15,16 @@ use std::alloc::{AllocError, Global};
 /// What a log came to.
 #[derive(Drop)]
 pub enum Replayed {
-    /// Each record may stand behind those before it, and this is what they stand for, with no rights
-    /// held.
+    /// Each record may stand behind those before it, and this is what they stand for, with no
+    /// rights held.
     Standing(Standing),
     /// This record, counted from 1, is the first that breaks a rule: it may not stand behind those
     /// before it, and each of those may.
     BreaksRule { number: u64 },
 }
 
-/// Takes in the next record, and answers whether it did. A summary is taken in where it tells what the
-/// standing comes to, which it leaves as it was.
+/// Takes in the next record, and answers whether it did. A summary is taken in where it tells what
+/// the standing comes to, which it leaves as it was.
 fn take_next(
     alloc: Global,
     schema: &Schema,
@@ -33,7 +33,8 @@ fn take_next(
 ) -> Result<bool, AllocError>
     requires places { HasSlots schema.now standing.old.rights standing.old.ledger }
     requires in_range { IsRecord next.now }
-    ensures takes_in { IfOk result (λ may. TakesIn schema.now standing.old next.now may standing.new) }
+    ensures takes_in { IfOk result (λ may. TakesIn schema.now standing.old next.now may
+        standing.new) }
 {
     match next {
         Record::Summary(told) => tells(alloc, schema, standing, told),
@@ -49,9 +50,9 @@ fn take_next(
 /// answered exactly where some record may not stand behind those before it, and names the first.
 /// The error is want of memory.
 ///
-/// Costs one step for each record and escrow up to the first that breaks a rule, and a pass over the
-/// standing for each summary. Memory is taken for the standing alone, a row for each field and one for
-/// each site and field, and at a summary for another one like it, which is let go.
+/// Costs one step for each record and escrow up to the first that breaks a rule, and a pass over
+/// the standing for each summary. Memory is taken for the standing alone, a row for each field and
+/// one for each site and field, and at a summary for another one like it, which is let go.
 pub fn replay(
     alloc: Global,
     schema: &Schema,
@@ -60,7 +61,8 @@ pub fn replay(
 ) -> Result<Replayed, AllocError>
     requires site_in { site.0 < schema.now.sites }
     requires in_range { AllByRecursion IsRecord records.now }
-    ensures standing { IfOk result (λ replayed. TellsStanding schema.now site.0 records.now replayed) }
+    ensures standing { IfOk result (λ replayed. TellsStanding schema.now site.0
+        records.now replayed) }
     ensures broken { IfOk result (λ replayed. TellsBroken schema.now site.0 records.now replayed) }
 {
     let mut standing = Standing::new(alloc, schema, site)?;

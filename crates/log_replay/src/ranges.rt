@@ -10,14 +10,16 @@ ghost use Rattle.std.specs.List.{AllByRecursion};
 ghost use Rattle.field_bounds.specs.declared.kind.Kind.{Kind};
 ghost use Rattle.kept_records.specs.Summary.{totals_of, rises};
 
-/// Totals site by site, field by field and kind by kind rise strictly, whatever they are, if each is
-/// within a bound.
+/// Totals site by site, field by field and kind by kind rise strictly, whatever they are, if each
+/// is within a bound.
 pub fn totals_rise()
-    ensures rise { (F : ℕ → ℕ → Kind → ℕ) (most : ℕ) → ((r f : ℕ) (k : Kind) → F r f k ≤ most) → (s m n : ℕ) → rises (totals_of F s m n) ≡ true }
+    ensures rise { (F : ℕ → ℕ → Kind → ℕ) (most : ℕ) → ((r f : ℕ) (k : Kind) → F r f k ≤ most)
+        → (s m n : ℕ) → rises (totals_of F s m n) ≡ true }
 {}
 
 /// The summary of lawful records may be written: its numbers are in the ranges of its text.
 pub fn summary_may_be_written()
-    ensures ranges { (schema : SchemaValue) (s : ℕ) (rs : List Record) → IsSchema schema → s < schema.sites → Lawful schema s rs →
+    ensures ranges { (schema : SchemaValue) (s : ℕ) (rs : List Record) → IsSchema schema
+        → s < schema.sites → Lawful schema s rs →
         AllByRecursion IsRecord rs → IsSummary (summary_of schema s rs) }
 {}

@@ -20,8 +20,8 @@ pub struct Resumed {
     pub turns: u64,
 }
 
-/// What the records up to the last summary stand for, told by that summary alone; or the site's parts,
-/// where there is none.
+/// What the records up to the last summary stand for, told by that summary alone; or the site's
+/// parts, where there is none.
 fn begin(
     alloc: Global,
     schema: &Schema,
@@ -30,7 +30,9 @@ fn begin(
 ) -> Result<Standing, AllocError>
     requires site_in { site.0 < schema.now.sites }
     requires end_ { (all : List Record) × IsEnd schema.now site.0 all end.now }
-    ensures begins { IfOk result (λ standing. (all : List Record) → (end_ : IsEnd schema.now site.0 all end.now) → BeginsAt schema.now site.0 all end.now end_ standing) }
+    ensures begins { IfOk result (λ standing. (all : List Record)
+        → (end_ : IsEnd schema.now site.0 all end.now)
+        → BeginsAt schema.now site.0 all end.now end_ standing) }
 {
     match &end.summary {
         Some(summary) => Standing::of_summary(alloc, schema, site, summary),
@@ -38,14 +40,14 @@ fn begin(
     }
 }
 
-/// Takes in a lawful log of a site from its last summary on, or from the site's parts on where it has
-/// none. Of the log it is given the end alone, as `read_back` answers it. What stands before the last
-/// summary isn't read: the standing is for the whole log all the same (`standing`). Each record behind
-/// the last summary is read from its line and taken in once, and no other (`turns`). The error is want
-/// of memory.
+/// Takes in a lawful log of a site from its last summary on, or from the site's parts on where it
+/// has none. Of the log it is given the end alone, as `read_back` answers it. What stands before
+/// the last summary isn't read: the standing is for the whole log all the same (`standing`). Each
+/// record behind the last summary is read from its line and taken in once, and no other (`turns`).
+/// The error is want of memory.
 ///
-/// Costs a pass over the lines behind the last summary, and one step for each record and escrow there.
-/// Memory is taken for the standing alone, and once for the escrows of a commit.
+/// Costs a pass over the lines behind the last summary, and one step for each record and escrow
+/// there. Memory is taken for the standing alone, and once for the escrows of a commit.
 pub fn resume(
     alloc: Global,
     schema: &Schema,
@@ -54,8 +56,11 @@ pub fn resume(
 ) -> Result<Resumed, AllocError>
     requires site_in { site.0 < schema.now.sites }
     requires end_ { (all : List Record) × IsEnd schema.now site.0 all end.now }
-    ensures standing { IfOk result (λ resumed. (all : List Record) → IsEnd schema.now site.0 all end.now → IsStandingFor schema.now site.0 all resumed.standing) }
-    ensures turns { IfOk result (λ resumed. (all : List Record) → IsEnd schema.now site.0 all end.now → resumed.turns ≡ since_summary all) }
+    ensures standing { IfOk result (λ resumed. (all : List Record)
+        → IsEnd schema.now site.0 all end.now → IsStandingFor schema.now site.0 all
+        resumed.standing) }
+    ensures turns { IfOk result (λ resumed. (all : List Record)
+        → IsEnd schema.now site.0 all end.now → resumed.turns ≡ since_summary all) }
 {
     let mut standing = begin(alloc, schema, site, end)?;
     let mut turns: u64 = 0;

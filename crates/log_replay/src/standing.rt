@@ -28,8 +28,8 @@ use std::alloc::{AllocError, Global};
 /// Source: Balegas and others 2015 for the rights and the totals; this project for the epoch.
 #[derive(Drop)]
 pub struct Standing {
-    /// The own rights of the site on each field, those that are free and those that are held, and what
-    /// it has given up for good.
+    /// The own rights of the site on each field, those that are free and those that are held, and
+    /// what it has given up for good.
     pub rights: Rights,
     /// The totals that it gave to and accepted from each other site, in rights.
     pub ledger: Ledger,
@@ -38,9 +38,9 @@ pub struct Standing {
 }
 
 impl Standing {
-    /// What no records stand for: the site's parts with none of them held, nothing given up, given or
-    /// accepted, and epoch 0. The error is want of memory. Costs memory for a row of each field, and
-    /// for one of each site and field; no later call takes memory.
+    /// What no records stand for: the site's parts with none of them held, nothing given up, given
+    /// or accepted, and epoch 0. The error is want of memory. Costs memory for a row of each field,
+    /// and for one of each site and field; no later call takes memory.
     pub fn new(alloc: Global, schema: &Schema, site: SiteNo) -> Result<Standing, AllocError>
         requires site_in { site.0 < schema.now.sites }
         ensures nothing { IfOk result (λ standing. IsStandingFor schema.now site.0 [] standing) }
@@ -53,9 +53,9 @@ impl Standing {
     }
 
     /// What a summary tells, with no rights held. The summary tells what some lawful records of the
-    /// site stand for, and the standing is then for them. The error is want of memory. Costs memory for
-    /// a row of each field, and for one of each site and field, and a pass over the tightenings that the
-    /// summary tells for each field.
+    /// site stand for, and the standing is then for them. The error is want of memory. Costs memory
+    /// for a row of each field, and for one of each site and field, and a pass over the tightenings
+    /// that the summary tells for each field.
     pub fn of_summary(
         alloc: Global,
         schema: &Schema,
@@ -64,8 +64,11 @@ impl Standing {
     ) -> Result<Standing, AllocError>
         requires site_in { site.0 < schema.now.sites }
         requires in_range { IsSummary summary.now }
-        requires tells { (rs : List Record) × Lawful schema.now site.0 rs × TellsOf schema.now site.0 summary.now rs }
-        ensures stands { IfOk result (λ standing. (rs : List Record) → TellsOf schema.now site.0 summary.now rs → IsStandingFor schema.now site.0 rs standing) }
+        requires tells { (rs : List Record) × Lawful schema.now site.0 rs
+            × TellsOf schema.now site.0 summary.now rs }
+        ensures stands { IfOk result (λ standing. (rs : List Record)
+            → TellsOf schema.now site.0 summary.now rs
+            → IsStandingFor schema.now site.0 rs standing) }
     {
         let _sites = schema.sites();
         let mut ledger = Ledger::new(alloc, schema, site)?;
@@ -80,15 +83,17 @@ impl Standing {
         })
     }
 
-    /// Takes in the next record, and answers whether it did. It does exactly where a commit is of the
-    /// standing's epoch, a restart's epoch and each total are above the one before, what the record
-    /// spends is free and what it adds has room. Where no rights are held, that is exactly where the
-    /// record may stand behind those before it. The standing is then for the old records and for this
-    /// one, and what was held stays held. Where it doesn't, nothing is claimed of what is left.
+    /// Takes in the next record, and answers whether it did. It does exactly where a commit is of
+    /// the standing's epoch, a restart's epoch and each total are above the one before, what the
+    /// record spends is free and what it adds has room. Where no rights are held, that is exactly
+    /// where the record may stand behind those before it. The standing is then for the old records
+    /// and for this one, and what was held stays held. Where it doesn't, nothing is claimed of what
+    /// is left.
     ///
     /// The schema is the one that the standing was made for, and the record's numbers lie in the
-    /// ranges that `Record` tells. It is no summary: a summary is compared with what the records before
-    /// it stand for, which `replay` does, and adds nothing to it. Costs one step for each escrow of the record, and no memory.
+    /// ranges that `Record` tells. It is no summary: a summary is compared with what the records
+    /// before it stand for, which `replay` does, and adds nothing to it. Costs one step for each
+    /// escrow of the record, and no memory.
     ///
     /// Source: O'Neil 1986 for the commit; Balegas and others 2015 for the gift and the acceptance;
     /// this project for the tightening, the restart and for what each of them has to meet.
@@ -164,7 +169,8 @@ impl Standing {
         total: u64,
     ) -> bool
         requires places { HasSlots schema.now self.old.rights self.old.ledger }
-        ensures takes_in { TakesIn schema.now self.old (Accept from field kind total) result self.new }
+        ensures takes_in { TakesIn schema.now self.old
+            (Accept from field kind total) result self.new }
     {
         if !self.has_place(schema, from, field) {
             return false;
@@ -178,7 +184,8 @@ impl Standing {
         true
     }
 
-    /// Takes in a tightening: its total is above the one before by what is owned, which is given up.
+    /// Takes in a tightening: its total is above the one before by what is owned, which is given
+    /// up.
     fn tighten(&mut self, schema: &Schema, field: FieldNo, kind: Kind, total: u64) -> bool
         requires places { HasSlots schema.now self.old.rights self.old.ledger }
         ensures takes_in { TakesIn schema.now self.old (Tighten field kind total) result self.new }
@@ -195,7 +202,8 @@ impl Standing {
 
     /// Takes in a restart: its epoch is above every one before.
     fn restart(&mut self, epoch: u32) -> bool
-        ensures takes_in { (schema : SchemaValue) → TakesIn schema self.old (Restart epoch) result self.new }
+        ensures takes_in { (schema : SchemaValue) → TakesIn schema self.old
+            (Restart epoch) result self.new }
     {
         if epoch <= self.epoch {
             return false;
@@ -206,7 +214,8 @@ impl Standing {
 
     /// Whether it is another site of the schema, and a field of it.
     fn has_place(&self, schema: &Schema, site: SiteNo, field: FieldNo) -> bool
-        ensures { result ≡ (is_other_site schema.now self.now.ledger.site site.0 && is_field schema.now field.0) }
+        ensures { result ≡ (is_other_site schema.now self.now.ledger.site site.0
+            && is_field schema.now field.0) }
     {
         site.0 < schema.sites() && site.0 != self.ledger.site().0 && field.0 < schema.fields()
     }
@@ -255,8 +264,8 @@ fn cut_told(cuts: &[Cut], field: FieldNo, kind: Kind) -> u64
     total
 }
 
-/// What was given up of each field, to lower and to raise it. Costs a pass over what was given up for
-/// each field.
+/// What was given up of each field, to lower and to raise it. Costs a pass over what was given up
+/// for each field.
 fn cut_rows(alloc: Global, fields: u16, cuts: &[Cut]) -> Result<Vec<(u64, u64)>, AllocError>
     ensures { IfOk result (λ rows. rows.items ≡ rights_of (cut_told cuts.now) fields) }
 {

@@ -88,7 +88,8 @@ fn push_site(
     fields: u16,
 ) -> Result<(), AllocError>
     requires places { (f : ℕ) → f < fields → IsSlot ledger.now site.0 f }
-    ensures { OnOk result (totals.new.items ≡ totals.old.items ++ totals_of_site (side given ledger.now) site.0 fields) }
+    ensures { OnOk result (totals.new.items ≡ totals.old.items
+        ++ totals_of_site (side given ledger.now) site.0 fields) }
 {
     for number in 0..fields {
         let field = FieldNo(number);
@@ -110,7 +111,8 @@ fn push_site_with(
     fields: u16,
 ) -> Result<(), AllocError>
     requires places { (f : ℕ) → f < fields → IsSlot ledger.now site.0 f }
-    ensures { OnOk result (totals.new.items ≡ totals.old.items ++ totals_of_site (side_with anew given ledger.now) site.0 fields) }
+    ensures { OnOk result (totals.new.items ≡ totals.old.items
+        ++ totals_of_site (side_with anew given ledger.now) site.0 fields) }
 {
     for number in 0..fields {
         let field = FieldNo(number);
@@ -142,7 +144,8 @@ fn push_any_site(
     fields: u16,
 ) -> Result<(), AllocError>
     requires places { (f : ℕ) → f < fields → IsSlot ledger.now site.0 f }
-    ensures { OnOk result (totals.new.items ≡ totals.old.items ++ totals_of_site (side_with anew given ledger.now) site.0 fields) }
+    ensures { OnOk result (totals.new.items ≡ totals.old.items
+        ++ totals_of_site (side_with anew given ledger.now) site.0 fields) }
 {
     if is_of_site(anew, site) {
         push_site_with(totals, ledger, given, anew, site, fields)
@@ -159,8 +162,11 @@ pub(crate) fn totals_on_side(
     given: bool,
     anew: Option<Total>,
 ) -> Result<Vec<Total>, AllocError>
-    requires places { (r f : ℕ) → r < schema.now.sites → r ≢ ledger.now.site → f < length schema.now.fields → IsSlot ledger.now r f }
-    ensures { IfOk result (λ totals. totals.items ≡ totals_of (side_with anew given ledger.now) ledger.now.site (length schema.now.fields) schema.now.sites) }
+    requires places { (r f : ℕ) → r < schema.now.sites → r ≢ ledger.now.site
+        → f < length schema.now.fields → IsSlot ledger.now r f }
+    ensures { IfOk result (λ totals. totals.items ≡ totals_of
+        (side_with anew given ledger.now) ledger.now.site
+        (length schema.now.fields) schema.now.sites) }
 {
     let mut totals = Vec::new(alloc);
     let own = ledger.site();
@@ -233,12 +239,13 @@ pub(crate) fn given_up(
 }
 
 /// The summary of what was taken in: own rights, held ones included, the totals above 0 and the
-/// epoch. It tells what any records stand for that the standing is for. The error is want of memory.
-/// Costs a pass over the rights and the ledger, and memory for the summary.
+/// epoch. It tells what any records stand for that the standing is for. The error is want of
+/// memory. Costs a pass over the rights and the ledger, and memory for the summary.
 pub fn summary(alloc: Global, schema: &Schema, standing: &Standing) -> Result<Summary, AllocError>
     requires places { HasSlots schema.now standing.now.rights standing.now.ledger }
     ensures now { IfOk result (λ summary. summary ≡ summary_now schema.now standing.now) }
-    ensures told { IfOk result (λ summary. (s : ℕ) (rs : List Record) → Stands schema.now s rs standing.now → summary ≡ summary_of schema.now s rs) }
+    ensures told { IfOk result (λ summary. (s : ℕ) (rs : List Record)
+        → Stands schema.now s rs standing.now → summary ≡ summary_of schema.now s rs) }
 {
     let rights = own_rights(alloc, &standing.rights, schema.fields())?;
     let gifts = totals_on_side(alloc, schema, &standing.ledger, true, None)?;
@@ -337,7 +344,8 @@ pub(crate) fn tells(
     told: &Summary,
 ) -> Result<bool, AllocError>
     requires places { HasSlots schema.now standing.now.rights standing.now.ledger }
-    ensures { IfOk result (λ may. (s : ℕ) (rs : List Record) → Stands schema.now s rs standing.now → may ≡ may_follow schema.now s rs (record_of told.now)) }
+    ensures { IfOk result (λ may. (s : ℕ) (rs : List Record) → Stands schema.now s rs standing.now
+        → may ≡ may_follow schema.now s rs (record_of told.now)) }
 {
     let own = summary(alloc, schema, standing)?;
     Ok(same_summary(told, &own))

@@ -298,7 +298,8 @@ fn broken_logs(rt: HostRuntime) {
     }
 }
 
-/// What a lawful log comes to from its last summary on, and how many records were taken in for that.
+/// What a lawful log comes to from its last summary on, and how many records were taken in for
+/// that.
 fn resumed(alloc: Global, log: &str) -> Option<(Stands, u64)> {
     let schema = stock_of_two(alloc)?;
     if schema.sites() != 2 || schema.fields() != 1 {
@@ -357,8 +358,8 @@ fn a_log_resumes_at_its_last_summary(rt: HostRuntime) {
     );
 }
 
-/// What the summary tells that follows a first gift of so many rights to lower: the epoch, the rights, and
-/// how many totals each group has. None where the gift breaks a rule.
+/// What the summary tells that follows a first gift of so many rights to lower: the epoch, the
+/// rights, and how many totals each group has. None where the gift breaks a rule.
 fn told_after_gift(
     alloc: Global,
     total: u64,

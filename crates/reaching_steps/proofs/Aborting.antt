@@ -46,7 +46,8 @@ here_kept b s rest h g = rw (h, g) refl
 there_kept : (x rest : Bool) → rest ≡ true → (x || rest) ≡ true
 there_kept x rest h = or_right x rest h
 
-pub open_among : (p : TxnId → Bool) (es : List Effect) (j : TxnId) → is_begun j es ≡ true → p j ≡ true → among j (filter p (begun_txns es)) ≡ true
+pub open_among : (p : TxnId → Bool) (es : List Effect) (j : TxnId) → is_begun j es ≡ true → p j ≡ true
+    → among j (filter p (begun_txns es)) ≡ true
 open_among p [] j h g = cc
 open_among p (Begins txn ∷ es) j h g =
     among_case (p txn) j txn (filter p (begun_txns es))
@@ -70,7 +71,8 @@ only_case false s rest was h more = or_right s was (more h)
 pub among_begun : (p : TxnId → Bool) (es : List Effect) (j : TxnId) → among j (filter p (begun_txns es)) ≡ true → is_begun j es ≡ true
 among_begun p [] j h = cc
 among_begun p (Begins txn ∷ es) j h =
-    only_case (p txn) (same_txn txn j) (among j (filter p (begun_txns es))) (is_begun j es) (sym (among_case (p txn) j txn (filter p (begun_txns es))) ∙ h) (among_begun p es j)
+    only_case (p txn) (same_txn txn j) (among j (filter p (begun_txns es))) (is_begun j es)
+    (sym (among_case (p txn) j txn (filter p (begun_txns es))) ∙ h) (among_begun p es j)
 among_begun p (Grants txn field change ∷ es) j h = among_begun p es j h
 among_begun p (Commits txn ∷ es) j h = among_begun p es j h
 among_begun p (Aborts txn ∷ es) j h = among_begun p es j h
@@ -90,9 +92,11 @@ apart_case true id ids new apart = (new, apart)
 apart_case false id ids new apart = apart
 
 -- what was begun lawfully has ids apart
-pub begun_apart : (schema : SchemaValue) (base : Base) (p : TxnId → Bool) (es : List Effect) → IsLawful schema base es → AreApart (filter p (begun_txns es))
+pub begun_apart : (schema : SchemaValue) (base : Base) (p : TxnId → Bool) (es : List Effect) → IsLawful schema base es
+    → AreApart (filter p (begun_txns es))
 begun_apart schema base p [] lawful = tt
-begun_apart schema base p (Begins txn ∷ es) lawful = apart_case (p txn) txn (filter p (begun_txns es)) (not_among p es txn lawful.1) (begun_apart schema base p es lawful.0)
+begun_apart schema base p (Begins txn ∷ es) lawful =
+    apart_case (p txn) txn (filter p (begun_txns es)) (not_among p es txn lawful.1) (begun_apart schema base p es lawful.0)
 begun_apart schema base p (Grants txn field change ∷ es) lawful = begun_apart schema base p es lawful.0
 begun_apart schema base p (Commits txn ∷ es) lawful = begun_apart schema base p es lawful.0
 begun_apart schema base p (Aborts txn ∷ es) lawful = begun_apart schema base p es lawful.0
@@ -100,11 +104,13 @@ begun_apart schema base p (Gives to field kind amount ∷ es) lawful = begun_apa
 begun_apart schema base p (Accepts from field kind total ∷ es) lawful = begun_apart schema base p es lawful.0
 begun_apart schema base p (Stops ∷ es) lawful = begun_apart schema base p es lawful.0
 
-open_case : (all : List Effect) (b : Bool) (id : TxnId) (ids : List TxnId) → (b ≡ true → (is_begun id all ≡ true) × (is_open id all ≡ true)) → AreOpen ids all → AreOpen (cond b (id ∷ ids) ids) all
+open_case : (all : List Effect) (b : Bool) (id : TxnId) (ids : List TxnId) → (b ≡ true → (is_begun id all ≡ true) × (is_open id all ≡ true))
+    → AreOpen ids all → AreOpen (cond b (id ∷ ids) ids) all
 open_case all true id ids is rest = (is refl, rest)
 open_case all false id ids is rest = rest
 
-opened_of : (all es : List Effect) → ((id : TxnId) → is_begun id es ≡ true → is_begun id all ≡ true) → AreOpen (filter (λ id. is_open id all) (begun_txns es)) all
+opened_of : (all es : List Effect) → ((id : TxnId) → is_begun id es ≡ true → is_begun id all ≡ true)
+    → AreOpen (filter (λ id. is_open id all) (begun_txns es)) all
 opened_of all [] h = tt
 opened_of all (Begins txn ∷ es) h =
     let first : is_begun txn (Begins txn ∷ es) ≡ true = rw (same_txn-refl txn) refl in
@@ -131,17 +137,22 @@ module _ (schema : SchemaValue) (named f : ℕ) where
     pub begun_as : (j : TxnId) → is_begun j (at_site schema u s) ≡ is_begun j (at_site schema t s)
 
   -- what took effect at a site grows by the abort
-  effects_abort : (s : ℕ) (id : TxnId) (t : List Entry) → at_site schema (made schema t (record { 0 = s }) (Abort id) ∷ t) s ≡ Aborts id ∷ at_site schema t s
-  effects_abort s id t = ap (λ (o : List Entry). effects (fresh schema s) false o) (own_here s (made schema t (record { 0 = s }) (Abort id)) t refl)
+  effects_abort : (s : ℕ) (id : TxnId) (t : List Entry)
+      → at_site schema (made schema t (record { 0 = s }) (Abort id) ∷ t) s ≡ Aborts id ∷ at_site schema t s
+  effects_abort s id t = ap (λ (o : List Entry). effects (fresh schema s) false o)
+      (own_here s (made schema t (record { 0 = s }) (Abort id)) t refl)
 
-  aborted_more : (s : ℕ) (id : TxnId) (ids : List TxnId) (t u : List Entry) → s ≢ named → Aborted s ids t u → Aborted s (id ∷ ids) t (made schema u (record { 0 = s }) (Abort id) ∷ u)
+  aborted_more : (s : ℕ) (id : TxnId) (ids : List TxnId) (t u : List Entry) → s ≢ named → Aborted s ids t u
+      → Aborted s (id ∷ ids) t (made schema u (record { 0 = s }) (Abort id) ∷ u)
   aborted_more s id ids t u apart did =
       let e = made schema u (record { 0 = s }) (Abort id) in
       let is = effects_abort s id u in
       record {
-        leaves = leaves_trans schema named f t u (e ∷ u) did.leaves (leaves_one schema named f e u apart (keeps_abort (fresh schema s) f (record { 0 = s }) id (own s u)));
+        leaves = leaves_trans schema named f t u (e ∷ u) did.leaves
+            (leaves_one schema named f e u apart (keeps_abort (fresh schema s) f (record { 0 = s }) id (own s u)));
         shut = λ j there opened.
-            let opened_so : is_open j (Aborts id ∷ at_site schema u s) ≡ true = subst (λ (es : List Effect). is_open j es ≡ true) is opened in
+            let opened_so : is_open j (Aborts id ∷ at_site schema u s) ≡ true =
+            subst (λ (es : List Effect). is_open j es ≡ true) is opened in
             elim (cases_Bool (same_txn id j)) [
               | inl same ↦ abort_closes id j (at_site schema u s) same opened_so
               | inr other ↦
@@ -156,7 +167,8 @@ module _ (schema : SchemaValue) (named f : ℕ) where
         begun_as = λ j. ap (λ (es : List Effect). is_begun j es) is ∙ did.begun_as j;
       }
 
-  abort_each : (steps : List WorldStep) (s : ℕ) (ids : List TxnId) → All (StepFits schema) steps → s < schema.sites → s ≢ named → is_up (fresh schema s) (own s (trace_by schema steps)) ≡ true
+  abort_each : (steps : List WorldStep) (s : ℕ) (ids : List TxnId) → All (StepFits schema) steps → s < schema.sites → s ≢ named
+      → is_up (fresh schema s) (own s (trace_by schema steps)) ≡ true
       → AreApart ids → AreOpen ids (at_site schema (trace_by schema steps) s)
       → Went schema steps (map (λ id. fine s (Abort id)) (reverse ids)) (λ u. Aborted s ids (trace_by schema steps) u)
   abort_each steps s [] fit below apart up distinct opened =
@@ -181,9 +193,11 @@ module _ (schema : SchemaValue) (named f : ℕ) where
       (subst (λ (v : List Entry). Aborted s (id ∷ ids) t v) (sym went) (aborted_more s id ids t u apart did))))
 
   -- all that are open, as the task has it
-  pub abort_all : (steps : List WorldStep) (s : ℕ) → All (StepFits schema) steps → s < schema.sites → s ≢ named → is_up (fresh schema s) (own s (trace_by schema steps)) ≡ true
+  pub abort_all : (steps : List WorldStep) (s : ℕ) → All (StepFits schema) steps → s < schema.sites → s ≢ named
+      → is_up (fresh schema s) (own s (trace_by schema steps)) ≡ true
       → IsLawful schema (fresh schema s) (at_site schema (trace_by schema steps) s)
-      → Went schema steps (aborts schema named s (trace_by schema steps)) (λ u. Leaves schema named f (trace_by schema steps) u × NoneOpen (at_site schema u s))
+      → Went schema steps (aborts schema named s (trace_by schema steps)) (λ u. Leaves schema named f (trace_by schema steps) u
+      × NoneOpen (at_site schema u s))
   abort_all steps s fit below apart up lawful =
       let t = trace_by schema steps in
       let es = at_site schema t s in

@@ -36,7 +36,11 @@ sum_alone (suc n) F i below h =
       | inl same ↦
           let at : F n ≡ F i = ap F same in
           omega (arith, at, sum_nothing n F (λ j less. h j (omega (arith, less)) (λ e. omega (arith, e, same, less))))
-      | inr apart ↦ omega (arith, h n (omega arith) apart, sum_alone n F i (omega (arith, below, apart)) (λ j less other. h j (omega (arith, less)) other))
+      | inr apart ↦ omega (
+        arith,
+        h n (omega arith) apart,
+        sum_alone n F i (omega (arith, below, apart)) (λ j less other. h j (omega (arith, less)) other),
+      )
     ]
 
 -- all but one
@@ -61,7 +65,11 @@ none_weigh false n = refl
 
 granted-none : (f : ℕ) (k : Kind) (es : List Effect) → granted_sizes (λ _. false) f k es ≡ 0
 granted-none f k [] = refl
-granted-none f k (Grants txn field change ∷ es) = omega (arith, granted-none f k es, none_weigh (eqb field.0 f && same_kind (kind_of change) k) (unsigned_abs change))
+granted-none f k (Grants txn field change ∷ es) = omega (
+  arith,
+  granted-none f k es,
+  none_weigh (eqb field.0 f && same_kind (kind_of change) k) (unsigned_abs change),
+)
 granted-none f k (Begins txn ∷ es) = granted-none f k es
 granted-none f k (Commits txn ∷ es) = granted-none f k es
 granted-none f k (Aborts txn ∷ es) = granted-none f k es
@@ -69,7 +77,8 @@ granted-none f k (Gives to field kind amount ∷ es) = granted-none f k es
 granted-none f k (Accepts from field kind total ∷ es) = granted-none f k es
 granted-none f k (Stops ∷ es) = granted-none f k es
 
-pub none_held : (schema : SchemaValue) (base : Base) (es : List Effect) → IsLawful schema base es → NoneOpen es → (f : ℕ) (k : Kind) → held_rights f k es ≡ 0
+pub none_held : (schema : SchemaValue) (base : Base) (es : List Effect) → IsLawful schema base es → NoneOpen es → (f : ℕ) (k : Kind)
+    → held_rights f k es ≡ 0
 none_held schema base es lawful none f k =
     granted-same schema base (λ id. is_open id es) (λ _. false) f k es lawful (open_shut es none) ∙ granted-none f k es
 
@@ -94,10 +103,26 @@ module _ (schema : SchemaValue) (good : IsSchema schema) (t : List Entry) (sound
   pub share_small : (s : ℕ) (k : Kind) → s < schema.sites → share (fresh schema s) f k (at_site schema t s) ≤ max_change
   share_small s Lower below =
       let near = all_near schema.fields good.each f in
-      omega (arith, ints, law.lowering f, law.raising f, near.least, near.most, term_below schema.sites (free_of schema good t sound f Lower) s below)
+      omega (
+        arith,
+        ints,
+        law.lowering f,
+        law.raising f,
+        near.least,
+        near.most,
+        term_below schema.sites (free_of schema good t sound f Lower) s below,
+      )
   share_small s Raise below =
       let near = all_near schema.fields good.each f in
-      omega (arith, ints, law.lowering f, law.raising f, near.least, near.most, term_below schema.sites (free_of schema good t sound f Raise) s below)
+      omega (
+        arith,
+        ints,
+        law.lowering f,
+        law.raising f,
+        near.least,
+        near.most,
+        term_below schema.sites (free_of schema good t sound f Raise) s below,
+      )
 
   module _ (named : ℕ) (named_in : named < schema.sites)
       (uncut : (k : Kind) → cuts schema t f k ≡ 0)
@@ -105,7 +130,8 @@ module _ (schema : SchemaValue) (good : IsSchema schema) (t : List Entry) (sound
       (arrived : (from to : ℕ) (k : Kind) → from < schema.sites → to < schema.sites → Arrived schema named f t from to k) where
     nothing_flies : (k : Kind) → in_flight schema t f k ≡ 0
     nothing_flies k =
-        sum_nothing schema.sites (λ from. sum_below schema.sites (λ to. given_between schema t f k from to - accepted_between schema t f k from to))
+        sum_nothing schema.sites (λ from. sum_below schema.sites
+        (λ to. given_between schema t f k from to - accepted_between schema t f k from to))
         (λ from below. sum_nothing schema.sites (λ to. given_between schema t f k from to - accepted_between schema t f k from to)
         (λ to small. omega (arith, arrived from to k below small)))
 
@@ -113,16 +139,20 @@ module _ (schema : SchemaValue) (good : IsSchema schema) (t : List Entry) (sound
     only_mine k =
         traced schema good t sound (is_open_in schema t) f k
         ∙ sum_alone schema.sites (open_of schema good t sound f k) named named_in
-        (λ s below apart. none_held schema (fresh schema s) (at_site schema t s) (lawful_at schema good t sound s below) (quiet s below apart) f k)
+        (λ s below apart. none_held schema (fresh schema s) (at_site schema t s) (lawful_at schema good t sound s below)
+        (quiet s below apart) f k)
 
     abbrev pub others : Kind → ℕ → ℕ
     others k = but named (λ s. share (fresh schema s) f k (at_site schema t s))
 
-    all_shares : (k : Kind) → shares schema t f k ≡ sum_below schema.sites (others k) + share (fresh schema named) f k (at_site schema t named)
+    all_shares : (k : Kind) → shares schema t f k ≡ sum_below schema.sites (others k)
+        + share (fresh schema named) f k (at_site schema t named)
     all_shares k = sum_but schema.sites (λ s. share (fresh schema s) f k (at_site schema t s)) named named_in
 
-    pub below_is : committed_value schema t f ≡ ((field_at schema f).floor +ℤ pos (own_rights (fresh schema named) f Lower (at_site schema t named))) +ℤ pos (sum_below schema.sites (others Lower))
+    pub below_is : committed_value schema t f ≡ ((field_at schema f).floor +ℤ pos
+        (own_rights (fresh schema named) f Lower (at_site schema t named))) +ℤ pos (sum_below schema.sites (others Lower))
     below_is = omega (arith, ints, law.lowering f, uncut Lower, nothing_flies Lower, only_mine Lower, all_shares Lower)
 
-    pub above_is : committed_value schema t f +ℤ pos (sum_below schema.sites (others Raise)) ≡ ((field_at schema f).ceiling -ℤ pos (own_rights (fresh schema named) f Raise (at_site schema t named)))
+    pub above_is : committed_value schema t f +ℤ pos (sum_below schema.sites (others Raise))
+        ≡ ((field_at schema f).ceiling -ℤ pos (own_rights (fresh schema named) f Raise (at_site schema t named)))
     above_is = omega (arith, ints, law.raising f, uncut Raise, nothing_flies Raise, only_mine Raise, all_shares Raise)

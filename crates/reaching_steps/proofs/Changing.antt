@@ -66,20 +66,24 @@ module _ (schema : SchemaValue) (s : ℕ) (base : Base) (o : List Entry) (run : 
   is_here : is_begun id (Begins id ∷ es) ≡ true
   is_here = or_left (same_txn id id) (is_begun id es) (same_txn-refl id)
 
-  pub may_begin : is_up base o ≡ true → count_since is_begun_reply o < max_number → NoneOpen es → first (refusals (place schema s base o) Begin) ≡ None
+  pub may_begin : is_up base o ≡ true → count_since is_begun_reply o < max_number → NoneOpen es
+      → first (refusals (place schema s base o) Begin) ≡ None
   may_begin up left none =
       let empty : length (open_txns es) ≡ 0 = ap (λ (l : List TxnId). length l) (nothing_open es none) in
       begin_goes (place schema s base o) up (omega (arith, empty)) left
 
-  pub may_escrow : is_up base o ≡ true → field < length schema.fields → unsigned_abs change ≢ 0 → unsigned_abs change ≤ max_change → unsigned_abs change ≤ share base field (kind_of change) es
+  pub may_escrow : is_up base o ≡ true → field < length schema.fields → unsigned_abs change ≢ 0 → unsigned_abs change ≤ max_change
+      → unsigned_abs change ≤ share base field (kind_of change) es
       → first (refusals (place schema s base with_begin) (Escrow id no change)) ≡ None
   may_escrow up known some most enough =
       let empty : count_escrows id (Begins id ∷ es) ≡ 0 = ap (λ (l : List EscrowOf). length l) unused.no_escrow in
-      escrow_goes (place schema s base with_begin) up id no change known is_here (unused_open (is_committed id es) (is_dropped id es) unused.uncommitted unused.undropped) some most enough
+      escrow_goes (place schema s base with_begin) up id no change known is_here
+      (unused_open (is_committed id es) (is_dropped id es) unused.uncommitted unused.undropped) some most enough
       (omega (arith, empty))
 
   pub may_commit : is_up base o ≡ true → first (refusals (place schema s base with_escrow) (Commit id)) ≡ None
-  may_commit up = commit_goes (place schema s base with_escrow) up id is_here (unused_open (is_committed id es) (is_dropped id es) unused.uncommitted unused.undropped)
+  may_commit up = commit_goes (place schema s base with_escrow) up id is_here
+      (unused_open (is_committed id es) (is_dropped id es) unused.uncommitted unused.undropped)
 
   -- what is settled at the site grows by the escrow
   abbrev pub settled : Kind → List Effect → ℕ
@@ -97,7 +101,8 @@ module _ (schema : SchemaValue) (s : ℕ) (base : Base) (o : List Entry) (run : 
       let on = eqb field field && same_kind (kind_of change) k in
       omega (
         arith,
-        weigh_one on (same_txn id id || is_committed id es) (unsigned_abs change) (or_left (same_txn id id) (is_committed id es) (same_txn-refl id)),
+        weigh_one on (same_txn id id || is_committed id es) (unsigned_abs change)
+            (or_left (same_txn id id) (is_committed id es) (same_txn-refl id)),
         granted-or (λ j. same_txn id j) (λ j. is_committed j es)
             (λ j same. subst (λ (x : TxnId). is_committed x es ≡ false) (same_txn-true id j same) unused.uncommitted) field k es,
         of_txn_is id field k es,
@@ -106,7 +111,9 @@ module _ (schema : SchemaValue) (s : ℕ) (base : Base) (o : List Entry) (run : 
 
 -- ---- the committed value, site by site
 
-takes_split : (field : ℕ) (no : FieldNo) (change : ℤ) → no.0 ≡ field → change ≡ (pos (takes field Raise (record { field = no; change = change })) -ℤ pos (takes field Lower (record { field = no; change = change })))
+takes_split : (field : ℕ) (no : FieldNo) (change : ℤ) → no.0 ≡ field
+    → change ≡ (pos (takes field Raise (record { field = no; change = change })) -ℤ pos
+    (takes field Lower (record { field = no; change = change })))
 takes_split field no (pos n) same = rw (eq-eqb no.0 field same) (omega (arith, ints))
 takes_split field no (negsuc n) same = rw (eq-eqb no.0 field same) (omega (arith, ints))
 
@@ -115,7 +122,8 @@ module _ (schema : SchemaValue) (good : IsSchema schema) (f : ℕ) where
   settled_at k t s = granted_sizes (λ j. is_committed j (at_site schema t s)) f k (at_site schema t s)
 
   pub committed_is : (t : List Entry) → IsSound schema t
-      → committed_value schema t f ≡ ((field_at schema f).value +ℤ (pos (sum_below schema.sites (settled_at Raise t)) -ℤ pos (sum_below schema.sites (settled_at Lower t))))
+      → committed_value schema t f ≡ ((field_at schema f).value +ℤ
+      (pos (sum_below schema.sites (settled_at Raise t)) -ℤ pos (sum_below schema.sites (settled_at Lower t))))
   committed_is t sound =
       omega (
         arith,
@@ -131,7 +139,18 @@ module _ (schema : SchemaValue) (good : IsSchema schema) (f : ℕ) where
       → ((j : ℕ) → j ≢ s → own j u ≡ own j t)
       → committed_value schema u f ≡ (committed_value schema t f +ℤ change)
   moved t u sound_t sound_u s below change here there =
-      let bump : (k : Kind) → sum_below schema.sites (settled_at k u) ≡ sum_below schema.sites (settled_at k t) + takes f k (record { field = record { 0 = f }; change = change }) =
-      λ k. sum_below_bump schema.sites (settled_at k t) (settled_at k u) s (takes f k (record { field = record { 0 = f }; change = change })) below (here k)
-      (λ j apart. ap (λ (o : List Entry). (let es = effects (fresh schema j) false o in granted_sizes (λ x. is_committed x es) f k es)) (there j apart)) in
-      omega (arith, ints, committed_is t sound_t, committed_is u sound_u, bump Raise, bump Lower, takes_split f (record { 0 = f }) change refl)
+      let bump : (k : Kind) → sum_below schema.sites (settled_at k u) ≡ sum_below schema.sites (settled_at k t)
+      + takes f k (record { field = record { 0 = f }; change = change }) =
+      λ k. sum_below_bump schema.sites (settled_at k t) (settled_at k u) s
+      (takes f k (record { field = record { 0 = f }; change = change })) below (here k)
+      (λ j apart. ap (λ (o : List Entry). (let es = effects (fresh schema j) false o in granted_sizes (λ x. is_committed x es) f k es))
+      (there j apart)) in
+      omega (
+        arith,
+        ints,
+        committed_is t sound_t,
+        committed_is u sound_u,
+        bump Raise,
+        bump Lower,
+        takes_split f (record { 0 = f }) change refl,
+      )

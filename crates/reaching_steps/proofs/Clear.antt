@@ -21,7 +21,8 @@ use Rattle.reaching_steps.specs.Reach.{least, fault_at, fault_if, first_fault, i
 use Rattle.reaching_steps.proofs.Numbers.{numbered_number}
 use Rattle.reaching_steps.proofs.Passing.{Calm}
 
-first_none : (x : Option ReachFault) (rest : List (Option ReachFault)) → first_fault (x ∷ rest) ≡ None → (x ≡ None) × (first_fault rest ≡ None)
+first_none : (x : Option ReachFault) (rest : List (Option ReachFault)) → first_fault (x ∷ rest) ≡ None → (x ≡ None)
+    × (first_fault rest ≡ None)
 first_none None rest h = (refl, h)
 first_none (Some fault) rest h = cc
 
@@ -41,7 +42,8 @@ at_none : (g : SiteNo → ReachFault) (o : Option ℕ) → fault_at g o ≡ None
 at_none g None h = refl
 at_none g (Some s) h = cc
 
-least_step : (before : Option ℕ) (b : Bool) (n : ℕ) → (if is_some before then before else (if b then Some n else None)) ≡ None → (before ≡ None) × (b ≡ false)
+least_step : (before : Option ℕ) (b : Bool) (n : ℕ) → (if is_some before then before else (if b then Some n else None)) ≡ None
+    → (before ≡ None) × (b ≡ false)
 least_step None true n h = cc
 least_step None false n h = (refl, refl)
 least_step (Some x) b n h = cc
@@ -73,7 +75,8 @@ pub record IsClear (schema : SchemaValue) (t : List Entry) (site : SiteNo) (fiel
   pub low : (interval_at (place schema site.0 (fresh schema site.0) (own site.0 t)) field).0 ≤ℤ target
   pub high : target ≤ℤ (interval_at (place schema site.0 (fresh schema site.0) (own site.0 t)) field).1
 
-stated : (schema : SchemaValue) (t : List Entry) (f from to : ℕ) (k : Kind) → is_unstated schema t f from to k ≡ false → given_between schema t f k from to ≢ 0 → IsIssued (telling schema t f k from to) t
+stated : (schema : SchemaValue) (t : List Entry) (f from to : ℕ) (k : Kind) → is_unstated schema t f from to k ≡ false
+    → given_between schema t f k from to ≢ 0 → IsIssued (telling schema t f k from to) t
 stated schema t f from to k h some =
     let told = telling schema t f k from to in
     let more : ltb 0 (given_between schema t f k from to) ≡ true = lt-ltb _ _ (omega (arith, some)) in
@@ -90,7 +93,8 @@ numbered_left false c h g = g
 none_cut : (n : ℕ) → ltb 0 n ≡ false → n ≡ 0
 none_cut n h = omega (arith, ltb-false 0 n h)
 
-pub is_clear : (schema : SchemaValue) (t : List Entry) (site : SiteNo) (field : FieldNo) (target : ℤ) → reach_fault schema t site field target ≡ None → IsClear schema t site field target
+pub is_clear : (schema : SchemaValue) (t : List Entry) (site : SiteNo) (field : FieldNo) (target : ℤ)
+    → reach_fault schema t site field target ≡ None → IsClear schema t site field target
 is_clear schema t site field target h =
     let interval = interval_at (place schema site.0 (fresh schema site.0) (own site.0 t)) field in
     let none = all_none (reach_faults schema t site field target) h in
@@ -99,23 +103,29 @@ is_clear schema t site field target h =
     let shorts = none_below schema.sites is_short (at_none InFlight (least schema.sites is_short) none.1.1.1.0) in
     let is_untold : ℕ → Bool = λ to. is_unstated schema t field.0 site.0 to Lower || is_unstated schema t field.0 site.0 to Raise in
     let tolds = none_below schema.sites is_untold (at_none Unstated (least schema.sites is_untold) none.1.1.1.1.0) in
-    let cut_parts = or_parts (ltb 0 (cuts schema t field.0 Lower)) (ltb 0 (cuts schema t field.0 Raise)) (if_none (is_tightened schema t field.0) Tightened none.1.1.1.1.1.0) in
-    let numbers = none_below schema.sites (has_no_number schema t site.0) (at_none Numbers (least schema.sites (has_no_number schema t site.0)) none.1.1.1.1.1.1.0) in
-    let out = or_parts (int_lt target interval.0) (int_lt interval.1 target) (if_none (lies_outside interval target) (Outside interval.0 interval.1) none.1.1.1.1.1.1.1.0) in
+    let cut_parts = or_parts (ltb 0 (cuts schema t field.0 Lower)) (ltb 0 (cuts schema t field.0 Raise))
+    (if_none (is_tightened schema t field.0) Tightened none.1.1.1.1.1.0) in
+    let numbers = none_below schema.sites (has_no_number schema t site.0)
+    (at_none Numbers (least schema.sites (has_no_number schema t site.0)) none.1.1.1.1.1.1.0) in
+    let out = or_parts (int_lt target interval.0) (int_lt interval.1 target)
+    (if_none (lies_outside interval target) (Outside interval.0 interval.1) none.1.1.1.1.1.1.1.0) in
     record {
       site_in = leb-false _ _ (if_none (leb schema.sites site.0) NoSite none.0);
       known = leb-false _ _ (if_none (leb (length schema.fields) field.0) NoField none.1.0);
       calm = record {
         ups = λ s below. not-false _ (ups s below);
-        numbers = λ s below apart. leb-false _ _ (numbered_left (eqb s site.0) (leb max_number (count_since is_begun_reply (own s t))) (ne_eqb s site.0 apart) (numbers s below));
+        numbers = λ s below apart. leb-false _ _ (numbered_left (eqb s site.0) (leb max_number (count_since is_begun_reply (own s t)))
+            (ne_eqb s site.0 apart) (numbers s below));
         mine_in = λ from k below. ltb-false _ _ (both_kinds (λ x. is_short_of schema t field.0 site.0 from x) (shorts from below) k);
-        told = λ to k below some. stated schema t field.0 site.0 to k (both_kinds (λ x. is_unstated schema t field.0 site.0 to x) (tolds to below) k) some;
+        told = λ to k below some. stated schema t field.0 site.0 to k
+            (both_kinds (λ x. is_unstated schema t field.0 site.0 to x) (tolds to below) k) some;
         uncut = uncut cut_parts.0 cut_parts.1;
       };
       low = not_less _ _ out.0;
       high = not_less _ _ out.1;
     }
   where
-    uncut : ltb 0 (cuts schema t field.0 Lower) ≡ false → ltb 0 (cuts schema t field.0 Raise) ≡ false → (k : Kind) → cuts schema t field.0 k ≡ 0
+    uncut : ltb 0 (cuts schema t field.0 Lower) ≡ false → ltb 0 (cuts schema t field.0 Raise) ≡ false → (k : Kind)
+        → cuts schema t field.0 k ≡ 0
     uncut lower raise Lower = none_cut _ lower
     uncut lower raise Raise = none_cut _ raise

@@ -16,7 +16,8 @@ few_after : (at : Place) (c : Command) → first (refusals at c) ≡ None → co
 few_after at Begin h few = let room = leb-false _ _ (none_holds (refusals at Begin) h).1.1.0 in omega (arith, room)
 few_after at c h few = omega (arith, few)
 
-pub run_few : (schema : SchemaValue) (s : ℕ) (o : List Entry) → IsRun schema s (fresh schema s) o → count_since is_begun_reply o ≤ max_number
+pub run_few : (schema : SchemaValue) (s : ℕ) (o : List Entry) → IsRun schema s (fresh schema s) o
+    → count_since is_begun_reply o ≤ max_number
 run_few schema s o run =
     run_holds schema s (fresh schema s) (λ epoch count es. count ≤ max_number)
     (record {
@@ -26,5 +27,6 @@ run_few schema s o run =
     }) o run false
 
 -- so the next number fits
-pub next_small : (schema : SchemaValue) (t : List Entry) (s count : ℕ) → IsSound schema t → s < schema.sites → count ≡ count_since is_begun_reply (own s t) → count < 4294967295
+pub next_small : (schema : SchemaValue) (t : List Entry) (s count : ℕ) → IsSound schema t → s < schema.sites
+    → count ≡ count_since is_begun_reply (own s t) → count < 4294967295
 next_small schema t s count sound below is = omega (arith, is, run_few schema s (own s t) (sound.runs s below))

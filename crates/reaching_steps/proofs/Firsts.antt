@@ -39,15 +39,19 @@ found_is p i n below none on =
 pub none_is : (p : ℕ → Bool) (i n : ℕ) → i ≤ n → n ≤ i → least i p ≡ None → None ≡ least n p
 none_is p i n low high none = let same : n ≡ i = omega (arith, low, high) in sym (ap (λ (m : ℕ). least m p) same ∙ none)
 
-pub first_some : (F : SiteNo → ReachFault) (o : Option ℕ) (n : ℕ) (rest : List (Option ReachFault)) → o ≡ Some n → Some (F (record { 0 = n })) ≡ first_fault (fault_at F o ∷ rest)
+pub first_some : (F : SiteNo → ReachFault) (o : Option ℕ) (n : ℕ) (rest : List (Option ReachFault)) → o ≡ Some n
+    → Some (F (record { 0 = n })) ≡ first_fault (fault_at F o ∷ rest)
 first_some F o n rest h = rw h refl
 
-pub first_none : (F : SiteNo → ReachFault) (o : Option ℕ) (x : Option ReachFault) (rest : List (Option ReachFault)) → o ≡ None → x ≡ first_fault rest → x ≡ first_fault (fault_at F o ∷ rest)
+pub first_none : (F : SiteNo → ReachFault) (o : Option ℕ) (x : Option ReachFault) (rest : List (Option ReachFault)) → o ≡ None
+    → x ≡ first_fault rest → x ≡ first_fault (fault_at F o ∷ rest)
 first_none F o x rest h is = rw h is
 
-pub outside_is : (x : Option ReachFault) (lo hi low high target : ℤ) → lo ≡ low → hi ≡ high → x ≡ fault_if (lies_outside (lo, hi) target) (Outside lo hi) → x ≡ fault_if (lies_outside (low, high) target) (Outside low high)
+pub outside_is : (x : Option ReachFault) (lo hi low high target : ℤ) → lo ≡ low → hi ≡ high
+    → x ≡ fault_if (lies_outside (lo, hi) target) (Outside lo hi) → x ≡ fault_if (lies_outside (low, high) target) (Outside low high)
 outside_is x lo hi low high target is also told =
-    told ∙ ap (λ (z : ℤ). fault_if (lies_outside (z, hi) target) (Outside z hi)) is ∙ ap (λ (z : ℤ). fault_if (lies_outside (low, z) target) (Outside low z)) also
+    told ∙ ap (λ (z : ℤ). fault_if (lies_outside (z, hi) target) (Outside z hi)) is
+    ∙ ap (λ (z : ℤ). fault_if (lies_outside (low, z) target) (Outside low z)) also
 
 -- ---- whether a bound was tightened
 
@@ -57,29 +61,46 @@ cut_at schema t f k s = cut (fresh schema s) f k (at_site schema t s)
 either_some : (a b : ℕ) → (ltb 0 a || ltb 0 b) ≡ true → (0 < a) ⊎ (0 < b)
 either_some a b h = elim (or_cases (ltb 0 a) (ltb 0 b) h) [ inl l ↦ inl (ltb-true 0 a l) | inr r ↦ inr (ltb-true 0 b r) ]
 
-pub cut_found : (schema : SchemaValue) (t : List Entry) (f n s : ℕ) → n ≡ schema.sites → s < n → is_cut_at schema t f s ≡ true → true ≡ is_tightened schema t f
+pub cut_found : (schema : SchemaValue) (t : List Entry) (f n s : ℕ) → n ≡ schema.sites → s < n → is_cut_at schema t f s ≡ true
+    → true ≡ is_tightened schema t f
 cut_found schema t f n s all below found =
     elim (either_some (cut_at schema t f Lower s) (cut_at schema t f Raise s) found) [
       | inl l ↦
-          let more : 0 < cuts schema t f Lower = omega (arith, l, all, below, term_below schema.sites (cut_at schema t f Lower) s (omega (arith, below, all))) in
+          let more : 0 < cuts schema t f Lower = omega (
+            arith,
+            l,
+            all,
+            below,
+            term_below schema.sites (cut_at schema t f Lower) s (omega (arith, below, all)),
+          ) in
           sym (or_left (ltb 0 (cuts schema t f Lower)) (ltb 0 (cuts schema t f Raise)) (lt-ltb _ _ more))
       | inr r ↦
-          let more : 0 < cuts schema t f Raise = omega (arith, r, all, below, term_below schema.sites (cut_at schema t f Raise) s (omega (arith, below, all))) in
+          let more : 0 < cuts schema t f Raise = omega (
+            arith,
+            r,
+            all,
+            below,
+            term_below schema.sites (cut_at schema t f Raise) s (omega (arith, below, all)),
+          ) in
           sym (or_right (ltb 0 (cuts schema t f Lower)) (ltb 0 (cuts schema t f Raise)) (lt-ltb _ _ more))
     ]
 
 abbrev pub NoneCut : SchemaValue → List Entry → ℕ → ℕ → Type 0
 NoneCut schema t f n = (sum_below n (cut_at schema t f Lower) ≡ 0) × (sum_below n (cut_at schema t f Raise) ≡ 0)
 
-pub none_cut_more : (schema : SchemaValue) (t : List Entry) (f i : ℕ) → is_cut_at schema t f i ≡ false → NoneCut schema t f i → NoneCut schema t f (i + 1)
+pub none_cut_more : (schema : SchemaValue) (t : List Entry) (f i : ℕ) → is_cut_at schema t f i ≡ false → NoneCut schema t f i
+    → NoneCut schema t f (i + 1)
 none_cut_more schema t f i h none =
     let parts = or_parts (ltb 0 (cut_at schema t f Lower i)) (ltb 0 (cut_at schema t f Raise i)) h in
     let one : i + 1 ≡ suc i = omega arith in
-    let lower : sum_below (i + 1) (cut_at schema t f Lower) ≡ sum_below i (cut_at schema t f Lower) + cut_at schema t f Lower i = ap (λ (n : ℕ). sum_below n (cut_at schema t f Lower)) one in
-    let raise : sum_below (i + 1) (cut_at schema t f Raise) ≡ sum_below i (cut_at schema t f Raise) + cut_at schema t f Raise i = ap (λ (n : ℕ). sum_below n (cut_at schema t f Raise)) one in
+    let lower : sum_below (i + 1) (cut_at schema t f Lower) ≡ sum_below i (cut_at schema t f Lower) + cut_at schema t f Lower i =
+    ap (λ (n : ℕ). sum_below n (cut_at schema t f Lower)) one in
+    let raise : sum_below (i + 1) (cut_at schema t f Raise) ≡ sum_below i (cut_at schema t f Raise) + cut_at schema t f Raise i =
+    ap (λ (n : ℕ). sum_below n (cut_at schema t f Raise)) one in
     (omega (arith, lower, none.0, ltb-false _ _ parts.0), omega (arith, raise, none.1, ltb-false _ _ parts.1))
 
-pub never_cut : (schema : SchemaValue) (t : List Entry) (f i n : ℕ) → n ≡ schema.sites → i ≤ n → n ≤ i → NoneCut schema t f i → false ≡ is_tightened schema t f
+pub never_cut : (schema : SchemaValue) (t : List Entry) (f i n : ℕ) → n ≡ schema.sites → i ≤ n → n ≤ i → NoneCut schema t f i
+    → false ≡ is_tightened schema t f
 never_cut schema t f i n all low high none =
     let same : i ≡ schema.sites = omega (arith, all, low, high) in
     let lower : cuts schema t f Lower ≡ 0 = ap (λ (m : ℕ). sum_below m (cut_at schema t f Lower)) (sym same) ∙ none.0 in

@@ -26,7 +26,8 @@ use Rattle.world_steps.specs.World.{question_of, luck_of, with_entry, world_of, 
 use Rattle.world_steps.specs.declared.step.WorldStep.TheVariants.{Do, Deliver}
 use Rattle.reaching_steps.proofs.Sites.{Keeps, keeps_refl, keeps_trans}
 
-fine_reply : (at : Place) (epoch : ℕ) (found : Last) (c : Command) → is_restart c ≡ false → first (refusals at c) ≡ None → owed_with at epoch found c Fine ≡ answer at c
+fine_reply : (at : Place) (epoch : ℕ) (found : Last) (c : Command) → is_restart c ≡ false → first (refusals at c) ≡ None
+    → owed_with at epoch found c Fine ≡ answer at c
 fine_reply at epoch found Restart plain h = cc
 fine_reply at epoch found c plain h = ap (λ (o : Option Refusal). refused_or o (answer at c)) h
 
@@ -41,11 +42,13 @@ module _ (schema : SchemaValue) where
       → lucky_reply schema s (fresh schema s) (own_lucky s past) c Fine ≡ answer (here (entries past) s) c
   lucky_is past s c plain h =
       let same = ap (λ (o : List Entry). place schema s (fresh schema s) o) (own_entries s past) in
-      fine_reply (place schema s (fresh schema s) (entries (own_lucky s past))) _ _ c plain (ap (λ (at : Place). first (refusals at c)) same ∙ h)
+      fine_reply (place schema s (fresh schema s) (entries (own_lucky s past))) _ _ c plain
+      (ap (λ (at : Place). first (refusals at c)) same ∙ h)
       ∙ ap (λ (at : Place). answer at c) same
 
   -- the trace grows by the one entry with the answer
-  pub goes : (steps : List WorldStep) (step : WorldStep) (s : SiteNo) (c : Command) → question_of (trace_by schema steps) step ≡ Some (s, c) → luck_of step ≡ Fine → is_restart c ≡ false
+  pub goes : (steps : List WorldStep) (step : WorldStep) (s : SiteNo) (c : Command) → question_of (trace_by schema steps) step ≡ Some (s, c)
+      → luck_of step ≡ Fine → is_restart c ≡ false
       → first (refusals (here (trace_by schema steps) s.0) c) ≡ None
       → trace_by schema (steps ++ step ∷ []) ≡ made (trace_by schema steps) s c ∷ trace_by schema steps
   goes steps step s c asks fine plain h =
@@ -55,11 +58,14 @@ module _ (schema : SchemaValue) where
       ∙ ap (λ (luck : Luck). entries (with_entry schema (Some (s, c)) luck past)) fine
       ∙ ap (λ (r : Reply). (let e : Entry = record { site = s; command = c; reply = r } in e) ∷ entries past) (lucky_is past s.0 c plain h)
 
-  pub goes_do : (steps : List WorldStep) (s : ℕ) (c : Command) → is_restart c ≡ false → first (refusals (here (trace_by schema steps) s) c) ≡ None
-      → trace_by schema (steps ++ Do (record { 0 = s }) c Fine ∷ []) ≡ made (trace_by schema steps) (record { 0 = s }) c ∷ trace_by schema steps
+  pub goes_do : (steps : List WorldStep) (s : ℕ) (c : Command) → is_restart c ≡ false
+      → first (refusals (here (trace_by schema steps) s) c) ≡ None
+      → trace_by schema (steps ++ Do (record { 0 = s }) c Fine ∷ []) ≡ made (trace_by schema steps) (record { 0 = s }) c
+      ∷ trace_by schema steps
   goes_do steps s c plain h = goes steps (Do (record { 0 = s }) c Fine) (record { 0 = s }) c refl refl plain h
 
-  pub goes_deliver : (steps : List WorldStep) (which : ℕ) (told : Statement) → statement_at which (statements_issued (trace_by schema steps)) ≡ Some told
+  pub goes_deliver : (steps : List WorldStep) (which : ℕ) (told : Statement)
+      → statement_at which (statements_issued (trace_by schema steps)) ≡ Some told
       → first (refusals (here (trace_by schema steps) told.to.0) (Accept told)) ≡ None
       → trace_by schema (steps ++ Deliver which Fine ∷ []) ≡ made (trace_by schema steps) told.to (Accept told) ∷ trace_by schema steps
   goes_deliver steps which told is h =
@@ -83,7 +89,8 @@ module _ (schema : SchemaValue) where
         issued = λ x h. b.issued x (a.issued x h);
       }
 
-  pub leaves_one : (named f : ℕ) (e : Entry) (t : List Entry) → e.site.0 ≢ named → Keeps (fresh schema e.site.0) f (own e.site.0 t) (e ∷ own e.site.0 t) → Leaves named f t (e ∷ t)
+  pub leaves_one : (named f : ℕ) (e : Entry) (t : List Entry) → e.site.0 ≢ named
+      → Keeps (fresh schema e.site.0) f (own e.site.0 t) (e ∷ own e.site.0 t) → Leaves named f t (e ∷ t)
   leaves_one named f e t apart keeps =
       record {
         mine = own_there named e t apart;
@@ -92,7 +99,8 @@ module _ (schema : SchemaValue) where
               | inl same ↦
                   subst (λ (j : ℕ). Keeps (fresh schema j) f (own j t) (own j (e ∷ t))) same
                   (subst (λ (o : List Entry). Keeps (fresh schema e.site.0) f (own e.site.0 t) o) (sym (own_here e.site.0 e t refl)) keeps)
-              | inr other ↦ subst (λ (o : List Entry). Keeps (fresh schema s) f (own s t) o) (sym (own_there s e t other)) (keeps_refl (fresh schema s) f (own s t))
+              | inr other ↦ subst (λ (o : List Entry). Keeps (fresh schema s) f (own s t) o) (sym (own_there s e t other))
+                  (keeps_refl (fresh schema s) f (own s t))
             ];
         issued = λ x h. inr h;
       }

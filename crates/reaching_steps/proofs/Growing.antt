@@ -35,52 +35,62 @@ grew_on w x y had mid has a b g h =
     record {
       world = h.world
           ∙ ap (λ (v : WorldValue). (let later : WorldValue = record { schema = v.schema; steps = v.steps ++ b } in later)) g.world
-          ∙ ap (λ (l : List WorldStep). (let later : WorldValue = record { schema = w.schema; steps = l } in later)) (append_assoc w.steps a b);
+          ∙ ap (λ (l : List WorldStep). (let later : WorldValue = record { schema = w.schema; steps = l } in later))
+          (append_assoc w.steps a b);
       taken = h.taken ∙ ap (λ (l : List WorldStep). l ++ b) g.taken ∙ append_assoc had a b;
     }
 
 pub grew_schema : (w x : WorldValue) (had has more : List WorldStep) → Grew w had more x has → x.schema ≡ w.schema
 grew_schema w x had has more g = ap (λ (v : WorldValue). v.schema) g.world
 
-pub still_in : (w x : WorldValue) (had has more : List WorldStep) (s sites : ℕ) → s < sites → sites ≡ w.schema.sites → Grew w had more x has → s < x.schema.sites
+pub still_in : (w x : WorldValue) (had has more : List WorldStep) (s sites : ℕ) → s < sites → sites ≡ w.schema.sites → Grew w had more x has
+    → s < x.schema.sites
 still_in w x had has more s sites below all g =
     let same : x.schema.sites ≡ w.schema.sites = ap (λ (v : WorldValue). v.schema.sites) g.world in
     omega (arith, below, all, same)
 
 -- one more turn of a loop over sites
 pub grew_over : (w x y : WorldValue) (had mid has : List WorldStep) (f : SchemaValue → ℕ → List Task) (i : ℕ)
-    → Grew w had (steps_of_tasks w.schema w.steps (over_sites i (f w.schema))) x mid → Grew x mid (steps_of_tasks x.schema x.steps (f x.schema i)) y has
+    → Grew w had (steps_of_tasks w.schema w.steps (over_sites i (f w.schema))) x mid
+    → Grew x mid (steps_of_tasks x.schema x.steps (f x.schema i)) y has
     → Grew w had (steps_of_tasks w.schema w.steps (over_sites (i + 1) (f w.schema))) y has
 grew_over w x y had mid has f i g h =
     let done = steps_of_tasks w.schema w.steps (over_sites i (f w.schema)) in
     let next : steps_of_tasks x.schema x.steps (f x.schema i) ≡ steps_of_tasks w.schema (w.steps ++ done) (f w.schema i) =
     ap (λ (v : WorldValue). steps_of_tasks v.schema v.steps (f v.schema i)) g.world in
     let longer : suc i ≡ i + 1 = omega arith in
-    grew_as w y had has (done ++ steps_of_tasks x.schema x.steps (f x.schema i)) (steps_of_tasks w.schema w.steps (over_sites (i + 1) (f w.schema)))
+    grew_as w y had has (done ++ steps_of_tasks x.schema x.steps (f x.schema i))
+    (steps_of_tasks w.schema w.steps (over_sites (i + 1) (f w.schema)))
     (ap (λ (l : List WorldStep). done ++ l) next
     ∙ sym (planned_append w.schema w.steps (over_sites i (f w.schema)) (f w.schema i))
     ∙ ap (λ (n : ℕ). steps_of_tasks w.schema w.steps (over_sites n (f w.schema))) longer)
     (grew_on w x y had mid has done (steps_of_tasks x.schema x.steps (f x.schema i)) g h)
 
 -- one task
-pub grew_task : (w x : WorldValue) (had has : List WorldStep) (task : Task) → Grew w had (task (trace_of w)) x has → Grew w had (steps_of_tasks w.schema w.steps (task ∷ [])) x has
-grew_task w x had has task g = grew_as w x had has (task (trace_of w)) (steps_of_tasks w.schema w.steps (task ∷ [])) (sym (append-nil (task (trace_of w)))) g
+pub grew_task : (w x : WorldValue) (had has : List WorldStep) (task : Task) → Grew w had (task (trace_of w)) x has
+    → Grew w had (steps_of_tasks w.schema w.steps (task ∷ [])) x has
+grew_task w x had has task g = grew_as w x had has (task (trace_of w)) (steps_of_tasks w.schema w.steps (task ∷ []))
+    (sym (append-nil (task (trace_of w)))) g
 
 -- two tasks, the second told by what the first left
-pub grew_tasks : (w x y : WorldValue) (had mid has : List WorldStep) (a b : SchemaValue → List Task) → Grew w had (steps_of_tasks w.schema w.steps (a w.schema)) x mid → Grew x mid (steps_of_tasks x.schema x.steps (b x.schema)) y has
+pub grew_tasks : (w x y : WorldValue) (had mid has : List WorldStep) (a b : SchemaValue → List Task)
+    → Grew w had (steps_of_tasks w.schema w.steps (a w.schema)) x mid → Grew x mid (steps_of_tasks x.schema x.steps (b x.schema)) y has
     → Grew w had (steps_of_tasks w.schema w.steps (a w.schema ++ b w.schema)) y has
 grew_tasks w x y had mid has a b g h =
     let done = steps_of_tasks w.schema w.steps (a w.schema) in
-    let next : steps_of_tasks x.schema x.steps (b x.schema) ≡ steps_of_tasks w.schema (w.steps ++ done) (b w.schema) = ap (λ (v : WorldValue). steps_of_tasks v.schema v.steps (b v.schema)) g.world in
+    let next : steps_of_tasks x.schema x.steps (b x.schema) ≡ steps_of_tasks w.schema (w.steps ++ done) (b w.schema) =
+    ap (λ (v : WorldValue). steps_of_tasks v.schema v.steps (b v.schema)) g.world in
     grew_as w y had has (done ++ steps_of_tasks x.schema x.steps (b x.schema)) (steps_of_tasks w.schema w.steps (a w.schema ++ b w.schema))
     (ap (λ (l : List WorldStep). done ++ l) next ∙ sym (planned_append w.schema w.steps (a w.schema) (b w.schema)))
     (grew_on w x y had mid has done (steps_of_tasks x.schema x.steps (b x.schema)) g h)
 
 -- two tasks of one place
-pub grew_both : (w x y : WorldValue) (had mid has : List WorldStep) (a b : SchemaValue → Task) → Grew w had (a w.schema (trace_of w)) x mid → Grew x mid (b x.schema (trace_of x)) y has
+pub grew_both : (w x y : WorldValue) (had mid has : List WorldStep) (a b : SchemaValue → Task) → Grew w had (a w.schema (trace_of w)) x mid
+    → Grew x mid (b x.schema (trace_of x)) y has
     → Grew w had (steps_of_tasks w.schema w.steps (a w.schema ∷ b w.schema ∷ [])) y has
 grew_both w x y had mid has a b g h =
-    grew_tasks w x y had mid has (λ s. a s ∷ []) (λ s. b s ∷ []) (grew_task w x had mid (a w.schema) g) (grew_task x y mid has (b x.schema) h)
+    grew_tasks w x y had mid has (λ s. a s ∷ []) (λ s. b s ∷ []) (grew_task w x had mid (a w.schema) g)
+    (grew_task x y mid has (b x.schema) h)
 
 pub on_ok : {A E : Type 0} (r : Result A E) (P Q : Type 0) → (P → Q) → OnOk r P → OnOk r Q
 on_ok (Ok x) P Q f h = f h
@@ -105,18 +115,22 @@ first_false : (b c : Bool) → b ≡ false → (b && c) ≡ false
 first_false b c h = rw h refl
 
 -- what was found of a statement tells whether it is told again, and delivered
-pub retold : (wanted : Bool) (number which : ℕ) (list : List WorldStep) → Some which ≡ cond wanted (Some number) None → which ≡ 0 → list ≡ cond (wanted && eqb number 0) list []
+pub retold : (wanted : Bool) (number which : ℕ) (list : List WorldStep) → Some which ≡ cond wanted (Some number) None → which ≡ 0
+    → list ≡ cond (wanted && eqb number 0) list []
 retold wanted number which list found none =
     let is = wanted_some wanted which number found in
     sym (ap (λ (b : Bool). cond b list []) (both_true wanted (eqb number 0) is.0 (eq-eqb number 0 (sym is.1 ∙ none))))
 
-pub not_retold : (wanted : Bool) (number which : ℕ) (list : List WorldStep) → Some which ≡ cond wanted (Some number) None → which ≢ 0 → [] ≡ cond (wanted && eqb number 0) list []
+pub not_retold : (wanted : Bool) (number which : ℕ) (list : List WorldStep) → Some which ≡ cond wanted (Some number) None → which ≢ 0
+    → [] ≡ cond (wanted && eqb number 0) list []
 not_retold wanted number which list found some =
     let is = wanted_some wanted which number found in
     sym (ap (λ (b : Bool). cond b list []) (second_false wanted (eqb number 0) (ne_eqb number 0 (λ e. some (is.1 ∙ e)))))
 
-pub not_wanted : (wanted : Bool) (number : ℕ) (more : Bool) (list : List WorldStep) → None ≡ cond wanted (Some number) None → [] ≡ cond (wanted && more) list []
-not_wanted wanted number more list found = sym (ap (λ (b : Bool). cond b list []) (first_false wanted more (wanted_none wanted number found)))
+pub not_wanted : (wanted : Bool) (number : ℕ) (more : Bool) (list : List WorldStep) → None ≡ cond wanted (Some number) None
+    → [] ≡ cond (wanted && more) list []
+not_wanted wanted number more list found = sym (ap (λ (b : Bool). cond b list [])
+    (first_false wanted more (wanted_none wanted number found)))
 
 -- the three steps of a move
 change_some : (z change : ℤ) → Some change ≡ change_of z → (change ≡ z) × (unsigned_abs z ≢ 0)
@@ -133,13 +147,18 @@ change_none z h = by (eqb (unsigned_abs z) 0) h
     by true h = refl
     by false h = cc
 
-pub three_are : (w : WorldValue) (named f : ℕ) (target : ℤ) (s : ℕ) (txn : TxnId) (change : ℤ) → s ≢ named → txn ≡ next_txn w.schema (trace_of w) s
-    → Some change ≡ change_of (towards (target -ℤ committed_value w.schema (trace_of w) f) (share (fresh w.schema s) f Lower (at_site w.schema (trace_of w) s)) (share (fresh w.schema s) f Raise (at_site w.schema (trace_of w) s)))
-    → (fine s Begin ∷ fine s (Escrow txn (record { 0 = f }) change) ∷ fine s (Commit txn) ∷ []) ≡ moves w.schema named f target s (trace_of w)
+pub three_are : (w : WorldValue) (named f : ℕ) (target : ℤ) (s : ℕ) (txn : TxnId) (change : ℤ) → s ≢ named
+    → txn ≡ next_txn w.schema (trace_of w) s
+    → Some change ≡ change_of (towards (target -ℤ committed_value w.schema (trace_of w) f)
+    (share (fresh w.schema s) f Lower (at_site w.schema (trace_of w) s))
+    (share (fresh w.schema s) f Raise (at_site w.schema (trace_of w) s)))
+    → (fine s Begin ∷ fine s (Escrow txn (record { 0 = f }) change) ∷ fine s (Commit txn) ∷ [])
+    ≡ moves w.schema named f target s (trace_of w)
 three_are w named f target s txn change apart txn_is found =
     let three : List WorldStep = fine s Begin ∷ fine s (Escrow txn (record { 0 = f }) change) ∷ fine s (Commit txn) ∷ [] in
     let t = trace_of w in
-    let all = towards (target -ℤ committed_value w.schema t f) (share (fresh w.schema s) f Lower (at_site w.schema t s)) (share (fresh w.schema s) f Raise (at_site w.schema t s)) in
+    let all = towards (target -ℤ committed_value w.schema t f) (share (fresh w.schema s) f Lower (at_site w.schema t s))
+    (share (fresh w.schema s) f Raise (at_site w.schema t s)) in
     let is = change_some all change found in
     let some : unsigned_abs change ≢ 0 = λ e. is.1 (sym (ap unsigned_abs is.0) ∙ e) in
     let one : three ≡ changes_by s f txn change = sym (ap (λ (b : Bool). cond b [] three) (ne_eqb (unsigned_abs change) 0 some)) in
@@ -149,12 +168,15 @@ three_are w named f target s txn change apart txn_is found =
     ∙ sym (ap (λ (b : Bool). cond b [] (changes_by s f (next_txn w.schema t s) all)) (ne_eqb s named apart))
 
 pub none_are : (w : WorldValue) (named f : ℕ) (target : ℤ) (s : ℕ) → s ≢ named
-    → None ≡ change_of (towards (target -ℤ committed_value w.schema (trace_of w) f) (share (fresh w.schema s) f Lower (at_site w.schema (trace_of w) s)) (share (fresh w.schema s) f Raise (at_site w.schema (trace_of w) s)))
+    → None ≡ change_of (towards (target -ℤ committed_value w.schema (trace_of w) f)
+    (share (fresh w.schema s) f Lower (at_site w.schema (trace_of w) s))
+    (share (fresh w.schema s) f Raise (at_site w.schema (trace_of w) s)))
     → [] ≡ moves w.schema named f target s (trace_of w)
 none_are w named f target s apart found =
     let t = trace_of w in
     let id = next_txn w.schema t s in
-    let all = towards (target -ℤ committed_value w.schema t f) (share (fresh w.schema s) f Lower (at_site w.schema t s)) (share (fresh w.schema s) f Raise (at_site w.schema t s)) in
+    let all = towards (target -ℤ committed_value w.schema t f) (share (fresh w.schema s) f Lower (at_site w.schema t s))
+    (share (fresh w.schema s) f Raise (at_site w.schema t s)) in
     let three : List WorldStep = fine s Begin ∷ fine s (Escrow id (record { 0 = f }) all) ∷ fine s (Commit id) ∷ [] in
     let one : [] ≡ changes_by s f id all = sym (ap (λ (b : Bool). cond b [] three) (change_none all found)) in
     one ∙ sym (ap (λ (b : Bool). cond b [] (changes_by s f id all)) (ne_eqb s named apart))
@@ -163,24 +185,29 @@ pub none_mine : (w : WorldValue) (named f : ℕ) (target : ℤ) (s : ℕ) → s 
 none_mine w named f target s same =
     let t = trace_of w in
     let id = next_txn w.schema t s in
-    let all = towards (target -ℤ committed_value w.schema t f) (share (fresh w.schema s) f Lower (at_site w.schema t s)) (share (fresh w.schema s) f Raise (at_site w.schema t s)) in
+    let all = towards (target -ℤ committed_value w.schema t f) (share (fresh w.schema s) f Lower (at_site w.schema t s))
+    (share (fresh w.schema s) f Raise (at_site w.schema t s)) in
     sym (ap (λ (b : Bool). cond b [] (changes_by s f id all)) (eq-eqb s named same))
 
 -- ---- the last tasks, closed
 
-pub moves_start : (w : WorldValue) (had : List WorldStep) (named f : ℕ) (target : ℤ) → Grew w had (steps_of_tasks w.schema w.steps (move_tasks w.schema named f target 0)) w had
+pub moves_start : (w : WorldValue) (had : List WorldStep) (named f : ℕ) (target : ℤ)
+    → Grew w had (steps_of_tasks w.schema w.steps (move_tasks w.schema named f target 0)) w had
 unfolding move_tasks
 moves_start w had named f target = grew_none w had
 
 pub moves_on : (w x y : WorldValue) (had mid has : List WorldStep) (named f : ℕ) (target : ℤ) (i : ℕ)
-    → Grew w had (steps_of_tasks w.schema w.steps (move_tasks w.schema named f target i)) x mid → Grew x mid (moves x.schema named f target i (trace_of x)) y has
+    → Grew w had (steps_of_tasks w.schema w.steps (move_tasks w.schema named f target i)) x mid
+    → Grew x mid (moves x.schema named f target i (trace_of x)) y has
     → Grew w had (steps_of_tasks w.schema w.steps (move_tasks w.schema named f target (i + 1))) y has
 unfolding move_tasks
 moves_on w x y had mid has named f target i g h =
-    grew_over w x y had mid has (λ (schema : SchemaValue) (s : ℕ). moves schema named f target s ∷ []) i g (grew_task x y mid has (moves x.schema named f target i) h)
+    grew_over w x y had mid has (λ (schema : SchemaValue) (s : ℕ). moves schema named f target s ∷ []) i g
+    (grew_task x y mid has (moves x.schema named f target i) h)
 
 -- all three phases, one after another
-pub planned_all : (w x y z : WorldValue) (a b c d : List WorldStep) (named f : ℕ) (target : ℤ) (n : ℕ) → n ≡ w.schema.sites → a ≡ [] → same_value (committed_value w.schema (trace_of w) f) target ≡ false
+pub planned_all : (w x y z : WorldValue) (a b c d : List WorldStep) (named f : ℕ) (target : ℤ) (n : ℕ) → n ≡ w.schema.sites → a ≡ []
+    → same_value (committed_value w.schema (trace_of w) f) target ≡ false
     → Grew w a (steps_of_tasks w.schema w.steps (over_sites n (λ s. aborts w.schema named s ∷ []))) x b
     → Grew x b (steps_of_tasks x.schema x.steps (over_sites n (λ from. over_sites n (λ to. passes_on x.schema named f from to)))) y c
     → Grew y c (steps_of_tasks y.schema y.steps (move_tasks y.schema named f target n)) z d
@@ -197,24 +224,29 @@ planned_all w x y z a b c d named f target n count empty there g h k =
     grew.taken ∙ ap (λ (l : List WorldStep). l ++ all n) empty ∙ ap all count
     ∙ sym (ap (λ (b : Bool). cond b [] (steps_of_tasks w.schema w.steps (tasks w.schema named f target))) there)
 
-pub planned_none : (w : WorldValue) (a : List WorldStep) (site : SiteNo) (field : FieldNo) (target : ℤ) → a ≡ [] → same_value (committed_value w.schema (trace_of w) field.0) target ≡ true
+pub planned_none : (w : WorldValue) (a : List WorldStep) (site : SiteNo) (field : FieldNo) (target : ℤ) → a ≡ []
+    → same_value (committed_value w.schema (trace_of w) field.0) target ≡ true
     → a ≡ reach_steps w.schema w.steps site field target
 planned_none w a site field target empty there =
     empty ∙ sym (ap (λ (b : Bool). cond b [] (steps_of_tasks w.schema w.steps (tasks w.schema site.0 field.0 target))) there)
 
 -- ---- the end
 
-pub does : (w : WorldValue) (site : SiteNo) (field : FieldNo) (target : ℤ) (items : List WorldStep) → IsSchema w.schema → All (StepFits w.schema) w.steps
-    → reach_fault w.schema (trace_of w) site field target ≡ None → items ≡ reach_steps w.schema w.steps site field target → Does w site field target items
+pub does : (w : WorldValue) (site : SiteNo) (field : FieldNo) (target : ℤ) (items : List WorldStep) → IsSchema w.schema
+    → All (StepFits w.schema) w.steps
+    → reach_fault w.schema (trace_of w) site field target ≡ None → items ≡ reach_steps w.schema w.steps site field target
+    → Does w site field target items
 does w site field target items good fit clear is =
     let went = all_reached w.schema good w.steps fit site field target clear in
     subst (λ (l : List WorldStep). Does w site field target l) (sym is)
     (record { fit = went.fit; fine = went.fine; elsewhere = went.then.0; reached = went.then.1 })
 
-pub does_for : (w v : WorldValue) (site : SiteNo) (field : FieldNo) (target : ℤ) (items : List WorldStep) → v ≡ w → Does v site field target items → Does w site field target items
+pub does_for : (w v : WorldValue) (site : SiteNo) (field : FieldNo) (target : ℤ) (items : List WorldStep) → v ≡ w
+    → Does v site field target items → Does w site field target items
 does_for w v site field target items is d = subst (λ (x : WorldValue). Does x site field target items) is d
 
-pub steps_for : (w v : WorldValue) (site : SiteNo) (field : FieldNo) (target : ℤ) (items : List WorldStep) → v ≡ w → items ≡ reach_steps v.schema v.steps site field target → items ≡ reach_steps w.schema w.steps site field target
+pub steps_for : (w v : WorldValue) (site : SiteNo) (field : FieldNo) (target : ℤ) (items : List WorldStep) → v ≡ w
+    → items ≡ reach_steps v.schema v.steps site field target → items ≡ reach_steps w.schema w.steps site field target
 steps_for w v site field target items is h = h ∙ ap (λ (x : WorldValue). reach_steps x.schema x.steps site field target) is
 
 pub if_ok : {A E : Type 0} (r : Result A E) (P Q : A → Type 0) → ((a : A) → P a → Q a) → IfOk r P → IfOk r Q

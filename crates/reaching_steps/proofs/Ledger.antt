@@ -26,11 +26,13 @@ pub record IsFair (base : Base) (s : ℕ) (es : List Effect) : Type 0 where
 not_counted : (b : Bool) (n : ℕ) → b ≡ false → cond b n 0 ≡ 0
 not_counted b n h = rw h refl
 
-either : (base : Base) (s : ℕ) (kept : Bool) (more es : List Effect) → IsFair base s more → IsFair base s es → IsFair base s (cond kept more es)
+either : (base : Base) (s : ℕ) (kept : Bool) (more es : List Effect) → IsFair base s more → IsFair base s es
+    → IsFair base s (cond kept more es)
 either base s true more es m l = m
 either base s false more es m l = l
 
-more_within : (base : Base) (es : List Effect) (to : SiteNo) (field : FieldNo) (f x : ℕ) (kind k : Kind) (amount : ℕ) → total_given base to.0 field.0 kind es + amount ≤ max_total → total_given base x f k es ≤ max_total
+more_within : (base : Base) (es : List Effect) (to : SiteNo) (field : FieldNo) (f x : ℕ) (kind k : Kind) (amount : ℕ)
+    → total_given base to.0 field.0 kind es + amount ≤ max_total → total_given base x f k es ≤ max_total
     → total_given base x f k (Gives (Some to) field kind amount ∷ es) ≤ max_total
 more_within base es to field f x kind k amount enough before =
     elim (cases_Bool (eqb field.0 f && same_kind kind k && eqb to.0 x)) [
@@ -50,25 +52,31 @@ not_this_site : (a b : Bool) → b ≡ false → (a && b) ≡ false
 not_this_site true b h = h
 not_this_site false b h = refl
 
-fair_give : (base : Base) (s : ℕ) (es : List Effect) (to : SiteNo) (field : FieldNo) (kind : Kind) (amount : ℕ) → eqb to.0 s ≡ false → total_given base to.0 field.0 kind es + amount ≤ max_total → IsFair base s es
+fair_give : (base : Base) (s : ℕ) (es : List Effect) (to : SiteNo) (field : FieldNo) (kind : Kind) (amount : ℕ) → eqb to.0 s ≡ false
+    → total_given base to.0 field.0 kind es + amount ≤ max_total → IsFair base s es
     → IsFair base s (Gives (Some to) field kind amount ∷ es)
 fair_give base s es to field kind amount apart enough l =
     record {
       itself = λ f k.
-          let none = not_counted (eqb field.0 f && same_kind kind k && eqb to.0 s) amount (not_this_site (eqb field.0 f && same_kind kind k) (eqb to.0 s) apart) in
+          let none = not_counted (eqb field.0 f && same_kind kind k && eqb to.0 s) amount
+          (not_this_site (eqb field.0 f && same_kind kind k) (eqb to.0 s) apart) in
           omega (arith, none, l.itself f k);
       within = λ x f k. more_within base es to field f x kind k amount enough (l.within x f k);
     }
 
-fair_tighten : (base : Base) (s : ℕ) (es : List Effect) (field : FieldNo) (kind : Kind) (amount : ℕ) → IsFair base s es → IsFair base s (Gives None field kind amount ∷ es)
+fair_tighten : (base : Base) (s : ℕ) (es : List Effect) (field : FieldNo) (kind : Kind) (amount : ℕ) → IsFair base s es
+    → IsFair base s (Gives None field kind amount ∷ es)
 fair_tighten base s es field kind amount l =
     record {
-      itself = λ f k. let none = not_counted (eqb field.0 f && same_kind kind k && false) amount (not_this_site (eqb field.0 f && same_kind kind k) false refl) in omega (arith, none, l.itself f k);
-      within = λ x f k. let none = not_counted (eqb field.0 f && same_kind kind k && false) amount (not_this_site (eqb field.0 f && same_kind kind k) false refl) in omega (arith, none, l.within x f k);
+      itself = λ f k. let none = not_counted (eqb field.0 f && same_kind kind k && false) amount
+          (not_this_site (eqb field.0 f && same_kind kind k) false refl) in omega (arith, none, l.itself f k);
+      within = λ x f k. let none = not_counted (eqb field.0 f && same_kind kind k && false) amount
+          (not_this_site (eqb field.0 f && same_kind kind k) false refl) in omega (arith, none, l.within x f k);
     }
 
 carried : (at : Place) (c : Command) → first (refusals at c) ≡ None → (kept : Bool) → IsFair at.base at.site at.effects
-    → IsFair at.base at.site (after at.base kept c (answer at c) at.effects) × IsFair at.base at.site (after at.base kept c Unsure at.effects)
+    → IsFair at.base at.site (after at.base kept c (answer at c) at.effects)
+    × IsFair at.base at.site (after at.base kept c Unsure at.effects)
 carried at Begin h kept l = (record { itself = l.itself; within = l.within }, l)
 carried at (Escrow txn field change) h kept l = (record { itself = l.itself; within = l.within }, l)
 carried at (Commit txn) h kept l =
@@ -84,19 +92,22 @@ carried at (Restate to field kind) h kept l = (l, l)
 carried at (Spare to field kind want) h kept l =
     let none = (none_holds (refusals at (Spare to field kind want)) h).1 in
     let apart : eqb to.0 at.site ≡ false = none.1.1.1.1.1.0 in
-    let made = fair_give at.base at.site at.effects to field kind (spare_of at field kind want) apart (ltb-false _ _ none.1.1.1.1.1.1.0) l in
+    let made = fair_give at.base at.site at.effects to field kind (spare_of at field kind want) apart
+    (ltb-false _ _ none.1.1.1.1.1.1.0) l in
     (made, either at.base at.site kept _ _ made l)
 carried at (Tighten field kind amount) h kept l =
     let made = fair_tighten at.base at.site at.effects field kind amount l in
     (made, either at.base at.site kept _ _ made l)
 carried at (Accept told) h kept l =
-    let made : IsFair at.base at.site (Accepts told.from told.field told.kind told.total ∷ at.effects) = record { itself = l.itself; within = l.within } in
+    let made : IsFair at.base at.site (Accepts told.from told.field told.kind told.total ∷ at.effects) =
+    record { itself = l.itself; within = l.within } in
     (made, either at.base at.site kept _ _ made l)
 carried at (Read field) h kept l = (l, l)
 carried at (Share field) h kept l = (l, l)
 carried at Restart h kept l = (l, l)
 
-pub run_is_fair : (schema : SchemaValue) (s : ℕ) (o : List Entry) → IsRun schema s (fresh schema s) o → IsFair (fresh schema s) s (effects (fresh schema s) false o)
+pub run_is_fair : (schema : SchemaValue) (s : ℕ) (o : List Entry) → IsRun schema s (fresh schema s) o
+    → IsFair (fresh schema s) s (effects (fresh schema s) false o)
 run_is_fair schema s o run =
     run_holds schema s (fresh schema s) (λ epoch count es. IsFair (fresh schema s) s es)
     (record {

@@ -57,7 +57,8 @@ kind_signed Raise n some = refl
 kind_signed Lower zero some = absurd (some refl)
 kind_signed Lower (suc n) some = refl
 
-less_left : (k : Kind) (target before : ℤ) (d q left : ℕ) → target -ℤ before ≡ signed k d → q ≤ d → left ≡ d - q → target -ℤ (before +ℤ signed k q) ≡ signed k left
+less_left : (k : Kind) (target before : ℤ) (d q left : ℕ) → target -ℤ before ≡ signed k d → q ≤ d → left ≡ d - q
+    → target -ℤ (before +ℤ signed k q) ≡ signed k left
 less_left Raise target before d q left h small is = omega (arith, ints, h, small, is)
 less_left Lower target before d q left h small is =
     let neg : (n : ℕ) → neg_ℤ (pos n) ≡ (pos 0 -ℤ pos n) = λ n. omega (arith, ints) in
@@ -80,9 +81,11 @@ module _ (schema : SchemaValue) (good : IsSchema schema) (named f : ℕ) (known 
   own_same : (s : ℕ) (e : Entry) (t : List Entry) (o : List Entry) → e.site.0 ≡ s → own s t ≡ o → own s (e ∷ t) ≡ e ∷ o
   own_same s e t o site is = own_here s e t site ∙ ap (λ (l : List Entry). e ∷ l) is
 
-  pub moves_by : (steps : List WorldStep) → All (StepFits schema) steps → (s : ℕ) → s < schema.sites → (change : ℤ) → Idle (trace_by schema steps) s
+  pub moves_by : (steps : List WorldStep) → All (StepFits schema) steps → (s : ℕ) → s < schema.sites → (change : ℤ)
+      → Idle (trace_by schema steps) s
       → unsigned_abs change ≢ 0 → unsigned_abs change ≤ share (fresh schema s) f (kind_of change) (at_site schema (trace_by schema steps) s)
-      → Went schema steps (fine s Begin ∷ fine s (Escrow (next_txn schema (trace_by schema steps) s) (record { 0 = f }) change) ∷ fine s (Commit (next_txn schema (trace_by schema steps) s)) ∷ []) (Moved s change (trace_by schema steps))
+      → Went schema steps (fine s Begin ∷ fine s (Escrow (next_txn schema (trace_by schema steps) s) (record { 0 = f }) change)
+      ∷ fine s (Commit (next_txn schema (trace_by schema steps) s)) ∷ []) (Moved s change (trace_by schema steps))
   moves_by steps fit s below change idle some enough =
       let t : List Entry = trace_by schema steps in
       let o : List Entry = own s t in
@@ -98,36 +101,46 @@ module _ (schema : SchemaValue) (good : IsSchema schema) (named f : ℕ) (known 
       let e1 : Entry = made schema t site Begin in
       let t1 : List Entry = e1 ∷ t in
       let own1 : own s t1 ≡ with_begin schema s base o run f change = own_same s e1 t o refl refl in
-      let went1 : trace_by schema (steps ++ fine s Begin ∷ []) ≡ t1 = goes_do schema steps s Begin refl (may_begin schema s base o run f change idle.up idle.left idle.none) in
+      let went1 : trace_by schema (steps ++ fine s Begin ∷ []) ≡ t1 =
+      goes_do schema steps s Begin refl (may_begin schema s base o run f change idle.up idle.left idle.none) in
       -- the second
       let steps1 : List WorldStep = steps ++ fine s Begin ∷ [] in
-      let here1 : here schema t1 s ≡ place schema s base (with_begin schema s base o run f change) = ap (λ (l : List Entry). place schema s base l) own1 in
+      let here1 : here schema t1 s ≡ place schema s base (with_begin schema s base o run f change) =
+      ap (λ (l : List Entry). place schema s base l) own1 in
       let may2 : first (refusals (here schema t1 s) escrow) ≡ None =
       ap (λ (at : Place). first (refusals at escrow)) here1 ∙ may_escrow schema s base o run f change idle.up known some small enough in
-      let went2_at : (l : List Entry) → l ≡ t1 → first (refusals (here schema l s) escrow) ≡ None = λ l is. ap (λ (l : List Entry). first (refusals (here schema l s) escrow)) is ∙ may2 in
+      let went2_at : (l : List Entry) → l ≡ t1 → first (refusals (here schema l s) escrow) ≡ None =
+      λ l is. ap (λ (l : List Entry). first (refusals (here schema l s) escrow)) is ∙ may2 in
       let e2 : Entry = made schema t1 site escrow in
       let t2 : List Entry = e2 ∷ t1 in
       let went2 : trace_by schema (steps1 ++ fine s escrow ∷ []) ≡ t2 =
-      goes_do schema steps1 s escrow refl (went2_at (trace_by schema steps1) went1) ∙ ap (λ (l : List Entry). made schema l site escrow ∷ l) went1 in
-      let own2 : own s t2 ≡ with_escrow schema s base o run f change = own_same s e2 t1 (with_begin schema s base o run f change) refl own1 in
+      goes_do schema steps1 s escrow refl (went2_at (trace_by schema steps1) went1)
+      ∙ ap (λ (l : List Entry). made schema l site escrow ∷ l) went1 in
+      let own2 : own s t2 ≡ with_escrow schema s base o run f change =
+      own_same s e2 t1 (with_begin schema s base o run f change) refl own1 in
       -- the third
       let steps2 : List WorldStep = steps1 ++ fine s escrow ∷ [] in
-      let here2 : here schema t2 s ≡ place schema s base (with_escrow schema s base o run f change) = ap (λ (l : List Entry). place schema s base l) own2 in
+      let here2 : here schema t2 s ≡ place schema s base (with_escrow schema s base o run f change) =
+      ap (λ (l : List Entry). place schema s base l) own2 in
       let may3 : first (refusals (here schema t2 s) (Commit id)) ≡ None =
       ap (λ (at : Place). first (refusals at (Commit id))) here2 ∙ may_commit schema s base o run f change idle.up in
       let e3 : Entry = made schema t2 site (Commit id) in
       let t3 : List Entry = e3 ∷ t2 in
       let went3 : trace_by schema (steps2 ++ fine s (Commit id) ∷ []) ≡ t3 =
-      goes_do schema steps2 s (Commit id) refl (ap (λ (l : List Entry). first (refusals (here schema l s) (Commit id))) went2 ∙ may3) ∙ ap (λ (l : List Entry). made schema l site (Commit id) ∷ l) went2 in
-      let own3 : own s t3 ≡ with_commit schema s base o run f change = own_same s e3 t2 (with_escrow schema s base o run f change) refl own2 in
+      goes_do schema steps2 s (Commit id) refl (ap (λ (l : List Entry). first (refusals (here schema l s) (Commit id))) went2 ∙ may3)
+      ∙ ap (λ (l : List Entry). made schema l site (Commit id) ∷ l) went2 in
+      let own3 : own s t3 ≡ with_commit schema s base o run f change =
+      own_same s e3 t2 (with_escrow schema s base o run f change) refl own2 in
       -- together
       let Any : Claim = λ u. Unit {0} in
-      let rest : (j : ℕ) → j ≢ s → own j t3 ≡ own j t = λ j apart. (let far : s ≢ j = λ e. apart (sym e) in own_there j e3 t2 far ∙ own_there j e2 t1 far ∙ own_there j e1 t far) in
+      let rest : (j : ℕ) → j ≢ s → own j t3 ≡ own j t =
+      λ j apart. (let far : s ≢ j = λ e. apart (sym e) in own_there j e3 t2 far ∙ own_there j e2 t1 far ∙ own_there j e1 t far) in
       let after_all : (sound3 : IsSound schema t3) → Moved s change t t3 = λ sound3.
       record {
         others = rest;
         value = moved schema good f t t3 sound sound3 s below change
-            (λ k. ap (λ (l : List Entry). (let es = effects base false l in granted_sizes (λ j. is_committed j es) f k es)) own3 ∙ settles schema s base o run f change k)
+            (λ k. ap (λ (l : List Entry). (let es = effects base false l in granted_sizes (λ j. is_committed j es) f k es)) own3
+            ∙ settles schema s base o run f change k)
             rest;
       } in
       went_on schema steps (fine s Begin ∷ []) (fine s escrow ∷ fine s (Commit id) ∷ []) Any (Moved s change t) fit
@@ -135,7 +148,8 @@ module _ (schema : SchemaValue) (good : IsSchema schema) (named f : ℕ) (known 
       (λ fits1 _. went_on schema steps1 (fine s escrow ∷ []) (fine s (Commit id) ∷ []) Any (Moved s change t) fits1
       (went_one schema steps1 (fine s escrow) Any (below, refl) refl tt)
       (λ fits2 _. went_one schema steps2 (fine s (Commit id)) (Moved s change t) (below, refl) refl
-      (let fits3 = All-append (StepFits schema) steps2 (fine s (Commit id) ∷ []) fits2 (went_one schema steps2 (fine s (Commit id)) Any (below, refl) refl tt).fit in
+      (let fits3 = All-append (StepFits schema) steps2 (fine s (Commit id) ∷ []) fits2
+      (went_one schema steps2 (fine s (Commit id)) Any (below, refl) refl tt).fit in
       let sound3 = subst (λ (l : List Entry). IsSound schema l) went3 (sound_of schema good (steps2 ++ fine s (Commit id) ∷ []) fits3) in
       subst (λ (l : List Entry). Moved s change t l) (sym went3) (after_all sound3))))
 
@@ -167,20 +181,25 @@ module _ (schema : SchemaValue) (good : IsSchema schema) (named f : ℕ) (known 
           left = m.left ∙ ap (λ (n : ℕ). signed k n) same;
         }
 
-    goes_on : (i : ℕ) (q : ℕ) (t u : List Entry) → i ≢ named → q ≡ min (all - sum_below i F) (F i) → Moving i t → Moved i (signed k q) t u → Moving (suc i) u
+    goes_on : (i : ℕ) (q : ℕ) (t u : List Entry) → i ≢ named → q ≡ min (all - sum_below i F) (F i) → Moving i t → Moved i (signed k q) t u
+        → Moving (suc i) u
     goes_on i q t u apart is m did =
         record {
           mine_is = did.others named (λ e. apart (sym e)) ∙ m.mine_is;
-          idle = λ s above below other. idle_same t u s (did.others s (λ e. omega (arith, e, above))) (m.idle s (omega (arith, above)) below other);
+          idle = λ s above below other. idle_same t u s (did.others s (λ e. omega (arith, e, above)))
+              (m.idle s (omega (arith, above)) below other);
           free_is = λ s above below other.
-              ap (λ (o : List Entry). share (fresh schema s) f k (effects (fresh schema s) false o)) (did.others s (λ e. omega (arith, e, above)))
+              ap (λ (o : List Entry). share (fresh schema s) f k (effects (fresh schema s) false o))
+              (did.others s (λ e. omega (arith, e, above)))
               ∙ m.free_is s (omega (arith, above)) below other;
           left = ap (λ (v : ℤ). target -ℤ v) did.value
-              ∙ less_left k target (committed_value schema t f) (all - sum_below i F) q (all - sum_below (suc i) F) m.left (omega (arith, is)) (omega (arith, is));
+              ∙ less_left k target (committed_value schema t f) (all - sum_below i F) q (all - sum_below (suc i) F) m.left
+              (omega (arith, is)) (omega (arith, is));
         }
 
     share_of_kind : (s : ℕ) (t : List Entry) (k : Kind)
-        → of_kind k (share (fresh schema s) f Lower (at_site schema t s)) (share (fresh schema s) f Raise (at_site schema t s)) ≡ share (fresh schema s) f k (at_site schema t s)
+        → of_kind k (share (fresh schema s) f Lower (at_site schema t s)) (share (fresh schema s) f Raise (at_site schema t s))
+        ≡ share (fresh schema s) f k (at_site schema t s)
     share_of_kind s t Lower = refl
     share_of_kind s t Raise = refl
 
@@ -188,39 +207,51 @@ module _ (schema : SchemaValue) (good : IsSchema schema) (named f : ℕ) (known 
         → Went schema steps (moves schema named f target i (trace_by schema steps)) (Moving (suc i))
     one_moves i below steps fit m =
         let t : List Entry = trace_by schema steps in
-        let list : List WorldStep = changes_by i f (next_txn schema t i) (towards (target -ℤ committed_value schema t f) (share (fresh schema i) f Lower (at_site schema t i)) (share (fresh schema i) f Raise (at_site schema t i))) in
+        let list : List WorldStep = changes_by i f (next_txn schema t i)
+        (towards (target -ℤ committed_value schema t f) (share (fresh schema i) f Lower (at_site schema t i))
+        (share (fresh schema i) f Raise (at_site schema t i))) in
         elim (cases_eq i named) [
           | inl itself ↦
               let none : F i ≡ 0 = ap F itself ∙ mine_free in
-              went_same schema steps [] (moves schema named f target i t) (Moving (suc i)) (sym (ap (λ (b : Bool). cond b [] list) (eq-eqb i named itself)))
+              went_same schema steps [] (moves schema named f target i t) (Moving (suc i))
+              (sym (ap (λ (b : Bool). cond b [] list) (eq-eqb i named itself)))
               (went_none schema steps (Moving (suc i)) (stays i t m (omega (arith, none))))
           | inr apart ↦
               let free = m.free_is i (omega arith) below apart in
               let d : ℕ = all - sum_below i F in
               let q : ℕ = min d (F i) in
-              let change_is : towards (target -ℤ committed_value schema t f) (share (fresh schema i) f Lower (at_site schema t i)) (share (fresh schema i) f Raise (at_site schema t i)) ≡ signed k q =
-              ap (λ (z : ℤ). towards z (share (fresh schema i) f Lower (at_site schema t i)) (share (fresh schema i) f Raise (at_site schema t i))) m.left
+              let change_is : towards (target -ℤ committed_value schema t f) (share (fresh schema i) f Lower (at_site schema t i))
+              (share (fresh schema i) f Raise (at_site schema t i)) ≡ signed k q =
+              ap (λ (z : ℤ). towards z (share (fresh schema i) f Lower (at_site schema t i))
+              (share (fresh schema i) f Raise (at_site schema t i))) m.left
               ∙ towards_is k d (share (fresh schema i) f Lower (at_site schema t i)) (share (fresh schema i) f Raise (at_site schema t i))
               ∙ ap (λ (n : ℕ). signed k (min d n)) (share_of_kind i t k ∙ free) in
               let list_is : changes_by i f (next_txn schema t i) (signed k q) ≡ moves schema named f target i t =
-              ap (λ (z : ℤ). changes_by i f (next_txn schema t i) z) (sym change_is) ∙ sym (ap (λ (b : Bool). cond b [] list) (ne_eqb i named apart)) in
-              went_same schema steps (changes_by i f (next_txn schema t i) (signed k q)) (moves schema named f target i t) (Moving (suc i)) list_is
+              ap (λ (z : ℤ). changes_by i f (next_txn schema t i) z) (sym change_is)
+              ∙ sym (ap (λ (b : Bool). cond b [] list) (ne_eqb i named apart)) in
+              went_same schema steps (changes_by i f (next_txn schema t i) (signed k q)) (moves schema named f target i t)
+              (Moving (suc i)) list_is
               (elim (cases_eq q 0) [
                 | inl nothing ↦
                     let size : unsigned_abs (signed k q) ≡ 0 = size_signed k q ∙ nothing in
                     went_same schema steps [] (changes_by i f (next_txn schema t i) (signed k q)) (Moving (suc i))
-                    (sym (ap (λ (b : Bool). cond b [] (fine i Begin ∷ fine i (Escrow (next_txn schema t i) (record { 0 = f }) (signed k q)) ∷ fine i (Commit (next_txn schema t i)) ∷ [])) (eq-eqb (unsigned_abs (signed k q)) 0 size)))
+                    (sym (ap (λ (b : Bool). cond b []
+                    (fine i Begin ∷ fine i (Escrow (next_txn schema t i) (record { 0 = f }) (signed k q))
+                    ∷ fine i (Commit (next_txn schema t i)) ∷ [])) (eq-eqb (unsigned_abs (signed k q)) 0 size)))
                     (went_none schema steps (Moving (suc i)) (stays i t m (omega (arith, nothing))))
                 | inr some ↦
                     let size = size_signed k q in
                     let more : unsigned_abs (signed k q) ≢ 0 = λ e. some (sym size ∙ e) in
                     let kind = kind_signed k q some in
                     let enough : unsigned_abs (signed k q) ≤ share (fresh schema i) f (kind_of (signed k q)) (at_site schema t i) =
-                    subst (λ (x : Kind). unsigned_abs (signed k q) ≤ share (fresh schema i) f x (at_site schema t i)) (sym kind) (omega (arith, size, free)) in
-                    let three : List WorldStep = fine i Begin ∷ fine i (Escrow (next_txn schema t i) (record { 0 = f }) (signed k q)) ∷ fine i (Commit (next_txn schema t i)) ∷ [] in
+                    subst (λ (x : Kind). unsigned_abs (signed k q) ≤ share (fresh schema i) f x (at_site schema t i)) (sym kind)
+                    (omega (arith, size, free)) in
+                    let three : List WorldStep = fine i Begin ∷ fine i (Escrow (next_txn schema t i) (record { 0 = f }) (signed k q))
+                    ∷ fine i (Commit (next_txn schema t i)) ∷ [] in
                     went_same schema steps three (changes_by i f (next_txn schema t i) (signed k q)) (Moving (suc i))
                     (sym (ap (λ (b : Bool). cond b [] three) (ne_eqb (unsigned_abs (signed k q)) 0 more)))
-                    (went_as schema steps three (Moved i (signed k q) t) (Moving (suc i)) (moves_by steps fit i below (signed k q) (m.idle i (omega arith) below apart) more enough)
+                    (went_as schema steps three (Moved i (signed k q) t) (Moving (suc i))
+                    (moves_by steps fit i below (signed k q) (m.idle i (omega arith) below apart) more enough)
                     (λ did. goes_on i q t (trace_by schema (steps ++ three)) apart refl m did))
               ])
         ]

@@ -17,11 +17,18 @@ same_kind-refl Raise = refl
 
 same_statement-refl : (x : Statement) → same_statement x x ≡ true
 same_statement-refl x =
-    rw (eq-eqb x.from.0 x.from.0 refl, eq-eqb x.to.0 x.to.0 refl, eq-eqb x.field.0 x.field.0 refl, same_kind-refl x.kind, eq-eqb x.total x.total refl) refl
+    rw (
+      eq-eqb x.from.0 x.from.0 refl,
+      eq-eqb x.to.0 x.to.0 refl,
+      eq-eqb x.field.0 x.field.0 refl,
+      same_kind-refl x.kind,
+      eq-eqb x.total x.total refl,
+    ) refl
 
 same_statement-true : (x y : Statement) → same_statement x y ≡ true → x ≡ y
 same_statement-true x y h =
-    let a = and_parts ((eqb x.from.0 y.from.0) && (eqb x.to.0 y.to.0) && (eqb x.field.0 y.field.0) && same_kind x.kind y.kind) (eqb x.total y.total) h in
+    let a = and_parts ((eqb x.from.0 y.from.0) && (eqb x.to.0 y.to.0) && (eqb x.field.0 y.field.0) && same_kind x.kind y.kind)
+    (eqb x.total y.total) h in
     let b = and_parts ((eqb x.from.0 y.from.0) && (eqb x.to.0 y.to.0) && (eqb x.field.0 y.field.0)) (same_kind x.kind y.kind) a.0 in
     let c = and_parts ((eqb x.from.0 y.from.0) && (eqb x.to.0 y.to.0)) (eqb x.field.0 y.field.0) b.0 in
     let d = and_parts (eqb x.from.0 y.from.0) (eqb x.to.0 y.to.0) c.0 in
@@ -31,8 +38,22 @@ same_statement-true x y h =
     let kind : x.kind ≡ y.kind = same_kind-true _ _ b.1 in
     let total : x.total ≡ y.total = eqb-true _ _ a.1 in
     let made : ◌≡◌ {A = Statement}
-    (record { from = record { 0 = x.from.0 }; to = record { 0 = x.to.0 }; field = record { 0 = x.field.0 }; kind = x.kind; total = x.total })
-    (record { from = record { 0 = y.from.0 }; to = record { 0 = y.to.0 }; field = record { 0 = y.field.0 }; kind = y.kind; total = y.total }) = cc in
+    (record {
+      from = record { 0 = x.from.0 };
+      to = record { 0 = x.to.0 };
+      field = record { 0 = x.field.0 };
+      kind = x.kind;
+      total =
+          x.total;
+    })
+    (record {
+      from = record { 0 = y.from.0 };
+      to = record { 0 = y.to.0 };
+      field = record { 0 = y.field.0 };
+      kind = y.kind;
+      total =
+          y.total;
+    }) = cc in
     made
 
 -- a number is at most as great as the list is long
@@ -64,7 +85,9 @@ numbered_number x (y ∷ ys) some =
       | inr before ↦
           let is : number_of x (y ∷ ys) ≡ number_of x ys = rw (ne_eqb (number_of x ys) 0 before) refl in
           let small = number_within x ys in
-          let next : statement_at (number_of x ys) (y ∷ ys) ≡ statement_at (number_of x ys) ys = ap (λ (b : Bool). cond b (Some y) (statement_at (number_of x ys) ys)) (ne_eqb (number_of x ys) (suc (length ys)) (λ e. omega (arith, e, small))) in
+          let next : statement_at (number_of x ys) (y ∷ ys) ≡ statement_at (number_of x ys) ys =
+          ap (λ (b : Bool). cond b (Some y) (statement_at (number_of x ys) ys))
+          (ne_eqb (number_of x ys) (suc (length ys)) (λ e. omega (arith, e, small))) in
           ap (λ (n : ℕ). statement_at n (y ∷ ys)) is ∙ next ∙ numbered_number x ys before
     ]
 
@@ -93,4 +116,5 @@ pub issued_numbered : (x : Statement) (t : List Entry) → IsIssued x t → numb
 issued_numbered x [] h = absurd h
 issued_numbered x (e ∷ t) (inr before) = later_numbered x (statement_of e) (statements_issued t) (issued_numbered x t before)
 issued_numbered x (e ∷ t) (inl now) =
-    subst (λ (o : Option Statement). number_of x (with_statement o (statements_issued t)) ≢ 0) (sym now) (here_numbered x (statements_issued t))
+    subst (λ (o : Option Statement). number_of x (with_statement o (statements_issued t)) ≢ 0) (sym now)
+    (here_numbered x (statements_issued t))

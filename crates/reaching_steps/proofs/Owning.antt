@@ -29,23 +29,37 @@ use Rattle.reaching_steps.proofs.Ledger.{run_is_fair}
 
 pub owned_is : (schema : SchemaValue) (s : ℕ) (es : List Effect) → IsLawful schema (fresh schema s) es → (f : ℕ) (k : Kind)
     → share (fresh schema s) f k es + granted_sizes (λ id. is_committed id es) f k es + held_rights f k es + gifts (λ _. true) f k es
-    ≡ part_of schema s f k + granted_sizes (λ id. is_committed id es) f (other k) es + sum_below schema.sites (λ from. total_accepted (fresh schema s) from f k es)
+    ≡ part_of schema s f k + granted_sizes (λ id. is_committed id es) f (other k) es
+    + sum_below schema.sites (λ from. total_accepted (fresh schema s) from f k es)
 owned_is schema s es lawful f k =
-    omega (arith, balance schema (fresh schema s) es lawful f k, gains_split schema (fresh schema s) es lawful f k, sum_below-zero schema.sites)
+    omega (
+      arith,
+      balance schema (fresh schema s) es lawful f k,
+      gains_split schema (fresh schema s) es lawful f k,
+      sum_below-zero schema.sites,
+    )
 
 -- the same of what was read
-pub record Summed (schema : SchemaValue) (s f : ℕ) (k : Kind) (es : List Effect) (part turned gained settled total_given held_ : ℕ) : Type 0 where
+pub record Summed (schema : SchemaValue) (s f : ℕ) (k : Kind) (es : List Effect)
+    (part turned gained settled total_given held_ : ℕ) : Type 0 where
   pub whole : share (fresh schema s) f k es + settled + held_rights f k es + total_given ≡ part + turned + gained
   pub holds : held_ ≡ held_rights f k es
 
-pub summed : (schema : SchemaValue) (s f : ℕ) (k : Kind) (deeds : List Effect) (sites part turned gained settled total_given held_ : ℕ) (k' : Kind) → IsLawful schema (fresh schema s) deeds
+pub summed : (schema : SchemaValue) (s f : ℕ) (k : Kind) (deeds : List Effect) (sites part turned gained settled total_given held_ : ℕ)
+    (k' : Kind) → IsLawful schema (fresh schema s) deeds
     → sites ≡ schema.sites → k' ≡ other k → part ≡ part_of schema s f k → turned ≡ granted_sizes (λ id. is_committed id deeds) f k' deeds
-    → gained ≡ sum_below sites (λ from. total_accepted (fresh schema s) from f k deeds) → settled ≡ granted_sizes (λ id. is_committed id deeds) f k deeds
-    → total_given ≡ gifts (λ _. true) f k deeds → held_ ≡ held_rights f k deeds → Summed schema s f k deeds part turned gained settled total_given held_
-summed schema s f k deeds sites part turned gained settled total_given held_ k' lawful sites_is kind_is part_is turned_is gained_is settled_is given_is held_is =
+    → gained ≡ sum_below sites (λ from. total_accepted (fresh schema s) from f k deeds)
+    → settled ≡ granted_sizes (λ id. is_committed id deeds) f k deeds
+    → total_given ≡ gifts (λ _. true) f k deeds → held_ ≡ held_rights f k deeds
+    → Summed schema s f k deeds part turned gained settled total_given held_
+summed schema s f k deeds sites part turned gained settled total_given held_ k' lawful sites_is kind_is part_is turned_is gained_is
+    settled_is given_is held_is =
     let es = deeds in
-    let turn : granted_sizes (λ id. is_committed id es) f k' es ≡ granted_sizes (λ id. is_committed id es) f (other k) es = ap (λ (x : Kind). granted_sizes (λ id. is_committed id es) f x es) kind_is in
-    let gain : sum_below sites (λ from. total_accepted (fresh schema s) from f k es) ≡ sum_below schema.sites (λ from. total_accepted (fresh schema s) from f k es) = ap (λ (n : ℕ). sum_below n (λ from. total_accepted (fresh schema s) from f k es)) sites_is in
+    let turn : granted_sizes (λ id. is_committed id es) f k' es ≡ granted_sizes (λ id. is_committed id es) f (other k) es =
+    ap (λ (x : Kind). granted_sizes (λ id. is_committed id es) f x es) kind_is in
+    let gain : sum_below sites (λ from. total_accepted (fresh schema s) from f k es)
+    ≡ sum_below schema.sites (λ from. total_accepted (fresh schema s) from f k es) =
+    ap (λ (n : ℕ). sum_below n (λ from. total_accepted (fresh schema s) from f k es)) sites_is in
     record {
       whole = omega (arith, owned_is schema s es lawful f k, part_is, turned_is, turn, gained_is, gain, settled_is, given_is);
       holds = held_is;
@@ -56,7 +70,8 @@ sum_bound zero m F h = omega arith
 sum_bound (suc n) m F h = omega (arith, sum_bound n m F (λ j less. h j (omega (arith, less))), h n (omega arith))
 
 -- what was given to one site is within the greatest total
-pub given_small : (schema : SchemaValue) (t : List Entry) → IsSound schema t → (from to f : ℕ) (k : Kind) → from < schema.sites → given_between schema t f k from to ≤ max_total
+pub given_small : (schema : SchemaValue) (t : List Entry) → IsSound schema t → (from to f : ℕ) (k : Kind) → from < schema.sites
+    → given_between schema t f k from to ≤ max_total
 given_small schema t sound from to f k below = (run_is_fair schema from (own from t) (sound.runs from below)).within to f k
 
 module _ (schema : SchemaValue) (good : IsSchema schema) (t : List Entry) (sound : IsSound schema t) where
@@ -96,14 +111,31 @@ module _ (schema : SchemaValue) (good : IsSchema schema) (t : List Entry) (sound
   cut_small s f Lower below =
       let law = is_conserved schema good t sound in
       let near = all_near schema.fields good.each f in
-      omega (arith, ints, law.lowering f, law.raising f, near.least, near.most, term_below schema.sites (λ j. cut (fresh schema j) f Lower (at_site schema t j)) s below)
+      omega (
+        arith,
+        ints,
+        law.lowering f,
+        law.raising f,
+        near.least,
+        near.most,
+        term_below schema.sites (λ j. cut (fresh schema j) f Lower (at_site schema t j)) s below,
+      )
   cut_small s f Raise below =
       let law = is_conserved schema good t sound in
       let near = all_near schema.fields good.each f in
-      omega (arith, ints, law.lowering f, law.raising f, near.least, near.most, term_below schema.sites (λ j. cut (fresh schema j) f Raise (at_site schema t j)) s below)
+      omega (
+        arith,
+        ints,
+        law.lowering f,
+        law.raising f,
+        near.least,
+        near.most,
+        term_below schema.sites (λ j. cut (fresh schema j) f Raise (at_site schema t j)) s below,
+      )
 
   -- and so are both together
-  pub guarded_small : (s : ℕ) (f : ℕ) (k : Kind) → s < schema.sites → cut (fresh schema s) f k (at_site schema t s) + own_rights (fresh schema s) f k (at_site schema t s) ≤ max_change
+  pub guarded_small : (s : ℕ) (f : ℕ) (k : Kind) → s < schema.sites
+      → cut (fresh schema s) f k (at_site schema t s) + own_rights (fresh schema s) f k (at_site schema t s) ≤ max_change
   guarded_small s f Lower below =
       let law = is_conserved schema good t sound in
       let near = all_near schema.fields good.each f in
@@ -137,7 +169,8 @@ module _ (schema : SchemaValue) (good : IsSchema schema) (t : List Entry) (sound
 
   -- what is settled of one kind and of the other at a site is not far apart
   pub settled_near : (s f : ℕ) → s < schema.sites
-      → (settled_at schema good f Raise t s ≤ settled_at schema good f Lower t s + 100_000_000_000_000_000_000) × (settled_at schema good f Lower t s ≤ settled_at schema good f Raise t s + 100_000_000_000_000_000_000)
+      → (settled_at schema good f Raise t s ≤ settled_at schema good f Lower t s + 100_000_000_000_000_000_000)
+      × (settled_at schema good f Lower t s ≤ settled_at schema good f Raise t s + 100_000_000_000_000_000_000)
   settled_near s f below =
       let es = at_site schema t s in
       let lawful = lawful_at schema good t sound s below in
@@ -145,29 +178,39 @@ module _ (schema : SchemaValue) (good : IsSchema schema) (t : List Entry) (sound
       let small = own_small s f Lower below in
       let part = share_small schema good [] (sound_empty schema) f s Lower below in
       let all_given = gifts_split schema (fresh schema s) es lawful f Lower in
-      let gave = sum_bound schema.sites max_total (λ to. gifts (is_to to) f Lower es) (λ to less. let one = given_small schema t sound s to f Lower below in omega (arith, one)) in
+      let gave = sum_bound schema.sites max_total (λ to. gifts (is_to to) f Lower es) (λ to less. let one =
+      given_small schema t sound s to f Lower below in omega (arith, one)) in
       let gone = cut_small s f Lower below in
-      let took = sum_bound schema.sites max_total (λ from. total_accepted (fresh schema s) from f Lower es) (λ from less. let one = given_small schema t sound from s f Lower less in omega (arith, one, accepted_is_given schema t sound false f Lower from s)) in
-      (omega (arith, whole, small, part, all_given, gave, gone, took, good.few_sites), omega (arith, whole, small, part, all_given, gave, gone, took, good.few_sites))
+      let took = sum_bound schema.sites max_total (λ from. total_accepted (fresh schema s) from f Lower es) (λ from less. let one =
+      given_small schema t sound from s f Lower less in omega (arith, one, accepted_is_given schema t sound false f Lower from s)) in (
+        omega (arith, whole, small, part, all_given, gave, gone, took, good.few_sites),
+        omega (arith, whole, small, part, all_given, gave, gone, took, good.few_sites),
+      )
 
-  pub committed_near : (f : ℕ) → (neg_ℤ (pos 1_000_000_000_000_000) ≤ℤ committed_value schema t f) × (committed_value schema t f ≤ℤ pos 1_000_000_000_000_000)
+  pub committed_near : (f : ℕ) → (neg_ℤ (pos 1_000_000_000_000_000) ≤ℤ committed_value schema t f)
+      × (committed_value schema t f ≤ℤ pos 1_000_000_000_000_000)
   committed_near f =
       let law = within_bounds schema good t sound f in
       let near = all_near schema.fields good.each f in
       (omega (arith, ints, law.0, law.1, near.least, near.most), omega (arith, ints, law.0, law.1, near.least, near.most))
 
 -- one site more
-pub both_more : (F G : ℕ → ℕ) (i up down more less : ℕ) → up + sum_below i F ≡ down + sum_below i G → more + F i ≡ less + G i → (up + more) + sum_below (i + 1) F ≡ (down + less) + sum_below (i + 1) G
+pub both_more : (F G : ℕ → ℕ) (i up down more less : ℕ) → up + sum_below i F ≡ down + sum_below i G → more + F i ≡ less + G i
+    → (up + more) + sum_below (i + 1) F ≡ (down + less) + sum_below (i + 1) G
 both_more F G i up down more less was is =
     let one : i + 1 ≡ suc i = omega arith in
     let f : sum_below (i + 1) F ≡ sum_below i F + F i = ap (λ (n : ℕ). sum_below n F) one in
     let g : sum_below (i + 1) G ≡ sum_below i G + G i = ap (λ (n : ℕ). sum_below n G) one in
     omega (arith, was, is, f, g)
 
-pub committed_from : (schema : SchemaValue) (good : IsSchema schema) (t : List Entry) → IsSound schema t → (f i n up down : ℕ) (value : ℤ) → i ≤ n → n ≤ i → n ≡ schema.sites
-    → up + sum_below i (settled_at schema good f Lower t) ≡ down + sum_below i (settled_at schema good f Raise t) → value ≡ (field_at schema f).value → (value +ℤ (pos up -ℤ pos down)) ≡ committed_value schema t f
+pub committed_from : (schema : SchemaValue) (good : IsSchema schema) (t : List Entry) → IsSound schema t → (f i n up down : ℕ) (value : ℤ)
+    → i ≤ n → n ≤ i → n ≡ schema.sites
+    → up + sum_below i (settled_at schema good f Lower t) ≡ down + sum_below i (settled_at schema good f Raise t)
+    → value ≡ (field_at schema f).value → (value +ℤ (pos up -ℤ pos down)) ≡ committed_value schema t f
 committed_from schema good t sound f i n up down value low high all is value_is =
     let same : i ≡ schema.sites = omega (arith, low, high, all) in
-    let lower : sum_below i (settled_at schema good f Lower t) ≡ sum_below schema.sites (settled_at schema good f Lower t) = ap (λ (m : ℕ). sum_below m (settled_at schema good f Lower t)) same in
-    let raise : sum_below i (settled_at schema good f Raise t) ≡ sum_below schema.sites (settled_at schema good f Raise t) = ap (λ (m : ℕ). sum_below m (settled_at schema good f Raise t)) same in
+    let lower : sum_below i (settled_at schema good f Lower t) ≡ sum_below schema.sites (settled_at schema good f Lower t) =
+    ap (λ (m : ℕ). sum_below m (settled_at schema good f Lower t)) same in
+    let raise : sum_below i (settled_at schema good f Raise t) ≡ sum_below schema.sites (settled_at schema good f Raise t) =
+    ap (λ (m : ℕ). sum_below m (settled_at schema good f Raise t)) same in
     omega (arith, ints, is, lower, raise, value_is, committed_is schema good f t sound)

@@ -49,24 +49,35 @@ module _ (schema : SchemaValue) (named f : ℕ) where
     pub ups : (s : ℕ) → s < schema.sites → is_up (fresh schema s) (own s t) ≡ true
     pub numbers : (s : ℕ) → s < schema.sites → s ≢ named → count_since is_begun_reply (own s t) < max_number
     pub mine_in : (from : ℕ) (k : Kind) → from < schema.sites → Arrived t from named k
-    pub told : (to : ℕ) (k : Kind) → to < schema.sites → given_between schema t f k named to ≢ 0 → IsIssued (telling schema t f k named to) t
+    pub told : (to : ℕ) (k : Kind) → to < schema.sites → given_between schema t f k named to ≢ 0
+        → IsIssued (telling schema t f k named to) t
     pub uncut : (k : Kind) → cuts schema t f k ≡ 0
 
-  pub given_same : (t u : List Entry) → Leaves schema named f t u → (k : Kind) (from to : ℕ) → given_between schema u f k from to ≡ given_between schema t f k from to
+  pub given_same : (t u : List Entry) → Leaves schema named f t u → (k : Kind) (from to : ℕ)
+      → given_between schema u f k from to ≡ given_between schema t f k from to
   given_same t u leaves k from to = (leaves.sites from).given to k
 
-  pub accepted_more : (t u : List Entry) → Leaves schema named f t u → (k : Kind) (from to : ℕ) → accepted_between schema t f k from to ≤ accepted_between schema u f k from to
+  pub accepted_more : (t u : List Entry) → Leaves schema named f t u → (k : Kind) (from to : ℕ)
+      → accepted_between schema t f k from to ≤ accepted_between schema u f k from to
   accepted_more t u leaves k from to = (leaves.sites to).accepted from k
 
-  telling_same : (t u : List Entry) → Leaves schema named f t u → (k : Kind) (from to : ℕ) → telling schema u f k from to ≡ telling schema t f k from to
+  telling_same : (t u : List Entry) → Leaves schema named f t u → (k : Kind) (from to : ℕ)
+      → telling schema u f k from to ≡ telling schema t f k from to
   telling_same t u leaves k from to =
-      ap (λ (n : ℕ). (let x : Statement = record { from = record { 0 = from }; to = record { 0 = to }; field = record { 0 = f }; kind = k; total = n } in x)) (given_same t u leaves k from to)
+      ap (λ (n : ℕ). (let x : Statement = record {
+        from = record { 0 = from };
+        to = record { 0 = to };
+        field = record { 0 = f };
+        kind = k;
+        total = n;
+      } in x)) (given_same t u leaves k from to)
 
   pub arrived_still : (t u : List Entry) → Leaves schema named f t u → (from to : ℕ) (k : Kind) → Arrived t from to k → Arrived u from to k
   arrived_still t u leaves from to k h = omega (arith, h, given_same t u leaves k from to, accepted_more t u leaves k from to)
 
   cuts_same : (t u : List Entry) → Leaves schema named f t u → (k : Kind) → cuts schema u f k ≡ cuts schema t f k
-  cuts_same t u leaves k = sum_below-same schema.sites (λ s. cut (fresh schema s) f k (at_site schema u s)) (λ s. cut (fresh schema s) f k (at_site schema t s)) (λ s below. (leaves.sites s).cuts k)
+  cuts_same t u leaves k = sum_below-same schema.sites (λ s. cut (fresh schema s) f k (at_site schema u s))
+      (λ s. cut (fresh schema s) f k (at_site schema t s)) (λ s below. (leaves.sites s).cuts k)
 
   pub calm_still : (t u : List Entry) → Leaves schema named f t u → Calm t → Calm u
   calm_still t u leaves calm =
@@ -76,7 +87,8 @@ module _ (schema : SchemaValue) (named f : ℕ) where
         mine_in = λ from k below. arrived_still t u leaves from named k (calm.mine_in from k below);
         told = λ to k below some.
             let some_then : given_between schema t f k named to ≢ 0 = λ e. some (given_same t u leaves k named to ∙ e) in
-            subst (λ (x : Statement). IsIssued x u) (sym (telling_same t u leaves k named to)) (leaves.issued (telling schema t f k named to) (calm.told to k below some_then));
+            subst (λ (x : Statement). IsIssued x u) (sym (telling_same t u leaves k named to))
+            (leaves.issued (telling schema t f k named to) (calm.told to k below some_then));
         uncut = λ k. cuts_same t u leaves k ∙ calm.uncut k;
       }
 
@@ -91,10 +103,12 @@ module _ (schema : SchemaValue) (named f : ℕ) where
       record {
         calm = calm_still t u leaves ready.calm;
         mine_is = leaves.mine ∙ ready.mine_is;
-        quiet = λ s below apart id begun opened. let was = (leaves.sites s).opens id begun opened in ready.quiet s below apart id was.0 was.1;
+        quiet = λ s below apart id begun opened. let was = (leaves.sites s).opens id begun opened in
+            ready.quiet s below apart id was.0 was.1;
       }
 
-  module _ (good : IsSchema schema) (known : f < length schema.fields) (from to : ℕ) (k : Kind) (from_in : from < schema.sites) (to_in : to < schema.sites) where
+  module _ (good : IsSchema schema) (known : f < length schema.fields) (from to : ℕ) (k : Kind) (from_in : from < schema.sites)
+      (to_in : to < schema.sites) where
     abbrev HasNumber : List Entry → Type 0
     HasNumber u = is_wanting schema named f from to k u ≡ true → number_of (telling schema u f k from to) (statements_issued u) ≢ 0
 
@@ -106,12 +120,14 @@ module _ (schema : SchemaValue) (named f : ℕ) where
 
     wants : (t : List Entry) → is_wanting schema named f from to k t ≡ true → Wants t
     wants t h =
-        let parts = wanting_parts (eqb from to) (eqb to named) (ltb (accepted_between schema t f k from to) (given_between schema t f k from to)) h in
+        let parts = wanting_parts (eqb from to) (eqb to named)
+        (ltb (accepted_between schema t f k from to) (given_between schema t f k from to)) h in
         let more = ltb-true _ _ parts.2 in
         record { apart = eqb-false _ _ parts.0; other = eqb-false _ _ parts.1; some = λ e. omega (arith, e, more) }
 
     restated : (steps : List WorldStep) → All (StepFits schema) steps → Calm (trace_by schema steps)
-        → Went schema steps (restates schema named f from to k (trace_by schema steps)) (λ u. Leaves schema named f (trace_by schema steps) u × HasNumber u)
+        → Went schema steps (restates schema named f from to k (trace_by schema steps))
+        (λ u. Leaves schema named f (trace_by schema steps) u × HasNumber u)
     restated steps fit calm =
         let t = trace_by schema steps in
         let told : Statement = telling schema t f k from to in
@@ -130,11 +146,15 @@ module _ (schema : SchemaValue) (named f : ℕ) where
               (calm.told to k to_in (λ e. w.some (ap (λ (n : ℕ). given_between schema t f k n to) same ∙ e))) in
               issued_numbered told t told_is none in
               let went = goes_do schema steps from again refl
-              (restate_goes (here schema t from) (calm.ups from from_in) (record { 0 = to }) (record { 0 = f }) k to_in known (λ e. w.apart (sym e)) w.some) in
+              (restate_goes (here schema t from) (calm.ups from from_in) (record { 0 = to }) (record { 0 = f }) k to_in known
+              (λ e. w.apart (sym e)) w.some) in
               let e = made schema t (record { 0 = from }) again in
-              let leaves = leaves_one schema named f e t giver (keeps_restate (fresh schema from) f (record { 0 = from }) (record { 0 = to }) (record { 0 = f }) k (given_between schema t f k from to) (own from t)) in
+              let leaves = leaves_one schema named f e t giver
+              (keeps_restate (fresh schema from) f (record { 0 = from }) (record { 0 = to }) (record { 0 = f }) k
+              (given_between schema t f k from to) (own from t)) in
               let told_now : IsIssued told (e ∷ t) = inl refl in
-              let now : IsIssued (telling schema (e ∷ t) f k from to) (e ∷ t) = subst (λ (x : Statement). IsIssued x (e ∷ t)) (sym (telling_same t (e ∷ t) leaves k from to)) told_now in
+              let now : IsIssued (telling schema (e ∷ t) f k from to) (e ∷ t) =
+              subst (λ (x : Statement). IsIssued x (e ∷ t)) (sym (telling_same t (e ∷ t) leaves k from to)) told_now in
               let q : Q (e ∷ t) = (leaves, λ _. issued_numbered (telling schema (e ∷ t) f k from to) (e ∷ t) now) in
               went_same schema steps list (restates schema named f from to k t) Q (sym (ap (λ (b : Bool). cond b list []) both))
               (went_one schema steps (fine from again) Q (from_in, refl) refl (subst Q (sym went) q))
@@ -152,7 +172,8 @@ module _ (schema : SchemaValue) (named f : ℕ) where
         ]
 
     delivered : (steps : List WorldStep) → All (StepFits schema) steps → Calm (trace_by schema steps) → HasNumber (trace_by schema steps)
-        → Went schema steps (delivers schema named f from to k (trace_by schema steps)) (λ u. Leaves schema named f (trace_by schema steps) u × Arrived u from to k)
+        → Went schema steps (delivers schema named f from to k (trace_by schema steps))
+        (λ u. Leaves schema named f (trace_by schema steps) u × Arrived u from to k)
     delivered steps fit calm has =
         let t = trace_by schema steps in
         let told : Statement = telling schema t f k from to in
@@ -167,18 +188,21 @@ module _ (schema : SchemaValue) (named f : ℕ) where
               let number = numbered_number told (statements_issued t) (has wanted) in
               let is_told = numbered_is_issued which t told number in
               let went = goes_deliver schema steps which told number
-              (accept_goes (here schema t to) (calm.ups to to_in) told from_in to_in known w.some (fair.within to f k) w.apart refl (never_forged schema good t sound told is_told)) in
+              (accept_goes (here schema t to) (calm.ups to to_in) told from_in to_in known w.some (fair.within to f k) w.apart refl
+              (never_forged schema good t sound told is_told)) in
               let e = made schema t (record { 0 = to }) (Accept told) in
               let leaves = leaves_one schema named f e t w.other (keeps_accept (fresh schema to) f (record { 0 = to }) told _ (own to t)) in
               let all : given_between schema t f k from to ≤ accepted_between schema (e ∷ t) f k from to =
-              subst (λ (o : List Entry). given_between schema t f k from to ≤ total_accepted (fresh schema to) from f k (effects (fresh schema to) false o)) (sym (own_here to e t refl))
+              subst (λ (o : List Entry). given_between schema t f k from to
+              ≤ total_accepted (fresh schema to) from f k (effects (fresh schema to) false o)) (sym (own_here to e t refl))
               (accepted_all (fresh schema to) told (at_site schema t to)) in
               let q : Q (e ∷ t) = (leaves, omega (arith, all, given_same t (e ∷ t) leaves k from to)) in
               went_same schema steps list (delivers schema named f from to k t) Q (sym (ap (λ (b : Bool). cond b list []) wanted))
               (went_one schema steps (Deliver which Fine) Q tt refl (subst Q (sym went) q))
           | inr unwanted ↦
               let arrived : Arrived t from to k =
-              elim (wanting_cases (eqb from to) (eqb to named) (ltb (accepted_between schema t f k from to) (given_between schema t f k from to)) unwanted) [
+              elim (wanting_cases (eqb from to) (eqb to named)
+              (ltb (accepted_between schema t f k from to) (given_between schema t f k from to)) unwanted) [
                 | inl itself ↦
                     let same : from ≡ to = eqb-true _ _ itself in
                     subst (λ (n : ℕ). Arrived t from n k) same (omega (arith, fair.itself f k))
@@ -227,12 +251,14 @@ module _ (schema : SchemaValue) (named f : ℕ) where
         let End : Claim = λ u. Held u × Arrived u i j k in
         leads_first schema Held Mid R (restates schema named f i j k) (delivers schema named f i j k ∷ rest)
         (λ steps fit held.
-        went_as schema steps (restates schema named f i j k (trace_by schema steps)) (λ u. Leaves schema named f (trace_by schema steps) u × HasNumber good known i j k giver receiver u) Mid
+        went_as schema steps (restates schema named f i j k (trace_by schema steps)) (λ u. Leaves schema named f (trace_by schema steps) u
+        × HasNumber good known i j k giver receiver u) Mid
         (restated good known i j k giver receiver steps fit (calm (trace_by schema steps) held))
         (λ q. (still (trace_by schema steps) _ q.0 held, q.1)))
         (leads_first schema Mid End R (delivers schema named f i j k) rest
         (λ steps fit mid.
-        went_as schema steps (delivers schema named f i j k (trace_by schema steps)) (λ u. Leaves schema named f (trace_by schema steps) u × Arrived u i j k) End
+        went_as schema steps (delivers schema named f i j k (trace_by schema steps)) (λ u. Leaves schema named f (trace_by schema steps) u
+        × Arrived u i j k) End
         (delivered good known i j k giver receiver steps fit (calm (trace_by schema steps) mid.0) mid.1)
         (λ q. (still (trace_by schema steps) _ q.0 mid.0, q.1)))
         more)
@@ -252,16 +278,19 @@ module _ (schema : SchemaValue) (named f : ℕ) where
         of_kind Lower = lower
         of_kind Raise = raise
 
-    one_pair : (i j : ℕ) → i < schema.sites → j < schema.sites → Leads schema (PassedTo i j) (PassedTo i (suc j)) (passes_on schema named f i j)
+    one_pair : (i j : ℕ) → i < schema.sites → j < schema.sites
+        → Leads schema (PassedTo i j) (PassedTo i (suc j)) (passes_on schema named f i j)
     one_pair i j giver receiver =
         let Low : Claim = λ u. PassedTo i j u × Arrived u i j Lower in
         one_kind (PassedTo i j) (passed_to_still i j) (λ t p. p.passed.ready.calm) i j Lower giver receiver
         (restates schema named f i j Raise ∷ delivers schema named f i j Raise ∷ []) (PassedTo i (suc j))
-        (one_kind Low (λ t u leaves p. (passed_to_still i j t u leaves p.0, arrived_still t u leaves i j Lower p.1)) (λ t p. p.0.passed.ready.calm) i j Raise giver receiver
+        (one_kind Low (λ t u leaves p. (passed_to_still i j t u leaves p.0, arrived_still t u leaves i j Lower p.1))
+        (λ t p. p.0.passed.ready.calm) i j Raise giver receiver
         [] (PassedTo i (suc j))
         (λ steps fit p. went_none schema steps (PassedTo i (suc j)) (both i j (trace_by schema steps) p.0.0 p.0.1 p.1)))
 
-    weaken : (steps more : List WorldStep) (i : ℕ) → Went schema steps more (PassedTo i schema.sites) → Went schema steps more (Passed (suc i))
+    weaken : (steps more : List WorldStep) (i : ℕ) → Went schema steps more (PassedTo i schema.sites)
+        → Went schema steps more (Passed (suc i))
     weaken steps more i went =
         went_as schema steps more (PassedTo i schema.sites) (Passed (suc i)) went
         (λ p. record {
@@ -273,11 +302,14 @@ module _ (schema : SchemaValue) (named f : ℕ) where
               ];
         })
 
-    one_giver : (i : ℕ) → i < schema.sites → Leads schema (Passed i) (Passed (suc i)) (over_sites schema.sites (λ to. passes_on schema named f i to))
+    one_giver : (i : ℕ) → i < schema.sites → Leads schema (Passed i) (Passed (suc i))
+        (over_sites schema.sites (λ to. passes_on schema named f i to))
     one_giver i giver steps fit p =
         let start : PassedTo i 0 (trace_by schema steps) = record { passed = p; partly = λ to k below. absurd (omega (arith, below)) } in
         weaken steps _ i
-        (leads_over schema (PassedTo i) schema.sites (λ to. passes_on schema named f i to) (λ j below. one_pair i j giver below) steps fit start)
+        (leads_over schema (PassedTo i) schema.sites (λ to. passes_on schema named f i to)
+        (λ j below. one_pair i j giver below) steps fit start)
 
-    pub all_passed : Leads schema (Passed 0) (Passed schema.sites) (over_sites schema.sites (λ from. over_sites schema.sites (λ to. passes_on schema named f from to)))
+    pub all_passed : Leads schema (Passed 0) (Passed schema.sites)
+        (over_sites schema.sites (λ from. over_sites schema.sites (λ to. passes_on schema named f from to)))
     all_passed = leads_over schema Passed schema.sites (λ from. over_sites schema.sites (λ to. passes_on schema named f from to)) one_giver

@@ -12,7 +12,8 @@ use Rattle.world_steps.proofs.Living.{one_store_of}
 use Rattle.reaching_steps.specs.Reach.{Task, steps_of_tasks, over_sites, IsFine}
 
 -- the trace of steps that fit is sound
-pub sound_of : (schema : SchemaValue) → IsSchema schema → (steps : List WorldStep) → All (StepFits schema) steps → IsSound schema (trace_by schema steps)
+pub sound_of : (schema : SchemaValue) → IsSchema schema → (steps : List WorldStep) → All (StepFits schema) steps
+    → IsSound schema (trace_by schema steps)
 sound_of schema good steps fit = (one_store_of schema good steps fit).sound
 
 abbrev pub Claim : Type 1
@@ -33,13 +34,20 @@ module _ (schema : SchemaValue) where
         then = subst (λ (l : List WorldStep). Q (trace_by schema l)) (sym (append-nil steps)) q;
       }
 
-  pub went_one : (steps : List WorldStep) (step : WorldStep) (Q : Claim) → StepFits schema step → IsFine step → Q (trace_by schema (steps ++ step ∷ [])) → Went steps (step ∷ []) Q
+  pub went_one : (steps : List WorldStep) (step : WorldStep) (Q : Claim) → StepFits schema step → IsFine step
+      → Q (trace_by schema (steps ++ step ∷ [])) → Went steps (step ∷ []) Q
   went_one steps step Q fit fine q =
-      record { fit = All-cons (StepFits schema) step [] fit (All-nil (StepFits schema)); fine = All-cons IsFine step [] fine (All-nil IsFine); then = q }
+      record {
+        fit = All-cons (StepFits schema) step [] fit (All-nil (StepFits schema));
+        fine =
+            All-cons IsFine step [] fine (All-nil IsFine);
+        then = q;
+      }
 
   -- one list of steps after another
   pub went_on : (steps more rest : List WorldStep) (P Q : Claim) → All (StepFits schema) steps → Went steps more P
-      → (All (StepFits schema) (steps ++ more) → P (trace_by schema (steps ++ more)) → Went (steps ++ more) rest Q) → Went steps (more ++ rest) Q
+      → (All (StepFits schema) (steps ++ more) → P (trace_by schema (steps ++ more)) → Went (steps ++ more) rest Q)
+      → Went steps (more ++ rest) Q
   went_on steps more rest P Q fit went next =
       let later = next (All-append (StepFits schema) steps more fit went.fit) went.then in
       record {
@@ -48,7 +56,8 @@ module _ (schema : SchemaValue) where
         then = subst (λ (l : List WorldStep). Q (trace_by schema l)) (append_assoc steps more rest) later.then;
       }
 
-  pub went_as : (steps more : List WorldStep) (P Q : Claim) → Went steps more P → (P (trace_by schema (steps ++ more)) → Q (trace_by schema (steps ++ more))) → Went steps more Q
+  pub went_as : (steps more : List WorldStep) (P Q : Claim) → Went steps more P
+      → (P (trace_by schema (steps ++ more)) → Q (trace_by schema (steps ++ more))) → Went steps more Q
   went_as steps more P Q went weaker = record { fit = went.fit; fine = went.fine; then = weaker went.then }
 
   pub went_same : (steps more others : List WorldStep) (Q : Claim) → more ≡ others → Went steps more Q → Went steps others Q
@@ -56,7 +65,8 @@ module _ (schema : SchemaValue) where
 
   -- tasks that lead from one claim to another
   abbrev pub Leads : Claim → Claim → List Task → Type 0
-  Leads P Q tasks = (steps : List WorldStep) → All (StepFits schema) steps → P (trace_by schema steps) → Went steps (steps_of_tasks schema steps tasks) Q
+  Leads P Q tasks = (steps : List WorldStep) → All (StepFits schema) steps → P (trace_by schema steps)
+      → Went steps (steps_of_tasks schema steps tasks) Q
 
   pub leads_none : (P : Claim) → Leads P P []
   leads_none P steps fit p = went_none steps P p
@@ -73,7 +83,9 @@ module _ (schema : SchemaValue) where
       → Leads P Q (task ∷ [])
   leads_task P Q task one = leads_first P Q Q task [] one (leads_none Q)
 
-  pub planned_append : (steps : List WorldStep) (a b : List Task) → steps_of_tasks schema steps (a ++ b) ≡ steps_of_tasks schema steps a ++ steps_of_tasks schema (steps ++ steps_of_tasks schema steps a) b
+  pub planned_append : (steps : List WorldStep) (a b : List Task)
+      → steps_of_tasks schema steps (a ++ b) ≡ steps_of_tasks schema steps a
+      ++ steps_of_tasks schema (steps ++ steps_of_tasks schema steps a) b
   planned_append steps [] b = ap (λ (l : List WorldStep). steps_of_tasks schema l b) (sym (append-nil steps))
   planned_append steps (task ∷ a) b =
       let more = task (trace_by schema steps) in
@@ -85,11 +97,14 @@ module _ (schema : SchemaValue) where
   pub leads_on : (P Q R : Claim) (a b : List Task) → Leads P Q a → Leads Q R b → Leads P R (a ++ b)
   leads_on P Q R a b first next steps fit p =
       let done = steps_of_tasks schema steps a in
-      went_same steps (done ++ steps_of_tasks schema (steps ++ done) b) (steps_of_tasks schema steps (a ++ b)) R (sym (planned_append steps a b))
+      went_same steps (done ++ steps_of_tasks schema (steps ++ done) b) (steps_of_tasks schema steps (a ++ b)) R
+      (sym (planned_append steps a b))
       (went_on steps done (steps_of_tasks schema (steps ++ done) b) Q R fit (first steps fit p) (λ fits q. next (steps ++ done) fits q))
 
   -- for each site in turn
-  pub leads_over : (I : ℕ → Claim) (n : ℕ) (f : ℕ → List Task) → ((i : ℕ) → i < n → Leads (I i) (I (suc i)) (f i)) → Leads (I 0) (I n) (over_sites n f)
+  pub leads_over : (I : ℕ → Claim) (n : ℕ) (f : ℕ → List Task) → ((i : ℕ) → i < n → Leads (I i) (I (suc i)) (f i))
+      → Leads (I 0) (I n) (over_sites n f)
   leads_over I zero f each = leads_none (I 0)
   leads_over I (suc n) f each =
-      leads_on (I 0) (I n) (I (suc n)) (over_sites n f) (f n) (leads_over I n f (λ i below. each i (omega (arith, below)))) (each n (omega arith))
+      leads_on (I 0) (I n) (I (suc n)) (over_sites n f) (f n) (leads_over I n f (λ i below. each i (omega (arith, below))))
+      (each n (omega arith))

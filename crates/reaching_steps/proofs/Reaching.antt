@@ -34,7 +34,8 @@ none_left Lower all sum target value h is =
     let zero_is : target -ℤ value ≡ pos 0 = is ∙ ap (λ (n : ℕ). signed Lower n) none in
     omega (arith, ints, zero_is)
 
-module _ (schema : SchemaValue) (good : IsSchema schema) (named f : ℕ) (named_in : named < schema.sites) (known : f < length schema.fields) (mine : List Entry) (target : ℤ) where
+module _ (schema : SchemaValue) (good : IsSchema schema) (named f : ℕ) (named_in : named < schema.sites) (known : f < length schema.fields)
+    (mine : List Entry) (target : ℤ) where
   -- ---- first
 
   record Aborting (i : ℕ) (t : List Entry) : Type 0 where
@@ -48,12 +49,15 @@ module _ (schema : SchemaValue) (good : IsSchema schema) (named f : ℕ) (named_
       let t : List Entry = trace_by schema steps in
       elim (Rattle.std.proofs.lemmas.Bool.cases_eq i named) [
         | inl itself ↦
-            went_same schema steps [] (aborts schema named i t) (Aborting (suc i)) (rw (Rattle.std.proofs.lemmas.Bool.eq-eqb i named itself) refl)
+            went_same schema steps [] (aborts schema named i t) (Aborting (suc i))
+            (rw (Rattle.std.proofs.lemmas.Bool.eq-eqb i named itself) refl)
             (went_none schema steps (Aborting (suc i))
             (record { calm = a.calm; mine_is = a.mine_is; quiet = λ s less apart. a.quiet s (omega (arith, less, itself, apart)) apart }))
         | inr other ↦
-            went_as schema steps (aborts schema named i t) (λ u. Leaves schema named f t u × NoneOpen (at_site schema u i)) (Aborting (suc i))
-            (abort_all schema named f steps i fit below other (a.calm.ups i below) (lawful_at schema good t (sound_of schema good steps fit) i below))
+            went_as schema steps (aborts schema named i t) (λ u. Leaves schema named f t u
+            × NoneOpen (at_site schema u i)) (Aborting (suc i))
+            (abort_all schema named f steps i fit below other (a.calm.ups i below)
+            (lawful_at schema good t (sound_of schema good steps fit) i below))
             (λ did.
             let u : List Entry = trace_by schema (steps ++ aborts schema named i t) in
             let leaves : Leaves schema named f t u = did.0 in
@@ -63,7 +67,8 @@ module _ (schema : SchemaValue) (good : IsSchema schema) (named f : ℕ) (named_
               quiet = λ s less apart.
                   elim (Rattle.std.proofs.lemmas.Bool.cases_eq i s) [
                     | inl same ↦ subst (λ (j : ℕ). NoneOpen (at_site schema u j)) same did.1
-                    | inr before ↦ λ id begun opened. (let was = (leaves.sites s).opens id begun opened in a.quiet s (omega (arith, less, before)) apart id was.0 was.1)
+                    | inr before ↦ λ id begun opened.
+                        (let was = (leaves.sites s).opens id begun opened in a.quiet s (omega (arith, less, before)) apart id was.0 was.1)
                   ];
             })
       ]
@@ -78,10 +83,12 @@ module _ (schema : SchemaValue) (good : IsSchema schema) (named f : ℕ) (named_
   abbrev pub Reached : Claim
   Reached u = (own named u ≡ mine) × (committed_value schema u f ≡ target)
 
-  moved_all : (low high : ℤ) → low ≡ ((field_at schema f).floor +ℤ pos (own_rights (fresh schema named) f Lower (effects (fresh schema named) false mine)))
+  moved_all : (low high : ℤ) → low ≡ ((field_at schema f).floor +ℤ pos
+      (own_rights (fresh schema named) f Lower (effects (fresh schema named) false mine)))
       → high ≡ ((field_at schema f).ceiling -ℤ pos (own_rights (fresh schema named) f Raise (effects (fresh schema named) false mine)))
       → low ≤ℤ target → target ≤ℤ high
-      → Leads schema (Passed schema named f good known mine schema.sites) Reached (over_sites schema.sites (λ s. moves schema named f target s ∷ []))
+      → Leads schema (Passed schema named f good known mine schema.sites) Reached
+      (over_sites schema.sites (λ s. moves schema named f target s ∷ []))
   moved_all low high low_is high_is above below steps fit p =
       let t : List Entry = trace_by schema steps in
       let sound = sound_of schema good steps fit in
@@ -89,21 +96,30 @@ module _ (schema : SchemaValue) (good : IsSchema schema) (named f : ℕ) (named_
       let arrived = p.arrived in
       let list : List WorldStep = steps_of_tasks schema steps (over_sites schema.sites (λ s. moves schema named f target s ∷ [])) in
       let F : Kind → ℕ → ℕ = λ k. but named (λ s. share (fresh schema s) f k (at_site schema t s)) in
-      let rights : (k : Kind) → own_rights (fresh schema named) f k (at_site schema t named) ≡ own_rights (fresh schema named) f k (effects (fresh schema named) false mine) =
+      let rights : (k : Kind) → own_rights (fresh schema named) f k (at_site schema t named)
+      ≡ own_rights (fresh schema named) f k (effects (fresh schema named) false mine) =
       λ k. ap (λ (o : List Entry). own_rights (fresh schema named) f k (effects (fresh schema named) false o)) p.ready.mine_is in
       let down = below_is schema good t sound f named named_in p.ready.calm.uncut quiet arrived in
       let up = above_is schema good t sound f named named_in p.ready.calm.uncut quiet arrived in
-      let go : (k : Kind) (all : ℕ) → target -ℤ committed_value schema t f ≡ signed k all → all ≤ sum_below schema.sites (F k) → Went schema steps list Reached =
+      let go : (k : Kind) (all : ℕ) → target -ℤ committed_value schema t f ≡ signed k all → all ≤ sum_below schema.sites (F k)
+      → Went schema steps list Reached =
       λ k all is within.
-      let Mv : ℕ → Claim = Moving schema good named f known target k all (F k) mine (but_here named (λ s. share (fresh schema s) f k (at_site schema t s))) in
+      let Mv : ℕ → Claim = Moving schema good named f known target k all (F k) mine
+      (but_here named (λ s. share (fresh schema s) f k (at_site schema t s))) in
       let start : Mv 0 t = record {
         mine_is = p.ready.mine_is;
-        idle = λ s from small apart. record { up = p.ready.calm.ups s small; left = p.ready.calm.numbers s small apart; none = quiet s small apart };
+        idle = λ s from small apart. record {
+          up = p.ready.calm.ups s small;
+          left = p.ready.calm.numbers s small apart;
+          none =
+              quiet s small apart;
+        };
         free_is = λ s from small apart. sym (but_there named (λ j. share (fresh schema j) f k (at_site schema t j)) s apart);
         left = is ∙ ap (λ (n : ℕ). signed k n) (let same : all ≡ all - 0 = omega arith in same);
       } in
       went_as schema steps list (Mv schema.sites) Reached
-      (all_moved schema good named f known target k all (F k) mine (but_here named (λ s. share (fresh schema s) f k (at_site schema t s))) steps fit start)
+      (all_moved schema good named f known target k all (F k) mine
+      (but_here named (λ s. share (fresh schema s) f k (at_site schema t s))) steps fit start)
       (λ m. (m.mine_is, none_left k all (sum_below schema.sites (F k)) target _ within m.left)) in
       by go (target -ℤ committed_value schema t f) refl
       (omega (arith, ints, down, low_is, above, rights Lower)) (omega (arith, ints, up, high_is, below, rights Raise))
@@ -112,8 +128,11 @@ module _ (schema : SchemaValue) (good : IsSchema schema) (named f : ℕ) (named_
           → all ≤ sum_below schema.sites (but named (λ s. share (fresh schema s) f k (at_site schema (trace_by schema steps) s)))
           → Went schema steps (steps_of_tasks schema steps (over_sites schema.sites (λ s. moves schema named f target s ∷ []))) Reached)
           (d : ℤ) → target -ℤ committed_value schema (trace_by schema steps) f ≡ d
-          → committed_value schema (trace_by schema steps) f ≤ℤ (target +ℤ pos (sum_below schema.sites (but named (λ s. share (fresh schema s) f Lower (at_site schema (trace_by schema steps) s)))))
-          → target ≤ℤ (committed_value schema (trace_by schema steps) f +ℤ pos (sum_below schema.sites (but named (λ s. share (fresh schema s) f Raise (at_site schema (trace_by schema steps) s)))))
+          → committed_value schema (trace_by schema steps) f ≤ℤ
+          (target +ℤ pos (sum_below schema.sites (but named
+          (λ s. share (fresh schema s) f Lower (at_site schema (trace_by schema steps) s)))))
+          → target ≤ℤ (committed_value schema (trace_by schema steps) f +ℤ pos
+          (sum_below schema.sites (but named (λ s. share (fresh schema s) f Raise (at_site schema (trace_by schema steps) s)))))
           → Went schema steps (steps_of_tasks schema steps (over_sites schema.sites (λ s. moves schema named f target s ∷ []))) Reached
       by go (pos n) is low high = go Raise n is (omega (arith, ints, is, high))
       by go (negsuc n) is low high = go Lower (suc n) is (omega (arith, ints, is, low))
@@ -123,7 +142,8 @@ module _ (schema : SchemaValue) (good : IsSchema schema) (named f : ℕ) (named_
 same_is : (a b : ℤ) → same_value a b ≡ true → a ≡ b
 same_is a b h = let none : unsigned_abs (a -ℤ b) ≡ 0 = eqb-true _ _ h in omega (arith, ints, none)
 
-module _ (schema : SchemaValue) (good : IsSchema schema) (steps : List WorldStep) (fit : All (StepFits schema) steps) (site : SiteNo) (field : FieldNo) (target : ℤ)
+module _ (schema : SchemaValue) (good : IsSchema schema) (steps : List WorldStep) (fit : All (StepFits schema) steps) (site : SiteNo)
+    (field : FieldNo) (target : ℤ)
     (clear : reach_fault schema (trace_by schema steps) site field target ≡ None) where
   abbrev pub End : Claim
   End u = (own site.0 u ≡ own site.0 (trace_by schema steps)) × (committed_value schema u field.0 ≡ target)
@@ -134,13 +154,18 @@ module _ (schema : SchemaValue) (good : IsSchema schema) (steps : List WorldStep
       let is = is_clear schema t site field target clear in
       let mine : List Entry = own site.0 t in
       let own_cut : (k : Kind) → cut (fresh schema site.0) field.0 k (at_site schema t site.0) ≡ 0 = λ k.
-      omega (arith, is.calm.uncut k, term_below schema.sites (λ s. cut (fresh schema s) field.0 k (at_site schema t s)) site.0 is.site_in) in
+      omega (arith, is.calm.uncut k, term_below schema.sites (λ s. cut (fresh schema s) field.0 k (at_site schema t s)) site.0 is.site_in)
+      in
       let low_is : cut (fresh schema site.0) field.0 Lower (at_site schema t site.0) ≡ 0
-      → ((field_at schema field.0).floor +ℤ pos (cut (fresh schema site.0) field.0 Lower (at_site schema t site.0) + own_rights (fresh schema site.0) field.0 Lower (at_site schema t site.0)))
-      ≡ ((field_at schema field.0).floor +ℤ pos (own_rights (fresh schema site.0) field.0 Lower (at_site schema t site.0))) = λ none. omega (arith, ints, none) in
+      → ((field_at schema field.0).floor +ℤ pos (cut (fresh schema site.0) field.0 Lower (at_site schema t site.0)
+      + own_rights (fresh schema site.0) field.0 Lower (at_site schema t site.0)))
+      ≡ ((field_at schema field.0).floor +ℤ pos (own_rights (fresh schema site.0) field.0 Lower (at_site schema t site.0))) =
+      λ none. omega (arith, ints, none) in
       let high_is : cut (fresh schema site.0) field.0 Raise (at_site schema t site.0) ≡ 0
-      → ((field_at schema field.0).ceiling -ℤ pos (cut (fresh schema site.0) field.0 Raise (at_site schema t site.0) + own_rights (fresh schema site.0) field.0 Raise (at_site schema t site.0)))
-      ≡ ((field_at schema field.0).ceiling -ℤ pos (own_rights (fresh schema site.0) field.0 Raise (at_site schema t site.0))) = λ none. omega (arith, ints, none) in
+      → ((field_at schema field.0).ceiling -ℤ pos (cut (fresh schema site.0) field.0 Raise (at_site schema t site.0)
+      + own_rights (fresh schema site.0) field.0 Raise (at_site schema t site.0)))
+      ≡ ((field_at schema field.0).ceiling -ℤ pos (own_rights (fresh schema site.0) field.0 Raise (at_site schema t site.0))) =
+      λ none. omega (arith, ints, none) in
       let plan : List WorldStep = steps_of_tasks schema steps (tasks schema site.0 field.0 target) in
       let there = same_value (committed_value schema t field.0) target in
       elim (cases_Bool there) [
@@ -148,22 +173,28 @@ module _ (schema : SchemaValue) (good : IsSchema schema) (steps : List WorldStep
             went_same schema steps [] (reach_steps schema steps site field target) End (sym (ap (λ (b : Bool). cond b [] plan) same))
             (went_none schema steps End (refl, same_is (committed_value schema t field.0) target same))
         | inr other ↦
-            let start : Aborting schema good site.0 field.0 is.site_in is.known mine target 0 t = record { calm = is.calm; mine_is = refl; quiet = λ s less. absurd (omega (arith, less)) } in
+            let start : Aborting schema good site.0 field.0 is.site_in is.known mine target 0 t =
+            record { calm = is.calm; mine_is = refl; quiet = λ s less. absurd (omega (arith, less)) } in
             went_same schema steps plan (reach_steps schema steps site field target) End (sym (ap (λ (b : Bool). cond b [] plan) other))
-            (leads_on schema (Aborting schema good site.0 field.0 is.site_in is.known mine target 0) (Passed schema site.0 field.0 good is.known mine 0) End
+            (leads_on schema (Aborting schema good site.0 field.0 is.site_in is.known mine target 0)
+            (Passed schema site.0 field.0 good is.known mine 0) End
             (over_sites schema.sites (λ s. aborts schema site.0 s ∷ []))
-            (over_sites schema.sites (λ from. over_sites schema.sites (λ to. passes_on schema site.0 field.0 from to)) ++ over_sites schema.sites (λ s. moves schema site.0 field.0 target s ∷ []))
+            (over_sites schema.sites (λ from. over_sites schema.sites (λ to. passes_on schema site.0 field.0 from to))
+            ++ over_sites schema.sites (λ s. moves schema site.0 field.0 target s ∷ []))
             (λ steps fit a.
-            went_as schema steps _ (Aborting schema good site.0 field.0 is.site_in is.known mine target schema.sites) (Passed schema site.0 field.0 good is.known mine 0)
+            went_as schema steps _ (Aborting schema good site.0 field.0 is.site_in is.known mine target schema.sites)
+            (Passed schema site.0 field.0 good is.known mine 0)
             (all_aborted schema good site.0 field.0 is.site_in is.known mine target steps fit a)
             (λ b. record {
               ready = record { calm = b.calm; mine_is = b.mine_is; quiet = b.quiet };
               arrived = λ from to k below small. absurd (omega (arith, below));
             }))
-            (leads_on schema (Passed schema site.0 field.0 good is.known mine 0) (Passed schema site.0 field.0 good is.known mine schema.sites) End
+            (leads_on schema (Passed schema site.0 field.0 good is.known mine 0)
+            (Passed schema site.0 field.0 good is.known mine schema.sites) End
             (over_sites schema.sites (λ from. over_sites schema.sites (λ to. passes_on schema site.0 field.0 from to)))
             (over_sites schema.sites (λ s. moves schema site.0 field.0 target s ∷ []))
             (all_passed schema site.0 field.0 good is.known mine)
-            (moved_all schema good site.0 field.0 is.site_in is.known mine target _ _ (low_is (own_cut Lower)) (high_is (own_cut Raise)) is.low is.high))
+            (moved_all schema good site.0 field.0 is.site_in is.known mine target _ _ (low_is (own_cut Lower))
+            (high_is (own_cut Raise)) is.low is.high))
             steps fit start)
       ]

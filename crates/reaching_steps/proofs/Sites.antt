@@ -24,11 +24,20 @@ pub record Keeps (base : Base) (f : ℕ) (o p : List Entry) : Type 0 where
       → (is_begun id (effects base false o) ≡ true) × (is_open id (effects base false o) ≡ true)
   pub given : (to : ℕ) (k : Kind) → total_given base to f k (effects base false p) ≡ total_given base to f k (effects base false o)
   pub cuts : (k : Kind) → cut base f k (effects base false p) ≡ cut base f k (effects base false o)
-  pub accepted : (from : ℕ) (k : Kind) → total_accepted base from f k (effects base false o) ≤ total_accepted base from f k (effects base false p)
+  pub accepted : (from : ℕ) (k : Kind) → total_accepted base from f k (effects base false o)
+      ≤ total_accepted base from f k (effects base false p)
 
 pub keeps_refl : (base : Base) (f : ℕ) (o : List Entry) → Keeps base f o o
 keeps_refl base f o =
-    record { up = λ h. h; numbers = refl; opens = λ id b h. (b, h); given = λ to k. refl; cuts = λ k. refl; accepted = λ from k. omega arith }
+    record {
+      up = λ h. h;
+      numbers = refl;
+      opens = λ id b h. (b, h);
+      given = λ to k. refl;
+      cuts = λ k. refl;
+      accepted =
+          λ from k. omega arith;
+    }
 
 pub keeps_trans : (base : Base) (f : ℕ) (o p q : List Entry) → Keeps base f o p → Keeps base f p q → Keeps base f o q
 keeps_trans base f o p q a b =
@@ -48,7 +57,8 @@ was_open x true d h = h
 was_open true false d h = cc
 was_open false false d h = h
 
-pub keeps_abort : (base : Base) (f : ℕ) (s : SiteNo) (id : TxnId) (o : List Entry) → Keeps base f o (record { site = s; command = Abort id; reply = Aborted } ∷ o)
+pub keeps_abort : (base : Base) (f : ℕ) (s : SiteNo) (id : TxnId) (o : List Entry)
+    → Keeps base f o (record { site = s; command = Abort id; reply = Aborted } ∷ o)
 keeps_abort base f s id o =
     let es = effects base false o in
     record {
@@ -67,7 +77,8 @@ closed false d h = cc
 -- the transaction isn't open after it
 pub abort_closes : (id j : TxnId) (es : List Effect) → same_txn id j ≡ true → is_open j (Aborts id ∷ es) ≡ true → ⊥
 abort_closes id j es same h =
-    closed (is_committed j es) (is_dropped j es) (subst (λ (b : Bool). (not (is_committed j es) && not (b || is_dropped j es)) ≡ true) same h)
+    closed (is_committed j es) (is_dropped j es) (subst
+    (λ (b : Bool). (not (is_committed j es) && not (b || is_dropped j es)) ≡ true) same h)
 
 -- and any other is as it was
 pub abort_spares : (id j : TxnId) (es : List Effect) → same_txn id j ≡ false → is_open j (Aborts id ∷ es) ≡ is_open j es
@@ -78,7 +89,15 @@ abort_spares id j es apart = ap (λ (b : Bool). not (is_committed j es) && not (
 pub keeps_restate : (base : Base) (f : ℕ) (s to : SiteNo) (field : FieldNo) (kind : Kind) (total : ℕ) (o : List Entry)
     → Keeps base f o (record { site = s; command = Restate to field kind; reply = Stated total } ∷ o)
 keeps_restate base f s to field kind total o =
-    record { up = λ h. h; numbers = omega arith; opens = λ j begun_txns opened. (begun_txns, opened); given = λ to' k. refl; cuts = λ k. refl; accepted = λ from k. omega arith }
+    record {
+      up = λ h. h;
+      numbers = omega arith;
+      opens = λ j begun_txns opened. (begun_txns, opened);
+      given = λ to' k. refl;
+      cuts =
+          λ k. refl;
+      accepted = λ from k. omega arith;
+    }
 
 -- ---- a statement taken in
 
@@ -95,7 +114,8 @@ keeps_accept base f s told gain o =
       opens = λ j begun_txns opened. (begun_txns, opened);
       given = λ to k. refl;
       cuts = λ k. refl;
-      accepted = λ from k. merged (eqb told.field.0 f && same_kind told.kind k && eqb told.from.0 from) told.total (total_accepted base from f k (effects base false o));
+      accepted = λ from k. merged (eqb told.field.0 f && same_kind told.kind k && eqb told.from.0 from) told.total
+          (total_accepted base from f k (effects base false o));
     }
 
 same_kind-refl : (k : Kind) → same_kind k k ≡ true
@@ -118,7 +138,8 @@ NoneOpen es = (id : TxnId) → is_begun id es ≡ true → is_open id es ≡ tru
 pub same_txn-refl : (id : TxnId) → same_txn id id ≡ true
 same_txn-refl id = rw (eq-eqb id.epoch id.epoch refl, eq-eqb id.number id.number refl) refl
 
-pub none_passes : (p : TxnId → Bool) (es : List Effect) → ((id : TxnId) → is_begun id es ≡ true → p id ≡ false) → filter p (begun_txns es) ≡ []
+pub none_passes : (p : TxnId → Bool) (es : List Effect) → ((id : TxnId) → is_begun id es ≡ true → p id ≡ false)
+    → filter p (begun_txns es) ≡ []
 none_passes p [] h = refl
 none_passes p (Begins txn ∷ es) h =
     let here : is_begun txn (Begins txn ∷ es) ≡ true = rw (same_txn-refl txn) refl in
@@ -131,7 +152,8 @@ none_passes p (Accepts from field kind total ∷ es) h = none_passes p es h
 none_passes p (Stops ∷ es) h = none_passes p es h
 
 pub open_shut : (es : List Effect) → NoneOpen es → (id : TxnId) → is_begun id es ≡ true → is_open id es ≡ false
-open_shut es none id begun_txns = elim (cases_Bool (is_open id es)) as (λ _. is_open id es ≡ false) [ inl opened ↦ absurd (none id begun_txns opened) | inr shut ↦ shut ]
+open_shut es none id begun_txns = elim (cases_Bool (is_open id es)) as (λ _. is_open id es ≡ false)
+    [ inl opened ↦ absurd (none id begun_txns opened) | inr shut ↦ shut ]
 
 pub nothing_open : (es : List Effect) → NoneOpen es → open_txns es ≡ []
 nothing_open es none = none_passes (λ id. is_open id es) es (open_shut es none)

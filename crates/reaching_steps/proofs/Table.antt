@@ -21,10 +21,12 @@ use Rattle.reaching_steps.specs.Told.{AllTold, IsTrial, IsMadeWithin, Renews}
 
 pub told_none : (schema : SchemaValue) (t : List Entry) (lists : List (Vec Effect)) → lists ≡ [] → AllTold schema t lists
 unfolding AllTold
-told_none schema t lists none = λ s d below. absurd (let short : length lists ≡ 0 = ap (λ (l : List (Vec Effect)). length l) none in omega (arith, below, short))
+told_none schema t lists none = λ s d below. absurd (let short : length lists ≡ 0 = ap (λ (l : List (Vec Effect)). length l) none in
+    omega (arith, below, short))
 
 -- one site more
-pub told_more : (schema : SchemaValue) (t : List Entry) (lists more : List (Vec Effect)) (v : Vec Effect) (i : ℕ) → length lists ≡ i → more ≡ lists ++ v ∷ []
+pub told_more : (schema : SchemaValue) (t : List Entry) (lists more : List (Vec Effect)) (v : Vec Effect) (i : ℕ) → length lists ≡ i
+    → more ≡ lists ++ v ∷ []
     → v.items ≡ at_site schema t i → AllTold schema t lists → (length more ≡ i + 1) × AllTold schema t more
 unfolding AllTold
 told_more schema t lists more v i long is here told =
@@ -44,7 +46,8 @@ told_more schema t lists more v i long is here told =
     )
 
 -- one entry more, read anew at its site
-pub told_next : (schema : SchemaValue) (t u : List Entry) (e : Entry) (lists : List (Vec Effect)) (v : Vec Effect) → u ≡ e ∷ t → v.items ≡ at_site schema u e.site.0
+pub told_next : (schema : SchemaValue) (t u : List Entry) (e : Entry) (lists : List (Vec Effect)) (v : Vec Effect) → u ≡ e ∷ t
+    → v.items ≡ at_site schema u e.site.0
     → AllTold schema t lists → AllTold schema u (slice_set lists e.site.0 v)
 unfolding AllTold
 told_next schema t u e lists v is here told = λ s d below.
@@ -52,14 +55,17 @@ told_next schema t u e lists v is here told = λ s d below.
     elim (cases_eq e.site.0 s) [
       | inl same ↦
           subst (λ (n : ℕ). (get_or (slice_set lists e.site.0 v) n d).items ≡ at_site schema u n) same
-          (ap (λ (x : Vec Effect). x.items) (get_or-set_same lists e.site.0 v d (subst (λ (n : ℕ). n < length lists) (sym same) inside)) ∙ here)
+          (ap (λ (x : Vec Effect). x.items) (get_or-set_same lists e.site.0 v d (subst (λ (n : ℕ). n < length lists) (sym same) inside))
+          ∙ here)
       | inr other ↦
           ap (λ (x : Vec Effect). x.items) (get_or-set_other lists e.site.0 s v d (λ h. other (sym h))) ∙ told s d inside
-          ∙ ap (λ (o : List Entry). effects (fresh schema s) false o) (sym (own_there s e t other) ∙ ap (λ (l : List Entry). own s l) (sym is))
+          ∙ ap (λ (o : List Entry). effects (fresh schema s) false o)
+          (sym (own_there s e t other) ∙ ap (λ (l : List Entry). own s l) (sym is))
     ]
 
 -- what a whole table tells of a site
-pub told_of : (w v : WorldValue) (lists : List (Vec Effect)) (whole : Bool) (s i : ℕ) (x : Vec Effect) (items : List Effect) → w ≡ v → IsTrial v lists whole → whole ≡ true → s < w.schema.sites
+pub told_of : (w v : WorldValue) (lists : List (Vec Effect)) (whole : Bool) (s i : ℕ) (x : Vec Effect) (items : List Effect) → w ≡ v
+    → IsTrial v lists whole → whole ≡ true → s < w.schema.sites
     → i ≡ s → x ≡ get_or lists i x → items ≡ x.items → items ≡ at_site w.schema (trace_of w) s
 unfolding AllTold
 told_of w v lists whole s i x items same trial is below at found read =
@@ -75,7 +81,8 @@ made_is w v step e is = ap (λ (l : List Lucky). entries l) is
 none_is : (w v : WorldValue) (step : WorldStep) → Answers NoStatement w step v → trace_of v ≡ trace_of w
 none_is w v step is = ap (λ (l : List Lucky). entries l) is.1
 
-pub made_within : (w v : WorldValue) (step : WorldStep) (reply : StepReply) → Answers reply w step v → IsOneStore v.schema (trace_of v) → IsMadeWithin reply v.schema.sites
+pub made_within : (w v : WorldValue) (step : WorldStep) (reply : StepReply) → Answers reply w step v → IsOneStore v.schema (trace_of v)
+    → IsMadeWithin reply v.schema.sites
 made_within w v step NoStatement is store = tt
 made_within w v step (Made e) is store = (subst (λ (l : List Entry). IsSound v.schema l) (made_is w v step e is) store.sound).sites.1
 
@@ -83,10 +90,12 @@ pub renews_none : (v : WorldValue) (lists : List (Vec Effect)) → Renews v NoSt
 unfolding Renews
 renews_none v lists = λ w step is same told. (
   told.0 ∙ ap (λ (x : SchemaValue). x.sites) (sym same),
-  subst (λ (x : SchemaValue). AllTold x (trace_of v) lists) (sym same) (subst (λ (l : List Entry). AllTold w.schema l lists) (sym (none_is w v step is)) told.1),
+  subst (λ (x : SchemaValue). AllTold x (trace_of v) lists) (sym same)
+      (subst (λ (l : List Entry). AllTold w.schema l lists) (sym (none_is w v step is)) told.1),
 )
 
-pub renews_made : (v : WorldValue) (e : Entry) (lists more : List (Vec Effect)) (x : Vec Effect) → x.items ≡ at_site v.schema (trace_of v) e.site.0 → more ≡ slice_set lists e.site.0 x
+pub renews_made : (v : WorldValue) (e : Entry) (lists more : List (Vec Effect)) (x : Vec Effect)
+    → x.items ≡ at_site v.schema (trace_of v) e.site.0 → more ≡ slice_set lists e.site.0 x
     → Renews v (Made e) lists more
 unfolding Renews
 renews_made v e lists more x here set = λ w step is same told. (
@@ -96,13 +105,16 @@ renews_made v e lists more x here set = λ w step is same told. (
       (subst (λ (y : SchemaValue). AllTold y (trace_of w) lists) (sym same) told.1)),
 )
 
-pub renewed : (w v : WorldValue) (step : WorldStep) (reply : StepReply) (lists more : List (Vec Effect)) (whole : Bool) → Answers reply w step v → v.schema ≡ w.schema
+pub renewed : (w v : WorldValue) (step : WorldStep) (reply : StepReply) (lists more : List (Vec Effect)) (whole : Bool)
+    → Answers reply w step v → v.schema ≡ w.schema
     → Renews v reply lists more → IsTrial w lists whole → IsTrial v more whole
 unfolding Renews
 renewed w v step reply lists more whole is same renews trial = λ h. renews w step is same (trial h)
 
 -- beyond the table there is no site
-pub renews_past : (v : WorldValue) (e : Entry) (lists : List (Vec Effect)) → length lists ≤ e.site.0 → e.site.0 < v.schema.sites → Renews v (Made e) lists lists
+pub renews_past : (v : WorldValue) (e : Entry) (lists : List (Vec Effect)) → length lists ≤ e.site.0 → e.site.0 < v.schema.sites
+    → Renews v (Made e) lists lists
 unfolding Renews
 renews_past v e lists past below = λ w step is same told.
-    absurd (let count : v.schema.sites ≡ length lists = ap (λ (y : SchemaValue). y.sites) same ∙ sym told.0 in omega (arith, past, below, count))
+    absurd (let count : v.schema.sites ≡ length lists = ap (λ (y : SchemaValue). y.sites) same ∙ sym told.0 in
+    omega (arith, past, below, count))

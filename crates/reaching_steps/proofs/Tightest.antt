@@ -29,7 +29,8 @@ neither : (a b : Bool) → a ≡ false → b ≡ false → (a || b) ≡ false
 neither a b h g = rw (h, g) refl
 
 -- a fault behind others, none of which holds
-behind : (faults : List (Option ReachFault)) (last : Option ReachFault) → first_fault faults ≡ None → last ≡ None → first_fault (faults ++ last ∷ []) ≡ None
+behind : (faults : List (Option ReachFault)) (last : Option ReachFault) → first_fault faults ≡ None → last ≡ None
+    → first_fault (faults ++ last ∷ []) ≡ None
 behind [] None h none = refl
 behind [] (Some fault) h none = none
 behind (None ∷ rest) last h none = behind rest last h none
@@ -38,14 +39,22 @@ behind (Some fault ∷ rest) last h none = cc
 unfaulted : (b : Bool) (fault : ReachFault) → b ≡ false → fault_if b fault ≡ None
 unfaulted b fault h = rw h refl
 
-module _ (schema : SchemaValue) (good : IsSchema schema) (steps : List WorldStep) (fit : All (StepFits schema) steps) (site : SiteNo) (field : FieldNo) (target : ℤ)
-    (free : IsUnhindered schema (trace_by schema steps) site field) (within : LiesWithin schema (trace_by schema steps) site field target) where
+module _ (schema : SchemaValue) (good : IsSchema schema) (steps : List WorldStep) (fit : All (StepFits schema) steps) (site : SiteNo)
+    (field : FieldNo) (target : ℤ)
+    (free : IsUnhindered schema (trace_by schema steps) site field)
+    (within : LiesWithin schema (trace_by schema steps) site field target) where
   clear : reach_fault schema (trace_by schema steps) site field target ≡ None
   clear =
       let interval = interval_at (place schema site.0 (fresh schema site.0) (own site.0 (trace_by schema steps))) field in
-      behind (hindrances schema (trace_by schema steps) site field) (fault_if (lies_outside interval target) (Outside interval.0 interval.1)) free
-      (unfaulted (lies_outside interval target) (Outside interval.0 interval.1) (neither (int_lt target interval.0) (int_lt interval.1 target) (not_below target interval.0 within.0) (not_below interval.1 target within.1)))
+      behind (hindrances schema (trace_by schema steps) site field)
+      (fault_if (lies_outside interval target) (Outside interval.0 interval.1)) free
+      (unfaulted (lies_outside interval target) (Outside interval.0 interval.1)
+      (neither (int_lt target interval.0) (int_lt interval.1 target) (not_below target interval.0 within.0)
+      (not_below interval.1 target within.1)))
 
   pub value_is_reached : (more : List WorldStep) × Does (record { schema = schema; steps = steps }) site field target more
-  value_is_reached =
-      (reach_steps schema steps site field target, does (record { schema = schema; steps = steps }) site field target (reach_steps schema steps site field target) good fit clear refl)
+  value_is_reached = (
+    reach_steps schema steps site field target,
+    does (record { schema = schema; steps = steps }) site field target
+        (reach_steps schema steps site field target) good fit clear refl,
+  )

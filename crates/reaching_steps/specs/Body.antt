@@ -44,7 +44,8 @@ from_outside schema t site field target =
     fault_if (lies_outside interval target) (Outside interval.0 interval.1) ∷ []
 
 abbrev pub from_numbers : SchemaValue → List Entry → SiteNo → FieldNo → ℤ → List (Option ReachFault)
-from_numbers schema t site field target = fault_at Numbers (least schema.sites (has_no_number schema t site.0)) ∷ from_outside schema t site field target
+from_numbers schema t site field target = fault_at Numbers (least schema.sites (has_no_number schema t site.0))
+    ∷ from_outside schema t site field target
 
 abbrev pub from_tightened : SchemaValue → List Entry → SiteNo → FieldNo → ℤ → List (Option ReachFault)
 from_tightened schema t site field target = fault_if (is_tightened schema t field.0) Tightened ∷ from_numbers schema t site field target
@@ -58,13 +59,15 @@ abbrev pub is_untold_to : SchemaValue → List Entry → SiteNo → FieldNo → 
 is_untold_to schema t site field to = is_unstated schema t field.0 site.0 to Lower || is_unstated schema t field.0 site.0 to Raise
 
 abbrev pub from_unstated : SchemaValue → List Entry → SiteNo → FieldNo → ℤ → List (Option ReachFault)
-from_unstated schema t site field target = fault_at Unstated (least schema.sites (is_untold_to schema t site field)) ∷ from_tightened schema t site field target
+from_unstated schema t site field target = fault_at Unstated (least schema.sites (is_untold_to schema t site field))
+    ∷ from_tightened schema t site field target
 
 abbrev pub is_short_from : SchemaValue → List Entry → SiteNo → FieldNo → ℕ → Bool
 is_short_from schema t site field from = is_short_of schema t field.0 site.0 from Lower || is_short_of schema t field.0 site.0 from Raise
 
 abbrev pub from_flight : SchemaValue → List Entry → SiteNo → FieldNo → ℤ → List (Option ReachFault)
-from_flight schema t site field target = fault_at InFlight (least schema.sites (is_short_from schema t site field)) ∷ from_unstated schema t site field target
+from_flight schema t site field target = fault_at InFlight (least schema.sites (is_short_from schema t site field))
+    ∷ from_unstated schema t site field target
 
 abbrev pub from_up : SchemaValue → List Entry → SiteNo → FieldNo → ℤ → List (Option ReachFault)
 from_up schema t site field target = fault_at NotUp (least schema.sites (is_down schema t)) ∷ from_flight schema t site field target

@@ -53,7 +53,8 @@ Weighs e committed ended stopped f k x y =
 unfoldable pub Walked : List Effect → List Effect → List TxnId → List TxnId → Bool → ℕ → Kind → ℕ → ℕ → Type 0
 Walked all rest committed ended stopped f k x y =
     (schema : SchemaValue) (base : Base) → IsLawful schema base all →
-    IsLawful schema base rest × (x + granted_sizes (settles committed rest) f k rest ≡ granted_sizes (λ id. is_committed id all) f k all) × (y + granted_sizes (stays ended stopped rest) f k rest ≡ held_rights f k all)
+    IsLawful schema base rest × (x + granted_sizes (settles committed rest) f k rest ≡ granted_sizes (λ id. is_committed id all) f k all)
+    × (y + granted_sizes (stays ended stopped rest) f k rest ≡ held_rights f k all)
 
 -- What begins is open.
 unfoldable pub Opens : Effect → TxnId → Type 0

@@ -64,7 +64,14 @@ number_of x (y ∷ older) =
 -- The statement of all that one site has given to another.
 abbrev pub telling : SchemaValue → List Entry → ℕ → Kind → ℕ → ℕ → Statement
 telling schema t f k from to =
-    record { from = record { 0 = from }; to = record { 0 = to }; field = record { 0 = f }; kind = k; total = given_between schema t f k from to }
+    record {
+      from = record { 0 = from };
+      to = record { 0 = to };
+      field = record { 0 = f };
+      kind = k;
+      total =
+          given_between schema t f k from to;
+    }
 
 -- Whether a receiver other than the giver and the named site has accepted less than was given.
 abbrev pub is_wanting : SchemaValue → ℕ → ℕ → ℕ → ℕ → Kind → List Entry → Bool
@@ -110,7 +117,8 @@ moves schema named f target s t =
     if s == named
     then []
     else changes_by s f (next_txn schema t s)
-    (towards (target -ℤ committed_value schema t f) (share (fresh schema s) f Lower (at_site schema t s)) (share (fresh schema s) f Raise (at_site schema t s)))
+    (towards (target -ℤ committed_value schema t f) (share (fresh schema s) f Lower (at_site schema t s))
+    (share (fresh schema s) f Raise (at_site schema t s)))
 
 -- ---- the steps
 
@@ -131,7 +139,8 @@ same_value a b = unsigned_abs (a -ℤ b) == 0
 -- The steps that take a field to the target, where these were taken: none where it is there.
 abbrev pub reach_steps : SchemaValue → List WorldStep → SiteNo → FieldNo → ℤ → List WorldStep
 reach_steps schema steps site field target =
-    if same_value (committed_value schema (trace_by schema steps) field.0) target then [] else steps_of_tasks schema steps (tasks schema site.0 field.0 target)
+    if same_value (committed_value schema (trace_by schema steps) field.0) target then []
+    else steps_of_tasks schema steps (tasks schema site.0 field.0 target)
 
 -- ---- what stands in the way
 
@@ -179,8 +188,10 @@ reach_faults schema t site field target =
     fault_if (nat_le schema.sites site.0) NoSite
     ∷ fault_if (nat_le (length schema.fields) field.0) NoField
     ∷ fault_at NotUp (least schema.sites (is_down schema t))
-    ∷ fault_at InFlight (least schema.sites (λ from. is_short_of schema t field.0 site.0 from Lower || is_short_of schema t field.0 site.0 from Raise))
-    ∷ fault_at Unstated (least schema.sites (λ to. is_unstated schema t field.0 site.0 to Lower || is_unstated schema t field.0 site.0 to Raise))
+    ∷ fault_at InFlight (least schema.sites (λ from. is_short_of schema t field.0 site.0 from Lower
+    || is_short_of schema t field.0 site.0 from Raise))
+    ∷ fault_at Unstated (least schema.sites (λ to. is_unstated schema t field.0 site.0 to Lower
+    || is_unstated schema t field.0 site.0 to Raise))
     ∷ fault_if (is_tightened schema t field.0) Tightened
     ∷ fault_at Numbers (least schema.sites (has_no_number schema t site.0))
     ∷ fault_if (lies_outside interval target) (Outside interval.0 interval.1)

@@ -18,8 +18,10 @@ hindrances schema t site field =
     fault_if (nat_le schema.sites site.0) NoSite
     ∷ fault_if (nat_le (length schema.fields) field.0) NoField
     ∷ fault_at NotUp (least schema.sites (is_down schema t))
-    ∷ fault_at InFlight (least schema.sites (λ from. is_short_of schema t field.0 site.0 from Lower || is_short_of schema t field.0 site.0 from Raise))
-    ∷ fault_at Unstated (least schema.sites (λ to. is_unstated schema t field.0 site.0 to Lower || is_unstated schema t field.0 site.0 to Raise))
+    ∷ fault_at InFlight (least schema.sites (λ from. is_short_of schema t field.0 site.0 from Lower
+    || is_short_of schema t field.0 site.0 from Raise))
+    ∷ fault_at Unstated (least schema.sites (λ to. is_unstated schema t field.0 site.0 to Lower
+    || is_unstated schema t field.0 site.0 to Raise))
     ∷ fault_if (is_tightened schema t field.0) Tightened
     ∷ fault_at Numbers (least schema.sites (has_no_number schema t site.0))
     ∷ []

@@ -16,7 +16,8 @@ use Rattle.reaching_steps.specs.Reach.{fine, reach_steps, reach_fault}
 -- After these steps, site 0 has these taken for the target.
 abbrev pub Takes : List WorldStep → ℤ → List WorldStep → Type 0
 Takes steps target more =
-    (reach_fault halved_shelf (trace_by halved_shelf steps) (site 0) stock target ≡ None) × (reach_steps halved_shelf steps (site 0) stock target ≡ more)
+    (reach_fault halved_shelf (trace_by halved_shelf steps) (site 0) stock target ≡ None)
+    × (reach_steps halved_shelf steps (site 0) stock target ≡ more)
 
 -- After these steps, site 0 meets this fault.
 abbrev pub Meets : List WorldStep → ℤ → ReachFault → Type 0

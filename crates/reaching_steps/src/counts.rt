@@ -35,7 +35,8 @@ fn begun_after(count: u64, reply: Reply) -> u64
 /// One more entry is read: the epoch and the count after it.
 fn read_entry(epoch: u32, count: u64, entry: &Entry, site: SiteNo) -> (u32, u64)
     requires room { count < 18_446_744_073_709_551_615 }
-    ensures epoch { (schema : SchemaValue) (t : List Entry) → epoch ≡ epoch_of (fresh schema site.0) (own site.0 t) →
+    ensures epoch { (schema : SchemaValue) (t : List Entry)
+        → epoch ≡ epoch_of (fresh schema site.0) (own site.0 t) →
         result.0 ≡ epoch_of (fresh schema site.0) (own site.0 (entry.now ∷ t)) }
     ensures count { (t : List Entry) → count ≡ count_since is_begun_reply (own site.0 t) →
         result.1 ≡ count_since is_begun_reply (own site.0 (entry.now ∷ t)) }
@@ -50,9 +51,11 @@ fn read_entry(epoch: u32, count: u64, entry: &Entry, site: SiteNo) -> (u32, u64)
     )
 }
 
-/// The epoch of a site and the number of transactions begun in it, after a trace with the oldest entry first.
+/// The epoch of a site and the number of transactions begun in it, after a trace with the oldest
+/// entry first.
 pub(crate) fn numbers_at(trace: &[Entry], site: SiteNo) -> (u32, u64)
-    ensures epoch { (schema : SchemaValue) → result.0 ≡ epoch_of (fresh schema site.0) (own site.0 (reverse trace.now)) }
+    ensures epoch { (schema : SchemaValue) → result.0
+        ≡ epoch_of (fresh schema site.0) (own site.0 (reverse trace.now)) }
     ensures count { result.1 ≡ count_since is_begun_reply (own site.0 (reverse trace.now)) }
 {
     let mut epoch = 0;
@@ -77,7 +80,8 @@ fn up_after(up: bool, reply: Reply) -> bool
 
 /// One more entry is read: whether the site is up after it.
 fn read_up(up: bool, entry: &Entry, site: SiteNo) -> bool
-    ensures value { (schema : SchemaValue) (t : List Entry) → up ≡ is_up (fresh schema site.0) (own site.0 t) →
+    ensures value { (schema : SchemaValue) (t : List Entry)
+        → up ≡ is_up (fresh schema site.0) (own site.0 t) →
         result ≡ is_up (fresh schema site.0) (own site.0 (entry.now ∷ t)) }
 {
     if entry.site.0 != site.0 {
@@ -88,7 +92,8 @@ fn read_up(up: bool, entry: &Entry, site: SiteNo) -> bool
 
 /// Whether a site is up, after a trace with the oldest entry first.
 pub(crate) fn up_at(trace: &[Entry], site: SiteNo) -> bool
-    ensures value { (schema : SchemaValue) → result ≡ is_up (fresh schema site.0) (own site.0 (reverse trace.now)) }
+    ensures value { (schema : SchemaValue) → result
+        ≡ is_up (fresh schema site.0) (own site.0 (reverse trace.now)) }
 {
     let mut up = true;
     for entry in trace {

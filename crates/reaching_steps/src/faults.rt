@@ -48,7 +48,8 @@ fn is_short_of(
 ) -> Result<bool, AllocError>
     requires giver { from.0 < trial.now.schema.sites }
     requires receiver { to.0 < trial.now.schema.sites }
-    ensures value { IfOk result (λ short. short ≡ is_short_of trial.now.schema (trace_of trial.now) field.0 to.0 from.0 kind) }
+    ensures value { IfOk result (λ short. short ≡ is_short_of trial.now.schema
+        (trace_of trial.now) field.0 to.0 from.0 kind) }
 {
     let given = given_at(trial, from, to, field, kind)?;
     let accepted = accepted_at(trial, from, to, field, kind)?;
@@ -64,7 +65,8 @@ fn is_short_from(
 ) -> Result<bool, AllocError>
     requires giver { from.0 < trial.now.schema.sites }
     requires receiver { site.0 < trial.now.schema.sites }
-    ensures value { IfOk result (λ short. short ≡ is_short_from trial.now.schema (trace_of trial.now) site field from.0) }
+    ensures value { IfOk result (λ short. short ≡ is_short_from trial.now.schema
+        (trace_of trial.now) site field from.0) }
 {
     let lower = is_short_of(trial, field, site, from, Kind::Lower)?;
     let raise = is_short_of(trial, field, site, from, Kind::Raise)?;
@@ -80,7 +82,8 @@ fn first_short(
 ) -> Result<Option<u16>, AllocError>
     requires in_schema { site.0 < trial.now.schema.sites }
     requires all { sites ≡ trial.now.schema.sites }
-    ensures value { IfOk result (λ found. found ≡ least sites (is_short_from trial.now.schema (trace_of trial.now) site field)) }
+    ensures value { IfOk result (λ found. found ≡ least sites
+        (is_short_from trial.now.schema (trace_of trial.now) site field)) }
 {
     for from in 0..sites {
         let short = is_short_from(trial, site, field, SiteNo(from))?;
@@ -100,7 +103,8 @@ fn is_unstated(
     kind: Kind,
 ) -> Result<bool, AllocError>
     requires in_schema { from.0 < trial.now.schema.sites }
-    ensures value { IfOk result (λ untold. untold ≡ is_unstated trial.now.schema (trace_of trial.now) field.0 from.0 to.0 kind) }
+    ensures value { IfOk result (λ untold. untold ≡ is_unstated trial.now.schema
+        (trace_of trial.now) field.0 from.0 to.0 kind) }
 {
     let given = given_at(trial, from, to, field, kind)?;
     Ok(0 < given && number_told(trial, field, kind, from, to, given) == 0)
@@ -109,7 +113,8 @@ fn is_unstated(
 /// The same of either kind.
 fn is_untold_to(trial: &Trial, site: SiteNo, field: FieldNo, to: SiteNo) -> Result<bool, AllocError>
     requires in_schema { site.0 < trial.now.schema.sites }
-    ensures value { IfOk result (λ untold. untold ≡ is_untold_to trial.now.schema (trace_of trial.now) site field to.0) }
+    ensures value { IfOk result (λ untold. untold ≡ is_untold_to trial.now.schema
+        (trace_of trial.now) site field to.0) }
 {
     let lower = is_unstated(trial, field, site, to, Kind::Lower)?;
     let raise = is_unstated(trial, field, site, to, Kind::Raise)?;
@@ -124,7 +129,8 @@ fn first_untold(
     sites: u16,
 ) -> Result<Option<u16>, AllocError>
     requires in_schema { site.0 < trial.now.schema.sites }
-    ensures value { IfOk result (λ found. found ≡ least sites (is_untold_to trial.now.schema (trace_of trial.now) site field)) }
+    ensures value { IfOk result (λ found. found ≡ least sites
+        (is_untold_to trial.now.schema (trace_of trial.now) site field)) }
 {
     for to in 0..sites {
         let untold = is_untold_to(trial, site, field, SiteNo(to))?;
@@ -145,7 +151,8 @@ fn has_no_number(trial: &Trial, named: SiteNo, site: SiteNo) -> bool
 
 /// The first such site.
 fn first_full(trial: &Trial, named: SiteNo, sites: u16) -> Option<u16>
-    ensures value { result ≡ least sites (has_no_number trial.now.schema (trace_of trial.now) named.0) }
+    ensures value { result ≡ least sites (has_no_number trial.now.schema
+        (trace_of trial.now) named.0) }
 {
     for site in 0..sites {
         if has_no_number(trial, named, SiteNo(site)) {
@@ -175,7 +182,8 @@ fn told_outside(lo: i64, hi: i64, target: i64) -> Option<ReachFault>
 
 /// The low end of an interval.
 fn low_end(floor: i64, lower: u64) -> i64
-    requires near { (neg_ℤ (pos 1_000_000_000_000_000) ≤ℤ floor) × (floor ≤ℤ pos 1_000_000_000_000_000) }
+    requires near { (neg_ℤ (pos 1_000_000_000_000_000) ≤ℤ floor)
+        × (floor ≤ℤ pos 1_000_000_000_000_000) }
     requires small { lower ≤ max_change }
     ensures value { result ≡ floor +ℤ pos lower }
 {
@@ -184,7 +192,8 @@ fn low_end(floor: i64, lower: u64) -> i64
 
 /// The high end of an interval.
 fn high_end(ceiling: i64, raise: u64) -> i64
-    requires near { (neg_ℤ (pos 1_000_000_000_000_000) ≤ℤ ceiling) × (ceiling ≤ℤ pos 1_000_000_000_000_000) }
+    requires near { (neg_ℤ (pos 1_000_000_000_000_000) ≤ℤ ceiling)
+        × (ceiling ≤ℤ pos 1_000_000_000_000_000) }
     requires small { raise ≤ max_change }
     ensures value { result ≡ ceiling -ℤ pos raise }
 {
@@ -193,10 +202,15 @@ fn high_end(ceiling: i64, raise: u64) -> i64
 
 /// A value outside an interval.
 fn outside(floor: i64, ceiling: i64, lower: u64, raise: u64, target: i64) -> Option<ReachFault>
-    requires floor_near { (neg_ℤ (pos 1_000_000_000_000_000) ≤ℤ floor) × (floor ≤ℤ pos 1_000_000_000_000_000) }
-    requires ceiling_near { (neg_ℤ (pos 1_000_000_000_000_000) ≤ℤ ceiling) × (ceiling ≤ℤ pos 1_000_000_000_000_000) }
+    requires floor_near { (neg_ℤ (pos 1_000_000_000_000_000) ≤ℤ floor)
+        × (floor ≤ℤ pos 1_000_000_000_000_000) }
+    requires ceiling_near { (neg_ℤ (pos 1_000_000_000_000_000) ≤ℤ ceiling)
+        × (ceiling ≤ℤ pos 1_000_000_000_000_000) }
     requires small { (lower ≤ max_change) × (raise ≤ max_change) }
-    ensures value { result ≡ fault_if (lies_outside (floor +ℤ pos lower, ceiling -ℤ pos raise) target) (faults.Outside (floor +ℤ pos lower) (ceiling -ℤ pos raise)) }
+    ensures value { result ≡ fault_if (lies_outside (
+      floor +ℤ pos lower,
+      ceiling -ℤ pos raise,
+    ) target) (faults.Outside (floor +ℤ pos lower) (ceiling -ℤ pos raise)) }
 {
     told_outside(low_end(floor, lower), high_end(ceiling, raise), target)
 }
@@ -211,7 +225,8 @@ fn fault_outside(
 ) -> Result<Option<ReachFault>, AllocError>
     requires in_schema { site.0 < trial.now.schema.sites }
     requires known { field.0 < length trial.now.schema.fields }
-    ensures value { IfOk result (λ found. found ≡ first_fault (from_outside trial.now.schema (trace_of trial.now) site field target)) }
+    ensures value { IfOk result (λ found. found ≡ first_fault
+        (from_outside trial.now.schema (trace_of trial.now) site field target)) }
 {
     let lower = guarded_at(alloc, trial, site, field, Kind::Lower)?;
     let raise = guarded_at(alloc, trial, site, field, Kind::Raise)?;
@@ -229,7 +244,8 @@ fn fault_numbers(
 ) -> Result<Option<ReachFault>, AllocError>
     requires in_schema { site.0 < trial.now.schema.sites }
     requires known { field.0 < length trial.now.schema.fields }
-    ensures value { IfOk result (λ found. found ≡ first_fault (from_numbers trial.now.schema (trace_of trial.now) site field target)) }
+    ensures value { IfOk result (λ found. found ≡ first_fault
+        (from_numbers trial.now.schema (trace_of trial.now) site field target)) }
 {
     let sites = trial.world().schema().sites();
     let found = first_full(trial, site, sites);
@@ -245,7 +261,8 @@ fn fault_numbers(
 /// Whether a site has given up rights on a field for good.
 fn is_cut_at(trial: &Trial, field: FieldNo, site: SiteNo) -> Result<bool, AllocError>
     requires in_schema { site.0 < trial.now.schema.sites }
-    ensures value { IfOk result (λ cuts. cuts ≡ is_cut_at trial.now.schema (trace_of trial.now) field.0 site.0) }
+    ensures value { IfOk result (λ cuts. cuts ≡ is_cut_at trial.now.schema
+        (trace_of trial.now) field.0 site.0) }
 {
     let lower = has_cut(trial, site, field, Kind::Lower)?;
     let raise = has_cut(trial, site, field, Kind::Raise)?;
@@ -255,7 +272,8 @@ fn is_cut_at(trial: &Trial, field: FieldNo, site: SiteNo) -> Result<bool, AllocE
 /// Whether a bound of a field was tightened at one of the first sites.
 fn is_tightened(trial: &Trial, field: FieldNo, sites: u16) -> Result<bool, AllocError>
     requires all { sites ≡ trial.now.schema.sites }
-    ensures value { IfOk result (λ cuts. cuts ≡ is_tightened trial.now.schema (trace_of trial.now) field.0) }
+    ensures value { IfOk result (λ cuts. cuts ≡ is_tightened trial.now.schema
+        (trace_of trial.now) field.0) }
 {
     for site in 0..sites {
         let cuts = is_cut_at(trial, field, SiteNo(site))?;
@@ -276,7 +294,8 @@ fn fault_tightened(
 ) -> Result<Option<ReachFault>, AllocError>
     requires in_schema { site.0 < trial.now.schema.sites }
     requires known { field.0 < length trial.now.schema.fields }
-    ensures value { IfOk result (λ found. found ≡ first_fault (from_tightened trial.now.schema (trace_of trial.now) site field target)) }
+    ensures value { IfOk result (λ found. found ≡ first_fault
+        (from_tightened trial.now.schema (trace_of trial.now) site field target)) }
 {
     let tightened = is_tightened(trial, field, trial.world().schema().sites())?;
     if tightened {
@@ -295,7 +314,8 @@ fn fault_unstated(
 ) -> Result<Option<ReachFault>, AllocError>
     requires in_schema { site.0 < trial.now.schema.sites }
     requires known { field.0 < length trial.now.schema.fields }
-    ensures value { IfOk result (λ found. found ≡ first_fault (from_unstated trial.now.schema (trace_of trial.now) site field target)) }
+    ensures value { IfOk result (λ found. found ≡ first_fault
+        (from_unstated trial.now.schema (trace_of trial.now) site field target)) }
 {
     let sites = trial.world().schema().sites();
     let found = first_untold(trial, site, field, sites)?;
@@ -318,7 +338,8 @@ fn fault_flight(
 ) -> Result<Option<ReachFault>, AllocError>
     requires in_schema { site.0 < trial.now.schema.sites }
     requires known { field.0 < length trial.now.schema.fields }
-    ensures value { IfOk result (λ found. found ≡ first_fault (from_flight trial.now.schema (trace_of trial.now) site field target)) }
+    ensures value { IfOk result (λ found. found ≡ first_fault
+        (from_flight trial.now.schema (trace_of trial.now) site field target)) }
 {
     let sites = trial.world().schema().sites();
     let found = first_short(trial, site, field, sites)?;
@@ -341,7 +362,8 @@ fn fault_up(
 ) -> Result<Option<ReachFault>, AllocError>
     requires in_schema { site.0 < trial.now.schema.sites }
     requires known { field.0 < length trial.now.schema.fields }
-    ensures value { IfOk result (λ found. found ≡ first_fault (from_up trial.now.schema (trace_of trial.now) site field target)) }
+    ensures value { IfOk result (λ found. found ≡ first_fault
+        (from_up trial.now.schema (trace_of trial.now) site field target)) }
 {
     let sites = trial.world().schema().sites();
     let found = first_down(trial, sites);
@@ -362,7 +384,8 @@ pub(crate) fn fault_of(
     field: FieldNo,
     target: i64,
 ) -> Result<Option<ReachFault>, AllocError>
-    ensures value { IfOk result (λ found. found ≡ reach_fault trial.now.schema (trace_of trial.now) site field target) }
+    ensures value { IfOk result (λ found. found ≡ reach_fault trial.now.schema
+        (trace_of trial.now) site field target) }
 {
     if site.0 >= trial.world().schema().sites() {
         return Ok(Some(ReachFault::NoSite));

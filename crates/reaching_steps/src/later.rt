@@ -1,4 +1,5 @@
-//! What is known of the transactions of a site from what took effect later, for a walk from the newest effect on.
+//! What is known of the transactions of a site from what took effect later, for a walk from the
+//! newest effect on.
 
 ghost use Rattle.std.specs.Prelude.{◌≡◌, ◌≤◌, ◌<◌, [], ◌∷◌, ◌++◌, ◌+◌, Bool, false, not, ◌&&◌, if◌then◌else◌, IfSome, IfOk, OnOk, List, map, filter};
 ghost use Rattle.field_bounds.specs.Schema.{SchemaValue};
@@ -31,8 +32,9 @@ fn forget(ids: &mut Vec<TxnId>, id: TxnId)
     ids.retain(|one| !(one.epoch == id.epoch && one.number == id.number));
 }
 
-/// What took effect later: the transactions that were committed, those that were ended, and whether the site stopped.
-/// One that begins is forgotten, so that no more stand here than may be open at once.
+/// What took effect later: the transactions that were committed, those that were ended, and whether
+/// the site stopped. One that begins is forgotten, so that no more stand here than may be open at
+/// once.
 #[derive(Drop)]
 struct Later {
     committed: Vec<TxnId>,
@@ -43,7 +45,8 @@ struct Later {
 /// One more effect is passed, from the newest on.
 fn pass(later: &mut Later, effect: &Effect) -> Result<(), AllocError>
     ensures passes { OnOk result (Passes effect.now
-        later.old.committed.items later.old.ended.items later.old.stopped later.new.committed.items later.new.ended.items later.new.stopped) }
+        later.old.committed.items later.old.ended.items later.old.stopped later.new.committed.items
+        later.new.ended.items later.new.stopped) }
 {
     match *effect {
         Effect::Begins { txn } => {
@@ -87,7 +90,8 @@ fn pass(later: &mut Later, effect: &Effect) -> Result<(), AllocError>
 /// The escrow that an effect grants on a field, of a kind: to which transaction, and its size.
 fn grants_on(effect: &Effect, field: FieldNo, kind: Kind) -> Option<(TxnId, u64)>
     ensures value { (p : TxnId → Bool) (es : List Effect) →
-        granted_sizes p field.0 kind (effect.now ∷ es) ≡ weight p result + granted_sizes p field.0 kind es }
+        granted_sizes p field.0 kind (effect.now ∷ es) ≡ weight p result
+        + granted_sizes p field.0 kind es }
     ensures still { IfSome result (λ found. IsStill effect.now found.0) }
     ensures bound { IfSome result (λ found. found.1 ≤ 9_223_372_036_854_775_808) }
 {
@@ -124,8 +128,10 @@ fn neither(one: bool, other: bool) -> bool
 
 /// What an effect adds to the settled and to the held escrows.
 fn weigh(later: &Later, effect: &Effect, field: FieldNo, kind: Kind) -> (u64, u64)
-    ensures weighs { Weighs effect.now later.now.committed.items later.now.ended.items later.now.stopped field.0 kind result.0 result.1 }
-    ensures bound { (result.0 ≤ 9_223_372_036_854_775_808) × (result.1 ≤ 9_223_372_036_854_775_808) }
+    ensures weighs { Weighs effect.now later.now.committed.items later.now.ended.items
+        later.now.stopped field.0 kind result.0 result.1 }
+    ensures bound { (result.0 ≤ 9_223_372_036_854_775_808)
+        × (result.1 ≤ 9_223_372_036_854_775_808) }
 {
     match grants_on(effect, field, kind) {
         None => (0, 0),
@@ -136,18 +142,22 @@ fn weigh(later: &Later, effect: &Effect, field: FieldNo, kind: Kind) -> (u64, u6
     }
 }
 
-/// The sizes of the committed escrows of a kind on a field, and of those that open transactions hold.
+/// The sizes of the committed escrows of a kind on a field, and of those that open transactions
+/// hold.
 pub(crate) fn sums_of(
     alloc: Global,
     told: &[Effect],
     field: FieldNo,
     kind: Kind,
 ) -> Result<(u128, u128), AllocError>
-    ensures settled { IfOk result (λ sums. (schema : SchemaValue) (base : Base) → IsLawful schema base told.now →
+    ensures settled { IfOk result (λ sums. (schema : SchemaValue) (base : Base)
+        → IsLawful schema base told.now →
         sums.0 ≡ granted_sizes (λ id. is_committed id told.now) field.0 kind told.now) }
-    ensures held { IfOk result (λ sums. (schema : SchemaValue) (base : Base) → IsLawful schema base told.now →
+    ensures held { IfOk result (λ sums. (schema : SchemaValue) (base : Base)
+        → IsLawful schema base told.now →
         sums.1 ≡ held_rights field.0 kind told.now) }
-    ensures few { IfOk result (λ sums. sums.0 < 170_141_183_460_469_231_731_687_303_715_884_105_728) }
+    ensures few { IfOk result
+        (λ sums. sums.0 < 170_141_183_460_469_231_731_687_303_715_884_105_728) }
 {
     let mut later = Later {
         committed: Vec::new(alloc),
@@ -167,7 +177,8 @@ pub(crate) fn sums_of(
 
 /// The transaction that an effect begins.
 fn begun_by(effect: &Effect) -> Option<TxnId>
-    ensures value { (es : List Effect) → begun_txns (effect.now ∷ es) ≡ with_txn result (begun_txns es) }
+    ensures value { (es : List Effect) → begun_txns (effect.now ∷ es)
+        ≡ with_txn result (begun_txns es) }
     ensures fresh { IfSome result (λ txn. Opens effect.now txn) }
 {
     match *effect {
@@ -179,7 +190,8 @@ fn begun_by(effect: &Effect) -> Option<TxnId>
 /// Adds a transaction that didn't end later.
 fn note_open(ids: &mut Vec<TxnId>, later: &Later, begun: Option<TxnId>) -> Result<(), AllocError>
     ensures items { OnOk result (ids.new.items ≡ ids.old.items
-        ++ filter (λ id. not (has later.now.ended.items id) && not later.now.stopped) (with_txn begun [])) }
+        ++ filter (λ id. not (has later.now.ended.items id) && not later.now.stopped)
+        (with_txn begun [])) }
 {
     if let Some(id) = begun {
         if neither(has(&later.ended, id), later.stopped) {
@@ -191,7 +203,8 @@ fn note_open(ids: &mut Vec<TxnId>, later: &Later, begun: Option<TxnId>) -> Resul
 
 /// The open transactions, the newest first.
 pub(crate) fn open_of(alloc: Global, told: &[Effect]) -> Result<Vec<TxnId>, AllocError>
-    ensures value { IfOk result (λ ids. (schema : SchemaValue) (base : Base) → IsLawful schema base told.now →
+    ensures value { IfOk result (λ ids. (schema : SchemaValue) (base : Base)
+        → IsLawful schema base told.now →
         ids.items ≡ open_txns told.now) }
 {
     let mut later = Later {

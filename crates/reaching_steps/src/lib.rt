@@ -1,5 +1,5 @@
-//! The interval that a site reads can't be narrower: each value in it is one that the committed value
-//! can come to by steps at other sites alone, and here are the steps.
+//! The interval that a site reads can't be narrower: each value in it is one that the committed
+//! value can come to by steps at other sites alone, and here are the steps.
 #![tactic(auto)]
 
 mod counts;
@@ -12,8 +12,8 @@ mod readers;
 mod rights;
 mod rows;
 mod shares;
-mod steps;
 mod site_effects;
+mod steps;
 mod totals;
 mod trial;
 

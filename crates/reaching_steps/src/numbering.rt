@@ -17,8 +17,8 @@ fn same_statement(one: &Statement, other: &Statement) -> bool
         && one.total == other.total
 }
 
-/// The number of the first such statement, counted from 1 over statements that have the oldest first, and 0 where there
-/// is none.
+/// The number of the first such statement, counted from 1 over statements that have the oldest
+/// first, and 0 where there is none.
 pub(crate) fn number_of(told: &[Statement], statement: &Statement) -> u64
     ensures value { result ≡ number_of statement.now (reverse told.now) }
 {

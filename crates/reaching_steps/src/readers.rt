@@ -21,7 +21,8 @@ use std::alloc::{AllocError, Global};
 /// The open transactions of a site, in order of begin.
 pub(crate) fn open_at(alloc: Global, trial: &Trial, site: SiteNo) -> Result<Vec<TxnId>, AllocError>
     requires in_schema { site.0 < trial.now.schema.sites }
-    ensures found { IfOk result (λ ids. ids.items ≡ reverse (open_txns (at_site trial.now.schema (trace_of trial.now) site.0))) }
+    ensures found { IfOk result (λ ids. ids.items ≡ reverse
+        (open_txns (at_site trial.now.schema (trace_of trial.now) site.0))) }
 {
     let told = trial.effects_at(site)?;
     let mut ids = open_of(alloc, told)?;
@@ -29,7 +30,8 @@ pub(crate) fn open_at(alloc: Global, trial: &Trial, site: SiteNo) -> Result<Vec<
     Ok(ids)
 }
 
-/// The number of the statement to be delivered, 0 where it isn't told yet; None where nothing is to be delivered.
+/// The number of the statement to be delivered, 0 where it isn't told yet; None where nothing is to
+/// be delivered.
 pub(crate) fn number_wanted(
     trial: &Trial,
     named: SiteNo,
@@ -40,8 +42,10 @@ pub(crate) fn number_wanted(
 ) -> Result<Option<u64>, AllocError>
     requires giver { from.0 < trial.now.schema.sites }
     requires receiver { to.0 < trial.now.schema.sites }
-    ensures value { IfOk result (λ found. found ≡ (if is_wanting trial.now.schema named.0 field.0 from.0 to.0 kind (trace_of trial.now)
-        then Some (number_of (telling trial.now.schema (trace_of trial.now) field.0 kind from.0 to.0) (statements_issued (trace_of trial.now)))
+    ensures value { IfOk result (λ found. found ≡ (if is_wanting trial.now.schema named.0 field.0
+        from.0 to.0 kind (trace_of trial.now)
+        then Some (number_of (telling trial.now.schema
+        (trace_of trial.now) field.0 kind from.0 to.0) (statements_issued (trace_of trial.now)))
         else None)) }
 {
     if from.0 == to.0 || to.0 == named.0 {
@@ -64,7 +68,13 @@ pub(crate) fn number_told(
     to: SiteNo,
     total: u64,
 ) -> u64
-    ensures value { result ≡ number_of (record { from = from; to = to; field = field; kind = kind; total = total }) (statements_issued (trace_of trial.now)) }
+    ensures value { result ≡ number_of (record {
+      from = from;
+      to = to;
+      field = field;
+      kind = kind;
+      total = total;
+    }) (statements_issued (trace_of trial.now)) }
 {
     let statement = Statement {
         from,
@@ -132,9 +142,12 @@ pub(crate) fn change_at(
     site: SiteNo,
 ) -> Result<Option<i64>, AllocError>
     requires in_schema { site.0 < trial.now.schema.sites }
-    ensures value { IfOk result (λ found. found ≡ change_of (towards (target -ℤ committed_value trial.now.schema (trace_of trial.now) field.0)
-        (share (fresh trial.now.schema site.0) field.0 kinds.Lower (at_site trial.now.schema (trace_of trial.now) site.0))
-        (share (fresh trial.now.schema site.0) field.0 kinds.Raise (at_site trial.now.schema (trace_of trial.now) site.0)))) }
+    ensures value { IfOk result (λ found. found ≡ change_of
+        (towards (target -ℤ committed_value trial.now.schema (trace_of trial.now) field.0)
+        (share (fresh trial.now.schema site.0) field.0 kinds.Lower
+        (at_site trial.now.schema (trace_of trial.now) site.0))
+        (share (fresh trial.now.schema site.0) field.0 kinds.Raise
+        (at_site trial.now.schema (trace_of trial.now) site.0)))) }
 {
     let now = committed_at(alloc, trial, field)?;
     let (_, lower) = rights_at(alloc, trial, site, field, Kind::Lower)?;
@@ -168,7 +181,8 @@ pub(crate) fn is_at(
     field: FieldNo,
     target: i64,
 ) -> Result<bool, AllocError>
-    ensures value { IfOk result (λ there. there ≡ same_value (committed_value trial.now.schema (trace_of trial.now) field.0) target) }
+    ensures value { IfOk result (λ there. there ≡ same_value
+        (committed_value trial.now.schema (trace_of trial.now) field.0) target) }
 {
     Ok(same_value(committed_at(alloc, trial, field)?, target))
 }

@@ -34,8 +34,10 @@ pub(crate) fn rights_of(
 ) -> Result<(u128, u128), AllocError>
     requires in_schema { site.0 < schema.now.sites }
     requires lawful { IsLawful schema.now (fresh schema.now site.0) told.now }
-    ensures own { IfOk result (λ rights. rights.0 ≡ own_rights (fresh schema.now site.0) field.0 kind told.now) }
-    ensures free { IfOk result (λ rights. rights.1 ≡ share (fresh schema.now site.0) field.0 kind told.now) }
+    ensures own { IfOk result (λ rights. rights.0 ≡ own_rights
+        (fresh schema.now site.0) field.0 kind told.now) }
+    ensures free { IfOk result (λ rights. rights.1
+        ≡ share (fresh schema.now site.0) field.0 kind told.now) }
 {
     let (settled, held) = sums_of(alloc, told, field, kind)?;
     let (turned, _) = sums_of(alloc, told, field, kind.other())?;

@@ -35,8 +35,12 @@ pub(crate) fn rights_at(
     kind: Kind,
 ) -> Result<(u64, u64), AllocError>
     requires in_schema { site.0 < trial.now.schema.sites }
-    ensures own { IfOk result (λ rights. rights.0 ≡ own_rights (fresh trial.now.schema site.0) field.0 kind (at_site trial.now.schema (trace_of trial.now) site.0)) }
-    ensures free { IfOk result (λ rights. rights.1 ≡ share (fresh trial.now.schema site.0) field.0 kind (at_site trial.now.schema (trace_of trial.now) site.0)) }
+    ensures own { IfOk result (λ rights. rights.0 ≡ own_rights
+        (fresh trial.now.schema site.0) field.0 kind
+        (at_site trial.now.schema (trace_of trial.now) site.0)) }
+    ensures free { IfOk result (λ rights. rights.1
+        ≡ share (fresh trial.now.schema site.0) field.0 kind
+        (at_site trial.now.schema (trace_of trial.now) site.0)) }
     ensures small { IfOk result (λ rights. (rights.0 ≤ max_change) × (rights.1 ≤ max_change)) }
 {
     let told = trial.effects_at(site)?;
@@ -53,7 +57,8 @@ pub(crate) fn given_at(
     kind: Kind,
 ) -> Result<u64, AllocError>
     requires in_schema { from.0 < trial.now.schema.sites }
-    ensures value { IfOk result (λ total. total ≡ given_between trial.now.schema (trace_of trial.now) field.0 kind from.0 to.0) }
+    ensures value { IfOk result (λ total. total ≡ given_between trial.now.schema
+        (trace_of trial.now) field.0 kind from.0 to.0) }
 {
     let told = trial.effects_at(from)?;
     let total = gifts_in(told, Receivers::OneSite(to), field, kind);
@@ -69,7 +74,8 @@ pub(crate) fn accepted_at(
     kind: Kind,
 ) -> Result<u64, AllocError>
     requires in_schema { to.0 < trial.now.schema.sites }
-    ensures value { IfOk result (λ total. total ≡ accepted_between trial.now.schema (trace_of trial.now) field.0 kind from.0 to.0) }
+    ensures value { IfOk result (λ total. total ≡ accepted_between trial.now.schema
+        (trace_of trial.now) field.0 kind from.0 to.0) }
 {
     let told = trial.effects_at(to)?;
     Ok(accepted_in(told, from, field, kind))
@@ -96,9 +102,14 @@ fn moved_at(
 ) -> Result<(u128, u128), AllocError>
     requires in_schema { site.0 < trial.now.schema.sites }
     ensures value { IfOk result (λ moved.
-        moved.0 + granted_sizes (λ id. is_committed id (at_site trial.now.schema (trace_of trial.now) site.0)) field.0 kinds.Lower (at_site trial.now.schema (trace_of trial.now) site.0)
-        ≡ moved.1 + granted_sizes (λ id. is_committed id (at_site trial.now.schema (trace_of trial.now) site.0)) field.0 kinds.Raise (at_site trial.now.schema (trace_of trial.now) site.0)) }
-    ensures near { IfOk result (λ moved. (moved.0 ≤ 100_000_000_000_000_000_000) × (moved.1 ≤ 100_000_000_000_000_000_000)) }
+        moved.0 + granted_sizes (λ id. is_committed id
+        (at_site trial.now.schema (trace_of trial.now) site.0)) field.0 kinds.Lower
+        (at_site trial.now.schema (trace_of trial.now) site.0)
+        ≡ moved.1 + granted_sizes (λ id. is_committed id
+        (at_site trial.now.schema (trace_of trial.now) site.0)) field.0 kinds.Raise
+        (at_site trial.now.schema (trace_of trial.now) site.0)) }
+    ensures near { IfOk result (λ moved. (moved.0 ≤ 100_000_000_000_000_000_000)
+        × (moved.1 ≤ 100_000_000_000_000_000_000)) }
 {
     let told = trial.effects_at(site)?;
     let (raised, _) = sums_of(alloc, told, field, Kind::Raise)?;
@@ -108,8 +119,10 @@ fn moved_at(
 
 /// A value, raised and lowered.
 fn moved_by(value: i64, up: u128, down: u128) -> i64
-    requires few { (up < 1_000_000_000_000_000_000_000_000_000_000) × (down < 1_000_000_000_000_000_000_000_000_000_000) }
-    requires near { (neg_ℤ (pos 1_000_000_000_000_000) ≤ℤ (value +ℤ (pos up -ℤ pos down))) × ((value +ℤ (pos up -ℤ pos down)) ≤ℤ pos 1_000_000_000_000_000) }
+    requires few { (up < 1_000_000_000_000_000_000_000_000_000_000)
+        × (down < 1_000_000_000_000_000_000_000_000_000_000) }
+    requires near { (neg_ℤ (pos 1_000_000_000_000_000) ≤ℤ (value +ℤ (pos up -ℤ pos down)))
+        × ((value +ℤ (pos up -ℤ pos down)) ≤ℤ pos 1_000_000_000_000_000) }
     ensures value { result ≡ value +ℤ (pos up -ℤ pos down) }
 {
     (i128::from(value) + (up as i128 - down as i128)) as i64
@@ -117,8 +130,10 @@ fn moved_by(value: i64, up: u128, down: u128) -> i64
 
 /// The committed value of a field, by the trace.
 pub(crate) fn committed_at(alloc: Global, trial: &Trial, field: FieldNo) -> Result<i64, AllocError>
-    ensures value { IfOk result (λ value. value ≡ committed_value trial.now.schema (trace_of trial.now) field.0) }
-    ensures near { IfOk result (λ value. (neg_ℤ (pos 1_000_000_000_000_000) ≤ℤ value) × (value ≤ℤ pos 1_000_000_000_000_000)) }
+    ensures value { IfOk result (λ value. value ≡ committed_value trial.now.schema
+        (trace_of trial.now) field.0) }
+    ensures near { IfOk result (λ value. (neg_ℤ (pos 1_000_000_000_000_000) ≤ℤ value)
+        × (value ≤ℤ pos 1_000_000_000_000_000)) }
 {
     let world = trial.world();
     let sites = world.schema().sites();
@@ -141,7 +156,9 @@ pub(crate) fn has_cut(
     kind: Kind,
 ) -> Result<bool, AllocError>
     requires in_schema { site.0 < trial.now.schema.sites }
-    ensures value { IfOk result (λ cuts. cuts ≡ nat_lt 0 (cut (fresh trial.now.schema site.0) field.0 kind (at_site trial.now.schema (trace_of trial.now) site.0))) }
+    ensures value { IfOk result (λ cuts. cuts ≡ nat_lt 0
+        (cut (fresh trial.now.schema site.0) field.0 kind
+        (at_site trial.now.schema (trace_of trial.now) site.0))) }
 {
     let told = trial.effects_at(site)?;
     Ok(0 < gifts_in(told, Receivers::ForGood, field, kind))
@@ -157,8 +174,10 @@ pub(crate) fn guarded_at(
     kind: Kind,
 ) -> Result<u64, AllocError>
     requires in_schema { site.0 < trial.now.schema.sites }
-    ensures value { IfOk result (λ rights. rights ≡ cut (fresh trial.now.schema site.0) field.0 kind (at_site trial.now.schema (trace_of trial.now) site.0)
-        + own_rights (fresh trial.now.schema site.0) field.0 kind (at_site trial.now.schema (trace_of trial.now) site.0)) }
+    ensures value { IfOk result (λ rights. rights ≡ cut (fresh trial.now.schema site.0) field.0 kind
+        (at_site trial.now.schema (trace_of trial.now) site.0)
+        + own_rights (fresh trial.now.schema site.0) field.0 kind
+        (at_site trial.now.schema (trace_of trial.now) site.0)) }
     ensures small { IfOk result (λ rights. rights ≤ max_change) }
 {
     let (own, _) = rights_at(alloc, trial, site, field, kind)?;

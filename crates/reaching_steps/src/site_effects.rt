@@ -28,7 +28,8 @@ fn is_unsure(reply: Reply) -> bool
 
 /// Whether a restart of the site found that what was in doubt is kept.
 fn found_at(entry: &Entry, site: SiteNo) -> Option<bool>
-    ensures value { (later : List Entry) → doubt_kept_in site.0 (entry.now ∷ later) ≡ unwrap_or result (doubt_kept_in site.0 later) }
+    ensures value { (later : List Entry) → doubt_kept_in site.0 (entry.now ∷ later)
+        ≡ unwrap_or result (doubt_kept_in site.0 later) }
 {
     if entry.site.0 != site.0 {
         return None;
@@ -90,7 +91,8 @@ fn spared_in_doubt(
     requires in_schema { site.0 < schema.now.sites }
     requires lawful { IsLawful schema.now (fresh schema.now site.0) (reverse told.old.items) }
     ensures value { IfOk result (λ amount. is_unsure entry.now.reply ≡ true →
-        amount ≡ spared_for (fresh schema.now site.0) (reverse told.old.items) (wanted_by entry.now.command)) }
+        amount ≡ spared_for (fresh schema.now site.0) (reverse told.old.items)
+        (wanted_by entry.now.command)) }
     ensures same { OnOk result (told.new.items ≡ told.old.items) }
 {
     if !is_unsure(entry.reply) {
@@ -107,7 +109,8 @@ fn spared_in_doubt(
 
 /// What a command with its reply does where it takes effect; a spare in doubt has spared so much.
 fn effect_of(command: Command, reply: Reply, amount: u64) -> Option<Effect>
-    ensures value { (base : Base) (es : List Effect) → (is_unsure reply ≡ true → amount ≡ spared_for base es (wanted_by command)) →
+    ensures value { (base : Base) (es : List Effect)
+        → (is_unsure reply ≡ true → amount ≡ spared_for base es (wanted_by command)) →
         result ≡ effect_of base es command reply }
 {
     match command {
@@ -219,7 +222,8 @@ fn read_own(
     requires in_schema { site.0 < schema.now.sites }
     requires lawful { IsLawful schema.now (fresh schema.now site.0) (reverse told.old.items) }
     ensures read { OnOk result (reverse told.new.items
-        ≡ after (fresh schema.now site.0) (doubt_kept_in site.0 later.now) entry.now.command entry.now.reply (reverse told.old.items)) }
+        ≡ after (fresh schema.now site.0) (doubt_kept_in site.0 later.now) entry.now.command
+        entry.now.reply (reverse told.old.items)) }
 {
     if !counts(entry, later, site) {
         return Ok(());
@@ -245,7 +249,8 @@ fn read_entry(
 ) -> Result<(), AllocError>
     requires in_schema { site.0 < schema.now.sites }
     requires lawful { IsLawful schema.now (fresh schema.now site.0) (reverse told.old.items) }
-    ensures read { OnOk result (Reads schema.now site.0 told.old.items entry.now later.now told.new.items) }
+    ensures read { OnOk result (Reads schema.now site.0 told.old.items entry.now later.now
+        told.new.items) }
 {
     if entry.site.0 != site.0 {
         return Ok(());
@@ -257,7 +262,8 @@ fn read_entry(
 /// reading the trace, and, for each spare in doubt that was kept, what took effect before it.
 pub(crate) fn told_at(alloc: Global, world: &World, site: SiteNo) -> Result<Vec<Effect>, AllocError>
     requires in_schema { site.0 < world.now.schema.sites }
-    ensures value { IfOk result (λ told. told.items ≡ at_site world.now.schema (trace_of world.now) site.0) }
+    ensures value { IfOk result (λ told. told.items
+        ≡ at_site world.now.schema (trace_of world.now) site.0) }
 {
     let schema = world.schema();
     let trace = world.trace();

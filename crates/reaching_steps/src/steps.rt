@@ -24,7 +24,8 @@ fn take(
     step: WorldStep,
 ) -> Result<(), AllocError>
     requires fits { StepFits trial.old.schema step }
-    ensures grew { OnOk result (Grew trial.old taken.old.items (step ∷ []) trial.new taken.new.items) }
+    ensures grew { OnOk result (Grew trial.old taken.old.items
+        (step ∷ []) trial.new taken.new.items) }
 {
     trial.step(alloc, &step)?;
     taken.push(step)?;
@@ -39,8 +40,10 @@ fn ask(
     site: SiteNo,
     command: Command,
 ) -> Result<(), AllocError>
-    requires fits { StepFits trial.old.schema (Rattle.reaching_steps.specs.Reach.fine site.0 command) }
-    ensures grew { OnOk result (Grew trial.old taken.old.items (Rattle.reaching_steps.specs.Reach.fine site.0 command ∷ []) trial.new taken.new.items) }
+    requires fits { StepFits trial.old.schema (Rattle.reaching_steps.specs.Reach.fine site.0
+        command) }
+    ensures grew { OnOk result (Grew trial.old taken.old.items
+        (Rattle.reaching_steps.specs.Reach.fine site.0 command ∷ []) trial.new taken.new.items) }
 {
     take(
         alloc,
@@ -63,7 +66,8 @@ fn abort_open(
     site: SiteNo,
 ) -> Result<(), AllocError>
     requires in_schema { site.0 < trial.old.schema.sites }
-    ensures grew { OnOk result (Grew trial.old taken.old.items (aborts trial.old.schema named.0 site.0 (trace_of trial.old)) trial.new taken.new.items) }
+    ensures grew { OnOk result (Grew trial.old taken.old.items
+        (aborts trial.old.schema named.0 site.0 (trace_of trial.old)) trial.new taken.new.items) }
 {
     if site.0 == named.0 {
         return Ok(());
@@ -89,7 +93,8 @@ fn tell_again(
     requires giver { from.0 < trial.old.schema.sites }
     requires receiver { to.0 < trial.old.schema.sites }
     ensures grew { OnOk result (Grew trial.old taken.old.items
-        (restates trial.old.schema named.0 field.0 from.0 to.0 kind (trace_of trial.old)) trial.new taken.new.items) }
+        (restates trial.old.schema named.0 field.0 from.0 to.0 kind (trace_of trial.old)) trial.new
+        taken.new.items) }
 {
     let wanted = number_wanted(trial, named, field, from, to, kind)?;
     match wanted {
@@ -124,7 +129,8 @@ fn deliver(
     requires giver { from.0 < trial.old.schema.sites }
     requires receiver { to.0 < trial.old.schema.sites }
     ensures grew { OnOk result (Grew trial.old taken.old.items
-        (delivers trial.old.schema named.0 field.0 from.0 to.0 kind (trace_of trial.old)) trial.new taken.new.items) }
+        (delivers trial.old.schema named.0 field.0 from.0 to.0 kind (trace_of trial.old)) trial.new
+        taken.new.items) }
 {
     let wanted = number_wanted(trial, named, field, from, to, kind)?;
     match wanted {
@@ -156,7 +162,8 @@ fn pass_on(
     requires receiver { to.0 < trial.old.schema.sites }
     ensures grew { OnOk result (Grew trial.old taken.old.items
         (steps_of_tasks trial.old.schema trial.old.steps
-        (restates trial.old.schema named.0 field.0 from.0 to.0 kind ∷ delivers trial.old.schema named.0 field.0 from.0 to.0 kind ∷ []))
+        (restates trial.old.schema named.0 field.0 from.0 to.0 kind
+        ∷ delivers trial.old.schema named.0 field.0 from.0 to.0 kind ∷ []))
         trial.new taken.new.items) }
 {
     tell_again(alloc, trial, taken, named, field, from, to, kind)?;
@@ -175,7 +182,9 @@ fn move_field(
     site: SiteNo,
 ) -> Result<(), AllocError>
     requires in_schema { site.0 < trial.old.schema.sites }
-    ensures grew { OnOk result (Grew trial.old taken.old.items (moves trial.old.schema named.0 field.0 target site.0 (trace_of trial.old)) trial.new taken.new.items) }
+    ensures grew { OnOk result (Grew trial.old taken.old.items
+        (moves trial.old.schema named.0 field.0 target site.0 (trace_of trial.old)) trial.new
+        taken.new.items) }
 {
     if site.0 == named.0 {
         return Ok(());
@@ -208,7 +217,9 @@ fn abort_all(
 ) -> Result<(), AllocError>
     requires all { sites ≡ trial.old.schema.sites }
     ensures grew { OnOk result (Grew trial.old taken.old.items
-        (steps_of_tasks trial.old.schema trial.old.steps (over_sites sites (λ s. aborts trial.old.schema named.0 s ∷ []))) trial.new taken.new.items) }
+        (steps_of_tasks trial.old.schema trial.old.steps
+        (over_sites sites (λ s. aborts trial.old.schema named.0 s ∷ []))) trial.new
+        taken.new.items) }
 {
     for s in 0..sites {
         abort_open(alloc, trial, taken, named, SiteNo(s))?;
@@ -229,7 +240,9 @@ fn pass_from(
     requires in_schema { from.0 < trial.old.schema.sites }
     requires all { sites ≡ trial.old.schema.sites }
     ensures grew { OnOk result (Grew trial.old taken.old.items
-        (steps_of_tasks trial.old.schema trial.old.steps (over_sites sites (λ to. passes_on trial.old.schema named.0 field.0 from.0 to))) trial.new taken.new.items) }
+        (steps_of_tasks trial.old.schema trial.old.steps
+        (over_sites sites (λ to. passes_on trial.old.schema named.0 field.0 from.0 to)))
+        trial.new taken.new.items) }
 {
     for to in 0..sites {
         pass_on(
@@ -267,7 +280,10 @@ fn pass_all(
 ) -> Result<(), AllocError>
     requires all { sites ≡ trial.old.schema.sites }
     ensures grew { OnOk result (Grew trial.old taken.old.items
-        (steps_of_tasks trial.old.schema trial.old.steps (over_sites sites (λ from. over_sites sites (λ to. passes_on trial.old.schema named.0 field.0 from to)))) trial.new taken.new.items) }
+        (steps_of_tasks trial.old.schema trial.old.steps
+        (over_sites sites (λ from. over_sites sites
+        (λ to. passes_on trial.old.schema named.0 field.0 from to)))) trial.new
+        taken.new.items) }
 {
     for from in 0..sites {
         pass_from(alloc, trial, taken, named, field, sites, SiteNo(from))?;
@@ -287,7 +303,8 @@ fn move_all(
 ) -> Result<(), AllocError>
     requires all { sites ≡ trial.old.schema.sites }
     ensures grew { OnOk result (Grew trial.old taken.old.items
-        (steps_of_tasks trial.old.schema trial.old.steps (move_tasks trial.old.schema named.0 field.0 target sites)) trial.new taken.new.items) }
+        (steps_of_tasks trial.old.schema trial.old.steps
+        (move_tasks trial.old.schema named.0 field.0 target sites)) trial.new taken.new.items) }
 {
     for s in 0..sites {
         move_field(alloc, trial, taken, named, field, target, SiteNo(s))?;
@@ -305,7 +322,8 @@ fn plan(
     sites: u16,
 ) -> Result<Vec<WorldStep>, AllocError>
     requires all { sites ≡ trial.old.schema.sites }
-    ensures steps { IfOk result (λ taken. taken.items ≡ reach_steps trial.old.schema trial.old.steps named field target) }
+    ensures steps { IfOk result (λ taken. taken.items
+        ≡ reach_steps trial.old.schema trial.old.steps named field target) }
 {
     let mut taken = Vec::new(alloc);
     let there = is_at(alloc, trial, field, target)?;
@@ -328,7 +346,8 @@ fn plan_clear(
 ) -> Result<Vec<WorldStep>, AllocError>
     requires fit { All (StepFits trial.old.schema) trial.old.steps }
     requires clear { reach_fault trial.old.schema (trace_of trial.old) named field target ≡ None }
-    ensures steps { IfOk result (λ taken. taken.items ≡ reach_steps trial.old.schema trial.old.steps named field target) }
+    ensures steps { IfOk result (λ taken. taken.items
+        ≡ reach_steps trial.old.schema trial.old.steps named field target) }
     ensures does { IfOk result (λ taken. Does trial.old named field target taken.items) }
 {
     let sites = trial.world().schema().sites();
@@ -339,11 +358,11 @@ fn plan_clear(
 /// steps that a world has taken, all with luck that is fine (`steps`). First the open transactions
 /// of the other sites are aborted, in order of site and begin; then what the sites gave each other
 /// on the field is taken in, told again where its statement was never issued; last, each site but
-/// the named one moves the field as far towards the target as its share lets it. Where the target is
-/// the committed value there are no steps.
+/// the named one moves the field as far towards the target as its share lets it. Where the target
+/// is the committed value there are no steps.
 ///
-/// The fault is the first that holds, in the order of `ReachFault`, or want of memory (`fault`), and
-/// where there are steps none holds (`clear`).
+/// The fault is the first that holds, in the order of `ReachFault`, or want of memory (`fault`),
+/// and where there are steps none holds (`clear`).
 ///
 /// Taken after the world's own steps, they leave the named site as it is, and the target is the
 /// committed value (`does`). As every value from lo to hi of the interval that the named site reads
@@ -359,9 +378,12 @@ pub fn reach(
     field: FieldNo,
     target: i64,
 ) -> Result<Vec<WorldStep>, ReachFault>
-    ensures clear { OnOk result (reach_fault world.now.schema (trace_of world.now) site field target ≡ None) }
-    ensures fault { IfErr result (λ fault. Explains fault (reach_fault world.now.schema (trace_of world.now) site field target)) }
-    ensures steps { IfOk result (λ taken. taken.items ≡ reach_steps world.now.schema world.now.steps site field target) }
+    ensures clear { OnOk result (reach_fault world.now.schema (trace_of world.now) site field target
+        ≡ None) }
+    ensures fault { IfErr result (λ fault. Explains fault
+        (reach_fault world.now.schema (trace_of world.now) site field target)) }
+    ensures steps { IfOk result (λ taken. taken.items
+        ≡ reach_steps world.now.schema world.now.steps site field target) }
     ensures does { IfOk result (λ taken. Does world.now site field target taken.items) }
 {
     let Ok(mut trial) = Trial::new(alloc, world) else {

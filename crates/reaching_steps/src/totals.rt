@@ -57,7 +57,8 @@ fn passes(receivers: Receivers, to: Option<SiteNo>) -> bool
 /// How much of a kind on a field an effect gives to the receivers.
 fn gift_in(effect: &Effect, receivers: Receivers, field: FieldNo, kind: Kind) -> u64
     ensures value { (es : List Effect) →
-        gifts (passes receivers) field.0 kind (effect.now ∷ es) ≡ result + gifts (passes receivers) field.0 kind es }
+        gifts (passes receivers) field.0 kind (effect.now ∷ es) ≡ result
+        + gifts (passes receivers) field.0 kind es }
 {
     match *effect {
         Effect::Gives {
@@ -90,7 +91,8 @@ pub(crate) fn gifts_in(told: &[Effect], receivers: Receivers, field: FieldNo, ki
 /// The total that an effect accepts from a site, of a kind on a field, and 0 where it accepts none.
 fn total_in(effect: &Effect, from: SiteNo, field: FieldNo, kind: Kind) -> u64
     ensures value { (base : Base) (es : List Effect) →
-        total_accepted base from.0 field.0 kind (effect.now ∷ es) ≡ max result (total_accepted base from.0 field.0 kind es) }
+        total_accepted base from.0 field.0 kind (effect.now ∷ es)
+        ≡ max result (total_accepted base from.0 field.0 kind es) }
 {
     match *effect {
         Effect::Accepts {
@@ -118,7 +120,8 @@ fn greater(one: u64, other: u64) -> u64
 
 /// The greatest total accepted from a site, of a kind on a field.
 pub(crate) fn accepted_in(told: &[Effect], from: SiteNo, field: FieldNo, kind: Kind) -> u64
-    ensures value { (schema : SchemaValue) (s : ℕ) → result ≡ total_accepted (fresh schema s) from.0 field.0 kind told.now }
+    ensures value { (schema : SchemaValue) (s : ℕ)
+        → result ≡ total_accepted (fresh schema s) from.0 field.0 kind told.now }
 {
     let mut most = 0;
     for effect in told {
@@ -130,7 +133,8 @@ pub(crate) fn accepted_in(told: &[Effect], from: SiteNo, field: FieldNo, kind: K
 /// The totals accepted from all sites, added up.
 pub(crate) fn gained_in(told: &[Effect], field: FieldNo, kind: Kind, sites: u16) -> u128
     ensures value { (schema : SchemaValue) (s : ℕ) →
-        result ≡ sum_below sites (λ from. total_accepted (fresh schema s) from field.0 kind told.now) }
+        result ≡ sum_below sites (λ from. total_accepted
+        (fresh schema s) from field.0 kind told.now) }
     ensures few { result ≤ 1_208_925_819_614_629_174_706_176 }
 {
     let mut all: u128 = 0;

@@ -13,10 +13,10 @@ use std::alloc::{AllocError, Global};
 use std::marker::Model;
 use world_steps::{StepReply, World, WorldStep};
 
-/// A world of its own, in which the steps are tried that a world is to be told, with a table of what
-/// took effect at each site, the newest first: each site's part of the trace is read once for all
-/// that is asked of it. Where want of memory came between a step and the table, the table is read no
-/// more.
+/// A world of its own, in which the steps are tried that a world is to be told, with a table of
+/// what took effect at each site, the newest first: each site's part of the trace is read once for
+/// all that is asked of it. Where want of memory came between a step and the table, the table is
+/// read no more.
 #[derive(Drop)]
 pub(crate) struct Trial {
     world: World,
@@ -38,7 +38,8 @@ impl Model for Trial {
 /// What took effect at each site of a world.
 fn table_of(alloc: Global, world: &World) -> Result<Vec<Vec<Effect>>, AllocError>
     ensures count { IfOk result (λ table. length table.items ≡ world.now.schema.sites) }
-    ensures told { IfOk result (λ table. AllTold world.now.schema (trace_of world.now) table.items) }
+    ensures told { IfOk result (λ table. AllTold world.now.schema
+        (trace_of world.now) table.items) }
 {
     let mut table = Vec::new(alloc);
     for site in 0..world.schema().sites() {
@@ -101,7 +102,10 @@ impl Trial {
     /// Tries one step. The error is want of memory.
     pub(crate) fn step(&mut self, alloc: Global, step: &WorldStep) -> Result<(), AllocError>
         requires fits { StepFits self.old.schema step.now }
-        ensures steps { OnOk result (self.new ≡ record self.old { steps = self.old.steps ++ step.now ∷ [] }) }
+        ensures steps { OnOk result (self.new ≡ record self.old {
+          steps =
+              self.old.steps ++ step.now ∷ [];
+        }) }
     {
         let was_whole = self.is_whole;
         self.is_whole = false;
@@ -118,10 +122,12 @@ impl Trial {
         &self.world
     }
 
-    /// What took effect at a site, the newest first. The error is want of memory in an earlier step.
+    /// What took effect at a site, the newest first. The error is want of memory in an earlier
+    /// step.
     pub(crate) fn effects_at(&self, site: SiteNo) -> Result<&[Effect], AllocError>
         requires in_schema { site.0 < self.now.schema.sites }
-        ensures value { IfOk result (λ told. told.now ≡ at_site self.now.schema (trace_of self.now) site.0) }
+        ensures value { IfOk result (λ told. told.now
+            ≡ at_site self.now.schema (trace_of self.now) site.0) }
         ensures sound { IsSound self.now.schema (trace_of self.now) }
         ensures limits { IsSchema self.now.schema }
     {

@@ -183,13 +183,21 @@ step_from f g n i j ms so apart p le =
     let split : n ≡ suc j + (n - suc j) = omega arith in
     let row : moves_from f g i n ≡ moves_from f g i (suc j) = ap (moves_from f g i) split ∙ row_done f g i (suc j) (n - suc j) le in
     record {
-      so_far = rw (so.so_far, row, row_fresh f g (suc i) j so.g_meets) (append_assoc (moves_before f g n i) (moves_from f g i j) (pair_moves f g i j) ∙ sym (append-nil _));
+      so_far = rw (so.so_far, row, row_fresh f g (suc i) j so.g_meets)
+          (append_assoc (moves_before f g n i) (moves_from f g i j) (pair_moves f g i j) ∙ sym (append-nil _));
       f_meets = le;
       g_meets = omega (arith, so.g_meets);
       given = λ k. rw (← there) (given_more f g n i j (sum_before f (suc i)) ms so within end k);
       got = λ k. rw (← there) (got_more f g n i j (sum_before f (suc i)) ms so within end k);
       moved = rw (← there) (moved_more f g n i j (sum_before f (suc i)) ms so within end);
-      few = omega (arith, so.few, length-append ms (pair_moves f g i j), few_pair f g i j, sum_before-suc f i, sum_before-suc (some_of f) i);
+      few = omega (
+        arith,
+        so.few,
+        length-append ms (pair_moves f g i j),
+        few_pair f g i j,
+        sum_before-suc f i,
+        sum_before-suc (some_of f) i,
+      );
       gifts = All-append (IsGift n) ms (pair_moves f g i j) so.gifts (gift_pair f g n i j apart p r);
       to_left = λ (q : suc i < n). r;
       to_in = so.to_in;
@@ -197,7 +205,8 @@ step_from f g n i j ms so apart p le =
     }
 
 -- the second finger goes on to the next site
-pub step_to : (f g : ℕ → ℕ) (n i j : ℕ) (ms : List Move) → Progress f g n i j ms → ((k : ℕ) → min (f k) (g k) ≡ 0) → sum_before f n ≡ sum_before g n → i < n
+pub step_to : (f g : ℕ → ℕ) (n i j : ℕ) (ms : List Move) → Progress f g n i j ms → ((k : ℕ) → min (f k) (g k) ≡ 0)
+    → sum_before f n ≡ sum_before g n → i < n
     → sum_before g (suc j) < sum_before f (suc i) → Progress f g n i (suc j) (ms ++ pair_moves f g i j)
 unfolding moves_from overlap
 step_to f g n i j ms so apart same p lt =
@@ -219,7 +228,14 @@ step_to f g n i j ms so apart same p lt =
       given = λ k. rw (← there) (given_more f g n i j (sum_before g (suc j)) ms so within end k);
       got = λ k. rw (← there) (got_more f g n i j (sum_before g (suc j)) ms so within end k);
       moved = rw (← there) (moved_more f g n i j (sum_before g (suc j)) ms so within end);
-      few = omega (arith, so.few, length-append ms (pair_moves f g i j), few_pair f g i j, sum_before-suc g j, sum_before-suc (some_of g) j);
+      few = omega (
+        arith,
+        so.few,
+        length-append ms (pair_moves f g i j),
+        few_pair f g i j,
+        sum_before-suc g j,
+        sum_before-suc (some_of g) j,
+      );
       gifts = All-append (IsGift n) ms (pair_moves f g i j) so.gifts (gift_pair f g n i j apart p r);
       to_left = λ (q : i < n). left;
       to_in = omega arith;
@@ -255,7 +271,8 @@ some_more g j zero h = let e : j + 0 ≡ j = omega arith in absurd (omega (arith
 some_more g j (suc d) h =
     let e : j + suc d ≡ suc (j + d) = omega arith in
     let longer : sum_before g j < sum_before g (j + d) + g (j + d) = omega (arith, ap (sum_before g) e, sum_before-suc g (j + d)) in
-    let goal : sum_before (some_of g) j < sum_before (some_of g) (j + d) + min (g (j + d)) 1 = elim (cases_lt (sum_before g j) (sum_before g (j + d))) [
+    let goal : sum_before (some_of g) j < sum_before (some_of g) (j + d) + min (g (j + d)) 1 =
+    elim (cases_lt (sum_before g j) (sum_before g (j + d))) [
       | inl q ↦ omega (arith, some_more g j d q)
       | inr q ↦ omega (arith, sum_before-mono (some_of g) j d)
     ] in

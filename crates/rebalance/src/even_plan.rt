@@ -39,7 +39,8 @@ fn add_move(
     end: u64,
 ) -> Result<(), AllocError>
     ensures some { OnOk result (start < end →
-        plan.new.items ≡ plan.old.items ++ record { from = from; to = to; amount = end - start } ∷ []) }
+        plan.new.items ≡ plan.old.items ++ record { from = from; to = to; amount = end - start }
+        ∷ []) }
     ensures none { OnOk result (end ≤ start → plan.new.items ≡ plan.old.items) }
     ensures err { OnErr result (start < end) }
 {
@@ -51,8 +52,8 @@ fn add_move(
 }
 
 /// The moves that leave each site with its even part of the sum of the shares: the parts differ by
-/// at most 1, and the sites that come first have the greater ones. The sum fits `u64`; any number of
-/// sites will do, also none.
+/// at most 1, and the sites that come first have the greater ones. The sum fits `u64`; any number
+/// of sites will do, also none.
 ///
 /// The rights above target are laid in one row and the missing ones in another, both in order of
 /// site, and each stretch that two sites cover together is one move (`plan`). Carried out one after

@@ -1,5 +1,5 @@
-//! How sites share out what they hold: what one site spares for another, and the moves that make the
-//! shares of all sites even.
+//! How sites share out what they hold: what one site spares for another, and the moves that make
+//! the shares of all sites even.
 //!
 //! Source: Balegas and others 2015, where a site that lacks rights gets some from another; this
 //! project for half a share, for the even plan, and for the proof that no plan moves less.

@@ -39,7 +39,8 @@ whole_lines_after-unbroken front (b ∷ bs) h =
 pub last_part_after-unbroken : (front bs : List ℕ) → All (λ b. b ≢ 10) bs → last_part_after front bs ≡ front ++ bs
 last_part_after-unbroken front [] h = sym (append-nil front)
 last_part_after-unbroken front (b ∷ bs) h =
-    rw (ne_eqb b 10 (first_unbroken b bs h)) (last_part_after-unbroken (front ++ b ∷ []) bs (All-tail (λ b. b ≢ 10) b bs h) ∙ append_assoc front (b ∷ []) bs)
+    rw (ne_eqb b 10 (first_unbroken b bs h)) (last_part_after-unbroken (front ++ b ∷ []) bs (All-tail (λ b. b ≢ 10) b bs h)
+    ∙ append_assoc front (b ∷ []) bs)
 
 -- the last part of bytes in which no line ends is all of them
 pub last_part_after-none : (front bs : List ℕ) → whole_lines_after front bs ≡ [] → last_part_after front bs ≡ front ++ bs
@@ -77,7 +78,8 @@ pub with_header-last : (line : List ℕ) → with_header (last_line line) ≡ li
 with_header-last [] = refl
 with_header-last (b ∷ bs) = refl
 
-pub with_header-some : (lines more : List (List ℕ)) (header : List ℕ) (behind : List (List ℕ)) → lines ≡ header ∷ behind → with_header (lines ++ more) ≡ lines ++ more
+pub with_header-some : (lines more : List (List ℕ)) (header : List ℕ) (behind : List (List ℕ)) → lines ≡ header ∷ behind
+    → with_header (lines ++ more) ≡ lines ++ more
 with_header-some [] more header behind = λ e. cc
 with_header-some (line ∷ lines) more header behind = λ e. refl
 

@@ -1,5 +1,5 @@
-//! What the texts of the store are read by: sources and sinks, which tell how their calls ended, the
-//! lines of an input with their limits, and the faults.
+//! What the texts of the store are read by: sources and sinks, which tell how their calls ended,
+//! the lines of an input with their limits, and the faults.
 #![tactic(auto)]
 
 mod fault;

@@ -39,22 +39,23 @@ pub trait Source {
     /// How many reads failed.
     ghost failures: { Self → ℕ };
 
-    /// One read: the next bytes, at most as many as there is room for. It gives none only at the end,
-    /// or where there is no room. An error of any kind is answered at once, takes no byte, and
+    /// One read: the next bytes, at most as many as there is room for. It gives none only at the
+    /// end, or where there is no room. An error of any kind is answered at once, takes no byte, and
     /// nothing is tried again.
     fn read(&mut self, buffer: &mut [u8]) -> Result<usize, CallFailed>
         ensures bound { ReadsAtMost result buffer.new }
         ensures bytes { ReadConsumes (bytes self.old) (bytes self.new) result buffer.new }
-        ensures nothing { IfOk result (λ n. n ≡ 0 → 0 < length buffer.new → GaveNothing (last self.new)) }
+        ensures nothing { IfOk result (λ n. n ≡ 0 → 0 < length buffer.new
+            → GaveNothing (last self.new)) }
         ensures failed { OnErr result (HasFailed (last self.new)) }
         ensures failures { Counts result (failures self.old) (failures self.new) };
 }
 
 /// What a text is written to.
 ///
-/// A sink is seen by three things: the bytes that it holds, where they are known; how its last write
-/// ended; and how many writes were refused, which is to say failed or took none of their bytes. The
-/// count is a `u64` that begins again at 0: each refusal changes it.
+/// A sink is seen by three things: the bytes that it holds, where they are known; how its last
+/// write ended; and how many writes were refused, which is to say failed or took none of their
+/// bytes. The count is a `u64` that begins again at 0: each refusal changes it.
 pub trait Sink {
     /// The bytes that it holds, or None where they aren't known.
     ghost bytes: { Self → Option (List ℕ) };
@@ -75,9 +76,9 @@ pub trait Sink {
         ensures refused { OnErr result (HasRefused (last self.new)) }
         ensures refusals { Counts result (refusals self.old) (refusals self.new) };
 
-    /// Writes the piece in as many writes as it takes. The first that is refused ends it, and is not
-    /// tried again: then a front of the piece was taken. Where there are no bytes, none is refused.
-    /// Costs no memory.
+    /// Writes the piece in as many writes as it takes. The first that is refused ends it, and is
+    /// not tried again: then a front of the piece was taken. Where there are no bytes, none is
+    /// refused. Costs no memory.
     final fn write_all(&mut self, piece: &[u8]) -> Result<(), CallFailed>
         ensures ok { OnOk result (Appends (bytes self.old) (bytes self.new) piece.now) }
         ensures front { OnErr result (AppendsPrefix (bytes self.old) (bytes self.new) piece.now) }

@@ -11,9 +11,9 @@ use std::io::{Read, Write};
 /// their bytes.
 ///
 /// This is the one place in which it is read, and not proved, how a call ended: std's traits don't
-/// tell a contract whether a call fails, so no clause ties `last` and `failures` to the inner calls.
-/// The bodies of `read` and `write` make one inner call each, and set both by its answer; nothing
-/// outside this module can.
+/// tell a contract whether a call fails, so no clause ties `last` and `failures` to the inner
+/// calls. The bodies of `read` and `write` make one inner call each, and set both by its answer;
+/// nothing outside this module can.
 #[derive(Drop)]
 pub struct Watched<T> {
     inner: T,

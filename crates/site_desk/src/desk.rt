@@ -17,9 +17,9 @@ use std::marker::Model;
 use std::sync::ledger::Ledger;
 use std::sync::{Mutex, Wait};
 
-/// One site behind one lock, with its schema and number beside the lock. Its calls are counted by the
-/// ledger that `L` names, so that only the passes made with it serve. Contracts see the schema and the
-/// number.
+/// One site behind one lock, with its schema and number beside the lock. Its calls are counted by
+/// the ledger that `L` names, so that only the passes made with it serve. Contracts see the schema
+/// and the number.
 ///
 /// Source: Balegas and others 2015 for sites that act alone on rights that they hold.
 #[derive(Drop)]
@@ -37,8 +37,8 @@ impl<L: Ledger, M: Medium> Model for Desk<L, M> {
     ghost view = { λ d. record { schema = d.schema; site = d.number } };
 }
 
-/// A desk that wasn't closed, with the passes that were handed in and the length of the history that
-/// was found, in entries.
+/// A desk that wasn't closed, with the passes that were handed in and the length of the history
+/// that was found, in entries.
 #[derive(Drop)]
 pub struct CloseError<L: Ledger, M: Medium> {
     pub desk: Desk<L, M>,
@@ -47,9 +47,9 @@ pub struct CloseError<L: Ledger, M: Medium> {
 }
 
 impl<L: Ledger, M: Medium + Drop> Desk<L, M> {
-    /// Opens the site of this number over the medium and puts it behind a lock. The passes are as many
-    /// as the blank has parts, and no call was made with them. At a fault, which is the site's own,
-    /// the medium is dropped.
+    /// Opens the site of this number over the medium and puts it behind a lock. The passes are as
+    /// many as the blank has parts, and no call was made with them. At a fault, which is the site's
+    /// own, the medium is dropped.
     ///
     /// The blank is the one that `L` names, and has a part. Costs what opening the site costs, and
     /// memory for the passes and for two copies of the schema.
@@ -66,8 +66,10 @@ impl<L: Ledger, M: Medium + Drop> Desk<L, M> {
         requires in_schema { number.0 < schema.now.sites }
         ensures desk { IfOk result (λ r. (r.0.schema ≡ schema.now) × (r.0.site ≡ number)) }
         ensures passes { IfOk result (λ r. (vec_len r.1 ≡ blank.parts) × AreNew r.1.items) }
-        ensures line { IfErr result (λ fault. TellsLine schema.now number.0 (M.bytes medium) fault) }
-        ensures never { IfErr result (λ fault. SparesLogs schema.now number.0 (M.bytes medium) fault) }
+        ensures line { IfErr result (λ fault. TellsLine schema.now number.0
+            (M.bytes medium) fault) }
+        ensures never { IfErr result (λ fault. SparesLogs schema.now number.0
+            (M.bytes medium) fault) }
         ensures device { IfErr result (λ fault. FailsUnder fault (M.foretold medium)) }
     {
         let own = schema.copy()?;
@@ -97,8 +99,8 @@ impl<L: Ledger, M: Medium + Drop> Desk<L, M> {
     /// command asked and a number above all that the pass has seen, and the pass has one call more.
     ///
     /// `NoMemory`: memory is wanting. `WentBack`: the pass has seen an entry beyond the end of the
-    /// history, so never at a first call. After a fault neither site nor pass has changed. `GateTurns`
-    /// never comes. Costs what the site's own step costs.
+    /// history, so never at a first call. After a fault neither site nor pass has changed.
+    /// `GateTurns` never comes. Costs what the site's own step costs.
     pub fn call<R: Wait>(
         &self,
         rt: &R,
@@ -113,9 +115,9 @@ impl<L: Ledger, M: Medium + Drop> Desk<L, M> {
         self.kept.lock(rt).serve(alloc, pass, command)
     }
 
-    /// The same, where the gate lets the call in: it is asked with the lock held, before the command
-    /// is applied, and told once the call was served and the lock is let go. Where it doesn't,
-    /// `GateTurns`, and nothing has changed.
+    /// The same, where the gate lets the call in: it is asked with the lock held, before the
+    /// command is applied, and told once the call was served and the lock is let go. Where it
+    /// doesn't, `GateTurns`, and nothing has changed.
     pub fn call_at<R: Wait, G: Gate>(
         &self,
         rt: &R,
@@ -140,8 +142,9 @@ impl<L: Ledger, M: Medium + Drop> Desk<L, M> {
     }
 
     /// Closes the site: exactly where the calls of the passes handed in add up to the length of its
-    /// history, and it has the schema and the number that the desk was made with. Else the desk and the
-    /// passes come back, with the length found. Costs a look at each pass and each field, and no memory.
+    /// history, and it has the schema and the number that the desk was made with. Else the desk and
+    /// the passes come back, with the length found. Costs a look at each pass and each field, and
+    /// no memory.
     pub fn close(self, passes: Vec<Pass<L>>) -> Result<Closed<M>, CloseError<L, M>>
         ensures ok { IfOk result (λ closed. Settles self.schema self.site passes.items closed) }
         ensures passes { IfErr result (λ e. e.passes ≡ passes) }

@@ -12,8 +12,8 @@ pub enum DeskFault {
     /// Memory is wanting.
     #[error("out of memory")]
     NoMemory,
-    /// The history found under the lock has this length, in entries, which is below the number of the
-    /// last entry that the pass has seen.
+    /// The history found under the lock has this length, in entries, which is below the number of
+    /// the last entry that the pass has seen.
     #[error("the history went back to {length} entries")]
     WentBack { length: u64 },
     /// The gate didn't let the call in.

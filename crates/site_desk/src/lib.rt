@@ -1,5 +1,5 @@
-//! A desk: one site behind one lock, which many threads call. Each call is one step of the site under
-//! the lock, and each caller gets a receipt.
+//! A desk: one site behind one lock, which many threads call. Each call is one step of the site
+//! under the lock, and each caller gets a receipt.
 #![tactic(auto)]
 
 mod desk;

@@ -40,8 +40,8 @@ impl<L: Ledger> Model for Pass<L> {
     ghost invariant = { λ p. (p.share.parts ≡ 1) × (p.share.amount ≡ p.count) };
 }
 
-/// The entry that a call made, with its site and its place in the site's history. Only a call that was
-/// served makes one.
+/// The entry that a call made, with its site and its place in the site's history. Only a call that
+/// was served makes one.
 #[derive(Clone, Copy, PartialEq, Eq, Debug)]
 pub struct Receipt {
     site: SiteNo,
@@ -49,12 +49,12 @@ pub struct Receipt {
     entry: Entry,
 }
 
-/// The locked value: a site, and the book of the calls made on it. The book's count is the length of
-/// the history, which is a run of owed replies of the site on its base whenever the lock is got.
+/// The locked value: a site, and the book of the calls made on it. The book's count is the length
+/// of the history, which is a run of owed replies of the site on its base whenever the lock is got.
 /// Contracts see the site.
 ///
-/// Source: O'Neil 1986 for escrows, Balegas and others 2015 for rights that sites hold, this project
-/// for the lock and the book.
+/// Source: O'Neil 1986 for escrows, Balegas and others 2015 for rights that sites hold, this
+/// project for the lock and the book.
 #[derive(Drop)]
 pub struct Kept<L: Ledger, M: Medium> {
     site: Site<M>,
@@ -70,7 +70,8 @@ impl<L: Ledger, M: Medium> Model for Kept<L, M> {
 
     ghost view = { λ k. k.site };
 
-    ghost invariant = { λ k. (length k.site.history ≡ k.calls.total) × AreOf k.site.site.0 k.site.history };
+    ghost invariant = { λ k. (length k.site.history ≡ k.calls.total)
+        × AreOf k.site.site.0 k.site.history };
 }
 
 impl<L: Ledger> Pass<L> {
@@ -81,8 +82,8 @@ impl<L: Ledger> Pass<L> {
         self.count
     }
 
-    /// The number of the entry that the last call with this pass made, from 1, and 0 before the first.
-    /// Costs no memory.
+    /// The number of the entry that the last call with this pass made, from 1, and 0 before the
+    /// first. Costs no memory.
     pub fn last(&self) -> u64
         ensures value { result ≡ self.now.last }
     {
@@ -124,10 +125,10 @@ impl<L: Ledger, M: Medium> Kept<L, M> {
         self.site.history()
     }
 
-    /// Answers a command. It is the one call that changes a kept site, raises a pass's count or makes
-    /// a receipt. The history is the one before and one entry, the command with the site's reply, and
-    /// the receipt is that entry (`site`). The pass has one call more, and has seen that entry
-    /// (`pass`).
+    /// Answers a command. It is the one call that changes a kept site, raises a pass's count or
+    /// makes a receipt. The history is the one before and one entry, the command with the site's
+    /// reply, and the receipt is that entry (`site`). The pass has one call more, and has seen that
+    /// entry (`pass`).
     ///
     /// `NoMemory`: memory is wanting. `WentBack`: the pass has seen an entry beyond the end of the
     /// history, whose length is told. After a fault neither site nor pass has changed. `GateTurns`
@@ -223,8 +224,8 @@ impl<M: Medium> Closed<M> {
         self.site.site()
     }
 
-    /// The commands answered with their replies, the oldest first: a run of owed replies on the site's
-    /// base, each entry of this site. Costs no memory.
+    /// The commands answered with their replies, the oldest first: a run of owed replies on the
+    /// site's base, each entry of this site. Costs no memory.
     pub fn history(&self) -> &[Entry]
         ensures value { reverse result.now ≡ self.now.history }
         ensures run { IsRun self.now.schema self.now.site.0 (base_of self.now) self.now.history }
@@ -267,7 +268,8 @@ pub(crate) fn make<L: Ledger, M: Medium + Drop>(
     requires some { 0 < blank.parts }
     requires empty { site.history ≡ [] }
     ensures site { IfOk result (λ r. r.0 ≡ site) }
-    ensures passes { IfOk result (λ r. (vec_len r.1 ≡ blank.parts) × (calls_of r.1.items ≡ 0) × AreNew r.1.items) }
+    ensures passes { IfOk result (λ r. (vec_len r.1 ≡ blank.parts) × (calls_of r.1.items ≡ 0)
+        × AreNew r.1.items) }
 {
     let Blank { ledger, parts } = blank;
     let (calls, mut rest) = ledger.open::<L>();
@@ -294,15 +296,16 @@ impl<L: Ledger, M: Medium> Kept<L, M> {
         pass.count + 1
     }
 
-    /// Closes the site where the passes' calls add up to its history and it is the site of this schema
-    /// and number. Else hands it back with the length of its history.
+    /// Closes the site where the passes' calls add up to its history and it is the site of this
+    /// schema and number. Else hands it back with the length of its history.
     pub(crate) fn settle(
         self,
         schema: &Schema,
         number: SiteNo,
         passes: &[Pass<L>],
     ) -> Result<Closed<M>, (Kept<L, M>, u64)>
-        ensures ok { IfOk result (λ closed. (closed ≡ self) × Settles schema.now number passes.now self) }
+        ensures ok { IfOk result (λ closed. (closed ≡ self)
+            × Settles schema.now number passes.now self) }
         ensures back { IfErr result (λ e. (e.0 ≡ self) × (e.1 ≡ length self.history)) }
         ensures refused { OnErr result (¬ Settles schema.now number passes.now self) }
     {

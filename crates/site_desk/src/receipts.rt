@@ -13,7 +13,8 @@ use thiserror::Error;
 /// Why receipts aren't those of a history. Numbers are places in the history, from 1.
 #[derive(Clone, Copy, Debug, PartialEq, Eq, Error)]
 pub enum ReceiptFault {
-    /// This receipt is of another site or of no place of the history, or another entry stands there.
+    /// This receipt is of another site or of no place of the history, or another entry stands
+    /// there.
     #[error("receipt {number} of site {site:?} is no entry of the history")]
     Differs { site: SiteNo, number: u64 },
     /// An earlier receipt has this place.
@@ -50,9 +51,11 @@ fn is_same_entry(one: &Entry, other: &Entry) -> bool
         && is_same_reply(&one.reply, &other.reply)
 }
 
-/// The place, from 0, of the entry that a receipt names, where the history of this site has it there.
+/// The place, from 0, of the entry that a receipt names, where the history of this site has it
+/// there.
 fn place_of(history: &[Entry], site: SiteNo, receipt: &Receipt) -> Option<usize>
-    ensures some { IfSome result (λ place. IsAt site history.now receipt.now × (receipt.now.number ≡ place + 1) × (place < length history.now)) }
+    ensures some { IfSome result (λ place. IsAt site history.now receipt.now
+        × (receipt.now.number ≡ place + 1) × (place < length history.now)) }
     ensures none { IfNone result (¬ IsAt site history.now receipt.now) }
 {
     let number = receipt.number();
@@ -69,8 +72,11 @@ fn place_of(history: &[Entry], site: SiteNo, receipt: &Receipt) -> Option<usize>
 
 /// The first place that isn't marked.
 fn first_unmarked(marks: &[bool]) -> Option<usize>
-    ensures some { IfSome result (λ place. (place < length marks.now) × (slice_index_or marks.now place false ≡ false) × ((n : ℕ) → n < place → slice_index_or marks.now n false ≡ true)) }
-    ensures none { IfNone result ((n : ℕ) → n < length marks.now → slice_index_or marks.now n false ≡ true) }
+    ensures some { IfSome result (λ place. (place < length marks.now)
+        × (slice_index_or marks.now place false ≡ false)
+        × ((n : ℕ) → n < place → slice_index_or marks.now n false ≡ true)) }
+    ensures none { IfNone result ((n : ℕ) → n < length marks.now
+        → slice_index_or marks.now n false ≡ true) }
 {
     for place in 0..marks.len() {
         if !marks[place] {
@@ -83,16 +89,18 @@ fn first_unmarked(marks: &[bool]) -> Option<usize>
 /// Whether the receipts are exactly the entries of the closed site's history, each once. They may
 /// come in any order.
 ///
-/// They are tested in the order of the list: `Differs`, and then `Twice`, for the first that doesn't
-/// stand. Then `Missing` for the least place without one. `NoMemory`: memory is wanting. Costs a
-/// step for each entry and each receipt, and memory for a mark for each entry.
+/// They are tested in the order of the list: `Differs`, and then `Twice`, for the first that
+/// doesn't stand. Then `Missing` for the least place without one. `NoMemory`: memory is wanting.
+/// Costs a step for each entry and each receipt, and memory for a mark for each entry.
 pub fn check_receipts<M: Medium>(
     alloc: Global,
     closed: &Closed<M>,
     receipts: &[Receipt],
 ) -> Result<(), ReceiptFault>
-    ensures ok { OnOk result (AreReceiptsOf closed.now.site (reverse closed.now.history) receipts.now) }
-    ensures fault { IfErr result (λ fault. TellsReceipts closed.now.site (reverse closed.now.history) receipts.now fault) }
+    ensures ok { OnOk result (AreReceiptsOf closed.now.site
+        (reverse closed.now.history) receipts.now) }
+    ensures fault { IfErr result (λ fault. TellsReceipts closed.now.site
+        (reverse closed.now.history) receipts.now fault) }
 {
     let own = closed.site();
     let history = closed.history();

@@ -26,7 +26,8 @@ by_kind P lower raise Lower = lower
 by_kind P lower raise Raise = raise
 
 -- a row after a write at a field
-pub row_at-set : (rows : List FieldRights) (f g : ℕ) (r : FieldRights) → f < length rows → row_at (slice_set rows f r) g ≡ cond (f == g) r (row_at rows g)
+pub row_at-set : (rows : List FieldRights) (f g : ℕ) (r : FieldRights) → f < length rows
+    → row_at (slice_set rows f r) g ≡ cond (f == g) r (row_at rows g)
 row_at-set rows f g r h =
     elim (cases_Bool (f == g)) [
       | inl same ↦
@@ -38,7 +39,8 @@ row_at-set rows f g r h =
     ]
 
 -- the end of an escrow takes its size out of the held rights
-pub ending_held : (o : Outcome) (r : FieldRights) (c : ℤ) (k : Kind) → unsigned_abs c ≤ (amounts_of r (kind_of c)).held → (amounts_of (ending o r (kind_of c) (unsigned_abs c)) k).held + size k c ≡ (amounts_of r k).held
+pub ending_held : (o : Outcome) (r : FieldRights) (c : ℤ) (k : Kind) → unsigned_abs c ≤ (amounts_of r (kind_of c)).held
+    → (amounts_of (ending o r (kind_of c) (unsigned_abs c)) k).held + size k c ≡ (amounts_of r k).held
 ending_held Committed r (pos n) Lower h = omega arith
 ending_held Committed r (pos n) Raise h = omega arith
 ending_held Committed r (negsuc n) Lower h = omega arith
@@ -49,7 +51,8 @@ ending_held Aborted r (negsuc n) Lower h = omega arith
 ending_held Aborted r (negsuc n) Raise h = omega arith
 
 -- an escrow adds its size to the held rights
-pub taken_held : (r : FieldRights) (c : ℤ) (k : Kind) → (amounts_of (after_take r (kind_of c) (unsigned_abs c)) k).held ≡ (amounts_of r k).held + size k c
+pub taken_held : (r : FieldRights) (c : ℤ) (k : Kind)
+    → (amounts_of (after_take r (kind_of c) (unsigned_abs c)) k).held ≡ (amounts_of r k).held + size k c
 taken_held r (pos n) Lower = omega arith
 taken_held r (pos n) Raise = omega arith
 taken_held r (negsuc n) Lower = omega arith
@@ -59,10 +62,12 @@ size_kind_of : (c : ℤ) → size (kind_of c) c ≡ unsigned_abs c
 size_kind_of (pos n) = refl
 size_kind_of (negsuc n) = refl
 
-pub length-by_escrow : (change : FieldRights → Kind → ℕ → FieldRights) (rows : List FieldRights) (e : Escrow) → length (by_escrow change rows e) ≡ length rows
+pub length-by_escrow : (change : FieldRights → Kind → ℕ → FieldRights) (rows : List FieldRights) (e : Escrow)
+    → length (by_escrow change rows e) ≡ length rows
 length-by_escrow change rows e = length-set rows e.field.0 _
 
-pub length-by_escrows : (change : FieldRights → Kind → ℕ → FieldRights) (rows : List FieldRights) (es : List Escrow) → length (by_escrows change rows es) ≡ length rows
+pub length-by_escrows : (change : FieldRights → Kind → ℕ → FieldRights) (rows : List FieldRights) (es : List Escrow)
+    → length (by_escrows change rows es) ≡ length rows
 length-by_escrows change rows [] = refl
 length-by_escrows change rows (e ∷ es) = length-by_escrows change (by_escrow change rows e) es ∙ length-by_escrow change rows e
 
@@ -71,13 +76,16 @@ row_at-field : (change : FieldRights → Kind → ℕ → FieldRights) (rows : L
     → row_at (at_field change rows f kind q) g ≡ cond (f == g) (change (row_at rows g) kind q) (row_at rows g)
 row_at-field change rows f g kind q h = row_at-set rows f g (change (row_at rows f) kind q) h ∙ moved (cases_Bool (f == g))
   where
-    moved : ((f == g) ≡ true) ⊎ ((f == g) ≡ false) → cond (f == g) (change (row_at rows f) kind q) (row_at rows g) ≡ cond (f == g) (change (row_at rows g) kind q) (row_at rows g)
+    moved : ((f == g) ≡ true) ⊎ ((f == g) ≡ false)
+        → cond (f == g) (change (row_at rows f) kind q) (row_at rows g) ≡ cond (f == g) (change (row_at rows g) kind q) (row_at rows g)
     moved (inl same) = ap (λ (x : ℕ). cond (f == g) (change (get_or rows x no_rights) kind q) (row_at rows g)) (eqb-true f g same)
     moved (inr differs) = rw differs refl
 
 -- what is read of a row after a change of the rights on a field, where the change does `step true` to it, and `step false` leaves it
-read-at_field : (read : FieldRights → ℕ) (change : FieldRights → Kind → ℕ → FieldRights) (step : Bool → ℕ → ℕ) (rows : List FieldRights) (f g : ℕ) (kind : Kind) (q : ℕ) → f < length rows
-    → ((r : FieldRights) → read (change r kind q) ≡ step true (read r)) → ((n : ℕ) → n ≡ step false n) → read (row_at (at_field change rows f kind q) g) ≡ step (f == g) (read (row_at rows g))
+read-at_field : (read : FieldRights → ℕ) (change : FieldRights → Kind → ℕ → FieldRights) (step : Bool → ℕ
+    → ℕ) (rows : List FieldRights) (f g : ℕ) (kind : Kind) (q : ℕ) → f < length rows
+    → ((r : FieldRights) → read (change r kind q) ≡ step true (read r)) → ((n : ℕ) → n ≡ step false n)
+    → read (row_at (at_field change rows f kind q) g) ≡ step (f == g) (read (row_at rows g))
 read-at_field read change step rows f g kind q h changes stays = ap read (row_at-field change rows f g kind q h) ∙ one (f == g)
   where
     one : (b : Bool) → read (cond b (change (row_at rows g) kind q) (row_at rows g)) ≡ step b (read (row_at rows g))
@@ -85,21 +93,28 @@ read-at_field read change step rows f g kind q h changes stays = ap read (row_at
     one false = stays (read (row_at rows g))
 
 -- taking by an escrow
-pub held_at-taken : (rows : List FieldRights) (e : Escrow) (g : ℕ) (k : Kind) → e.field.0 < length rows → held_at (by_escrow after_take rows e) g k ≡ held_at rows g k + takes g k e
+pub held_at-taken : (rows : List FieldRights) (e : Escrow) (g : ℕ) (k : Kind) → e.field.0 < length rows
+    → held_at (by_escrow after_take rows e) g k ≡ held_at rows g k + takes g k e
 held_at-taken rows e g k h =
-    read-at_field (λ r. (amounts_of r k).held) after_take (λ b n. n + cond (b && same_kind (kind_of e.change) k) (unsigned_abs e.change) 0) rows e.field.0 g (kind_of e.change) (unsigned_abs e.change) h
+    read-at_field (λ r. (amounts_of r k).held) after_take
+    (λ b n. n + cond (b && same_kind (kind_of e.change) k) (unsigned_abs e.change) 0) rows e.field.0 g (kind_of e.change)
+    (unsigned_abs e.change) h
     (λ r. taken_held r e.change k) (λ n. omega arith)
 
 -- taking by an escrow that is within the free rights
-taken_free : (r : FieldRights) (c : ℤ) (k : Kind) → (amounts_of (after_take r (kind_of c) (unsigned_abs c)) k).free ≡ (amounts_of r k).free - size k c
+taken_free : (r : FieldRights) (c : ℤ) (k : Kind) → (amounts_of (after_take r (kind_of c) (unsigned_abs c)) k).free
+    ≡ (amounts_of r k).free - size k c
 taken_free r (pos n) Lower = omega arith
 taken_free r (pos n) Raise = omega arith
 taken_free r (negsuc n) Lower = omega arith
 taken_free r (negsuc n) Raise = omega arith
 
-pub free_at-taken : (rows : List FieldRights) (e : Escrow) (g : ℕ) (k : Kind) → e.field.0 < length rows → free_at (by_escrow after_take rows e) g k ≡ free_at rows g k - takes g k e
+pub free_at-taken : (rows : List FieldRights) (e : Escrow) (g : ℕ) (k : Kind) → e.field.0 < length rows
+    → free_at (by_escrow after_take rows e) g k ≡ free_at rows g k - takes g k e
 free_at-taken rows e g k h =
-    read-at_field (λ r. (amounts_of r k).free) after_take (λ b n. n - cond (b && same_kind (kind_of e.change) k) (unsigned_abs e.change) 0) rows e.field.0 g (kind_of e.change) (unsigned_abs e.change) h
+    read-at_field (λ r. (amounts_of r k).free) after_take
+    (λ b n. n - cond (b && same_kind (kind_of e.change) k) (unsigned_abs e.change) 0) rows e.field.0 g (kind_of e.change)
+    (unsigned_abs e.change) h
     (λ r. taken_free r e.change k) (λ n. omega arith)
 
 -- ---- escrows that end one after another
@@ -110,7 +125,8 @@ frees Committed k = other k
 frees Aborted k = k
 
 -- the end of an escrow makes its size free
-ending_free : (o : Outcome) (r : FieldRights) (c : ℤ) (k : Kind) → (amounts_of (ending o r (kind_of c) (unsigned_abs c)) k).free ≡ (amounts_of r k).free + size (frees o k) c
+ending_free : (o : Outcome) (r : FieldRights) (c : ℤ) (k : Kind)
+    → (amounts_of (ending o r (kind_of c) (unsigned_abs c)) k).free ≡ (amounts_of r k).free + size (frees o k) c
 ending_free Committed r (pos n) Lower = omega arith
 ending_free Committed r (pos n) Raise = omega arith
 ending_free Committed r (negsuc n) Lower = omega arith
@@ -120,28 +136,43 @@ ending_free Aborted r (pos n) Raise = omega arith
 ending_free Aborted r (negsuc n) Lower = omega arith
 ending_free Aborted r (negsuc n) Raise = omega arith
 
-free_at-by_escrow : (o : Outcome) (rows : List FieldRights) (e : Escrow) (g : ℕ) (k : Kind) → e.field.0 < length rows → free_at (by_escrow (ending o) rows e) g k ≡ free_at rows g k + takes g (frees o k) e
+free_at-by_escrow : (o : Outcome) (rows : List FieldRights) (e : Escrow) (g : ℕ) (k : Kind) → e.field.0 < length rows
+    → free_at (by_escrow (ending o) rows e) g k ≡ free_at rows g k + takes g (frees o k) e
 free_at-by_escrow o rows e g k h =
-    read-at_field (λ r. (amounts_of r k).free) (ending o) (λ b n. n + cond (b && same_kind (kind_of e.change) (frees o k)) (unsigned_abs e.change) 0) rows e.field.0 g (kind_of e.change) (unsigned_abs e.change) h
+    read-at_field (λ r. (amounts_of r k).free) (ending o)
+    (λ b n. n + cond (b && same_kind (kind_of e.change) (frees o k)) (unsigned_abs e.change) 0) rows e.field.0 g (kind_of e.change)
+    (unsigned_abs e.change) h
     (λ r. ending_free o r e.change k) (λ n. omega arith)
 
-one_held : (o : Outcome) (b : Bool) (r : FieldRights) (c : ℤ) (k : Kind) → cond (b && same_kind (kind_of c) (kind_of c)) (unsigned_abs c) 0 ≤ (amounts_of r (kind_of c)).held
-    → (amounts_of (cond b (ending o r (kind_of c) (unsigned_abs c)) r) k).held + cond (b && same_kind (kind_of c) k) (unsigned_abs c) 0 ≡ (amounts_of r k).held
+one_held : (o : Outcome) (b : Bool) (r : FieldRights) (c : ℤ) (k : Kind)
+    → cond (b && same_kind (kind_of c) (kind_of c)) (unsigned_abs c) 0 ≤ (amounts_of r (kind_of c)).held
+    → (amounts_of (cond b (ending o r (kind_of c) (unsigned_abs c)) r) k).held + cond (b && same_kind (kind_of c) k) (unsigned_abs c) 0
+    ≡ (amounts_of r k).held
 one_held o true r c k h = ending_held o r c k (omega (arith, h, size_kind_of c))
 one_held o false r c k h = omega arith
 
-held_at-by_escrow : (o : Outcome) (rows : List FieldRights) (e : Escrow) (g : ℕ) (k : Kind) → e.field.0 < length rows → takes g (kind_of e.change) e ≤ held_at rows g (kind_of e.change)
+held_at-by_escrow : (o : Outcome) (rows : List FieldRights) (e : Escrow) (g : ℕ) (k : Kind) → e.field.0 < length rows
+    → takes g (kind_of e.change) e ≤ held_at rows g (kind_of e.change)
     → held_at (by_escrow (ending o) rows e) g k + takes g k e ≡ held_at rows g k
 held_at-by_escrow o rows e g k h enough =
-    ap (λ r. (amounts_of r k).held + takes g k e) (row_at-field (ending o) rows e.field.0 g (kind_of e.change) (unsigned_abs e.change) h) ∙ one_held o (e.field.0 == g) (row_at rows g) e.change k enough
+    ap (λ r. (amounts_of r k).held + takes g k e) (row_at-field (ending o) rows e.field.0 g (kind_of e.change) (unsigned_abs e.change) h)
+    ∙ one_held o (e.field.0 == g) (row_at rows g) e.change k enough
 
 AreInRange-same : (rows rows' : List FieldRights) (es : List Escrow) → length rows' ≡ length rows → AreInRange rows es → AreInRange rows' es
-AreInRange-same rows rows' es same h = All-weaker (λ (e : Escrow). e.field.0 < length rows) (λ (e : Escrow). e.field.0 < length rows') (λ e lt. omega arith) es h
+AreInRange-same rows rows' es same h = All-weaker (λ (e : Escrow). e.field.0 < length rows) (λ (e : Escrow). e.field.0 < length rows')
+    (λ e lt. omega arith) es h
 
-AreHeld-step : (o : Outcome) (rows : List FieldRights) (e : Escrow) (es : List Escrow) → e.field.0 < length rows → AreHeld rows (e ∷ es) → AreHeld (by_escrow (ending o) rows e) es
+AreHeld-step : (o : Outcome) (rows : List FieldRights) (e : Escrow) (es : List Escrow) → e.field.0 < length rows → AreHeld rows (e ∷ es)
+    → AreHeld (by_escrow (ending o) rows e) es
 AreHeld-step o rows e es lt h g k within =
     let gl : g < length rows = omega (arith, length-by_escrow (ending o) rows e) in
-    omega (arith, held_at-by_escrow o rows e g k lt (omega (arith, h g (kind_of e.change) gl, sum_by-cons (takes g (kind_of e.change)) e es)), h g k gl, sum_by-cons (takes g k) e es)
+    omega (
+      arith,
+      held_at-by_escrow o rows e g k lt
+          (omega (arith, h g (kind_of e.change) gl, sum_by-cons (takes g (kind_of e.change)) e es)),
+      h g k gl,
+      sum_by-cons (takes g k) e es,
+    )
 
 -- what escrows held together is free when all of them ended, of the kind that their end frees
 pub free_at-by_escrows : (o : Outcome) (rows : List FieldRights) (es : List Escrow) → AreInRange rows es → (g : ℕ) (k : Kind)
@@ -151,10 +182,16 @@ free_at-by_escrows o rows (e ∷ es) range g k =
     let lt : e.field.0 < length rows = All-head (λ (e : Escrow). e.field.0 < length rows) e es range in
     let same = length-by_escrow (ending o) rows e in
     let rest = AreInRange-same rows (by_escrow (ending o) rows e) es same (All-tail (λ (e : Escrow). e.field.0 < length rows) e es range) in
-    omega (arith, free_at-by_escrows o (by_escrow (ending o) rows e) es rest g k, free_at-by_escrow o rows e g k lt, sum_by-cons (takes g (frees o k)) e es)
+    omega (
+      arith,
+      free_at-by_escrows o (by_escrow (ending o) rows e) es rest g k,
+      free_at-by_escrow o rows e g k lt,
+      sum_by-cons (takes g (frees o k)) e es,
+    )
 
 -- what escrows held together is no longer held when all of them ended
-pub held_at-by_escrows : (o : Outcome) (rows : List FieldRights) (es : List Escrow) → AreInRange rows es → AreHeld rows es → (g : ℕ) (k : Kind) → g < length rows
+pub held_at-by_escrows : (o : Outcome) (rows : List FieldRights) (es : List Escrow) → AreInRange rows es → AreHeld rows es
+    → (g : ℕ) (k : Kind) → g < length rows
     → held_at (by_escrows (ending o) rows es) g k + sum_by (takes g k) es ≡ held_at rows g k
 held_at-by_escrows o rows [] range h g k gl = omega arith
 held_at-by_escrows o rows (e ∷ es) range h g k gl =
@@ -162,16 +199,26 @@ held_at-by_escrows o rows (e ∷ es) range h g k gl =
     let same = length-by_escrow (ending o) rows e in
     let rest = AreInRange-same rows (by_escrow (ending o) rows e) es same (All-tail (λ (e : Escrow). e.field.0 < length rows) e es range) in
     let next = held_at-by_escrows o (by_escrow (ending o) rows e) es rest (AreHeld-step o rows e es lt h) g k (omega (arith, same)) in
-    omega (arith, next, held_at-by_escrow o rows e g k lt (omega (arith, h g (kind_of e.change) gl, sum_by-cons (takes g (kind_of e.change)) e es)), sum_by-cons (takes g k) e es)
+    omega (
+      arith,
+      next,
+      held_at-by_escrow o rows e g k lt
+          (omega (arith, h g (kind_of e.change) gl, sum_by-cons (takes g (kind_of e.change)) e es)),
+      sum_by-cons (takes g k) e es,
+    )
 
 -- the escrow at i can end after those before it
-pub can_end : (o : Outcome) (rows : List FieldRights) (es : List Escrow) (i : ℕ) (e d : Escrow) → AreInRange rows es → AreHeld rows es → i < length es → e ≡ get_or es i d → CanEnd (by_escrows (ending o) rows (take i es)) e
+pub can_end : (o : Outcome) (rows : List FieldRights) (es : List Escrow) (i : ℕ) (e d : Escrow) → AreInRange rows es → AreHeld rows es
+    → i < length es → e ≡ get_or es i d → CanEnd (by_escrows (ending o) rows (take i es)) e
 can_end o rows es i e d range h lt at =
-    let in_range : e.field.0 < length rows = subst (λ (x : Escrow). x.field.0 < length rows) (sym at) (All-get_or (λ (e : Escrow). e.field.0 < length rows) es i d lt range) in
+    let in_range : e.field.0 < length rows = subst (λ (x : Escrow). x.field.0 < length rows) (sym at)
+    (All-get_or (λ (e : Escrow). e.field.0 < length rows) es i d lt range) in
     let k = kind_of e.change in
     let few : AreHeld rows (take i es) = λ g k gl. omega (arith, h g k gl, sum_by-take-le (takes g k) es i) in
-    let held = held_at-by_escrows o rows (take i es) (All-take (λ (e : Escrow). e.field.0 < length rows) i es range) few e.field.0 k in_range in
-    let more : sum_by (takes e.field.0 k) (take (i + 1) es) ≡ sum_by (takes e.field.0 k) (take i es) + takes e.field.0 k e = sum_by_more (takes e.field.0 k) es i d lt ∙ ap (λ x. sum_by (takes e.field.0 k) (take i es) + takes e.field.0 k x) (sym at) in
+    let held = held_at-by_escrows o rows (take i es)
+    (All-take (λ (e : Escrow). e.field.0 < length rows) i es range) few e.field.0 k in_range in
+    let more : sum_by (takes e.field.0 k) (take (i + 1) es) ≡ sum_by (takes e.field.0 k) (take i es) + takes e.field.0 k e =
+    sum_by_more (takes e.field.0 k) es i d lt ∙ ap (λ x. sum_by (takes e.field.0 k) (take i es) + takes e.field.0 k x) (sym at) in
     let own : takes e.field.0 k e ≡ unsigned_abs e.change = rw (eq-eqb e.field.0 e.field.0 refl) (size_kind_of e.change) in
     record {
       in_range = omega (arith, length-by_escrows (ending o) rows (take i es));
@@ -180,7 +227,8 @@ can_end o rows es i e d range h lt at =
 
 -- ---- rights that leave and come
 
-dropped_free : (r : FieldRights) (kind k : Kind) (q : ℕ) → (amounts_of (after_drop r kind q) k).free ≡ (amounts_of r k).free - cond (same_kind kind k) q 0
+dropped_free : (r : FieldRights) (kind k : Kind) (q : ℕ)
+    → (amounts_of (after_drop r kind q) k).free ≡ (amounts_of r k).free - cond (same_kind kind k) q 0
 dropped_free r Lower Lower q = refl
 dropped_free r Lower Raise q = omega arith
 dropped_free r Raise Lower q = omega arith
@@ -192,7 +240,8 @@ dropped_held r Lower Raise q = refl
 dropped_held r Raise Lower q = refl
 dropped_held r Raise Raise q = refl
 
-added_free : (r : FieldRights) (kind k : Kind) (q : ℕ) → (amounts_of (after_add r kind q) k).free ≡ (amounts_of r k).free + cond (same_kind kind k) q 0
+added_free : (r : FieldRights) (kind k : Kind) (q : ℕ)
+    → (amounts_of (after_add r kind q) k).free ≡ (amounts_of r k).free + cond (same_kind kind k) q 0
 added_free r Lower Lower q = refl
 added_free r Lower Raise q = omega arith
 added_free r Raise Lower q = omega arith
@@ -205,22 +254,31 @@ added_held r Raise Lower q = refl
 added_held r Raise Raise q = refl
 
 -- rights that leave a field leave the free ones of their kind
-pub free_at-dropped : (rows : List FieldRights) (f g : ℕ) (kind k : Kind) (q : ℕ) → f < length rows → free_at (at_field after_drop rows f kind q) g k ≡ free_at rows g k - cond ((f == g) && same_kind kind k) q 0
-free_at-dropped rows f g kind k q h = read-at_field (λ r. (amounts_of r k).free) after_drop (λ b n. n - cond (b && same_kind kind k) q 0) rows f g kind q h (λ r. dropped_free r kind k q) (λ n. omega arith)
+pub free_at-dropped : (rows : List FieldRights) (f g : ℕ) (kind k : Kind) (q : ℕ) → f < length rows
+    → free_at (at_field after_drop rows f kind q) g k ≡ free_at rows g k - cond ((f == g) && same_kind kind k) q 0
+free_at-dropped rows f g kind k q h = read-at_field (λ r. (amounts_of r k).free) after_drop
+    (λ b n. n - cond (b && same_kind kind k) q 0) rows f g kind q h (λ r. dropped_free r kind k q) (λ n. omega arith)
 
-pub held_at-dropped : (rows : List FieldRights) (f g : ℕ) (kind k : Kind) (q : ℕ) → f < length rows → held_at (at_field after_drop rows f kind q) g k ≡ held_at rows g k
-held_at-dropped rows f g kind k q h = read-at_field (λ r. (amounts_of r k).held) after_drop (λ b n. n) rows f g kind q h (λ r. dropped_held r kind k q) (λ n. refl)
+pub held_at-dropped : (rows : List FieldRights) (f g : ℕ) (kind k : Kind) (q : ℕ) → f < length rows
+    → held_at (at_field after_drop rows f kind q) g k ≡ held_at rows g k
+held_at-dropped rows f g kind k q h = read-at_field (λ r. (amounts_of r k).held) after_drop (λ b n. n) rows f g kind q h
+    (λ r. dropped_held r kind k q) (λ n. refl)
 
 -- rights that come to a field come to the free ones of their kind
-pub free_at-added : (rows : List FieldRights) (f g : ℕ) (kind k : Kind) (q : ℕ) → f < length rows → free_at (at_field after_add rows f kind q) g k ≡ free_at rows g k + cond ((f == g) && same_kind kind k) q 0
-free_at-added rows f g kind k q h = read-at_field (λ r. (amounts_of r k).free) after_add (λ b n. n + cond (b && same_kind kind k) q 0) rows f g kind q h (λ r. added_free r kind k q) (λ n. omega arith)
+pub free_at-added : (rows : List FieldRights) (f g : ℕ) (kind k : Kind) (q : ℕ) → f < length rows
+    → free_at (at_field after_add rows f kind q) g k ≡ free_at rows g k + cond ((f == g) && same_kind kind k) q 0
+free_at-added rows f g kind k q h = read-at_field (λ r. (amounts_of r k).free) after_add
+    (λ b n. n + cond (b && same_kind kind k) q 0) rows f g kind q h (λ r. added_free r kind k q) (λ n. omega arith)
 
-pub held_at-added : (rows : List FieldRights) (f g : ℕ) (kind k : Kind) (q : ℕ) → f < length rows → held_at (at_field after_add rows f kind q) g k ≡ held_at rows g k
-held_at-added rows f g kind k q h = read-at_field (λ r. (amounts_of r k).held) after_add (λ b n. n) rows f g kind q h (λ r. added_held r kind k q) (λ n. refl)
+pub held_at-added : (rows : List FieldRights) (f g : ℕ) (kind k : Kind) (q : ℕ) → f < length rows
+    → held_at (at_field after_add rows f kind q) g k ≡ held_at rows g k
+held_at-added rows f g kind k q h = read-at_field (λ r. (amounts_of r k).held) after_add (λ b n. n) rows f g kind q h
+    (λ r. added_held r kind k q) (λ n. refl)
 
 -- ---- rights that are given up
 
-tightened_free : (r : FieldRights) (kind k : Kind) (q : ℕ) → (amounts_of (after_tighten r kind q) k).free ≡ (amounts_of r k).free - cond (same_kind kind k) q 0
+tightened_free : (r : FieldRights) (kind k : Kind) (q : ℕ)
+    → (amounts_of (after_tighten r kind q) k).free ≡ (amounts_of r k).free - cond (same_kind kind k) q 0
 tightened_free r Lower Lower q = refl
 tightened_free r Lower Raise q = omega arith
 tightened_free r Raise Lower q = omega arith
@@ -232,22 +290,29 @@ tightened_held r Lower Raise q = refl
 tightened_held r Raise Lower q = refl
 tightened_held r Raise Raise q = refl
 
-tightened_cut : (r : FieldRights) (kind k : Kind) (q : ℕ) → (amounts_of (after_tighten r kind q) k).cut ≡ (amounts_of r k).cut + cond (same_kind kind k) q 0
+tightened_cut : (r : FieldRights) (kind k : Kind) (q : ℕ)
+    → (amounts_of (after_tighten r kind q) k).cut ≡ (amounts_of r k).cut + cond (same_kind kind k) q 0
 tightened_cut r Lower Lower q = refl
 tightened_cut r Lower Raise q = omega arith
 tightened_cut r Raise Lower q = omega arith
 tightened_cut r Raise Raise q = refl
 
 -- rights that are given up leave the free ones of their kind
-pub free_at-tightened : (rows : List FieldRights) (f g : ℕ) (kind k : Kind) (q : ℕ) → f < length rows → free_at (at_field after_tighten rows f kind q) g k ≡ free_at rows g k - cond ((f == g) && same_kind kind k) q 0
-free_at-tightened rows f g kind k q h = read-at_field (λ r. (amounts_of r k).free) after_tighten (λ b n. n - cond (b && same_kind kind k) q 0) rows f g kind q h (λ r. tightened_free r kind k q) (λ n. omega arith)
+pub free_at-tightened : (rows : List FieldRights) (f g : ℕ) (kind k : Kind) (q : ℕ) → f < length rows
+    → free_at (at_field after_tighten rows f kind q) g k ≡ free_at rows g k - cond ((f == g) && same_kind kind k) q 0
+free_at-tightened rows f g kind k q h = read-at_field (λ r. (amounts_of r k).free) after_tighten
+    (λ b n. n - cond (b && same_kind kind k) q 0) rows f g kind q h (λ r. tightened_free r kind k q) (λ n. omega arith)
 
-pub held_at-tightened : (rows : List FieldRights) (f g : ℕ) (kind k : Kind) (q : ℕ) → f < length rows → held_at (at_field after_tighten rows f kind q) g k ≡ held_at rows g k
-held_at-tightened rows f g kind k q h = read-at_field (λ r. (amounts_of r k).held) after_tighten (λ b n. n) rows f g kind q h (λ r. tightened_held r kind k q) (λ n. refl)
+pub held_at-tightened : (rows : List FieldRights) (f g : ℕ) (kind k : Kind) (q : ℕ) → f < length rows
+    → held_at (at_field after_tighten rows f kind q) g k ≡ held_at rows g k
+held_at-tightened rows f g kind k q h = read-at_field (λ r. (amounts_of r k).held) after_tighten (λ b n. n) rows f g kind q h
+    (λ r. tightened_held r kind k q) (λ n. refl)
 
 -- and come to what was given up of it
-pub cut_at-tightened : (rows : List FieldRights) (f g : ℕ) (kind k : Kind) (q : ℕ) → f < length rows → cut_at (at_field after_tighten rows f kind q) g k ≡ cut_at rows g k + cond ((f == g) && same_kind kind k) q 0
-cut_at-tightened rows f g kind k q h = read-at_field (λ r. (amounts_of r k).cut) after_tighten (λ b n. n + cond (b && same_kind kind k) q 0) rows f g kind q h (λ r. tightened_cut r kind k q) (λ n. omega arith)
+pub cut_at-tightened : (rows : List FieldRights) (f g : ℕ) (kind k : Kind) (q : ℕ) → f < length rows
+    → cut_at (at_field after_tighten rows f kind q) g k ≡ cut_at rows g k + cond ((f == g) && same_kind kind k) q 0
+cut_at-tightened rows f g kind k q h = read-at_field (λ r. (amounts_of r k).cut) after_tighten
+    (λ b n. n + cond (b && same_kind kind k) q 0) rows f g kind q h (λ r. tightened_cut r kind k q) (λ n. omega arith)
 
 -- ---- no other change gives rights up
 
@@ -282,17 +347,22 @@ ending_keeps_cut Aborted r Lower Raise q = refl
 ending_keeps_cut Aborted r Raise Lower q = refl
 ending_keeps_cut Aborted r Raise Raise q = refl
 
-pub cut_at-field : (change : FieldRights → Kind → ℕ → FieldRights) → KeepsCut change → (rows : List FieldRights) (f g : ℕ) (kind k : Kind) (q : ℕ) → f < length rows
+pub cut_at-field : (change : FieldRights → Kind → ℕ → FieldRights) → KeepsCut change
+    → (rows : List FieldRights) (f g : ℕ) (kind k : Kind) (q : ℕ) → f < length rows
     → cut_at (at_field change rows f kind q) g k ≡ cut_at rows g k
-cut_at-field change keeps rows f g kind k q h = read-at_field (λ r. (amounts_of r k).cut) change (λ b n. n) rows f g kind q h (λ r. keeps r kind k q) (λ n. refl)
+cut_at-field change keeps rows f g kind k q h = read-at_field (λ r. (amounts_of r k).cut) change (λ b n. n) rows f g kind q h
+    (λ r. keeps r kind k q) (λ n. refl)
 
-pub cut_at-by_escrows : (change : FieldRights → Kind → ℕ → FieldRights) → KeepsCut change → (rows : List FieldRights) (es : List Escrow) → AreInRange rows es → (g : ℕ) (k : Kind)
+pub cut_at-by_escrows : (change : FieldRights → Kind → ℕ → FieldRights) → KeepsCut change → (rows : List FieldRights) (es : List Escrow)
+    → AreInRange rows es → (g : ℕ) (k : Kind)
     → cut_at (by_escrows change rows es) g k ≡ cut_at rows g k
 cut_at-by_escrows change keeps rows [] range g k = refl
 cut_at-by_escrows change keeps rows (e ∷ es) range g k =
     let lt : e.field.0 < length rows = All-head (λ (e : Escrow). e.field.0 < length rows) e es range in
-    let rest = AreInRange-same rows (by_escrow change rows e) es (length-by_escrow change rows e) (All-tail (λ (e : Escrow). e.field.0 < length rows) e es range) in
-    cut_at-by_escrows change keeps (by_escrow change rows e) es rest g k ∙ cut_at-field change keeps rows e.field.0 g (kind_of e.change) k (unsigned_abs e.change) lt
+    let rest = AreInRange-same rows (by_escrow change rows e) es (length-by_escrow change rows e)
+    (All-tail (λ (e : Escrow). e.field.0 < length rows) e es range) in
+    cut_at-by_escrows change keeps (by_escrow change rows e) es rest g k
+    ∙ cut_at-field change keeps rows e.field.0 g (kind_of e.change) k (unsigned_abs e.change) lt
 
 -- ---- no change of rights changes a width
 
@@ -319,14 +389,19 @@ tightened_keeps r k q = with_amounts_keeps r k _
 pub added_keeps : KeepsWidth after_add
 added_keeps r k q = with_amounts_keeps r k _
 
-pub width_at-field : (change : FieldRights → Kind → ℕ → FieldRights) → KeepsWidth change → (rows : List FieldRights) (f g : ℕ) (kind : Kind) (q : ℕ) → f < length rows
+pub width_at-field : (change : FieldRights → Kind → ℕ → FieldRights) → KeepsWidth change
+    → (rows : List FieldRights) (f g : ℕ) (kind : Kind) (q : ℕ) → f < length rows
     → width_at (at_field change rows f kind q) g ≡ width_at rows g
-width_at-field change keeps rows f g kind q h = read-at_field (λ r. r.width) change (λ b n. n) rows f g kind q h (λ r. keeps r kind q) (λ n. refl)
+width_at-field change keeps rows f g kind q h = read-at_field (λ r. r.width) change (λ b n. n) rows f g kind q h (λ r. keeps r kind q)
+    (λ n. refl)
 
-pub width_at-by_escrows : (change : FieldRights → Kind → ℕ → FieldRights) → KeepsWidth change → (rows : List FieldRights) (es : List Escrow) → AreInRange rows es → (g : ℕ)
+pub width_at-by_escrows : (change : FieldRights → Kind → ℕ → FieldRights) → KeepsWidth change → (rows : List FieldRights) (es : List Escrow)
+    → AreInRange rows es → (g : ℕ)
     → width_at (by_escrows change rows es) g ≡ width_at rows g
 width_at-by_escrows change keeps rows [] range g = refl
 width_at-by_escrows change keeps rows (e ∷ es) range g =
     let lt : e.field.0 < length rows = All-head (λ (e : Escrow). e.field.0 < length rows) e es range in
-    let rest = AreInRange-same rows (by_escrow change rows e) es (length-by_escrow change rows e) (All-tail (λ (e : Escrow). e.field.0 < length rows) e es range) in
-    width_at-by_escrows change keeps (by_escrow change rows e) es rest g ∙ width_at-field change keeps rows e.field.0 g (kind_of e.change) (unsigned_abs e.change) lt
+    let rest = AreInRange-same rows (by_escrow change rows e) es (length-by_escrow change rows e)
+    (All-tail (λ (e : Escrow). e.field.0 < length rows) e es range) in
+    width_at-by_escrows change keeps (by_escrow change rows e) es rest g
+    ∙ width_at-field change keeps rows e.field.0 g (kind_of e.change) (unsigned_abs e.change) lt

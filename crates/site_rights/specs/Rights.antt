@@ -169,4 +169,5 @@ pub record AreTold (schema : SchemaValue) (free cuts : List (ℕ × ℕ)) (rows 
 -- On each field, what was told of both kinds, free and given up, is no more than the field is wide.
 abbrev pub AreWithin : SchemaValue → List (ℕ × ℕ) → List (ℕ × ℕ) → Type 0
 AreWithin schema free cuts =
-    (f : ℕ) → f < length free → (pair_at free f).0 + (pair_at free f).1 + (pair_at cuts f).0 + (pair_at cuts f).1 ≤ width_of (field_at schema f)
+    (f : ℕ) → f < length free → (pair_at free f).0 + (pair_at free f).1 + (pair_at cuts f).0 + (pair_at cuts f).1
+    ≤ width_of (field_at schema f)

@@ -11,8 +11,8 @@ pub struct Amounts {
     pub cut: u64,
 }
 
-/// The rights of both kinds on a field, and the field's width, which is the schema's ceiling less its
-/// floor. The six amounts together never exceed the width, and the width is at most
+/// The rights of both kinds on a field, and the field's width, which is the schema's ceiling less
+/// its floor. The six amounts together never exceed the width, and the width is at most
 /// 2,000,000,000,000,000.
 #[derive(Clone, Copy, Debug, PartialEq, Eq)]
 pub struct FieldRights {

@@ -43,9 +43,10 @@ impl Rights {
         Ok(Rights { rows })
     }
 
-    /// The rights of a site of which so many are free on each field, to lower and to raise it, and so
-    /// many were given up; none are held. On each field all of them together are no more than its width.
-    /// The error is want of memory. Costs one row for each field; no later call takes memory.
+    /// The rights of a site of which so many are free on each field, to lower and to raise it, and
+    /// so many were given up; none are held. On each field all of them together are no more than
+    /// its width. The error is want of memory. Costs one row for each field; no later call takes
+    /// memory.
     pub fn of(
         alloc: Global,
         schema: &Schema,
@@ -104,8 +105,8 @@ impl Rights {
         self.amounts(field, kind).cut
     }
 
-    /// What the site guards of a field's width: its free and held rights of a kind, and those that it
-    /// has given up, together at most 2,000,000,000,000,000.
+    /// What the site guards of a field's width: its free and held rights of a kind, and those that
+    /// it has given up, together at most 2,000,000,000,000,000.
     pub fn guarded(&self, field: FieldNo, kind: Kind) -> u64
         requires in_schema { field.0 < length self.now }
         ensures value { result ≡ guarded_at self.now field.0 kind }
@@ -115,8 +116,8 @@ impl Rights {
         amounts.cut + (amounts.free + amounts.held)
     }
 
-    /// What the site guards of both kinds leaves of the field's width: so many rights more it may come
-    /// to hold on the field, at most 2,000,000,000,000,000.
+    /// What the site guards of both kinds leaves of the field's width: so many rights more it may
+    /// come to hold on the field, at most 2,000,000,000,000,000.
     pub fn room(&self, field: FieldNo) -> u64
         requires in_schema { field.0 < length self.now }
         ensures value { result ≡ room_at self.now field.0 }

@@ -95,42 +95,55 @@ module _ {v w : SiteValue} {up : Bool} {extent : Extent} {a : Accounts} (was : I
   lawful : Lawful v.schema v.site.0 was.records
   lawful = was.lawful
 
-  pub tells_open : is_up (base_of w) w.history ≡ true → (t : TxnId) → is_listed t a.journal ≡ (is_begun t (here w).effects && is_open t (here w).effects)
+  pub tells_open : is_up (base_of w) w.history ≡ true → (t : TxnId)
+      → is_listed t a.journal ≡ (is_begun t (here w).effects && is_open t (here w).effects)
   tells_open there t = ap (is_listed t) (stands_now there).matches.journal ∙ stands-journal_of t (here w).effects
 
-  pub tells_count : is_up (base_of w) w.history ≡ true → (t : TxnId) → (is_begun t (here w).effects && is_open t (here w).effects) ≡ true → length (escrows_at t a.journal) ≡ count_escrows t (here w).effects
+  pub tells_count : is_up (base_of w) w.history ≡ true → (t : TxnId) → (is_begun t (here w).effects && is_open t (here w).effects) ≡ true
+      → length (escrows_at t a.journal) ≡ count_escrows t (here w).effects
   tells_count there t opened =
-      ap (λ j. length (escrows_at t j)) (stands_now there).matches.journal ∙ ap length (escrows_at-journal_of t (here w).effects opened) ∙ length-reverse (escrows_of t (here w).effects)
+      ap (λ j. length (escrows_at t j)) (stands_now there).matches.journal ∙ ap length (escrows_at-journal_of t (here w).effects opened)
+      ∙ length-reverse (escrows_of t (here w).effects)
 
-  pub has_place : is_up (base_of w) w.history ≡ true → {s f : ℕ} → s ≢ w.site.0 → s < w.schema.sites → f < length w.schema.fields → IsSlot a.standing.ledger s f
-  has_place there {s = s} {f = f} other site_in field_in = (stands_now there).holds.place s f (record { other = other; site_in = site_in; field_in = field_in })
+  pub has_place : is_up (base_of w) w.history ≡ true → {s f : ℕ} → s ≢ w.site.0 → s < w.schema.sites → f < length w.schema.fields
+      → IsSlot a.standing.ledger s f
+  has_place there {s = s} {f = f} other site_in field_in =
+      (stands_now there).holds.place s f (record { other = other; site_in = site_in; field_in = field_in })
 
-  pub tells_free : is_up (base_of w) w.history ≡ true → (f : FieldNo) (k : Kind) → f.0 < length w.schema.fields → free_at a.standing.rights f.0 k ≡ free (here w) f k
+  pub tells_free : is_up (base_of w) w.history ≡ true → (f : FieldNo) (k : Kind) → f.0 < length w.schema.fields
+      → free_at a.standing.rights f.0 k ≡ free (here w) f k
   tells_free there f k l = let m = (stands_now there).matches in m.free f.0 k (omega (arith, l, m.count))
 
-  pub tells_cut : is_up (base_of w) w.history ≡ true → (f : FieldNo) (k : Kind) → f.0 < length w.schema.fields → cut_at a.standing.rights f.0 k ≡ cut_so_far (here w) f k
+  pub tells_cut : is_up (base_of w) w.history ≡ true → (f : FieldNo) (k : Kind) → f.0 < length w.schema.fields
+      → cut_at a.standing.rights f.0 k ≡ cut_so_far (here w) f k
   tells_cut there f k l = let m = (stands_now there).matches in m.cut f.0 k (omega (arith, l, m.count))
 
-  pub tells_guarded : is_up (base_of w) w.history ≡ true → (f : FieldNo) (k : Kind) → f.0 < length w.schema.fields → guarded_at a.standing.rights f.0 k ≡ guarded_rights (here w) f k
+  pub tells_guarded : is_up (base_of w) w.history ≡ true → (f : FieldNo) (k : Kind) → f.0 < length w.schema.fields
+      → guarded_at a.standing.rights f.0 k ≡ guarded_rights (here w) f k
   tells_guarded there f k l =
       let m = (stands_now there).matches in
       let l' : f.0 < length a.standing.rights = omega (arith, l, m.count) in
       omega (arith, m.free f.0 k l', m.held f.0 k l', m.cut f.0 k l')
 
-  pub tells_room : is_up (base_of w) w.history ≡ true → (f : FieldNo) → f.0 < length w.schema.fields → room_at a.standing.rights f.0 ≡ room (here w) f
+  pub tells_room : is_up (base_of w) w.history ≡ true → (f : FieldNo) → f.0 < length w.schema.fields
+      → room_at a.standing.rights f.0 ≡ room (here w) f
   tells_room there f l =
       let m = (stands_now there).matches in
       let l' : f.0 < length a.standing.rights = omega (arith, l, m.count) in
       omega (arith, m.width f.0 l', tells_guarded there f Lower l, tells_guarded there f Raise l)
 
-  pub tells_given : is_up (base_of w) w.history ≡ true → (to : SiteNo) (f : FieldNo) (k : Kind) → to.0 ≢ w.site.0 → to.0 < w.schema.sites → f.0 < length w.schema.fields
+  pub tells_given : is_up (base_of w) w.history ≡ true → (to : SiteNo) (f : FieldNo) (k : Kind) → to.0 ≢ w.site.0 → to.0 < w.schema.sites
+      → f.0 < length w.schema.fields
       → total_at a.standing.ledger to.0 f.0 k ≡ told_so_far (here w) to f k
-  tells_given there to f k other site_in field_in = (stands_now there).holds.given to.0 f.0 k (record { other = other; site_in = site_in; field_in = field_in })
+  tells_given there to f k other site_in field_in =
+      (stands_now there).holds.given to.0 f.0 k (record { other = other; site_in = site_in; field_in = field_in })
 
-  pub tells_gain : is_up (base_of w) w.history ≡ true → (from : SiteNo) (f : FieldNo) (k : Kind) (total : ℕ) → from.0 ≢ w.site.0 → from.0 < w.schema.sites → f.0 < length w.schema.fields
+  pub tells_gain : is_up (base_of w) w.history ≡ true → (from : SiteNo) (f : FieldNo) (k : Kind) (total : ℕ) → from.0 ≢ w.site.0
+      → from.0 < w.schema.sites → f.0 < length w.schema.fields
       → total - accepted_at a.standing.ledger from.0 f.0 k ≡ gain_of (here w) from f k total
   tells_gain there from f k total other site_in field_in =
-      ap (λ (n : ℕ). total - n) ((stands_now there).holds.accepted from.0 f.0 k (record { other = other; site_in = site_in; field_in = field_in }))
+      ap (λ (n : ℕ). total - n) ((stands_now there).holds.accepted from.0 f.0 k
+      (record { other = other; site_in = site_in; field_in = field_in }))
 
   pub holds_log : HoldsLog w
   holds_log =
@@ -148,7 +161,8 @@ module _ {v w : SiteValue} {up : Bool} {extent : Extent} {a : Accounts} (was : I
 
   -- ---- a refusal
 
-  pub refuses : (c : Command) (x : Refusal) {h : List Entry} → first (refusals (here w) c) ≡ Some x → h ≡ entry_of v c (Refused x) ∷ v.history
+  pub refuses : (c : Command) (x : Refusal) {h : List Entry} → first (refusals (here w) c) ≡ Some x
+      → h ≡ entry_of v c (Refused x) ∷ v.history
       → Ends w c (Refused x) (After h) up extent a
   refuses c x {h = h} some past =
       returned c (Refused x) (After h) up extent a
@@ -158,9 +172,11 @@ module _ {v w : SiteValue} {up : Bool} {extent : Extent} {a : Accounts} (was : I
 
   pub can : (c : Command) → first (refusals (here w) c) ≡ None → is_carried c ≡ true → CanSettle a c
   can c none plain =
-      can_settle v.schema v.site.0 (base_of v) v.history a was.run (read (up_there (here v) c (carried_no_restart c plain) (none_of c none))) c (none_of c none)
+      can_settle v.schema v.site.0 (base_of v) v.history a was.run
+      (read (up_there (here v) c (carried_no_restart c plain) (none_of c none))) c (none_of c none)
 
-  pub answers : (c : Command) (r : Reply) {h : List Entry} {b : Accounts} → first (refusals (here w) c) ≡ None → is_carried c ≡ true → writes (here w) c ≡ false → r ≡ answer (here w) c
+  pub answers : (c : Command) (r : Reply) {h : List Entry} {b : Accounts} → first (refusals (here w) c) ≡ None → is_carried c ≡ true
+      → writes (here w) c ≡ false → r ≡ answer (here w) c
       → b ≡ after_settling a c → h ≡ entry_of v c r ∷ v.history → Ends w c r (After h) up extent b
   answers c r {h = h} {b = b} none plain silent owed did past =
       let n = carried_no_restart c plain in
@@ -168,8 +184,10 @@ module _ {v w : SiteValue} {up : Bool} {extent : Extent} {a : Accounts} (was : I
       let quiet = subst (λ (x : SiteValue). writes (here x) c ≡ false) (sym is) silent in
       returned c r (After h) up extent b
       (subst (λ (x : Accounts). Ends v c r (After h) up extent x) (sym did)
-      (ends_answered v up extent a was c (after_settling a c) r h (subst (λ (x : SiteValue). r ≡ answer (here x) c) (sym is) owed) past n (none_of c none) quiet
-      (stands_settled v.schema v.site.0 (base_of v) v.history a was.run (read there) was.records (was.stands there) v.site c plain quiet (none_of c none))))
+      (ends_answered v up extent a was c (after_settling a c) r h (subst (λ (x : SiteValue). r ≡ answer (here x) c) (sym is) owed) past n
+      (none_of c none) quiet
+      (stands_settled v.schema v.site.0 (base_of v) v.history a was.run (read there) was.records (was.stands there) v.site c plain quiet
+      (none_of c none))))
 
   -- ---- an answer whose record is written
 
@@ -182,11 +200,13 @@ module _ {v w : SiteValue} {up : Bool} {extent : Extent} {a : Accounts} (was : I
 
     fits : IsRecord (record_at (here v) c)
     fits =
-        written_in_range v.schema v.site.0 (base_of v) (plain v.based) was.ground.is_base was.ground.based_on was.kept v.history (plain was.records) was.ground.limits was.ground.site_in was.run was.keeps c
+        written_in_range v.schema v.site.0 (base_of v) (plain v.based) was.ground.is_base was.ground.based_on was.kept v.history
+        (plain was.records) was.ground.limits was.ground.site_in was.run was.keeps c
         was.ground.epoch_in unrefused writing
 
     pub record_fits : {kept : Record} → kept ≡ record_at (here w) c → IsRecord kept
-    record_fits kept_is = subst (λ (r : Record). IsRecord r) (sym kept_is) (subst (λ (x : SiteValue). IsRecord (record_at (here x) c)) is fits)
+    record_fits kept_is = subst (λ (r : Record). IsRecord r) (sym kept_is)
+        (subst (λ (x : SiteValue). IsRecord (record_at (here x) c)) is fits)
 
     pub record_plain : {kept : Record} → kept ≡ record_at (here w) c → is_summary kept ≡ false
     record_plain kept_is = ap is_summary kept_is ∙ record_is_plain (here w) c
@@ -203,36 +223,44 @@ module _ {v w : SiteValue} {up : Bool} {extent : Extent} {a : Accounts} (was : I
     pub can_write : {kept : Record} → kept ≡ record_at (here w) c → CanCarry v.schema a kept
     can_write kept_is =
         subst (λ (r : Record). CanCarry v.schema a r) (sym (same_record kept_is))
-        (can_carry v.schema v.site.0 (base_of v) v.history a was.run (read there_now) was.records (was.stands there_now) was.lawful c unrefused writing may_now)
+        (can_carry v.schema v.site.0 (base_of v) v.history a was.run (read there_now) was.records
+        (was.stands there_now) was.lawful c unrefused writing may_now)
 
     -- the summary that is due
     next : {kept : Record} → kept ≡ record_at (here w) c → MayFollowNext v.schema a.standing was.records kept
     next kept_is =
         subst (λ (r : Record). MayFollowNext v.schema a.standing was.records r) (sym (same_record kept_is))
-        (stands_next v.schema a.standing v.site.0 was.records (record_at (here v) c) was.ground.site_in was.log.each was.lawful (was.stands there_now).standing may_now)
+        (stands_next v.schema a.standing v.site.0 was.records (record_at (here v) c) was.ground.site_in was.log.each was.lawful
+        (was.stands there_now).standing may_now)
 
     pub can_due : {kept : Record} → kept ≡ record_at (here w) c → (rs : List Record) × MayFollowNext v.schema a.standing rs kept
     can_due kept_is = (was.records, next kept_is)
 
     due_now : (kept : Record) (due : Option SummaryValue) → kept ≡ record_at (here w) c
-        → ((rs : List Record) → MayFollowNext v.schema a.standing rs kept → extent.behind ≡ since_summary rs → with_due kept due ≡ piece v.schema a.standing.ledger.site rs kept)
+        → ((rs : List Record) → MayFollowNext v.schema a.standing rs kept → extent.behind ≡ since_summary rs
+        → with_due kept due ≡ piece v.schema a.standing.ledger.site rs kept)
         → with_due kept due ≡ piece v.schema v.site.0 was.records kept
     due_now kept due kept_is told_ =
         due_here v.schema a.standing v.site.0 was.records kept due (was.stands there_now).standing
         (told_ was.records (next kept_is) (reached v up extent a was c unrefused writing fits).behind)
 
     pub due_is : (kept : Record) (due : Option SummaryValue) → kept ≡ record_at (here w) c
-        → ((rs : List Record) → MayFollowNext v.schema a.standing rs kept → extent.behind ≡ since_summary rs → with_due kept due ≡ piece v.schema a.standing.ledger.site rs kept)
+        → ((rs : List Record) → MayFollowNext v.schema a.standing rs kept → extent.behind ≡ since_summary rs
+        → with_due kept due ≡ piece v.schema a.standing.ledger.site rs kept)
         → (rs : List Record) (rest : List ℕ) → IsLog w.bytes rs rest → with_due kept due ≡ piece w.schema w.site.0 rs kept
     due_is kept due kept_is told_ rs rest log =
-        let same = (same_log v.bytes was.records rs was.rest rest was.log (subst (λ (x : SiteValue). IsLog x.bytes rs rest) (sym is) log)).0 in
-        due_now kept due kept_is told_ ∙ ap (λ (x : List Record). piece v.schema v.site.0 x kept) same ∙ ap (λ (x : SiteValue). piece x.schema x.site.0 rs kept) is
+        let same = (same_log v.bytes was.records rs was.rest rest was.log (subst (λ (x : SiteValue). IsLog x.bytes rs rest) (sym is) log)).0
+        in
+        due_now kept due kept_is told_ ∙ ap (λ (x : List Record). piece v.schema v.site.0 x kept) same
+        ∙ ap (λ (x : SiteValue). piece x.schema x.site.0 rs kept) is
 
     pub due_fits : (kept : Record) (due : Option SummaryValue) → kept ≡ record_at (here w) c
-        → ((rs : List Record) → MayFollowNext v.schema a.standing rs kept → extent.behind ≡ since_summary rs → with_due kept due ≡ piece v.schema a.standing.ledger.site rs kept)
+        → ((rs : List Record) → MayFollowNext v.schema a.standing rs kept → extent.behind ≡ since_summary rs
+        → with_due kept due ≡ piece v.schema a.standing.ledger.site rs kept)
         → AllByRecursion IsRecord (with_due kept due)
     due_fits kept due kept_is told_ =
-        subst (λ (ps : List Record). AllByRecursion IsRecord ps) (sym (due_now kept due kept_is told_ ∙ ap (λ (r : Record). piece v.schema v.site.0 was.records r) (same_record kept_is)))
+        subst (λ (ps : List Record). AllByRecursion IsRecord ps)
+        (sym (due_now kept due kept_is told_ ∙ ap (λ (r : Record). piece v.schema v.site.0 was.records r) (same_record kept_is)))
         (lines_fit v up extent a was c unrefused writing fits)
 
     -- the lines that are appended
@@ -240,30 +268,40 @@ module _ {v w : SiteValue} {up : Bool} {extent : Extent} {a : Accounts} (was : I
         → ((rs : List Record) (rest : List ℕ) → IsLog v.bytes rs rest → with_due kept due ≡ piece v.schema v.site.0 rs kept)
         → flat_map text (with_due kept due) ≡ flat_map text (piece v.schema v.site.0 was.records (record_at (here v) c))
     lines_are kept due kept_is told_ =
-        ap (flat_map text) (told_ was.records was.rest was.log ∙ ap (λ (r : Record). piece v.schema v.site.0 was.records r) (same_record kept_is))
+        ap (flat_map text) (told_ was.records was.rest was.log
+        ∙ ap (λ (r : Record). piece v.schema v.site.0 was.records r) (same_record kept_is))
 
     pub few_written : extent.count ≤ length v.based + length v.history
     few_written = omega (arith, (reached v up extent a was c unrefused writing fits).count, few_records v up extent a was)
 
-    pub wrote : (r : Reply) (kept : Record) (due : Option SummaryValue) {h : List Entry} {b : Accounts} {bytes : List ℕ} {failed : ℕ} {left : Option Mishap} {size : ℕ} {later : Extent}
+    pub wrote : (r : Reply) (kept : Record) (due : Option SummaryValue) {h : List Entry} {b : Accounts} {bytes : List ℕ} {failed : ℕ}
+        {left : Option Mishap} {size : ℕ} {later : Extent}
         → kept ≡ record_at (here w) c → r ≡ answer (here w) c
         → ((rs : List Record) (rest : List ℕ) → IsLog v.bytes rs rest → with_due kept due ≡ piece v.schema v.site.0 rs kept)
-        → TakesIn v.schema (before_taking_in a kept).standing kept true b.standing → b.journal ≡ (before_taking_in a kept).journal → b.last ≡ a.last
+        → TakesIn v.schema (before_taking_in a kept).standing kept true b.standing → b.journal ≡ (before_taking_in a kept).journal
+        → b.last ≡ a.last
         → Appends {T = Unit {0}} {E = Device} (Ok tt) v.bytes (flat_map text (with_due kept due)) bytes v.failed failed
         → AppendFate {E = Device} v.foretold v.bytes (flat_map text (with_due kept due)) (Ok tt) bytes left
-        → h ≡ entry_of v c r ∷ v.history → size ≡ length (flat_map text (with_due kept due)) → later ≡ one_record_longer extent size → Ends w c r (Then h bytes failed left v.doubt) up later b
-    wrote r kept due {h = h} {b = b} {bytes = bytes} {failed = failed} {left = left} {size = size} {later = later} kept_is owed told_ took open_ last_is rows_with fate past long more =
+        → h ≡ entry_of v c r ∷ v.history → size ≡ length (flat_map text (with_due kept due)) → later ≡ one_record_longer extent size
+        → Ends w c r (Then h bytes failed left v.doubt) up later b
+    wrote r kept due {h = h} {b = b} {bytes = bytes} {failed = failed} {left = left} {size = size} {later =
+        later} kept_is owed told_ took open_ last_is rows_with fate past long more =
         let same = same_record kept_is in
         let lines = lines_are kept due kept_is told_ in
         let line = subst (λ (x : List ℕ). Appends {T = Unit {0}} {E = Device} (Ok tt) v.bytes x bytes v.failed failed) lines rows_with in
         returned c r (Then h bytes failed left v.doubt) up later b
-        (subst (λ (e : Extent). Ends v c r (Then h bytes failed left v.doubt) up e b) (sym (more ∙ ap (one_record_longer extent) (long ∙ ap length lines)))
-        (ends_wrote v up extent a was c unrefused writing fits b bytes failed left r h (subst (λ (x : SiteValue). r ≡ answer (here x) c) (sym is) owed) past
-        (stands_carried v.schema v.site.0 (base_of v) v.history a was.run (read there_now) was.records (was.stands there_now) was.lawful v.site c unrefused writing b
-        (subst (λ (x : Record). TakesIn v.schema (before_taking_in a x).standing x true b.standing) same took) (subst (λ (x : Record). b.journal ≡ (before_taking_in a x).journal) same open_) last_is) line.0 line.1
+        (subst (λ (e : Extent). Ends v c r (Then h bytes failed left v.doubt) up e b)
+        (sym (more ∙ ap (one_record_longer extent) (long ∙ ap length lines)))
+        (ends_wrote v up extent a was c unrefused writing fits b bytes failed left r h
+        (subst (λ (x : SiteValue). r ≡ answer (here x) c) (sym is) owed) past
+        (stands_carried v.schema v.site.0 (base_of v) v.history a was.run (read there_now) was.records
+        (was.stands there_now) was.lawful v.site c unrefused writing b
+        (subst (λ (x : Record). TakesIn v.schema (before_taking_in a x).standing x true b.standing) same took)
+        (subst (λ (x : Record). b.journal ≡ (before_taking_in a x).journal) same open_) last_is) line.0 line.1
         (subst (λ (x : List ℕ). AppendFate {E = Device} v.foretold v.bytes x (Ok tt) bytes left) lines fate)))
 
-    pub unsure : (kept : Record) (due : Option SummaryValue) (device : Device) {h : List Entry} {bytes : List ℕ} {failed : ℕ} {left : Option Mishap} → kept ≡ record_at (here w) c
+    pub unsure : (kept : Record) (due : Option SummaryValue)
+        (device : Device) {h : List Entry} {bytes : List ℕ} {failed : ℕ} {left : Option Mishap} → kept ≡ record_at (here w) c
         → ((rs : List Record) (rest : List ℕ) → IsLog v.bytes rs rest → with_due kept due ≡ piece v.schema v.site.0 rs kept)
         → Appends {T = Unit {0}} (Err device) v.bytes (flat_map text (with_due kept due)) bytes v.failed failed
         → AppendFate v.foretold v.bytes (flat_map text (with_due kept due)) (Err device) bytes left
@@ -293,7 +331,8 @@ module _ {v w : SiteValue} {up : Bool} {extent : Extent} {a : Accounts} (was : I
     pub begins : {h : List Entry} {j : List Row} → j ≡ a.journal ++ (t, []) ∷ [] → h ≡ entry_of v Begin (Begun t) ∷ v.history
         → Ends w Begin (Begun t) (After h) up extent (record a { journal = j; last = a.last + 1 })
     begins {h = h} {j = j} row past =
-        let begun : ◌≡◌ {A = Reply} (Begun t) (answer (here v) Begin) = ap (λ (x : TxnId). Begun x) (next_is v.schema v.site.0 (base_of v) v.history a was.run (read stood)) in
+        let begun : ◌≡◌ {A = Reply} (Begun t) (answer (here v) Begin) =
+        ap (λ (x : TxnId). Begun x) (next_is v.schema v.site.0 (base_of v) v.history a was.run (read stood)) in
         let more : List Row → Accounts = λ j. record a { journal = j; last = a.last + 1 } in
         let b = more (a.journal ++ (t, []) ∷ []) in
         returned Begin (Begun t) (After h) up extent (more j)
@@ -313,7 +352,8 @@ module _ {v w : SiteValue} {up : Bool} {extent : Extent} {a : Accounts} (was : I
 
     pub grant_opened : is_listed txn a.journal ≡ true
     grant_opened =
-        stands_open v.schema v.site.0 (base_of v) v.history a was.run (read held) txn (opened_by v.schema v.site.0 (base_of v) v.history a was.run (read held) txn e (none_of ask none))
+        stands_open v.schema v.site.0 (base_of v) v.history a was.run (read held) txn
+        (opened_by v.schema v.site.0 (base_of v) v.history a was.run (read held) txn e (none_of ask none))
 
     pub grant_has_room : length (escrows_at txn a.journal) < max_escrows
     grant_has_room = few_by v.schema v.site.0 (base_of v) v.history a was.run (read held) txn e (none_of ask none)
@@ -321,15 +361,18 @@ module _ {v w : SiteValue} {up : Bool} {extent : Extent} {a : Accounts} (was : I
     pub grant_has_rights : unsigned_abs e.change ≤ free_at a.standing.rights e.field.0 (kind_of e.change)
     grant_has_rights = enough_by v.schema v.site.0 (base_of v) v.history a was.run (read held) txn e (none_of ask none)
 
-    pub grants : {h : List Entry} {rows : List FieldRights} {j : List Row} → rows ≡ by_escrow after_take a.standing.rights e → j ≡ rows_with txn e a.journal → h ≡ entry_of v ask Granted ∷ v.history
+    pub grants : {h : List Entry} {rows : List FieldRights} {j : List Row} → rows ≡ by_escrow after_take a.standing.rights e
+        → j ≡ rows_with txn e a.journal → h ≡ entry_of v ask Granted ∷ v.history
         → Ends w ask Granted (After h) up extent (record (with_rights rows a) { journal = j })
     grants {h = h} {rows = rows} {j = j} took row past =
         let more : List FieldRights → List Row → Accounts = λ x y. record (with_rights x a) { journal = y } in
         returned ask Granted (After h) up extent (more rows j)
         (subst (λ (x : List FieldRights). Ends v ask Granted (After h) up extent (more x j)) (sym took)
         (subst (λ (y : List Row). Ends v ask Granted (After h) up extent (more (by_escrow after_take a.standing.rights e) y)) (sym row)
-        (ends_answered v up extent a was ask (more (by_escrow after_take a.standing.rights e) (rows_with txn e a.journal)) Granted h refl past refl (none_of ask none) refl
-        (stands_grant v.schema v.site.0 (base_of v) v.history a was.run (read held) was.records (was.stands held) v.site txn e (none_of ask none)))))
+        (ends_answered v up extent a was ask (more (by_escrow after_take a.standing.rights e) (rows_with txn e a.journal)) Granted h refl
+        past refl (none_of ask none) refl
+        (stands_grant v.schema v.site.0 (base_of v) v.history a was.run (read held) was.records (was.stands held) v.site txn e
+        (none_of ask none)))))
 
   -- ---- a commit
 
@@ -361,48 +404,71 @@ module _ {v w : SiteValue} {up : Bool} {extent : Extent} {a : Accounts} (was : I
   limits = was.ground.limits
 
   abbrev ThenReplayed : List Entry → List ℕ → ℕ → Option Mishap → Option ℕ → ℕ → SiteValue
-  ThenReplayed h bytes failed left doubt n = record v { history = h; bytes = bytes; failed = failed; foretold = left; doubt = doubt; replayed = n }
+  ThenReplayed h bytes failed left doubt n = record v {
+    history = h;
+    bytes = bytes;
+    failed = failed;
+    foretold = left;
+    doubt = doubt;
+    replayed = n;
+  }
 
   pub fails : (turns : Option ℕ) (n : ℕ) {h : List Entry} {bytes : List ℕ} {failed : ℕ} {left : Option Mishap}
-      → FailsOver v.schema v.site.0 was.records turns was.rest v.bytes bytes v.foretold left v.failed failed → (turns ≡ Some n) ⊎ (n ≡ v.replayed)
+      → FailsOver v.schema v.site.0 was.records turns was.rest v.bytes bytes v.foretold left v.failed failed → (turns ≡ Some n)
+      ⊎ (n ≡ v.replayed)
       → h ≡ entry_of v Restart StillDown ∷ v.history → Ends w Restart StillDown (ThenReplayed h bytes failed left v.doubt n) false extent a
   fails turns n {h = h} {bytes = bytes} {failed = failed} {left = left} did which past =
-      returned Restart StillDown (ThenReplayed h bytes failed left v.doubt n) false extent a (ends_failed v up extent a was a turns n bytes failed left h past did (by which))
+      returned Restart StillDown (ThenReplayed h bytes failed left v.doubt n) false extent a
+      (ends_failed v up extent a was a turns n bytes failed left h past did (by which))
     where
       by : (turns ≡ Some n) ⊎ (n ≡ v.replayed) → (n ≡ since_summary was.records) ⊎ (n ≡ v.replayed)
       by (inl read_) = inl (did.replayed n read_)
       by (inr same) = inr same
 
-  pub fills : {h : List Entry} {bytes : List ℕ} {failed : ℕ} {left : Option Mishap} → FullOver was.records v.bytes bytes v.foretold left v.failed failed
-      → h ≡ entry_of v Restart (Refused NumbersFull) ∷ v.history → Ends w Restart (Refused NumbersFull) (Then h bytes failed left v.doubt) up extent a
+  pub fills : {h : List Entry} {bytes : List ℕ} {failed : ℕ} {left : Option Mishap}
+      → FullOver was.records v.bytes bytes v.foretold left v.failed failed
+      → h ≡ entry_of v Restart (Refused NumbersFull) ∷ v.history
+      → Ends w Restart (Refused NumbersFull) (Then h bytes failed left v.doubt) up extent a
   fills {h = h} {bytes = bytes} {failed = failed} {left = left} did past =
-      returned Restart (Refused NumbersFull) (Then h bytes failed left v.doubt) up extent a (ends_full v up extent a was bytes failed left h past did)
+      returned Restart (Refused NumbersFull) (Then h bytes failed left v.doubt) up extent a
+      (ends_full v up extent a was bytes failed left h past did)
 
   pub seam : PartsAt v.bytes extent.length
   seam = reach_seam extent v.bytes was.records was.rest was.log was.reaches
 
-  pub can_restart : (standing : Standing) (epoch : ℕ) {turns size : ℕ} {rest bytes : List ℕ} {failed : ℕ} {left : Option Mishap} {behind : List Record}
-      → StandsOver v.schema v.site.0 was.records epoch turns size rest bytes v.foretold left v.failed failed × IsStandingFor v.schema v.site.0 was.records standing × AreBehind v.bytes extent.length behind
-      → HasSlots v.schema standing.rights standing.ledger × CanTakeIn v.schema standing (records.Restart epoch) × IsRecord (records.Restart epoch)
+  pub can_restart : (standing : Standing) (epoch : ℕ) {turns size : ℕ} {rest bytes : List ℕ} {failed : ℕ} {left : Option Mishap}
+      {behind : List Record}
+      → StandsOver v.schema v.site.0 was.records epoch turns size rest bytes v.foretold left v.failed failed
+      × IsStandingFor v.schema v.site.0 was.records standing × AreBehind v.bytes extent.length behind
+      → HasSlots v.schema standing.rights standing.ledger × CanTakeIn v.schema standing (records.Restart epoch)
+      × IsRecord (records.Restart epoch)
   can_restart standing epoch did = (
     has_places v.schema v.site.0 was.records standing.rights standing.ledger standing.epoch did.1.for_,
     omega (arith, did.0.epoch_is, did.1.for_.epoch),
     (omega (arith, did.0.epoch_is), omega (arith, did.0.epoch_is, did.0.some)),
   )
 
-  pub few_more : (behind : List Record) → AreBehind v.bytes extent.length behind → extent.count + length (plain behind) ≤ length v.based + length v.history
+  pub few_more : (behind : List Record) → AreBehind v.bytes extent.length behind
+      → extent.count + length (plain behind) ≤ length v.based + length v.history
   few_more behind are = omega (arith, few_behind v up extent a was behind are, few_records v up extent a was)
 
-  pub restarts : (standing : Standing) (behind : List Record) (epoch turns size behinds : ℕ) (last : Last) {h : List Entry} {b : Accounts} {more : ℕ} {bytes : List ℕ} {failed : ℕ} {left : Option Mishap}
-      → StandsOver v.schema v.site.0 was.records epoch turns size was.rest bytes v.foretold left v.failed failed × IsStandingFor v.schema v.site.0 was.records standing × AreBehind v.bytes extent.length behind
-      → TakesIn v.schema standing (records.Restart epoch) true b.standing → b.journal ≡ [] → b.last ≡ 0 → last ≡ found_by v.doubt behind → more ≡ length (plain behind)
+  pub restarts : (standing : Standing) (behind : List Record) (epoch turns size behinds : ℕ)
+      (last : Last) {h : List Entry} {b : Accounts} {more : ℕ} {bytes : List ℕ} {failed : ℕ} {left : Option Mishap}
+      → StandsOver v.schema v.site.0 was.records epoch turns size was.rest bytes v.foretold left v.failed failed
+      × IsStandingFor v.schema v.site.0 was.records standing × AreBehind v.bytes extent.length behind
+      → TakesIn v.schema standing (records.Restart epoch) true b.standing → b.journal ≡ [] → b.last ≡ 0 → last ≡ found_by v.doubt behind
+      → more ≡ length (plain behind)
       → behinds ≡ (if nat_le max_behind (turns + 1) then 0 else turns + 1)
       → h ≡ entry_of v Restart (Restarted epoch last) ∷ v.history
-      → Ends w Restart (Restarted epoch last) (ThenReplayed h bytes failed left None turns) true (record { count = extent.count + more + 1; length = size; behind = behinds }) b
-  restarts standing behind epoch turns size behinds last {h = h} {b = b} {more = more} {bytes = bytes} {failed = failed} {left = left} did took open_ last_is last_by_ counted behinds_are past =
+      → Ends w Restart (Restarted epoch last) (ThenReplayed h bytes failed left None turns) true
+      (record { count = extent.count + more + 1; length = size; behind = behinds }) b
+  restarts standing behind epoch turns size behinds last {h = h} {b = b} {more = more} {bytes = bytes} {failed = failed} {left =
+      left} did took open_ last_is last_by_ counted behinds_are past =
       let r : Reply = Restarted epoch last in
-      returned Restart r (ThenReplayed h bytes failed left None turns) true (record { count = extent.count + more + 1; length = size; behind = behinds }) b
-      (ends_restarted v up extent a was standing behind epoch turns size behinds b bytes failed left r more h did.1 did.0 did.2 took open_ last_is (ap (λ (l : Last). Restarted epoch l) last_by_) counted
+      returned Restart r (ThenReplayed h bytes failed left None turns) true
+      (record { count = extent.count + more + 1; length = size; behind = behinds }) b
+      (ends_restarted v up extent a was standing behind epoch turns size behinds b bytes failed left r more h did.1 did.0 did.2 took open_
+      last_is (ap (λ (l : Last). Restarted epoch l) last_by_) counted
       behinds_are past)
 
 -- what a failed restart replayed, where it did

@@ -34,15 +34,19 @@ pub record Ends (v : SiteValue) (c : Command) (r : Reply) (w : SiteValue) (up : 
 
 -- ---- what a restart would find
 
-pub finds_in : (v : SiteValue) (epoch : ℕ) (found : Last) → ((rs : List Record) (rest : List ℕ) → Holds v.schema v.site.0 v.bytes rs rest → (greatest rs ≡ epoch) × (found_of v.doubt rs ≡ found)) → Finds v epoch found
+pub finds_in : (v : SiteValue) (epoch : ℕ) (found : Last)
+    → ((rs : List Record) (rest : List ℕ) → Holds v.schema v.site.0 v.bytes rs rest → (greatest rs ≡ epoch) × (found_of v.doubt rs ≡ found))
+    → Finds v epoch found
 unfolding Finds
 finds_in v epoch found h = h
 
-pub finds_of : (v : SiteValue) (epoch : ℕ) (found : Last) → Finds v epoch found → (rs : List Record) (rest : List ℕ) → Holds v.schema v.site.0 v.bytes rs rest → (greatest rs ≡ epoch) × (found_of v.doubt rs ≡ found)
+pub finds_of : (v : SiteValue) (epoch : ℕ) (found : Last) → Finds v epoch found → (rs : List Record) (rest : List ℕ)
+    → Holds v.schema v.site.0 v.bytes rs rest → (greatest rs ≡ epoch) × (found_of v.doubt rs ≡ found)
 unfolding Finds
 finds_of v epoch found h = h
 
-pub finds_same : (v w : SiteValue) (epoch : ℕ) (found : Last) → w.schema ≡ v.schema → w.site ≡ v.site → w.bytes ≡ v.bytes → w.doubt ≡ v.doubt → Finds v epoch found → Finds w epoch found
+pub finds_same : (v w : SiteValue) (epoch : ℕ) (found : Last) → w.schema ≡ v.schema → w.site ≡ v.site → w.bytes ≡ v.bytes
+    → w.doubt ≡ v.doubt → Finds v epoch found → Finds w epoch found
 finds_same v w epoch found schema site bytes doubt h =
     finds_in w epoch found (λ rs rest holds.
     let old = finds_of v epoch found h rs rest
@@ -52,7 +56,8 @@ finds_same v w epoch found schema site bytes doubt h =
     (old.0, ap (λ (d : Option ℕ). found_of d rs) doubt ∙ old.1))
 
 -- where what the medium holds is known
-pub finds_held : (w : SiteValue) (records : List Record) (rest : List ℕ) (epoch : ℕ) (found : Last) → Holds w.schema w.site.0 w.bytes records rest → greatest records ≡ epoch → found_of w.doubt records ≡ found
+pub finds_held : (w : SiteValue) (records : List Record) (rest : List ℕ) (epoch : ℕ) (found : Last)
+    → Holds w.schema w.site.0 w.bytes records rest → greatest records ≡ epoch → found_of w.doubt records ≡ found
     → Finds w epoch found
 finds_held w records rest epoch found held greatest_is found_is =
     finds_in w epoch found (λ rs other is.
@@ -61,12 +66,14 @@ finds_held w records rest epoch found held greatest_is found_is =
 
 -- ---- what is in doubt
 
-pub quiet_doubt : (kept : Bool) (o : List Entry) (e : Entry) (rs : List Record) (doubt : Option ℕ) → count_since is_unsure (e ∷ o) ≡ count_since is_unsure o → IsDoubt kept o rs doubt
+pub quiet_doubt : (kept : Bool) (o : List Entry) (e : Entry) (rs : List Record) (doubt : Option ℕ)
+    → count_since is_unsure (e ∷ o) ≡ count_since is_unsure o → IsDoubt kept o rs doubt
     → IsDoubt kept (e ∷ o) rs doubt
 quiet_doubt kept o e rs None same is = same ∙ is
 quiet_doubt kept o e rs (Some n) same is = (omega (arith, same, is.0), is.1, is.2, is.3, is.4)
 
-pub none_in_doubt : (kept : Bool) (o : List Entry) (rs : List Record) (doubt : Option ℕ) → count_since is_unsure o ≡ 0 → IsDoubt kept o rs doubt → doubt ≡ None
+pub none_in_doubt : (kept : Bool) (o : List Entry) (rs : List Record) (doubt : Option ℕ) → count_since is_unsure o ≡ 0
+    → IsDoubt kept o rs doubt → doubt ≡ None
 none_in_doubt kept o rs None none is = refl
 none_in_doubt kept o rs (Some n) none is = absurd (omega (arith, none, is.0))
 
@@ -88,7 +95,8 @@ module _ (v : SiteValue) (up : Bool) (extent : Extent) (a : Accounts) (was : IsS
 
   -- ---- a refusal
 
-  refused : (c : Command) (x : Refusal) → first (refusals at c) ≡ Some x → Ends v c (Refused x) (record v { history = entry_of v c (Refused x) ∷ v.history }) up extent a
+  refused : (c : Command) (x : Refusal) → first (refusals at c) ≡ Some x
+      → Ends v c (Refused x) (record v { history = entry_of v c (Refused x) ∷ v.history }) up extent a
   refused c x some =
       let n = refused_no_restart at c x some in
       record {
@@ -134,15 +142,18 @@ module _ (v : SiteValue) (up : Bool) (extent : Extent) (a : Accounts) (was : IsS
         };
       }
 
-  pub ends_refused : (c : Command) (x : Refusal) (h : List Entry) → h ≡ entry_of v c (Refused x) ∷ v.history → first (refusals at c) ≡ Some x → Ends v c (Refused x) (record v { history = h }) up extent a
-  ends_refused c x h past some = subst (λ (o : List Entry). Ends v c (Refused x) (record v { history = o }) up extent a) (sym past) (refused c x some)
+  pub ends_refused : (c : Command) (x : Refusal) (h : List Entry) → h ≡ entry_of v c (Refused x) ∷ v.history
+      → first (refusals at c) ≡ Some x → Ends v c (Refused x) (record v { history = h }) up extent a
+  ends_refused c x h past some = subst (λ (o : List Entry). Ends v c (Refused x) (record v { history = o }) up extent a) (sym past)
+      (refused c x some)
 
   -- ---- an answer that writes no record
 
   abbrev After : Command → List Entry
   After c = entry_of v c (answer at c) ∷ v.history
 
-  answered : (c : Command) (b : Accounts) → is_restart c ≡ false → first (refusals at c) ≡ None → writes at c ≡ false → StandsOn v.schema v.site.0 base (After c) was.records b
+  answered : (c : Command) (b : Accounts) → is_restart c ≡ false → first (refusals at c) ≡ None → writes at c ≡ false
+      → StandsOn v.schema v.site.0 base (After c) was.records b
       → Ends v c (answer at c) (record v { history = After c }) up extent b
   answered c b n none silent stands =
       let settles = answer_settles at c n in
@@ -168,9 +179,12 @@ module _ (v : SiteValue) (up : Bool) (extent : Extent) (a : Accounts) (was : IsS
           clean = was.clean;
           reaches = was.reaches;
           place = was.place;
-          in_doubt = quiet_doubt was.kept v.history (entry_of v c (answer at c)) rs v.doubt (settles.counts (count_since is_unsure v.history)) was.in_doubt;
-          few = λ h. subst (λ (m : ℕ). since_summary was.records ≤ max_behind + m) (sym (settles.downs (downs_since v.history))) (was.few h);
-          replays = λ h. subst (λ (m : ℕ). v.replayed ≤ max_behind + m) (sym (settles.before (downs_since v.history) (downs_before v.history))) (was.replays h);
+          in_doubt = quiet_doubt was.kept v.history (entry_of v c (answer at c)) rs v.doubt
+              (settles.counts (count_since is_unsure v.history)) was.in_doubt;
+          few = λ h. subst (λ (m : ℕ). since_summary was.records ≤ max_behind + m) (sym (settles.downs (downs_since v.history)))
+              (was.few h);
+          replays = λ h. subst (λ (m : ℕ). v.replayed ≤ max_behind + m)
+              (sym (settles.before (downs_since v.history) (downs_before v.history))) (was.replays h);
           stands = λ u. stands;
         };
         applies = record {
@@ -186,23 +200,28 @@ module _ (v : SiteValue) (up : Bool) (extent : Extent) (a : Accounts) (was : IsS
             restarts = settles.restarts told v.doubt rest;
             refuses = refuses_over c (answer at c) told n;
           };
-          writes_ = answer_writes at c v.bytes v.bytes n (λ all rest log. sym (ap (λ (l : List ℕ). v.bytes ++ l) (lines_none at c all silent) ∙ append-nil v.bytes));
+          writes_ = answer_writes at c v.bytes v.bytes n
+              (λ all rest log. sym (ap (λ (l : List ℕ). v.bytes ++ l) (lines_none at c all silent) ∙ append-nil v.bytes));
           foretold = sym (settles.foretold v.foretold);
           under = λ told rest m log known. answer_under v told rest c m n none silent;
           exact = λ luck epoch found known finds.
               let w : SiteValue = record v { history = After c } in
               record {
                 reply_is = answer_owed at c epoch found luck n none silent;
-                finds = subst (λ (m : ℕ). Finds w m (doubt_after (answer at c) luck (record_length at c) found)) (sym (settles.greatest_is luck epoch))
-                    (subst (λ (l : Last). Finds w epoch l) (sym (settles.found luck (record_length at c) found)) (finds_same v w epoch found refl refl refl refl finds));
+                finds = subst (λ (m : ℕ). Finds w m (doubt_after (answer at c) luck (record_length at c) found))
+                    (sym (settles.greatest_is luck epoch))
+                    (subst (λ (l : Last). Finds w epoch l) (sym (settles.found luck (record_length at c) found))
+                    (finds_same v w epoch found refl refl refl refl finds));
               };
           replays = λ all rest log. settles.replays (since_summary all) v.replayed;
         };
       }
 
-  pub ends_answered : (c : Command) (b : Accounts) (r : Reply) (h : List Entry) → r ≡ answer at c → h ≡ entry_of v c r ∷ v.history → is_restart c ≡ false → first (refusals at c) ≡ None
+  pub ends_answered : (c : Command) (b : Accounts) (r : Reply) (h : List Entry) → r ≡ answer at c → h ≡ entry_of v c r ∷ v.history
+      → is_restart c ≡ false → first (refusals at c) ≡ None
       → writes at c ≡ false → StandsOn v.schema v.site.0 base (After c) was.records b → Ends v c r (record v { history = h }) up extent b
   ends_answered c b r h owed past n none silent stands =
       let after : h ≡ After c = past ∙ ap (λ (x : Reply). entry_of v c x ∷ v.history) owed in
       subst (λ (x : Reply). Ends v c x (record v { history = h }) up extent b) (sym owed)
-      (subst (λ (o : List Entry). Ends v c (answer at c) (record v { history = o }) up extent b) (sym after) (answered c b n none silent stands))
+      (subst (λ (o : List Entry). Ends v c (answer at c) (record v { history = o }) up extent b) (sym after)
+      (answered c b n none silent stands))

@@ -23,11 +23,21 @@ use Rattle.site_step.proofs.Holding.{plain_append, plain_cons, plain_piece, piec
 
 -- all records are the first ones
 pub reach_all : (e : Extent) (rs : List Record) → ReachesAll e rs → Reaches e rs
-reach_all e rs all = record { before = rs; behind = []; all = sym (append-nil rs); count = all.count; length_is = all.length_is; first_ = refl }
+reach_all e rs all = record {
+  before = rs;
+  behind = [];
+  all = sym (append-nil rs);
+  count = all.count;
+  length_is = all.length_is;
+  first_ =
+      refl;
+}
 
 -- once what a record adds stands behind them
-pub reach_next : (schema : SchemaValue) (s : ℕ) (rs : List Record) (r : Record) → is_summary r ≡ false → (next : Extent) → next.count ≡ length (plain rs) + 1
-    → next.length ≡ told_length (length (flat_map text (rs ++ piece schema s rs r))) → next.behind ≡ (if nat_le max_behind (since_summary rs + 1) then 0 else since_summary rs + 1)
+pub reach_next : (schema : SchemaValue) (s : ℕ) (rs : List Record) (r : Record) → is_summary r ≡ false → (next : Extent)
+    → next.count ≡ length (plain rs) + 1
+    → next.length ≡ told_length (length (flat_map text (rs ++ piece schema s rs r)))
+    → next.behind ≡ (if nat_le max_behind (since_summary rs + 1) then 0 else since_summary rs + 1)
     → ReachesAll next (rs ++ piece schema s rs r)
 reach_next schema s rs r one next count long behind = record {
   count = omega (arith, count, ap length (plain_piece schema s rs r one), length-append (plain rs) (r ∷ []));
@@ -46,7 +56,8 @@ reach_extended schema s rs r one e was =
     reach_next schema s rs r one (one_record_longer e size) (omega (arith, was.count)) (omega (arith, long, more))
     (ap (λ (n : ℕ). if nat_le max_behind (n + 1) then 0 else n + 1) was.behind)
 
-first_more : (as1 bs : List Record) → starts_with_summary as1 ≡ false → starts_with_summary bs ≡ false → starts_with_summary (as1 ++ bs) ≡ false
+first_more : (as1 bs : List Record) → starts_with_summary as1 ≡ false → starts_with_summary bs ≡ false
+    → starts_with_summary (as1 ++ bs) ≡ false
 first_more [] bs a b = b
 first_more (r ∷ as1) bs a b = a
 
@@ -61,7 +72,8 @@ reach_more e rs more none r = record {
   first_ = first_more r.behind more r.first_ none;
 }
 
-pub reach_seam : (e : Extent) (bytes : List ℕ) (rs : List Record) (rest : List ℕ) → IsLog bytes rs rest → Reaches e rs → PartsAt bytes e.length
+pub reach_seam : (e : Extent) (bytes : List ℕ) (rs : List Record) (rest : List ℕ) → IsLog bytes rs rest → Reaches e rs
+    → PartsAt bytes e.length
 reach_seam e bytes rs rest log r = record {
   before = r.before;
   behind = r.behind;
@@ -70,12 +82,22 @@ reach_seam e bytes rs rest log r = record {
   place_is = r.length_is;
 }
 
-pub behind_is : (e : Extent) (bytes : List ℕ) (rs : List Record) (rest : List ℕ) → IsLog bytes rs rest → (r : Reaches e rs) → (found : List Record) → AreBehind bytes e.length found → found ≡ r.behind
-behind_is e bytes rs rest log r found stand = stand r.before r.behind rest (subst (λ (x : List Record). IsLog bytes x rest) r.all log) r.length_is
+pub behind_is : (e : Extent) (bytes : List ℕ) (rs : List Record) (rest : List ℕ) → IsLog bytes rs rest → (r : Reaches e rs)
+    → (found : List Record) → AreBehind bytes e.length found → found ≡ r.behind
+behind_is e bytes rs rest log r found stand = stand r.before r.behind rest
+    (subst (λ (x : List Record). IsLog bytes x rest) r.all log) r.length_is
 
-pub count_more : (e : Extent) (rs : List Record) (r : Reaches e rs) (found : List Record) → found ≡ r.behind → e.count + length (plain found) ≡ length (plain rs)
+pub count_more : (e : Extent) (rs : List Record) (r : Reaches e rs) (found : List Record) → found ≡ r.behind
+    → e.count + length (plain found) ≡ length (plain rs)
 count_more e rs r found same =
-    omega (arith, ap (λ (x : List Record). length (plain x)) same, ap (λ (x : List Record). length (plain x)) r.all, ap length (plain_append r.before r.behind), length-append (plain r.before) (plain r.behind), r.count)
+    omega (
+      arith,
+      ap (λ (x : List Record). length (plain x)) same,
+      ap (λ (x : List Record). length (plain x)) r.all,
+      ap length (plain_append r.before r.behind),
+      length-append (plain r.before) (plain r.behind),
+      r.count,
+    )
 
 -- where no summary stands first, leaving them out changes nothing of that
 first_plain : (rs : List Record) → starts_with_summary rs ≡ false → starts_with_no_restart (plain rs) ≡ starts_with_no_restart rs
@@ -83,13 +105,15 @@ first_plain [] none = refl
 first_plain (r ∷ rs) none = ap starts_with_no_restart (plain_cons r rs none)
 
 -- what became of the record in doubt is told by those behind the first ones
-pub last_is : (doubt : Option ℕ) (e : Extent) (rs : List Record) (r : Reaches e rs) (found : List Record) → found ≡ r.behind → ((n : ℕ) → doubt ≡ Some n → n ≡ e.count)
+pub last_is : (doubt : Option ℕ) (e : Extent) (rs : List Record) (r : Reaches e rs) (found : List Record) → found ≡ r.behind
+    → ((n : ℕ) → doubt ≡ Some n → n ≡ e.count)
     → found_by doubt found ≡ found_of doubt (plain rs)
 last_is None e rs r found same place = refl
 last_is (Some n) e rs r found same place =
     let at : n ≡ length (plain r.before) = place n refl ∙ r.count in
     let left : drop n (plain rs) ≡ plain r.behind =
-    ap (λ (m : ℕ). drop m (plain rs)) at ∙ ap (drop (length (plain r.before))) (ap plain r.all ∙ plain_append r.before r.behind) ∙ drop-append_seam (plain r.before) (plain r.behind) in
+    ap (λ (m : ℕ). drop m (plain rs)) at ∙ ap (drop (length (plain r.before))) (ap plain r.all ∙ plain_append r.before r.behind)
+    ∙ drop-append_seam (plain r.before) (plain r.behind) in
     let told : starts_with_no_restart (drop n (plain rs)) ≡ starts_with_no_restart found =
     ap starts_with_no_restart left ∙ first_plain r.behind r.first_ ∙ ap starts_with_no_restart (sym same) in
     sym (ap (λ (b : Bool). if b then Kept else Lost) told)

@@ -49,11 +49,13 @@ greatest_plain rs = (plain_same rs).epoch
 
 -- ---- a log told without its summaries
 
-pub holds_all : (schema : SchemaValue) (s : ℕ) (bytes : List ℕ) (all : List Record) (rest : List ℕ) → IsLog bytes all rest → Lawful schema s all → Holds schema s bytes (plain all) rest
+pub holds_all : (schema : SchemaValue) (s : ℕ) (bytes : List ℕ) (all : List Record) (rest : List ℕ) → IsLog bytes all rest
+    → Lawful schema s all → Holds schema s bytes (plain all) rest
 holds_all schema s bytes all rest log lawful = record { all = all; log = log; lawful = lawful; told = refl }
 
 -- it is told in one way alone
-pub same_told : (schema : SchemaValue) (s : ℕ) (bytes : List ℕ) (all : List Record) (rest : List ℕ) (rs : List Record) (other : List ℕ) → IsLog bytes all rest → Holds schema s bytes rs other
+pub same_told : (schema : SchemaValue) (s : ℕ) (bytes : List ℕ) (all : List Record) (rest : List ℕ) (rs : List Record) (other : List ℕ)
+    → IsLog bytes all rest → Holds schema s bytes rs other
     → (plain all ≡ rs) × (rest ≡ other)
 same_told schema s bytes all rest rs other log holds =
     let same = same_log bytes all holds.all rest other log holds.log in
@@ -65,7 +67,8 @@ all_more : (as1 bs : List Record) → AllByRecursion IsRecord as1 → AllByRecur
 all_more [] bs a b = b
 all_more (r ∷ as1) bs a b = (a.0, all_more as1 bs a.1 b)
 
-lawful_first : (schema : SchemaValue) (s : ℕ) (front as1 bs : List Record) → LawfulBehind schema s front (as1 ++ bs) → LawfulBehind schema s front as1
+lawful_first : (schema : SchemaValue) (s : ℕ) (front as1 bs : List Record) → LawfulBehind schema s front (as1 ++ bs)
+    → LawfulBehind schema s front as1
 lawful_first schema s front [] bs h = tt
 lawful_first schema s front (r ∷ as1) bs h = (h.0, lawful_first schema s (front ++ r ∷ []) as1 bs h.1)
 
@@ -100,7 +103,8 @@ module _ (schema : SchemaValue) (s : ℕ) (rs : List Record) (r : Record) (one :
   since_by false = since_push rs r ∙ rw one refl
   since_by true = ap since_summary (sym (append_assoc rs (r ∷ []) (Summary told ∷ []))) ∙ since_push (rs ++ r ∷ []) (Summary told)
 
-  pub piece_since : since_summary (rs ++ piece schema s rs r) ≡ (if nat_le max_behind (since_summary rs + 1) then 0 else since_summary rs + 1)
+  pub piece_since : since_summary (rs ++ piece schema s rs r)
+      ≡ (if nat_le max_behind (since_summary rs + 1) then 0 else since_summary rs + 1)
   piece_since = since_by due
 
   same_by : (b : Bool) → SameSums (rs ++ r ∷ cond b (Summary told ∷ []) []) (rs ++ r ∷ [])
@@ -120,7 +124,8 @@ module _ (schema : SchemaValue) (s : ℕ) (rs : List Record) (r : Record) (one :
     module _ (limits : IsSchema schema) (site_in : s < schema.sites) (each : AllByRecursion IsRecord rs) (fits : IsRecord r) where
       fits_by : (b : Bool) → AllByRecursion IsRecord (r ∷ cond b (Summary told ∷ []) [])
       fits_by false = (fits, tt)
-      fits_by true = (fits, (summary_fits schema s (rs ++ r ∷ []) limits site_in (lawful_push schema s rs r lawful may) (all_push rs r each fits), tt))
+      fits_by true =
+          (fits, (summary_fits schema s (rs ++ r ∷ []) limits site_in (lawful_push schema s rs r lawful may) (all_push rs r each fits), tt))
 
       -- it may be written
       pub piece_fits : AllByRecursion IsRecord (piece schema s rs r)
@@ -128,7 +133,8 @@ module _ (schema : SchemaValue) (s : ℕ) (rs : List Record) (r : Record) (one :
 
     -- ---- whole
 
-    pub added_all : (bytes : List ℕ) → IsLog bytes rs [] → AllByRecursion IsRecord (piece schema s rs r) → IsLog (bytes ++ flat_map text (piece schema s rs r)) (rs ++ piece schema s rs r) []
+    pub added_all : (bytes : List ℕ) → IsLog bytes rs [] → AllByRecursion IsRecord (piece schema s rs r)
+        → IsLog (bytes ++ flat_map text (piece schema s rs r)) (rs ++ piece schema s rs r) []
     added_all bytes log each = record {
       parts = ap (λ (l : List ℕ). l ++ flat_map text (piece schema s rs r)) (log.parts ∙ append-nil (flat_map text rs))
           ∙ sym (flat_map-append text rs (piece schema s rs r)) ∙ sym (append-nil (flat_map text (rs ++ piece schema s rs r)));
@@ -142,18 +148,21 @@ module _ (schema : SchemaValue) (s : ℕ) (rs : List Record) (r : Record) (one :
     since_front [] behind parts = since_one rs r
     since_front (x ∷ front) behind parts = by due parts
       where
-        by : (b : Bool) → r ∷ cond b (Summary told ∷ []) [] ≡ r ∷ ((x ∷ front) ++ behind) → since_summary (rs ++ r ∷ (x ∷ front)) ≤ since_summary rs + 1
+        by : (b : Bool) → r ∷ cond b (Summary told ∷ []) [] ≡ r ∷ ((x ∷ front) ++ behind)
+            → since_summary (rs ++ r ∷ (x ∷ front)) ≤ since_summary rs + 1
         by false is = absurd cc
         by true is =
             let same : Summary told ∷ [] ≡ x ∷ (front ++ behind) = cc in
             let none : front ≡ [] = none_first front behind (let e : [] ≡ front ++ behind = cc in sym e) in
             let is_it : x ≡ Summary told = cc in
             let whole : rs ++ r ∷ (x ∷ front) ≡ (rs ++ r ∷ []) ++ Summary told ∷ [] =
-            ap (λ (l : List Record). rs ++ r ∷ (x ∷ l)) none ∙ ap (λ (y : Record). rs ++ r ∷ (y ∷ [])) is_it ∙ sym (append_assoc rs (r ∷ []) (Summary told ∷ [])) in
+            ap (λ (l : List Record). rs ++ r ∷ (x ∷ l)) none ∙ ap (λ (y : Record). rs ++ r ∷ (y ∷ [])) is_it
+            ∙ sym (append_assoc rs (r ∷ []) (Summary told ∷ [])) in
             omega (arith, ap since_summary whole, since_push (rs ++ r ∷ []) (Summary told))
 
     -- a front of the lines
-    module _ (k : ℕ) (bytes new : List ℕ) (log : IsLog bytes rs []) (each : AllByRecursion IsRecord (piece schema s rs r)) (is : new ≡ bytes ++ take k (flat_map text (piece schema s rs r))) where
+    module _ (k : ℕ) (bytes new : List ℕ) (log : IsLog bytes rs []) (each : AllByRecursion IsRecord (piece schema s rs r))
+        (is : new ≡ bytes ++ take k (flat_map text (piece schema s rs r))) where
       left : LeavesPrefix bytes rs (piece schema s rs r) k (bytes ++ take k (flat_map text (piece schema s rs r)))
       left = leaves_front bytes rs (piece schema s rs r) k log each
 
@@ -184,7 +193,8 @@ module _ (schema : SchemaValue) (s : ℕ) (rs : List Record) (r : Record) (one :
           let got = left.whole r tail refl all in
           let parts : r ∷ tail ≡ r ∷ (got.0 ++ left.behind) = left.parts ∙ ap (λ (l : List Record). l ++ left.behind) got.1 in
           let tails : tail ≡ got.0 ++ left.behind = cc in
-          let none : plain got.0 ≡ [] = none_first (plain got.0) (plain left.behind) (sym (plain_append got.0 left.behind) ∙ ap plain (sym tails) ∙ tail_plain due) in
+          let none : plain got.0 ≡ [] = none_first (plain got.0) (plain left.behind)
+          (sym (plain_append got.0 left.behind) ∙ ap plain (sym tails) ∙ tail_plain due) in
           record {
             front = r ∷ got.0;
             rest = left.rest;
@@ -202,7 +212,8 @@ module _ (schema : SchemaValue) (s : ℕ) (rs : List Record) (r : Record) (one :
       ]
 
 -- nothing was added
-pub leaves_none : (schema : SchemaValue) (s : ℕ) (rs : List Record) (r : Record) (bytes rest : List ℕ) → IsLog bytes rs rest → Lawful schema s rs → Leaves schema s rs r false bytes
+pub leaves_none : (schema : SchemaValue) (s : ℕ) (rs : List Record) (r : Record) (bytes rest : List ℕ) → IsLog bytes rs rest
+    → Lawful schema s rs → Leaves schema s rs r false bytes
 leaves_none schema s rs r bytes rest log lawful = record {
   front = [];
   rest = rest;
@@ -215,7 +226,8 @@ leaves_none schema s rs r bytes rest log lawful = record {
 
 -- ---- told without summaries
 
-module _ (schema : SchemaValue) (s : ℕ) (rs : List Record) (r : Record) (stood : Bool) (bytes : List ℕ) (left : Leaves schema s rs r stood bytes) where
+module _ (schema : SchemaValue) (s : ℕ) (rs : List Record) (r : Record) (stood : Bool) (bytes : List ℕ)
+    (left : Leaves schema s rs r stood bytes) where
   pub left_plain : plain (rs ++ left.front) ≡ plain rs ++ cond stood (r ∷ []) []
   left_plain = plain_append rs left.front ∙ ap (λ (x : List Record). plain rs ++ x) left.told
 

@@ -36,14 +36,17 @@ pub fine_is_sure : (at : Place) (epoch : ℕ) (found : Last) (c : Command) → I
 fine_is_sure at epoch found Restart = restarted (nat_le max_epoch epoch) (epoch + 1) found
 fine_is_sure at epoch found c = reply_is_sure (first (refusals at c)) (answer at c) (answer_is_sure at c refl)
 
-pub never_under : (v : SiteValue) (rs : List Record) (rest : List ℕ) (c : Command) → owed_under v rs rest c Never ≡ owed_with (here v) (greatest rs) (found_of v.doubt rs) c Fine
+pub never_under : (v : SiteValue) (rs : List Record) (rest : List ℕ) (c : Command)
+    → owed_under v rs rest c Never ≡ owed_with (here v) (greatest rs) (found_of v.doubt rs) c Fine
 never_under v rs rest Restart = refl
 never_under v rs rest c = refl
 
 -- one call
-pub call_is_sure : (v w : SiteValue) (rs : List Record) (rest : List ℕ) (c : Command) (r : Reply) → Holds v.schema v.site.0 v.bytes rs rest → v.foretold ≡ Some Never → Applies v c r w → IsSure r
+pub call_is_sure : (v w : SiteValue) (rs : List Record) (rest : List ℕ) (c : Command) (r : Reply) → Holds v.schema v.site.0 v.bytes rs rest
+    → v.foretold ≡ Some Never → Applies v c r w → IsSure r
 call_is_sure v w rs rest c r log known h =
-    subst IsSure (sym (h.under rs rest Never log known ∙ never_under v rs rest c)) (fine_is_sure (here v) (greatest rs) (found_of v.doubt rs) c)
+    subst IsSure (sym (h.under rs rest Never log known ∙ never_under v rs rest c))
+    (fine_is_sure (here v) (greatest rs) (found_of v.doubt rs) c)
 
 stays : (r : Reply) (m : Option Mishap) → m ≡ Some Never → foretold_after r m ≡ Some Never
 stays Unsure None is = is
@@ -56,7 +59,8 @@ pub call_stays : (v w : SiteValue) (c : Command) (r : Reply) → v.foretold ≡ 
 call_stays v w c r known h = h.foretold ∙ stays r v.foretold known
 
 -- any number of calls
-pub calls_are_sure : (calls : List Call) (v w : SiteValue) (rs : List Record) (rest : List ℕ) → Holds v.schema v.site.0 v.bytes rs rest → v.foretold ≡ Some Never → Leads v calls w → AreSure calls
+pub calls_are_sure : (calls : List Call) (v w : SiteValue) (rs : List Record) (rest : List ℕ) → Holds v.schema v.site.0 v.bytes rs rest
+    → v.foretold ≡ Some Never → Leads v calls w → AreSure calls
 calls_are_sure [] v w rs rest log known leads = tt
 calls_are_sure (call ∷ calls) v w rs rest log known leads =
     let logs = leads.1.logs rs rest log in (

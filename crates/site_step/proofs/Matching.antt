@@ -41,7 +41,8 @@ stands-journal_of t es =
     ∙ list_any-reverse (λ u. same_txn u t) (open_txns es)
     ∙ any_open t es es
 
-escrows_in : (t : TxnId) (es : List Effect) (ts : List TxnId) → list_any (λ u. same_txn u t) ts ≡ true → escrows_at t (map (row_of es) ts) ≡ reverse (escrows_of t es)
+escrows_in : (t : TxnId) (es : List Effect) (ts : List TxnId) → list_any (λ u. same_txn u t) ts ≡ true
+    → escrows_at t (map (row_of es) ts) ≡ reverse (escrows_of t es)
 escrows_in t es [] h = cc
 escrows_in t es (u ∷ ts) h =
     elim (cases_Bool (same_txn u t)) [
@@ -49,13 +50,15 @@ escrows_in t es (u ∷ ts) h =
       | inr apart ↦ rw apart (escrows_in t es ts (rw apart at h))
     ]
 
-pub escrows_at-journal_of : (t : TxnId) (es : List Effect) → (is_begun t es && is_open t es) ≡ true → escrows_at t (journal_of es) ≡ reverse (escrows_of t es)
+pub escrows_at-journal_of : (t : TxnId) (es : List Effect) → (is_begun t es && is_open t es) ≡ true
+    → escrows_at t (journal_of es) ≡ reverse (escrows_of t es)
 escrows_at-journal_of t es opened =
     escrows_in t es (reverse (open_txns es)) (list_any-reverse (λ u. same_txn u t) (open_txns es) ∙ any_open t es es ∙ opened)
 
 -- ---- what changes the journal
 
-pub journal_of-begin : (t : TxnId) (es : List Effect) → is_open t es ≡ true → escrows_of t es ≡ [] → journal_of (Begins t ∷ es) ≡ journal_of es ++ (t, []) ∷ []
+pub journal_of-begin : (t : TxnId) (es : List Effect) → is_open t es ≡ true → escrows_of t es ≡ []
+    → journal_of (Begins t ∷ es) ≡ journal_of es ++ (t, []) ∷ []
 journal_of-begin t es opened none =
     let first : open_txns (Begins t ∷ es) ≡ t ∷ open_txns es = rw opened refl in
     let last : ◌≡◌ {A = Row} (t, reverse (escrows_of t es)) (t, []) = ap (λ (xs : List Escrow). (t, reverse xs)) none in
@@ -64,17 +67,23 @@ journal_of-begin t es opened none =
     ∙ map-append (row_of es) (reverse (open_txns es)) (t ∷ [])
     ∙ ap (λ (r : Row). journal_of es ++ r ∷ []) last
 
-one_more : (txn : TxnId) (e : Escrow) (es : List Effect) (u : TxnId) → with_escrow txn e (row_of es u) ≡ row_of (Grants txn e.field e.change ∷ es) u
+one_more : (txn : TxnId) (e : Escrow) (es : List Effect) (u : TxnId)
+    → with_escrow txn e (row_of es u) ≡ row_of (Grants txn e.field e.change ∷ es) u
 one_more txn e es u = by (same_txn u txn)
   where
-    by : (b : Bool) → ◌≡◌ {A = Row} (cond b (u, reverse (escrows_of u es) ++ e ∷ []) (u, reverse (escrows_of u es))) (u, reverse (cond b (e ∷ escrows_of u es) (escrows_of u es)))
+    by : (b : Bool) → ◌≡◌ {A = Row} (cond b (u, reverse (escrows_of u es) ++ e ∷ []) (u, reverse (escrows_of u es))) (
+      u,
+      reverse (cond b (e ∷ escrows_of u es) (escrows_of u es)),
+    )
     by true = ap (λ (xs : List Escrow). (u, xs)) (sym (reverse-cons e (escrows_of u es)))
     by false = refl
 
-pub journal_of-grant : (txn : TxnId) (e : Escrow) (es : List Effect) → rows_with txn e (journal_of es) ≡ journal_of (Grants txn e.field e.change ∷ es)
+pub journal_of-grant : (txn : TxnId) (e : Escrow) (es : List Effect)
+    → rows_with txn e (journal_of es) ≡ journal_of (Grants txn e.field e.change ∷ es)
 journal_of-grant txn e es =
     map-map (with_escrow txn e) (row_of es) (reverse (open_txns es))
-    ∙ map-agree (λ u. with_escrow txn e (row_of es u)) (row_of (Grants txn e.field e.change ∷ es)) (one_more txn e es) (reverse (open_txns es))
+    ∙ map-agree (λ u. with_escrow txn e (row_of es u)) (row_of (Grants txn e.field e.change ∷ es)) (one_more txn e es)
+    (reverse (open_txns es))
 
 -- the effect of an end
 abbrev pub ended : Outcome → TxnId → Effect
@@ -98,8 +107,10 @@ abort_closes false false true = refl
 abort_closes false false false = refl
 
 open_then : (o : Outcome) (t : TxnId) (es : List Effect) (u : TxnId) → is_open u (ended o t ∷ es) ≡ (is_open u es && not (same_txn u t))
-open_then Committed t es u = commit_closes (same_txn t u) (is_committed u es) (is_dropped u es) ∙ ap (λ b. is_open u es && not b) (same_txn-sym t u)
-open_then Aborted t es u = abort_closes (same_txn t u) (is_committed u es) (is_dropped u es) ∙ ap (λ b. is_open u es && not b) (same_txn-sym t u)
+open_then Committed t es u = commit_closes (same_txn t u) (is_committed u es) (is_dropped u es)
+    ∙ ap (λ b. is_open u es && not b) (same_txn-sym t u)
+open_then Aborted t es u = abort_closes (same_txn t u) (is_committed u es) (is_dropped u es)
+    ∙ ap (λ b. is_open u es && not b) (same_txn-sym t u)
 
 begun_then : (o : Outcome) (t : TxnId) (es : List Effect) → begun_txns (ended o t ∷ es) ≡ begun_txns es
 begun_then Committed t es = refl
@@ -121,7 +132,8 @@ journal_of-end o t es =
 
 -- ---- what changes rights and journal together
 
-module _ (schema : SchemaValue) (base : Base) (es : List Effect) (lawful : IsLawful schema base es) (rows : List FieldRights) (journal : List Row) (was : Matches schema base es rows journal) where
+module _ (schema : SchemaValue) (base : Base) (es : List Effect) (lawful : IsLawful schema base es) (rows : List FieldRights)
+    (journal : List Row) (was : Matches schema base es rows journal) where
   pub aside_begin : (t : TxnId) → is_begun t es ≡ false → SetsAside (Begins t ∷ es) rows (journal ++ (t, []) ∷ [])
   aside_begin t new =
       let unused = new_is_unused schema base t es lawful new in
@@ -131,11 +143,17 @@ module _ (schema : SchemaValue) (base : Base) (es : List Effect) (lawful : IsLaw
         journal = ap (λ (j : List Row). j ++ (t, []) ∷ []) was.journal ∙ sym (journal_of-begin t es opened unused.no_escrow);
       }
 
-  pub aside_grant : (txn : TxnId) (e : Escrow) → e.field.0 < length rows → is_open txn es ≡ true → SetsAside (Grants txn e.field e.change ∷ es) (by_escrow after_take rows e) (rows_with txn e journal)
+  pub aside_grant : (txn : TxnId) (e : Escrow) → e.field.0 < length rows → is_open txn es ≡ true
+      → SetsAside (Grants txn e.field e.change ∷ es) (by_escrow after_take rows e) (rows_with txn e journal)
   aside_grant txn e range opened =
       let same = length-by_escrow after_take rows e in
       record {
-        held = λ f k l. omega (arith, held_at-taken rows e f k range, was.held f k (omega (arith, l, same)), held_grant schema base es lawful f k txn e opened);
+        held = λ f k l. omega (
+          arith,
+          held_at-taken rows e f k range,
+          was.held f k (omega (arith, l, same)),
+          held_grant schema base es lawful f k txn e opened,
+        );
         journal = ap (rows_with txn e) was.journal ∙ journal_of-grant txn e es;
       }
 
@@ -144,7 +162,8 @@ module _ (schema : SchemaValue) (base : Base) (es : List Effect) (lawful : IsLaw
   in_range_of t [] l = All-nil (λ (e : Escrow). e.field.0 < length rows)
   in_range_of t (Grants txn field change ∷ fs) l =
       let before = in_range_of t fs l.0 in
-      by (same_txn t txn) before (All-cons (λ (e : Escrow). e.field.0 < length rows) (record { field = field; change = change }) (escrows_of t fs) (omega (arith, was.count, l.1.in_schema)) before)
+      by (same_txn t txn) before (All-cons (λ (e : Escrow). e.field.0 < length rows) (record { field = field; change = change })
+      (escrows_of t fs) (omega (arith, was.count, l.1.in_schema)) before)
     where
       by : (b : Bool) → AreInRange rows (escrows_of t fs) → AreInRange rows (record { field = field; change = change } ∷ escrows_of t fs)
           → AreInRange rows (cond b (record { field = field; change = change } ∷ escrows_of t fs) (escrows_of t fs))
@@ -165,21 +184,30 @@ module _ (schema : SchemaValue) (base : Base) (es : List Effect) (lawful : IsLaw
 
   pub are_held : (t : TxnId) → is_open t es ≡ true → AreHeld rows (reverse (escrows_of t es))
   are_held t opened f k l =
-      let fewer = granted-mono (λ id. same_txn t id) (λ id. is_open id es) (λ id same. ap (λ (x : TxnId). is_open x es) (sym (same_txn-true t id same)) ∙ opened) f k es in
+      let fewer = granted-mono (λ id. same_txn t id) (λ id. is_open id es)
+      (λ id same. ap (λ (x : TxnId). is_open x es) (sym (same_txn-true t id same)) ∙ opened) f k es in
       omega (arith, sum_is t f k, was.held f k l, fewer)
 
-  held_end : (o : Outcome) (t : TxnId) → is_open t es ≡ true → (f : ℕ) (k : Kind) → held_rights f k (ended o t ∷ es) + of_txn t f k es ≡ held_rights f k es
+  held_end : (o : Outcome) (t : TxnId) → is_open t es ≡ true → (f : ℕ) (k : Kind)
+      → held_rights f k (ended o t ∷ es) + of_txn t f k es ≡ held_rights f k es
   held_end Committed t opened f k = held_commit schema base es lawful f k t opened
   held_end Aborted t opened f k = held_abort schema base es lawful f k t opened
 
   -- what a transaction that ends holds is given back, however it ends
-  pub aside_end : (o : Outcome) (t : TxnId) → is_open t es ≡ true → SetsAside (ended o t ∷ es) (by_escrows (ending Aborted) rows (reverse (escrows_of t es))) (without t journal)
+  pub aside_end : (o : Outcome) (t : TxnId) → is_open t es ≡ true
+      → SetsAside (ended o t ∷ es) (by_escrows (ending Aborted) rows (reverse (escrows_of t es))) (without t journal)
   aside_end o t opened =
       let gone = reverse (escrows_of t es) in
       let same = length-by_escrows (ending Aborted) rows gone in
       record {
         held = λ f k l.
             let l' : f < length rows = omega (arith, l, same) in
-            omega (arith, held_at-by_escrows Aborted rows gone (are_in_range t) (are_held t opened) f k l', was.held f k l', sum_is t f k, held_end o t opened f k);
+            omega (
+              arith,
+              held_at-by_escrows Aborted rows gone (are_in_range t) (are_held t opened) f k l',
+              was.held f k l',
+              sum_is t f k,
+              held_end o t opened f k,
+            );
         journal = ap (without t) was.journal ∙ journal_of-end o t es;
       }

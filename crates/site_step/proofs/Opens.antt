@@ -55,8 +55,10 @@ plain_base schema s base bs is =
             same.committed f k,
             same.committed f (other k),
             same.cut f k,
-            sum_below-same schema.sites (λ (from : ℕ). accepted_in (plain bs) from f k) (λ (from : ℕ). accepted_in bs from f k) (λ from below. same.accepted from f k),
-            sum_below-same schema.sites (λ (to : ℕ). given_in (plain bs) to f k) (λ (to : ℕ). given_in bs to f k) (λ to below. same.given to f k),
+            sum_below-same schema.sites (λ (from : ℕ). accepted_in (plain bs) from f k) (λ (from : ℕ). accepted_in bs from f k)
+                (λ from below. same.accepted from f k),
+            sum_below-same schema.sites (λ (to : ℕ). given_in (plain bs) to f k) (λ (to : ℕ). given_in bs to f k)
+                (λ to below. same.given to f k),
           );
       cut = λ f k. is.cut f k ∙ sym (same.cut f k);
       given = λ to f k. is.given to f k ∙ sym (same.given to f k);
@@ -66,13 +68,17 @@ plain_base schema s base bs is =
 -- ---- what is no site's log
 
 -- the records in front of the first bad line, or all records
-pub front_begins : (bytes : List ℕ) (found : List Record) (n : ℕ) (bad : Option ℕ) → AreGoodRecords bytes found n bad → BeginsWith bytes found
-front_begins bytes found n None front = let log = read_as_log bytes found n front.0 in record { behind = drop n bytes; parts = log.parts; each = log.each }
+pub front_begins : (bytes : List ℕ) (found : List Record) (n : ℕ) (bad : Option ℕ) → AreGoodRecords bytes found n bad
+    → BeginsWith bytes found
+front_begins bytes found n None front = let log = read_as_log bytes found n front.0 in
+    record { behind = drop n bytes; parts = log.parts; each = log.each }
 front_begins bytes found n (Some line) front =
-    subst (λ (rs : List Record). BeginsWith bytes rs) front.1 (record { behind = front.0.line ++ 10 ∷ front.0.behind; parts = front.0.parts; each = front.0.each })
+    subst (λ (rs : List Record). BeginsWith bytes rs) front.1
+    (record { behind = front.0.line ++ 10 ∷ front.0.behind; parts = front.0.parts; each = front.0.each })
 
 -- lawful records that are all there break no rule
-pub breach_spares : (schema : SchemaValue) (s : ℕ) (bytes : List ℕ) (found : List Record) (n m : ℕ) (bad : Option ℕ) → AreGoodRecords bytes found n bad → BreaksRule schema s found m
+pub breach_spares : (schema : SchemaValue) (s : ℕ) (bytes : List ℕ) (found : List Record) (n m : ℕ) (bad : Option ℕ)
+    → AreGoodRecords bytes found n bad → BreaksRule schema s found m
     → (rs : List Record) (rest : List ℕ) → IsLog bytes rs rest → Lawful schema s rs → ⊥
 breach_spares schema s bytes found n m None front breach rs rest log lawful =
     no_breach schema s found m breach (subst (λ (all : List Record). Lawful schema s all) (sym (front.1 rs rest log).0) lawful)
@@ -80,12 +86,14 @@ breach_spares schema s bytes found n m (Some line) front breach rs rest log lawf
 
 -- ---- a site over what was found
 
-module _ (schema : SchemaValue) (site : SiteNo) (found : Found) {held bytes : List ℕ} (is : IsFound schema site.0 held found) (same : bytes ≡ held) where
+module _ (schema : SchemaValue) (site : SiteNo) (found : Found) {held bytes : List ℕ} (is : IsFound schema site.0 held found)
+    (same : bytes ≡ held) where
   abbrev bs : List Record
   bs = found.records.items
 
   base_is : (empty : Bool) → (empty ≡ true → bs ≡ []) → IsBase schema site.0 (base_of_records schema site.0 empty bs) (plain bs)
-  base_is true none = subst (λ (rs : List Record). IsBase schema site.0 (fresh schema site.0) (plain rs)) (sym (none refl)) (fresh_is_base schema site.0)
+  base_is true none = subst (λ (rs : List Record). IsBase schema site.0 (fresh schema site.0) (plain rs)) (sym (none refl))
+      (fresh_is_base schema site.0)
   base_is false none = plain_base schema site.0 (base_stood_for schema site.0 false bs) bs (stands_is_base schema site.0 false bs is.lawful)
 
   stands_first : (base : Base) → StandsOn schema site.0 base [] bs (record { standing = found.standing; journal = []; last = 0 })
@@ -95,13 +103,22 @@ module _ (schema : SchemaValue) (site : SiteNo) (found : Found) {held bytes : Li
   log = subst (λ (b : List ℕ). IsLog b bs is.rest) (sym same) is.log
 
   rest_none : bytes ≡ [] → is.rest ≡ []
-  rest_none none = (same_log [] bs [] is.rest [] (subst (λ (b : List ℕ). IsLog b bs is.rest) none log) (record { parts = refl; each = tt; no_lf = refl })).1
+  rest_none none = (same_log [] bs [] is.rest [] (subst (λ (b : List ℕ). IsLog b bs is.rest) none log)
+      (record { parts = refl; each = tt; no_lf = refl })).1
 
   clean_by : (empty : Bool) → (empty ≡ true → bytes ≡ []) → empty ≡ true → (is.rest ≡ []) × ReachesAll found.extent bs
   clean_by empty none e =
       let here = no_bytes bytes bs is.rest log (none e) in
-      let since : since_summary bs ≡ 0 = ap since_summary here ∙ since_none in
-      (rest_none (none e), record { count = is.count; length_is = is.length_is; behind = is.behind ∙ sym since; few = omega (arith, since) })
+      let since : since_summary bs ≡ 0 = ap since_summary here ∙ since_none in (
+        rest_none (none e),
+        record {
+          count = is.count;
+          length_is = is.length_is;
+          behind = is.behind ∙ sym since;
+          few =
+              omega (arith, since);
+        },
+      )
 
   up_by : (empty : Bool) → empty ≡ (base_of_records schema site.0 empty bs).up
   up_by true = refl
@@ -111,7 +128,8 @@ module _ (schema : SchemaValue) (site : SiteNo) (found : Found) {held bytes : Li
     abbrev made : Bool → List Entry → SiteValue
     made empty h = value_of schema site empty bs h bytes failed left None 0
 
-    sound : (empty : Bool) → (empty ≡ true → bytes ≡ []) → IsSoundSite (made empty []) empty found.extent (record { standing = found.standing; journal = []; last = 0 })
+    sound : (empty : Bool) → (empty ≡ true → bytes ≡ [])
+        → IsSoundSite (made empty []) empty found.extent (record { standing = found.standing; journal = []; last = 0 })
     sound empty none =
         let base = base_is empty (λ e. no_bytes bytes bs is.rest log (none e)) in
         record {
@@ -131,7 +149,15 @@ module _ (schema : SchemaValue) (site : SiteNo) (found : Found) {held bytes : Li
           keeps = refl;
           up_is = up_by empty;
           clean = clean_by empty none;
-          reaches = record { before = bs; behind = []; all = sym (append-nil bs); count = is.count; length_is = is.length_is; first_ = refl };
+          reaches = record {
+            before = bs;
+            behind = [];
+            all = sym (append-nil bs);
+            count = is.count;
+            length_is = is.length_is;
+            first_ =
+                refl;
+          };
           place = λ n e. let none : ◌≡◌ {A = Option ℕ} None (Some n) = e in absurd cc;
           in_doubt = refl;
           few = λ h. omega (arith, h);
@@ -139,10 +165,13 @@ module _ (schema : SchemaValue) (site : SiteNo) (found : Found) {held bytes : Li
           stands = λ u. stands_first (base_of (made empty []));
         }
 
-    pub opens_sound : (empty : Bool) {h : List Entry} {j : List Row} → h ≡ [] → j ≡ [] → (empty ≡ true → held ≡ []) → IsSoundSite (made empty h) empty found.extent (record { standing = found.standing; journal = j; last = 0 })
+    pub opens_sound : (empty : Bool) {h : List Entry} {j : List Row} → h ≡ [] → j ≡ [] → (empty ≡ true → held ≡ [])
+        → IsSoundSite (made empty h) empty found.extent (record { standing = found.standing; journal = j; last = 0 })
     opens_sound empty {h = h} {j = j} new closed none =
-        subst (λ (x : List Row). IsSoundSite (made empty h) empty found.extent (record { standing = found.standing; journal = x; last = 0 })) (sym closed)
-        (subst (λ (x : List Entry). IsSoundSite (made empty x) empty found.extent (record { standing = found.standing; journal = []; last = 0 })) (sym new) (sound empty (λ e. same ∙ none e)))
+        subst (λ (x : List Row). IsSoundSite (made empty h) empty found.extent
+        (record { standing = found.standing; journal = x; last = 0 })) (sym closed)
+        (subst (λ (x : List Entry). IsSoundSite (made empty x) empty found.extent
+        (record { standing = found.standing; journal = []; last = 0 })) (sym new) (sound empty (λ e. same ∙ none e)))
 
     pub opens_finds : (empty : Bool) {h : List Entry} → h ≡ [] → held ≡ [] → Finds (made empty h) 0 Nothing
     opens_finds empty new none =

@@ -46,7 +46,8 @@ pub record Reads (schema : SchemaValue) (s : ℕ) (base : Base) (o : List Entry)
   pub last : a.last ≡ count_since is_begun_reply o
 
 -- what is kept is what was done
-pub reads : (v : SiteValue) (up : Bool) (extent : Extent) (a : Accounts) → IsSoundSite v up extent a → is_up (base_of v) v.history ≡ true → Reads v.schema v.site.0 (base_of v) v.history a
+pub reads : (v : SiteValue) (up : Bool) (extent : Extent) (a : Accounts) → IsSoundSite v up extent a → is_up (base_of v) v.history ≡ true
+    → Reads v.schema v.site.0 (base_of v) v.history a
 reads v up extent a was there =
     let st = was.stands there in
     let base : Base = base_of v in
@@ -59,17 +60,27 @@ reads v up extent a was there =
       matches = record {
         count = st.standing.count;
         width = st.standing.width;
-        free = λ f k l. omega (arith, st.standing.own f k l, st.aside.held f k l, owns f k, own_same v.schema v.site.0 rs was.records sums f k);
+        free = λ f k l. omega (
+          arith,
+          st.standing.own f k l,
+          st.aside.held f k l,
+          owns f k,
+          own_same v.schema v.site.0 rs was.records sums f k,
+        );
         held = st.aside.held;
-        cut = λ f k l. st.standing.cut f k l ∙ sym (sums.cut f k) ∙ sym (run_cuts v.schema v.site.0 base bs false v.history rs was.ground.is_base was.run keeps f k);
+        cut = λ f k l. st.standing.cut f k l ∙ sym (sums.cut f k)
+            ∙ sym (run_cuts v.schema v.site.0 base bs false v.history rs was.ground.is_base was.run keeps f k);
         journal = st.aside.journal;
       };
       holds = record {
         place = st.standing.place;
-        given = λ r f k other. st.standing.given r f k other ∙ sym (sums.given r f k) ∙ sym (run_gives v.schema v.site.0 base bs false v.history rs was.ground.is_base was.run keeps r f k);
-        accepted = λ r f k other. st.standing.accepted r f k other ∙ sym (sums.accepted r f k) ∙ sym (run_accepts v.schema v.site.0 base bs false v.history rs was.ground.is_base was.run keeps r f k);
+        given = λ r f k other. st.standing.given r f k other ∙ sym (sums.given r f k)
+            ∙ sym (run_gives v.schema v.site.0 base bs false v.history rs was.ground.is_base was.run keeps r f k);
+        accepted = λ r f k other. st.standing.accepted r f k other ∙ sym (sums.accepted r f k)
+            ∙ sym (run_accepts v.schema v.site.0 base bs false v.history rs was.ground.is_base was.run keeps r f k);
         site = st.standing.site;
       };
-      epoch = st.standing.epoch ∙ sym sums.epoch ∙ sym (up_epoch v.schema v.site.0 base bs was.ground.is_base false v.history rs keeps there);
+      epoch = st.standing.epoch ∙ sym sums.epoch ∙ sym
+          (up_epoch v.schema v.site.0 base bs was.ground.is_base false v.history rs keeps there);
       last = st.last;
     }

@@ -66,13 +66,15 @@ says_some : (kept : Bool) → says kept ≡ Nothing → ⊥
 says_some true h = cc
 says_some false h = cc
 
-pub record FoundIs (schema : SchemaValue) (s : ℕ) (base : Base) (bs : List Record) (o : List Entry) (rs : List Record) (found : Last) : Type 0 where
+pub record FoundIs (schema : SchemaValue) (s : ℕ) (base : Base) (bs : List Record) (o : List Entry) (rs : List Record)
+    (found : Last) : Type 0 where
   pub keeps : Keeps schema s base bs (says_doubt_kept found) o rs
   pub there : count_since is_unsure o ≡ 0 → found ≡ Nothing
   pub back : found ≡ Nothing → count_since is_unsure o ≡ 0
 
 -- what the site says of its record in doubt is what the medium kept
-module _ (schema : SchemaValue) (s : ℕ) (base : Base) (bs : List Record) (o : List Entry) (rs : List Record) (kept : Bool) (keeps : Keeps schema s base bs kept o rs) where
+module _ (schema : SchemaValue) (s : ℕ) (base : Base) (bs : List Record) (o : List Entry) (rs : List Record) (kept : Bool)
+    (keeps : Keeps schema s base bs kept o rs) where
   pub found_is : (doubt : Option ℕ) → IsDoubt kept o rs doubt → FoundIs schema s base bs o rs (found_of doubt rs)
   found_is None is = record { keeps = keeps_sure schema s base bs kept false o rs is keeps; there = λ h. refl; back = λ h. is }
   found_is (Some n) is =
@@ -86,15 +88,18 @@ module _ (schema : SchemaValue) (s : ℕ) (base : Base) (bs : List Record) (o : 
       })
 
 -- a restart's record behind the others changes nothing of that
-pub found_more : (kept : Bool) (o : List Entry) (rs : List Record) (epoch : ℕ) (doubt : Option ℕ) → IsDoubt kept o rs doubt → found_of doubt (rs ++ records.Restart epoch ∷ []) ≡ found_of doubt rs
+pub found_more : (kept : Bool) (o : List Entry) (rs : List Record) (epoch : ℕ) (doubt : Option ℕ) → IsDoubt kept o rs doubt
+    → found_of doubt (rs ++ records.Restart epoch ∷ []) ≡ found_of doubt rs
 found_more kept o rs epoch None is = refl
 found_more kept o rs epoch (Some n) is =
     let more : is_record_behind n (rs ++ records.Restart epoch ∷ []) ≡ kept =
-    ap (λ (m : ℕ). is_record_behind m (rs ++ records.Restart epoch ∷ [])) is.3 ∙ found_is_kept kept is.1 is.2 (rs ++ records.Restart epoch ∷ []) (doubt_restart kept is.1 is.2 rs epoch is.4) in
+    ap (λ (m : ℕ). is_record_behind m (rs ++ records.Restart epoch ∷ [])) is.3
+    ∙ found_is_kept kept is.1 is.2 (rs ++ records.Restart epoch ∷ []) (doubt_restart kept is.1 is.2 rs epoch is.4) in
     let stood : is_record_behind n rs ≡ kept = ap (λ (m : ℕ). is_record_behind m rs) is.3 ∙ found_is_kept kept is.1 is.2 rs is.4 in
     ap says (more ∙ sym stood)
 
-still_doubt : (kept : Bool) (o : List Entry) (e : Entry) (rs : List Record) (epoch : ℕ) (doubt : Option ℕ) → count_since is_unsure (e ∷ o) ≡ count_since is_unsure o → IsDoubt kept o rs doubt
+still_doubt : (kept : Bool) (o : List Entry) (e : Entry) (rs : List Record) (epoch : ℕ) (doubt : Option ℕ)
+    → count_since is_unsure (e ∷ o) ≡ count_since is_unsure o → IsDoubt kept o rs doubt
     → IsDoubt kept (e ∷ o) (rs ++ records.Restart epoch ∷ []) doubt
 still_doubt kept o e rs epoch None same is = same ∙ is
 still_doubt kept o e rs epoch (Some n) same is = (omega (arith, same, is.0), is.1, is.2, is.3, doubt_restart kept is.1 is.2 rs epoch is.4)
@@ -156,7 +161,8 @@ module _ (v : SiteValue) (up : Bool) (extent : Extent) (a : Accounts) (was : IsS
   abbrev Failing : List Entry
   Failing = entry_of v Restart StillDown ∷ v.history
 
-  module _ (b : Accounts) (turns : Option ℕ) (replayed_ : ℕ) (bytes : List ℕ) (left : Option Mishap) (failing : FailsOver schema s all turns was.rest v.bytes bytes v.foretold left v.failed (v.failed + 1))
+  module _ (b : Accounts) (turns : Option ℕ) (replayed_ : ℕ) (bytes : List ℕ) (left : Option Mishap)
+      (failing : FailsOver schema s all turns was.rest v.bytes bytes v.foretold left v.failed (v.failed + 1))
       (which : (replayed_ ≡ since_summary all) ⊎ (replayed_ ≡ v.replayed)) where
     abbrev down : SiteValue
     down = record v { history = Failing; bytes = bytes; failed = v.failed + 1; foretold = left; replayed = replayed_ }
@@ -167,31 +173,40 @@ module _ (v : SiteValue) (up : Bool) (extent : Extent) (a : Accounts) (was : IsS
       then_told = rs ++ cond stood (next_restart rs ∷ []) []
 
       told_is : plain (all ++ is.front) ≡ then_told
-      told_is = left_plain schema s all (next_restart all) stood bytes is ∙ ap (λ (r : Record). rs ++ cond stood (r ∷ []) []) (sym next_same)
+      told_is = left_plain schema s all (next_restart all) stood bytes is
+          ∙ ap (λ (r : Record). rs ++ cond stood (r ∷ []) []) (sym next_same)
 
       held_then : Holds schema s bytes then_told is.rest
       held_then = record { all = all ++ is.front; log = is.log; lawful = is.lawful; told = told_is }
 
-    exact_down : (luck : Luck) (epoch : ℕ) (told : Last) → v.foretold ≡ Some (mishap_of luck) → Finds v epoch told → IsExact v Restart StillDown down luck epoch told
+    exact_down : (luck : Luck) (epoch : ℕ) (told : Last) → v.foretold ≡ Some (mishap_of luck) → Finds v epoch told
+        → IsExact v Restart StillDown down luck epoch told
     exact_down Fine epoch told known finds = absurd (failing.never known)
     exact_down (Torn n) epoch told known finds =
         let torn = failing.torn n known in
         let old = finds_of v epoch told finds rs was.rest held in
         let below : nat_le max_epoch epoch ≡ false = lt-leb max_epoch epoch (omega (arith, old.0, epochs, torn.0)) in
-        record { reply_is = rw below refl; finds = by (nat_le (length (text (next_restart all))) n) (sym (same_size epoch old.0)) torn.1 old.0 old.1 }
+        record {
+          reply_is = rw below refl;
+          finds =
+              by (nat_le (length (text (next_restart all))) n) (sym (same_size epoch old.0)) torn.1 old.0 old.1;
+        }
       where
         same_size : (epoch : ℕ) → greatest rs ≡ epoch → nat_le (restart_length (epoch + 1)) n ≡ nat_le (length (text (next_restart all))) n
         same_size epoch is = ap (λ (m : ℕ). nat_le (restart_length (m + 1)) n) (sym is ∙ epochs)
 
-        by : (stood : Bool) → stood ≡ nat_le (restart_length (epoch + 1)) n → Leaves schema s all (next_restart all) stood bytes → greatest rs ≡ epoch → found_of v.doubt rs ≡ told
+        by : (stood : Bool) → stood ≡ nat_le (restart_length (epoch + 1)) n → Leaves schema s all (next_restart all) stood bytes
+            → greatest rs ≡ epoch → found_of v.doubt rs ≡ told
             → Finds down (if nat_le (restart_length (epoch + 1)) n then epoch + 1 else epoch) told
         by true long is epoch_is found_is_ =
             subst (λ (t : Bool). Finds down (if t then epoch + 1 else epoch) told) long
-            (finds_held down (rs ++ next_restart rs ∷ []) is.rest (epoch + 1) told (held_then true is) (greatest_next rs ∙ ap (λ (m : ℕ). m + 1) epoch_is)
+            (finds_held down (rs ++ next_restart rs ∷ []) is.rest (epoch + 1) told (held_then true is)
+            (greatest_next rs ∙ ap (λ (m : ℕ). m + 1) epoch_is)
             (found_more was.kept v.history rs (greatest rs + 1) v.doubt was.in_doubt ∙ found_is_))
         by false short is epoch_is found_is_ =
             subst (λ (t : Bool). Finds down (if t then epoch + 1 else epoch) told) short
-            (finds_held down rs is.rest epoch told (subst (λ (x : List Record). Holds schema s bytes x is.rest) (append-nil rs) (held_then false is)) epoch_is found_is_)
+            (finds_held down rs is.rest epoch told
+            (subst (λ (x : List Record). Holds schema s bytes x is.rest) (append-nil rs) (held_then false is)) epoch_is found_is_)
 
     under_down : (m : Mishap) → v.foretold ≡ Some m → StillDown ≡ owed_under v rs was.rest Restart m
     under_down Never known = absurd (failing.never known)
@@ -212,13 +227,15 @@ module _ (v : SiteValue) (up : Bool) (extent : Extent) (a : Accounts) (was : IsS
               record {
                 stood = stood;
                 rest = is.rest;
-                log = subst (λ (x : List Record). Holds schema s bytes (x ++ adds at Restart StillDown stood x) is.rest) (same_as other more holds).0 (held_then stood is);
+                log = subst (λ (x : List Record). Holds schema s bytes (x ++ adds at Restart StillDown stood x) is.rest)
+                    (same_as other more holds).0 (held_then stood is);
                 doubt = refl;
                 restarts = tt;
                 refuses = tt;
               };
           writes_ = λ other more log.
-              subst (λ (x : List Record). (bytes ≡ v.bytes) ⊎ IsCutShort (flat_map text x) (flat_map text (next_piece schema s x)) bytes) (same_all other more log) failing.left_;
+              subst (λ (x : List Record). (bytes ≡ v.bytes)
+              ⊎ IsCutShort (flat_map text x) (flat_map text (next_piece schema s x)) bytes) (same_all other more log) failing.left_;
           foretold = failing.struck_;
           under = λ other more m holds known.
               let same = same_as other more holds in
@@ -264,7 +281,8 @@ module _ (v : SiteValue) (up : Bool) (extent : Extent) (a : Accounts) (was : IsS
         }
       where
         in_doubt_then : (b : Bool) → IsDoubt was.kept Failing (rs ++ cond b (next_restart rs ∷ []) []) v.doubt
-        in_doubt_then true = still_doubt was.kept v.history (entry_of v Restart StillDown) rs (greatest rs + 1) v.doubt (omega arith) was.in_doubt
+        in_doubt_then true = still_doubt was.kept v.history (entry_of v Restart StillDown) rs (greatest rs + 1) v.doubt
+            (omega arith) was.in_doubt
         in_doubt_then false =
             subst (λ (x : List Record). IsDoubt was.kept Failing x v.doubt) (sym (append-nil rs))
             (quiet_doubt was.kept v.history (entry_of v Restart StillDown) rs v.doubt (omega arith) was.in_doubt)
@@ -272,24 +290,38 @@ module _ (v : SiteValue) (up : Bool) (extent : Extent) (a : Accounts) (was : IsS
     ends_down : Ends v Restart StillDown down false extent b
     ends_down = failed failing.leaves.0 failing.leaves.1
 
-  pub ends_failed : (b : Accounts) (turns : Option ℕ) (replayed_ : ℕ) (bytes : List ℕ) (failed : ℕ) (left : Option Mishap) (h : List Entry) → h ≡ Failing
-      → FailsOver schema s all turns was.rest v.bytes bytes v.foretold left v.failed failed → (replayed_ ≡ since_summary all) ⊎ (replayed_ ≡ v.replayed)
-      → Ends v Restart StillDown (record v { history = h; bytes = bytes; failed = failed; foretold = left; replayed = replayed_ }) false extent b
+  pub ends_failed : (b : Accounts) (turns : Option ℕ) (replayed_ : ℕ) (bytes : List ℕ) (failed : ℕ) (left : Option Mishap) (h : List Entry)
+      → h ≡ Failing
+      → FailsOver schema s all turns was.rest v.bytes bytes v.foretold left v.failed failed → (replayed_ ≡ since_summary all)
+      ⊎ (replayed_ ≡ v.replayed)
+      → Ends v Restart StillDown (record v { history = h; bytes = bytes; failed = failed; foretold = left; replayed = replayed_ }) false
+      extent b
   ends_failed b turns replayed_ bytes failed left h past failing which =
-      subst (λ (o : List Entry). Ends v Restart StillDown (record v { history = o; bytes = bytes; failed = failed; foretold = left; replayed = replayed_ }) false extent b) (sym past)
-      (subst (λ (n : ℕ). Ends v Restart StillDown (record v { history = Failing; bytes = bytes; failed = n; foretold = left; replayed = replayed_ }) false extent b) (sym failing.counts)
-      (ends_down b turns replayed_ bytes left (subst (λ (n : ℕ). FailsOver schema s all turns was.rest v.bytes bytes v.foretold left v.failed n) failing.counts failing) which))
+      subst (λ (o : List Entry). Ends v Restart StillDown
+      (record v { history = o; bytes = bytes; failed = failed; foretold = left; replayed = replayed_ }) false extent b) (sym past)
+      (subst (λ (n : ℕ). Ends v Restart StillDown (record v {
+        history = Failing;
+        bytes = bytes;
+        failed = n;
+        foretold = left;
+        replayed =
+            replayed_;
+      }) false extent b) (sym failing.counts)
+      (ends_down b turns replayed_ bytes left (subst
+      (λ (n : ℕ). FailsOver schema s all turns was.rest v.bytes bytes v.foretold left v.failed n) failing.counts failing) which))
 
   -- ---- no epoch is left
 
   abbrev Full : Reply
   Full = Refused NumbersFull
 
-  under_full : max_epoch ≤ greatest rs → (v.foretold ≡ Some Read → ⊥) → (m : Mishap) → v.foretold ≡ Some m → Full ≡ owed_under v rs was.rest Restart m
+  under_full : max_epoch ≤ greatest rs → (v.foretold ≡ Some Read → ⊥) → (m : Mishap) → v.foretold ≡ Some m
+      → Full ≡ owed_under v rs was.rest Restart m
   under_full most read Read known = absurd (read known)
   under_full most read m known = rw (le-leb max_epoch (greatest rs) most) refl
 
-  full : (left : Option Mishap) → max_epoch ≤ greatest rs → (v.foretold ≡ Some Read → ⊥) → left ≡ v.foretold → Ends v Restart Full (record v { history = entry_of v Restart Full ∷ v.history; foretold = left }) up extent a
+  full : (left : Option Mishap) → max_epoch ≤ greatest rs → (v.foretold ≡ Some Read → ⊥) → left ≡ v.foretold
+      → Ends v Restart Full (record v { history = entry_of v Restart Full ∷ v.history; foretold = left }) up extent a
   full left most read stays =
       let w : SiteValue = record v { history = entry_of v Restart Full ∷ v.history; foretold = left } in
       let fits = refused_fits schema s base bs was.ground.is_base was.kept v.history rs was.keeps most in
@@ -339,12 +371,15 @@ module _ (v : SiteValue) (up : Bool) (extent : Extent) (a : Accounts) (was : IsS
         };
       }
 
-  pub ends_full : (bytes : List ℕ) (failed : ℕ) (left : Option Mishap) (h : List Entry) → h ≡ entry_of v Restart Full ∷ v.history → FullOver all v.bytes bytes v.foretold left v.failed failed
+  pub ends_full : (bytes : List ℕ) (failed : ℕ) (left : Option Mishap) (h : List Entry) → h ≡ entry_of v Restart Full ∷ v.history
+      → FullOver all v.bytes bytes v.foretold left v.failed failed
       → Ends v Restart Full (record v { history = h; bytes = bytes; failed = failed; foretold = left }) up extent a
   ends_full bytes failed left h past over =
       let After : List Entry = entry_of v Restart Full ∷ v.history in
-      subst (λ (o : List Entry). Ends v Restart Full (record v { history = o; bytes = bytes; failed = failed; foretold = left }) up extent a) (sym past)
-      (subst (λ (x : List ℕ). Ends v Restart Full (record v { history = After; bytes = x; failed = failed; foretold = left }) up extent a) (sym over.same)
+      subst (λ (o : List Entry). Ends v Restart Full
+      (record v { history = o; bytes = bytes; failed = failed; foretold = left }) up extent a) (sym past)
+      (subst (λ (x : List ℕ). Ends v Restart Full (record v { history = After; bytes = x; failed = failed; foretold = left }) up extent a)
+      (sym over.same)
       (subst (λ (n : ℕ). Ends v Restart Full (record v { history = After; foretold = left; failed = n }) up extent a) (sym over.counts)
       (full left (omega (arith, epochs, over.full)) over.read over.stays)))
 
@@ -356,7 +391,8 @@ module _ (v : SiteValue) (up : Bool) (extent : Extent) (a : Accounts) (was : IsS
   abbrev lines : List Record
   lines = next_piece schema s all
 
-  module _ (standing : Standing) (for_ : IsStandingFor schema s all standing) (b : Accounts) (took : TakesIn schema standing (next_restart all) true b.standing) (open_ : b.journal ≡ []) (last_is_ : b.last ≡ 0) where
+  module _ (standing : Standing) (for_ : IsStandingFor schema s all standing) (b : Accounts)
+      (took : TakesIn schema standing (next_restart all) true b.standing) (open_ : b.journal ≡ []) (last_is_ : b.last ≡ 0) where
     abbrev Anew : ℕ → List Entry
     Anew epoch = entry_of v Restart (Restarted epoch last) ∷ v.history
 
@@ -368,19 +404,22 @@ module _ (v : SiteValue) (up : Bool) (extent : Extent) (a : Accounts) (was : IsS
         let effects_lawful = run_is_lawful schema s base v.history was.run (says_doubt_kept last) in
         let more = took.stands refl s all was.lawful for_.for_ in
         record {
-          standing = stands_as schema s (all ++ lines) (all ++ next_restart all ∷ []) b.standing (piece_same schema s all (next_restart all) refl) more;
+          standing = stands_as schema s (all ++ lines) (all ++ next_restart all ∷ []) b.standing
+              (piece_same schema s all (next_restart all) refl) more;
           aside = record {
             held = λ f k l.
                 let l' : f < length standing.rights = omega (arith, l, more.count, for_.for_.count) in
                 took.held refl f k l' ∙ for_.none f k l' ∙ sym (held_stop schema base kept_effects effects_lawful f k);
-            journal = open_ ∙ sym (ap (λ (ts : List TxnId). map (row_of (Stops ∷ kept_effects)) (reverse ts)) (stop_closes_all kept_effects));
+            journal = open_ ∙ sym (ap (λ (ts : List TxnId). map (row_of (Stops ∷ kept_effects)) (reverse ts))
+                (stop_closes_all kept_effects));
           };
           last = last_is_;
         }
 
     module _ (anew_extent : Extent) (reached : ReachesAll anew_extent (all ++ lines)) (turns : ℕ) (turns_are : turns ≡ since_summary all)
         (bytes : List ℕ) (left : Option Mishap) (some : greatest all < max_epoch) (log : IsLog bytes (all ++ lines) [])
-        (torn : (n : ℕ) → v.foretold ≡ Some (Append n) → ⊥) (read : v.foretold ≡ Some Read → ⊥) (cut : v.foretold ≡ Some Cut → was.rest ≡ []) (stays : left ≡ v.foretold) where
+        (torn : (n : ℕ) → v.foretold ≡ Some (Append n) → ⊥) (read : v.foretold ≡ Some Read → ⊥) (cut : v.foretold ≡ Some Cut
+        → was.rest ≡ []) (stays : left ≡ v.foretold) where
       abbrev epoch : ℕ
       epoch = greatest rs + 1
 
@@ -402,10 +441,12 @@ module _ (v : SiteValue) (up : Bool) (extent : Extent) (a : Accounts) (was : IsS
       held_anew : Holds schema s bytes (rs ++ next_restart rs ∷ []) []
       held_anew = record { all = all ++ lines; log = log; lawful = lawful_anew; told = plain_is }
 
-      exact_anew : (luck : Luck) (kept : ℕ) (found_ : Last) → v.foretold ≡ Some (mishap_of luck) → Finds v kept found_ → IsExact v Restart (Restarted epoch last) anew luck kept found_
+      exact_anew : (luck : Luck) (kept : ℕ) (found_ : Last) → v.foretold ≡ Some (mishap_of luck) → Finds v kept found_
+          → IsExact v Restart (Restarted epoch last) anew luck kept found_
       exact_anew Fine kept found_ known finds =
           let old = finds_of v kept found_ finds rs was.rest held in
-          let below : nat_le max_epoch kept ≡ false = subst (λ (m : ℕ). nat_le max_epoch m ≡ false) old.0 (lt-leb max_epoch (greatest rs) some_) in
+          let below : nat_le max_epoch kept ≡ false =
+          subst (λ (m : ℕ). nat_le max_epoch m ≡ false) old.0 (lt-leb max_epoch (greatest rs) some_) in
           let owed : ◌≡◌ {A = Reply} (Restarted epoch last) (Restarted (kept + 1) found_) = rw (old.0, old.1) refl in
           record {
             reply_is = rw below owed;
@@ -418,7 +459,8 @@ module _ (v : SiteValue) (up : Bool) (extent : Extent) (a : Accounts) (was : IsS
       under_anew (Append n) known = absurd (torn n known)
       under_anew Read known = absurd (read known)
       under_anew Cut known =
-          subst (λ (x : List ℕ). Restarted epoch last ≡ owed_with at (greatest rs) last Restart (luck_under Restart x Cut)) (sym (cut known)) (rw (lt-leb max_epoch (greatest rs) some_) refl)
+          subst (λ (x : List ℕ). Restarted epoch last ≡ owed_with at (greatest rs) last Restart (luck_under Restart x Cut))
+          (sym (cut known)) (rw (lt-leb max_epoch (greatest rs) some_) refl)
 
       restarted : Ends v Restart (Restarted epoch last) anew true anew_extent b
       restarted =
@@ -471,27 +513,38 @@ module _ (v : SiteValue) (up : Bool) (extent : Extent) (a : Accounts) (was : IsS
   next_extent more size behind = record { count = extent.count + more + 1; length = size; behind = behind }
 
   pub few_behind : (found_ : List Record) → AreBehind v.bytes extent.length found_ → extent.count + length (plain found_) ≡ length rs
-  few_behind found_ behind = count_more extent all was.reaches found_ (behind_is extent v.bytes all was.rest was.log was.reaches found_ behind)
+  few_behind found_ behind = count_more extent all was.reaches found_
+      (behind_is extent v.bytes all was.rest was.log was.reaches found_ behind)
 
-  pub ends_restarted : (standing : Standing) (found_ : List Record) (epoch turns size behind_ : ℕ) (b : Accounts) (bytes : List ℕ) (failed : ℕ) (left : Option Mishap) (r : Reply) (more : ℕ) (h : List Entry)
-      → IsStandingFor schema s all standing → StandsOver schema s all epoch turns size was.rest bytes v.foretold left v.failed failed → AreBehind v.bytes extent.length found_
+  pub ends_restarted : (standing : Standing) (found_ : List Record) (epoch turns size behind_ : ℕ) (b : Accounts) (bytes : List ℕ)
+      (failed : ℕ) (left : Option Mishap) (r : Reply) (more : ℕ) (h : List Entry)
+      → IsStandingFor schema s all standing → StandsOver schema s all epoch turns size was.rest bytes v.foretold left v.failed failed
+      → AreBehind v.bytes extent.length found_
       → TakesIn schema standing (records.Restart epoch) true b.standing → b.journal ≡ [] → b.last ≡ 0
-      → r ≡ Restarted epoch (found_by v.doubt found_) → more ≡ length (plain found_) → behind_ ≡ (if nat_le max_behind (turns + 1) then 0 else turns + 1) → h ≡ entry_of v Restart r ∷ v.history
-      → Ends v Restart r (record v { history = h; bytes = bytes; failed = failed; foretold = left; doubt = None; replayed = turns }) true (next_extent more size behind_) b
-  ends_restarted standing found_ new turns size behind_ b bytes failed left r more h for_ over stand took open_ last_is_ said counted behinds past =
+      → r ≡ Restarted epoch (found_by v.doubt found_) → more ≡ length (plain found_)
+      → behind_ ≡ (if nat_le max_behind (turns + 1) then 0 else turns + 1) → h ≡ entry_of v Restart r ∷ v.history
+      → Ends v Restart r (record v { history = h; bytes = bytes; failed = failed; foretold = left; doubt = None; replayed = turns }) true
+      (next_extent more size behind_) b
+  ends_restarted standing found_ new turns size behind_ b bytes failed left r more h for_ over stand took open_ last_is_ said counted
+      behinds past =
       let next = greatest rs + 1 in
       let same = behind_is extent v.bytes all was.rest was.log was.reaches found_ stand in
       let lasts : found_by v.doubt found_ ≡ last = last_is v.doubt extent all was.reaches found_ same was.place in
       let new_is : new ≡ next = over.epoch_is ∙ ap (λ (n : ℕ). n + 1) (sym epochs) in
-      let reply : r ≡ Restarted next last = said ∙ ap (λ (n : ℕ). Restarted n (found_by v.doubt found_)) new_is ∙ ap (λ (l : Last). Restarted next l) lasts in
-      let after : h ≡ entry_of v Restart (Restarted next last) ∷ v.history = past ∙ ap (λ (x : Reply). entry_of v Restart x ∷ v.history) reply in
+      let reply : r ≡ Restarted next last = said ∙ ap (λ (n : ℕ). Restarted n (found_by v.doubt found_)) new_is
+      ∙ ap (λ (l : Last). Restarted next l) lasts in
+      let after : h ≡ entry_of v Restart (Restarted next last) ∷ v.history =
+      past ∙ ap (λ (x : Reply). entry_of v Restart x ∷ v.history) reply in
       let many : extent.count + more + 1 ≡ length rs + 1 = omega (arith, counted, few_behind found_ stand) in
-      let reached = reach_next schema s all (next_restart all) refl (next_extent more size behind_) many over.size_is (behinds ∙ ap (λ (n : ℕ). if nat_le max_behind (n + 1) then 0 else n + 1) over.replayed) in
+      let reached = reach_next schema s all (next_restart all) refl (next_extent more size behind_) many over.size_is
+      (behinds ∙ ap (λ (n : ℕ). if nat_le max_behind (n + 1) then 0 else n + 1) over.replayed) in
       let At : Reply → List Entry → ℕ → Type 0 =
-      λ x o n. Ends v Restart x (record v { history = o; bytes = bytes; failed = n; foretold = left; doubt = None; replayed = turns }) true (next_extent more size behind_) b in
+      λ x o n. Ends v Restart x (record v { history = o; bytes = bytes; failed = n; foretold = left; doubt = None; replayed = turns }) true
+      (next_extent more size behind_) b in
       let After : List Entry = entry_of v Restart (Restarted next last) ∷ v.history in
       subst (λ (x : Reply). At x h failed) (sym reply)
       (subst (λ (o : List Entry). At (Restarted next last) o failed) (sym after)
       (subst (λ (n : ℕ). At (Restarted next last) After n) (sym over.counts)
-      (restarted standing for_ b (subst (λ (e : ℕ). TakesIn schema standing (records.Restart e) true b.standing) over.epoch_is took) open_ last_is_
+      (restarted standing for_ b (subst (λ (e : ℕ). TakesIn schema standing (records.Restart e) true b.standing) over.epoch_is took) open_
+      last_is_
       (next_extent more size behind_) reached turns over.replayed bytes left over.some over.log over.torn over.read over.cut over.stays)))

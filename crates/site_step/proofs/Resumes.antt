@@ -32,14 +32,17 @@ use Rattle.site_step.proofs.Holding.{piece_fits, added_all, leaves_by, leaves_no
 
 -- ---- lawful records break no rule
 
-lawful_at : (schema : SchemaValue) (s : ℕ) (front before behind : List Record) (r : Record) → LawfulBehind schema s front (before ++ (r ∷ behind)) → may_follow schema s (front ++ before) r ≡ true
+lawful_at : (schema : SchemaValue) (s : ℕ) (front before behind : List Record) (r : Record)
+    → LawfulBehind schema s front (before ++ (r ∷ behind)) → may_follow schema s (front ++ before) r ≡ true
 lawful_at schema s front [] behind r h = subst (λ (rs : List Record). may_follow schema s rs r ≡ true) (sym (append-nil front)) h.0
 lawful_at schema s front (b ∷ before) behind r h =
-    subst (λ (rs : List Record). may_follow schema s rs r ≡ true) (append_assoc front (b ∷ []) before) (lawful_at schema s (front ++ b ∷ []) before behind r h.1)
+    subst (λ (rs : List Record). may_follow schema s rs r ≡ true) (append_assoc front (b ∷ []) before)
+    (lawful_at schema s (front ++ b ∷ []) before behind r h.1)
 
 pub no_breach : (schema : SchemaValue) (s : ℕ) (rs : List Record) (n : ℕ) → BreaksRule schema s rs n → Lawful schema s rs → ⊥
 no_breach schema s rs n breach lawful =
-    let may = lawful_at schema s [] breach.before breach.behind breach.breaking (subst (λ (all : List Record). Lawful schema s all) breach.parts lawful) in
+    let may = lawful_at schema s [] breach.before breach.behind breach.breaking
+    (subst (λ (all : List Record). Lawful schema s all) breach.parts lawful) in
     false≢true (sym breach.broken ∙ may)
 
 abbrev MayBeRead : Option Mishap → Type 0
@@ -51,7 +54,8 @@ MayBeRead (Some (Append n)) = ⊥
 
 -- ---- the end that was read
 
-pub end_of : (schema : SchemaValue) (s : ℕ) (bytes : List ℕ) (held : IsLawfulLog schema s bytes) (read : ReadBack) → AreLast bytes read.summary read.lines → IsEnd schema s held.records read
+pub end_of : (schema : SchemaValue) (s : ℕ) (bytes : List ℕ) (held : IsLawfulLog schema s bytes) (read : ReadBack)
+    → AreLast bytes read.summary read.lines → IsEnd schema s held.records read
 end_of schema s bytes held read last = record {
   rest = held.rest;
   each = held.log.each;
@@ -61,7 +65,8 @@ end_of schema s bytes held read last = record {
 
 -- ---- a record that may stand next
 
-pub stands_next : (schema : SchemaValue) (standing : Standing) (s : ℕ) (rs : List Record) (r : Record) → s < schema.sites → AllByRecursion IsRecord rs → Lawful schema s rs → Stands schema s rs standing
+pub stands_next : (schema : SchemaValue) (standing : Standing) (s : ℕ) (rs : List Record) (r : Record) → s < schema.sites
+    → AllByRecursion IsRecord rs → Lawful schema s rs → Stands schema s rs standing
     → may_follow schema s rs r ≡ true → MayFollowNext schema standing rs r
 stands_next schema standing s rs r site_in each lawful stands may =
     let here = sym stands.site in
@@ -74,7 +79,8 @@ stands_next schema standing s rs r site_in each lawful stands may =
     }
 
 -- what is due behind it is told for the site
-pub due_here : (schema : SchemaValue) (standing : Standing) (s : ℕ) (rs : List Record) (r : Record) (due : Option SummaryValue) → Stands schema s rs standing
+pub due_here : (schema : SchemaValue) (standing : Standing) (s : ℕ) (rs : List Record) (r : Record) (due : Option SummaryValue)
+    → Stands schema s rs standing
     → with_due r due ≡ piece schema standing.ledger.site rs r → with_due r due ≡ piece schema s rs r
 due_here schema standing s rs r due stands is = is ∙ ap (λ (n : ℕ). piece schema n rs r) stands.site
 
@@ -86,11 +92,13 @@ restart_may schema s rs = lt-ltb (greatest rs) (greatest rs + 1) (omega arith)
 pub restart_fits : (rs : List Record) → greatest rs < max_epoch → IsRecord (next_restart rs)
 restart_fits rs some = (omega arith, omega (arith, some))
 
-pub restart_next : (standing : Standing) (schema : SchemaValue) (s : ℕ) (rs : List Record) → IsStandingFor schema s rs standing → ◌≡◌ {A = Record} (Restart (standing.epoch + 1)) (next_restart rs)
+pub restart_next : (standing : Standing) (schema : SchemaValue) (s : ℕ) (rs : List Record) → IsStandingFor schema s rs standing
+    → ◌≡◌ {A = Record} (Restart (standing.epoch + 1)) (next_restart rs)
 restart_next standing schema s rs for_ = ap (λ (n : ℕ). Restart (n + 1)) for_.for_.epoch
 
 -- what is replayed leaves the record of a restart next, with the summary that is due
-module _ (old : List ℕ) (standing : Standing) (turns : ℕ) (schema : SchemaValue) (s : ℕ) (rs : List Record) (rest : List ℕ) (is_replayed : IsReplayed schema s rs rest standing turns old) (below : standing.epoch < max_epoch) where
+module _ (old : List ℕ) (standing : Standing) (turns : ℕ) (schema : SchemaValue) (s : ℕ) (rs : List Record) (rest : List ℕ)
+    (is_replayed : IsReplayed schema s rs rest standing turns old) (below : standing.epoch < max_epoch) where
   abbrev next_record : Record
   next_record = Restart (standing.epoch + 1)
 
@@ -100,7 +108,8 @@ module _ (old : List ℕ) (standing : Standing) (turns : ℕ) (schema : SchemaVa
   pub next_over : MayFollowNext schema standing rs (Restart (standing.epoch + 1))
   next_over =
       subst (λ (r : Record). MayFollowNext schema standing rs r) (sym next_same)
-      (stands_next schema standing s rs (next_restart rs) is_replayed.site_in is_replayed.log.each is_replayed.lawful is_replayed.for_.for_ (restart_may schema s rs))
+      (stands_next schema standing s rs (next_restart rs) is_replayed.site_in is_replayed.log.each is_replayed.lawful is_replayed.for_.for_
+      (restart_may schema s rs))
 
   pub due_over : (due : Option SummaryValue)
       → ((all : List Record) → MayFollowNext schema standing all (Restart (standing.epoch + 1)) → turns ≡ since_summary all
@@ -113,17 +122,25 @@ module _ (old : List ℕ) (standing : Standing) (turns : ℕ) (schema : SchemaVa
       → with_due (Restart (standing.epoch + 1)) due ≡ piece schema standing.ledger.site all (Restart (standing.epoch + 1)))
       → AllByRecursion IsRecord (with_due (Restart (standing.epoch + 1)) due)
   due_over_fits due told =
-      subst (λ (ps : List Record). AllByRecursion IsRecord ps) (sym (due_over due told ∙ ap (λ (r : Record). piece schema s rs r) next_same))
-      (piece_fits schema s rs (next_restart rs) refl is_replayed.lawful (restart_may schema s rs) is_replayed.limits is_replayed.site_in is_replayed.log.each
+      subst (λ (ps : List Record). AllByRecursion IsRecord ps)
+      (sym (due_over due told ∙ ap (λ (r : Record). piece schema s rs r) next_same))
+      (piece_fits schema s rs (next_restart rs) refl is_replayed.lawful
+      (restart_may schema s rs) is_replayed.limits is_replayed.site_in is_replayed.log.each
       (restart_fits rs (omega (arith, below, is_replayed.for_.for_.epoch))))
 
 -- a restart that didn't read the medium
-pub unread_fails : (schema : SchemaValue) (s : ℕ) (old new rest : List ℕ) (foretold left : Option Mishap) (before after : ℕ) (rs : List Record) → IsLog old rs rest → Lawful schema s rs
-    → new ≡ old → after ≡ before + 1 → (left ≡ mishap_left foretold) × (MayBeRead foretold) → FailsOver schema s rs None rest old new foretold left before after
+pub unread_fails : (schema : SchemaValue) (s : ℕ) (old new rest : List ℕ) (foretold left : Option Mishap) (before after : ℕ)
+    (rs : List Record) → IsLog old rs rest → Lawful schema s rs
+    → new ≡ old → after ≡ before + 1 → (left ≡ mishap_left foretold) × (MayBeRead foretold)
+    → FailsOver schema s rs None rest old new foretold left before after
 unread_fails schema s old new rest foretold left before after rs log lawful same counts fate =
     record {
       counts = counts;
-      leaves = (false, leaves_none schema s rs (next_restart rs) new rest (subst (λ (bytes : List ℕ). IsLog bytes rs rest) (sym same) log) lawful);
+      leaves = (
+        false,
+        leaves_none schema s rs (next_restart rs) new rest
+            (subst (λ (bytes : List ℕ). IsLog bytes rs rest) (sym same) log) lawful,
+      );
       left_ = inl same;
       never = λ known. subst MayBeRead known fate.1;
       torn = λ n known. absurd (subst MayBeRead known fate.1);
@@ -140,7 +157,8 @@ read_stays log (Some Cut) left fate = fate.1
 read_stays log (Some (Append n)) left fate = fate.1
 
 -- a restart over a medium that reading left as it was
-pub resumes_from : (schema : SchemaValue) (s place : ℕ) (rs : List Record) (rest : List ℕ) (resumed : Resumed) (old mid new : List ℕ) (foretold between left : Option Mishap) (before middle after : ℕ)
+pub resumes_from : (schema : SchemaValue) (s place : ℕ) (rs : List Record) (rest : List ℕ) (resumed : Resumed) (old mid new : List ℕ)
+    (foretold between left : Option Mishap) (before middle after : ℕ)
     → mid ≡ old → between ≡ foretold → middle ≡ before → ResumesOver schema s place rs rest resumed mid new between left middle after
     → ResumesOver schema s place rs rest resumed old new foretold left before after
 resumes_from schema s place rs rest resumed old mid new foretold between left before middle after bytes fate count over =
@@ -148,14 +166,16 @@ resumes_from schema s place rs rest resumed old mid new foretold between left be
     (subst (λ (x : Option Mishap). ResumesOver schema s place rs rest resumed mid new x left before after) fate
     (subst (λ (x : ℕ). ResumesOver schema s place rs rest resumed mid new between left x after) count over))
 
-pub read_fate : (foretold left : Option Mishap) → ReadFate {T = ReadBack} foretold (Err faults.Device) left → (left ≡ mishap_left foretold) × (MayBeRead foretold)
+pub read_fate : (foretold left : Option Mishap) → ReadFate {T = ReadBack} foretold (Err faults.Device) left → (left ≡ mishap_left foretold)
+    × (MayBeRead foretold)
 read_fate None left fate = (fate, tt)
 read_fate (Some Read) left fate = (fate.1, tt)
 read_fate (Some Never) left fate = absurd cc
 read_fate (Some Cut) left fate = absurd cc
 read_fate (Some (Append n)) left fate = absurd cc
 
-module _ (old new : List ℕ) (foretold left : Option Mishap) (before after whole : ℕ) (standing : Standing) (turns : ℕ) (due : Option SummaryValue)
+module _ (old new : List ℕ) (foretold left : Option Mishap) (before after whole : ℕ) (standing : Standing) (turns : ℕ)
+    (due : Option SummaryValue)
     (sized : IsWhole old whole) (below : standing.epoch < max_epoch) (unread : foretold ≡ Some Read → ⊥)
     (schema : SchemaValue) (s : ℕ) (rs : List Record) (rest : List ℕ) (is_replayed : IsReplayed schema s rs rest standing turns old)
     (dues : with_due (Restart (standing.epoch + 1)) due ≡ piece schema s rs (Restart (standing.epoch + 1))) where
@@ -198,7 +218,8 @@ module _ (old new : List ℕ) (foretold left : Option Mishap) (before after whol
   length_is : length old ≡ whole + length rest
   length_is = ap length log.parts ∙ length-append (flat_map text rs) rest ∙ ap (λ (n : ℕ). n + length rest) (sym size_is)
 
-  goes_under : (m : Mishap) (result : Result Unit Device) → foretold ≡ Some m → CutAndAppendFate foretold whole old lines result new left → CutAndAppendGo m whole old lines result new left
+  goes_under : (m : Mishap) (result : Result Unit Device) → foretold ≡ Some m → CutAndAppendFate foretold whole old lines result new left
+      → CutAndAppendGo m whole old lines result new left
   goes_under m result known fate = subst (λ (x : Option Mishap). CutAndAppendFate x whole old lines result new left) known fate
 
   is_clean : (result : Result Unit Device) → (IsErr result → ⊥) → StrikesCut whole old result new left → rest ≡ []
@@ -218,7 +239,8 @@ module _ (old new : List ℕ) (foretold left : Option Mishap) (before after whol
   mishap_stays (Some Cut) past fate = (fate.1 (omega (arith, length_is, ap length (is_clean (Ok tt) (λ e. false≢true e) fate)))).1
   mishap_stays (Some Read) past fate = absurd (past refl)
 
-  mishap_struck : (m : Option Mishap) (device : Device) → (m ≡ Some Read → ⊥) → CutAndAppendFate m whole old lines (Err device) new left → left ≡ mishap_left m
+  mishap_struck : (m : Option Mishap) (device : Device) → (m ≡ Some Read → ⊥) → CutAndAppendFate m whole old lines (Err device) new left
+      → left ≡ mishap_left m
   mishap_struck None device past fate = fate
   mishap_struck (Some Never) device past fate = absurd (false≢true fate.0)
   mishap_struck (Some (Append n)) device past fate = fate.2
@@ -231,13 +253,17 @@ module _ (old new : List ℕ) (foretold left : Option Mishap) (before after whol
 
   long_is : (line : List ℕ) → line ≡ lines → whole + length line ≡ length (flat_map text (rs ++ next_piece schema s rs))
   long_is line is =
-      let more : length (flat_map text (rs ++ next_piece schema s rs)) ≡ length (flat_map text rs) + length (flat_map text (next_piece schema s rs)) =
-      ap length (flat_map-append text rs (next_piece schema s rs)) ∙ length-append (flat_map text rs) (flat_map text (next_piece schema s rs)) in
-      let same : length line ≡ length (flat_map text (next_piece schema s rs)) = ap length is ∙ ap (λ (ps : List Record). length (flat_map text ps)) lines_are in
+      let more : length (flat_map text (rs ++ next_piece schema s rs)) ≡ length (flat_map text rs)
+      + length (flat_map text (next_piece schema s rs)) =
+      ap length (flat_map-append text rs (next_piece schema s rs))
+      ∙ length-append (flat_map text rs) (flat_map text (next_piece schema s rs)) in
+      let same : length line ≡ length (flat_map text (next_piece schema s rs)) =
+      ap length is ∙ ap (λ (ps : List Record). length (flat_map text ps)) lines_are in
       omega (arith, more, size_is, same)
 
   pub stands_over : (line : List ℕ) (size : ℕ) → line ≡ lines → size ≡ told_length (whole + length line)
-      → CutsAndAppends {T = Unit {0}} {E = Device} (Ok tt) whole old lines new before after → CutAndAppendFate {E = Device} foretold whole old lines (Ok tt) new left
+      → CutsAndAppends {T = Unit {0}} {E = Device} (Ok tt) whole old lines new before after
+      → CutAndAppendFate {E = Device} foretold whole old lines (Ok tt) new left
       → StandsOver schema s rs (standing.epoch + 1) turns size rest new foretold left before after
   stands_over line size line_is size_ added fate =
       record {
@@ -255,22 +281,30 @@ module _ (old new : List ℕ) (foretold left : Option Mishap) (before after whol
         stays = mishap_stays foretold unread fate;
       }
 
-  left_of : ((new ≡ old) ⊎ IsCutShort (take whole old) lines new) → (new ≡ old) ⊎ IsCutShort (flat_map text rs) (flat_map text (next_piece schema s rs)) new
+  left_of : ((new ≡ old) ⊎ IsCutShort (take whole old) lines new) → (new ≡ old)
+      ⊎ IsCutShort (flat_map text rs) (flat_map text (next_piece schema s rs)) new
   left_of (inl unchanged) = inl unchanged
   left_of (inr cut) =
-      inr (subst (λ (b : List ℕ). IsCutShort b (flat_map text (next_piece schema s rs)) new) whole_is (subst (λ (ps : List Record). IsCutShort (take whole old) (flat_map text ps) new) lines_are cut))
+      inr (subst (λ (b : List ℕ). IsCutShort b (flat_map text (next_piece schema s rs)) new) whole_is
+      (subst (λ (ps : List Record). IsCutShort (take whole old) (flat_map text ps) new) lines_are cut))
 
-  front_left : (n : ℕ) → new ≡ take whole old ++ take n lines → Leaves schema s rs (next_restart rs) (nat_le (length (text (next_restart rs))) n) new
+  front_left : (n : ℕ) → new ≡ take whole old ++ take n lines
+      → Leaves schema s rs (next_restart rs) (nat_le (length (text (next_restart rs))) n) new
   front_left n is =
       leaves_by schema s rs (next_restart rs) refl lawful may n (take whole old) new cut_log each
       (is ∙ ap (λ (ps : List Record). take whole old ++ take n (flat_map text ps)) lines_are)
 
   leaves_of : ((new ≡ old) ⊎ IsCutShort (take whole old) lines new) → (stood : Bool) × Leaves schema s rs (next_restart rs) stood new
-  leaves_of (inl unchanged) = (false, leaves_none schema s rs (next_restart rs) new rest (subst (λ (bytes : List ℕ). IsLog bytes rs rest) (sym unchanged) log) lawful)
+  leaves_of (inl unchanged) = (
+    false,
+    leaves_none schema s rs (next_restart rs) new rest
+        (subst (λ (bytes : List ℕ). IsLog bytes rs rest) (sym unchanged) log) lawful,
+  )
   leaves_of (inr cut) = (nat_le (length (text (next_restart rs))) cut.0, front_left cut.0 cut.1)
 
   pub fails_over : (device : Device) (told : Option ℕ) → ((n : ℕ) → told ≡ Some n → n ≡ turns)
-      → CutsAndAppends {T = Unit {0}} (Err device) whole old lines new before after → CutAndAppendFate foretold whole old lines (Err device) new left
+      → CutsAndAppends {T = Unit {0}} (Err device) whole old lines new before after
+      → CutAndAppendFate foretold whole old lines (Err device) new left
       → FailsOver schema s rs told rest old new foretold left before after
   fails_over device told telling added fate =
       record {

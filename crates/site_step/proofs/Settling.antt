@@ -122,16 +122,19 @@ neither true false x y h = refl
 neither true true x y h = cc
 neither false w x y h = refl
 
-pub refusal_owed : (at : Place) (c : Command) (x : Refusal) (epoch : ℕ) (found : Last) (luck : Luck) → first (refusals at c) ≡ Some x → Refused x ≡ owed_with at epoch found c luck
+pub refusal_owed : (at : Place) (c : Command) (x : Refusal) (epoch : ℕ) (found : Last) (luck : Luck) → first (refusals at c) ≡ Some x
+    → Refused x ≡ owed_with at epoch found c luck
 refusal_owed at Restart x epoch found luck some = cc
 refusal_owed at c x epoch found luck some = rw some refl
 
-pub answer_owed : (at : Place) (c : Command) (epoch : ℕ) (found : Last) (luck : Luck) → is_restart c ≡ false → first (refusals at c) ≡ None → writes at c ≡ false
+pub answer_owed : (at : Place) (c : Command) (epoch : ℕ) (found : Last) (luck : Luck) → is_restart c ≡ false → first (refusals at c) ≡ None
+    → writes at c ≡ false
     → answer at c ≡ owed_with at epoch found c luck
 answer_owed at Restart epoch found luck n none w = cc
 answer_owed at c epoch found luck n none w = rw none (sym (neither (is_torn luck) (writes at c) Unsure (answer at c) w))
 
-pub whole_owed : (at : Place) (c : Command) (epoch : ℕ) (found : Last) → is_restart c ≡ false → first (refusals at c) ≡ None → answer at c ≡ owed_with at epoch found c Fine
+pub whole_owed : (at : Place) (c : Command) (epoch : ℕ) (found : Last) → is_restart c ≡ false → first (refusals at c) ≡ None
+    → answer at c ≡ owed_with at epoch found c Fine
 whole_owed at Restart epoch found n none = cc
 whole_owed at c epoch found n none = rw none refl
 
@@ -139,7 +142,8 @@ both : (w : Bool) (x y : Reply) → w ≡ true → (if true && w then x else y) 
 both true x y h = refl
 both false x y h = cc
 
-pub unsure_owed : (at : Place) (c : Command) (epoch : ℕ) (found : Last) (bytes : ℕ) → first (refusals at c) ≡ None → writes at c ≡ true → Unsure ≡ owed_with at epoch found c (Torn bytes)
+pub unsure_owed : (at : Place) (c : Command) (epoch : ℕ) (found : Last) (bytes : ℕ) → first (refusals at c) ≡ None → writes at c ≡ true
+    → Unsure ≡ owed_with at epoch found c (Torn bytes)
 unsure_owed at Restart epoch found bytes none w = cc
 unsure_owed at c epoch found bytes none w = rw none (sym (both (writes at c) Unsure (answer at c) w))
 
@@ -150,36 +154,44 @@ pub plain_under : (v : SiteValue) (rs : List Record) (rest : List ℕ) (c : Comm
 plain_under v rs rest Restart m n = cc
 plain_under v rs rest c m n = refl
 
-pub refusal_under : (v : SiteValue) (rs : List Record) (rest : List ℕ) (c : Command) (m : Mishap) (x : Refusal) → first (refusals (here v) c) ≡ Some x → Refused x ≡ owed_under v rs rest c m
+pub refusal_under : (v : SiteValue) (rs : List Record) (rest : List ℕ) (c : Command) (m : Mishap) (x : Refusal)
+    → first (refusals (here v) c) ≡ Some x → Refused x ≡ owed_under v rs rest c m
 refusal_under v rs rest c m x some =
-    refusal_owed (here v) c x (greatest rs) (found_of v.doubt rs) (luck_under c rest m) some ∙ sym (plain_under v rs rest c m (refused_no_restart (here v) c x some))
+    refusal_owed (here v) c x (greatest rs) (found_of v.doubt rs) (luck_under c rest m) some
+    ∙ sym (plain_under v rs rest c m (refused_no_restart (here v) c x some))
 
-pub answer_under : (v : SiteValue) (rs : List Record) (rest : List ℕ) (c : Command) (m : Mishap) → is_restart c ≡ false → first (refusals (here v) c) ≡ None → writes (here v) c ≡ false
+pub answer_under : (v : SiteValue) (rs : List Record) (rest : List ℕ) (c : Command) (m : Mishap) → is_restart c ≡ false
+    → first (refusals (here v) c) ≡ None → writes (here v) c ≡ false
     → answer (here v) c ≡ owed_under v rs rest c m
 answer_under v rs rest c m n none w =
     answer_owed (here v) c (greatest rs) (found_of v.doubt rs) (luck_under c rest m) n none w ∙ sym (plain_under v rs rest c m n)
 
 -- a mishap under which a command's append goes well
-pub luck_fine : (c : Command) (rest : List ℕ) (m : Mishap) → is_restart c ≡ false → ((n : ℕ) → m ≡ Append n → ⊥) → luck_under c rest m ≡ Fine
+pub luck_fine : (c : Command) (rest : List ℕ) (m : Mishap) → is_restart c ≡ false → ((n : ℕ) → m ≡ Append n → ⊥)
+    → luck_under c rest m ≡ Fine
 luck_fine c rest (Append n) plain not = absurd (not n refl)
 luck_fine Restart rest m plain not = cc
 luck_fine c rest Never plain not = refl
 luck_fine c rest Cut plain not = refl
 luck_fine c rest Read plain not = refl
 
-pub whole_under : (v : SiteValue) (rs : List Record) (rest : List ℕ) (c : Command) (m : Mishap) → is_restart c ≡ false → first (refusals (here v) c) ≡ None → ((n : ℕ) → m ≡ Append n → ⊥)
+pub whole_under : (v : SiteValue) (rs : List Record) (rest : List ℕ) (c : Command) (m : Mishap) → is_restart c ≡ false
+    → first (refusals (here v) c) ≡ None → ((n : ℕ) → m ≡ Append n → ⊥)
     → answer (here v) c ≡ owed_under v rs rest c m
 whole_under v rs rest c m n none not =
     whole_owed (here v) c (greatest rs) (found_of v.doubt rs) n none
     ∙ ap (owed_with (here v) (greatest rs) (found_of v.doubt rs) c) (sym (luck_fine c rest m n not)) ∙ sym (plain_under v rs rest c m n)
 
-pub unsure_under : (v : SiteValue) (rs : List Record) (rest : List ℕ) (c : Command) (bytes : ℕ) → is_restart c ≡ false → first (refusals (here v) c) ≡ None → writes (here v) c ≡ true
+pub unsure_under : (v : SiteValue) (rs : List Record) (rest : List ℕ) (c : Command) (bytes : ℕ) → is_restart c ≡ false
+    → first (refusals (here v) c) ≡ None → writes (here v) c ≡ true
     → Unsure ≡ owed_under v rs rest c (Append bytes)
-unsure_under v rs rest c bytes n none w = unsure_owed (here v) c (greatest rs) (found_of v.doubt rs) bytes none w ∙ sym (plain_under v rs rest c (Append bytes) n)
+unsure_under v rs rest c bytes n none w = unsure_owed (here v) c (greatest rs) (found_of v.doubt rs) bytes none w
+    ∙ sym (plain_under v rs rest c (Append bytes) n)
 
 -- ---- the bytes
 
-pub answer_writes : (at : Place) (c : Command) (old new : List ℕ) → is_restart c ≡ false → AddsLines at c old new → Writes at c (answer at c) old new
+pub answer_writes : (at : Place) (c : Command) (old new : List ℕ) → is_restart c ≡ false → AddsLines at c old new
+    → Writes at c (answer at c) old new
 answer_writes at Restart old new n grown = cc
 answer_writes at c old new n grown = grown
 

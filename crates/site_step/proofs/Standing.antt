@@ -45,7 +45,8 @@ use Rattle.site_step.proofs.Matching.{ended, aside_begin, aside_grant, aside_end
 pub both_true : (a b : Bool) → a ≡ true → b ≡ true → (a && b) ≡ true
 both_true a b x y = rw (x, y) refl
 
-module _ (schema : SchemaValue) (s : ℕ) (base : Base) (o : List Entry) (a : Accounts) (run : IsRun schema s base o) (was : Reads schema s base o a) where
+module _ (schema : SchemaValue) (s : ℕ) (base : Base) (o : List Entry) (a : Accounts) (run : IsRun schema s base o)
+    (was : Reads schema s base o a) where
   abbrev es : List Effect
   es = effects base false o
 
@@ -71,7 +72,8 @@ module _ (schema : SchemaValue) (s : ℕ) (base : Base) (o : List Entry) (a : Ac
   next_is = rw (was.epoch, was.last) refl
 
   next_new : is_begun next es ≡ false
-  next_new = subst (λ (t : TxnId). is_begun t es ≡ false) (sym next_is) (next_is_new (epoch_of base o) (count_since is_begun_reply o) es ran.numbered)
+  next_new = subst (λ (t : TxnId). is_begun t es ≡ false) (sym next_is)
+      (next_is_new (epoch_of base o) (count_since is_begun_reply o) es ran.numbered)
 
   pub next_is_closed : is_listed next journal ≡ false
   next_is_closed = ap (is_listed next) was.matches.journal ∙ stands-journal_of next es ∙ ap (λ b. b && is_open next es) next_new
@@ -82,23 +84,37 @@ module _ (schema : SchemaValue) (s : ℕ) (base : Base) (o : List Entry) (a : Ac
       omega (arith, ap length was.matches.journal, length-journal_of es, begin_is_one_of_few at (none_holds (refusals at Begin) none))
 
   -- what the ladder tells of an escrow that isn't refused
-  pub opened_by : (txn : TxnId) (e : Escrow) → first (refusals at (Ask txn e.field e.change)) ≡ None → (is_begun txn es ≡ true) × (is_open txn es ≡ true)
+  pub opened_by : (txn : TxnId) (e : Escrow) → first (refusals at (Ask txn e.field e.change)) ≡ None → (is_begun txn es ≡ true)
+      × (is_open txn es ≡ true)
   opened_by txn e none = escrow_is_opened at txn e.field e.change (none_holds (refusals at (Ask txn e.field e.change)) none)
 
   pub in_range_by : (txn : TxnId) (e : Escrow) → first (refusals at (Ask txn e.field e.change)) ≡ None → e.field.0 < length rows
-  in_range_by txn e none = omega (arith, was.matches.count, escrow_is_in_schema at txn e.field e.change (none_holds (refusals at (Ask txn e.field e.change)) none))
+  in_range_by txn e none = omega (
+    arith,
+    was.matches.count,
+    escrow_is_in_schema at txn e.field e.change (none_holds (refusals at (Ask txn e.field e.change)) none),
+  )
 
-  pub enough_by : (txn : TxnId) (e : Escrow) → first (refusals at (Ask txn e.field e.change)) ≡ None → unsigned_abs e.change ≤ free_at rows e.field.0 (kind_of e.change)
+  pub enough_by : (txn : TxnId) (e : Escrow) → first (refusals at (Ask txn e.field e.change)) ≡ None
+      → unsigned_abs e.change ≤ free_at rows e.field.0 (kind_of e.change)
   enough_by txn e none =
-      omega (arith, was.matches.free e.field.0 (kind_of e.change) (in_range_by txn e none), escrow_is_enough at txn e.field e.change (none_holds (refusals at (Ask txn e.field e.change)) none))
+      omega (
+        arith,
+        was.matches.free e.field.0 (kind_of e.change) (in_range_by txn e none),
+        escrow_is_enough at txn e.field e.change (none_holds (refusals at (Ask txn e.field e.change)) none),
+      )
 
   pub stands_open : (txn : TxnId) → (is_begun txn es ≡ true) × (is_open txn es ≡ true) → is_listed txn journal ≡ true
-  stands_open txn both = ap (is_listed txn) was.matches.journal ∙ stands-journal_of txn es ∙ both_true (is_begun txn es) (is_open txn es) both.0 both.1
+  stands_open txn both = ap (is_listed txn) was.matches.journal ∙ stands-journal_of txn es
+      ∙ both_true (is_begun txn es) (is_open txn es) both.0 both.1
 
-  pub escrows_are : (txn : TxnId) → (is_begun txn es ≡ true) × (is_open txn es ≡ true) → escrows_at txn journal ≡ reverse (escrows_of txn es)
-  escrows_are txn both = ap (escrows_at txn) was.matches.journal ∙ escrows_at-journal_of txn es (both_true (is_begun txn es) (is_open txn es) both.0 both.1)
+  pub escrows_are : (txn : TxnId) → (is_begun txn es ≡ true) × (is_open txn es ≡ true)
+      → escrows_at txn journal ≡ reverse (escrows_of txn es)
+  escrows_are txn both = ap (escrows_at txn) was.matches.journal
+      ∙ escrows_at-journal_of txn es (both_true (is_begun txn es) (is_open txn es) both.0 both.1)
 
-  pub few_by : (txn : TxnId) (e : Escrow) → first (refusals at (Ask txn e.field e.change)) ≡ None → length (escrows_at txn journal) < max_escrows
+  pub few_by : (txn : TxnId) (e : Escrow) → first (refusals at (Ask txn e.field e.change)) ≡ None
+      → length (escrows_at txn journal) < max_escrows
   few_by txn e none =
       omega (
         arith,
@@ -114,12 +130,15 @@ module _ (schema : SchemaValue) (s : ℕ) (base : Base) (o : List Entry) (a : Ac
       let gone = sym (escrows_are txn both) in
       record {
         opened = stands_open txn both;
-        in_range = subst (λ (xs : List Escrow). AreInRange rows xs) gone (are_in_range schema base es ran.lawful rows journal was.matches txn);
-        are_held = subst (λ (xs : List Escrow). AreHeld rows xs) gone (are_held schema base es ran.lawful rows journal was.matches txn both.1);
+        in_range = subst (λ (xs : List Escrow). AreInRange rows xs) gone
+            (are_in_range schema base es ran.lawful rows journal was.matches txn);
+        are_held = subst (λ (xs : List Escrow). AreHeld rows xs) gone
+            (are_held schema base es ran.lawful rows journal was.matches txn both.1);
       }
 
   -- what the ladder tells of an end that isn't refused
-  pub end_opened : (outcome : Outcome) (txn : TxnId) → first (refusals at (end_command outcome txn)) ≡ None → (is_begun txn es ≡ true) × (is_open txn es ≡ true)
+  pub end_opened : (outcome : Outcome) (txn : TxnId) → first (refusals at (end_command outcome txn)) ≡ None → (is_begun txn es ≡ true)
+      × (is_open txn es ≡ true)
   end_opened Committed txn none = commit_is_opened at txn (none_holds (refusals at (Commit txn)) none)
   end_opened Aborted txn none = abort_is_opened at txn (none_holds (refusals at (Abort txn)) none)
 
@@ -129,22 +148,37 @@ module _ (schema : SchemaValue) (s : ℕ) (base : Base) (o : List Entry) (a : Ac
   can_settle c none = tt
 
   -- what the ladder tells of a gift that isn't refused
-  give_enough : (to : SiteNo) (field : FieldNo) (kind : Kind) (amount : ℕ) → first (refusals at (Give to field kind amount)) ≡ None → amount ≤ free_at rows field.0 kind
+  give_enough : (to : SiteNo) (field : FieldNo) (kind : Kind) (amount : ℕ) → first (refusals at (Give to field kind amount)) ≡ None
+      → amount ≤ free_at rows field.0 kind
   give_enough to field kind amount refused =
       let none = none_holds (refusals at (Give to field kind amount)) refused in
-      omega (arith, was.matches.free field.0 kind (omega (arith, give_is_in_schema at to field kind amount none, was.matches.count)), give_is_enough at to field kind amount none)
+      omega (
+        arith,
+        was.matches.free field.0 kind (omega (arith, give_is_in_schema at to field kind amount none, was.matches.count)),
+        give_is_enough at to field kind amount none,
+      )
 
   -- and of a spare
-  spare_enough : (to : SiteNo) (field : FieldNo) (kind : Kind) (want : ℕ) → first (refusals at (Spare to field kind want)) ≡ None → spare_of at field kind want ≤ free_at rows field.0 kind
+  spare_enough : (to : SiteNo) (field : FieldNo) (kind : Kind) (want : ℕ) → first (refusals at (Spare to field kind want)) ≡ None
+      → spare_of at field kind want ≤ free_at rows field.0 kind
   spare_enough to field kind want refused =
       let none = none_holds (refusals at (Spare to field kind want)) refused in
-      omega (arith, was.matches.free field.0 kind (omega (arith, spare_is_in_schema at to field kind want none, was.matches.count)), spared_is_there (free at field kind) want)
+      omega (
+        arith,
+        was.matches.free field.0 kind (omega (arith, spare_is_in_schema at to field kind want none, was.matches.count)),
+        spared_is_there (free at field kind) want,
+      )
 
   -- and of a tightening
-  tighten_enough : (field : FieldNo) (kind : Kind) (amount : ℕ) → first (refusals at (Tighten field kind amount)) ≡ None → amount ≤ free_at rows field.0 kind
+  tighten_enough : (field : FieldNo) (kind : Kind) (amount : ℕ) → first (refusals at (Tighten field kind amount)) ≡ None
+      → amount ≤ free_at rows field.0 kind
   tighten_enough field kind amount refused =
       let none = none_holds (refusals at (Tighten field kind amount)) refused in
-      omega (arith, was.matches.free field.0 kind (omega (arith, tighten_is_in_schema at field kind amount none, was.matches.count)), tighten_is_enough at field kind amount none)
+      omega (
+        arith,
+        was.matches.free field.0 kind (omega (arith, tighten_is_in_schema at field kind amount none, was.matches.count)),
+        tighten_is_enough at field kind amount none,
+      )
 
   -- ---- what is kept and what is set aside
 
@@ -152,19 +186,27 @@ module _ (schema : SchemaValue) (s : ℕ) (base : Base) (o : List Entry) (a : Ac
     abbrev last : ℕ
     last = a.last
 
-    pub stands_begin : (n : SiteNo) → StandsOn schema s base (record { site = n; command = Begin; reply = Begun next } ∷ o) rs (record a { journal = journal ++ (next, []) ∷ []; last = a.last + 1 })
+    pub stands_begin : (n : SiteNo) → StandsOn schema s base (record { site = n; command = Begin; reply = Begun next } ∷ o) rs
+        (record a { journal = journal ++ (next, []) ∷ []; last = a.last + 1 })
     stands_begin n =
-        record { standing = st.standing; aside = aside_begin schema base es ran.lawful rows journal was.matches next next_new; last = omega (arith, st.last) }
+        record {
+          standing = st.standing;
+          aside = aside_begin schema base es ran.lawful rows journal was.matches next next_new;
+          last =
+              omega (arith, st.last);
+        }
 
     pub stands_grant : (n : SiteNo) (txn : TxnId) (e : Escrow) → first (refusals at (Ask txn e.field e.change)) ≡ None
-        → StandsOn schema s base (record { site = n; command = Ask txn e.field e.change; reply = Granted } ∷ o) rs (record (with_rights (by_escrow after_take rows e) a) { journal = add_escrow txn e journal })
+        → StandsOn schema s base (record { site = n; command = Ask txn e.field e.change; reply = Granted } ∷ o) rs
+        (record (with_rights (by_escrow after_take rows e) a) { journal = add_escrow txn e journal })
     stands_grant n txn e none =
         let range = in_range_by txn e none in
         let same = length-by_escrow after_take rows e in
         record {
           standing = record {
             count = same ∙ st.standing.count;
-            width = λ f l. width_at-field after_take taken_keeps rows e.field.0 f (kind_of e.change) (unsigned_abs e.change) range ∙ st.standing.width f (omega (arith, l, same));
+            width = λ f l. width_at-field after_take taken_keeps rows e.field.0 f (kind_of e.change) (unsigned_abs e.change) range
+                ∙ st.standing.width f (omega (arith, l, same));
             own = λ f k l.
                 omega (
                   arith,
@@ -173,7 +215,8 @@ module _ (schema : SchemaValue) (s : ℕ) (base : Base) (o : List Entry) (a : Ac
                   here_only (λ x y. free_at rows x y) e.field.0 f (kind_of e.change) k (unsigned_abs e.change) (enough_by txn e none),
                   st.standing.own f k (omega (arith, l, same)),
                 );
-            cut = λ f k l. cut_at-field after_take taken_keeps_cut rows e.field.0 f (kind_of e.change) k (unsigned_abs e.change) range ∙ st.standing.cut f k (omega (arith, l, same));
+            cut = λ f k l. cut_at-field after_take taken_keeps_cut rows e.field.0 f (kind_of e.change) k (unsigned_abs e.change) range
+                ∙ st.standing.cut f k (omega (arith, l, same));
             place = st.standing.place;
             given = st.standing.given;
             accepted = st.standing.accepted;
@@ -185,18 +228,27 @@ module _ (schema : SchemaValue) (s : ℕ) (base : Base) (o : List Entry) (a : Ac
         }
 
     -- a transaction released: what it held is free, so what is owned stays
-    pub stands_released : (txn : TxnId) → (is_begun txn es ≡ true) × (is_open txn es ≡ true) → Stands schema s rs (after_release txn a).standing
+    pub stands_released : (txn : TxnId) → (is_begun txn es ≡ true) × (is_open txn es ≡ true)
+        → Stands schema s rs (after_release txn a).standing
     stands_released txn both =
         let can = can_close txn both in
         let gone = escrows_at txn journal in
         let same = length-by_escrows (ending Aborted) rows gone in
         record {
           count = same ∙ st.standing.count;
-          width = λ f l. width_at-by_escrows (ending Aborted) (ending_keeps Aborted) rows gone can.in_range f ∙ st.standing.width f (omega (arith, l, same));
+          width = λ f l. width_at-by_escrows (ending Aborted) (ending_keeps Aborted) rows gone can.in_range f
+              ∙ st.standing.width f (omega (arith, l, same));
           own = λ f k l.
               let l' : f < length rows = omega (arith, l, same) in
-              omega (arith, free_at-by_escrows Aborted rows gone can.in_range f k, held_at-by_escrows Aborted rows gone can.in_range can.are_held f k l', can.are_held f k l', st.standing.own f k l');
-          cut = λ f k l. cut_at-by_escrows (ending Aborted) (ending_keeps_cut Aborted) rows gone can.in_range f k ∙ st.standing.cut f k (omega (arith, l, same));
+              omega (
+                arith,
+                free_at-by_escrows Aborted rows gone can.in_range f k,
+                held_at-by_escrows Aborted rows gone can.in_range can.are_held f k l',
+                can.are_held f k l',
+                st.standing.own f k l',
+              );
+          cut = λ f k l. cut_at-by_escrows (ending Aborted) (ending_keeps_cut Aborted) rows gone can.in_range f k
+              ∙ st.standing.cut f k (omega (arith, l, same));
           place = st.standing.place;
           given = st.standing.given;
           accepted = st.standing.accepted;
@@ -204,9 +256,11 @@ module _ (schema : SchemaValue) (s : ℕ) (base : Base) (o : List Entry) (a : Ac
           epoch = st.standing.epoch;
         }
 
-    aside_released : (outcome : Outcome) (txn : TxnId) → (is_begun txn es ≡ true) × (is_open txn es ≡ true) → SetsAside (ended outcome txn ∷ es) (after_release txn a).standing.rights (after_release txn a).journal
+    aside_released : (outcome : Outcome) (txn : TxnId) → (is_begun txn es ≡ true) × (is_open txn es ≡ true)
+        → SetsAside (ended outcome txn ∷ es) (after_release txn a).standing.rights (after_release txn a).journal
     aside_released outcome txn both =
-        subst (λ (xs : List Escrow). SetsAside (ended outcome txn ∷ es) (by_escrows (ending Aborted) rows xs) (without txn journal)) (sym (escrows_are txn both))
+        subst (λ (xs : List Escrow). SetsAside (ended outcome txn ∷ es) (by_escrows (ending Aborted) rows xs) (without txn journal))
+        (sym (escrows_are txn both))
         (aside_end schema base es ran.lawful rows journal was.matches outcome txn both.1)
 
     abbrev Settled : SiteNo → Command → Type 0
@@ -215,13 +269,23 @@ module _ (schema : SchemaValue) (s : ℕ) (base : Base) (o : List Entry) (a : Ac
     -- a command that writes no record
     pub stands_settled : (n : SiteNo) (c : Command) → is_carried c ≡ true → writes at c ≡ false → first (refusals at c) ≡ None → Settled n c
     stands_settled n (Commit txn) is w none =
-        let both = end_opened Committed txn none in record { standing = stands_released txn both; aside = aside_released Committed txn both; last = omega (arith, st.last) }
+        let both = end_opened Committed txn none in
+        record { standing = stands_released txn both; aside = aside_released Committed txn both; last = omega (arith, st.last) }
     stands_settled n (Abort txn) is w none =
-        let both = end_opened Aborted txn none in record { standing = stands_released txn both; aside = aside_released Aborted txn both; last = omega (arith, st.last) }
+        let both = end_opened Aborted txn none in record {
+          standing = stands_released txn both;
+          aside = aside_released Aborted txn both;
+          last = omega (arith, st.last);
+        }
     stands_settled n (Give to field kind amount) is w none = cc
     stands_settled n (Spare to field kind want) is w none = cc
     stands_settled n (Tighten field kind amount) is w none = cc
-    stands_settled n (Accept told) is w none = record { standing = st.standing; aside = record { held = st.aside.held; journal = st.aside.journal }; last = omega (arith, st.last) }
+    stands_settled n (Accept told) is w none = record {
+      standing = st.standing;
+      aside =
+          record { held = st.aside.held; journal = st.aside.journal };
+      last = omega (arith, st.last);
+    }
     stands_settled n (Restate to field kind) is w none = record { standing = st.standing; aside = st.aside; last = omega (arith, st.last) }
     stands_settled n (Read field) is w none = record { standing = st.standing; aside = st.aside; last = omega (arith, st.last) }
     stands_settled n (Share field) is w none = record { standing = st.standing; aside = st.aside; last = omega (arith, st.last) }
@@ -232,7 +296,8 @@ module _ (schema : SchemaValue) (s : ℕ) (base : Base) (o : List Entry) (a : Ac
     -- ---- a command whose record is taken in
 
     module _ (lawful : Lawful schema s rs) where
-      pub can_carry : (c : Command) → first (refusals at c) ≡ None → writes at c ≡ true → may_follow schema s rs (record_at at c) ≡ true → CanCarry schema a (record_at at c)
+      pub can_carry : (c : Command) → first (refusals at c) ≡ None → writes at c ≡ true → may_follow schema s rs (record_at at c) ≡ true
+          → CanCarry schema a (record_at at c)
       can_carry (Commit txn) none w may =
           let both = end_opened Committed txn none in
           let can = can_close txn both in
@@ -304,29 +369,39 @@ module _ (schema : SchemaValue) (s : ℕ) (base : Base) (o : List Entry) (a : Ac
             takes_ = (
               subst (λ (x : ℕ). (is_other_site schema x told.from.0 && is_field schema told.field.0) ≡ true) (sym st.standing.site) here,
               omega (arith, st.standing.accepted told.from.0 told.field.0 told.kind other, parts.1),
-              omega (arith, st.standing.accepted told.from.0 told.field.0 told.kind other, room_is schema s rs rows ledger a.standing.epoch lawful st.standing told.field.0 l, parts.2),
+              omega (
+                arith,
+                st.standing.accepted told.from.0 told.field.0 told.kind other,
+                room_is schema s rs rows ledger a.standing.epoch lawful st.standing told.field.0 l,
+                parts.2,
+              ),
             );
           }
       can_carry c none w may = absurd (false≢true w)
 
       -- what took the record in stands on it
-      taken_stands : (fs : List Effect) (ready b : Accounts) (r : Record) → Stands schema s rs ready.standing → SetsAside fs ready.standing.rights ready.journal
-          → TakesIn schema ready.standing r true b.standing → b.journal ≡ ready.journal → Stands schema s (rs ++ r ∷ []) b.standing × SetsAside fs b.standing.rights b.journal
+      taken_stands : (fs : List Effect) (ready b : Accounts) (r : Record) → Stands schema s rs ready.standing
+          → SetsAside fs ready.standing.rights ready.journal
+          → TakesIn schema ready.standing r true b.standing → b.journal ≡ ready.journal → Stands schema s (rs ++ r ∷ []) b.standing
+          × SetsAside fs b.standing.rights b.journal
       taken_stands fs ready b r is_listed aside took same =
           let more = took.stands refl s rs lawful is_listed in (
             more,
             record {
-              held = λ f k l. let l' : f < length ready.standing.rights = omega (arith, l, more.count, is_listed.count) in took.held refl f k l' ∙ aside.held f k l';
+              held = λ f k l. let l' : f < length ready.standing.rights = omega (arith, l, more.count, is_listed.count) in
+                  took.held refl f k l' ∙ aside.held f k l';
               journal = same ∙ aside.journal;
             },
           )
 
       pub stands_carried : (n : SiteNo) (c : Command) → first (refusals at c) ≡ None → writes at c ≡ true → (b : Accounts)
-          → TakesIn schema (before_taking_in a (record_at at c)).standing (record_at at c) true b.standing → b.journal ≡ (before_taking_in a (record_at at c)).journal → b.last ≡ a.last
+          → TakesIn schema (before_taking_in a (record_at at c)).standing (record_at at c) true b.standing
+          → b.journal ≡ (before_taking_in a (record_at at c)).journal → b.last ≡ a.last
           → StandsOn schema s base (record { site = n; command = c; reply = answer at c } ∷ o) (rs ++ record_at at c ∷ []) b
       stands_carried n (Commit txn) none w b took same last_is =
           let both = end_opened Committed txn none in
-          let did = taken_stands (ended Committed txn ∷ es) (after_release txn a) b (record_at at (Commit txn)) (stands_released txn both) (aside_released Committed txn both) took same in
+          let did = taken_stands (ended Committed txn ∷ es) (after_release txn a) b (record_at at (Commit txn)) (stands_released txn both)
+          (aside_released Committed txn both) took same in
           record { standing = did.0; aside = did.1; last = omega (arith, st.last, last_is) }
       stands_carried n (Give to field kind amount) none w b took same last_is =
           let did = taken_stands es a b (record_at at (Give to field kind amount)) st.standing st.aside took same in
@@ -343,11 +418,13 @@ module _ (schema : SchemaValue) (s : ℕ) (base : Base) (o : List Entry) (a : Ac
       stands_carried n c none w b took same last_is = absurd (false≢true w)
 
 -- an entry that has no effect
-pub stands_refused : (schema : SchemaValue) (s : ℕ) (base : Base) (o : List Entry) (rs : List Record) (a : Accounts) → StandsOn schema s base o rs a → (n : SiteNo) (c : Command) (x : Refusal)
+pub stands_refused : (schema : SchemaValue) (s : ℕ) (base : Base) (o : List Entry) (rs : List Record) (a : Accounts)
+    → StandsOn schema s base o rs a → (n : SiteNo) (c : Command) (x : Refusal)
     → StandsOn schema s base (record { site = n; command = c; reply = Refused x } ∷ o) rs a
 stands_refused schema s base o rs a st n c x =
     record {
       standing = st.standing;
-      aside = subst (λ (fs : List Effect). SetsAside fs a.standing.rights a.journal) (sym (after_refused base false c x (effects base false o))) st.aside;
+      aside = subst (λ (fs : List Effect). SetsAside fs a.standing.rights a.journal)
+          (sym (after_refused base false c x (effects base false o))) st.aside;
       last = omega (arith, st.last);
     }

@@ -50,20 +50,23 @@ use Rattle.site_step.proofs.Extents.{reach_all, reach_extended, reach_more}
 use Rattle.site_step.proofs.Settling.{answer_settles, writes_no_restart, refuses_over, noted_one, answer_fits, unsure_fits, whole_owed, unsure_owed, whole_under, unsure_under, answer_writes, unsure_writes, lines_one}
 use Rattle.site_step.proofs.Ends.{Ends, finds_of, finds_held, none_in_doubt}
 
-up_doubt : (kept other : Bool) (o : List Entry) (e : Entry) (rs more : List Record) (doubt : Option ℕ) → count_since is_unsure (e ∷ o) ≡ count_since is_unsure o → count_since is_unsure o ≡ 0
+up_doubt : (kept other : Bool) (o : List Entry) (e : Entry) (rs more : List Record) (doubt : Option ℕ)
+    → count_since is_unsure (e ∷ o) ≡ count_since is_unsure o → count_since is_unsure o ≡ 0
     → IsDoubt kept o rs doubt → IsDoubt other (e ∷ o) more doubt
 up_doubt kept other o e rs more None same none is = same ∙ is
 up_doubt kept other o e rs more (Some n) same none is = absurd (omega (arith, none, is.0))
 
 -- what becomes of a mishap that is known
-fate_stays : (before : Option Mishap) (old piece new : List ℕ) (left : Option Mishap) → AppendFate {E = Device} before old piece (Ok tt) new left → left ≡ before
+fate_stays : (before : Option Mishap) (old piece new : List ℕ) (left : Option Mishap)
+    → AppendFate {E = Device} before old piece (Ok tt) new left → left ≡ before
 fate_stays None old piece new left fate = fate
 fate_stays (Some (Append n)) old piece new left fate = absurd (false≢true fate.0)
 fate_stays (Some Never) old piece new left fate = fate.1
 fate_stays (Some Cut) old piece new left fate = fate.1
 fate_stays (Some Read) old piece new left fate = fate.1
 
-fate_struck : (before : Option Mishap) (old piece : List ℕ) (device : Device) (new : List ℕ) (left : Option Mishap) → AppendFate before old piece (Err device) new left → left ≡ mishap_left before
+fate_struck : (before : Option Mishap) (old piece : List ℕ) (device : Device) (new : List ℕ) (left : Option Mishap)
+    → AppendFate before old piece (Err device) new left → left ≡ mishap_left before
 fate_struck None old piece device new left fate = fate
 fate_struck (Some (Append n)) old piece device new left fate = fate.2
 fate_struck (Some Never) old piece device new left fate = absurd (false≢true fate.0)
@@ -85,7 +88,8 @@ record_is_plain at (Share field) = refl
 record_is_plain at Restart = refl
 
 -- what stands for records stands for others of the same sums
-pub stands_as : (schema : SchemaValue) (s : ℕ) (as1 bs : List Record) (standing : Standing) → SameSums as1 bs → Stands schema s bs standing → Stands schema s as1 standing
+pub stands_as : (schema : SchemaValue) (s : ℕ) (as1 bs : List Record) (standing : Standing) → SameSums as1 bs → Stands schema s bs standing
+    → Stands schema s as1 standing
 stands_as schema s as1 bs standing same st = record {
   count = st.count;
   width = st.width;
@@ -98,7 +102,8 @@ stands_as schema s as1 bs standing same st = record {
   epoch = st.epoch ∙ sym same.epoch;
 }
 
-module _ (v : SiteValue) (up : Bool) (extent : Extent) (a : Accounts) (was : IsSoundSite v up extent a) (c : Command) (none : first (refusals (here v) c) ≡ None) (told : writes (here v) c ≡ true)
+module _ (v : SiteValue) (up : Bool) (extent : Extent) (a : Accounts) (was : IsSoundSite v up extent a) (c : Command)
+    (none : first (refusals (here v) c) ≡ None) (told : writes (here v) c ≡ true)
     (fits : IsRecord (record_at (here v) c)) where
   abbrev base : Base
   base = base_of v
@@ -173,7 +178,8 @@ module _ (v : SiteValue) (up : Bool) (extent : Extent) (a : Accounts) (was : IsS
   abbrev After : List Entry
   After = entry_of v c (answer at c) ∷ v.history
 
-  module _ (b : Accounts) (bytes : List ℕ) (left : Option Mishap) (stands : StandsOn v.schema v.site.0 base After (was.records ++ note ∷ []) b) (grown : bytes ≡ v.bytes ++ flat_map text lines)
+  module _ (b : Accounts) (bytes : List ℕ) (left : Option Mishap)
+      (stands : StandsOn v.schema v.site.0 base After (was.records ++ note ∷ []) b) (grown : bytes ≡ v.bytes ++ flat_map text lines)
       (fate : AppendFate {E = Device} v.foretold v.bytes (flat_map text lines) (Ok tt) bytes left) where
     abbrev then_ : SiteValue
     then_ = record v { history = After; bytes = bytes; foretold = left }
@@ -182,7 +188,8 @@ module _ (v : SiteValue) (up : Bool) (extent : Extent) (a : Accounts) (was : IsS
     more other = ap (λ (l : List Record). other ++ l) (sym (adds_answer at c true other no_restart ∙ noted_one at c told))
 
     log : IsLog bytes (all ++ lines) []
-    log = subst (λ (l : List ℕ). IsLog l (all ++ lines) []) (sym grown) (added_all schema s all note plain_note was.lawful may v.bytes whole_log each)
+    log = subst (λ (l : List ℕ). IsLog l (all ++ lines) []) (sym grown)
+        (added_all schema s all note plain_note was.lawful may v.bytes whole_log each)
 
     plain_is : plain (all ++ lines) ≡ rs ++ note ∷ []
     plain_is = plain_piece schema s all note plain_note
@@ -193,7 +200,8 @@ module _ (v : SiteValue) (up : Bool) (extent : Extent) (a : Accounts) (was : IsS
     held_after : Holds schema s bytes (rs ++ note ∷ []) []
     held_after = record { all = all ++ lines; log = log; lawful = lawful_after; told = plain_is }
 
-    exact : (luck : Luck) (epoch : ℕ) (found : Last) → v.foretold ≡ Some (mishap_of luck) → Finds v epoch found → IsExact v c (answer at c) then_ luck epoch found
+    exact : (luck : Luck) (epoch : ℕ) (found : Last) → v.foretold ≡ Some (mishap_of luck) → Finds v epoch found
+        → IsExact v c (answer at c) then_ luck epoch found
     exact Fine epoch found known finds =
         let old = finds_of v epoch found finds rs was.rest (holds_all schema s v.bytes all was.rest was.log was.lawful) in
         let settles = answer_settles at c no_restart in
@@ -201,7 +209,8 @@ module _ (v : SiteValue) (up : Bool) (extent : Extent) (a : Accounts) (was : IsS
         ap (λ (d : Option ℕ). found_of d (rs ++ note ∷ [])) nothing ∙ sym (ap (λ (d : Option ℕ). found_of d rs) nothing) ∙ old.1 in
         record {
           reply_is = whole_owed at c epoch found no_restart none;
-          finds = subst (λ (m : ℕ). Finds then_ m (doubt_after (answer at c) Fine (record_length at c) found)) (sym (settles.greatest_is Fine epoch))
+          finds = subst (λ (m : ℕ). Finds then_ m (doubt_after (answer at c) Fine (record_length at c) found))
+              (sym (settles.greatest_is Fine epoch))
               (subst (λ (l : Last). Finds then_ epoch l) (sym (settles.found Fine (record_length at c) found))
               (finds_held then_ (rs ++ note ∷ []) [] epoch found held_after (same_greatest true ∙ old.0) lasts));
         }
@@ -211,7 +220,8 @@ module _ (v : SiteValue) (up : Bool) (extent : Extent) (a : Accounts) (was : IsS
 
     not_append : (m : Mishap) → v.foretold ≡ Some m → (n : ℕ) → m ≡ Append n → ⊥
     not_append m known n is =
-        let goes = subst (λ (x : Option Mishap). AppendFate {E = Device} x v.bytes (flat_map text lines) (Ok tt) bytes left) (known ∙ ap (λ (x : Mishap). Some x) is) fate in
+        let goes = subst (λ (x : Option Mishap). AppendFate {E = Device} x v.bytes (flat_map text lines) (Ok tt) bytes left)
+        (known ∙ ap (λ (x : Mishap). Some x) is) fate in
         false≢true goes.0
 
     reached_after : ReachesAll (one_record_longer extent (length (flat_map text lines))) (all ++ lines)
@@ -240,11 +250,18 @@ module _ (v : SiteValue) (up : Bool) (extent : Extent) (a : Accounts) (was : IsS
             clean = λ u. (refl, reached_after);
             reaches = reach_all (one_record_longer extent (length (flat_map text lines))) (all ++ lines) reached_after;
             place = λ n is. let e : ◌≡◌ {A = Option ℕ} None (Some n) = sym nothing ∙ is in absurd cc;
-            in_doubt = up_doubt was.kept was.kept v.history (entry_of v c (answer at c)) rs (plain (all ++ lines)) v.doubt (settles.counts (count_since is_unsure v.history))
+            in_doubt = up_doubt was.kept was.kept v.history (entry_of v c (answer at c)) rs (plain (all ++ lines)) v.doubt
+                (settles.counts (count_since is_unsure v.history))
                 (up_none_unsure base v.history is_there) was.in_doubt;
             few = λ h. omega (arith, reached_after.few);
-            replays = λ h. subst (λ (m : ℕ). v.replayed ≤ max_behind + m) (sym (settles.before (downs_since v.history) (downs_before v.history))) (was.replays h);
-            stands = λ u. record { standing = stands_as schema s (all ++ lines) (all ++ note ∷ []) b.standing (piece_same schema s all note plain_note) stands.standing; aside = stands.aside; last = stands.last };
+            replays = λ h. subst (λ (m : ℕ). v.replayed ≤ max_behind + m)
+                (sym (settles.before (downs_since v.history) (downs_before v.history))) (was.replays h);
+            stands = λ u. record {
+              standing = stands_as schema s (all ++ lines) (all ++ note ∷ []) b.standing
+                  (piece_same schema s all note plain_note) stands.standing;
+              aside = stands.aside;
+              last = stands.last;
+            };
           };
           applies = record {
             fits = answer_fits at c no_restart none;
@@ -254,13 +271,15 @@ module _ (v : SiteValue) (up : Bool) (extent : Extent) (a : Accounts) (was : IsS
             logs = λ other rest is. record {
               stood = true;
               rest = [];
-              log = subst (λ (x : List Record). Holds schema s bytes x []) (ap (λ (l : List Record). l ++ note ∷ []) (same_as other rest is) ∙ more other) held_after;
+              log = subst (λ (x : List Record). Holds schema s bytes x [])
+                  (ap (λ (l : List Record). l ++ note ∷ []) (same_as other rest is) ∙ more other) held_after;
               doubt = sym (settles.doubt other v.doubt);
               restarts = settles.restarts other v.doubt [];
               refuses = refuses_over c (answer at c) other no_restart;
             };
             writes_ = answer_writes at c v.bytes bytes no_restart (λ other rest is.
-                grown ∙ ap (λ (x : List Record). v.bytes ++ flat_map text (piece schema s x note)) (same_all other rest is) ∙ ap (λ (l : List ℕ). v.bytes ++ l) (sym (lines_one at c other told)));
+                grown ∙ ap (λ (x : List Record). v.bytes ++ flat_map text (piece schema s x note)) (same_all other rest is)
+                ∙ ap (λ (l : List ℕ). v.bytes ++ l) (sym (lines_one at c other told)));
             foretold = fate_stays v.foretold v.bytes (flat_map text lines) bytes left fate ∙ sym (settles.foretold v.foretold);
             under = λ other rest m log known. whole_under v other rest c m no_restart none (not_append m known);
             exact = exact;
@@ -268,16 +287,20 @@ module _ (v : SiteValue) (up : Bool) (extent : Extent) (a : Accounts) (was : IsS
           };
         }
 
-  pub ends_wrote : (b : Accounts) (bytes : List ℕ) (failed : ℕ) (left : Option Mishap) (r : Reply) (h : List Entry) → r ≡ answer at c → h ≡ entry_of v c r ∷ v.history
+  pub ends_wrote : (b : Accounts) (bytes : List ℕ) (failed : ℕ) (left : Option Mishap) (r : Reply) (h : List Entry) → r ≡ answer at c
+      → h ≡ entry_of v c r ∷ v.history
       → StandsOn v.schema v.site.0 base After (was.records ++ note ∷ []) b → (bytes ≡ v.bytes ++ flat_map text lines) → failed ≡ v.failed
       → AppendFate {E = Device} v.foretold v.bytes (flat_map text lines) (Ok tt) bytes left
-      → Ends v c r (record v { history = h; bytes = bytes; failed = failed; foretold = left }) up (one_record_longer extent (length (flat_map text lines))) b
+      → Ends v c r (record v { history = h; bytes = bytes; failed = failed; foretold = left }) up
+      (one_record_longer extent (length (flat_map text lines))) b
   ends_wrote b bytes failed left r h owed past stands grown counts fate =
       let after : h ≡ After = past ∙ ap (λ (x : Reply). entry_of v c x ∷ v.history) owed in
       let next : Extent = one_record_longer extent (length (flat_map text lines)) in
       subst (λ (x : Reply). Ends v c x (record v { history = h; bytes = bytes; failed = failed; foretold = left }) up next b) (sym owed)
-      (subst (λ (o : List Entry). Ends v c (answer at c) (record v { history = o; bytes = bytes; failed = failed; foretold = left }) up next b) (sym after)
-      (subst (λ (n : ℕ). Ends v c (answer at c) (record v { history = After; bytes = bytes; failed = n; foretold = left }) up next b) (sym counts) (wrote b bytes left stands grown fate)))
+      (subst (λ (o : List Entry). Ends v c (answer at c)
+      (record v { history = o; bytes = bytes; failed = failed; foretold = left }) up next b) (sym after)
+      (subst (λ (n : ℕ). Ends v c (answer at c) (record v { history = After; bytes = bytes; failed = n; foretold = left }) up next b)
+      (sym counts) (wrote b bytes left stands grown fate)))
 
   -- ---- the append failed
 
@@ -303,7 +326,8 @@ module _ (v : SiteValue) (up : Bool) (extent : Extent) (a : Accounts) (was : IsS
     leaves : (n : ℕ) → bytes ≡ v.bytes ++ take n (flat_map text lines) → Leaves schema s all note (nat_le (length (text note)) n) bytes
     leaves n is = leaves_by schema s all note plain_note was.lawful may n v.bytes bytes whole_log each is
 
-    exact_torn : (luck : Luck) (epoch : ℕ) (found : Last) → v.foretold ≡ Some (mishap_of luck) → Finds v epoch found → IsExact v c Unsure torn_ luck epoch found
+    exact_torn : (luck : Luck) (epoch : ℕ) (found : Last) → v.foretold ≡ Some (mishap_of luck) → Finds v epoch found
+        → IsExact v c Unsure torn_ luck epoch found
     exact_torn Fine epoch found known finds =
         let goes = subst (λ (m : Option Mishap). AppendFate m v.bytes (flat_map text lines) (Err device) bytes left) known fate in
         absurd (false≢true goes.0)
@@ -314,14 +338,19 @@ module _ (v : SiteValue) (up : Bool) (extent : Extent) (a : Accounts) (was : IsS
         let is = leaves n goes.1 in
         record {
           reply_is = unsure_owed at c epoch found n none told;
-          finds = finds_held torn_ (rs ++ cond stood (note ∷ []) []) is.rest epoch (if stood then Kept else Lost) (left_holds schema s all note stood bytes is) (same_greatest stood ∙ old.0) (finds_it stood);
+          finds = finds_held torn_ (rs ++ cond stood (note ∷ []) []) is.rest epoch (if stood then Kept else Lost)
+              (left_holds schema s all note stood bytes is) (same_greatest stood ∙ old.0) (finds_it stood);
         }
 
     under_torn : (other : List Record) (rest : List ℕ) (m : Mishap) → v.foretold ≡ Some m → Unsure ≡ owed_under v other rest c m
     under_torn other rest (Append n) known = unsure_under v other rest c n no_restart none told
-    under_torn other rest Never known = let goes = subst (λ (x : Option Mishap). AppendFate x v.bytes (flat_map text lines) (Err device) bytes left) known fate in absurd (false≢true goes.0)
-    under_torn other rest Cut known = let goes = subst (λ (x : Option Mishap). AppendFate x v.bytes (flat_map text lines) (Err device) bytes left) known fate in absurd (false≢true goes.0)
-    under_torn other rest Read known = let goes = subst (λ (x : Option Mishap). AppendFate x v.bytes (flat_map text lines) (Err device) bytes left) known fate in absurd (false≢true goes.0)
+    under_torn other rest Never known = let goes =
+        subst (λ (x : Option Mishap). AppendFate x v.bytes (flat_map text lines) (Err device) bytes left) known fate in
+        absurd (false≢true goes.0)
+    under_torn other rest Cut known = let goes = subst
+        (λ (x : Option Mishap). AppendFate x v.bytes (flat_map text lines) (Err device) bytes left) known fate in absurd (false≢true goes.0)
+    under_torn other rest Read known = let goes = subst
+        (λ (x : Option Mishap). AppendFate x v.bytes (flat_map text lines) (Err device) bytes left) known fate in absurd (false≢true goes.0)
 
     doubted : (stood : Bool) → Leaves schema s all note stood bytes → Ends v c Unsure torn_ false extent b
     doubted stood is =
@@ -335,7 +364,13 @@ module _ (v : SiteValue) (up : Bool) (extent : Extent) (a : Accounts) (was : IsS
             log = is.log;
             lawful = is.lawful;
             run = (was.run, unsure_fits at c told none);
-            keeps = (rs, stood, keeps_up v.schema v.site.0 base (plain v.based) was.kept stood v.history rs is_there was.keeps, refl, told_is ∙ left_over rs stood);
+            keeps = (
+              rs,
+              stood,
+              keeps_up v.schema v.site.0 base (plain v.based) was.kept stood v.history rs is_there was.keeps,
+              refl,
+              told_is ∙ left_over rs stood,
+            );
             up_is = refl;
             clean = λ u. absurd (false≢true u);
             reaches = reach_more extent all is.front is.first_ was.reaches;
@@ -361,12 +396,16 @@ module _ (v : SiteValue) (up : Bool) (extent : Extent) (a : Accounts) (was : IsS
                 record {
                   stood = stood;
                   rest = is.rest;
-                  log = subst (λ (x : List Record). Holds schema s bytes x is.rest) (ap (λ (l : List Record). l ++ cond stood (note ∷ []) []) same ∙ left_over other stood) (left_holds schema s all note stood bytes is);
+                  log = subst (λ (x : List Record). Holds schema s bytes x is.rest)
+                      (ap (λ (l : List Record). l ++ cond stood (note ∷ []) []) same ∙ left_over other stood)
+                      (left_holds schema s all note stood bytes is);
                   doubt = ap (λ (n : ℕ). Some n) (reached.count ∙ ap length same);
                   restarts = tt;
                   refuses = refuses_over c Unsure other no_restart;
                 };
-            writes_ = unsure_writes at c v.bytes bytes (λ other rest log. subst (λ (x : List Record). IsCutShort v.bytes (flat_map text (piece schema s x note)) bytes) (same_all other rest log) cut);
+            writes_ = unsure_writes at c v.bytes bytes
+                (λ other rest log. subst (λ (x : List Record). IsCutShort v.bytes (flat_map text (piece schema s x note)) bytes)
+                (same_all other rest log) cut);
             foretold = fate_struck v.foretold v.bytes (flat_map text lines) device bytes left fate;
             under = λ other rest m log known. under_torn other rest m known;
             exact = exact_torn;
@@ -377,12 +416,35 @@ module _ (v : SiteValue) (up : Bool) (extent : Extent) (a : Accounts) (was : IsS
     unsure : Ends v c Unsure torn_ false extent b
     unsure = doubted (nat_le (length (text note)) cut.0) (leaves cut.0 cut.1)
 
-  pub ends_unsure : (b : Accounts) (bytes : List ℕ) (failed : ℕ) (left : Option Mishap) (device : Device) (r : Reply) (h : List Entry) → r ≡ Unsure → h ≡ entry_of v c r ∷ v.history
-      → IsCutShort v.bytes (flat_map text lines) bytes → failed ≡ v.failed + 1 → AppendFate v.foretold v.bytes (flat_map text lines) (Err device) bytes left
+  pub ends_unsure : (b : Accounts) (bytes : List ℕ) (failed : ℕ) (left : Option Mishap) (device : Device) (r : Reply) (h : List Entry)
+      → r ≡ Unsure → h ≡ entry_of v c r ∷ v.history
+      → IsCutShort v.bytes (flat_map text lines) bytes → failed ≡ v.failed + 1
+      → AppendFate v.foretold v.bytes (flat_map text lines) (Err device) bytes left
       → Ends v c r (record v { history = h; bytes = bytes; failed = failed; foretold = left; doubt = Some extent.count }) false extent b
   ends_unsure b bytes failed left device r h said past cut counts fate =
       let after : h ≡ Doubtful = past ∙ ap (λ (x : Reply). entry_of v c x ∷ v.history) said in
-      subst (λ (x : Reply). Ends v c x (record v { history = h; bytes = bytes; failed = failed; foretold = left; doubt = Some extent.count }) false extent b) (sym said)
-      (subst (λ (o : List Entry). Ends v c Unsure (record v { history = o; bytes = bytes; failed = failed; foretold = left; doubt = Some extent.count }) false extent b) (sym after)
-      (subst (λ (n : ℕ). Ends v c Unsure (record v { history = Doubtful; bytes = bytes; failed = n; foretold = left; doubt = Some extent.count }) false extent b) (sym counts)
+      subst (λ (x : Reply). Ends v c x (record v {
+        history = h;
+        bytes = bytes;
+        failed = failed;
+        foretold = left;
+        doubt =
+            Some extent.count;
+      }) false extent b) (sym said)
+      (subst (λ (o : List Entry). Ends v c Unsure (record v {
+        history = o;
+        bytes = bytes;
+        failed = failed;
+        foretold = left;
+        doubt =
+            Some extent.count;
+      }) false extent b) (sym after)
+      (subst (λ (n : ℕ). Ends v c Unsure (record v {
+        history = Doubtful;
+        bytes = bytes;
+        failed = n;
+        foretold = left;
+        doubt =
+            Some extent.count;
+      }) false extent b) (sym counts)
       (unsure b bytes left device cut fate)))

@@ -49,12 +49,14 @@ next_piece schema s rs = piece schema s rs (next_restart rs)
 
 -- A restart failed: its record stands or doesn't, as the mishap says where it is known. Where it read the medium, it
 -- replayed the records behind the last summary.
-pub record FailsOver (schema : SchemaValue) (s : ℕ) (rs : List Record) (turns : Option ℕ) (rest old bytes : List ℕ) (foretold left : Option Mishap) (before after : ℕ) : Type 0 where
+pub record FailsOver (schema : SchemaValue) (s : ℕ) (rs : List Record) (turns : Option ℕ) (rest old bytes : List ℕ)
+    (foretold left : Option Mishap) (before after : ℕ) : Type 0 where
   pub counts : after ≡ before + 1
   pub leaves : (stood : Bool) × Leaves schema s rs (next_restart rs) stood bytes
   pub left_ : (bytes ≡ old) ⊎ IsCutShort (flat_map text rs) (flat_map text (next_piece schema s rs)) bytes
   pub never : foretold ≡ Some Never → ⊥
-  pub torn : (n : ℕ) → foretold ≡ Some (Append n) → (greatest rs < max_epoch) × Leaves schema s rs (next_restart rs) (nat_le (length (text (next_restart rs))) n) bytes
+  pub torn : (n : ℕ) → foretold ≡ Some (Append n) → (greatest rs < max_epoch)
+      × Leaves schema s rs (next_restart rs) (nat_le (length (text (next_restart rs))) n) bytes
   pub cut : foretold ≡ Some Cut → (greatest rs < max_epoch) × (rest ≢ [])
   pub struck_ : left ≡ mishap_left foretold
   pub replayed : (n : ℕ) → turns ≡ Some n → n ≡ since_summary rs
@@ -69,7 +71,8 @@ pub record FullOver (rs : List Record) (old bytes : List ℕ) (foretold left : O
 
 -- A restart went well: its record stands behind those that there were, with the summary that is due, and so long are all
 -- texts then. It replayed the records behind the last summary.
-pub record StandsOver (schema : SchemaValue) (s : ℕ) (rs : List Record) (epoch turns size : ℕ) (rest bytes : List ℕ) (foretold left : Option Mishap) (before after : ℕ) : Type 0 where
+pub record StandsOver (schema : SchemaValue) (s : ℕ) (rs : List Record) (epoch turns size : ℕ) (rest bytes : List ℕ)
+    (foretold left : Option Mishap) (before after : ℕ) : Type 0 where
   pub counts : after ≡ before
   pub size_is : size ≡ told_length (length (flat_map text (rs ++ next_piece schema s rs)))
   pub replayed : turns ≡ since_summary rs
@@ -82,15 +85,19 @@ pub record StandsOver (schema : SchemaValue) (s : ℕ) (rs : List Record) (epoch
   pub stays : left ≡ foretold
 
 -- How a restart went over these records, some of which stand behind the place that was looked at.
-abbrev pub ResumesOver : SchemaValue → ℕ → ℕ → List Record → List ℕ → Resumed → List ℕ → List ℕ → Option Mishap → Option Mishap → ℕ → ℕ → Type 0
-ResumesOver schema s place rs rest (Failed turns) old bytes foretold left before after = FailsOver schema s rs turns rest old bytes foretold left before after
+abbrev pub ResumesOver : SchemaValue → ℕ → ℕ → List Record → List ℕ → Resumed → List ℕ → List ℕ → Option Mishap → Option Mishap → ℕ → ℕ
+    → Type 0
+ResumesOver schema s place rs rest (Failed turns) old bytes foretold left before after =
+    FailsOver schema s rs turns rest old bytes foretold left before after
 ResumesOver schema s place rs rest NumbersFull old bytes foretold left before after = FullOver rs old bytes foretold left before after
 ResumesOver schema s place rs rest (Standing behind standing epoch turns size) old bytes foretold left before after =
-    StandsOver schema s rs epoch turns size rest bytes foretold left before after × IsStandingFor schema s rs standing × AreBehind old place behind.items
+    StandsOver schema s rs epoch turns size rest bytes foretold left before after × IsStandingFor schema s rs standing
+    × AreBehind old place behind.items
 
 -- The bytes are a log of these lawful records of a site of the schema, which the standing is for; so many of them stand
 -- behind the last summary.
-pub record IsReplayed (schema : SchemaValue) (s : ℕ) (rs : List Record) (rest : List ℕ) (standing : StandingValue) (turns : ℕ) (bytes : List ℕ) : Type 0 where
+pub record IsReplayed (schema : SchemaValue) (s : ℕ) (rs : List Record) (rest : List ℕ) (standing : StandingValue) (turns : ℕ)
+    (bytes : List ℕ) : Type 0 where
   pub limits : IsSchema schema
   pub site_in : s < schema.sites
   pub log : IsLog bytes rs rest
@@ -99,7 +106,8 @@ pub record IsReplayed (schema : SchemaValue) (s : ℕ) (rs : List Record) (rest 
   pub turns_are : turns ≡ since_summary rs
 
 -- How a restart went over the records that were replayed, where these were behind the place.
-abbrev pub ResumesAs : SchemaValue → StandingValue → ℕ → List Record → Resumed → List ℕ → List ℕ → Option Mishap → Option Mishap → ℕ → ℕ → Type 0
+abbrev pub ResumesAs : SchemaValue → StandingValue → ℕ → List Record → Resumed → List ℕ → List ℕ → Option Mishap → Option Mishap → ℕ → ℕ
+    → Type 0
 ResumesAs schema standing turns found resumed old bytes foretold left before after =
     (s place : ℕ) (rs : List Record) (rest : List ℕ) → IsReplayed schema s rs rest standing turns old → AreBehind old place found
     → ResumesOver schema s place rs rest resumed old bytes foretold left before after

@@ -48,7 +48,18 @@ pub record SiteValue : Type 0 where
 -- A site's value, from its parts: the history is kept with the oldest entry first.
 abbrev pub value_of : SchemaValue → SiteNo → Bool → List Record → List Entry → List ℕ → ℕ → Option Mishap → Option ℕ → ℕ → SiteValue
 value_of schema site fresh based entries bytes failed foretold doubt replayed =
-    record { schema = schema; site = site; fresh = fresh; based = based; history = reverse entries; bytes = bytes; failed = failed; foretold = foretold; doubt = doubt; replayed = replayed }
+    record {
+      schema = schema;
+      site = site;
+      fresh = fresh;
+      based = based;
+      history = reverse entries;
+      bytes = bytes;
+      failed = failed;
+      foretold = foretold;
+      doubt = doubt;
+      replayed = replayed;
+    }
 
 -- The base on which a site's history stands.
 abbrev pub base_of : SiteValue → Base
@@ -192,12 +203,14 @@ AddsLines at command old new = (rs : List Record) (rest : List ℕ) → IsLog ol
 
 -- A command's append failed: some front of its record's lines stands behind the bytes.
 abbrev pub LeavesUnsure : Place → Command → List ℕ → List ℕ → Type 0
-LeavesUnsure at command old new = (rs : List Record) (rest : List ℕ) → IsLog old rs rest → IsCutShort old (lines_behind at rs (record_at at command)) new
+LeavesUnsure at command old new = (rs : List Record) (rest : List ℕ) → IsLog old rs rest
+    → IsCutShort old (lines_behind at rs (record_at at command)) new
 
 -- What a restart that failed leaves: the bytes as they were, or the whole lines and some front of its record's lines.
 abbrev pub LeavesFailed : Place → List ℕ → List ℕ → Type 0
 LeavesFailed at old new =
-    (rs : List Record) (rest : List ℕ) → IsLog old rs rest → (new ≡ old) ⊎ IsCutShort (flat_map text rs) (lines_behind at rs (records.Restart (greatest rs + 1))) new
+    (rs : List Record) (rest : List ℕ) → IsLog old rs rest → (new ≡ old)
+    ⊎ IsCutShort (flat_map text rs) (lines_behind at rs (records.Restart (greatest rs + 1))) new
 
 -- What an entry does to the bytes of the medium: a refusal leaves them, an answer adds its record's lines, if any, and of an
 -- answer in doubt some front of these lines stands. What a good restart leaves is told by the records.
@@ -298,7 +311,8 @@ owed_under v rs rest command mishap =
 
 -- Where it is known how the next append goes, the reply is the one that is owed then, and so is what a restart would find
 -- after it.
-pub record IsExact (before : SiteValue) (command : Command) (reply : Reply) (later : SiteValue) (luck : Luck) (epoch : ℕ) (found : Last) : Type 0 where
+pub record IsExact (before : SiteValue) (command : Command) (reply : Reply) (later : SiteValue) (luck : Luck) (epoch : ℕ)
+    (found : Last) : Type 0 where
   pub reply_is : reply ≡ owed_with (here before) epoch found command luck
   pub finds : Finds later (epoch_kept reply luck epoch) (doubt_after reply luck (record_length (here before) command) found)
 
@@ -319,13 +333,16 @@ pub record Applies (before : SiteValue) (command : Command) (reply : Reply) (lat
   pub entry : later.history ≡ entry_of before command reply ∷ before.history
   pub same : IsSame before later
   pub failed : later.failed ≡ failed_after reply before.failed
-  pub logs : (rs : List Record) (rest : List ℕ) → Holds before.schema before.site.0 before.bytes rs rest → Logs before command reply later rs
+  pub logs : (rs : List Record) (rest : List ℕ) → Holds before.schema before.site.0 before.bytes rs rest
+      → Logs before command reply later rs
   pub writes_ : Writes (here before) command reply before.bytes later.bytes
   pub foretold : later.foretold ≡ foretold_after reply before.foretold
-  pub under : (rs : List Record) (rest : List ℕ) (mishap : Mishap) → Holds before.schema before.site.0 before.bytes rs rest → before.foretold ≡ Some mishap → reply ≡ owed_under before rs rest command mishap
+  pub under : (rs : List Record) (rest : List ℕ) (mishap : Mishap) → Holds before.schema before.site.0 before.bytes rs rest
+      → before.foretold ≡ Some mishap → reply ≡ owed_under before rs rest command mishap
   pub exact : (luck : Luck) (epoch : ℕ) (found : Last) → before.foretold ≡ Some (mishap_of luck) → Finds before epoch found
       → IsExact before command reply later luck epoch found
-  pub replays : (rs : List Record) (rest : List ℕ) → IsLog before.bytes rs rest → Replays reply (since_summary rs) before.replayed later.replayed
+  pub replays : (rs : List Record) (rest : List ℕ) → IsLog before.bytes rs rest
+      → Replays reply (since_summary rs) before.replayed later.replayed
 
 -- The medium holds the texts of lawful records that the history keeps, and then bytes in which no line ends. Behind the last
 -- summary stand at most 1,000 records and one for each restart that failed since the last that went well, where at most

@@ -30,7 +30,8 @@ fn close(journal: &mut Journal, rights: &mut Rights, txn: TxnId)
     requires in_schema { AreInRange rights.old (escrows_at txn journal.old) }
     requires there { AreHeld rights.old (escrows_at txn journal.old) }
     ensures journal { journal.new ≡ without txn journal.old }
-    ensures rights { rights.new ≡ by_escrows (ending Aborted) rights.old (escrows_at txn journal.old) }
+    ensures rights { rights.new ≡ by_escrows (ending Aborted) rights.old
+        (escrows_at txn journal.old) }
 {
     let escrows = journal.take_out(txn).unwrap();
     rights.end(&escrows, Outcome::Aborted);
@@ -70,7 +71,8 @@ impl Accounts {
     pub(crate) fn carry_out(&mut self, schema: &Schema, kept: &Record)
         requires can { CanCarry schema.now self.old kept.now }
         requires ranges { IsRecord kept.now }
-        ensures took { TakesIn schema.now (before_taking_in self.old kept.now).standing kept.now true self.new.standing }
+        ensures took { TakesIn schema.now (before_taking_in self.old kept.now).standing kept.now
+            true self.new.standing }
         ensures journal { self.new.journal ≡ (before_taking_in self.old kept.now).journal }
         ensures last { self.new.last ≡ self.old.last }
     {
@@ -81,8 +83,8 @@ impl Accounts {
         prove!(took);
     }
 
-    /// Stands on what the records of a log stand for, and on the restart behind them: no transaction
-    /// is open.
+    /// Stands on what the records of a log stand for, and on the restart behind them: no
+    /// transaction is open.
     pub(crate) fn stand_on(&mut self, schema: &Schema, standing: Standing, epoch: u32)
         requires places { HasSlots schema.now standing.rights standing.ledger }
         requires can { CanTakeIn schema.now standing (Restart epoch) }

@@ -50,7 +50,8 @@ pub(crate) fn due_behind(
     requires in_range { IsRecord next.now }
     requires plain { is_summary next.now ≡ false }
     requires may { (rs : List Record) × MayFollowNext schema.now standing.now rs next.now }
-    ensures due { IfOk result (λ due. (rs : List Record) → MayFollowNext schema.now standing.now rs next.now → behind ≡ since_summary rs →
+    ensures due { IfOk result (λ due. (rs : List Record)
+        → MayFollowNext schema.now standing.now rs next.now → behind ≡ since_summary rs →
         with_due next.now due ≡ piece schema.now standing.now.ledger.site rs next.now) }
 {
     if behind < MAX_BEHIND - 1 {
@@ -61,7 +62,8 @@ pub(crate) fn due_behind(
 }
 
 impl Extent {
-    /// One record more stands whole, with the summary that was due behind it, in lines of this length.
+    /// One record more stands whole, with the summary that was due behind it, in lines of this
+    /// length.
     pub(crate) fn extend(&mut self, length: usize)
         requires few { self.old.count + 1 < 2 ^ 64 }
         ensures extended { self.new ≡ one_record_longer self.old length }
@@ -71,11 +73,15 @@ impl Extent {
         self.behind = behind_next(self.behind);
     }
 
-    /// A restart found so many records more, and its own record stands behind them, in lines up to this
-    /// length. So many records stood behind the last summary.
+    /// A restart found so many records more, and its own record stands behind them, in lines up to
+    /// this length. So many records stood behind the last summary.
     pub(crate) fn reach(&mut self, more: usize, behind: u64, length: usize)
         requires few { self.old.count + more + 1 < 2 ^ 64 }
-        ensures reached { self.new ≡ record { count = self.old.count + more + 1; length = length; behind = if nat_le max_behind (behind + 1) then 0 else behind + 1 } }
+        ensures reached { self.new ≡ record {
+          count = self.old.count + more + 1;
+          length = length;
+          behind = if nat_le max_behind (behind + 1) then 0 else behind + 1;
+        } }
     {
         self.count = self.count + more + 1;
         self.length = length;

@@ -28,14 +28,14 @@ use opening::{Found, read_base};
 use std::alloc::{AllocError, Global};
 use std::marker::Model;
 
-/// One site of a schema, over a medium that keeps what it answered. Contracts see the schema and the
-/// site's number; the records that the medium held when the site was opened, and whether it was
-/// empty then; the history, the newest entry first; the medium's bytes, its count of failures and the
-/// mishap foretold for it; where an answer is in doubt, how many records stood before its own,
+/// One site of a schema, over a medium that keeps what it answered. Contracts see the schema and
+/// the site's number; the records that the medium held when the site was opened, and whether it was
+/// empty then; the history, the newest entry first; the medium's bytes, its count of failures and
+/// the mishap foretold for it; where an answer is in doubt, how many records stood before its own,
 /// summaries left out; and how many records the last restart replayed.
 ///
-/// Source: O'Neil 1986 for escrows and the test of a grant, Balegas and others 2015 for rights that a
-/// site holds and transfers, this project for what it keeps and its restarts.
+/// Source: O'Neil 1986 for escrows and the test of a grant, Balegas and others 2015 for rights that
+/// a site holds and transfers, this project for what it keeps and its restarts.
 #[derive(Drop)]
 pub struct Site<M: Medium> {
     schema: Schema,
@@ -59,22 +59,25 @@ impl<M: Medium> Model for Site<M> {
 
     ghost Value = { SiteValue };
 
-    ghost view = { λ s. value_of s.schema s.number s.fresh s.based.items s.history.items (M.bytes s.medium) (M.failed s.medium) (M.foretold s.medium) s.doubt s.replayed };
+    ghost view = { λ s. value_of s.schema s.number s.fresh s.based.items s.history.items
+        (M.bytes s.medium) (M.failed s.medium) (M.foretold s.medium) s.doubt s.replayed };
 
-    ghost invariant = { λ s. IsSoundSite (value_of s.schema s.number s.fresh s.based.items s.history.items (M.bytes s.medium) (M.failed s.medium) (M.foretold s.medium) s.doubt s.replayed) s.up s.extent s.accounts };
+    ghost invariant = { λ s. IsSoundSite (value_of s.schema s.number s.fresh s.based.items
+        s.history.items (M.bytes s.medium) (M.failed s.medium)
+        (M.foretold s.medium) s.doubt s.replayed) s.up s.extent s.accounts };
 }
 
 impl<M: Medium> Site<M> {
-    /// Opens a site over a medium, which stays as it is. Over an empty one the site is up at epoch 0
-    /// with its parts as free rights. Over any other it is down, and stands on the records that the
-    /// medium holds, once it is restarted: bytes behind the last line feed are a torn record, and are
-    /// left out. Its history is empty.
+    /// Opens a site over a medium, which stays as it is. Over an empty one the site is up at epoch
+    /// 0 with its parts as free rights. Over any other it is down, and stands on the records that
+    /// the medium holds, once it is restarted: bytes behind the last line feed are a torn record,
+    /// and are left out. Its history is empty.
     ///
-    /// A fault hands the medium back. `Device`: the device failed in its one read, which a mishap for
-    /// reads makes it do; where it is known that none strikes, this never comes, and where one struck
-    /// it is used up. `Line(n)`: line n, from 1, is the first that is no record or breaks a rule of a
-    /// kept log; that never comes over what a site left, wherever a stop fell. `NoMemory`: memory is
-    /// wanting.
+    /// A fault hands the medium back. `Device`: the device failed in its one read, which a mishap
+    /// for reads makes it do; where it is known that none strikes, this never comes, and where one
+    /// struck it is used up. `Line(n)`: line n, from 1, is the first that is no record or breaks a
+    /// rule of a kept log; that never comes over what a site left, wherever a stop fell.
+    /// `NoMemory`: memory is wanting.
     ///
     /// Reads the medium once, and keeps its records. Costs one row for each field, and one more for
     /// each site and field.
@@ -85,14 +88,19 @@ impl<M: Medium> Site<M> {
         medium: M,
     ) -> Result<Site<M>, (OpenFault, M)>
         requires in_schema { site.0 < schema.sites }
-        ensures ok { IfOk result (λ made. Opens schema site (M.bytes medium) (M.failed medium) made) }
+        ensures ok { IfOk result (λ made. Opens schema site (M.bytes medium)
+            (M.failed medium) made) }
         ensures mishap { IfOk result (λ made. made.foretold ≡ M.foretold medium) }
         ensures nothing { IfOk result (λ made. M.bytes medium ≡ [] → Finds made 0 Nothing) }
-        ensures line { IfErr result (λ refused. TellsLine schema site.0 (M.bytes medium) refused.0) }
-        ensures never { IfErr result (λ refused. SparesLogs schema site.0 (M.bytes medium) refused.0) }
+        ensures line { IfErr result (λ refused. TellsLine schema site.0
+            (M.bytes medium) refused.0) }
+        ensures never { IfErr result (λ refused. SparesLogs schema site.0
+            (M.bytes medium) refused.0) }
         ensures bytes { IfErr result (λ refused. M.bytes refused.1 ≡ M.bytes medium) }
-        ensures failed { IfErr result (λ refused. M.failed refused.1 ≡ failed_at refused.0 (M.failed medium)) }
-        ensures foretold { IfErr result (λ refused. M.foretold refused.1 ≡ foretold_at refused.0 (M.foretold medium)) }
+        ensures failed { IfErr result (λ refused. M.failed refused.1
+            ≡ failed_at refused.0 (M.failed medium)) }
+        ensures foretold { IfErr result (λ refused. M.foretold refused.1
+            ≡ foretold_at refused.0 (M.foretold medium)) }
         ensures device { IfErr result (λ refused. FailsUnder refused.0 (M.foretold medium)) }
         ensures read { IfOk result (λ made. M.foretold medium ≡ Some Read → ⊥) }
     {
@@ -134,16 +142,16 @@ impl<M: Medium> Site<M> {
         self.number
     }
 
-    /// Whether the site is up: it answers every command. Else it refuses all but a restart. Costs no
-    /// memory.
+    /// Whether the site is up: it answers every command. Else it refuses all but a restart. Costs
+    /// no memory.
     pub fn is_up(&self) -> bool
         ensures value { result ≡ is_up (base_of self.now) self.now.history }
     {
         self.up
     }
 
-    /// The commands answered so far with their replies, the oldest first: a run of owed replies, and
-    /// the medium holds the records that they leave. Costs no memory.
+    /// The commands answered so far with their replies, the oldest first: a run of owed replies,
+    /// and the medium holds the records that they leave. Costs no memory.
     pub fn history(&self) -> &[Entry]
         ensures value { reverse result.now ≡ self.now.history }
         ensures run { IsRun self.now.schema self.now.site.0 (base_of self.now) self.now.history }
@@ -153,13 +161,14 @@ impl<M: Medium> Site<M> {
     }
 
     /// How many records the last Restart replayed that read the medium and wasn't refused, and 0
-    /// before: the turns of the loop that took them in. They are those behind the last whole summary in
-    /// what it read, or all where there is none. Where at most 1,000 records stood behind the last
-    /// summary when the site was opened, it is at most 1,000 and the number of Restarts answered
-    /// StillDown since the last Restarted before it. Costs no memory.
+    /// before: the turns of the loop that took them in. They are those behind the last whole
+    /// summary in what it read, or all where there is none. Where at most 1,000 records stood
+    /// behind the last summary when the site was opened, it is at most 1,000 and the number of
+    /// Restarts answered StillDown since the last Restarted before it. Costs no memory.
     pub fn replayed(&self) -> u64
         ensures value { result ≡ self.now.replayed }
-        ensures few { since_summary self.now.based ≤ max_behind → result ≤ max_behind + downs_before self.now.history }
+        ensures few { since_summary self.now.based ≤ max_behind
+            → result ≤ max_behind + downs_before self.now.history }
     {
         self.replayed
     }
@@ -177,8 +186,8 @@ impl<M: Medium> Site<M> {
     }
 
     /// The site's free rights on the field, to lower and to raise it, in rights: what a Share
-    /// answers, and None where a Share is refused, which is where the site is down or the field isn't
-    /// in the schema. Costs no memory.
+    /// answers, and None where a Share is refused, which is where the site is down or the field
+    /// isn't in the schema. Costs no memory.
     pub fn share(&self, field: FieldNo) -> Option<(u64, u64)>
         ensures value { result ≡ shares_of (here self.now) field }
     {
@@ -192,19 +201,20 @@ impl<M: Medium> Site<M> {
     /// after its own entries. A refusal changes nothing but the history; after want of memory
     /// nothing has changed.
     ///
-    /// A Commit of a transaction with escrows, a Give, a Spare, a Tighten, and an Accept with a gain are
-    /// answered once their record stands whole on the medium. Where the device fails they are answered
-    /// Unsure, and a Restart that isn't answered StillDown: the site is then down. A Restart tells what became of
-    /// the record in doubt.
+    /// A Commit of a transaction with escrows, a Give, a Spare, a Tighten, and an Accept with a
+    /// gain are answered once their record stands whole on the medium. Where the device fails they
+    /// are answered Unsure, and a Restart that isn't answered StillDown: the site is then down. A
+    /// Restart tells what became of the record in doubt.
     ///
     /// Costs a look through the open transactions, at most 64, for a command that names one, and
-    /// one step for each escrow of a transaction that ends. A Give, a Restate, a Spare and an Accept look at
-    /// one total and at the rights on one field, a Tighten at the rights on one field. What is written has the length of one record; its
-    /// text is made in a buffer of the site, whose memory is used again. Nothing of that grows with
-    /// the history, the number of fields or the number of sites. The record that is, by count, at least
-    /// the 1,000th behind the last summary is written with the next summary, in one piece: that costs a
-    /// few passes over the rights and the totals of the site, and memory for them. A Restart reads the end
-    /// of the medium back to the last whole summary, and takes in each record behind it; its cost doesn't
+    /// one step for each escrow of a transaction that ends. A Give, a Restate, a Spare and an
+    /// Accept look at one total and at the rights on one field, a Tighten at the rights on one
+    /// field. What is written has the length of one record; its text is made in a buffer of the
+    /// site, whose memory is used again. Nothing of that grows with the history, the number of
+    /// fields or the number of sites. The record that is, by count, at least the 1,000th behind the
+    /// last summary is written with the next summary, in one piece: that costs a few passes over
+    /// the rights and the totals of the site, and memory for them. A Restart reads the end of the
+    /// medium back to the last whole summary, and takes in each record behind it; its cost doesn't
     /// grow with what stands before.
     pub fn apply(&mut self, alloc: Global, command: Command) -> Result<Reply, AllocError>
         ensures ok { IfOk result (λ reply. Applies self.old command reply self.new) }
@@ -235,8 +245,12 @@ impl Site<TornMedium> {
     /// nothing else. Where the count of failures is at the greatest `u64`, none strikes. Costs no
     /// memory.
     pub fn arm(&mut self, mishap: Mishap)
-        ensures armed { self.new ≡ record self.old { foretold = foretold_by self.old.failed mishap } }
-        ensures finds { (epoch : ℕ) (found : Last) → Finds self.old epoch found → Finds self.new epoch found }
+        ensures armed { self.new ≡ record self.old {
+          foretold =
+              foretold_by self.old.failed mishap;
+        } }
+        ensures finds { (epoch : ℕ) (found : Last) → Finds self.old epoch found
+            → Finds self.new epoch found }
     {
         self.medium.arm(mishap);
     }

@@ -50,28 +50,36 @@ end_of : Letter → ℕ
 end_of (Stated s) = 0
 end_of (End site) = site.0
 
-stated_no_end : (gained : List Letter) (s : Statement) (n : ℕ) → (Contains gained (End (site_no n)) → ⊥) → Contains (gained ++ Stated s ∷ []) (End (site_no n)) → ⊥
+stated_no_end : (gained : List Letter) (s : Statement) (n : ℕ) → (Contains gained (End (site_no n)) → ⊥)
+    → Contains (gained ++ Stated s ∷ []) (End (site_no n)) → ⊥
 unfolding is_end
 stated_no_end gained s n none has =
-    ⊎_elim (λ (before : Contains gained (End (site_no n))). none before) (λ (last : Stated s ≡ End (site_no n)). true≢false (sym (ap is_end last))) (Contains-push_cases gained (Stated s) (End (site_no n)) has)
+    ⊎_elim (λ (before : Contains gained (End (site_no n))). none before)
+    (λ (last : Stated s ≡ End (site_no n)). true≢false (sym (ap is_end last)))
+    (Contains-push_cases gained (Stated s) (End (site_no n)) has)
 
-end_of_other : (gained : List Letter) (site : SiteNo) (n : ℕ) → n ≢ site.0 → (Contains gained (End (site_no n)) → ⊥) → Contains (gained ++ End site ∷ []) (End (site_no n)) → ⊥
+end_of_other : (gained : List Letter) (site : SiteNo) (n : ℕ) → n ≢ site.0 → (Contains gained (End (site_no n)) → ⊥)
+    → Contains (gained ++ End site ∷ []) (End (site_no n)) → ⊥
 unfolding end_of
 end_of_other gained site n other none has =
-    ⊎_elim (λ (before : Contains gained (End (site_no n))). none before) (λ (last : End site ≡ End (site_no n)). other (sym (ap end_of last))) (Contains-push_cases gained (End site) (End (site_no n)) has)
+    ⊎_elim (λ (before : Contains gained (End (site_no n))). none before)
+    (λ (last : End site ≡ End (site_no n)). other (sym (ap end_of last))) (Contains-push_cases gained (End site) (End (site_no n)) has)
 
-pub accepts : (start now : List Letter) (ended : List Bool) (rs : List Receipt) (s : Statement) (r : Receipt) → Progress start now ended rs → r.entry.command ≡ Accept s
+pub accepts : (start now : List Letter) (ended : List Bool) (rs : List Receipt) (s : Statement) (r : Receipt) → Progress start now ended rs
+    → r.entry.command ≡ Accept s
     → Progress start (now ++ Stated s ∷ []) ended (rs ++ r ∷ [])
 accepts start now ended rs s r p is = record {
   gained = p.gained ++ Stated s ∷ [];
   taken = ap (λ l. l ++ Stated s ∷ []) p.taken ∙ append_assoc start p.gained (Stated s ∷ []);
-  accepted = commands_more rs r ∙ (ap (λ c. commands_of rs ++ c ∷ []) is ∙ (ap (λ l. l ++ Accept s ∷ []) p.accepted ∙ sym (accepts_stated p.gained s)));
+  accepted = commands_more rs r ∙ (ap (λ c. commands_of rs ++ c ∷ []) is
+      ∙ (ap (λ l. l ++ Accept s ∷ []) p.accepted ∙ sym (accepts_stated p.gained s)));
   marked = λ n marked. Contains-append_left p.gained (Stated s ∷ []) (End (site_no n)) (p.marked n marked);
   no_other = λ n below off. stated_no_end p.gained s n (p.no_other n below off);
 }
 
 -- an End of no site that is marked
-pub skips : (start now : List Letter) (ended : List Bool) (rs : List Receipt) (site : SiteNo) → length ended ≤ site.0 → Progress start now ended rs → Progress start (now ++ End site ∷ []) ended rs
+pub skips : (start now : List Letter) (ended : List Bool) (rs : List Receipt) (site : SiteNo) → length ended ≤ site.0
+    → Progress start now ended rs → Progress start (now ++ End site ∷ []) ended rs
 skips start now ended rs site past p = record {
   gained = p.gained ++ End site ∷ [];
   taken = ap (λ l. l ++ End site ∷ []) p.taken ∙ append_assoc start p.gained (End site ∷ []);
@@ -80,59 +88,79 @@ skips start now ended rs site past p = record {
   no_other = λ n below off. end_of_other p.gained site n (λ (same : n ≡ site.0). absurd (omega arith)) (p.no_other n below off);
 }
 
-pub ends : (start now : List Letter) (ended : List Bool) (rs : List Receipt) (site : SiteNo) → site.0 < length ended → Progress start now ended rs → Progress start (now ++ End site ∷ []) (set ended site.0 true) rs
+pub ends : (start now : List Letter) (ended : List Bool) (rs : List Receipt) (site : SiteNo) → site.0 < length ended
+    → Progress start now ended rs → Progress start (now ++ End site ∷ []) (set ended site.0 true) rs
 ends start now ended rs site within p = record {
   gained = p.gained ++ End site ∷ [];
   taken = ap (λ l. l ++ End site ∷ []) p.taken ∙ append_assoc start p.gained (End site ∷ []);
   accepted = p.accepted ∙ sym (accepts_end p.gained site);
   marked = λ n marked.
       dite (ℕ_discrete n site.0)
-      (λ (same : n ≡ site.0). subst (λ (k : ℕ). Contains (p.gained ++ End site ∷ []) (End (site_no k))) (sym same) (Contains-push p.gained (End site)))
-      (λ (other : n ≢ site.0). Contains-append_left p.gained (End site ∷ []) (End (site_no n)) (p.marked n (sym (get_or-set_other ended site.0 n true false other) ∙ marked)));
+      (λ (same : n ≡ site.0). subst (λ (k : ℕ). Contains (p.gained ++ End site ∷ []) (End (site_no k))) (sym same)
+      (Contains-push p.gained (End site)))
+      (λ (other : n ≢ site.0). Contains-append_left p.gained (End site ∷ []) (End (site_no n))
+      (p.marked n (sym (get_or-set_other ended site.0 n true false other) ∙ marked)));
   no_other = λ n below off.
       let in_old : n < length ended = omega (arith, below, length-set ended site.0 true) in
       dite (ℕ_discrete n site.0)
-      (λ (same : n ≡ site.0). absurd (true≢false (sym (get_or-set_same ended site.0 true false within) ∙ (ap (λ (k : ℕ). slice_index_or (set ended site.0 true) k false) (sym same) ∙ off))))
-      (λ (other : n ≢ site.0). end_of_other p.gained site n other (p.no_other n in_old (sym (get_or-set_other ended site.0 n true false other) ∙ off)));
+      (λ (same : n ≡ site.0). absurd (true≢false (sym (get_or-set_same ended site.0 true false within)
+      ∙ (ap (λ (k : ℕ). slice_index_or (set ended site.0 true) k false) (sym same) ∙ off))))
+      (λ (other : n ≢ site.0). end_of_other p.gained site n other
+      (p.no_other n in_old (sym (get_or-set_other ended site.0 n true false other) ∙ off)));
 }
 
-pub finishes : (sites : ℕ) (start now : List Letter) (ended : List Bool) (rs : List Receipt) → length ended ≡ sites → Progress start now ended rs → ((n : ℕ) → n < length ended → slice_index_or ended n false ≡ true)
+pub finishes : (sites : ℕ) (start now : List Letter) (ended : List Bool) (rs : List Receipt) → length ended ≡ sites
+    → Progress start now ended rs → ((n : ℕ) → n < length ended → slice_index_or ended n false ≡ true)
     → Carries sites start now rs
 finishes sites start now ended rs len p all = (p.gained, p.taken, p.accepted, λ n below. p.marked n (all n (omega arith)))
 
-stops : (sites : ℕ) (start now : List Letter) (ended : List Bool) (rs : List Receipt) → length ended ≡ sites → Progress start now ended rs → (n : ℕ) × (n < length ended) × (slice_index_or ended n false ≡ false)
+stops : (sites : ℕ) (start now : List Letter) (ended : List Bool) (rs : List Receipt) → length ended ≡ sites → Progress start now ended rs
+    → (n : ℕ) × (n < length ended) × (slice_index_or ended n false ≡ false)
     → StopsShort sites start now rs
 stops sites start now ended rs len p lacking =
-    let below : lacking.0 < length ended = lacking.1 in (p.gained, p.taken, p.accepted, lacking.0, omega arith, p.no_other lacking.0 below lacking.2)
+    let below : lacking.0 < length ended = lacking.1 in
+    (p.gained, p.taken, p.accepted, lacking.0, omega arith, p.no_other lacking.0 below lacking.2)
 
-pub stops_at : (sites : ℕ) (start now after : List Letter) (ended : List Bool) (rs : List Receipt) → after ≡ now → length ended ≡ sites → Progress start now ended rs → (n : ℕ) × (n < length ended) × (slice_index_or ended n false ≡ false)
+pub stops_at : (sites : ℕ) (start now after : List Letter) (ended : List Bool) (rs : List Receipt) → after ≡ now → length ended ≡ sites
+    → Progress start now ended rs → (n : ℕ) × (n < length ended) × (slice_index_or ended n false ≡ false)
     → StopsShort sites start after rs
-stops_at sites start now after ended rs same len p lacking = subst (λ (l : List Letter). StopsShort sites start l rs) (sym same) (stops sites start now ended rs len p lacking)
+stops_at sites start now after ended rs same len p lacking =
+    subst (λ (l : List Letter). StopsShort sites start l rs) (sym same) (stops sites start now ended rs len p lacking)
 
 -- the same, as the loop of a courier has it: it took x, which it found to be a letter of that kind
-pub begins_at : (taken : List Letter) (ended : List Bool) (rs : List Receipt) → rs ≡ [] → ((n : ℕ) → slice_index_or ended n false ≡ false) → Progress taken taken ended rs
+pub begins_at : (taken : List Letter) (ended : List Bool) (rs : List Receipt) → rs ≡ [] → ((n : ℕ) → slice_index_or ended n false ≡ false)
+    → Progress taken taken ended rs
 begins_at taken ended rs none unmarked = subst (λ (q : List Receipt). Progress taken taken ended q) (sym none) (begins taken ended unmarked)
 
-pub accepts_at : (start now after : List Letter) (ended : List Bool) (rs rs' : List Receipt) (x : Letter) (s : Statement) (r : Receipt) → after ≡ now ++ x ∷ [] → x ≡ Stated s → rs' ≡ rs ++ r ∷ [] → r.entry.command ≡ Accept s
+pub accepts_at : (start now after : List Letter) (ended : List Bool) (rs rs' : List Receipt) (x : Letter) (s : Statement) (r : Receipt)
+    → after ≡ now ++ x ∷ [] → x ≡ Stated s → rs' ≡ rs ++ r ∷ [] → r.entry.command ≡ Accept s
     → Progress start now ended rs → Progress start after ended rs'
 accepts_at start now after ended rs rs' x s r taken kind grown command p =
     subst (λ (l : List Letter). Progress start l ended rs') (sym (taken ∙ ap (λ (y : Letter). now ++ y ∷ []) kind))
     (subst (λ (q : List Receipt). Progress start (now ++ Stated s ∷ []) ended q) (sym grown) (accepts start now ended rs s r p command))
 
-pub ends_at : (start now after : List Letter) (ended : List Bool) (rs : List Receipt) (x : Letter) (site : SiteNo) (place : ℕ) → after ≡ now ++ x ∷ [] → x ≡ End site → place ≡ site.0 → place < length ended
+pub ends_at : (start now after : List Letter) (ended : List Bool) (rs : List Receipt) (x : Letter) (site : SiteNo) (place : ℕ)
+    → after ≡ now ++ x ∷ [] → x ≡ End site → place ≡ site.0 → place < length ended
     → Progress start now ended rs → Progress start after (set ended place true) rs
 ends_at start now after ended rs x site place taken kind at within p =
     subst (λ (l : List Letter). Progress start l (set ended place true) rs) (sym (taken ∙ ap (λ (y : Letter). now ++ y ∷ []) kind))
-    (subst (λ (k : ℕ). Progress start (now ++ End site ∷ []) (set ended k true) rs) (sym at) (ends start now ended rs site (omega (arith, at, within)) p))
+    (subst (λ (k : ℕ). Progress start (now ++ End site ∷ []) (set ended k true) rs) (sym at)
+    (ends start now ended rs site (omega (arith, at, within)) p))
 
-pub skips_at : (start now after : List Letter) (ended : List Bool) (rs : List Receipt) (x : Letter) (site : SiteNo) (place : ℕ) → after ≡ now ++ x ∷ [] → x ≡ End site → place ≡ site.0 → length ended ≤ place
+pub skips_at : (start now after : List Letter) (ended : List Bool) (rs : List Receipt) (x : Letter) (site : SiteNo) (place : ℕ)
+    → after ≡ now ++ x ∷ [] → x ≡ End site → place ≡ site.0 → length ended ≤ place
     → Progress start now ended rs → Progress start after ended rs
 skips_at start now after ended rs x site place taken kind at past p =
-    subst (λ (l : List Letter). Progress start l ended rs) (sym (taken ∙ ap (λ (y : Letter). now ++ y ∷ []) kind)) (skips start now ended rs site (omega (arith, at, past)) p)
+    subst (λ (l : List Letter). Progress start l ended rs) (sym (taken ∙ ap (λ (y : Letter). now ++ y ∷ []) kind))
+    (skips start now ended rs site (omega (arith, at, past)) p)
 
-pub commands_more_at : (rs rs' : List Receipt) (r : Receipt) (c : Command) → rs' ≡ rs ++ r ∷ [] → r.entry.command ≡ c → commands_of rs' ≡ commands_of rs ++ c ∷ []
+pub commands_more_at : (rs rs' : List Receipt) (r : Receipt) (c : Command) → rs' ≡ rs ++ r ∷ [] → r.entry.command ≡ c
+    → commands_of rs' ≡ commands_of rs ++ c ∷ []
 commands_more_at rs rs' r c grown is = ap commands_of grown ∙ (commands_more rs r ∙ ap (λ (d : Command). commands_of rs ++ d ∷ []) is)
 
-pub commands_step : (rs rs' : List Receipt) (r : Receipt) (script : List Command) (i : ℕ) (d : Command) → rs' ≡ rs ++ r ∷ [] → r.entry.command ≡ slice_index_or script i d → commands_of rs ≡ take i script → i < length script → commands_of rs' ≡ take (i + 1) script
+pub commands_step : (rs rs' : List Receipt) (r : Receipt) (script : List Command) (i : ℕ) (d : Command) → rs' ≡ rs ++ r ∷ []
+    → r.entry.command ≡ slice_index_or script i d → commands_of rs ≡ take i script → i < length script
+    → commands_of rs' ≡ take (i + 1) script
 commands_step rs rs' r script i d grown is so_far below =
-    commands_more_at rs rs' r (slice_index_or script i d) grown is ∙ (ap (λ (l : List Command). l ++ slice_index_or script i d ∷ []) so_far ∙ sym (take_more script i d below))
+    commands_more_at rs rs' r (slice_index_or script i d) grown is
+    ∙ (ap (λ (l : List Command). l ++ slice_index_or script i d ∷ []) so_far ∙ sym (take_more script i d below))

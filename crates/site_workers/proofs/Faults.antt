@@ -42,7 +42,8 @@ call_told schema site desk_faults.NoMemory = tt
 call_told schema site (desk_faults.WentBack n) = refl
 call_told schema site desk_faults.GateTurns = tt
 
-pub call_fault : (schema : SchemaValue) (site named : SiteNo) (e : DeskFault) (w : WorkFault) → w ≡ fault_of_call named e → named ≡ site → IsFaultAt schema site w
+pub call_fault : (schema : SchemaValue) (site named : SiteNo) (e : DeskFault) (w : WorkFault) → w ≡ fault_of_call named e → named ≡ site
+    → IsFaultAt schema site w
 call_fault schema site named e w is at =
     subst (λ (x : WorkFault). IsFaultAt schema site x) (sym (is ∙ ap (λ (n : SiteNo). fault_of_call n e) at)) (call_told schema site e)
 
@@ -51,11 +52,13 @@ courier_told site last desk_faults.NoMemory fails = tt
 courier_told site last (desk_faults.WentBack n) fails = refl
 courier_told site last desk_faults.GateTurns fails = absurd fails
 
-pub courier_call : (site named : SiteNo) (last : ℕ) (e : DeskFault) (w : WorkFault) → w ≡ fault_of_call named e → named ≡ site → Fails last e → IsCourierFault site w
+pub courier_call : (site named : SiteNo) (last : ℕ) (e : DeskFault) (w : WorkFault) → w ≡ fault_of_call named e → named ≡ site
+    → Fails last e → IsCourierFault site w
 courier_call site named last e w is at fails =
     subst (λ (x : WorkFault). IsCourierFault site x) (sym (is ∙ ap (λ (n : SiteNo). fault_of_call n e) at)) (courier_told site last e fails)
 
-pub courier_short : (sites : ℕ) (site : SiteNo) (before after : List Letter) (w : WorkFault) → IsCourierFault site w → TellsShort sites site before after w
+pub courier_short : (sites : ℕ) (site : SiteNo) (before after : List Letter) (w : WorkFault) → IsCourierFault site w
+    → TellsShort sites site before after w
 courier_short sites site before after GateTurns c = c
 courier_short sites site before after (WentBack named n) c = c
 courier_short sites site before after (Passes named) c = c
@@ -75,14 +78,17 @@ courier_fault schema site NoMemory c = c
 
 -- ---- receipts that differ
 
-differs_told : (schema : SchemaValue) (site : SiteNo) (fault : ReceiptFault) → (fault ≢ receipt_faults.NoMemory → Differs schema site fault) → IsFaultAt schema site (fault_of_receipts fault)
+differs_told : (schema : SchemaValue) (site : SiteNo) (fault : ReceiptFault) → (fault ≢ receipt_faults.NoMemory → Differs schema site fault)
+    → IsFaultAt schema site (fault_of_receipts fault)
 differs_told schema site (receipt_faults.Differs at number) differs = differs (λ e. cc)
 differs_told schema site (receipt_faults.Twice at number) differs = differs (λ e. cc)
 differs_told schema site (receipt_faults.Missing at number) differs = differs (λ e. cc)
 differs_told schema site receipt_faults.NoMemory differs = tt
 
-pub differs_fault : (v : SiteValue) (schema : SchemaValue) (site : SiteNo) (rs : List Receipt) (fault : ReceiptFault) (w : WorkFault) → w ≡ fault_of_receipts fault → v.schema ≡ schema → v.site ≡ site → v.fresh ≡ true
-    → IsRun v.schema v.site.0 (base_of v) v.history → AreOf v.site.0 v.history → TellsReceipts v.site (reverse v.history) rs fault → IsFaultAt schema site w
+pub differs_fault : (v : SiteValue) (schema : SchemaValue) (site : SiteNo) (rs : List Receipt) (fault : ReceiptFault) (w : WorkFault)
+    → w ≡ fault_of_receipts fault → v.schema ≡ schema → v.site ≡ site → v.fresh ≡ true
+    → IsRun v.schema v.site.0 (base_of v) v.history → AreOf v.site.0 v.history → TellsReceipts v.site (reverse v.history) rs fault
+    → IsFaultAt schema site w
 differs_fault v schema site rs fault w is of number freshly run own told =
     let turned : v.history ≡ reverse (reverse v.history) = sym (reverse-reverse v.history) in
     let mine : AreOf site.0 v.history = subst (λ (n : SiteNo). AreOf n.0 v.history) number own in
@@ -98,7 +104,8 @@ differs_fault v schema site rs fault w is of number freshly run own told =
 
 -- ---- of some site
 
-told_of_site : (schema : SchemaValue) (site : SiteNo) (w : WorkFault) → site.0 < schema.sites → IsFaultAt schema site w → IsSiteFault schema w
+told_of_site : (schema : SchemaValue) (site : SiteNo) (w : WorkFault) → site.0 < schema.sites → IsFaultAt schema site w
+    → IsSiteFault schema w
 told_of_site schema site GateTurns below c = tt
 told_of_site schema site (WentBack named n) below c = subst (λ (x : SiteNo). x.0 < schema.sites) (sym c) below
 told_of_site schema site (Passes named) below c = subst (λ (x : SiteNo). x.0 < schema.sites) (sym c) below
@@ -107,11 +114,14 @@ told_of_site schema site (Foreign named) below c = absurd c
 told_of_site schema site (Lost named) below c = absurd c
 told_of_site schema site NoMemory below c = tt
 
-pub site_fault : (schema schema' : SchemaValue) (site number : SiteNo) (w : WorkFault) → schema' ≡ schema → number ≡ site → site.0 < schema.sites → IsFaultAt schema' number w → IsSiteFault schema w
+pub site_fault : (schema schema' : SchemaValue) (site number : SiteNo) (w : WorkFault) → schema' ≡ schema → number ≡ site
+    → site.0 < schema.sites → IsFaultAt schema' number w → IsSiteFault schema w
 site_fault schema schema' site number w of is below c =
-    told_of_site schema site w below (subst (λ (s : SchemaValue). IsFaultAt s site w) of (subst (λ (n : SiteNo). IsFaultAt schema' n w) is c))
+    told_of_site schema site w below (subst (λ (s : SchemaValue). IsFaultAt s site w) of
+    (subst (λ (n : SiteNo). IsFaultAt schema' n w) is c))
 
-module _ {A : Type 0} (schema schema' : SchemaValue) (site number : SiteNo) (of : schema' ≡ schema) (is : number ≡ site) (below : site.0 < schema.sites) where
+module _ {A : Type 0} (schema schema' : SchemaValue) (site number : SiteNo) (of : schema' ≡ schema) (is : number ≡ site)
+    (below : site.0 < schema.sites) where
   pub if_site_fault : (r : Result A WorkFault) → IfErr r (IsFaultAt schema' number) → IfErr r (IsSiteFault schema)
   if_site_fault (Ok a) c = tt
   if_site_fault (Err w) c = site_fault schema schema' site number w of is below c
@@ -120,7 +130,8 @@ module _ {A : Type 0} (schema schema' : SchemaValue) (site number : SiteNo) (of 
   if_courier_fault (Ok a) c = tt
   if_courier_fault (Err w) c = site_fault schema schema' site number w of is below (courier_fault schema' number w c)
 
-pub at_err : {A : Type 0} (schema : SchemaValue) (r : Result A WorkFault) (w : WorkFault) → r ≡ Err w → IfErr r (IsSiteFault schema) → IsSiteFault schema w
+pub at_err : {A : Type 0} (schema : SchemaValue) (r : Result A WorkFault) (w : WorkFault) → r ≡ Err w → IfErr r (IsSiteFault schema)
+    → IsSiteFault schema w
 at_err {A} schema r w is c = subst (λ (x : Result A WorkFault). IfErr x (IsSiteFault schema)) is c
 
 pub of_schema : (schema schema' : SchemaValue) (w : WorkFault) → schema' ≡ schema → IsSiteFault schema' w → IsSiteFault schema w
@@ -129,7 +140,8 @@ of_schema schema schema' w of c = subst (λ (s : SchemaValue). IsSiteFault s w) 
 pub wants_memory : (schema : SchemaValue) (w : WorkFault) → w ≡ NoMemory → IsSiteFault schema w
 wants_memory schema w is = subst (λ (x : WorkFault). IsSiteFault schema x) (sym is) tt
 
-pub no_foreign_told : (schema : SchemaValue) (scripts : List (List Command)) (w : WorkFault) → IsSiteFault schema w → TellsForeign schema scripts w
+pub no_foreign_told : (schema : SchemaValue) (scripts : List (List Command)) (w : WorkFault) → IsSiteFault schema w
+    → TellsForeign schema scripts w
 no_foreign_told schema scripts GateTurns c = tt
 no_foreign_told schema scripts (WentBack named n) c = tt
 no_foreign_told schema scripts (Passes named) c = tt
@@ -138,7 +150,8 @@ no_foreign_told schema scripts (Foreign named) c = absurd c
 no_foreign_told schema scripts (Lost named) c = tt
 no_foreign_told schema scripts NoMemory c = tt
 
-pub no_lost_told : (schema : SchemaValue) (scripts : List (List Command)) (w : WorkFault) → IsSiteFault schema w → TellsLost schema scripts w
+pub no_lost_told : (schema : SchemaValue) (scripts : List (List Command)) (w : WorkFault) → IsSiteFault schema w
+    → TellsLost schema scripts w
 no_lost_told schema scripts GateTurns c = tt
 no_lost_told schema scripts (WentBack named n) c = tt
 no_lost_told schema scripts (Passes named) c = tt
@@ -156,7 +169,8 @@ differs_shown schema (Foreign named) c = tt
 differs_shown schema (Lost named) c = tt
 differs_shown schema NoMemory c = tt
 
-pub site_known : (schema : SchemaValue) (w : WorkFault) → IsSiteFault schema w → IfSome (site_named w) (λ (site : SiteNo). site.0 < schema.sites)
+pub site_known : (schema : SchemaValue) (w : WorkFault) → IsSiteFault schema w
+    → IfSome (site_named w) (λ (site : SiteNo). site.0 < schema.sites)
 site_known schema GateTurns c = tt
 site_known schema (WentBack named n) c = c
 site_known schema (Passes named) c = c
@@ -173,7 +187,8 @@ within hs s Shown none shown =
     (λ (past : length hs ≤ s). absurd (none (subst (λ (l : List Entry). Shown (reverse l)) (get_or_past hs s [] past) shown)))
     (cases_lt s (length hs))
 
-told_to : (at : Place) (from : SiteNo) (c : Command) (r : Reply) (told : Statement) → Fits at c r → told_by from c r ≡ Some told → told.to.0 < at.schema.sites
+told_to : (at : Place) (from : SiteNo) (c : Command) (r : Reply) (told : Statement) → Fits at c r → told_by from c r ≡ Some told
+    → told.to.0 < at.schema.sites
 told_to at from (Give to field kind amount) (Given total) told fits h =
     let none = (answered at (Give to field kind amount) (Given total) fits refl).0 in
     let made : Statement = record { from = from; to = to; field = field; kind = kind; total = total } in
@@ -188,12 +203,14 @@ told_to at from (Spare to field kind want) (Spared amount total) told fits h =
     subst (λ (x : Statement). x.to.0 < at.schema.sites) (same_Some made told h) (spare_is_to_a_site at to field kind want none)
 told_to at from c r told fits h = cc
 
-issued_to : (schema : SchemaValue) (s : ℕ) (base : Base) (h : List Entry) (told : Statement) → IsRun schema s base h → IsIssued told h → told.to.0 < schema.sites
+issued_to : (schema : SchemaValue) (s : ℕ) (base : Base) (h : List Entry) (told : Statement) → IsRun schema s base h → IsIssued told h
+    → told.to.0 < schema.sites
 issued_to schema s base [] told run issued = absurd issued
 issued_to schema s base (e ∷ h) told run (inl now) = told_to (place schema s base h) e.site e.command e.reply told run.1 now
 issued_to schema s base (e ∷ h) told run (inr before) = issued_to schema s base h told run.0 before
 
-run_at : (schema : SchemaValue) (n : ℕ) (ss : List (List Command)) (hs : List (List Entry)) → AreWorked schema n ss hs → (i : ℕ) → i < length hs
+run_at : (schema : SchemaValue) (n : ℕ) (ss : List (List Command)) (hs : List (List Entry)) → AreWorked schema n ss hs → (i : ℕ)
+    → i < length hs
     → IsRun schema (n + i) (fresh schema (n + i)) (reverse (get_or hs i []))
 run_at schema n ss [] all i below = absurd (omega arith)
 run_at schema n [] (h ∷ hs) all i below = absurd all
@@ -204,13 +221,17 @@ run_at schema n (s ∷ ss) (h ∷ hs) all (suc i) below =
     let e : n + 1 + i ≡ n + suc i = omega arith in
     subst (λ (k : ℕ). IsRun schema k (fresh schema k) (reverse (get_or hs i []))) e (run_at schema (n + 1) ss hs all.1 i (omega arith))
 
-lost_within : (schema : SchemaValue) (ss : List (List Command)) (hs : List (List Entry)) (r : ℕ) → AreWorked schema 0 ss hs → Lacks hs r → r < schema.sites
+lost_within : (schema : SchemaValue) (ss : List (List Command)) (hs : List (List Entry)) (r : ℕ) → AreWorked schema 0 ss hs → Lacks hs r
+    → r < schema.sites
 lost_within schema ss hs r worked lacks =
     let below : lacks.giver < length hs = within hs lacks.giver (λ (l : List Entry). IsIssued lacks.told l) (λ none. none) lacks.issued in
     let run = run_at schema 0 ss hs worked lacks.giver below in
-    subst (λ (k : ℕ). k < schema.sites) lacks.receiver (issued_to schema (0 + lacks.giver) (fresh schema (0 + lacks.giver)) (reverse (history_at hs lacks.giver)) lacks.told run lacks.issued)
+    subst (λ (k : ℕ). k < schema.sites) lacks.receiver
+    (issued_to schema (0 + lacks.giver) (fresh schema (0 + lacks.giver))
+    (reverse (history_at hs lacks.giver)) lacks.told run lacks.issued)
 
-module _ (schema : SchemaValue) (ss : List (List Command)) (vs ws : List (Vec Entry)) (site : SiteNo) (fit : ScriptsFit schema ss) (worked : AreWorked schema 0 ss (histories_of vs)) (same : ws ≡ vs) where
+module _ (schema : SchemaValue) (ss : List (List Command)) (vs ws : List (Vec Entry)) (site : SiteNo) (fit : ScriptsFit schema ss)
+    (worked : AreWorked schema 0 ss (histories_of vs)) (same : ws ≡ vs) where
   count : length (histories_of vs) ≡ schema.sites
   count = worked_count schema 0 ss (histories_of vs) worked ∙ fit.0
 
@@ -225,9 +246,11 @@ module _ (schema : SchemaValue) (ss : List (List Command)) (vs ws : List (Vec En
   pub foreign_known : IsLowestForeign (histories_of ws) site.0 → site.0 < schema.sites
   foreign_known lowest =
       let named = (subst (λ (l : List (Vec Entry)). IsLowestForeign (histories_of l) site.0) same lowest).named in
-      subst (λ (k : ℕ). site.0 < k) count (within (histories_of vs) site.0 (λ (l : List Entry). HasAccept named.told l) (λ none. none) named.accepted)
+      subst (λ (k : ℕ). site.0 < k) count (within (histories_of vs) site.0 (λ (l : List Entry). HasAccept named.told l)
+      (λ none. none) named.accepted)
 
-  pub shows_lost : (vs' : List (Vec Entry)) → vs' ≡ vs → NoneForeign (histories_of vs') → IsLowestLost (histories_of ws) site.0 → ShowsLost schema ss site.0
+  pub shows_lost : (vs' : List (Vec Entry)) → vs' ≡ vs → NoneForeign (histories_of vs') → IsLowestLost (histories_of ws) site.0
+      → ShowsLost schema ss site.0
   shows_lost vs' alike none lowest = record {
     histories = histories_of vs;
     sites = count;
@@ -237,4 +260,5 @@ module _ (schema : SchemaValue) (ss : List (List Command)) (vs ws : List (Vec En
   }
 
   pub lost_known : IsLowestLost (histories_of ws) site.0 → site.0 < schema.sites
-  lost_known lowest = lost_within schema ss (histories_of vs) site.0 worked (subst (λ (l : List (Vec Entry)). IsLowestLost (histories_of l) site.0) same lowest).named
+  lost_known lowest = lost_within schema ss (histories_of vs) site.0 worked
+      (subst (λ (l : List (Vec Entry)). IsLowestLost (histories_of l) site.0) same lowest).named

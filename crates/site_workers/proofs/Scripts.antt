@@ -42,7 +42,8 @@ Covers n h rs = (i : ℕ) (e : Entry) → slice_get h i ≡ Some e → HasNumber
 above_all : (n : ℕ) (rs : List Receipt) (k : ℕ) → IsAbove n rs → HasNumber rs k → n < k
 above_all n [] k above has = absurd has
 above_all n (r ∷ rs) k above (inl now) = let first : n < r.number = above.0 in omega arith
-above_all n (r ∷ rs) k above (inr more) = let first : n < r.number = above.0 in let rest : r.number < k = above_all r.number rs k above.1 more in omega arith
+above_all n (r ∷ rs) k above (inr more) = let first : n < r.number = above.0 in let rest : r.number < k =
+    above_all r.number rs k above.1 more in omega arith
 
 get_tail : (e : Entry) (h : List Entry) (k : ℕ) → 0 < k → slice_get (e ∷ h) k ≡ slice_get h (k - 1)
 get_tail e h zero pos = absurd (omega arith)
@@ -54,8 +55,10 @@ all_behind n e h [] above all = tt
 all_behind n e h (r ∷ rs) above all =
     let first : n + 1 < r.number = above.0 in
     let same : r.number - (n + 1) - 1 ≡ r.number - (n + 1 + 1) = omega arith in
-    let at : slice_get h (r.number - (n + 1) - 1) ≡ Some r.entry = sym (get_tail e h (r.number - (n + 1)) (omega arith)) ∙ all.0 in
-    (subst (λ (m : ℕ). slice_get h m ≡ Some r.entry) same at, all_behind n e h rs (above_less r.number (n + 1) rs (omega arith) above.1) all.1)
+    let at : slice_get h (r.number - (n + 1) - 1) ≡ Some r.entry = sym (get_tail e h (r.number - (n + 1)) (omega arith)) ∙ all.0 in (
+      subst (λ (m : ℕ). slice_get h m ≡ Some r.entry) same at,
+      all_behind n e h rs (above_less r.number (n + 1) rs (omega arith) above.1) all.1,
+    )
   where
     above_less : (m k : ℕ) (qs : List Receipt) → k ≤ m → IsAbove m qs → IsAbove k qs
     above_less m k [] le ab = tt
@@ -70,9 +73,11 @@ accept_entry e h is = ap (λ (b : Bool). cond b (without_accepts h) (e.command �
 covers_behind : (n : ℕ) (e : Entry) (h : List Entry) (rs : List Receipt) → Covers n (e ∷ h) rs → Covers (n + 1) h rs
 covers_behind n e h rs cover i f is =
     let same : n + (suc i) + 1 ≡ n + 1 + i + 1 = omega arith in
-    ⊎_elim (λ (has : HasNumber rs (n + (suc i) + 1)). inl (subst (λ (k : ℕ). HasNumber rs k) same has)) (λ (acc : is_accept f.command ≡ true). inr acc) (cover (suc i) f is)
+    ⊎_elim (λ (has : HasNumber rs (n + (suc i) + 1)). inl (subst (λ (k : ℕ). HasNumber rs k) same has))
+    (λ (acc : is_accept f.command ≡ true). inr acc) (cover (suc i) f is)
 
-script_told : (h : List Entry) (n : ℕ) (rs : List Receipt) → IsAbove n rs → AllIn n h rs → HasNoAccept (commands_of rs) → Covers n h rs → without_accepts h ≡ commands_of rs
+script_told : (h : List Entry) (n : ℕ) (rs : List Receipt) → IsAbove n rs → AllIn n h rs → HasNoAccept (commands_of rs) → Covers n h rs
+    → without_accepts h ≡ commands_of rs
 script_told [] n [] above all plain cover = refl
 script_told [] n (r ∷ rs) above all plain cover =
     let within : r.number - (n + 1) < length {A = Entry} [] = slice_get_within [] (r.number - (n + 1)) r.entry all.0 in absurd (omega arith)
@@ -103,16 +108,19 @@ script_told (e ∷ h) n (r ∷ rs) above all plain cover =
     let beyond : n + 1 < r.number = omega arith in
     let later : IsAbove (n + 1) (r ∷ rs) = (beyond, above.1) in
     ⊎_elim
-    (λ (has : HasNumber (r ∷ rs) (n + 0 + 1)). let past : n + 1 < n + 0 + 1 = above_all (n + 1) (r ∷ rs) (n + 0 + 1) later has in absurd (omega arith))
+    (λ (has : HasNumber (r ∷ rs) (n + 0 + 1)). let past : n + 1 < n + 0 + 1 = above_all (n + 1) (r ∷ rs) (n + 0 + 1) later has in
+    absurd (omega arith))
     (λ (acc : is_accept e.command ≡ true).
-    accept_entry e h acc ∙ script_told h (n + 1) (r ∷ rs) later (all_behind n e h (r ∷ rs) later all) plain (covers_behind n e h (r ∷ rs) cover))
+    accept_entry e h acc ∙ script_told h (n + 1) (r ∷ rs) later (all_behind n e h (r ∷ rs) later all) plain
+    (covers_behind n e h (r ∷ rs) cover))
     (cover 0 e refl))
 
 -- ---- from what was checked
 
 rises_above : (from to n : ℕ) (rs : List Receipt) → n ≤ from → IsRising from rs to → IsAbove n rs
 rises_above from to n [] le rising = tt
-rises_above from to n (r ∷ rs) le rising = let first : from < r.number = rising.0 in (omega arith, rises_above r.number to r.number rs (omega arith) rising.1)
+rises_above from to n (r ∷ rs) le rising = let first : from < r.number = rising.0 in
+    (omega arith, rises_above r.number to r.number rs (omega arith) rising.1)
 
 stand_left : (site : SiteNo) (h : List Entry) (rs qs : List Receipt) → AreAllAt site h (rs ++ qs) → AreAllAt site h rs
 stand_left site h [] qs all = tt
@@ -126,7 +134,8 @@ all_in : (site : SiteNo) (h : List Entry) (rs : List Receipt) → AreAllAt site 
 all_in site h [] all = tt
 all_in site h (r ∷ rs) all = (all.0.entry, all_in site h rs all.1)
 
-accept_at : (site : SiteNo) (h : List Entry) (rs : List Receipt) (i : ℕ) (e : Entry) → AreAllAt site h rs → AreAccepts (commands_of rs) → HasNumber rs (i + 1) → slice_get h i ≡ Some e → is_accept e.command ≡ true
+accept_at : (site : SiteNo) (h : List Entry) (rs : List Receipt) (i : ℕ) (e : Entry) → AreAllAt site h rs → AreAccepts (commands_of rs)
+    → HasNumber rs (i + 1) → slice_get h i ≡ Some e → is_accept e.command ≡ true
 accept_at site h [] i e all accepts has at = absurd has
 accept_at site h (r ∷ rs) i e all accepts (inl now) at =
     let place : r.number - 1 ≡ i = omega arith in
@@ -134,19 +143,23 @@ accept_at site h (r ∷ rs) i e all accepts (inl now) at =
     subst (λ (x : Entry). is_accept x.command ≡ true) is accepts.0
 accept_at site h (r ∷ rs) i e all accepts (inr more) at = accept_at site h rs i e all.1 accepts.1 more at
 
-pub script_is_told : (site : SiteNo) (h : List Entry) (own others : List Receipt) (from to : ℕ) → AreReceiptsOf site h (own ++ others) → IsRising from own to → HasNoAccept (commands_of own) → AreAccepts (commands_of others)
+pub script_is_told : (site : SiteNo) (h : List Entry) (own others : List Receipt) (from to : ℕ) → AreReceiptsOf site h (own ++ others)
+    → IsRising from own to → HasNoAccept (commands_of own) → AreAccepts (commands_of others)
     → without_accepts h ≡ commands_of own
 script_is_told site h own others from to checked rising plain accepts =
-    script_told h 0 own (rises_above from to 0 own (omega arith) rising) (all_in site h own (stand_left site h own others checked.stand)) plain
+    script_told h 0 own (rises_above from to 0 own (omega arith) rising)
+    (all_in site h own (stand_left site h own others checked.stand)) plain
     (λ i e at.
     let below : i < length h = slice_get_within h i e at in
     let same : i + 1 ≡ 0 + i + 1 = omega arith in
     ⊎_elim
     (λ (mine : HasNumber own (i + 1)). inl (subst (λ (k : ℕ). HasNumber own k) same mine))
-    (λ (theirs : HasNumber others (i + 1)). inr (accept_at site h others i e (stand_right site h own others checked.stand) accepts theirs at))
+    (λ (theirs : HasNumber others (i + 1)). inr (accept_at site h others i e
+    (stand_right site h own others checked.stand) accepts theirs at))
     (has_split own others (i + 1) (checked.each i below)))
 
-pub is_worked : (schema : SchemaValue) (site : SiteNo) (script : List Command) (h : List Entry) (rs own others : List Receipt) (from to : ℕ) → rs ≡ own ++ others → IsClosed schema site h rs → commands_of own ≡ script → IsRising from own to
+pub is_worked : (schema : SchemaValue) (site : SiteNo) (script : List Command) (h : List Entry) (rs own others : List Receipt) (from to : ℕ)
+    → rs ≡ own ++ others → IsClosed schema site h rs → commands_of own ≡ script → IsRising from own to
     → HasNoAccept script → AreAccepts (commands_of others) → IsWorked schema site script h
 is_worked schema site script h rs own others from to both closed calls rising plain accepts =
     let checked : AreReceiptsOf site h (own ++ others) = subst (λ (l : List Receipt). AreReceiptsOf site h l) both closed.checked in
@@ -162,13 +175,16 @@ is_worked schema site script h rs own others from to both closed calls rising pl
     }
 
 -- one receipt more
-pub rises_more : (from to : ℕ) (rs : List Receipt) (r : Receipt) → IsRising from rs to → to < r.number → IsRising from (rs ++ r ∷ []) r.number
+pub rises_more : (from to : ℕ) (rs : List Receipt) (r : Receipt) → IsRising from rs to → to < r.number
+    → IsRising from (rs ++ r ∷ []) r.number
 rises_more from to [] r same above = let s : from ≡ to = same in (omega arith, refl)
 rises_more from to (q ∷ rs) r rising above = (rising.0, rises_more q.number to rs r rising.1 above)
 
-pub rises_more_at : (from to next : ℕ) (rs rs' : List Receipt) (r : Receipt) → rs' ≡ rs ++ r ∷ [] → to < r.number → next ≡ r.number → IsRising from rs to → IsRising from rs' next
+pub rises_more_at : (from to next : ℕ) (rs rs' : List Receipt) (r : Receipt) → rs' ≡ rs ++ r ∷ [] → to < r.number → next ≡ r.number
+    → IsRising from rs to → IsRising from rs' next
 rises_more_at from to next rs rs' r grown above is rising =
-    subst (λ (l : List Receipt). IsRising from l next) (sym grown) (subst (λ (n : ℕ). IsRising from (rs ++ r ∷ []) n) (sym is) (rises_more from to rs r rising above))
+    subst (λ (l : List Receipt). IsRising from l next) (sym grown)
+    (subst (λ (n : ℕ). IsRising from (rs ++ r ∷ []) n) (sym is) (rises_more from to rs r rising above))
 
 -- ---- the courier's
 
@@ -177,9 +193,12 @@ accepts_only [] = tt
 accepts_only (Stated s ∷ xs) = (refl, accepts_only xs)
 accepts_only (End site ∷ xs) = accepts_only xs
 
-pub delivered_accepts : (sites : ℕ) (before after : List Letter) (whole : Bool) (rs : List Receipt) → (whole ≡ true → Carries sites before after rs) → (whole ≡ false → StopsShort sites before after rs) → AreAccepts (commands_of rs)
-delivered_accepts sites before after true rs carries stops = let c = carries refl in subst (λ (l : List Command). AreAccepts l) (sym c.2) (accepts_only c.0)
-delivered_accepts sites before after false rs carries stops = let c = stops refl in subst (λ (l : List Command). AreAccepts l) (sym c.2) (accepts_only c.0)
+pub delivered_accepts : (sites : ℕ) (before after : List Letter) (whole : Bool) (rs : List Receipt)
+    → (whole ≡ true → Carries sites before after rs) → (whole ≡ false → StopsShort sites before after rs) → AreAccepts (commands_of rs)
+delivered_accepts sites before after true rs carries stops = let c = carries refl in
+    subst (λ (l : List Command). AreAccepts l) (sym c.2) (accepts_only c.0)
+delivered_accepts sites before after false rs carries stops = let c = stops refl in
+    subst (λ (l : List Command). AreAccepts l) (sym c.2) (accepts_only c.0)
 
 -- ---- a closed site
 
@@ -198,32 +217,45 @@ of_reversed s (e ∷ h) all =
     let last : AreOf s (e ∷ []) = of_right s (reverse h) (e ∷ []) split in
     (last.0, of_reversed s h (of_left s (reverse h) (e ∷ []) split))
 
-pub on_fresh : (v : SiteValue) (schema : SchemaValue) (site : SiteNo) → v.schema ≡ schema → v.site ≡ site → v.fresh ≡ true → IsRun v.schema v.site.0 (base_of v) v.history → IsRun schema site.0 (fresh schema site.0) v.history
+pub on_fresh : (v : SiteValue) (schema : SchemaValue) (site : SiteNo) → v.schema ≡ schema → v.site ≡ site → v.fresh ≡ true
+    → IsRun v.schema v.site.0 (base_of v) v.history → IsRun schema site.0 (fresh schema site.0) v.history
 on_fresh v schema site of number freshly run =
-    let based : IsRun v.schema v.site.0 (fresh v.schema v.site.0) v.history = subst (λ (b : Bool). IsRun v.schema v.site.0 (base_of (record v { fresh = b })) v.history) freshly run in
-    let in_schema : IsRun schema v.site.0 (fresh schema v.site.0) v.history = subst (λ (s : SchemaValue). IsRun s v.site.0 (fresh s v.site.0) v.history) of based in
+    let based : IsRun v.schema v.site.0 (fresh v.schema v.site.0) v.history =
+    subst (λ (b : Bool). IsRun v.schema v.site.0 (base_of (record v { fresh = b })) v.history) freshly run in
+    let in_schema : IsRun schema v.site.0 (fresh schema v.site.0) v.history =
+    subst (λ (s : SchemaValue). IsRun s v.site.0 (fresh s v.site.0) v.history) of based in
     subst (λ (n : SiteNo). IsRun schema n.0 (fresh schema n.0) v.history) number in_schema
 
-pub is_closed : (v : SiteValue) (schema : SchemaValue) (site : SiteNo) (shown h : List Entry) (rs : List Receipt) → reverse shown ≡ v.history → v.schema ≡ schema → v.site ≡ site → v.fresh ≡ true
-    → IsRun v.schema v.site.0 (base_of v) v.history → AreOf v.site.0 v.history → AreReceiptsOf v.site (reverse v.history) rs → h ≡ shown → IsClosed schema site h rs
+pub is_closed : (v : SiteValue) (schema : SchemaValue) (site : SiteNo) (shown h : List Entry) (rs : List Receipt)
+    → reverse shown ≡ v.history → v.schema ≡ schema → v.site ≡ site → v.fresh ≡ true
+    → IsRun v.schema v.site.0 (base_of v) v.history → AreOf v.site.0 v.history → AreReceiptsOf v.site (reverse v.history) rs → h ≡ shown
+    → IsClosed schema site h rs
 is_closed v schema site shown h rs showing of number freshly run own checked copied =
     let turned : v.history ≡ reverse h = sym showing ∙ ap (λ (l : List Entry). reverse l) (sym copied) in
     let back : reverse v.history ≡ h = ap (λ (l : List Entry). reverse l) turned ∙ reverse-reverse h in
     let at_site : IsRun schema site.0 (fresh schema site.0) v.history = on_fresh v schema site of number freshly run in
     let mine : AreOf site.0 v.history = subst (λ (n : SiteNo). AreOf n.0 v.history) number own in
-    let held : AreReceiptsOf site (reverse v.history) rs = subst (λ (n : SiteNo). AreReceiptsOf n (reverse v.history) rs) number checked in record {
+    let held : AreReceiptsOf site (reverse v.history) rs = subst (λ (n : SiteNo). AreReceiptsOf n (reverse v.history) rs) number checked in
+    record {
       run = subst (λ (l : List Entry). IsRun schema site.0 (fresh schema site.0) l) turned at_site;
       own = of_reversed site.0 h (subst (λ (l : List Entry). AreOf site.0 l) turned mine);
       checked = subst (λ (l : List Entry). AreReceiptsOf site l rs) back held;
     }
 
-pub if_worked : (schema schema' : SchemaValue) (site number : SiteNo) (script : List Command) (worked carried : Result (Vec Receipt) WorkFault) (own others : Vec Receipt) (from to : ℕ) (all shown : List Receipt) (r : Result (Vec Entry) WorkFault)
+pub if_worked : (schema schema' : SchemaValue) (site number : SiteNo) (script : List Command)
+    (worked carried : Result (Vec Receipt) WorkFault) (own others : Vec Receipt) (from to : ℕ) (all shown : List Receipt)
+    (r : Result (Vec Entry) WorkFault)
     → schema' ≡ schema → number ≡ site → worked ≡ Ok own → carried ≡ Ok others → all ≡ own.items ++ others.items → shown ≡ all
-    → IfOk worked (λ (rs : Vec Receipt). commands_of rs.items ≡ script) → IfOk worked (λ (rs : Vec Receipt). IsRising from rs.items to) → IfOk carried (λ (rs : Vec Receipt). AreAccepts (commands_of rs.items)) → HasNoAccept script
+    → IfOk worked (λ (rs : Vec Receipt). commands_of rs.items ≡ script) → IfOk worked (λ (rs : Vec Receipt). IsRising from rs.items to)
+    → IfOk carried (λ (rs : Vec Receipt). AreAccepts (commands_of rs.items)) → HasNoAccept script
     → IfOk r (λ (h : Vec Entry). IsClosed schema' number h.items shown) → IfOk r (λ (h : Vec Entry). IsWorked schema site script h.items)
-if_worked schema schema' site number script worked carried own others from to all shown (Err e) of is told_own told_others both seen calls rising accepts plain closed = tt
-if_worked schema schema' site number script worked carried own others from to all shown (Ok h) of is told_own told_others both seen calls rising accepts plain closed =
-    let here : IsClosed schema site h.items shown = subst (λ (s : SchemaValue). IsClosed s site h.items shown) of (subst (λ (n : SiteNo). IsClosed schema' n h.items shown) is closed) in
+if_worked schema schema' site number script worked carried own others from to all shown
+    (Err e) of is told_own told_others both seen calls rising accepts plain closed = tt
+if_worked schema schema' site number script worked carried own others from to all shown
+    (Ok h) of is told_own told_others both seen calls rising accepts plain closed =
+    let here : IsClosed schema site h.items shown =
+    subst (λ (s : SchemaValue). IsClosed s site h.items shown) of
+    (subst (λ (n : SiteNo). IsClosed schema' n h.items shown) is closed) in
     is_worked schema site script h.items shown own.items others.items from to (seen ∙ both) here
     (subst (λ (w : Result (Vec Receipt) WorkFault). IfOk w (λ (rs : Vec Receipt). commands_of rs.items ≡ script)) told_own calls)
     (subst (λ (w : Result (Vec Receipt) WorkFault). IfOk w (λ (rs : Vec Receipt). IsRising from rs.items to)) told_own rising)

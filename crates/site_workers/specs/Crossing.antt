@@ -49,7 +49,8 @@ pub record IsLowestForeign (hs : List (List Entry)) (s : ℕ) : Type 0 where
 
 -- The site's history accepts each statement that some history issues to it.
 abbrev pub AcceptsAll : List (List Entry) → ℕ → Type 0
-AcceptsAll hs r = (s : ℕ) (told : Statement) → IsIssued told (reverse (history_at hs s)) → told.to.0 ≡ r → HasAccept told (reverse (history_at hs r))
+AcceptsAll hs r = (s : ℕ) (told : Statement) → IsIssued told (reverse (history_at hs s)) → told.to.0 ≡ r
+    → HasAccept told (reverse (history_at hs r))
 
 -- The site's history lacks the accept of a statement that some history issues to it.
 pub record Lacks (hs : List (List Entry)) (r : ℕ) : Type 0 where

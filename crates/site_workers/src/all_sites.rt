@@ -86,9 +86,11 @@ fn join_all<'x, R: Threads>(
     alloc: Global,
     handles: Vec<Option<Running<'x>>>,
 ) -> Result<Vec<Vec<Entry>>, WorkFault>
-    ensures worked { (schema : SchemaValue) (all : List (List CommandSeen)) → AreJoined schema all handles.entry.items [] →
+    ensures worked { (schema : SchemaValue) (all : List (List CommandSeen))
+        → AreJoined schema all handles.entry.items [] →
         IfOk result (λ hs. AreWorked schema 0 all (histories_of hs.items)) }
-    ensures fault { (schema : SchemaValue) (all : List (List CommandSeen)) → AreJoined schema all handles.entry.items [] →
+    ensures fault { (schema : SchemaValue) (all : List (List CommandSeen))
+        → AreJoined schema all handles.entry.items [] →
         IfErr result (IsSiteFault schema) }
 {
     let mut handles = handles;
@@ -115,7 +117,8 @@ fn run_threads<'x, R: Threads + Wait + Sync, G: Gate>(
     gate: &'x G,
 ) -> Result<Vec<Vec<Entry>>, WorkFault>
     requires fit { ScriptsFit schema.now (scripts_of scripts.items) }
-    ensures worked { IfOk result (λ hs. AreWorked schema.now 0 (scripts_of scripts.items) (histories_of hs.items)) }
+    ensures worked { IfOk result (λ hs. AreWorked schema.now 0 (scripts_of scripts.items)
+        (histories_of hs.items)) }
     ensures fault { IfErr result (IsSiteFault schema.now) }
 {
     thread::scope(
@@ -123,7 +126,8 @@ fn run_threads<'x, R: Threads + Wait + Sync, G: Gate>(
         rt,
         move |scope| -> Result<Vec<Vec<Entry>>, WorkFault>
             requires fit { ScriptsFit schema.now (scripts_of scripts.items) }
-            ensures worked { IfOk result (λ hs. AreWorked schema.entry.now 0 (scripts_of scripts.items) (histories_of hs.items)) }
+            ensures worked { IfOk result (λ hs. AreWorked schema.entry.now 0
+                (scripts_of scripts.items) (histories_of hs.items)) }
             ensures fault { IfErr result (IsSiteFault schema.entry.now) }
         {
             let mut left = scripts;
@@ -168,24 +172,24 @@ fn run_threads<'x, R: Threads + Wait + Sync, G: Gate>(
     )
 }
 
-/// Runs each script at its site, all at the same time, and takes each statement that one site issues to
-/// its receiver, which accepts it. Answers the histories in order of site, each with its oldest entry
-/// first.
+/// Runs each script at its site, all at the same time, and takes each statement that one site
+/// issues to its receiver, which accepts it. Answers the histories in order of site, each with its
+/// oldest entry first.
 ///
-/// Each site has a desk over a new medium in memory, a worker, which makes its script's calls in order
-/// at the gate, and a courier, which accepts without it. At Ok each history is a run of owed replies on
-/// the fresh base; its commands without its accepts are its script, whole and in order; its entries are
-/// exactly the receipts of its worker and its courier, each once; each statement that it accepts was
-/// issued by the worker of the site that it names; and each statement that it issues is accepted in its
-/// receiver's history.
+/// Each site has a desk over a new medium in memory, a worker, which makes its script's calls in
+/// order at the gate, and a courier, which accepts without it. At Ok each history is a run of owed
+/// replies on the fresh base; its commands without its accepts are its script, whole and in order;
+/// its entries are exactly the receipts of its worker and its courier, each once; each statement
+/// that it accepts was issued by the worker of the site that it names; and each statement that it
+/// issues is accepted in its receiver's history.
 ///
-/// Give one script for each site, with no accept in them: `scripts_fit` tests it. Of several faults the
-/// one of the lowest site is answered, the worker's before the courier's: `GateTurns`, `WentBack`,
-/// `Passes`, `Receipts`, `NoMemory`. Where there is none, `Foreign` and then `Lost` name the lowest site
-/// whose history shows it.
+/// Give one script for each site, with no accept in them: `scripts_fit` tests it. Of several faults
+/// the one of the lowest site is answered, the worker's before the courier's: `GateTurns`,
+/// `WentBack`, `Passes`, `Receipts`, `NoMemory`. Where there is none, `Foreign` and then `Lost`
+/// name the lowest site whose history shows it.
 ///
-/// Costs two threads a site, an inbox of 1,024 letters for each, memory for the histories twice, for
-/// their receipts and for the statements, and time in proportion to the scripts.
+/// Costs two threads a site, an inbox of 1,024 letters for each, memory for the histories twice,
+/// for their receipts and for the statements, and time in proportion to the scripts.
 ///
 /// Source: Balegas and others 2015 for sites that act alone on rights that they hold and state what
 /// they give, O'Neil 1986 for escrows, this project for workers and couriers.
@@ -197,7 +201,8 @@ pub fn run_workers<'x, R: Threads + Wait + Sync, G: Gate>(
     gate: &'x G,
 ) -> Result<Vec<Vec<Entry>>, WorkFault>
     requires fit { ScriptsFit schema.now (scripts_of scripts.items) }
-    ensures ok { IfOk result (λ hs. AllWorked schema.now (scripts_of scripts.items) (histories_of hs.items)) }
+    ensures ok { IfOk result (λ hs. AllWorked schema.now (scripts_of scripts.items)
+        (histories_of hs.items)) }
 
     // Foreign names the lowest site of such histories that accepts a statement which wasn't issued.
     ensures foreign { IfErr result (TellsForeign schema.now (scripts_of scripts.items)) }
@@ -209,7 +214,8 @@ pub fn run_workers<'x, R: Threads + Wait + Sync, G: Gate>(
     ensures receipts { IfErr result (TellsDiffers schema.now) }
 
     // A fault that names a site names one of the schema.
-    ensures site { IfErr result (λ fault. IfSome (site_named fault) (λ site. site.0 < schema.now.sites)) }
+    ensures site { IfErr result (λ fault. IfSome (site_named fault)
+        (λ site. site.0 < schema.now.sites)) }
 {
     let (posts, mails, spares) = open_all(alloc, schema.sites())?;
     let histories = run_threads(rt, alloc, schema, scripts, posts, mails, spares, gate)?;

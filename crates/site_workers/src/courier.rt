@@ -17,8 +17,10 @@ use std::sync::ledger::Ledger;
 
 /// Whether all are marked.
 fn all_marked(marks: &[bool]) -> bool
-    ensures all { result ≡ true → (n : ℕ) → n < length marks.now → slice_index_or marks.now n false ≡ true }
-    ensures not_all { result ≡ false → (n : ℕ) × (n < length marks.now) × (slice_index_or marks.now n false ≡ false) }
+    ensures all { result ≡ true → (n : ℕ) → n < length marks.now
+        → slice_index_or marks.now n false ≡ true }
+    ensures not_all { result ≡ false → (n : ℕ) × (n < length marks.now)
+        × (slice_index_or marks.now n false ≡ false) }
 {
     for mark in marks {
         if !*mark {
@@ -28,16 +30,16 @@ fn all_marked(marks: &[bool]) -> bool
     true
 }
 
-/// What a courier has done: the receipts of its acceptances, in order, and whether it took an End of
-/// every site. Otherwise its inbox was closed before.
+/// What a courier has done: the receipts of its acceptances, in order, and whether it took an End
+/// of every site. Otherwise its inbox was closed before.
 #[derive(Drop)]
 pub(crate) struct Delivery {
     pub receipts: Vec<Receipt>,
     pub whole: bool,
 }
 
-/// Accepts each Stated letter that it takes, in order, until it has an End of every site or the inbox is
-/// closed.
+/// Accepts each Stated letter that it takes, in order, until it has an End of every site or the
+/// inbox is closed.
 pub(crate) fn deliver<L: Ledger, M: Medium + Drop, R: Wait>(
     rt: &R,
     alloc: Global,
@@ -49,9 +51,11 @@ pub(crate) fn deliver<L: Ledger, M: Medium + Drop, R: Wait>(
 ) -> Result<Delivery, WorkFault>
     requires seat { IsSeatAt (receives_on inbox.now) way.old }
     ensures seat { IsSeatAt (receives_on inbox.now) way.new }
-    ensures whole { IfOk result (λ done. done.whole ≡ true → Carries schema.now.sites (view way.old).taken
+    ensures whole { IfOk result (λ done. done.whole ≡ true
+        → Carries schema.now.sites (view way.old).taken
         (view way.new).taken done.receipts.items) }
-    ensures short { IfOk result (λ done. done.whole ≡ false → StopsShort schema.now.sites (view way.old).taken
+    ensures short { IfOk result (λ done. done.whole ≡ false
+        → StopsShort schema.now.sites (view way.old).taken
         (view way.new).taken done.receipts.items) }
     ensures fault { IfErr result (IsCourierFault desk.now.site) }
 {
@@ -88,13 +92,13 @@ pub(crate) fn deliver<L: Ledger, M: Medium + Drop, R: Wait>(
     unreachable!()
 }
 
-/// Accepts each Stated letter that it takes at the desk, in the order in which they come, and ends once
-/// it has an End of every site. It never puts a letter. At Ok its receipts are those of the Accepts of
-/// the Stated letters that it took, in order, among which is an End of each site.
+/// Accepts each Stated letter that it takes at the desk, in the order in which they come, and ends
+/// once it has an End of every site. It never puts a letter. At Ok its receipts are those of the
+/// Accepts of the Stated letters that it took, in order, among which is an End of each site.
 ///
-/// A fault of the desk's call ends it: `NoMemory`, or `WentBack` with the desk's site. `Lost` with that
-/// site: the inbox was closed before there was an End of every site, and among the letters that it took
-/// some site's is missing. At a fault the acceptances made so far stand.
+/// A fault of the desk's call ends it: `NoMemory`, or `WentBack` with the desk's site. `Lost` with
+/// that site: the inbox was closed before there was an End of every site, and among the letters
+/// that it took some site's is missing. At a fault the acceptances made so far stand.
 ///
 /// Costs what the site's own steps cost, and memory for the receipts and a mark for each site.
 ///
@@ -110,10 +114,12 @@ pub fn carry<L: Ledger, M: Medium + Drop, R: Wait>(
 ) -> Result<Vec<Receipt>, WorkFault>
     requires seat { IsSeatAt (receives_on inbox.now) way.old }
     ensures seat { IsSeatAt (receives_on inbox.now) way.new }
-    ensures ok { IfOk result (λ receipts. Carries schema.now.sites (view way.old).taken (view way.new).taken
+    ensures ok { IfOk result (λ receipts. Carries schema.now.sites (view way.old).taken
+        (view way.new).taken
         receipts.items) }
 
-    // Lost comes only where the letters taken lack an End of some site; other faults are of the desk's call.
+    // Lost comes only where the letters taken lack an End of some site; other faults are of the
+    // desk's call.
     ensures fault { IfErr result (TellsShort schema.now.sites desk.now.site (view way.old).taken
         (view way.new).taken) }
 {

@@ -11,11 +11,13 @@ use field_bounds::{Command, Entry, SiteNo, Statement, statement_of};
 use statement_set::StatementSet;
 use std::alloc::{AllocError, Global};
 
-/// The first statement that a history accepts and that isn't in the set of the site that it names as
-/// its giver.
+/// The first statement that a history accepts and that isn't in the set of the site that it names
+/// as its giver.
 fn first_unissued(issued: &[StatementSet], history: &[Entry]) -> Option<Statement>
-    ensures some { IfSome result (λ told. HasAccept told (reverse history.now) × ¬ Contains (set_at issued.now told.from.0) told) }
-    ensures none { IfNone result ((told : Statement) → HasAccept told (reverse history.now) → Contains (set_at issued.now told.from.0) told) }
+    ensures some { IfSome result (λ told. HasAccept told (reverse history.now)
+        × ¬ Contains (set_at issued.now told.from.0) told) }
+    ensures none { IfNone result ((told : Statement) → HasAccept told (reverse history.now)
+        → Contains (set_at issued.now told.from.0) told) }
 {
     for entry in history {
         if let Command::Accept(told) = entry.command {
@@ -30,7 +32,8 @@ fn first_unissued(issued: &[StatementSet], history: &[Entry]) -> Option<Statemen
 /// The lowest site whose history accepts a statement that the site which it names didn't issue.
 pub(crate) fn foreign(alloc: Global, histories: &[Vec<Entry>]) -> Result<Option<SiteNo>, AllocError>
     requires few { length histories.now ≤ 65536 }
-    ensures some { IfOk result (λ found. IfSome found (λ site. IsLowestForeign (histories_of histories.now) site.0)) }
+    ensures some { IfOk result (λ found. IfSome found
+        (λ site. IsLowestForeign (histories_of histories.now) site.0)) }
     ensures none { IfOk result (λ found. IfNone found (NoneForeign (histories_of histories.now))) }
 {
     let issued = all_issued(alloc, histories)?;
@@ -55,7 +58,8 @@ fn lower_of(one: Option<SiteNo>, other: Option<SiteNo>) -> Option<SiteNo>
 
 /// The receiver of the statement that an entry issues, where its set lacks it.
 fn lacking(accepted: &[StatementSet], entry: &Entry) -> Option<SiteNo>
-    ensures { IsLowest (LacksTold accepted.now (statement_of entry.now)) (TakesTold accepted.now (statement_of entry.now)) result }
+    ensures { IsLowest (LacksTold accepted.now (statement_of entry.now))
+        (TakesTold accepted.now (statement_of entry.now)) result }
 {
     let Some(told) = statement_of(entry) else {
         return None;
@@ -68,7 +72,8 @@ fn lacking(accepted: &[StatementSet], entry: &Entry) -> Option<SiteNo>
 
 /// The lowest site whose set lacks a statement that a history issues to it.
 fn lowest_lacking(accepted: &[StatementSet], history: &[Entry]) -> Option<SiteNo>
-    ensures { IsLowest (LacksIn accepted.now history.now) (TakesIn accepted.now history.now) result }
+    ensures { IsLowest (LacksIn accepted.now history.now)
+        (TakesIn accepted.now history.now) result }
 {
     let mut lowest = None;
     for entry in history {
@@ -79,7 +84,8 @@ fn lowest_lacking(accepted: &[StatementSet], history: &[Entry]) -> Option<SiteNo
 
 /// The lowest site whose history lacks the accept of a statement that some history issues to it.
 pub(crate) fn lost(alloc: Global, histories: &[Vec<Entry>]) -> Result<Option<SiteNo>, AllocError>
-    ensures some { IfOk result (λ found. IfSome found (λ site. IsLowestLost (histories_of histories.now) site.0)) }
+    ensures some { IfOk result (λ found. IfSome found
+        (λ site. IsLowestLost (histories_of histories.now) site.0)) }
     ensures none { IfOk result (λ found. IfNone found (NoneLost (histories_of histories.now))) }
 {
     let accepted = all_accepted(alloc, histories)?;

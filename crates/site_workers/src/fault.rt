@@ -15,8 +15,8 @@ pub enum WorkFault {
     /// The gate turned a worker's call away.
     #[error("the gate turned a call away")]
     GateTurns,
-    /// The history of this site was found to have this length, in entries, which is below the number
-    /// of an entry that was seen before.
+    /// The history of this site was found to have this length, in entries, which is below the
+    /// number of an entry that was seen before.
     #[error("the history of site {site:?} went back to {length} entries")]
     WentBack { site: SiteNo, length: u64 },
     /// The calls of this site's worker and courier aren't as many as its entries, or its history
@@ -30,8 +30,8 @@ pub enum WorkFault {
     /// This site, the lowest such, accepted a statement that the site which it names didn't issue.
     #[error("site {site:?} accepted a statement that wasn't issued")]
     Foreign { site: SiteNo },
-    /// This site, the lowest such, didn't accept a statement that was issued to it. Of a courier that is
-    /// called alone: its inbox was closed before each worker had ended.
+    /// This site, the lowest such, didn't accept a statement that was issued to it. Of a courier
+    /// that is called alone: its inbox was closed before each worker had ended.
     #[error("site {site:?} lacks a statement that was issued to it")]
     Lost { site: SiteNo },
     /// Memory is wanting, or a thread couldn't be made.

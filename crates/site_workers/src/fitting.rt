@@ -27,8 +27,8 @@ fn has_no_accept(script: &[Command]) -> bool
     true
 }
 
-/// Whether there is one script for each site, and no accept in them. Costs a look at each command, and
-/// no memory.
+/// Whether there is one script for each site, and no accept in them. Costs a look at each command,
+/// and no memory.
 pub fn scripts_fit(schema: &Schema, scripts: &[Vec<Command>]) -> bool
     ensures fit { IsTrue result ↔ ScriptsFit schema.now (scripts_of scripts.now) }
 {

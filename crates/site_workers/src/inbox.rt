@@ -1,6 +1,6 @@
-//! A courier's inbox: a bounded channel under a rule. Each Stated letter in the queue or among those
-//! taken was put by the worker of the site that it names as its giver. Four kinds of step keep the
-//! rule: a worker's way is made, another way is made, a letter is put, a letter is taken.
+//! A courier's inbox: a bounded channel under a rule. Each Stated letter in the queue or among
+//! those taken was put by the worker of the site that it names as its giver. Four kinds of step
+//! keep the rule: a worker's way is made, another way is made, a letter is put, a letter is taken.
 
 ghost use Rattle.std.specs.Prelude.{◌≡◌, ◌+◌, ◌<◌, ℕ, [], ◌∷◌, ◌++◌, IfOk, IfErr, OnOk, OnErr, MatchResult, None, Some, IfSome, IfNone};
 ghost use Rattle.crossbeam_channel.specs.Claims.{view, IsSeatAt};
@@ -28,8 +28,8 @@ pub enum Letter {
 /// The most letters that wait in an inbox.
 pub const INBOX_LETTERS: usize = 1_024;
 
-/// What a way knows: whose it is, how many workers' ways were made from it, and what was put and taken
-/// on it, in order. No value of it is made.
+/// What a way knows: whose it is, how many workers' ways were made from it, and what was put and
+/// taken on it, in order. No value of it is made.
 pub struct View {
     pub worker: Option<SiteNo>,
     pub made: u64,
@@ -98,7 +98,8 @@ impl Lesson<Letter, View> for Takes {
     ghost fact = { λ v items. Unit {0} };
 }
 
-/// A pass of an inbox: what its holder has put and taken there. It can't be copied, and takes no bytes.
+/// A pass of an inbox: what its holder has put and taken there. It can't be copied, and takes no
+/// bytes.
 pub type Way = Pass<Letter, View>;
 
 /// The end of an inbox into which letters are put.
@@ -107,8 +108,8 @@ pub type Slot = RuledSender<Letter, View, Standing>;
 /// The end of an inbox from which its courier takes letters.
 pub type Inbox = RuledReceiver<Letter, View, Standing>;
 
-/// Makes an inbox for at most 1,024 letters that wait, with the way of its maker, who is no worker. The
-/// error is want of memory, which it takes for all letters at once.
+/// Makes an inbox for at most 1,024 letters that wait, with the way of its maker, who is no worker.
+/// The error is want of memory, which it takes for all letters at once.
 pub fn open_inbox(alloc: Global) -> Result<(Slot, Inbox, Way), AllocError>
     ensures ends { IfOk result (λ r. receives_on r.1 ≡ sends_on r.0) }
     ensures seat { IfOk result (λ r. IsSeatAt (sends_on r.0) r.2) }
@@ -117,7 +118,8 @@ pub fn open_inbox(alloc: Global) -> Result<(Slot, Inbox, Way), AllocError>
     bounded_with::<Letter, View, Standing, Global>(alloc, INBOX_LETTERS)
 }
 
-/// Cuts the way of the next worker from the maker's: the first made is that of site 0. Costs no memory.
+/// Cuts the way of the next worker from the maker's: the first made is that of site 0. Costs no
+/// memory.
 pub fn hire(slot: &Slot, way: &mut Way) -> Way
     requires seat { IsSeatAt (sends_on slot.now) way.old }
     ensures seat { IsSeatAt (sends_on slot.now) way.new }
@@ -139,9 +141,9 @@ pub fn admit(slot: &Slot, way: &mut Way) -> Way
     slot.another::<Admits>(way)
 }
 
-/// Puts a letter, or hands it back where the courier is gone. Waits while the inbox is full, so never
-/// call it under a lock. A Stated letter is put by the worker of the site that it names as its giver
-/// alone; an End is free. Costs no memory.
+/// Puts a letter, or hands it back where the courier is gone. Waits while the inbox is full, so
+/// never call it under a lock. A Stated letter is put by the worker of the site that it names as
+/// its giver alone; an End is free. Costs no memory.
 pub fn put<R: Wait>(rt: &R, slot: &Slot, way: &mut Way, letter: Letter) -> Result<(), Letter>
     requires seat { IsSeatAt (sends_on slot.now) way.old }
     requires may { MayPut (view way.old) letter }

@@ -30,8 +30,8 @@ pub(crate) struct Seat {
     pub mail: Mail,
 }
 
-/// Makes the script's calls in order at the gate, and puts each statement issued into its receiver's
-/// inbox, once the lock is let go.
+/// Makes the script's calls in order at the gate, and puts each statement issued into its
+/// receiver's inbox, once the lock is let go.
 fn work<L: Ledger, R: Wait, G: Gate>(
     rt: &R,
     alloc: Global,
@@ -63,9 +63,9 @@ fn work<L: Ledger, R: Wait, G: Gate>(
     Ok(receipts)
 }
 
-/// Carries the mail, and lets go of the inbox. The caller keeps an end of each inbox until the threads
-/// are joined, so none is closed while its courier runs; and were it, what is lost by it is seen in the
-/// histories.
+/// Carries the mail, and lets go of the inbox. The caller keeps an end of each inbox until the
+/// threads are joined, so none is closed while its courier runs; and were it, what is lost by it is
+/// seen in the histories.
 fn carry_mail<L: Ledger, R: Wait>(
     rt: &R,
     alloc: Global,
@@ -90,7 +90,8 @@ struct Courier {
 }
 
 impl<L: Ledger> Promise<(Result<Vec<Receipt>, WorkFault>, Pass<L>)> for Courier {
-    ghost kept_by = { λ p r. IfOk r.0 (λ receipts. AreAccepts (commands_of receipts.items)) × IfErr r.0 (IsCourierFault p.site) };
+    ghost kept_by = { λ p r. IfOk r.0 (λ receipts. AreAccepts (commands_of receipts.items))
+        × IfErr r.0 (IsCourierFault p.site) };
 }
 
 /// The worker on this thread and the courier on one of its own.
@@ -112,9 +113,11 @@ fn run_both<'x, L: Ledger + Send + Sync, R: Threads + Wait + Sync, G: Gate>(
 )
     ensures calls { IfOk result.0 (λ receipts. commands_of receipts.items ≡ script.items) }
     ensures rising { IfOk result.0 (λ receipts. IsRising first.last receipts.items result.1.last) }
-    ensures accepts { IfSome result.2 (λ carried. IfOk carried.0 (λ receipts. AreAccepts (commands_of receipts.items))) }
+    ensures accepts { IfSome result.2 (λ carried. IfOk carried.0
+        (λ receipts. AreAccepts (commands_of receipts.items))) }
     ensures worker_fault { IfErr result.0 (IsFaultAt desk.now.schema desk.now.site) }
-    ensures courier_fault { IfSome result.2 (λ carried. IfErr carried.0 (IsCourierFault desk.now.site)) }
+    ensures courier_fault { IfSome result.2 (λ carried.
+        IfErr carried.0 (IsCourierFault desk.now.site)) }
 {
     thread::scope(
         thread::scope_env(),
@@ -125,10 +128,14 @@ fn run_both<'x, L: Ledger + Send + Sync, R: Threads + Wait + Sync, G: Gate>(
             Option<(Result<Vec<Receipt>, WorkFault>, Pass<L>)>,
         )
             ensures calls { IfOk result.0 (λ receipts. commands_of receipts.items ≡ script.items) }
-            ensures rising { IfOk result.0 (λ receipts. IsRising first.last receipts.items result.1.last) }
-            ensures accepts { IfSome result.2 (λ carried. IfOk carried.0 (λ receipts. AreAccepts (commands_of receipts.items))) }
-            ensures worker_fault { IfErr result.0 (IsFaultAt desk.entry.now.schema desk.entry.now.site) }
-            ensures courier_fault { IfSome result.2 (λ carried. IfErr carried.0 (IsCourierFault desk.entry.now.site)) }
+            ensures rising { IfOk result.0 (λ receipts.
+                IsRising first.last receipts.items result.1.last) }
+            ensures accepts { IfSome result.2 (λ carried.
+                IfOk carried.0 (λ receipts. AreAccepts (commands_of receipts.items))) }
+            ensures worker_fault { IfErr result.0 (IsFaultAt desk.entry.now.schema
+                desk.entry.now.site) }
+            ensures courier_fault { IfSome result.2
+                (λ carried. IfErr carried.0 (IsCourierFault desk.entry.now.site)) }
         {
             let mut first = first;
             let mut posts = posts;
@@ -170,7 +177,8 @@ fn finish<L: Ledger>(
     second: Pass<L>,
     receipts: &[Receipt],
 ) -> Result<Vec<Entry>, WorkFault>
-    ensures closed { IfOk result (λ history. IsClosed desk.schema desk.site history.items receipts.now) }
+    ensures closed { IfOk result (λ history. IsClosed desk.schema desk.site history.items
+        receipts.now) }
     ensures fault { IfErr result (IsFaultAt desk.schema desk.site) }
 {
     let site = desk.site();
@@ -208,7 +216,8 @@ fn run_over<'x, L: Ledger + Send + Sync, R: Threads + Wait + Sync, G: Gate>(
     requires some { 0 < blank.parts }
     requires in_schema { seat.site.0 < schema.now.sites }
     requires plain { HasNoAccept seat.script.items }
-    ensures worked { IfOk result (λ history. IsWorked schema.now seat.site seat.script.items history.items) }
+    ensures worked { IfOk result (λ history. IsWorked schema.now seat.site seat.script.items
+        history.items) }
     ensures fault { IfErr result (IsSiteFault schema.now) }
 {
     let Seat {
@@ -251,7 +260,8 @@ pub(crate) fn run_site<'x, R: Threads + Wait + Sync, G: Gate>(
 ) -> Result<Vec<Entry>, WorkFault>
     requires in_schema { seat.site.0 < schema.now.sites }
     requires plain { HasNoAccept seat.script.items }
-    ensures worked { IfOk result (λ history. IsWorked schema.now seat.site seat.script.items history.items) }
+    ensures worked { IfOk result (λ history. IsWorked schema.now seat.site seat.script.items
+        history.items) }
     ensures fault { IfErr result (IsSiteFault schema.now) }
 {
     run_over::<Brand, R, G>(rt, alloc, Blank::new(2), schema, seat, gate)

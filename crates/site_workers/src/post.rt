@@ -19,8 +19,8 @@ pub(crate) struct Post {
 }
 
 impl Post {
-    /// Puts a statement of this worker. One of another site, of which a site's step issues none, is left
-    /// out, and so is one whose courier is gone.
+    /// Puts a statement of this worker. One of another site, of which a site's step issues none, is
+    /// left out, and so is one whose courier is gone.
     pub fn put_stated<R: Wait>(&mut self, rt: &R, statement: Statement) {
         let Post { slot, way, site } = self;
         if statement.from == *site {

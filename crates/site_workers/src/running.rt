@@ -19,7 +19,8 @@ pub(crate) struct Task<'x> {
 }
 
 impl<'x> Promise<Result<Vec<Entry>, WorkFault>> for Task<'x> {
-    ghost kept_by = { λ p r. IfOk r (λ history. IsWorked p.schema.now p.site p.script.value.items history.items) × IfErr r (IsSiteFault p.schema.now) };
+    ghost kept_by = { λ p r. IfOk r (λ history. IsWorked p.schema.now p.site p.script.value.items
+        history.items) × IfErr r (IsSiteFault p.schema.now) };
 }
 
 /// A site's thread. Contracts see what it was given.
@@ -33,7 +34,11 @@ impl<'x> Model for Running<'x> {
 
     ghost Value = { Job };
 
-    ghost view = { λ r. record { schema = r.handle.promise.schema.now; site = r.handle.promise.site; script = r.handle.promise.script.value.items } };
+    ghost view = { λ r. record {
+      schema = r.handle.promise.schema.now;
+      site = r.handle.promise.site;
+      script = r.handle.promise.script.value.items;
+    } };
 }
 
 impl<'x> Running<'x> {
@@ -46,7 +51,8 @@ impl<'x> Running<'x> {
     }
 
     pub fn join<R: Threads>(self, rt: &R) -> Result<Vec<Entry>, WorkFault>
-        ensures worked { IfOk result (λ history. IsWorked self.entry.schema self.entry.site self.entry.script history.items) }
+        ensures worked { IfOk result (λ history. IsWorked self.entry.schema self.entry.site
+            self.entry.script history.items) }
         ensures fault { IfErr result (IsSiteFault self.entry.schema) }
     {
         let Running { handle } = self;

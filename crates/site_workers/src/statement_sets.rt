@@ -35,7 +35,8 @@ fn issued_by(alloc: Global, history: &[Entry]) -> Result<StatementSet, AllocErro
 
 /// The statements that a history accepts.
 fn accepted_by(alloc: Global, history: &[Entry]) -> Result<StatementSet, AllocError>
-    ensures { IfOk result (λ set. (told : Statement) → Contains set told ↔ HasAccept told (reverse history.now)) }
+    ensures { IfOk result (λ set. (told : Statement)
+        → Contains set told ↔ HasAccept told (reverse history.now)) }
 {
     let mut set = StatementSet::new(alloc);
     for entry in history {

@@ -34,7 +34,8 @@ keys_tell keys told has = (
 exact : CmpEqualImpliesEq (order.ghosts).cmp
 exact x y same = search rules
 
-pub contains_told : (s : BTreeSet Key) (told : Statement) → IsTrue (contains (order.ghosts).cmp s (key_of told)) ↔ Contains (statements_of s.keys) told
+pub contains_told : (s : BTreeSet Key) (told : Statement)
+    → IsTrue (contains (order.ghosts).cmp s (key_of told)) ↔ Contains (statements_of s.keys) told
 contains_told s told =
     let both = btree_set_contains_iff laws.total-law exact s (key_of told) in
     (λ found. keys_tell s.keys told (both.0 found), λ has. both.1 (told_by_keys s.keys told has))
@@ -47,7 +48,8 @@ module _ (s n : BTreeSet Key) (put_in : Statement) (put : Updates (order.ghosts)
   one_of true same found = inl (ap statement_of_key (tells_apart exact (key_of put_in) (key_of other) same))
   one_of false apart found = inr ((contains_told s other).0 found)
 
-  still : (b : Bool) → contains (order.ghosts).cmp s (key_of other) ≡ true → cond b true (contains (order.ghosts).cmp s (key_of other)) ≡ true
+  still : (b : Bool) → contains (order.ghosts).cmp s (key_of other) ≡ true
+      → cond b true (contains (order.ghosts).cmp s (key_of other)) ≡ true
   still true found = refl
   still false found = found
 

@@ -10,8 +10,8 @@ use std::alloc::{AllocError, Global};
 use std::collections::BTreeSet;
 use std::marker::Model;
 
-/// A statement, as it is looked up: by its total, which mostly tells it from others, and then by the
-/// rest.
+/// A statement, as it is looked up: by its total, which mostly tells it from others, and then by
+/// the rest.
 #[derive(Clone, Copy, PartialEq, Eq, PartialOrd, Ord)]
 struct Key {
     total: u64,
@@ -33,8 +33,8 @@ fn key_of(statement: Statement) -> Key
     }
 }
 
-/// A set of statements. Contracts see it as a list, in which it says which statements are there, and
-/// nothing of their order.
+/// A set of statements. Contracts see it as a list, in which it says which statements are there,
+/// and nothing of their order.
 ///
 /// The statements are kept in order, so a look-up costs a step for each doubling of their number,
 /// whatever they are: no choice of totals makes it slower.
@@ -86,7 +86,8 @@ impl StatementSet {
     /// `insert` costs; the error is want of memory, and leaves the set as it was.
     pub fn insert_issued(&mut self, entry: &Entry) -> Result<(), AllocError>
         ensures ok { OnOk result ((other : Statement) →
-            Contains self.new other ↔ ((statement_of entry.now ≡ Some other) ⊎ Contains self.old other)) }
+            Contains self.new other ↔ ((statement_of entry.now ≡ Some other)
+            ⊎ Contains self.old other)) }
         ensures err { OnErr result (self.new ≡ self.old) }
     {
         if let Some(statement) = statement_of(entry) {

@@ -50,7 +50,8 @@ module _ (hs : List (List Entry)) (sites : (s : ℕ) → s < length hs → AreOf
       let n : ℕ = count_placed s ps in
       let next : slice_get h n ≡ Some e = subst (λ (q : ℕ). next_of hs q ps ≡ Some e) here by.0 in
       let last : get_or h n e ≡ e = get_or_from_slice_get h n e e next in
-      let grown : take (n + 1) h ≡ take n h ++ e ∷ [] = subst (λ (x : Entry). take (n + 1) h ≡ take n h ++ x ∷ []) last (take_more h n e (slice_get_within h n e next)) in
+      let grown : take (n + 1) h ≡ take n h ++ e ∷ [] =
+      subst (λ (x : Entry). take (n + 1) h ≡ take n h ++ x ∷ []) last (take_more h n e (slice_get_within h n e next)) in
       own_here s e t (site ∙ here)
       ∙ (ap (λ (l : List Entry). e ∷ l) before
       ∙ (sym (reverse-append (take n h) (e ∷ []))
@@ -79,7 +80,8 @@ module _ (hs : List (List Entry)) (sites : (s : ℕ) → s < length hs → AreOf
       → ((s : ℕ) → s < schema.sites → IsRun schema s (fresh schema s) (reverse (history_at hs s)))
       → Weaves hs t → IsSound schema t
   woven_is_sound schema t all runs w =
-      let whole : (s : ℕ) → length (history_at hs s) ≤ count_placed s w.0 = λ s. (let w2 : count_placed s w.0 ≡ length (history_at hs s) = w.2 s in omega arith) in record {
+      let whole : (s : ℕ) → length (history_at hs s) ≤ count_placed s w.0 =
+      λ s. (let w2 : count_placed s w.0 ≡ length (history_at hs s) = w.2 s in omega arith) in record {
         sites = at_sites schema all w.0 t w.1;
         statements = are_told w.0 t w.1;
         runs = λ s below.

@@ -1,6 +1,6 @@
-//! Runs each script of `examples/`, and tells whether it writes what stands beside it, and how that is
-//! judged. Where all sites work at the same time, what is written may differ from run to run: it tells
-//! whether each site did its own lines in their order, and how the whole is judged.
+//! Runs each script of `examples/`, and tells whether it writes what stands beside it, and how that
+//! is judged. Where all sites work at the same time, what is written may differ from run to run: it
+//! tells whether each site did its own lines in their order, and how the whole is judged.
 #![tactic(auto)]
 
 use escrow_audit::audit_text;
@@ -35,7 +35,12 @@ fn write_script(alloc: Global, script: &str) -> Vec<u8> {
 }
 
 /// How an audit answers what a script writes; a fault ends it early.
-fn audit_script(rt: &(impl Threads + Sync), alloc: Global, fields: bool, answers: &[u8]) -> Vec<u8> {
+fn audit_script(
+    rt: &(impl Threads + Sync),
+    alloc: Global,
+    fields: bool,
+    answers: &[u8],
+) -> Vec<u8> {
     let mut writer = Watched::new(Vec::new(alloc));
     let _ = audit_text(rt, alloc, fields, &mut Watched::new(answers), &mut writer);
     writer.into_inner()

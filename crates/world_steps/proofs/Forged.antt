@@ -19,11 +19,13 @@ use Rattle.field_bounds.proofs.Conserved.{is_ordered, conserved, traced, free_of
 use Rattle.world_steps.proofs.Issued.{issued_to, issued_from}
 
 -- a field's width is what lies below its value and above it
-width_is : (floor value ceiling : ℤ) → floor ≤ℤ value → value ≤ℤ ceiling → unsigned_abs (value -ℤ floor) + unsigned_abs (ceiling -ℤ value) ≡ unsigned_abs (ceiling -ℤ floor)
+width_is : (floor value ceiling : ℤ) → floor ≤ℤ value → value ≤ℤ ceiling
+    → unsigned_abs (value -ℤ floor) + unsigned_abs (ceiling -ℤ value) ≡ unsigned_abs (ceiling -ℤ floor)
 width_is floor value ceiling low high = omega (arith, ints, low, high)
 
 module _ (schema : SchemaValue) (good : IsSchema schema) (t : List Entry) (sound : IsSound schema t) where
-  own_within : (s : ℕ) → s < schema.sites → (f : ℕ) (k : Kind) → own_rights (fresh schema s) f k (at_site schema t s) ≤ shares schema t f k + open_sizes schema t f k
+  own_within : (s : ℕ) → s < schema.sites → (f : ℕ) (k : Kind)
+      → own_rights (fresh schema s) f k (at_site schema t s) ≤ shares schema t f k + open_sizes schema t f k
   own_within s below f k =
       omega (
         arith,
@@ -37,7 +39,8 @@ module _ (schema : SchemaValue) (good : IsSchema schema) (t : List Entry) (sound
 
   -- what a site has and has given up, with what is in flight to anyone, is within the width
   pub within_width : (s : ℕ) → s < schema.sites → (f : ℕ)
-      → own_rights (fresh schema s) f Lower (at_site schema t s) + own_rights (fresh schema s) f Raise (at_site schema t s) + in_flight schema t f Lower + in_flight schema t f Raise
+      → own_rights (fresh schema s) f Lower (at_site schema t s) + own_rights (fresh schema s) f Raise (at_site schema t s)
+      + in_flight schema t f Lower + in_flight schema t f Raise
       + cut (fresh schema s) f Lower (at_site schema t s) + cut (fresh schema s) f Raise (at_site schema t s) ≤ width_of (field_at schema f)
   within_width s below f =
       let ordered = is_ordered schema good f in
@@ -52,12 +55,14 @@ module _ (schema : SchemaValue) (good : IsSchema schema) (t : List Entry) (sound
         width_is (field_at schema f).floor (field_at schema f).value (field_at schema f).ceiling ordered.floor ordered.ceiling,
       )
 
-  flight_to : (f : ℕ) (k : Kind) (from to : ℕ) → from < schema.sites → to < schema.sites → given_between schema t f k from to - accepted_between schema t f k from to ≤ in_flight schema t f k
+  flight_to : (f : ℕ) (k : Kind) (from to : ℕ) → from < schema.sites → to < schema.sites
+      → given_between schema t f k from to - accepted_between schema t f k from to ≤ in_flight schema t f k
   flight_to f k from to below small =
       omega (
         arith,
         term_below schema.sites (λ to'. given_between schema t f k from to' - accepted_between schema t f k from to') to small,
-        term_below schema.sites (λ from'. sum_below schema.sites (λ to'. given_between schema t f k from' to' - accepted_between schema t f k from' to')) from below,
+        term_below schema.sites (λ from'. sum_below schema.sites
+            (λ to'. given_between schema t f k from' to' - accepted_between schema t f k from' to')) from below,
       )
 
   one_kind : (f : ℕ) (k : Kind) → in_flight schema t f k ≤ in_flight schema t f Lower + in_flight schema t f Raise
@@ -74,6 +79,7 @@ module _ (schema : SchemaValue) (good : IsSchema schema) (t : List Entry) (sound
       let f = told.field.0 in
       let covered = issued_is_covered schema t sound told issued in
       let flight = flight_to f told.kind told.from.0 told.to.0 from to in
-      let small : told.total - accepted_between schema t f told.kind told.from.0 told.to.0 ≤ in_flight schema t f Lower + in_flight schema t f Raise =
+      let small : told.total - accepted_between schema t f told.kind told.from.0 told.to.0 ≤ in_flight schema t f Lower
+      + in_flight schema t f Raise =
       omega (arith, covered, flight, one_kind f told.kind) in
       omega (arith, small, within_width told.to.0 to f)

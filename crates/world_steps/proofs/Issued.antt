@@ -20,7 +20,8 @@ use Rattle.world_steps.specs.World.{with_statement, statements_issued, statement
 
 -- ---- giver and receiver of a statement are in the schema
 
-told_to : (at : Place) (from : SiteNo) (c : Command) (r : Reply) (told : Statement) → Fits at c r → told_by from c r ≡ Some told → told.to.0 < at.schema.sites
+told_to : (at : Place) (from : SiteNo) (c : Command) (r : Reply) (told : Statement) → Fits at c r → told_by from c r ≡ Some told
+    → told.to.0 < at.schema.sites
 told_to at from (Give to field kind amount) (Given total) told fits h =
     let none = (answered at (Give to field kind amount) (Given total) fits refl).0 in
     let made : Statement = record { from = from; to = to; field = field; kind = kind; total = total } in
@@ -41,11 +42,13 @@ issued_to schema (e ∷ t) sound told (inr before) = issued_to schema t (sound_f
 issued_to schema (e ∷ t) sound told (inl now) =
     told_to (place schema e.site.0 (fresh schema e.site.0) (own e.site.0 t)) e.site e.command e.reply told (sound_fits schema e t sound) now
 
-pub issued_from : (schema : SchemaValue) (t : List Entry) → IsSound schema t → (told : Statement) → IsIssued told t → told.from.0 < schema.sites
+pub issued_from : (schema : SchemaValue) (t : List Entry) → IsSound schema t → (told : Statement) → IsIssued told t
+    → told.from.0 < schema.sites
 issued_from schema [] sound told h = absurd h
 issued_from schema (e ∷ t) sound told (inr before) = issued_from schema t (sound_front schema e t sound) told before
 issued_from schema (e ∷ t) sound told (inl now) =
-    let told_now = told_is_covered (place schema e.site.0 (fresh schema e.site.0) (own e.site.0 t)) e.site e.command e.reply told (sound_fits schema e t sound) now in
+    let told_now = told_is_covered (place schema e.site.0 (fresh schema e.site.0) (own e.site.0 t)) e.site e.command e.reply told
+    (sound_fits schema e t sound) now in
     subst (λ (x : SiteNo). x.0 < schema.sites) (sym told_now.0) sound.sites.1
 
 -- ---- a statement that a number names was issued
@@ -54,7 +57,8 @@ abbrev IsAmong : Statement → List Statement → Type 0
 IsAmong x [] = ⊥
 IsAmong x (y ∷ ys) = (y ≡ x) ⊎ IsAmong x ys
 
-numbered_step : (b : Bool) (y x : Statement) (ys : List Statement) (rest : Option Statement) → cond b (Some y) rest ≡ Some x → (rest ≡ Some x → IsAmong x ys) → IsAmong x (y ∷ ys)
+numbered_step : (b : Bool) (y x : Statement) (ys : List Statement) (rest : Option Statement) → cond b (Some y) rest ≡ Some x
+    → (rest ≡ Some x → IsAmong x ys) → IsAmong x (y ∷ ys)
 numbered_step true y x ys rest h more = inl (same_Some y x h)
 numbered_step false y x ys rest h more = inr (more h)
 
@@ -62,7 +66,8 @@ numbered_is_among : (k : ℕ) (ys : List Statement) (x : Statement) → statemen
 numbered_is_among k [] x h = cc
 numbered_is_among k (y ∷ ys) x h = numbered_step (eqb k (suc (length ys))) y x ys (statement_at k ys) h (numbered_is_among k ys x)
 
-issued_step : (o : Option Statement) (x : Statement) (ys : List Statement) (Earlier : Type 0) → (IsAmong x ys → Earlier) → IsAmong x (with_statement o ys) → (o ≡ Some x) ⊎ Earlier
+issued_step : (o : Option Statement) (x : Statement) (ys : List Statement) (Earlier : Type 0) → (IsAmong x ys → Earlier)
+    → IsAmong x (with_statement o ys) → (o ≡ Some x) ⊎ Earlier
 issued_step None x ys Earlier more h = inr (more h)
 issued_step (Some y) x ys Earlier more (inl same) = inl (ap Some same)
 issued_step (Some y) x ys Earlier more (inr among) = inr (more among)

@@ -13,7 +13,8 @@ numbered_beyond : (k : ℕ) (ys : List Statement) → length ys < k → statemen
 numbered_beyond k [] h = refl
 numbered_beyond k (y ∷ ys) h = rw (ne_eqb k (suc (length ys)) (λ e. omega (arith, e, h))) (numbered_beyond k ys (omega (arith, h)))
 
-numbered_at : (i : ℕ) (ys : List Statement) (d : Statement) → i < length ys → statement_at (suc i) ys ≡ Some (get_or ys (length ys - 1 - i) d)
+numbered_at : (i : ℕ) (ys : List Statement) (d : Statement) → i < length ys
+    → statement_at (suc i) ys ≡ Some (get_or ys (length ys - 1 - i) d)
 numbered_at i [] d h = absurd (omega (arith, h))
 numbered_at i (y ∷ ys) d h =
     elim (cases_eq i (length ys)) [
@@ -23,10 +24,12 @@ numbered_at i (y ∷ ys) d h =
       | inr other ↦
           let less : i < length ys = omega (arith, h, other) in
           let next : suc (length ys - 1 - i) ≡ length (y ∷ ys) - 1 - i = omega (arith, less) in
-          rw (ne_eqb (suc i) (suc (length ys)) (λ e. other (omega (arith, e)))) (numbered_at i ys d less ∙ ap (λ (j : ℕ). Some (get_or (y ∷ ys) j d)) next)
+          rw (ne_eqb (suc i) (suc (length ys)) (λ e. other (omega (arith, e))))
+          (numbered_at i ys d less ∙ ap (λ (j : ℕ). Some (get_or (y ∷ ys) j d)) next)
     ]
 
-pub numbered_is : (k : ℕ) (told : List Statement) (d : Statement) → 0 < k → k ≤ length told → statement_at k (reverse told) ≡ Some (get_or told (k - 1) d)
+pub numbered_is : (k : ℕ) (told : List Statement) (d : Statement) → 0 < k → k ≤ length told
+    → statement_at k (reverse told) ≡ Some (get_or told (k - 1) d)
 numbered_is k told d some within =
     let i : ℕ = k - 1 in
     let back : suc i ≡ k = omega (arith, some) in

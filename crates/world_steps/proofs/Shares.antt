@@ -20,11 +20,14 @@ told_within true past x most h = tt
 told_within false true x most h = tt
 told_within false false x most h = h
 
-pub shares_within : (schema : SchemaValue) → IsSchema schema → (t : List Entry) → IsSound schema t → (s : ℕ) → s < schema.sites → (field : FieldNo) (told : Option (ℕ × ℕ))
-    → told ≡ shares_of (place schema s (fresh schema s) (own s t)) field → IfSome told (λ (y : ℕ × ℕ). y.0 + y.1 ≤ width_of (field_at schema field.0))
+pub shares_within : (schema : SchemaValue) → IsSchema schema → (t : List Entry) → IsSound schema t → (s : ℕ) → s < schema.sites
+    → (field : FieldNo) (told : Option (ℕ × ℕ))
+    → told ≡ shares_of (place schema s (fresh schema s) (own s t)) field
+    → IfSome told (λ (y : ℕ × ℕ). y.0 + y.1 ≤ width_of (field_at schema field.0))
 shares_within schema good t sound s below field told is =
     let width = width_of (field_at schema field.0) in
-    let few : share (fresh schema s) field.0 Lower (at_site schema t s) + share (fresh schema s) field.0 Raise (at_site schema t s) ≤ width =
+    let few : share (fresh schema s) field.0 Lower (at_site schema t s) + share (fresh schema s) field.0 Raise (at_site schema t s)
+    ≤ width =
     omega (arith, within_width schema good t sound s below field.0) in
     subst (λ (o : Option (ℕ × ℕ)). IfSome o (λ (y : ℕ × ℕ). y.0 + y.1 ≤ width)) (sym is)
     (told_within (not (is_up (fresh schema s) (own s t))) (nat_le (length schema.fields) field.0) _ width few)

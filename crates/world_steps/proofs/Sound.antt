@@ -50,7 +50,8 @@ rule_of_issued t told r h = tt
 abbrev Allows : SchemaValue → List Entry → SiteNo × Command → Reply → Type 0
 Allows schema front who r = (who.0.0 < schema.sites) × StatementRule front who.1 r
 
-delivery_allows : (schema : SchemaValue) (front : List Entry) → IsSound schema front → (who : SiteNo × Command) (r : Reply) (found : Option Statement)
+delivery_allows : (schema : SchemaValue) (front : List Entry) → IsSound schema front
+    → (who : SiteNo × Command) (r : Reply) (found : Option Statement)
     → ((x : Statement) → found ≡ Some x → IsIssued x front) → delivery_of found ≡ Some who → Allows schema front who r
 delivery_allows schema front sound who r None is h = cc
 delivery_allows schema front sound who r (Some told) is h =
@@ -58,7 +59,8 @@ delivery_allows schema front sound who r (Some told) is h =
     subst (λ (w : SiteNo × Command). Allows schema front w r) (same_Some (told.to, Accept told) who h)
     (issued_to schema front sound told now, rule_of_issued front told r now)
 
-pub step_allows : (schema : SchemaValue) (front : List Entry) → IsSound schema front → (step : WorldStep) → StepFits schema step → (who : SiteNo × Command) (r : Reply) → question_of front step ≡ Some who → Allows schema front who r
+pub step_allows : (schema : SchemaValue) (front : List Entry) → IsSound schema front → (step : WorldStep) → StepFits schema step
+    → (who : SiteNo × Command) (r : Reply) → question_of front step ≡ Some who → Allows schema front who r
 step_allows schema front sound (Do site command luck) fit who r h =
     subst (λ (w : SiteNo × Command). Allows schema front w r) (same_Some (site, command) who h) (fit.0, rule_of_plain front command r fit.1)
 step_allows schema front sound (Deliver k luck) fit who r h =
@@ -69,18 +71,25 @@ step_allows schema front sound (Deliver k luck) fit who r h =
 lucky_is_owed : (schema : SchemaValue) (s : ℕ) (past : List Lucky) (c : Command) (luck : Luck)
     → Fits (place schema s (fresh schema s) (own s (entries past))) c (lucky_reply schema s (fresh schema s) (own_lucky s past) c luck)
 lucky_is_owed schema s past c luck =
-    subst (λ (o : List Entry). Fits (place schema s (fresh schema s) o) c (lucky_reply schema s (fresh schema s) (own_lucky s past) c luck)) (own_entries s past)
+    subst (λ (o : List Entry). Fits (place schema s (fresh schema s) o) c (lucky_reply schema s (fresh schema s) (own_lucky s past) c luck))
+    (own_entries s past)
     (lucky_fits schema s (fresh schema s) (own_lucky s past) c luck)
 
 -- ---- so every trace is sound
 
 module _ (schema : SchemaValue) where
-  sound_step : (past : List Lucky) → IsSound schema (entries past) → (step : WorldStep) → StepFits schema step → (found : Option (SiteNo × Command)) → question_of (entries past) step ≡ found
+  sound_step : (past : List Lucky) → IsSound schema (entries past) → (step : WorldStep) → StepFits schema step
+      → (found : Option (SiteNo × Command)) → question_of (entries past) step ≡ found
       → IsSound schema (entries (with_entry schema found (luck_of step) past))
   sound_step past sound step fit None is = sound
   sound_step past sound step fit (Some who) is =
       let s : ℕ = who.0.0 in
-      let made : Entry = record { site = who.0; command = who.1; reply = lucky_reply schema s (fresh schema s) (own_lucky s past) who.1 (luck_of step) } in
+      let made : Entry = record {
+        site = who.0;
+        command = who.1;
+        reply =
+            lucky_reply schema s (fresh schema s) (own_lucky s past) who.1 (luck_of step);
+      } in
       let allows = step_allows schema (entries past) sound step fit who made.reply is in
       sound_more schema made (entries past) sound allows.0 allows.1 (lucky_is_owed schema s past who.1 (luck_of step))
 
@@ -105,19 +114,31 @@ module _ (schema : SchemaValue) where
   -- and no bound is loosened from one front to the next
   pub only_tighten : (t : List Entry) → BoundsOnlyTighten schema t
   only_tighten [] = tt
-  only_tighten (e ∷ t) =
-      (only_tighten t, λ f. (omega (arith, ints, cuts_grow schema (e ∷ []) t f Lower), omega (arith, ints, cuts_grow schema (e ∷ []) t f Raise)))
+  only_tighten (e ∷ t) = (
+    only_tighten t,
+    λ f. (
+      omega (arith, ints, cuts_grow schema (e ∷ []) t f Lower),
+      omega (arith, ints, cuts_grow schema (e ∷ []) t f Raise),
+    ),
+  )
 
-  strange_more : IsSchema schema → (past : List Lucky) → IsSound schema (entries past) → NoneStrange (entries past) → (step : WorldStep) → StepFits schema step
-      → (found : Option (SiteNo × Command)) → question_of (entries past) step ≡ found → NoneStrange (entries (with_entry schema found (luck_of step) past))
+  strange_more : IsSchema schema → (past : List Lucky) → IsSound schema (entries past) → NoneStrange (entries past) → (step : WorldStep)
+      → StepFits schema step
+      → (found : Option (SiteNo × Command)) → question_of (entries past) step ≡ found
+      → NoneStrange (entries (with_entry schema found (luck_of step) past))
   strange_more good past sound none step fit None is = none
   strange_more good past sound none step fit (Some who) is =
-      let s : ℕ = who.0.0 in
-      (none, familiar_step schema good (entries past) sound step fit who is (lucky_reply schema s (fresh schema s) (own_lucky s past) who.1 (luck_of step)) (lucky_is_owed schema s past who.1 (luck_of step)))
+      let s : ℕ = who.0.0 in (
+        none,
+        familiar_step schema good (entries past) sound step fit who is
+            (lucky_reply schema s (fresh schema s) (own_lucky s past) who.1 (luck_of step))
+            (lucky_is_owed schema s past who.1 (luck_of step)),
+      )
 
   -- and no statement is refused as another site's, or as forged
   pub none_strange : IsSchema schema → (steps : List WorldStep) → StepsFit schema steps → NoneStrange (entries (world_of schema steps))
   none_strange good [] fit = tt
   none_strange good (step ∷ earlier) fit =
       let past : List Lucky = world_of schema earlier in
-      strange_more good past (world_is_sound earlier fit.0) (none_strange good earlier fit.0) step fit.1 (question_of (entries past) step) refl
+      strange_more good past (world_is_sound earlier fit.0) (none_strange good earlier fit.0) step fit.1
+      (question_of (entries past) step) refl

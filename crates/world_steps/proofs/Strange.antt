@@ -37,7 +37,8 @@ abbrev StrangeHolds : List Test → Type 0
 StrangeHolds [] = ⊥
 StrangeHolds (test ∷ rest) = strange_here test.0 test.1 (StrangeHolds rest)
 
-strange_step : (b : Bool) (r x : Refusal) (rest : List Test) → (if b then Some r else first rest) ≡ Some x → is_strange x ≡ true → (first rest ≡ Some x → StrangeHolds rest) → strange_here b r (StrangeHolds rest)
+strange_step : (b : Bool) (r x : Refusal) (rest : List Test) → (if b then Some r else first rest) ≡ Some x → is_strange x ≡ true
+    → (first rest ≡ Some x → StrangeHolds rest) → strange_here b r (StrangeHolds rest)
 strange_step true NotYours x rest h strange more = inl refl
 strange_step true (Forged room) x rest h strange more = inl refl
 strange_step false NotYours x rest h strange more = inr (more h)
@@ -75,10 +76,13 @@ familiar_plain at Restart x plain fits strange = let numbers = fits.0 in cc
 familiar_plain at c x plain fits strange = strange_fits at c x fits strange
 
 -- one that takes in a statement for its site, within the room, meets none
-familiar_accept : (at : Place) (told : Statement) (x : Refusal) → told.to.0 ≡ at.site → gain_of at told.from told.field told.kind told.total ≤ room at told.field → Fits at (Accept told) (Refused x) → is_strange x ≡ true → ⊥
+familiar_accept : (at : Place) (told : Statement) (x : Refusal) → told.to.0 ≡ at.site
+    → gain_of at told.from told.field told.kind told.total ≤ room at told.field → Fits at (Accept told) (Refused x) → is_strange x ≡ true
+    → ⊥
 familiar_accept at told x mine within fits strange =
     elim (strange_fits at (Accept told) x fits strange) [
-      | inl not_mine ↦ let same = eq-eqb told.to.0 at.site mine in let mine_so : not (eqb told.to.0 at.site) ≡ false = ap not same in cc (not_mine)
+      | inl not_mine ↦ let same = eq-eqb told.to.0 at.site mine in let mine_so : not (eqb told.to.0 at.site) ≡ false = ap not same in
+          cc (not_mine)
       | inr more ↦ elim more [
         | inl above ↦ let greater = ltb-true _ _ above in absurd (omega (arith, greater, within))
         | inr nothing ↦ nothing
@@ -86,12 +90,14 @@ familiar_accept at told x mine within fits strange =
     ]
 
 familiar : (r : Reply) → ((x : Refusal) → r ≡ Refused x → is_strange x ≡ true → ⊥) → IsFamiliar r
-familiar (Refused x) h = elim (cases_Bool (is_strange x)) as (λ _. is_strange x ≡ false) [ inl strange ↦ absurd (h x refl strange) | inr isnt ↦ isnt ]
+familiar (Refused x) h = elim (cases_Bool (is_strange x)) as (λ _. is_strange x ≡ false)
+    [ inl strange ↦ absurd (h x refl strange) | inr isnt ↦ isnt ]
 familiar r h = tt
 
 module _ (schema : SchemaValue) (good : IsSchema schema) (front : List Entry) (sound : IsSound schema front) where
   -- the statement of a delivery was issued
-  delivers : (who : SiteNo × Command) (found : Option Statement) → ((x : Statement) → found ≡ Some x → IsIssued x front) → delivery_of found ≡ Some who
+  delivers : (who : SiteNo × Command) (found : Option Statement) → ((x : Statement) → found ≡ Some x → IsIssued x front)
+      → delivery_of found ≡ Some who
       → (told : Statement) × (who ≡ (told.to, Accept told)) × IsIssued told front
   delivers who None is h = cc
   delivers who (Some told) is h = (told, sym (same_Some (told.to, Accept told) who h), is told refl)
@@ -105,11 +111,14 @@ module _ (schema : SchemaValue) (good : IsSchema schema) (front : List Entry) (s
   never_strange (Deliver k luck) fit who h x fits strange =
       let found = delivers who (statement_at k (statements_issued front)) (λ y is. numbered_is_issued k front y is) h in
       let told = found.0 in
-      let fits_there = subst (λ (w : SiteNo × Command). Fits (place schema w.0.0 (fresh schema w.0.0) (own w.0.0 front)) w.1 (Refused x)) found.1 fits in
-      familiar_accept (place schema told.to.0 (fresh schema told.to.0) (own told.to.0 front)) told x refl (never_forged schema good front sound told found.2) fits_there strange
+      let fits_there = subst (λ (w : SiteNo × Command). Fits (place schema w.0.0 (fresh schema w.0.0) (own w.0.0 front)) w.1 (Refused x))
+      found.1 fits in
+      familiar_accept (place schema told.to.0 (fresh schema told.to.0) (own told.to.0 front)) told x refl
+      (never_forged schema good front sound told found.2) fits_there strange
 
   -- so a reply that is owed to a step is none
   pub familiar_step : (step : WorldStep) → StepFits schema step → (who : SiteNo × Command) → question_of front step ≡ Some who → (r : Reply)
       → Fits (place schema who.0.0 (fresh schema who.0.0) (own who.0.0 front)) who.1 r → IsFamiliar r
   familiar_step step fit who h r fits =
-      familiar r (λ x is strange. never_strange step fit who h x (subst (λ (q : Reply). Fits (place schema who.0.0 (fresh schema who.0.0) (own who.0.0 front)) who.1 q) is fits) strange)
+      familiar r (λ x is strange. never_strange step fit who h x
+      (subst (λ (q : Reply). Fits (place schema who.0.0 (fresh schema who.0.0) (own who.0.0 front)) who.1 q) is fits) strange)

@@ -29,24 +29,30 @@ module _ (all : List WorldStep) (ways : List Way) where
       → steps_told (reverse entries) (reverse ways) (reverse numbers) (reverse torn) ≡ all → Told 0 steps entries numbers torn
   told_start steps entries numbers torn none is =
       let whole : length ways - 0 ≡ length ways = omega arith in
-      ap (λ (l : List WorldStep). l ++ steps_told (reverse entries) (reverse (take (length ways - 0) ways)) (reverse numbers) (reverse torn)) none
-      ∙ ap (λ (l : List Way). steps_told (reverse entries) (reverse l) (reverse numbers) (reverse torn)) (ap (λ (n : ℕ). take n ways) whole ∙ take-length ways)
+      ap (λ (l : List WorldStep). l ++ steps_told (reverse entries) (reverse (take (length ways - 0) ways)) (reverse numbers)
+      (reverse torn)) none
+      ∙ ap (λ (l : List Way). steps_told (reverse entries) (reverse l) (reverse numbers) (reverse torn))
+      (ap (λ (n : ℕ). take n ways) whole ∙ take-length ways)
       ∙ is
 
   -- what one more way tells
-  one_more : (i : ℕ) (way : Way) (steps : List WorldStep) (entries entries' : List Entry) (numbers numbers' torn torn' : List ℕ) (found : Option WorldStep) → i < length ways
+  one_more : (i : ℕ) (way : Way) (steps : List WorldStep) (entries entries' : List Entry) (numbers numbers' torn torn' : List ℕ)
+      (found : Option WorldStep) → i < length ways
       → way ≡ get_or ways (length ways - 1 - i) way
       → ((rest : List Way) → steps_told (reverse entries) (way ∷ rest) (reverse numbers) (reverse torn)
       ≡ with_step found (steps_told (reverse entries') rest (reverse numbers') (reverse torn')))
       → Told i steps entries numbers torn
-      → steps ++ with_step found (steps_told (reverse entries') (reverse (take (length ways - (i + 1)) ways)) (reverse numbers') (reverse torn')) ≡ all
+      → steps ++ with_step found (steps_told (reverse entries') (reverse (take (length ways - (i + 1)) ways)) (reverse numbers')
+      (reverse torn')) ≡ all
   one_more i way steps entries entries' numbers numbers' torn torn' found below is tells told =
       let rest = reverse (take (length ways - (i + 1)) ways) in
       ap (λ (l : List WorldStep). steps ++ l) (sym (tells rest))
-      ∙ ap (λ (l : List Way). steps ++ steps_told (reverse entries) l (reverse numbers) (reverse torn)) (ap (λ (w : Way). w ∷ rest) is ∙ sym (left_is ways i way below))
+      ∙ ap (λ (l : List Way). steps ++ steps_told (reverse entries) l (reverse numbers) (reverse torn))
+      (ap (λ (w : Way). w ∷ rest) is ∙ sym (left_is ways i way below))
       ∙ told
 
-  pub told_on : (i : ℕ) (way : Way) (steps more : List WorldStep) (step : WorldStep) (entries entries' : List Entry) (numbers numbers' torn torn' : List ℕ) → i < length ways
+  pub told_on : (i : ℕ) (way : Way) (steps more : List WorldStep) (step : WorldStep) (entries entries' : List Entry)
+      (numbers numbers' torn torn' : List ℕ) → i < length ways
       → way ≡ get_or ways (length ways - 1 - i) way
       → ((rest : List Way) → steps_told (reverse entries) (way ∷ rest) (reverse numbers) (reverse torn)
       ≡ with_step (Some step) (steps_told (reverse entries') rest (reverse numbers') (reverse torn')))
@@ -56,7 +62,8 @@ module _ (all : List WorldStep) (ways : List Way) where
       ap (λ (l : List WorldStep). l ++ rest) is ∙ append_assoc steps (step ∷ []) rest
       ∙ one_more i way steps entries entries' numbers numbers' torn torn' (Some step) below way_is tells told
 
-  pub told_stop : (i : ℕ) (way : Way) (steps : List WorldStep) (entries entries' : List Entry) (numbers numbers' torn torn' : List ℕ) → i < length ways
+  pub told_stop : (i : ℕ) (way : Way) (steps : List WorldStep) (entries entries' : List Entry) (numbers numbers' torn torn' : List ℕ)
+      → i < length ways
       → way ≡ get_or ways (length ways - 1 - i) way
       → ((rest : List Way) → steps_told (reverse entries) (way ∷ rest) (reverse numbers) (reverse torn)
       ≡ with_step None (steps_told (reverse entries') rest (reverse numbers') (reverse torn')))
@@ -64,7 +71,8 @@ module _ (all : List WorldStep) (ways : List Way) where
   told_stop i way steps entries entries' numbers numbers' torn torn' below way_is tells told =
       sym (append-nil steps) ∙ one_more i way steps entries entries' numbers numbers' torn torn' None below way_is tells told
 
-  pub told_end : (i : ℕ) (steps : List WorldStep) (entries : List Entry) (numbers torn : List ℕ) → length ways ≤ i → Told i steps entries numbers torn → steps ≡ all
+  pub told_end : (i : ℕ) (steps : List WorldStep) (entries : List Entry) (numbers torn : List ℕ) → length ways ≤ i
+      → Told i steps entries numbers torn → steps ≡ all
   told_end i steps entries numbers torn past told =
       let none : length ways - i ≡ 0 = omega (arith, past) in
       sym (append-nil steps)

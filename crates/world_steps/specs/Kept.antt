@@ -20,11 +20,13 @@ steps_told trace [] numbers torn = []
 steps_told trace (Asked ∷ ways) numbers torn =
     with_first trace (λ e earlier. Do e.site e.command Fine ∷ steps_told earlier ways numbers torn)
 steps_told trace (AskedTorn ∷ ways) numbers torn =
-    with_first trace (λ e earlier. with_first torn (λ bytes others. Do e.site e.command (Torn bytes) ∷ steps_told earlier ways numbers others))
+    with_first trace (λ e earlier. with_first torn
+    (λ bytes others. Do e.site e.command (Torn bytes) ∷ steps_told earlier ways numbers others))
 steps_told trace (Delivered ∷ ways) numbers torn =
     with_first trace (λ e earlier. with_first numbers (λ k more. Deliver k Fine ∷ steps_told earlier ways more torn))
 steps_told trace (DeliveredTorn ∷ ways) numbers torn =
-    with_first trace (λ e earlier. with_first numbers (λ k more. with_first torn (λ bytes others. Deliver k (Torn bytes) ∷ steps_told earlier ways more others)))
+    with_first trace (λ e earlier. with_first numbers
+    (λ k more. with_first torn (λ bytes others. Deliver k (Torn bytes) ∷ steps_told earlier ways more others)))
 steps_told trace (Missed ∷ ways) numbers torn =
     with_first numbers (λ k more. Deliver k Fine ∷ steps_told trace ways more torn)
 steps_told trace (MissedTorn ∷ ways) numbers torn =
@@ -54,4 +56,5 @@ HasMemoryFor kept (Do site command (Torn bytes)) =
 HasMemoryFor kept (Deliver k Fine) =
     (vec_len kept.ways < vec_capacity kept.ways) × (vec_len kept.numbers < vec_capacity kept.numbers)
 HasMemoryFor kept (Deliver k (Torn bytes)) =
-    (vec_len kept.ways < vec_capacity kept.ways) × (vec_len kept.numbers < vec_capacity kept.numbers) × (vec_len kept.torn < vec_capacity kept.torn)
+    (vec_len kept.ways < vec_capacity kept.ways) × (vec_len kept.numbers < vec_capacity kept.numbers)
+    × (vec_len kept.torn < vec_capacity kept.torn)

@@ -13,7 +13,8 @@ use Rattle.site_step.specs.Site.{SiteValue, Finds, here, entry_of}
 
 -- One command at one site, with its luck, where a restart would have found this greatest epoch and this of the record in
 -- doubt: the reply is the one that is owed then, so is what a restart would find after it, and no mishap is to come.
-pub record Once (before : SiteValue) (epoch : ℕ) (found : Last) (command : Command) (luck : Luck) (reply : Reply) (later : SiteValue) : Type 0 where
+pub record Once (before : SiteValue) (epoch : ℕ) (found : Last) (command : Command) (luck : Luck) (reply : Reply)
+    (later : SiteValue) : Type 0 where
   pub reply_is : reply ≡ owed_with (here before) epoch found command luck
   pub finds : Finds later (epoch_kept reply luck epoch) (doubt_after reply luck (record_length (here before) command) found)
   pub history_is : later.history ≡ entry_of before command reply ∷ before.history
@@ -32,7 +33,8 @@ pub record Follows (schema : SchemaValue) (s : ℕ) (past : List Lucky) (bound :
   pub history_is : v.history ≡ entries past
   pub failed_is : v.failed ≤ bound
   pub foretold_is : v.foretold ≡ Some Never
-  pub finds : Finds v (epoch_of (fresh schema s) (entries past) + covered_restarts (fresh schema s) past) (doubt schema s (fresh schema s) past)
+  pub finds : Finds v (epoch_of (fresh schema s) (entries past) + covered_restarts (fresh schema s) past)
+      (doubt schema s (fresh schema s) past)
 
 -- Each site stands where the past leaves it.
 unfoldable pub AllFollow : SchemaValue → List Lucky → ℕ → List SiteValue → Type 0

@@ -33,7 +33,8 @@ Answers NoStatement before step later = (question_of (trace_of before) step ≡ 
 
 -- What holds of a world: the steps taken fit its schema, there is a site for each of the schema's, each stands where what
 -- was lived leaves it, and trace and statements, the oldest first, are those that the steps make.
-pub record IsWorld (schema : SchemaValue) (steps : List WorldStep) (sites : List SiteValue) (trace : List Entry) (told : List Statement) : Type 0 where
+pub record IsWorld (schema : SchemaValue) (steps : List WorldStep) (sites : List SiteValue) (trace : List Entry)
+    (told : List Statement) : Type 0 where
   pub good : IsSchema schema
   pub fit : All (StepFits schema) steps
   pub count : length sites ≡ schema.sites

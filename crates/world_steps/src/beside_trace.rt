@@ -86,8 +86,10 @@ impl StepNotes {
     /// Keeps a step that made an entry.
     pub(crate) fn keep_made(&mut self, step: &WorldStep)
         requires room { HasMemoryFor self.old step.now }
-        ensures kept { (past trace : List Entry) (entry : Entry) → question_of past step.now ≡ Some (entry.site, entry.command) →
-            steps_beside (trace ++ entry ∷ []) self.new ≡ steps_beside trace self.old ++ step.now ∷ [] }
+        ensures kept { (past trace : List Entry) (entry : Entry)
+            → question_of past step.now ≡ Some (entry.site, entry.command) →
+            steps_beside (trace ++ entry ∷ []) self.new ≡ steps_beside trace self.old ++ step.now
+            ∷ [] }
     {
         match *step {
             WorldStep::Do {
@@ -125,7 +127,8 @@ impl StepNotes {
     pub(crate) fn keep_missed(&mut self, step: &WorldStep)
         requires room { HasMemoryFor self.old step.now }
         requires missed { (past : List Entry) × (question_of past step.now ≡ None) }
-        ensures kept { (trace : List Entry) → steps_beside trace self.new ≡ steps_beside trace self.old ++ step.now ∷ [] }
+        ensures kept { (trace : List Entry) → steps_beside trace self.new
+            ≡ steps_beside trace self.old ++ step.now ∷ [] }
     {
         match *step {
             WorldStep::Do {
@@ -152,7 +155,11 @@ impl StepNotes {
     }
 
     /// The steps that a trace and this tell, the oldest first. The error is want of memory.
-    pub(crate) fn steps_told(&self, alloc: Global, trace: &[Entry]) -> Result<Vec<WorldStep>, AllocError>
+    pub(crate) fn steps_told(
+        &self,
+        alloc: Global,
+        trace: &[Entry],
+    ) -> Result<Vec<WorldStep>, AllocError>
         ensures steps { IfOk result (λ steps. steps.items ≡ steps_beside trace.now self.now) }
     {
         let mut entries = trace.to_vec(alloc)?;
@@ -181,8 +188,10 @@ fn newest(
     torn: &mut Vec<u64>,
 ) -> Option<WorldStep>
     ensures step { (ways : List Way) →
-        steps_told (reverse entries.old.items) (way ∷ ways) (reverse numbers.old.items) (reverse torn.old.items)
-        ≡ with_step result (steps_told (reverse entries.new.items) ways (reverse numbers.new.items) (reverse torn.new.items)) }
+        steps_told (reverse entries.old.items) (way ∷ ways) (reverse numbers.old.items)
+        (reverse torn.old.items)
+        ≡ with_step result (steps_told (reverse entries.new.items) ways (reverse numbers.new.items)
+        (reverse torn.new.items)) }
 {
     match way {
         Way::Asked => {

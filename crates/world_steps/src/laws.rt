@@ -20,13 +20,17 @@ pub fn every_world_is_one_store()
     ensures central { (schema : SchemaValue) (steps : List WorldStep) →
         IsSchema schema → All (StepFits schema) steps → IsCentral schema (trace_by schema steps) }
     ensures conserved { (schema : SchemaValue) (steps : List WorldStep) →
-        IsSchema schema → All (StepFits schema) steps → IsConservedThroughout schema (trace_by schema steps) }
+        IsSchema schema → All (StepFits schema) steps
+        → IsConservedThroughout schema (trace_by schema steps) }
     ensures bounded { (schema : SchemaValue) (steps : List WorldStep) →
-        IsSchema schema → All (StepFits schema) steps → IsBoundedThroughout schema (trace_by schema steps) }
+        IsSchema schema → All (StepFits schema) steps
+        → IsBoundedThroughout schema (trace_by schema steps) }
     ensures outcomes { (schema : SchemaValue) (steps : List WorldStep) →
-        IsSchema schema → All (StepFits schema) steps → OutcomesAreBoundedThroughout schema (trace_by schema steps) }
+        IsSchema schema → All (StepFits schema) steps
+        → OutcomesAreBoundedThroughout schema (trace_by schema steps) }
     ensures tighter { (schema : SchemaValue) (steps : List WorldStep) →
-        IsSchema schema → All (StepFits schema) steps → BoundsOnlyTighten schema (trace_by schema steps) }
+        IsSchema schema → All (StepFits schema) steps
+        → BoundsOnlyTighten schema (trace_by schema steps) }
     ensures none_strange { (schema : SchemaValue) (steps : List WorldStep) →
         IsSchema schema → All (StepFits schema) steps → NoneStrange (trace_by schema steps) }
 {}

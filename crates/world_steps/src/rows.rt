@@ -1,5 +1,6 @@
-//! Worked rows of a world, computed against the definitions, each as a clause of a function that does
-//! nothing. Of a field from 0 to 100 at 40, each of two sites has 20 rights to lower and 30 to raise it.
+//! Worked rows of a world, computed against the definitions, each as a clause of a function that
+//! does nothing. Of a field from 0 to 100 at 40, each of two sites has 20 rights to lower and 30 to
+//! raise it.
 
 ghost use Rattle.std.specs.Prelude.{◌∷◌, reverse, take, None};
 ghost use Rattle.field_bounds.specs.declared.entry.Command.TheVariants.{Abort, Restart, Share};
@@ -34,13 +35,13 @@ pub fn worked_worlds()
     ensures refused { Comes row_refused }
 {}
 
-/// In those rows these other replies don't come: a gift in doubt delivered before its site restarted,
-/// a statement used up by its first delivery, one refused as another site's, the total of the later
-/// statement counted again, a commit of which a byte was lost told as kept, one that is whole told as
-/// lost, an epoch that no restart kept, the epoch that a failed restart kept, a restart that fails
-/// though its append is whole, an acceptance that was kept counted again, rights that two deliveries
-/// told counted twice, an escrow granted past a floor that both sites raised, and a tightening of
-/// which a byte was lost told as kept.
+/// In those rows these other replies don't come: a gift in doubt delivered before its site
+/// restarted, a statement used up by its first delivery, one refused as another site's, the total
+/// of the later statement counted again, a commit of which a byte was lost told as kept, one that
+/// is whole told as lost, an epoch that no restart kept, the epoch that a failed restart kept, a
+/// restart that fails though its append is whole, an acceptance that was kept counted again, rights
+/// that two deliveries told counted twice, an escrow granted past a floor that both sites raised,
+/// and a tightening of which a byte was lost told as kept.
 pub fn wrong_worlds()
     ensures issued_at_once { NeverComes (take 1 gift_kept) (step_delivered (Accepted 5)) }
     ensures used_up { NeverComes (take 5 passed_on) (Deliver 1 Fine, None) }
@@ -54,17 +55,19 @@ pub fn wrong_worlds()
     ensures accepted_again { NeverComes (take 4 taken_in) (step_delivered (Accepted 5)) }
     ensures past_the_floor { NeverComes (take 3 none_left) (fine 0 (lower_by 1 1) Granted) }
     ensures torn_cut_kept { NeverComes (take 1 cut_lost) (fine 0 Restart (Restarted 1 Kept)) }
-    ensures counted_twice { NeverComes (take 5 taken_in_late) (fine 1 (Share stock) (Shares 30 30)) }
+    ensures counted_twice { NeverComes (take 5 taken_in_late)
+        (fine 1 (Share stock) (Shares 30 30)) }
 {}
 
 /// What keeps no promise of `outcomes`: one right to lower too many was granted, so that the field
 /// would end below its floor were the transaction committed (`below`); the same with a right to
-/// raise (`above`); an escrow granted below a floor that tightenings raised (`tightened`); and a trace
-/// in which the first transaction was aborted since, as its fronts are held to the promise too
-/// (`before`).
+/// raise (`above`); an escrow granted below a floor that tightenings raised (`tightened`); and a
+/// trace in which the first transaction was aborted since, as its fronts are held to the promise
+/// too (`before`).
 pub fn wrong_outcomes()
     ensures below { ¬ OutcomesAreBounded halved_shelf (row_granted (lower_by 1 41)) }
     ensures above { ¬ OutcomesAreBounded halved_shelf (row_granted (raise_by 1 61)) }
     ensures tightened { ¬ OutcomesAreBounded halved_shelf (reverse over_cut) }
-    ensures before { ¬ OutcomesAreBoundedThroughout halved_shelf (row_entry (Abort (txn 1)) Aborted ∷ row_granted (lower_by 1 41)) }
+    ensures before { ¬ OutcomesAreBoundedThroughout halved_shelf
+        (row_entry (Abort (txn 1)) Aborted ∷ row_granted (lower_by 1 41)) }
 {}

@@ -13,17 +13,17 @@ use std::alloc::{AllocError, Global};
 /// The one trace that these steps make, from sites over empty media, the oldest entry first: an
 /// entry for each step, and none for a delivery of a number that no statement has.
 ///
-/// Over every list of commands at every site, with gifts late, lost, repeated or reordered and sites
-/// stopped inside any append, the trace is a run of one central escrow store: each escrow granted is
-/// allowed by its infimum and supremum, each shortage names the site's true share, less than was
-/// asked, and each interval read holds the committed value (`central`). In every front of it rights
-/// are conserved (`conserved`) and each field's infimum and supremum lie within its bounds
-/// (`bounded`): whichever of the open transactions are committed and whichever aborted, the value of
-/// every field lies within its floor and ceiling (`outcomes`). No statement is refused as another
-/// site's or as forged (`none_strange`).
+/// Over every list of commands at every site, with gifts late, lost, repeated or reordered and
+/// sites stopped inside any append, the trace is a run of one central escrow store: each escrow
+/// granted is allowed by its infimum and supremum, each shortage names the site's true share, less
+/// than was asked, and each interval read holds the committed value (`central`). In every front of
+/// it rights are conserved (`conserved`) and each field's infimum and supremum lie within its
+/// bounds (`bounded`): whichever of the open transactions are committed and whichever aborted, the
+/// value of every field lies within its floor and ceiling (`outcomes`). No statement is refused as
+/// another site's or as forged (`none_strange`).
 ///
-/// A tightening that was answered is held to the same test as an escrow, and the bounds are those of
-/// the trace so far: no later front loosens one (`tighter`).
+/// A tightening that was answered is held to the same test as an escrow, and the bounds are those
+/// of the trace so far: no later front loosens one (`tighter`).
 ///
 /// The error is want of memory. Costs what each step costs.
 ///
@@ -40,7 +40,8 @@ pub fn run_world(
     ensures central { IfOk result (λ trace. IsCentral schema (reverse trace.items)) }
     ensures conserved { IfOk result (λ trace. IsConservedThroughout schema (reverse trace.items)) }
     ensures bounded { IfOk result (λ trace. IsBoundedThroughout schema (reverse trace.items)) }
-    ensures outcomes { IfOk result (λ trace. OutcomesAreBoundedThroughout schema (reverse trace.items)) }
+    ensures outcomes { IfOk result (λ trace. OutcomesAreBoundedThroughout schema
+        (reverse trace.items)) }
     ensures tighter { IfOk result (λ trace. BoundsOnlyTighten schema (reverse trace.items)) }
     ensures none_strange { IfOk result (λ trace. NoneStrange (reverse trace.items)) }
 {

@@ -22,7 +22,8 @@ use std::alloc::{AllocError, Global};
 /// Adds the statement that an entry issues, if any, to a list that has room.
 pub(crate) fn note(told: &mut Vec<Statement>, entry: &Entry)
     requires room { vec_len told.old < vec_capacity told.old }
-    ensures told { reverse told.new.items ≡ with_statement (statement_of entry.now) (reverse told.old.items) }
+    ensures told { reverse told.new.items ≡ with_statement (statement_of entry.now)
+        (reverse told.old.items) }
 {
     if let Some(statement) = statement_of(entry) {
         told.push_reserved(statement);
@@ -41,7 +42,8 @@ fn statement_numbered(told: &[Statement], k: u64) -> Option<Statement>
 
 /// The site and the command of a step, where it makes an entry.
 pub(crate) fn question_of(told: &[Statement], step: &WorldStep) -> Option<(SiteNo, Command)>
-    ensures value { (trace : List Entry) → reverse told.now ≡ statements_issued trace → result ≡ question_of trace step.now }
+    ensures value { (trace : List Entry) → reverse told.now ≡ statements_issued trace
+        → result ≡ question_of trace step.now }
 {
     match *step {
         WorldStep::Do {
@@ -105,8 +107,10 @@ pub(crate) fn apply_at(
     requires calm { AreCalm 18_446_744_073_709_551_615 sites.old }
     ensures stand { IfOk result (λ reply. (schema : SchemaValue) (past : List Lucky) (bound : ℕ) →
         AllFollow schema past bound sites.old →
-        (reply ≡ lucky_reply schema number.0 (fresh schema number.0) (own_lucky number.0 past) command luck)
-        × AllFollow schema ((record { site = number; command = command; reply = reply }, luck) ∷ past) (bound + 1) sites.new) }
+        (reply ≡ lucky_reply schema number.0 (fresh schema number.0)
+        (own_lucky number.0 past) command luck)
+        × AllFollow schema ((record { site = number; command = command; reply = reply }, luck)
+        ∷ past) (bound + 1) sites.new) }
     ensures count { length sites.new ≡ length sites.old }
     ensures err { OnErr result (sites.new ≡ sites.old) }
 {

@@ -13,7 +13,7 @@ ghost use Rattle.world_steps.specs.View.{trace_of, Answers};
 
 use crate::beside_trace::StepNotes;
 use crate::step::{StepReply, WorldStep};
-use crate::stepping::{apply_at, question_of, luck_of, note};
+use crate::stepping::{apply_at, luck_of, note, question_of};
 use field_bounds::{Entry, FieldNo, Schema, SiteNo, Statement};
 use kept_records::TornMedium;
 use site_step::{OpenFault, Site};
@@ -21,8 +21,8 @@ use std::alloc::{AllocError, Global};
 use std::marker::Model;
 
 /// All sites of a schema, each over a medium in memory that is torn where a step says so. Contracts
-/// see the schema and the steps taken, in order: all else is told by these. Of the steps a world keeps
-/// only what its trace doesn't tell.
+/// see the schema and the steps taken, in order: all else is told by these. Of the steps a world
+/// keeps only what its trace doesn't tell.
 #[derive(Drop)]
 pub struct World {
     schema: Schema,
@@ -40,7 +40,8 @@ impl Model for World {
 
     ghost view = { λ w. record { schema = w.schema; steps = steps_beside w.trace.items w.steps } };
 
-    ghost invariant = { λ w. IsWorld w.schema (steps_beside w.trace.items w.steps) w.sites.items w.trace.items w.issued.items };
+    ghost invariant = { λ w. IsWorld w.schema (steps_beside w.trace.items w.steps) w.sites.items
+        w.trace.items w.issued.items };
 }
 
 /// A site over an empty medium, which won't fail: the only fault is want of memory.
@@ -84,21 +85,24 @@ impl World {
         })
     }
 
-    /// Takes one step. The steps grow by it, and what is lived by the one entry that they tell, with
-    /// the step's luck: the command or the statement's taking in, at its site, with the one reply
-    /// that the site owes after its own entries and their luck. A step whose number no statement has
-    /// makes no entry. The luck is armed for this step alone. The error is want of memory, and then
-    /// nothing has changed.
+    /// Takes one step. The steps grow by it, and what is lived by the one entry that they tell,
+    /// with the step's luck: the command or the statement's taking in, at its site, with the one
+    /// reply that the site owes after its own entries and their luck. A step whose number no
+    /// statement has makes no entry. The luck is armed for this step alone. The error is want of
+    /// memory, and then nothing has changed.
     ///
     /// The trace after it, as after every list of steps, is a run of one central escrow store, with
     /// all that `trace` says of it (`one_store`).
     ///
-    /// Costs what the site's `apply` costs, and amortized pushes of the entry, of the statement and of
-    /// what the entry doesn't tell of the step, which are kept: one byte, 8 more for the number of a
-    /// delivery, and 8 more for luck that is torn. Nothing else grows with the trace.
+    /// Costs what the site's `apply` costs, and amortized pushes of the entry, of the statement and
+    /// of what the entry doesn't tell of the step, which are kept: one byte, 8 more for the number
+    /// of a delivery, and 8 more for luck that is torn. Nothing else grows with the trace.
     pub fn step(&mut self, alloc: Global, step: &WorldStep) -> Result<StepReply, AllocError>
         requires fits { StepFits self.old.schema step.now }
-        ensures steps { OnOk result (self.new ≡ record self.old { steps = self.old.steps ++ step.now ∷ [] }) }
+        ensures steps { OnOk result (self.new ≡ record self.old {
+          steps =
+              self.old.steps ++ step.now ∷ [];
+        }) }
         ensures answers { IfOk result (λ reply. Answers reply self.old step.now self.new) }
         ensures one_store { OnOk result (IsOneStore self.new.schema (trace_of self.new)) }
         ensures err { OnErr result (self.new ≡ self.old) }
@@ -130,22 +134,22 @@ impl World {
         &self.schema
     }
 
-    /// The entries of all sites, the oldest first: the one trace that the steps make (`world`). Each
-    /// site gave the replies that it owes after its own entries alone, and took in only statements
-    /// that were issued before (`sound`). So the trace is a run of one central escrow store: each
-    /// escrow granted is allowed by infimum and supremum, each shortage names the site's true share,
-    /// which is less than was asked, and each interval read holds the committed value (`central`).
-    /// In every front of the trace the infimum lies above the floor, and the supremum below the
-    /// ceiling, by exactly the free rights of all sites and those in flight, and no site has accepted
-    /// more than it was given (`conserved`); so the infimum is never below the floor, nor the supremum
-    /// above the ceiling (`bounded`): whichever of the open transactions are committed and whichever
-    /// aborted, the value of every field lies within its floor and ceiling (`outcomes`). Floor and
-    /// ceiling are those of the trace so far, which tightenings move inwards, and nothing moves
-    /// outwards (`tighter`). And no statement is refused as another site's, or as forged
-    /// (`none_strange`). Costs no memory.
+    /// The entries of all sites, the oldest first: the one trace that the steps make (`world`).
+    /// Each site gave the replies that it owes after its own entries alone, and took in only
+    /// statements that were issued before (`sound`). So the trace is a run of one central escrow
+    /// store: each escrow granted is allowed by infimum and supremum, each shortage names the
+    /// site's true share, which is less than was asked, and each interval read holds the committed
+    /// value (`central`). In every front of the trace the infimum lies above the floor, and the
+    /// supremum below the ceiling, by exactly the free rights of all sites and those in flight, and
+    /// no site has accepted more than it was given (`conserved`); so the infimum is never below the
+    /// floor, nor the supremum above the ceiling (`bounded`): whichever of the open transactions
+    /// are committed and whichever aborted, the value of every field lies within its floor and
+    /// ceiling (`outcomes`). Floor and ceiling are those of the trace so far, which tightenings
+    /// move inwards, and nothing moves outwards (`tighter`). And no statement is refused as another
+    /// site's, or as forged (`none_strange`). Costs no memory.
     ///
-    /// Source: O'Neil 1986 for infimum, supremum and the test of a grant, Balegas and others 2015 for
-    /// rights that are divided among sites and transferred, this project for the theorem.
+    /// Source: O'Neil 1986 for infimum, supremum and the test of a grant, Balegas and others 2015
+    /// for rights that are divided among sites and transferred, this project for the theorem.
     pub fn trace(&self) -> &[Entry]
         ensures world { reverse result.now ≡ trace_of self.now }
         ensures sound { IsSound self.now.schema (trace_of self.now) }
@@ -159,8 +163,8 @@ impl World {
         &self.trace
     }
 
-    /// The steps taken, the oldest first: with the schema, all there is to a world. The error is want
-    /// of memory. Costs a copy of the trace, and a push for each step.
+    /// The steps taken, the oldest first: with the schema, all there is to a world. The error is
+    /// want of memory. Costs a copy of the trace, and a push for each step.
     pub fn steps(&self, alloc: Global) -> Result<Vec<WorldStep>, AllocError>
         ensures steps { IfOk result (λ steps. steps.items ≡ self.now.steps) }
         ensures fit { All (StepFits self.now.schema) self.now.steps }
@@ -193,8 +197,10 @@ impl World {
     pub fn share(&self, site: SiteNo, field: FieldNo) -> Option<(u64, u64)>
         requires in_schema { site.0 < self.now.schema.sites }
         ensures value { result ≡ shares_of
-            (place self.now.schema site.0 (fresh self.now.schema site.0) (own site.0 (trace_of self.now))) field }
-        ensures within { IfSome result (λ shares. shares.0 + shares.1 ≤ width_of (field_at self.now.schema field.0)) }
+            (place self.now.schema site.0 (fresh self.now.schema site.0)
+            (own site.0 (trace_of self.now))) field }
+        ensures within { IfSome result (λ shares. shares.0 + shares.1
+            ≤ width_of (field_at self.now.schema field.0)) }
     {
         self.sites[usize::from(site.0)].share(field)
     }

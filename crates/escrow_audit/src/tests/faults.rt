@@ -1,4 +1,5 @@
-//! A source and a sink of this test's own, each proved to keep its law: they fail once, and would go on.
+//! A source and a sink of this test's own, each proved to keep its law: they fail once, and would
+//! go on.
 
 ghost use Rattle.std.specs.Prelude.{◌≡◌, ◌≤◌, ◌++◌, length, Some};
 ghost use Rattle.script_input.specs.Streams.{one_more};

@@ -1,4 +1,5 @@
-//! Appends torn at each byte, a header without end, and readers and writers that are interrupted once.
+//! Appends torn at each byte, a header without end, and readers and writers that are interrupted
+//! once.
 
 use super::{HALVED, Talk, check_said, row_input, row_output, run};
 use crate::{ScriptFault, Watched, run_script};

@@ -58,8 +58,8 @@ fn a_torn_piece_leaves_a_front(rt: HostRuntime) {
     torn_piece(&rt, alloc, 22, PIECE);
 }
 
-/// Whether the restart and its summary stand behind so many bytes of the medium, or None where there
-/// are fewer or memory was refused.
+/// Whether the restart and its summary stand behind so many bytes of the medium, or None where
+/// there are fewer or memory was refused.
 fn restarted_with_summary<M: Medium>(alloc: Global, medium: &mut M, whole: usize) -> Option<bool> {
     let present = medium.read_all(alloc).ok()?.len();
     if present < whole {
@@ -88,8 +88,8 @@ fn a_restart_takes_its_summary_along(rt: HostRuntime) {
     assert!(rt; holds(alloc, &mut medium, "R 999\nR 1000\nS 1000 1 20 30\n"));
 }
 
-/// What a summary that was read tells: the epoch, the rights of the first field, and how many totals
-/// each group has.
+/// What a summary that was read tells: the epoch, the rights of the first field, and how many
+/// totals each group has.
 fn told(alloc: Global, text: &str) -> Option<(u32, (u64, u64), (usize, usize, usize))> {
     let (records, _) = read_records(alloc, text.as_bytes()).ok()?;
     match records.get(0)? {

@@ -124,9 +124,8 @@ impl<M: Medium> Site<M> {
             want > MAX_CHANGE => Refusal::TooLarge,
             self.free(field, kind) == 0 => Refusal::Short { share: self.free(field, kind) },
             self.is_here(to) => Refusal::SelfGift,
-            self.told_so_far(to, field, kind) + self.spared_amount(field, kind, want) > MAX_TOTAL => Refusal::LedgerFull {
-                total: self.told_so_far(to, field, kind),
-            },
+            self.told_so_far(to, field, kind) + self.spared_amount(field, kind, want) > MAX_TOTAL =>
+                Refusal::LedgerFull { total: self.told_so_far(to, field, kind) },
         }
     }
 
@@ -142,7 +141,8 @@ impl<M: Medium> Site<M> {
             told.total > MAX_TOTAL => Refusal::TooLarge,
             self.is_here(told.from) => Refusal::SelfGift,
             !self.is_here(told.to) => Refusal::NotYours,
-            self.gain(told) > self.room(told.field) => Refusal::Forged { room: self.room(told.field) },
+            self.gain(told) > self.room(told.field) =>
+                Refusal::Forged { room: self.room(told.field) },
         }
     }
 
@@ -154,8 +154,10 @@ impl<M: Medium> Site<M> {
         kind: Kind,
         amount: u64,
     ) -> Result<Reply, AllocError>
-        requires unrefused { first (refusals (here self.old) (Command.Give to field kind amount)) ≡ None }
-        ensures ok { IfOk result (λ reply. Applies self.old (Command.Give to field kind amount) reply self.new) }
+        requires unrefused { first (refusals (here self.old) (Command.Give to field kind amount))
+            ≡ None }
+        ensures ok { IfOk result (λ reply. Applies self.old
+            (Command.Give to field kind amount) reply self.new) }
         ensures err { OnErr result (self.new ≡ self.old) }
     {
         let total = self.told_so_far(to, field, kind) + amount;
@@ -180,8 +182,10 @@ impl<M: Medium> Site<M> {
         field: FieldNo,
         kind: Kind,
     ) -> Result<Reply, AllocError>
-        requires unrefused { first (refusals (here self.old) (Command.Restate to field kind)) ≡ None }
-        ensures ok { IfOk result (λ reply. Applies self.old (Command.Restate to field kind) reply self.new) }
+        requires unrefused { first (refusals (here self.old) (Command.Restate to field kind))
+            ≡ None }
+        ensures ok { IfOk result (λ reply. Applies self.old
+            (Command.Restate to field kind) reply self.new) }
         ensures err { OnErr result (self.new ≡ self.old) }
     {
         let total = self.told_so_far(to, field, kind);
@@ -199,8 +203,10 @@ impl<M: Medium> Site<M> {
         kind: Kind,
         want: u64,
     ) -> Result<Reply, AllocError>
-        requires unrefused { first (refusals (here self.old) (Command.Spare to field kind want)) ≡ None }
-        ensures ok { IfOk result (λ reply. Applies self.old (Command.Spare to field kind want) reply self.new) }
+        requires unrefused { first (refusals (here self.old) (Command.Spare to field kind want))
+            ≡ None }
+        ensures ok { IfOk result (λ reply. Applies self.old
+            (Command.Spare to field kind want) reply self.new) }
         ensures err { OnErr result (self.new ≡ self.old) }
     {
         let amount = self.spared_amount(field, kind, want);

@@ -9,8 +9,8 @@ use field_bounds::{Schema, SiteNo};
 use kept_records::Medium;
 
 impl<M: Medium> Site<M> {
-    /// Whether the site has this number, and its schema equals this one. Costs a look at each field,
-    /// and no memory.
+    /// Whether the site has this number, and its schema equals this one. Costs a look at each
+    /// field, and no memory.
     pub fn is_of(&self, schema: &Schema, number: SiteNo) -> bool
         ensures own { IsTrue result ↔ ((self.now.schema ≡ schema.now) × (self.now.site ≡ number)) }
     {

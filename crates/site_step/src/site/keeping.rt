@@ -64,7 +64,8 @@ impl<M: Medium> Site<M> {
         requires unrefused { first (refusals (here self.now) command) ≡ None }
         requires told { writes (here self.now) command ≡ true }
         requires kept { kept.now ≡ record_at (here self.now) command }
-        ensures due { IfOk result (λ due. (rs : List Record) (rest : List ℕ) → IsLog self.now.bytes rs rest →
+        ensures due { IfOk result (λ due. (rs : List Record) (rest : List ℕ)
+            → IsLog self.now.bytes rs rest →
             with_due kept.now due ≡ piece self.now.schema self.now.site.0 rs kept.now) }
         ensures ranges { IfOk result (λ due. AllByRecursion IsRecord (with_due kept.now due)) }
     {
@@ -77,8 +78,8 @@ impl<M: Medium> Site<M> {
         )
     }
 
-    /// Carries out this record of a command, once it stands whole, and adds the command's entry. The
-    /// summary that is due behind the record is appended with it.
+    /// Carries out this record of a command, once it stands whole, and adds the command's entry.
+    /// The summary that is due behind the record is appended with it.
     pub(super) fn write(
         &mut self,
         alloc: Global,
@@ -146,8 +147,10 @@ impl<M: Medium> Site<M> {
         field: FieldNo,
         change: i64,
     ) -> Result<Reply, AllocError>
-        requires unrefused { first (refusals (here self.old) (Command.Escrow txn field change)) ≡ None }
-        ensures ok { IfOk result (λ reply. Applies self.old (Command.Escrow txn field change) reply self.new) }
+        requires unrefused { first (refusals (here self.old) (Command.Escrow txn field change))
+            ≡ None }
+        ensures ok { IfOk result (λ reply. Applies self.old
+            (Command.Escrow txn field change) reply self.new) }
         ensures err { OnErr result (self.new ≡ self.old) }
     {
         self.history.reserve(1)?;

@@ -40,7 +40,8 @@ impl<M: Medium> Site<M> {
 
     fn is_open(&self, txn: TxnId) -> bool
         requires up { is_up (base_of self.now) self.now.history ≡ true }
-        ensures { result ≡ (is_begun txn (here self.now).effects && is_open txn (here self.now).effects) }
+        ensures { result ≡ (is_begun txn (here self.now).effects
+            && is_open txn (here self.now).effects) }
     {
         self.accounts.journal.is_open(txn)
     }
@@ -54,7 +55,8 @@ impl<M: Medium> Site<M> {
 
     fn escrow_count(&self, txn: TxnId) -> usize
         requires up { is_up (base_of self.now) self.now.history ≡ true }
-        requires open { (is_begun txn (here self.now).effects && is_open txn (here self.now).effects) ≡ true }
+        requires open { (is_begun txn (here self.now).effects
+            && is_open txn (here self.now).effects) ≡ true }
         ensures { result ≡ count_escrows txn (here self.now).effects }
     {
         self.accounts.journal.escrows(txn).unwrap().len()
@@ -133,7 +135,8 @@ impl<M: Medium> Site<M> {
     }
 
     fn end_refusal(&self, txn: TxnId) -> Option<Refusal>
-        ensures { result ≡ first (test_down (here self.now) ∷ test_no_transaction (here self.now) txn ∷ []) }
+        ensures { result ≡ first (test_down (here self.now)
+            ∷ test_no_transaction (here self.now) txn ∷ []) }
     {
         refuse_first! {
             !self.is_up() => Refusal::Down,
@@ -142,7 +145,8 @@ impl<M: Medium> Site<M> {
     }
 
     fn field_refusal(&self, field: FieldNo) -> Option<Refusal>
-        ensures { result ≡ first (test_down (here self.now) ∷ test_no_field (here self.now) field ∷ []) }
+        ensures { result ≡ first (test_down (here self.now) ∷ test_no_field (here self.now) field
+            ∷ []) }
     {
         refuse_first! {
             !self.is_up() => Refusal::Down,
@@ -150,8 +154,8 @@ impl<M: Medium> Site<M> {
         }
     }
 
-    /// The schema's floor raised by what the site guards of its width below, and the schema's ceiling
-    /// lowered by what it guards above.
+    /// The schema's floor raised by what the site guards of its width below, and the schema's
+    /// ceiling lowered by what it guards above.
     pub(super) fn bounds_known(&self, field: FieldNo) -> (i64, i64)
         requires up { is_up (base_of self.now) self.now.history ≡ true }
         requires field_in { field.0 < length self.now.schema.fields }

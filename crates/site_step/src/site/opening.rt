@@ -46,7 +46,8 @@ impl From<AllocError> for OpenFault {
     }
 }
 
-/// What a medium holds: whether it is empty, its records, how far they reach, and what they stand for.
+/// What a medium holds: whether it is empty, its records, how far they reach, and what they stand
+/// for.
 #[derive(Drop)]
 pub(super) struct Found {
     pub fresh: bool,
@@ -67,11 +68,14 @@ pub(super) fn read_base<M: Medium>(
     ensures fresh { IfOk result (λ found. found.fresh ≡ true → M.bytes medium.old ≡ []) }
     ensures empty { IfOk result (λ found. M.bytes medium.old ≡ [] → found.fresh ≡ true) }
     ensures line { IfErr result (λ fault. TellsLine schema.now site.0 (M.bytes medium.old) fault) }
-    ensures never { IfErr result (λ fault. SparesLogs schema.now site.0 (M.bytes medium.old) fault) }
+    ensures never { IfErr result (λ fault. SparesLogs schema.now site.0
+        (M.bytes medium.old) fault) }
     ensures bytes { M.bytes medium.new ≡ M.bytes medium.old }
-    ensures failed { IfErr result (λ fault. M.failed medium.new ≡ failed_at fault (M.failed medium.old)) }
+    ensures failed { IfErr result (λ fault. M.failed medium.new
+        ≡ failed_at fault (M.failed medium.old)) }
     ensures count { IfOk result (λ found. M.failed medium.new ≡ M.failed medium.old) }
-    ensures foretold { IfErr result (λ fault. M.foretold medium.new ≡ foretold_at fault (M.foretold medium.old)) }
+    ensures foretold { IfErr result (λ fault. M.foretold medium.new
+        ≡ foretold_at fault (M.foretold medium.old)) }
     ensures device { IfErr result (λ fault. FailsUnder fault (M.foretold medium.old)) }
     ensures read { IfOk result (λ found. M.foretold medium.old ≡ Some Read → ⊥) }
     ensures mishap { IfOk result (λ found. M.foretold medium.new ≡ M.foretold medium.old) }

@@ -31,8 +31,8 @@ enum Resumed {
     /// The last epoch is used up.
     NumbersFull,
     /// The records that stood behind the place that was looked at, what all of them stand for, the
-    /// epoch of the record that was added, how many were replayed, and the length in bytes of all with
-    /// the added lines.
+    /// epoch of the record that was added, how many were replayed, and the length in bytes of all
+    /// with the added lines.
     Standing {
         behind: Vec<Record>,
         standing: Standing,
@@ -42,7 +42,8 @@ enum Resumed {
     },
 }
 
-/// Cuts a torn end and adds the record of a restart in the next epoch, with the summary that is due.
+/// Cuts a torn end and adds the record of a restart in the next epoch, with the summary that is
+/// due.
 fn add_restart<M: Medium>(
     alloc: Global,
     schema: &Schema,
@@ -54,10 +55,13 @@ fn add_restart<M: Medium>(
     requires whole { IsWhole (M.bytes medium.old) log.whole }
     requires present { log.present ≡ length (M.bytes medium.old) }
     requires within { log.whole ≤ log.present }
-    requires replayed { (s : ℕ) × (rs : List Record) × (rest : List ℕ) × IsReplayed schema.now s rs rest replay.standing replay.turns (M.bytes medium.old) }
+    requires replayed { (s : ℕ) × (rs : List Record) × (rest : List ℕ)
+        × IsReplayed schema.now s rs rest replay.standing replay.turns (M.bytes medium.old) }
     requires below { replay.standing.epoch < max_epoch }
     requires read { M.foretold medium.old ≡ Some Read → ⊥ }
-    ensures resumes { IfOk result (λ resumed. ResumesAs schema.now replay.standing replay.turns log.behind.items resumed (M.bytes medium.old) (M.bytes medium.new) (M.foretold medium.old) (M.foretold medium.new) (M.failed medium.old) (M.failed medium.new)) }
+    ensures resumes { IfOk result (λ resumed. ResumesAs schema.now replay.standing replay.turns
+        log.behind.items resumed (M.bytes medium.old) (M.bytes medium.new) (M.foretold medium.old)
+        (M.foretold medium.new) (M.failed medium.old) (M.failed medium.new)) }
     ensures bytes { OnErr result (M.bytes medium.new ≡ M.bytes medium.old) }
     ensures failed { OnErr result (M.failed medium.new ≡ M.failed medium.old) }
     ensures foretold { OnErr result (M.foretold medium.new ≡ M.foretold medium.old) }
@@ -91,9 +95,12 @@ fn resume_over<M: Medium>(
     requires whole { IsWhole (M.bytes medium.old) log.whole }
     requires present { log.present ≡ length (M.bytes medium.old) }
     requires within { log.whole ≤ log.present }
-    requires replayed { (s : ℕ) × (rs : List Record) × (rest : List ℕ) × IsReplayed schema.now s rs rest replay.standing replay.turns (M.bytes medium.old) }
+    requires replayed { (s : ℕ) × (rs : List Record) × (rest : List ℕ)
+        × IsReplayed schema.now s rs rest replay.standing replay.turns (M.bytes medium.old) }
     requires read { M.foretold medium.old ≡ Some Read → ⊥ }
-    ensures resumes { IfOk result (λ resumed. ResumesAs schema.now replay.standing replay.turns log.behind.items resumed (M.bytes medium.old) (M.bytes medium.new) (M.foretold medium.old) (M.foretold medium.new) (M.failed medium.old) (M.failed medium.new)) }
+    ensures resumes { IfOk result (λ resumed. ResumesAs schema.now replay.standing replay.turns
+        log.behind.items resumed (M.bytes medium.old) (M.bytes medium.new) (M.foretold medium.old)
+        (M.foretold medium.new) (M.failed medium.old) (M.failed medium.new)) }
     ensures bytes { OnErr result (M.bytes medium.new ≡ M.bytes medium.old) }
     ensures failed { OnErr result (M.failed medium.new ≡ M.failed medium.old) }
     ensures foretold { OnErr result (M.foretold medium.new ≡ M.foretold medium.old) }
@@ -104,8 +111,8 @@ fn resume_over<M: Medium>(
     add_restart(alloc, schema, line, medium, log, replay)
 }
 
-/// Reads the medium, replays the records behind the last summary, cuts a torn end and adds the record
-/// of a restart. The records of its log before the place are known.
+/// Reads the medium, replays the records behind the last summary, cuts a torn end and adds the
+/// record of a restart. The records of its log before the place are known.
 fn resume<M: Medium>(
     alloc: Global,
     schema: &Schema,
@@ -118,8 +125,11 @@ fn resume<M: Medium>(
     requires limits { IsSchema schema.now }
     requires log { IsLawfulLog schema.now site.0 (M.bytes medium.old) }
     requires place { PartsAt (M.bytes medium.old) place }
-    ensures resumes { IfOk result (λ resumed. (rs : List Record) (rest : List ℕ) → IsLog (M.bytes medium.old) rs rest →
-        ResumesOver schema.now site.0 place rs rest resumed (M.bytes medium.old) (M.bytes medium.new) (M.foretold medium.old) (M.foretold medium.new) (M.failed medium.old) (M.failed medium.new)) }
+    ensures resumes { IfOk result (λ resumed. (rs : List Record) (rest : List ℕ)
+        → IsLog (M.bytes medium.old) rs rest →
+        ResumesOver schema.now site.0 place rs rest resumed (M.bytes medium.old)
+        (M.bytes medium.new) (M.foretold medium.old) (M.foretold medium.new)
+        (M.failed medium.old) (M.failed medium.new)) }
     ensures bytes { OnErr result (M.bytes medium.new ≡ M.bytes medium.old) }
     ensures failed { OnErr result (M.failed medium.new ≡ M.failed medium.old) }
     ensures foretold { OnErr result (M.foretold medium.new ≡ M.foretold medium.old) }
@@ -152,7 +162,8 @@ fn last_of(doubt: Option<usize>, behind: &[Record]) -> Last
 /// Adds the entry of a restart to a history that has room for it.
 fn tell(history: &mut Vec<Entry>, site: SiteNo, reply: Reply)
     requires room { vec_len history.old < vec_capacity history.old }
-    ensures told { history.new.items ≡ history.old.items ++ record { site = site; command = commands.Restart; reply = reply } ∷ [] }
+    ensures told { history.new.items ≡ history.old.items
+        ++ record { site = site; command = commands.Restart; reply = reply } ∷ [] }
 {
     history.push_reserved(Entry {
         site,

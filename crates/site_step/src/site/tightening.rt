@@ -39,8 +39,10 @@ impl<M: Medium> Site<M> {
         kind: Kind,
         amount: u64,
     ) -> Result<Reply, AllocError>
-        requires unrefused { first (refusals (here self.old) (Command.Tighten field kind amount)) ≡ None }
-        ensures ok { IfOk result (λ reply. Applies self.old (Command.Tighten field kind amount) reply self.new) }
+        requires unrefused { first (refusals (here self.old) (Command.Tighten field kind amount))
+            ≡ None }
+        ensures ok { IfOk result (λ reply. Applies self.old
+            (Command.Tighten field kind amount) reply self.new) }
         ensures err { OnErr result (self.new ≡ self.old) }
     {
         let total = self.cut_so_far(field, kind) + amount;

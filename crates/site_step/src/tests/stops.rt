@@ -258,8 +258,8 @@ const OVER_KEPT_RECORDS: [Step; 11] = [
     ),
 ];
 
-/// Of 20 rights to lower 5 were given up, and 30 to raise; a restart knows them, and they go on from
-/// there.
+/// Of 20 rights to lower 5 were given up, and 30 to raise; a restart knows them, and they go on
+/// from there.
 const KEPT_TIGHTENINGS: &str = "T 0 l 5\nT 0 r 30\n";
 
 const OVER_KEPT_TIGHTENINGS: [Step; 6] = [
@@ -292,8 +292,8 @@ const OVER_KEPT_TIGHTENINGS: [Step; 6] = [
     (Mishap::Never, READ, Reply::Between { lo: 20, hi: 70 }),
 ];
 
-/// A restart over a log that starts with a summary, and one over logs that end with one: of 20 rights to
-/// lower 5 were given to another site, or given up.
+/// A restart over a log that starts with a summary, and one over logs that end with one: of 20
+/// rights to lower 5 were given to another site, or given up.
 const OVER_FRESH_SUMMARY: [Step; 2] = [
     (
         Mishap::Never,

@@ -1,4 +1,5 @@
-//! Worked rows of a site that writes a summary at a stop: each expected answer is worked out by hand.
+//! Worked rows of a site that writes a summary at a stop: each expected answer is worked out by
+//! hand.
 
 use super::*;
 use field_bounds::Last;
@@ -39,8 +40,8 @@ fn restarted_behind_998(alloc: Global) -> Option<Site<TornMedium>> {
     Some(site)
 }
 
-/// A restart that is torn after so many bytes, and one that isn't: what the latter says, and how many
-/// records it replayed.
+/// A restart that is torn after so many bytes, and one that isn't: what the latter says, and how
+/// many records it replayed.
 fn torn_restart(alloc: Global, site: &mut Site<TornMedium>, bytes: u64) -> Option<(Reply, u64)> {
     site.arm(Mishap::Append(bytes));
     if answer(alloc, site, Command::Restart) != Some(Reply::StillDown) {

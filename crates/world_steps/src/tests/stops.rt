@@ -58,8 +58,8 @@ const SPENT: Reply = Reply::Shares {
     raise: 50,
 };
 
-/// The record of the commit, `C 0 1 0 -20`, has 12 bytes with its line feed. Without the last of them
-/// the commit is lost.
+/// The record of the commit, `C 0 1 0 -20`, has 12 bytes with its line feed. Without the last of
+/// them the commit is lost.
 const LOST: [Told; 6] = [
     Asked(0, Command::Begin, Luck::Fine, BEGUN),
     Asked(0, TAKE_TWENTY, Luck::Fine, Reply::Granted),

@@ -11,8 +11,10 @@ use Rattle.central_machine.proofs.faults.site_fault.Given as goal
 
 abbrev pub invariant-loop-place : goal.invariant-loop-place
 invariant-loop-place l = record {
-  totals : AreNumbers l.site.0 l.entries (length l.entries) l.places → (i : ℕ) → i ≤ length l.entries → own_count l.site.0 l.entries i ≡ l.place-index
+  totals : AreNumbers l.site.0 l.entries (length l.entries) l.places → (i : ℕ) → i ≤ length l.entries
+      → own_count l.site.0 l.entries i ≡ l.place-index
       → verdict_back l.schema (front_of l.entries i) ≡ Legal → IsSite l.schema l.site.0 (own l.site.0 (front_of l.entries i)) l.totals;
-  passed : AreNumbers l.site.0 l.entries (length l.entries) l.places → (i : ℕ) (e : Entry) → slice_get l.entries i ≡ Some e → own_count l.site.0 l.entries i < l.place-index
+  passed : AreNumbers l.site.0 l.entries (length l.entries) l.places → (i : ℕ) (e : Entry) → slice_get l.entries i ≡ Some e
+      → own_count l.site.0 l.entries i < l.place-index
       → verdict_back l.schema (front_of l.entries i) ≡ Legal → part_test l.schema (front_of l.entries i) e (AtSite l.site.0) ≡ true;
 }

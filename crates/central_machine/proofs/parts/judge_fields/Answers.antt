@@ -10,7 +10,10 @@ pub returns-in_default : goal.returns-in_default
 returns-in_default g c =
     let entries = c.args.entries.now in
     let zip = gathered c.args.schema.now entries c.in_ok-faults.faults.items c.in_ok-faults.ensures in
-    record { verdict = none_found c.args.schema.now c.sites-sites.ensures.limits entries c.in_ok-faults.faults.items zip (ap (earliest None) (sym c.deref.ensures.value) ∙ sym c.earliest.ensures ∙ c.in_default.is) }
+    record {
+      verdict = none_found c.args.schema.now c.sites-sites.ensures.limits entries c.in_ok-faults.faults.items zip
+          (ap (earliest None) (sym c.deref.ensures.value) ∙ sym c.earliest.ensures ∙ c.in_default.is);
+    }
 
 pub returns-in_default-get : goal.returns-in_default-get
 returns-in_default-get g c =
@@ -18,7 +21,8 @@ returns-in_default-get g c =
     let zip = gathered c.args.schema.now entries c.in_ok-faults.faults.items c.in_ok-faults.ensures in
     let first = ap (earliest None) (sym c.deref.ensures.value) ∙ sym c.earliest.ensures ∙ c.in-Some.is in
     let past : length entries ≤ c.in-Some.place = search rules in
-    absurd (let less = inside c.args.schema.now c.sites-sites.ensures.limits entries c.in_ok-faults.faults.items zip c.in-Some.place first in omega (arith, less, past))
+    absurd (let less = inside c.args.schema.now c.sites-sites.ensures.limits entries c.in_ok-faults.faults.items zip c.in-Some.place first
+    in omega (arith, less, past))
 
 pub returns : goal.returns
 returns g c =

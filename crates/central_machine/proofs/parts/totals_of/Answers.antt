@@ -28,4 +28,5 @@ returns c = λ legal.
     let schema = c.args.schema.now in
     let front = c.args.front.now in
     let all = take_all c.loop-entry.entry-index front (omega arith) in
-    subst (λ (xs : List Entry). AreTotals schema (reverse xs) c.loop-entry.totals) all (c.loop-entry.invariant (subst (λ (xs : List Entry). verdict_back schema (reverse xs) ≡ Legal) (sym all) legal))
+    subst (λ (xs : List Entry). AreTotals schema (reverse xs) c.loop-entry.totals) all
+    (c.loop-entry.invariant (subst (λ (xs : List Entry). verdict_back schema (reverse xs) ≡ Legal) (sym all) legal))

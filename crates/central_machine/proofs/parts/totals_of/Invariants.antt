@@ -5,4 +5,5 @@ use Rattle.central_machine.specs.Running.{AreTotals}
 use Rattle.central_machine.proofs.parts.totals_of.Given as goal
 
 abbrev pub invariant-loop-entry : goal.invariant-loop-entry
-invariant-loop-entry l = verdict_back l.schema (reverse (take l.entry-index l.front)) ≡ Legal → AreTotals l.schema (reverse (take l.entry-index l.front)) l.totals
+invariant-loop-entry l = verdict_back l.schema (reverse (take l.entry-index l.front)) ≡ Legal
+    → AreTotals l.schema (reverse (take l.entry-index l.front)) l.totals

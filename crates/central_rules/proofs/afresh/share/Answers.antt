@@ -8,7 +8,8 @@ pub returns-clause-value : goal.returns-clause-value
 returns-clause-value c =
     let es = reverse c.args.effects.now in
     let turned : c.granted_sizes-2.result ≡ granted_sizes (λ id. is_committed id es) c.args.field.0 (other c.args.kind) es =
-    c.granted_sizes-2.ensures.value ∙ ap (λ (k : Kind). granted_sizes (λ id. is_committed id es) c.args.field.0 k es) c.other.ensures.value in
+    c.granted_sizes-2.ensures.value ∙ ap (λ (k : Kind). granted_sizes (λ id. is_committed id es) c.args.field.0 k es) c.other.ensures.value
+    in
     omega (
       arith,
       c.part.ensures,

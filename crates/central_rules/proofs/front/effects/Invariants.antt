@@ -6,6 +6,7 @@ use Rattle.central_rules.proofs.front.effects.Given as goal
 
 abbrev pub invariant-loop-i : goal.invariant-loop-i
 invariant-loop-i l = record {
-  value : reverse l.made.items ≡ effects (fresh l.schema l.site.0) (doubt_kept_next l.site.0 (drop l.i l.front)) (own l.site.0 (reverse (take l.i l.front)));
+  value : reverse l.made.items ≡ effects (fresh l.schema l.site.0) (doubt_kept_next l.site.0 (drop l.i l.front))
+      (own l.site.0 (reverse (take l.i l.front)));
   few : length l.made.items ≤ l.i;
 }

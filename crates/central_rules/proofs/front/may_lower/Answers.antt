@@ -6,4 +6,5 @@ pub returns : goal.returns
 returns c =
     let b = c.args.bounds.now in
     let far : c.from.result ≡ above b.floor b.value = search rules in
-    c.covers.ensures ∙ rw (c.from-2.ensures, far) (low_test b.floor b.value c.args.raised c.args.lowered c.args.held c.args.by c.args.cut c.requires.ordered)
+    c.covers.ensures ∙ rw (c.from-2.ensures, far) (low_test b.floor b.value c.args.raised c.args.lowered c.args.held c.args.by c.args.cut
+    c.requires.ordered)

@@ -12,5 +12,6 @@ returns-clause-value c =
     let t = reverse c.args.front.now in
     let done : c.loop-site.site ≡ schema.sites = omega arith in
     c.loop-site.invariant.value
-    ∙ ap (λ (n : ℕ). sum_below n (λ s. granted_sizes (passes c.args.which (at_site schema t s)) c.args.field.0 c.args.kind (at_site schema t s))) done
+    ∙ ap (λ (n : ℕ). sum_below n (λ s. granted_sizes (passes c.args.which (at_site schema t s)) c.args.field.0 c.args.kind
+    (at_site schema t s))) done
     ∙ sym (by_sites schema t c.requires.sound (λ s id. passes c.args.which (at_site schema t s) id) c.args.field.0 c.args.kind)

@@ -9,8 +9,10 @@ loop-i-init c = refl
 
 pub returns-in-Some : goal.returns-in-Some
 returns-in-Some c = record {
-  verdict = stop_here c.args.schema.now c.args.entries.now c.loop-i.i _ (omega arith) c.loop-i.invariant c.in-Some.rule (sym c.in_ok-rule.ensures ∙ c.in-Some.is);
+  verdict = stop_here c.args.schema.now c.args.entries.now c.loop-i.i _ (omega arith) c.loop-i.invariant c.in-Some.rule
+      (sym c.in_ok-rule.ensures ∙ c.in-Some.is);
 }
 
 pub loop-i-preserved : goal.loop-i-preserved
-loop-i-preserved c = go_on c.args.schema.now c.args.entries.now c.loop-i.i _ (omega arith) c.loop-i.invariant (sym c.in_ok-rule.ensures ∙ c.in_default.is)
+loop-i-preserved c = go_on c.args.schema.now c.args.entries.now c.loop-i.i _ (omega arith) c.loop-i.invariant
+    (sym c.in_ok-rule.ensures ∙ c.in_default.is)

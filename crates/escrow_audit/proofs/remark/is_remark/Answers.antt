@@ -12,7 +12,8 @@ returns-in-Some c = (
     text = c.in-Some.ensures.found;
     short = omega (arith, c.if-line-gt-MAX_LINE.false);
   },
-  λ is. c.is_in_schema.ensures ∙ ap (is_in_schema c.args.schema.now) (same_Some c.in-Some.remark is.remark (c.in-Some.ensures.only is.remark is.fits is.text)) ∙ is.named,
+  λ is. c.is_in_schema.ensures ∙ ap (is_in_schema c.args.schema.now)
+      (same_Some c.in-Some.remark is.remark (c.in-Some.ensures.only is.remark is.fits is.text)) ∙ is.named,
 )
 
 pub returns-in-None : goal.returns-in-None

@@ -4,4 +4,5 @@ use Rattle.std.proofs.lemmas.Slice.Eq.{strip_prefix_is}
 use Rattle.escrow_script.proofs.line.after_level.Goals as goal
 
 pub returns : goal.returns
-returns c = strip_prefix_is {E = eqb} (λ a b. (eqb-true a b, eq-eqb a b)) c.args.bytes.now (codes "level ") c.strip_prefix.result c.strip_prefix.ensures.cases
+returns c = strip_prefix_is {E = eqb} (λ a b. (eqb-true a b, eq-eqb a b)) c.args.bytes.now
+    (codes "level ") c.strip_prefix.result c.strip_prefix.ensures.cases

@@ -15,4 +15,5 @@ returns-else-step_fits-clause-none c = λ step asks.
     let there = subst (λ (s : SchemaValue). Asks s c.args.line.now step) is asks in
     let found = c.in_ok-asked.ensures.found in
     let same = one_step _ limits step c.in_ok-asked.asked.step there.numbers found.1 (sym there.text ∙ found.0) in
-    both_ways c.step_fits.result c.if-step_fits.false (c.step_fits.ensures.fits.1 (subst (λ (x : WorldStep). StepFits c.schema-schema.result.now x) same there.fits))
+    both_ways c.step_fits.result c.if-step_fits.false
+    (c.step_fits.ensures.fits.1 (subst (λ (x : WorldStep). StepFits c.schema-schema.result.now x) same there.fits))

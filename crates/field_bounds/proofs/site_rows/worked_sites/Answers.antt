@@ -5,7 +5,9 @@ use Rattle.field_bounds.proofs.site_rows.worked_sites.Goals as goal
 
 pub returns-clause-schemas : goal.returns-clause-schemas
 returns-clause-schemas c = (
-  divided_is_schema _ _ _ _ (omega arith) (omega arith) (omega (arith, ints)) (omega (arith, ints)) (omega (arith, ints)) (omega (arith, ints)),
-  divided_is_schema _ _ _ _ (omega arith) (omega arith) (omega (arith, ints)) (omega (arith, ints)) (omega (arith, ints)) (omega (arith, ints)),
+  divided_is_schema _ _ _ _ (omega arith) (omega arith) (omega (arith, ints)) (omega (arith, ints)) (omega (arith, ints))
+      (omega (arith, ints)),
+  divided_is_schema _ _ _ _ (omega arith) (omega arith) (omega (arith, ints)) (omega (arith, ints)) (omega (arith, ints))
+      (omega (arith, ints)),
   twins_is_schema,
 )

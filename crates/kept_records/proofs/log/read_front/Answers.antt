@@ -41,7 +41,8 @@ loop-end-preserved c =
       parts = line_moves c.args.bytes.now rs rest (take end rest) (drop (end + 1) rest) r c.loop-end.invariant.parts cut.parts read.0
           ∙ ap (λ (l : List ℕ). flat_map text (rs ++ r ∷ []) ++ l) (sym (take_rest rest (end + 1)))
           ∙ ap (λ (l : List Record). flat_map text l ++ take (length rest - (end + 1)) (drop (end + 1) rest)) (sym more);
-      size = line_size rs r (take end rest) c.loop-end.length end c.loop-end.invariant.size read.0 (omega (arith, length-take end rest, cut.within)) ∙ ap (λ (l : List Record). length (flat_map text l)) (sym more);
+      size = line_size rs r (take end rest) c.loop-end.length end c.loop-end.invariant.size read.0
+          (omega (arith, length-take end rest, cut.within)) ∙ ap (λ (l : List Record). length (flat_map text l)) (sym more);
       each = subst (AllByRecursion IsRecord) (sym more) (all_push rs r c.loop-end.invariant.each read.1);
     }
 
@@ -50,5 +51,6 @@ returns-clause-front c =
     let bytes = c.args.bytes.now in
     let now = c.loop-end in
     let reads : Reads bytes now.records.items now.length =
-    are_read bytes now.records.items now.rest.now now.length now.invariant.parts now.invariant.size now.invariant.each (missing 10 now.rest.now (sym c.in_default.ensures)) in
+    are_read bytes now.records.items now.rest.now now.length now.invariant.parts now.invariant.size now.invariant.each
+    (missing 10 now.rest.now (sym c.in_default.ensures)) in
     (reads, only_log bytes now.records.items now.length reads)

@@ -15,13 +15,15 @@ returns-then-bytes-at-eq10-clause-line c =
     let bytes = c.args.bytes.now in
     let end = c.loop-at.end in
     let found = c.in-Some.ensures in
-    is_line bytes c.in-Some.at end c.in_ok-end.end c.if-at-gt0.true (omega (arith, found.0.high, length-take end bytes)) c.loop-at.invariant.within c.in_ok-end.ensures.0.high c.in_ok-end.ensures.1
+    is_line bytes c.in-Some.at end c.in_ok-end.end c.if-at-gt0.true
+    (omega (arith, found.0.high, length-take end bytes)) c.loop-at.invariant.within c.in_ok-end.ensures.0.high c.in_ok-end.ensures.1
     c.if-bytes-at-eq10.true found.1
 
 pub returns-then-bytes-at-eq10-clause-last : goal.returns-then-bytes-at-eq10-clause-last
 returns-then-bytes-at-eq10-clause-last c = λ j past line.
     let within : c.loop-at.end ≤ length c.args.bytes.now = omega (arith, c.loop-at.invariant.within, c.in_ok-end.ensures.0.high) in
-    none_behind_letter c.args.bytes.now c.loop-at.end c.in-Some.at within c.loop-at.invariant.none c.in-Some.ensures.0.after j (omega (arith, past)) line
+    none_behind_letter c.args.bytes.now c.loop-at.end c.in-Some.at within c.loop-at.invariant.none c.in-Some.ensures.0.after j
+    (omega (arith, past)) line
 
 pub loop-at-preserved : goal.loop-at-preserved
 loop-at-preserved c =

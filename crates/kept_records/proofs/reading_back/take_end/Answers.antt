@@ -15,7 +15,8 @@ first_summary-requires c =
     let few : end.length < 2 ^ 64 = omega arith in
     let same : window ≡ c.deref.result.now = c.deref-2.ensures.value ∙ sym c.deref.ensures.value in
     record {
-      log = kept_start held.0 window held.1 c.args.place from end.length (c.deref-2.ensures.value ∙ held.2.window) held.2.size from_is few held.2.parts c.in-Some.start
+      log = kept_start held.0 window held.1 c.args.place from end.length
+          (c.deref-2.ensures.value ∙ held.2.window) held.2.size from_is few held.2.parts c.in-Some.start
           (rw (sym same) at c.in-Some.ensures.start);
     }
 
@@ -29,7 +30,8 @@ read_log_bytes-requires c =
     let from_is : from ≡ end.length - length window = omega (arith, c.len.ensures, end.bytes.ok, long) in
     let few : end.length < 2 ^ 64 = omega arith in
     record {
-      log = kept_behind held.0 window held.1 c.args.place from end.length (c.deref-3.ensures.value ∙ held.2.window) held.2.size from_is few held.2.parts c.if-place-from.false;
+      log = kept_behind held.0 window held.1 c.args.place from end.length
+          (c.deref-3.ensures.value ∙ held.2.window) held.2.size from_is few held.2.parts c.if-place-from.false;
     }
 
 pub returns-clause-reads : goal.returns-clause-reads
@@ -53,14 +55,19 @@ returns-clause-reads c = λ bytes most is.
     let which = rw (sym same) at c.in-Some.ensures.start in
     let slice = take (length window - start) (drop start window) in
     let lines : drop size slice ≡ drop (start + size) end.bytes.items =
-    lines_are bytes window most c.args.place from end.length at_window is.size from_is few is.parts start which size ∙ ap (λ (l : List ℕ). drop (start + size) l) c.deref-2.ensures.value in
+    lines_are bytes window most c.args.place from end.length at_window is.size from_is few is.parts start which size
+    ∙ ap (λ (l : List ℕ). drop (start + size) l) c.deref-2.ensures.value in
     record {
-      last = last_from bytes window most c.args.place from end.length at_window is.size from_is few is.parts start which summary (drop (start + size) end.bytes.items)
+      last = last_from bytes window most c.args.place from end.length at_window is.size from_is few is.parts start which summary
+          (drop (start + size) end.bytes.items)
           (rw (sym same) at c.in-Some.ensures.within) (rw (sym same) at c.in-Some.ensures.last)
           (subst (λ (l : List ℕ). HandsSummary slice summary l) lines c.in_ok-summary.ensures.handed);
-      behind = stand_behind bytes other most c.args.place from end.length at_other is.size from_other few is.parts within c.in_ok-behind.behind.items c.in_ok-behind.length c.in_ok-behind.ensures.only;
-      whole = whole_is bytes other most c.args.place from end.length at_other is.size from_other few is.parts within c.in_ok-behind.behind.items c.in_ok-behind.length c.in_ok-behind.ensures.only
+      behind = stand_behind bytes other most c.args.place from end.length at_other is.size from_other few is.parts within
+          c.in_ok-behind.behind.items c.in_ok-behind.length c.in_ok-behind.ensures.only;
+      whole = whole_is bytes other most c.args.place from end.length at_other is.size from_other few is.parts within
+          c.in_ok-behind.behind.items c.in_ok-behind.length c.in_ok-behind.ensures.only
           c.in_ok-behind.ensures.whole;
       present = is.size;
-      within = behind_in bytes other most c.args.place from end.length at_other is.size from_other few is.parts c.in_ok-behind.length within c.in_ok-behind.ensures.within;
+      within = behind_in bytes other most c.args.place from end.length at_other is.size from_other few is.parts c.in_ok-behind.length within
+          c.in_ok-behind.ensures.within;
     }

@@ -89,9 +89,11 @@ returns-else-is_next_gift c =
     let off : is_next_accept l b ≡ false = cc (c.is_next_accept.ensures, c.if-is_next_accept.false) in
     let no_gift : is_next_gift l a b ≡ false = cc (c.is_next_gift.ensures, c.if-is_next_gift.false) in
     let so_far = ap (λ (ws : List (List ℕ)). groups_from g a b ws) (sym c.in-Some.ensures.first) ∙ c.loop-letter.invariant in
-    then_neither g a b l c.next.new.self c.in-Some-take_listed.told c.take_listed.new.words _ isnt c.in-Some-take_listed.ensures so_far off no_gift
+    then_neither g a b l c.next.new.self c.in-Some-take_listed.told c.take_listed.new.words _ isnt c.in-Some-take_listed.ensures so_far off
+    no_gift
 
 pub returns : goal.returns
 returns c =
     groups_end c.loop-letter.gifts.items c.loop-letter.accepts.items c.loop-letter.tightenings.items _
-    (ap (λ (ws : List (List ℕ)). groups_from c.loop-letter.gifts.items c.loop-letter.accepts.items c.loop-letter.tightenings.items ws) (sym c.in_default.ensures.first) ∙ c.loop-letter.invariant)
+    (ap (λ (ws : List (List ℕ)). groups_from c.loop-letter.gifts.items c.loop-letter.accepts.items c.loop-letter.tightenings.items ws)
+    (sym c.in_default.ensures.first) ∙ c.loop-letter.invariant)

@@ -18,4 +18,5 @@ loop-escrow-preserved c =
     let back : to_z w64 (of_z w64 e.change) ≡ e.change = to_z-of_z w64 e.change fits in
     let change : c.push_signed.new.line.items ≡ c.push_number.new.line.items ++ 32 ∷ signed_decimal e.change =
     c.in_ok-push_signed.ensures ∙ ap (λ (z : ℤ). c.push_number.new.line.items ++ 32 ∷ signed_decimal z) back in
-    escrow_pushed c.args.line.now.items c.loop-escrow.line.items c.push_number.new.line.items c.push_signed.new.line.items es i e none c.loop-escrow-test.true refl c.loop-escrow.invariant number change
+    escrow_pushed c.args.line.now.items c.loop-escrow.line.items c.push_number.new.line.items c.push_signed.new.line.items es i e none
+    c.loop-escrow-test.true refl c.loop-escrow.invariant number change

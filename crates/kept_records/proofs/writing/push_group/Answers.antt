@@ -10,4 +10,5 @@ loop-told-preserved c =
     let ts = c.args.totals.now in
     let i = c.loop-told.told-index in
     let t : Total = get_or ts i none in
-    group_pushed c.args.letter c.args.line.now.items c.loop-told.line.items c.push_word.new.line.items c.push_total.new.line.items ts i t none c.loop-told-test.true refl c.loop-told.invariant c.in_ok-push_word.ensures c.in_ok-push_total.ensures
+    group_pushed c.args.letter c.args.line.now.items c.loop-told.line.items c.push_word.new.line.items c.push_total.new.line.items ts i t
+    none c.loop-told-test.true refl c.loop-told.invariant c.in_ok-push_word.ensures c.in_ok-push_total.ensures

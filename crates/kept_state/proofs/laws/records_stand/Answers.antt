@@ -20,13 +20,15 @@ pub returns-clause-accepts : goal.returns-clause-accepts
 returns-clause-accepts c = λ schema s base bs kept o rs is run keeps from f k. run_accepts schema s base bs kept o rs is run keeps from f k
 
 pub returns-clause-restarts : goal.returns-clause-restarts
-returns-clause-restarts c = λ schema s base bs kept e o rs epoch found is run keeps asked told f k. run_restarts schema s base bs kept e o rs is run keeps epoch found asked told f k
+returns-clause-restarts c = λ schema s base bs kept e o rs epoch found is run keeps asked told f k.
+    run_restarts schema s base bs kept e o rs is run keeps epoch found asked told f k
 
 pub returns-clause-epoch : goal.returns-clause-epoch
 returns-clause-epoch c = λ schema s base bs kept o rs is keeps up. up_epoch schema s base bs is kept o rs keeps up
 
 pub returns-clause-fits : goal.returns-clause-fits
-returns-clause-fits c = λ schema s base bs kept o rs found is keeps below there back. restart_fits schema s base bs is kept o rs keeps found below there back
+returns-clause-fits c = λ schema s base bs kept o rs found is keeps below there back.
+    restart_fits schema s base bs is kept o rs keeps found below there back
 
 pub returns-clause-refused : goal.returns-clause-refused
 returns-clause-refused c = λ schema s base bs kept o rs is keeps full. refused_fits schema s base bs is kept o rs keeps full

@@ -4,7 +4,8 @@ use Rattle.kept_state.proofs.Written.{cut_within}
 use Rattle.kept_state.proofs.steps.records_may_be_written.Goals as goal
 
 pub returns-clause-lawful : goal.returns-clause-lawful
-returns-clause-lawful c = λ schema s base bs kept o rs command is run keeps h w. run_lawful_more schema s base bs is kept o rs run keeps command h w
+returns-clause-lawful c = λ schema s base bs kept o rs command is run keeps h w.
+    run_lawful_more schema s base bs is kept o rs run keeps command h w
 
 pub returns-clause-in_range : goal.returns-clause-in_range
 returns-clause-in_range c = λ schema s base o command good run small few h w. record_in_range schema s base o good run small command few h w

@@ -14,13 +14,17 @@ returns-clause-answered c = λ schema s base bs kept o rs site command keeps oth
     keeps_answered schema s base bs kept o rs keeps site command (no_restart command other)
 
 pub returns-clause-refused : goal.returns-clause-refused
-returns-clause-refused c = λ schema s base bs kept o rs site command refusal keeps. keeps_refused schema s base bs kept o rs keeps site command refusal
+returns-clause-refused c = λ schema s base bs kept o rs site command refusal keeps.
+    keeps_refused schema s base bs kept o rs keeps site command refusal
 
 pub returns-clause-unsure : goal.returns-clause-unsure
-returns-clause-unsure c = λ schema s base bs kept o rs site command stood keeps up. keeps_unsure schema s base bs kept o rs keeps site command stood up
+returns-clause-unsure c = λ schema s base bs kept o rs site command stood keeps up.
+    keeps_unsure schema s base bs kept o rs keeps site command stood up
 
 pub returns-clause-still_down : goal.returns-clause-still_down
-returns-clause-still_down c = λ schema s base bs kept o rs site command stood keeps. keeps_still_down schema s base bs kept o rs keeps site command stood
+returns-clause-still_down c = λ schema s base bs kept o rs site command stood keeps.
+    keeps_still_down schema s base bs kept o rs keeps site command stood
 
 pub returns-clause-restarted : goal.returns-clause-restarted
-returns-clause-restarted c = λ schema s base bs kept later o rs site command doubt keeps is. keeps_restarted schema s base bs kept o rs keeps site command later doubt is
+returns-clause-restarted c = λ schema s base bs kept later o rs site command doubt keeps is.
+    keeps_restarted schema s base bs kept o rs keeps site command later doubt is

@@ -27,7 +27,8 @@ loop-digit-init c = search rules
 pub returns-then-not-is_ascii_digit : goal.returns-then-not-is_ascii_digit
 returns-then-not-is_ascii_digit c =
     let w = c.args.word.now in
-    read_says number_read w _ (sym (number_no_digit (2 ^ 64) w c.loop-digit.digit-index (omega arith) c.loop-digit-test.true (sym c.if-not-is_ascii_digit.ensures.value)))
+    read_says number_read w _ (sym (number_no_digit (2 ^ 64) w c.loop-digit.digit-index (omega arith) c.loop-digit-test.true
+    (sym c.if-not-is_ascii_digit.ensures.value)))
 
 pub returns-in_err-checked_mul : goal.returns-in_err-checked_mul
 returns-in_err-checked_mul c =
@@ -36,7 +37,8 @@ returns-in_err-checked_mul c =
     let v = c.loop-digit.invariant.value_is in
     let large : c.loop-digit.value * 10 < 2 ^ 64 → ⊥ = c.in_err-checked_mul.ensures in
     let over : 2 ^ 64 ≤ digits_value 10 (take i w) * 10 = omega arith in
-    read_says number_read w _ (c.from_residual.ensures ∙ sym (number_too_large (2 ^ 64) w i (omega arith) c.loop-digit-test.true (omega arith)))
+    read_says number_read w _ (c.from_residual.ensures
+    ∙ sym (number_too_large (2 ^ 64) w i (omega arith) c.loop-digit-test.true (omega arith)))
 
 pub returns-in_err-value : goal.returns-in_err-value
 returns-in_err-value c =
@@ -44,8 +46,10 @@ returns-in_err-value c =
     let w = c.args.word.now in
     let v = c.loop-digit.invariant.value_is in
     let d = digit_is (get_or w i 0) (sym c.if-not-is_ascii_digit.ensures.value) in
-    let over : 2 ^ 64 ≤ digits_value 10 (take i w) * 10 + digit_value (get_or w i 0) = omega (arith, c.in_err-value.ensures, c.from.ensures, c.in_ok-checked_mul.ensures) in
-    read_says number_read w _ (c.from_residual-in_err-value.ensures ∙ sym (number_too_large (2 ^ 64) w i (omega arith) c.loop-digit-test.true over))
+    let over : 2 ^ 64 ≤ digits_value 10 (take i w) * 10 + digit_value (get_or w i 0) =
+    omega (arith, c.in_err-value.ensures, c.from.ensures, c.in_ok-checked_mul.ensures) in
+    read_says number_read w _ (c.from_residual-in_err-value.ensures
+    ∙ sym (number_too_large (2 ^ 64) w i (omega arith) c.loop-digit-test.true over))
 
 pub loop-digit-preserved : goal.loop-digit-preserved
 loop-digit-preserved c =
@@ -54,7 +58,14 @@ loop-digit-preserved c =
     let d = digit_is (get_or w i 0) (sym c.if-not-is_ascii_digit.ensures.value) in
     record {
       digits = digits_more 10 w i c.loop-digit-test.true c.loop-digit.invariant.digits d.0;
-      value_is = omega (arith, digits_value_more 10 w i c.loop-digit-test.true, c.loop-digit.invariant.value_is, c.in_ok-value.ensures, c.from.ensures, c.in_ok-checked_mul.ensures);
+      value_is = omega (
+        arith,
+        digits_value_more 10 w i c.loop-digit-test.true,
+        c.loop-digit.invariant.value_is,
+        c.in_ok-value.ensures,
+        c.from.ensures,
+        c.in_ok-checked_mul.ensures,
+      );
       below = omega (arith, c.in_ok-value.ensures, c.from.ensures);
     }
 

@@ -3,4 +3,8 @@ use Rattle.std.specs.Str.Parse.{digits_value, AllDigits}
 use Rattle.line_words.proofs.number.read_number.Given as goal
 
 abbrev pub invariant-loop-digit : goal.invariant-loop-digit
-invariant-loop-digit l = record { digits : AllDigits 10 (take l.digit-index l.word); value_is : l.value ≡ digits_value 10 (take l.digit-index l.word); below : l.value < 2 ^ 64 }
+invariant-loop-digit l = record {
+  digits : AllDigits 10 (take l.digit-index l.word);
+  value_is : l.value ≡ digits_value 10 (take l.digit-index l.word);
+  below : l.value < 2 ^ 64;
+}

@@ -32,6 +32,7 @@ pub returns-in-None : goal.returns-in-None
 returns-in-None c = record {
   begins = if_ok _ _ c.new.result
       (λ standing nothing all end_.
-      subst (λ (x : List Record). IsStandingFor c.args.schema.now c.args.site.0 x standing) (sym (begun_none c.args.schema.now c.args.site.0 all c.args.end.now end_ c.in-None.is)) nothing)
+      subst (λ (x : List Record). IsStandingFor c.args.schema.now c.args.site.0 x standing)
+      (sym (begun_none c.args.schema.now c.args.site.0 all c.args.end.now end_ c.in-None.is)) nothing)
       c.new.ensures.nothing;
 }

@@ -9,7 +9,8 @@ use Rattle.log_replay.proofs.resuming.resume.Goals as goal
 pub loop-records-init : goal.loop-records-init
 loop-records-init c = record {
   few = omega (arith, ap length (c.new-records.ensures.all ∙ c.as_slice.ensures.all));
-  walks = λ all end_. walks_start c.args.schema.now c.args.site.0 all c.args.end.now end_ c.in_ok-standing.standing c.new-records.result (c.new-records.ensures.all ∙ c.as_slice.ensures.all) (c.in_ok-standing.ensures.begins all end_);
+  walks = λ all end_. walks_start c.args.schema.now c.args.site.0 all c.args.end.now end_ c.in_ok-standing.standing c.new-records.result
+      (c.new-records.ensures.all ∙ c.as_slice.ensures.all) (c.in_ok-standing.ensures.begins all end_);
 }
 
 pub next-requires : goal.next-requires
@@ -23,7 +24,8 @@ take_in-may-requires-clause-places c =
     let now = c.loop-records.standing in
     let end_ = c.requires.end_.1 in
     let walks = c.loop-records.invariant.walks c.requires.end_.0 end_ in
-    has_places c.args.schema.now c.args.site.0 (up_to end_.holds.last.before c.args.end.now.summary ++ walks.taken) now.rights now.ledger now.epoch walks.stands.for_
+    has_places c.args.schema.now c.args.site.0 (up_to end_.holds.last.before c.args.end.now.summary
+    ++ walks.taken) now.rights now.ledger now.epoch walks.stands.for_
 
 pub take_in-may-requires-clause-in_range : goal.take_in-may-requires-clause-in_range
 take_in-may-requires-clause-in_range c = (rw c.in-Some.is at c.in_ok-record.ensures.handed).1
@@ -33,7 +35,8 @@ take_in-may-requires-clause-plain c =
     let end_ = c.requires.end_.1 in
     let walks = c.loop-records.invariant.walks c.requires.end_.0 end_ in
     let handed = rw c.in-Some.is at c.in_ok-record.ensures.handed in
-    (turn_of c.args.schema.now c.args.site.0 c.requires.end_.0 c.args.end.now end_ c.loop-records.standing c.loop-records.turns c.loop-records.records walks c.in-Some.record c.next.new.self handed.0 handed.1).plain
+    (turn_of c.args.schema.now c.args.site.0 c.requires.end_.0 c.args.end.now end_ c.loop-records.standing c.loop-records.turns
+    c.loop-records.records walks c.in-Some.record c.next.new.self handed.0 handed.1).plain
 
 pub prove-unreachable-requires : goal.prove-unreachable-requires
 prove-unreachable-requires c =
@@ -42,8 +45,10 @@ prove-unreachable-requires c =
     let end_ = c.requires.end_.1 in
     let walks = c.loop-records.invariant.walks c.requires.end_.0 end_ in
     let handed = rw c.in-Some.is at c.in_ok-record.ensures.handed in
-    let turn = turn_of schema s c.requires.end_.0 c.args.end.now end_ c.loop-records.standing c.loop-records.turns c.loop-records.records walks c.in-Some.record c.next.new.self handed.0 handed.1 in
-    let answered = c.take_in-may.ensures.takes_in.answered s (up_to end_.holds.last.before c.args.end.now.summary ++ walks.taken) turn.lawful walks.stands in
+    let turn = turn_of schema s c.requires.end_.0 c.args.end.now end_ c.loop-records.standing c.loop-records.turns c.loop-records.records
+    walks c.in-Some.record c.next.new.self handed.0 handed.1 in
+    let answered = c.take_in-may.ensures.takes_in.answered s
+    (up_to end_.holds.last.before c.args.end.now.summary ++ walks.taken) turn.lawful walks.stands in
     cc (answered, turn.may, c.if-prove.true)
 
 pub loop-records-preserved : goal.loop-records-preserved
@@ -64,7 +69,8 @@ loop-records-preserved c =
       walks = λ all end_.
           let walks = c.loop-records.invariant.walks all end_ in
           let turn = turn_of schema s all read end_ standing turns old walks r new handed.0 handed.1 in
-          let after = after_one schema s (up_to end_.holds.last.before read.summary ++ walks.taken) r standing c.take_in-may.new.self turn.lawful walks.stands
+          let after = after_one schema s (up_to end_.holds.last.before read.summary
+          ++ walks.taken) r standing c.take_in-may.new.self turn.lawful walks.stands
           (subst (λ (x : Bool). TakesIn schema standing r x c.take_in-may.new.self) c.if-prove.false c.take_in-may.ensures.takes_in) in
           subst (λ (l : List ℕ). Walks schema s all read end_ c.take_in-may.new.self (turns + 1) l) (sym same)
           (walks_on schema s all read end_ standing turns old walks r new c.take_in-may.new.self handed.0 handed.1 after);
@@ -73,9 +79,11 @@ loop-records-preserved c =
 pub returns-clause-standing : goal.returns-clause-standing
 returns-clause-standing c = λ all end_.
     let handed = rw c.in_default.is at c.in_ok-record.ensures.handed in
-    (walks_end c.args.schema.now c.args.site.0 all c.args.end.now end_ c.loop-records.standing c.loop-records.turns c.loop-records.records (c.loop-records.invariant.walks all end_) handed.0).0
+    (walks_end c.args.schema.now c.args.site.0 all c.args.end.now end_ c.loop-records.standing c.loop-records.turns c.loop-records.records
+    (c.loop-records.invariant.walks all end_) handed.0).0
 
 pub returns-clause-turns : goal.returns-clause-turns
 returns-clause-turns c = λ all end_.
     let handed = rw c.in_default.is at c.in_ok-record.ensures.handed in
-    (walks_end c.args.schema.now c.args.site.0 all c.args.end.now end_ c.loop-records.standing c.loop-records.turns c.loop-records.records (c.loop-records.invariant.walks all end_) handed.0).1
+    (walks_end c.args.schema.now c.args.site.0 all c.args.end.now end_ c.loop-records.standing c.loop-records.turns c.loop-records.records
+    (c.loop-records.invariant.walks all end_) handed.0).1

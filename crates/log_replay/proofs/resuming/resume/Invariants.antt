@@ -7,7 +7,8 @@ use Rattle.log_replay.proofs.resuming.resume.Given as goal
 abbrev pub invariant-loop-records : goal.invariant-loop-records
 invariant-loop-records l = record {
   few : l.turns + length l.records ≤ length l.fn.end.lines;
-  walks : (all : List Record) → (end_ : IsEnd l.fn.schema l.fn.site.0 all l.fn.end) → Walks l.fn.schema l.fn.site.0 all l.fn.end end_ l.standing l.turns l.records;
+  walks : (all : List Record) → (end_ : IsEnd l.fn.schema l.fn.site.0 all l.fn.end)
+      → Walks l.fn.schema l.fn.site.0 all l.fn.end end_ l.standing l.turns l.records;
 }
 
 abbrev pub decreases-loop-records : goal.decreases-loop-records

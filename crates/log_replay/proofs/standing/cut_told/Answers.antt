@@ -8,4 +8,5 @@ pub loop-told-preserved : goal.loop-told-preserved
 loop-told-preserved c =
     let ts = c.args.cuts.now in
     let i = c.loop-told.told-index in
-    cut_told_one ts i c.args.field.0 c.args.kind c.loop-told.total _ c.loop-told-test.true c.loop-told.invariant c.cut_or-total.ensures.value
+    cut_told_one ts i c.args.field.0 c.args.kind c.loop-told.total _ c.loop-told-test.true c.loop-told.invariant
+    c.cut_or-total.ensures.value

@@ -11,7 +11,8 @@ set_accepted-requires c =
     let ts = c.args.accepts.now in
     let i = c.loop-told.told-index in
     let t : Total = get_or ts i no_total in
-    let was : IsSlot old t.site.0 t.field.0 = each_at (λ (t : Total). IsSlot old t.site.0 t.field.0) ts i no_total c.loop-told-test.true c.requires.places in
+    let was : IsSlot old t.site.0 t.field.0 = each_at
+    (λ (t : Total). IsSlot old t.site.0 t.field.0) ts i no_total c.loop-told-test.true c.requires.places in
     let here : IsSlot c.loop-told.ledger t.site.0 t.field.0 = c.loop-told.invariant.place t.site.0 t.field.0 was in
     record { place = here }
 
@@ -21,7 +22,8 @@ loop-told-preserved c =
     let ts = c.args.accepts.now in
     let i = c.loop-told.told-index in
     let t : Total = get_or ts i no_total in
-    let was : IsSlot old t.site.0 t.field.0 = each_at (λ (t : Total). IsSlot old t.site.0 t.field.0) ts i no_total c.loop-told-test.true c.requires.places in
+    let was : IsSlot old t.site.0 t.field.0 = each_at
+    (λ (t : Total). IsSlot old t.site.0 t.field.0) ts i no_total c.loop-told-test.true c.requires.places in
     let here : IsSlot c.loop-told.ledger t.site.0 t.field.0 = c.loop-told.invariant.place t.site.0 t.field.0 was in
     subst (λ (x : LedgerValue). NotesAccepts old (take (i + 1) ts) x) (sym c.set_accepted.ensures.set)
     (accepts_more old c.loop-told.ledger ts i c.loop-told-test.true c.loop-told.invariant t refl here)

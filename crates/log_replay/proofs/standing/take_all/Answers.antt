@@ -15,7 +15,10 @@ take-requires c =
     let i = c.loop-escrow.escrow-index in
     let d : Escrow = record { field = record { 0 = 0 }; change = pos 0 } in
     let so_far = c.loop-escrow.invariant.taken_so_far in
-    record { in_schema = subst (λ (rows : List FieldRights). (get_or es i d).field.0 < length rows) (sym so_far) (next_in_range c.args.rights.now es i d c.requires.in_range c.loop-escrow-test.true) }
+    record {
+      in_schema = subst (λ (rows : List FieldRights). (get_or es i d).field.0 < length rows) (sym so_far)
+          (next_in_range c.args.rights.now es i d c.requires.in_range c.loop-escrow-test.true);
+    }
 
 pub returns-then-is_err-clause-enough : goal.returns-then-is_err-clause-enough
 returns-then-is_err-clause-enough c =
@@ -60,6 +63,7 @@ loop-escrow-preserved c =
     let next : unsigned_abs e.change ≤ free_at (by_escrows after_take rows (take i es)) e.field.0 (kind_of e.change) =
     subst (λ (x : List FieldRights). unsigned_abs e.change ≤ free_at x e.field.0 (kind_of e.change)) so_far within in
     record {
-      taken_so_far = made ∙ ap (λ (x : List FieldRights). by_escrow after_take x e) so_far ∙ sym (fold_more (by_escrow after_take) rows es i d c.loop-escrow-test.true);
+      taken_so_far = made ∙ ap (λ (x : List FieldRights). by_escrow after_take x e) so_far
+          ∙ sym (fold_more (by_escrow after_take) rows es i d c.loop-escrow-test.true);
       free_so_far = next_free rows es i d c.requires.in_range c.loop-escrow-test.true c.loop-escrow.invariant.free_so_far next;
     }

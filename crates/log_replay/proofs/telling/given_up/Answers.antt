@@ -18,4 +18,5 @@ loop-number-preserved c =
     c.in_ok-push_cut.ensures ∙ ap (λ (n : ℕ). c.loop-number.told.items ++ cut_if field Lower n) c.cut_with-lower.ensures.value in
     let high : c.push_cut-in-loop-number.new.totals.items ≡ c.push_cut.new.totals.items ++ one_cut F m Raise =
     c.in_ok-push_cut-2.ensures ∙ ap (λ (n : ℕ). c.push_cut.new.totals.items ++ cut_if field Raise n) c.cut_with-raise.ensures.value in
-    cuts_more F m c.loop-number.told.items c.push_cut.new.totals.items c.push_cut-in-loop-number.new.totals.items c.loop-number.invariant low high
+    cuts_more F m c.loop-number.told.items c.push_cut.new.totals.items c.push_cut-in-loop-number.new.totals.items c.loop-number.invariant
+    low high

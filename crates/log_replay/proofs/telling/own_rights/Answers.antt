@@ -8,4 +8,6 @@ loop-number-init c = c.new-told.ensures.items ∙ sym (rights_none (own_at c.arg
 
 pub loop-number-preserved : goal.loop-number-preserved
 loop-number-preserved c =
-    rights_more (own_at c.args.rights.now) c.loop-number.number c.loop-number.told.items c.push.new.self.items c.own.result c.own-in-loop-number.result c.loop-number.invariant c.own.ensures.value c.own-in-loop-number.ensures.value c.in_ok-push.ensures.items
+    rights_more (own_at c.args.rights.now) c.loop-number.number c.loop-number.told.items c.push.new.self.items c.own.result
+    c.own-in-loop-number.result c.loop-number.invariant c.own.ensures.value c.own-in-loop-number.ensures.value
+    c.in_ok-push.ensures.items

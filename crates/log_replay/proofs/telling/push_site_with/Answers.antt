@@ -16,7 +16,10 @@ loop-number-preserved c =
     let m = c.loop-number.number in
     let field : FieldNo = record { 0 = m } in
     let low : c.push_total.new.totals.items ≡ c.loop-number.totals.items ++ one_total F r m Lower =
-    c.in_ok-push_total.ensures ∙ ap (λ (n : ℕ). c.loop-number.totals.items ++ told_if c.args.site field Lower n) c.total_with-lower.ensures.value in
+    c.in_ok-push_total.ensures ∙ ap (λ (n : ℕ). c.loop-number.totals.items
+    ++ told_if c.args.site field Lower n) c.total_with-lower.ensures.value in
     let high : c.push_total-in-loop-number.new.totals.items ≡ c.push_total.new.totals.items ++ one_total F r m Raise =
-    c.in_ok-push_total-2.ensures ∙ ap (λ (n : ℕ). c.push_total.new.totals.items ++ told_if c.args.site field Raise n) c.total_with-raise.ensures.value in
-    site_more F r m c.args.totals.now.items c.loop-number.totals.items c.push_total.new.totals.items c.push_total-in-loop-number.new.totals.items c.loop-number.invariant low high
+    c.in_ok-push_total-2.ensures ∙ ap (λ (n : ℕ). c.push_total.new.totals.items
+    ++ told_if c.args.site field Raise n) c.total_with-raise.ensures.value in
+    site_more F r m c.args.totals.now.items c.loop-number.totals.items c.push_total.new.totals.items
+    c.push_total-in-loop-number.new.totals.items c.loop-number.invariant low high

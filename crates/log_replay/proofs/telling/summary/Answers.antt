@@ -4,10 +4,16 @@ use Rattle.log_replay.proofs.Told.{summary_is}
 use Rattle.log_replay.proofs.telling.summary.Goals as goal
 
 pub totals_on_side-requires : goal.totals_on_side-requires
-totals_on_side-requires c = record { places = λ r f site_in apart field_in. c.requires.places.place r f (record { other = apart; site_in = site_in; field_in = field_in }) }
+totals_on_side-requires c = record {
+  places = λ r f site_in apart field_in.
+      c.requires.places.place r f (record { other = apart; site_in = site_in; field_in = field_in });
+}
 
 pub totals_on_side-requires-2 : goal.totals_on_side-requires-2
-totals_on_side-requires-2 c = record { places = λ r f site_in apart field_in. c.requires.places.place r f (record { other = apart; site_in = site_in; field_in = field_in }) }
+totals_on_side-requires-2 c = record {
+  places = λ r f site_in apart field_in.
+      c.requires.places.place r f (record { other = apart; site_in = site_in; field_in = field_in });
+}
 
 pub returns-clause-told : goal.returns-clause-told
 returns-clause-told c =

@@ -6,7 +6,8 @@ use Rattle.log_replay.proofs.telling.totals_on_side.Goals as goal
 use Rattle.log_replay.proofs.telling.totals_on_side.Goals.{then-number-own+in_ok-push_any_site, else-number-own}
 
 pub loop-number-init : goal.loop-number-init
-loop-number-init c = c.new-totals.ensures.items ∙ sym (sites_none (side_with c.args.anew c.args.given c.args.ledger.now) c.args.ledger.now.site (length c.args.schema.now.fields))
+loop-number-init c = c.new-totals.ensures.items ∙ sym
+    (sites_none (side_with c.args.anew c.args.given c.args.ledger.now) c.args.ledger.now.site (length c.args.schema.now.fields))
 
 pub push_any_site-requires : goal.push_any_site-requires
 push_any_site-requires c =
@@ -29,7 +30,8 @@ loop-number-preserved c =
           let added : w.push_any_site.new.totals.items ≡ c.loop-number.totals.items ++ totals_of_site F n m =
           w.in_ok-push_any_site.ensures ∙ ap (λ (x : ℕ). c.loop-number.totals.items ++ totals_of_site F n x) w.fields.ensures.value in
           let is : c.if-number-own.totals.items ≡ w.push_any_site.new.totals.items = ap (λ v. v.items) w.totals-is in
-          sites_more F s m n c.loop-number.totals.items c.if-number-own.totals.items was (λ same. w.if-number-own.true (same ∙ sym c.site-own.ensures.value)) (is ∙ added)
+          sites_more F s m n c.loop-number.totals.items c.if-number-own.totals.items was
+          (λ same. w.if-number-own.true (same ∙ sym c.site-own.ensures.value)) (is ∙ added)
       | else-number-own w ↦
           let is : c.if-number-own.totals.items ≡ c.loop-number.totals.items = ap (λ v. v.items) w.totals-is in
           is ∙ sites_same F s m n c.loop-number.totals.items was (w.if-number-own.false ∙ c.site-own.ensures.value)

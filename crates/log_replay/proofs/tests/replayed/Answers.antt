@@ -5,7 +5,8 @@ use Rattle.log_replay.proofs.tests.replayed.Goals as goal
 
 pub read_off-requires-clause-place : goal.read_off-requires-clause-place
 read_off-requires-clause-place c =
-    let stands = subst (λ (x : Replayed). TellsStanding c.in_ok-schema.schema 0 c.deref.result.now x) c.in-Ok-Standing.field-0-is c.in-Ok-Standing.ensures.standing in
+    let stands = subst (λ (x : Replayed). TellsStanding c.in_ok-schema.schema 0 c.deref.result.now x) c.in-Ok-Standing.field-0-is
+    c.in-Ok-Standing.ensures.standing in
     stands.1.for_.place 1 0
     (record {
       other = λ same. absurd (omega (arith, same));

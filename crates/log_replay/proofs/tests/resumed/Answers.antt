@@ -26,9 +26,16 @@ log_of bytes held rs n reads same = record {
 }
 
 parts_at : (bytes held : List ℕ) (rs : List Record) (n : ℕ) → Reads bytes rs n → held ≡ bytes → PartsAt held 0
-parts_at bytes held rs n reads same = record { before = []; behind = rs; rest = drop n bytes; log = log_of bytes held rs n reads same; place_is = refl }
+parts_at bytes held rs n reads same = record {
+  before = [];
+  behind = rs;
+  rest = drop n bytes;
+  log = log_of bytes held rs n reads same;
+  place_is = refl;
+}
 
-end_is : (schema : SchemaValue) (bytes held : List ℕ) (rs : List Record) (n : ℕ) (read : ReadBack) → Reads bytes rs n → held ≡ bytes → Lawful schema 0 rs → AreLast held read.summary read.lines → IsEnd schema 0 rs read
+end_is : (schema : SchemaValue) (bytes held : List ℕ) (rs : List Record) (n : ℕ) (read : ReadBack) → Reads bytes rs n → held ≡ bytes
+    → Lawful schema 0 rs → AreLast held read.summary read.lines → IsEnd schema 0 rs read
 end_is schema bytes held rs n read reads same lawful last = record {
   rest = drop n bytes;
   each = reads.each;
@@ -38,32 +45,54 @@ end_is schema bytes held rs n read reads same lawful last = record {
 
 pub read_back-requires : goal.read_back-requires
 read_back-requires c =
-    let reads = gave _ c.read_records.result (c.in_ok-records.records, c.in_ok-records.field-0-1) c.in_ok-records.ensures.value c.read_records.ensures.reads in
-    let same = c.new-medium.ensures.bytes ∙ gave _ c.from_slice.result c.in_ok-ok.field-0 c.in_ok-ok.ensures.value c.from_slice.ensures.items in
-    record { log = parts_at c.as_bytes-bytes.result.now c.new-medium.result.bytes c.in_ok-records.records.items c.in_ok-records.field-0-1 reads same }
+    let reads = gave _ c.read_records.result (
+      c.in_ok-records.records,
+      c.in_ok-records.field-0-1,
+    ) c.in_ok-records.ensures.value c.read_records.ensures.reads in
+    let same = c.new-medium.ensures.bytes ∙ gave _ c.from_slice.result c.in_ok-ok.field-0 c.in_ok-ok.ensures.value
+    c.from_slice.ensures.items in
+    record {
+      log = parts_at c.as_bytes-bytes.result.now c.new-medium.result.bytes c.in_ok-records.records.items c.in_ok-records.field-0-1
+          reads same;
+    }
 
 pub resume-requires : goal.resume-requires
 resume-requires c =
     let schema = c.in_ok-schema.schema in
-    let reads = gave _ c.read_records.result (c.in_ok-records.records, c.in_ok-records.field-0-1) c.in_ok-records.ensures.value c.read_records.ensures.reads in
-    let same = c.new-medium.ensures.bytes ∙ gave _ c.from_slice.result c.in_ok-ok.field-0 c.in_ok-ok.ensures.value c.from_slice.ensures.items in
-    let told = subst (λ (x : Replayed). TellsStanding schema 0 c.deref.result.now x) c.in-Ok-Standing.field-0-is c.in-Ok-Standing.ensures.standing in
+    let reads = gave _ c.read_records.result (
+      c.in_ok-records.records,
+      c.in_ok-records.field-0-1,
+    ) c.in_ok-records.ensures.value c.read_records.ensures.reads in
+    let same = c.new-medium.ensures.bytes ∙ gave _ c.from_slice.result c.in_ok-ok.field-0 c.in_ok-ok.ensures.value
+    c.from_slice.ensures.items in
+    let told = subst (λ (x : Replayed). TellsStanding schema 0 c.deref.result.now x) c.in-Ok-Standing.field-0-is
+    c.in-Ok-Standing.ensures.standing in
     let lawful = subst (λ (x : List Record). Lawful schema 0 x) c.deref.ensures.value told.0 in
     let last = gave _ c.read_back.result c.in_ok-end.end c.in_ok-end.ensures.value c.read_back.ensures.last in
     record {
       site_in = omega (arith, c.sites.ensures.value, c.if-sites-ne2.false);
-      end_ = (c.in_ok-records.records.items, end_is schema c.as_bytes-bytes.result.now c.new-medium.result.bytes c.in_ok-records.records.items c.in_ok-records.field-0-1 c.in_ok-end.end reads same lawful last);
+      end_ = (
+        c.in_ok-records.records.items,
+        end_is schema c.as_bytes-bytes.result.now c.new-medium.result.bytes
+            c.in_ok-records.records.items c.in_ok-records.field-0-1 c.in_ok-end.end reads same lawful last,
+      );
     }
 
 pub read_off-requires : goal.read_off-requires
 read_off-requires c =
     let schema = c.in_ok-schema.schema in
-    let reads = gave _ c.read_records.result (c.in_ok-records.records, c.in_ok-records.field-0-1) c.in_ok-records.ensures.value c.read_records.ensures.reads in
-    let same = c.new-medium.ensures.bytes ∙ gave _ c.from_slice.result c.in_ok-ok.field-0 c.in_ok-ok.ensures.value c.from_slice.ensures.items in
-    let told = subst (λ (x : Replayed). TellsStanding schema 0 c.deref.result.now x) c.in-Ok-Standing.field-0-is c.in-Ok-Standing.ensures.standing in
+    let reads = gave _ c.read_records.result (
+      c.in_ok-records.records,
+      c.in_ok-records.field-0-1,
+    ) c.in_ok-records.ensures.value c.read_records.ensures.reads in
+    let same = c.new-medium.ensures.bytes ∙ gave _ c.from_slice.result c.in_ok-ok.field-0 c.in_ok-ok.ensures.value
+    c.from_slice.ensures.items in
+    let told = subst (λ (x : Replayed). TellsStanding schema 0 c.deref.result.now x) c.in-Ok-Standing.field-0-is
+    c.in-Ok-Standing.ensures.standing in
     let lawful = subst (λ (x : List Record). Lawful schema 0 x) c.deref.ensures.value told.0 in
     let last = gave _ c.read_back.result c.in_ok-end.end c.in_ok-end.ensures.value c.read_back.ensures.last in
-    let end_ = end_is schema c.as_bytes-bytes.result.now c.new-medium.result.bytes c.in_ok-records.records.items c.in_ok-records.field-0-1 c.in_ok-end.end reads same lawful last in
+    let end_ = end_is schema c.as_bytes-bytes.result.now c.new-medium.result.bytes c.in_ok-records.records.items c.in_ok-records.field-0-1
+    c.in_ok-end.end reads same lawful last in
     let stands = (c.in-Ok.ensures.standing c.in_ok-records.records.items end_).for_ in
     record {
       rights = omega (arith, stands.count, c.fields.ensures.value, c.if-fields-ne1.false);

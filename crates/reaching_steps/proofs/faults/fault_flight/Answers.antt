@@ -12,16 +12,26 @@ pub returns-in-Some : goal.returns-in-Some
 returns-in-Some c =
     let schema = c.args.trial.now.schema in
     let t = trace_of c.args.trial.now in
-    let all : c.sites-sites.result ≡ schema.sites = c.sites-sites.ensures.value ∙ ap (λ (x : SchemaValue). x.sites) (c.schema.ensures.value ∙ ap (λ (x : WorldValue). x.schema) c.world.ensures.value) in
+    let all : c.sites-sites.result ≡ schema.sites =
+    c.sites-sites.ensures.value ∙ ap (λ (x : SchemaValue). x.sites)
+    (c.schema.ensures.value ∙ ap (λ (x : WorldValue). x.schema) c.world.ensures.value) in
     let p : ℕ → Bool = is_short_from schema t c.args.site c.args.field in
-    record { value = first_some InFlight (least schema.sites p) c.in-Some.at (from_unstated schema t c.args.site c.args.field c.args.target) (sym (ap (λ (n : ℕ). least n p) all) ∙ sym c.in_ok-found.ensures.value ∙ c.in-Some.is) }
+    record {
+      value = first_some InFlight (least schema.sites p) c.in-Some.at (from_unstated schema t c.args.site c.args.field c.args.target)
+          (sym (ap (λ (n : ℕ). least n p) all) ∙ sym c.in_ok-found.ensures.value ∙ c.in-Some.is);
+    }
 
 pub returns-in_ok-rest-in-None : goal.returns-in_ok-rest-in-None
 returns-in_ok-rest-in-None c =
     let schema = c.args.trial.now.schema in
     let t = trace_of c.args.trial.now in
-    let all : c.sites-sites.result ≡ schema.sites = c.sites-sites.ensures.value ∙ ap (λ (x : SchemaValue). x.sites) (c.schema.ensures.value ∙ ap (λ (x : WorldValue). x.schema) c.world.ensures.value) in
+    let all : c.sites-sites.result ≡ schema.sites =
+    c.sites-sites.ensures.value ∙ ap (λ (x : SchemaValue). x.sites)
+    (c.schema.ensures.value ∙ ap (λ (x : WorldValue). x.schema) c.world.ensures.value) in
     let p : ℕ → Bool = is_short_from schema t c.args.site c.args.field in
     let same = to_z-of_z c.ranges.target in
     let rest = rw same at c.in_ok-rest-in-None.ensures.value in
-    record { value = first_none InFlight (least schema.sites p) _ (from_unstated schema t c.args.site c.args.field c.args.target) (sym (ap (λ (n : ℕ). least n p) all) ∙ sym c.in_ok-found.ensures.value ∙ c.in-None.is) rest }
+    record {
+      value = first_none InFlight (least schema.sites p) _ (from_unstated schema t c.args.site c.args.field c.args.target)
+          (sym (ap (λ (n : ℕ). least n p) all) ∙ sym c.in_ok-found.ensures.value ∙ c.in-None.is) rest;
+    }

@@ -13,7 +13,8 @@ overflow_add-result c =
     let world = c.trace.ensures.world ∙ ap (λ (x : WorldValue). trace_of x) c.world.ensures.value in
     let sound = subst (λ (x : WorldValue). IsSound x.schema (trace_of x)) c.world.ensures.value c.trace.ensures.sound in
     let count = c.numbers_at-epoch.ensures.count ∙ ap (λ (t : List Entry). count_since is_begun_reply (own c.args.site.0 t)) world in
-    let small : c.numbers_at-epoch.result.1 < 4294967295 = next_small w.schema (trace_of w) c.args.site.0 c.numbers_at-epoch.result.1 sound c.requires.in_schema count in
+    let small : c.numbers_at-epoch.result.1 < 4294967295 =
+    next_small w.schema (trace_of w) c.args.site.0 c.numbers_at-epoch.result.1 sound c.requires.in_schema count in
     omega (arith, small)
 
 pub overflow_cast-result : goal.overflow_cast-result
@@ -22,5 +23,6 @@ overflow_cast-result c =
     let world = c.trace.ensures.world ∙ ap (λ (x : WorldValue). trace_of x) c.world.ensures.value in
     let sound = subst (λ (x : WorldValue). IsSound x.schema (trace_of x)) c.world.ensures.value c.trace.ensures.sound in
     let count = c.numbers_at-epoch.ensures.count ∙ ap (λ (t : List Entry). count_since is_begun_reply (own c.args.site.0 t)) world in
-    let small : c.numbers_at-epoch.result.1 < 4294967295 = next_small w.schema (trace_of w) c.args.site.0 c.numbers_at-epoch.result.1 sound c.requires.in_schema count in
+    let small : c.numbers_at-epoch.result.1 < 4294967295 =
+    next_small w.schema (trace_of w) c.args.site.0 c.numbers_at-epoch.result.1 sound c.requires.in_schema count in
     omega (arith, small)

@@ -9,8 +9,11 @@ overflow_sub-own c =
     let s = c.args.site.0 in
     let law = c.requires.lawful in
     let part = c.from.ensures ∙ c.part_at.ensures.value in
-    let is = summed schema s c.args.field.0 c.args.kind c.args.told.now _ c.from.result c.in_ok-turned.turned c.gained_in-gained.result c.in_ok-settled.settled c.gifts_in-given.result c.in_ok-settled.held _ law
-    c.sites.ensures.value c.other.ensures.value part (c.in_ok-turned.ensures.settled schema (fresh schema s) law) (c.gained_in-gained.ensures.value schema s) (c.in_ok-settled.ensures.settled schema (fresh schema s) law) c.gifts_in-given.ensures.value
+    let is = summed schema s c.args.field.0 c.args.kind c.args.told.now _ c.from.result c.in_ok-turned.turned c.gained_in-gained.result
+    c.in_ok-settled.settled c.gifts_in-given.result c.in_ok-settled.held _ law
+    c.sites.ensures.value c.other.ensures.value part (c.in_ok-turned.ensures.settled schema (fresh schema s) law)
+    (c.gained_in-gained.ensures.value schema s)
+    (c.in_ok-settled.ensures.settled schema (fresh schema s) law) c.gifts_in-given.ensures.value
     (c.in_ok-settled.ensures.held schema (fresh schema s) law) in
     omega (arith, is.whole, is.holds)
 
@@ -20,8 +23,11 @@ overflow_sub-own-2 c =
     let s = c.args.site.0 in
     let law = c.requires.lawful in
     let part = c.from.ensures ∙ c.part_at.ensures.value in
-    let is = summed schema s c.args.field.0 c.args.kind c.args.told.now _ c.from.result c.in_ok-turned.turned c.gained_in-gained.result c.in_ok-settled.settled c.gifts_in-given.result c.in_ok-settled.held _ law
-    c.sites.ensures.value c.other.ensures.value part (c.in_ok-turned.ensures.settled schema (fresh schema s) law) (c.gained_in-gained.ensures.value schema s) (c.in_ok-settled.ensures.settled schema (fresh schema s) law) c.gifts_in-given.ensures.value
+    let is = summed schema s c.args.field.0 c.args.kind c.args.told.now _ c.from.result c.in_ok-turned.turned c.gained_in-gained.result
+    c.in_ok-settled.settled c.gifts_in-given.result c.in_ok-settled.held _ law
+    c.sites.ensures.value c.other.ensures.value part (c.in_ok-turned.ensures.settled schema (fresh schema s) law)
+    (c.gained_in-gained.ensures.value schema s)
+    (c.in_ok-settled.ensures.settled schema (fresh schema s) law) c.gifts_in-given.ensures.value
     (c.in_ok-settled.ensures.held schema (fresh schema s) law) in
     omega (arith, is.whole, is.holds)
 
@@ -31,8 +37,11 @@ overflow_sub-result c =
     let s = c.args.site.0 in
     let law = c.requires.lawful in
     let part = c.from.ensures ∙ c.part_at.ensures.value in
-    let is = summed schema s c.args.field.0 c.args.kind c.args.told.now _ c.from.result c.in_ok-turned.turned c.gained_in-gained.result c.in_ok-settled.settled c.gifts_in-given.result c.in_ok-settled.held _ law
-    c.sites.ensures.value c.other.ensures.value part (c.in_ok-turned.ensures.settled schema (fresh schema s) law) (c.gained_in-gained.ensures.value schema s) (c.in_ok-settled.ensures.settled schema (fresh schema s) law) c.gifts_in-given.ensures.value
+    let is = summed schema s c.args.field.0 c.args.kind c.args.told.now _ c.from.result c.in_ok-turned.turned c.gained_in-gained.result
+    c.in_ok-settled.settled c.gifts_in-given.result c.in_ok-settled.held _ law
+    c.sites.ensures.value c.other.ensures.value part (c.in_ok-turned.ensures.settled schema (fresh schema s) law)
+    (c.gained_in-gained.ensures.value schema s)
+    (c.in_ok-settled.ensures.settled schema (fresh schema s) law) c.gifts_in-given.ensures.value
     (c.in_ok-settled.ensures.held schema (fresh schema s) law) in
     omega (arith, is.whole, is.holds)
 
@@ -42,8 +51,11 @@ returns-clause-own c =
     let s = c.args.site.0 in
     let law = c.requires.lawful in
     let part = c.from.ensures ∙ c.part_at.ensures.value in
-    let is = summed schema s c.args.field.0 c.args.kind c.args.told.now _ c.from.result c.in_ok-turned.turned c.gained_in-gained.result c.in_ok-settled.settled c.gifts_in-given.result c.in_ok-settled.held _ law
-    c.sites.ensures.value c.other.ensures.value part (c.in_ok-turned.ensures.settled schema (fresh schema s) law) (c.gained_in-gained.ensures.value schema s) (c.in_ok-settled.ensures.settled schema (fresh schema s) law) c.gifts_in-given.ensures.value
+    let is = summed schema s c.args.field.0 c.args.kind c.args.told.now _ c.from.result c.in_ok-turned.turned c.gained_in-gained.result
+    c.in_ok-settled.settled c.gifts_in-given.result c.in_ok-settled.held _ law
+    c.sites.ensures.value c.other.ensures.value part (c.in_ok-turned.ensures.settled schema (fresh schema s) law)
+    (c.gained_in-gained.ensures.value schema s)
+    (c.in_ok-settled.ensures.settled schema (fresh schema s) law) c.gifts_in-given.ensures.value
     (c.in_ok-settled.ensures.held schema (fresh schema s) law) in
     omega (arith, is.whole, is.holds)
 
@@ -53,7 +65,10 @@ returns-clause-free c =
     let s = c.args.site.0 in
     let law = c.requires.lawful in
     let part = c.from.ensures ∙ c.part_at.ensures.value in
-    let is = summed schema s c.args.field.0 c.args.kind c.args.told.now _ c.from.result c.in_ok-turned.turned c.gained_in-gained.result c.in_ok-settled.settled c.gifts_in-given.result c.in_ok-settled.held _ law
-    c.sites.ensures.value c.other.ensures.value part (c.in_ok-turned.ensures.settled schema (fresh schema s) law) (c.gained_in-gained.ensures.value schema s) (c.in_ok-settled.ensures.settled schema (fresh schema s) law) c.gifts_in-given.ensures.value
+    let is = summed schema s c.args.field.0 c.args.kind c.args.told.now _ c.from.result c.in_ok-turned.turned c.gained_in-gained.result
+    c.in_ok-settled.settled c.gifts_in-given.result c.in_ok-settled.held _ law
+    c.sites.ensures.value c.other.ensures.value part (c.in_ok-turned.ensures.settled schema (fresh schema s) law)
+    (c.gained_in-gained.ensures.value schema s)
+    (c.in_ok-settled.ensures.settled schema (fresh schema s) law) c.gifts_in-given.ensures.value
     (c.in_ok-settled.ensures.held schema (fresh schema s) law) in
     omega (arith, is.whole, is.holds)

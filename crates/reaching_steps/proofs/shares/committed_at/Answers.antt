@@ -22,7 +22,9 @@ loop-site-preserved c =
     let t = trace_of c.args.trial.now in
     let f = c.args.field.0 in
     let good : IsSchema schema = subst (λ (x : SchemaValue). IsSchema x) schema_is c.sites-sites.ensures.limits in (
-      both_more (settled_at schema good f Lower t) (settled_at schema good f Raise t) l.site l.up l.down c.in_ok-raised.raised c.in_ok-raised.lowered l.invariant.0 c.in_ok-raised.ensures.value,
+      both_more (settled_at schema good f Lower t)
+          (settled_at schema good f Raise t) l.site l.up l.down c.in_ok-raised.raised c.in_ok-raised.lowered l.invariant.0
+          c.in_ok-raised.ensures.value,
       omega (arith, l.invariant.1, c.in_ok-raised.ensures.near),
       omega (arith, l.invariant.2, c.in_ok-raised.ensures.near),
     )
@@ -37,12 +39,18 @@ moved_by-requires-clause-near c =
     let good : IsSchema schema = subst (λ (x : SchemaValue). IsSchema x) schema_is c.sites-sites.ensures.limits in
     let sound = subst (λ (x : WorldValue). IsSound x.schema (trace_of x)) c.world-world.ensures.value c.trace-trace.ensures.sound in
     let all : c.sites-sites.result ≡ schema.sites = c.sites-sites.ensures.value ∙ ap (λ (x : SchemaValue). x.sites) schema_is in
-    let value_is : c.value_at.result ≡ (field_at schema f).value = c.value_at.ensures.value ∙ ap (λ (x : SchemaValue). (field_at x f).value) (c.schema-2.ensures.value ∙ ap (λ (x : WorldValue). x.schema) c.world-world.ensures.value) in
-    let is = committed_from schema good t sound f l.site c.sites-sites.result l.up l.down c.value_at.result l.auto.site-end c.loop-site-test.false all l.invariant.0 value_is in
+    let value_is : c.value_at.result ≡ (field_at schema f).value =
+    c.value_at.ensures.value ∙ ap (λ (x : SchemaValue). (field_at x f).value)
+    (c.schema-2.ensures.value ∙ ap (λ (x : WorldValue). x.schema) c.world-world.ensures.value) in
+    let is = committed_from schema good t sound f l.site c.sites-sites.result l.up l.down c.value_at.result l.auto.site-end
+    c.loop-site-test.false all l.invariant.0 value_is in
     let near = committed_near schema good t sound f in
     let fits : SFits w64 c.value_at.result = search rules in
     let whole = to_z-of_z fits in
-    rw whole (subst (λ (z : ℤ). neg_ℤ (pos 1_000_000_000_000_000) ≤ℤ z) (sym is) near.0, subst (λ (z : ℤ). z ≤ℤ pos 1_000_000_000_000_000) (sym is) near.1)
+    rw whole (
+      subst (λ (z : ℤ). neg_ℤ (pos 1_000_000_000_000_000) ≤ℤ z) (sym is) near.0,
+      subst (λ (z : ℤ). z ≤ℤ pos 1_000_000_000_000_000) (sym is) near.1,
+    )
 
 pub returns-clause-value : goal.returns-clause-value
 returns-clause-value c =
@@ -54,8 +62,11 @@ returns-clause-value c =
     let good : IsSchema schema = subst (λ (x : SchemaValue). IsSchema x) schema_is c.sites-sites.ensures.limits in
     let sound = subst (λ (x : WorldValue). IsSound x.schema (trace_of x)) c.world-world.ensures.value c.trace-trace.ensures.sound in
     let all : c.sites-sites.result ≡ schema.sites = c.sites-sites.ensures.value ∙ ap (λ (x : SchemaValue). x.sites) schema_is in
-    let value_is : c.value_at.result ≡ (field_at schema f).value = c.value_at.ensures.value ∙ ap (λ (x : SchemaValue). (field_at x f).value) (c.schema-2.ensures.value ∙ ap (λ (x : WorldValue). x.schema) c.world-world.ensures.value) in
-    let is = committed_from schema good t sound f l.site c.sites-sites.result l.up l.down c.value_at.result l.auto.site-end c.loop-site-test.false all l.invariant.0 value_is in
+    let value_is : c.value_at.result ≡ (field_at schema f).value =
+    c.value_at.ensures.value ∙ ap (λ (x : SchemaValue). (field_at x f).value)
+    (c.schema-2.ensures.value ∙ ap (λ (x : WorldValue). x.schema) c.world-world.ensures.value) in
+    let is = committed_from schema good t sound f l.site c.sites-sites.result l.up l.down c.value_at.result l.auto.site-end
+    c.loop-site-test.false all l.invariant.0 value_is in
     let near = committed_near schema good t sound f in
     let fits : SFits w64 c.value_at.result = search rules in
     let whole = to_z-of_z fits in
@@ -73,12 +84,18 @@ returns-clause-near c =
     let good : IsSchema schema = subst (λ (x : SchemaValue). IsSchema x) schema_is c.sites-sites.ensures.limits in
     let sound = subst (λ (x : WorldValue). IsSound x.schema (trace_of x)) c.world-world.ensures.value c.trace-trace.ensures.sound in
     let all : c.sites-sites.result ≡ schema.sites = c.sites-sites.ensures.value ∙ ap (λ (x : SchemaValue). x.sites) schema_is in
-    let value_is : c.value_at.result ≡ (field_at schema f).value = c.value_at.ensures.value ∙ ap (λ (x : SchemaValue). (field_at x f).value) (c.schema-2.ensures.value ∙ ap (λ (x : WorldValue). x.schema) c.world-world.ensures.value) in
-    let is = committed_from schema good t sound f l.site c.sites-sites.result l.up l.down c.value_at.result l.auto.site-end c.loop-site-test.false all l.invariant.0 value_is in
+    let value_is : c.value_at.result ≡ (field_at schema f).value =
+    c.value_at.ensures.value ∙ ap (λ (x : SchemaValue). (field_at x f).value)
+    (c.schema-2.ensures.value ∙ ap (λ (x : WorldValue). x.schema) c.world-world.ensures.value) in
+    let is = committed_from schema good t sound f l.site c.sites-sites.result l.up l.down c.value_at.result l.auto.site-end
+    c.loop-site-test.false all l.invariant.0 value_is in
     let near = committed_near schema good t sound f in
     let fits : SFits w64 c.value_at.result = search rules in
     let whole = to_z-of_z fits in
     let moved = rw whole at c.moved_by.ensures.value in
     let value = moved ∙ is in
     let out : SFits w64 c.moved_by.result = search rules in
-    rw (to_z-of_z out) (subst (λ (z : ℤ). neg_ℤ (pos 1_000_000_000_000_000) ≤ℤ z) (sym value) near.0, subst (λ (z : ℤ). z ≤ℤ pos 1_000_000_000_000_000) (sym value) near.1)
+    rw (to_z-of_z out) (
+      subst (λ (z : ℤ). neg_ℤ (pos 1_000_000_000_000_000) ≤ℤ z) (sym value) near.0,
+      subst (λ (z : ℤ). z ≤ℤ pos 1_000_000_000_000_000) (sym value) near.1,
+    )

@@ -8,7 +8,10 @@ use Rattle.reaching_steps.proofs.shares.committed_at.Given as goal
 
 abbrev pub invariant-loop-site : goal.invariant-loop-site
 invariant-loop-site l =
-    (l.up + sum_below l.site (λ (s : ℕ). granted_sizes (λ id. is_committed id (at_site l.trial.schema (trace_of l.trial) s)) l.field.0 Lower (at_site l.trial.schema (trace_of l.trial) s))
-    ≡ l.down + sum_below l.site (λ (s : ℕ). granted_sizes (λ id. is_committed id (at_site l.trial.schema (trace_of l.trial) s)) l.field.0 Raise (at_site l.trial.schema (trace_of l.trial) s)))
+    (l.up + sum_below l.site (λ (s : ℕ). granted_sizes (λ id. is_committed id (at_site l.trial.schema (trace_of l.trial) s)) l.field.0 Lower
+    (at_site l.trial.schema (trace_of l.trial) s))
+    ≡ l.down + sum_below l.site (λ (s : ℕ). granted_sizes
+    (λ id. is_committed id (at_site l.trial.schema (trace_of l.trial) s)) l.field.0 Raise
+    (at_site l.trial.schema (trace_of l.trial) s)))
     × (l.up ≤ l.site * 100000000000000000000)
     × (l.down ≤ l.site * 100000000000000000000)

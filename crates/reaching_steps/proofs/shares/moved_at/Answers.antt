@@ -19,8 +19,10 @@ returns-clause-value c =
     let sound = c.effects_at.ensures.sound in
     let good = c.effects_at.ensures.limits in
     let at = c.in_ok-told.ensures.value in
-    let law = subst (λ (es : List Effect). IsLawful schema (fresh schema s) es) (sym at) (lawful_at schema good t sound s c.requires.in_schema) in
-    let there : (k : Kind) → granted_sizes (λ id. is_committed id c.in_ok-told.told.now) c.args.field.0 k c.in_ok-told.told.now ≡ granted_sizes (λ id. is_committed id (at_site schema t s)) c.args.field.0 k (at_site schema t s) =
+    let law = subst (λ (es : List Effect). IsLawful schema (fresh schema s) es) (sym at)
+    (lawful_at schema good t sound s c.requires.in_schema) in
+    let there : (k : Kind) → granted_sizes (λ id. is_committed id c.in_ok-told.told.now) c.args.field.0 k c.in_ok-told.told.now
+    ≡ granted_sizes (λ id. is_committed id (at_site schema t s)) c.args.field.0 k (at_site schema t s) =
     λ k. ap (λ (es : List Effect). granted_sizes (λ id. is_committed id es) c.args.field.0 k es) at in
     let raised = c.in_ok-raised.ensures.settled schema (fresh schema s) law ∙ there Raise in
     let lowered = c.in_ok-lowered.ensures.settled schema (fresh schema s) law ∙ there Lower in
@@ -35,8 +37,10 @@ returns-clause-near c =
     let sound = c.effects_at.ensures.sound in
     let good = c.effects_at.ensures.limits in
     let at = c.in_ok-told.ensures.value in
-    let law = subst (λ (es : List Effect). IsLawful schema (fresh schema s) es) (sym at) (lawful_at schema good t sound s c.requires.in_schema) in
-    let there : (k : Kind) → granted_sizes (λ id. is_committed id c.in_ok-told.told.now) c.args.field.0 k c.in_ok-told.told.now ≡ granted_sizes (λ id. is_committed id (at_site schema t s)) c.args.field.0 k (at_site schema t s) =
+    let law = subst (λ (es : List Effect). IsLawful schema (fresh schema s) es) (sym at)
+    (lawful_at schema good t sound s c.requires.in_schema) in
+    let there : (k : Kind) → granted_sizes (λ id. is_committed id c.in_ok-told.told.now) c.args.field.0 k c.in_ok-told.told.now
+    ≡ granted_sizes (λ id. is_committed id (at_site schema t s)) c.args.field.0 k (at_site schema t s) =
     λ k. ap (λ (es : List Effect). granted_sizes (λ id. is_committed id es) c.args.field.0 k es) at in
     let raised = c.in_ok-raised.ensures.settled schema (fresh schema s) law ∙ there Raise in
     let lowered = c.in_ok-lowered.ensures.settled schema (fresh schema s) law ∙ there Lower in

@@ -18,7 +18,8 @@ rights_of-requires-clause-lawful c =
     let good = c.effects_at.ensures.limits in
     let at = c.in_ok-told.ensures.value in
     let schema_is = c.schema.ensures.value ∙ ap (λ (x : WorldValue). x.schema) c.world.ensures.value in
-    subst (λ (x : SchemaValue). IsLawful x (fresh x s) c.in_ok-told.told.now) (sym schema_is) (subst (λ (es : List Effect). IsLawful schema (fresh schema s) es) (sym at) (lawful_at schema good t sound s c.requires.in_schema))
+    subst (λ (x : SchemaValue). IsLawful x (fresh x s) c.in_ok-told.told.now) (sym schema_is)
+    (subst (λ (es : List Effect). IsLawful schema (fresh schema s) es) (sym at) (lawful_at schema good t sound s c.requires.in_schema))
 
 pub overflow_cast-result : goal.overflow_cast-result
 overflow_cast-result c =
@@ -30,8 +31,10 @@ overflow_cast-result c =
     let good = c.effects_at.ensures.limits in
     let at = c.in_ok-told.ensures.value in
     let schema_is = c.schema.ensures.value ∙ ap (λ (x : WorldValue). x.schema) c.world.ensures.value in
-    let own = c.in_ok-own.ensures.own ∙ ap (λ (x : SchemaValue). own_rights (fresh x s) c.args.field.0 c.args.kind c.in_ok-told.told.now) schema_is ∙ ap (λ (es : List Effect). own_rights (fresh schema s) c.args.field.0 c.args.kind es) at in
-    let free = c.in_ok-own.ensures.free ∙ ap (λ (x : SchemaValue). share (fresh x s) c.args.field.0 c.args.kind c.in_ok-told.told.now) schema_is ∙ ap (λ (es : List Effect). share (fresh schema s) c.args.field.0 c.args.kind es) at in
+    let own = c.in_ok-own.ensures.own ∙ ap (λ (x : SchemaValue). own_rights (fresh x s) c.args.field.0 c.args.kind c.in_ok-told.told.now)
+    schema_is ∙ ap (λ (es : List Effect). own_rights (fresh schema s) c.args.field.0 c.args.kind es) at in
+    let free = c.in_ok-own.ensures.free ∙ ap (λ (x : SchemaValue). share (fresh x s) c.args.field.0 c.args.kind c.in_ok-told.told.now)
+    schema_is ∙ ap (λ (es : List Effect). share (fresh schema s) c.args.field.0 c.args.kind es) at in
     let small = own_small schema good t sound s c.args.field.0 c.args.kind c.requires.in_schema in
     omega (arith, own, free, small)
 
@@ -45,8 +48,10 @@ overflow_cast-result-2 c =
     let good = c.effects_at.ensures.limits in
     let at = c.in_ok-told.ensures.value in
     let schema_is = c.schema.ensures.value ∙ ap (λ (x : WorldValue). x.schema) c.world.ensures.value in
-    let own = c.in_ok-own.ensures.own ∙ ap (λ (x : SchemaValue). own_rights (fresh x s) c.args.field.0 c.args.kind c.in_ok-told.told.now) schema_is ∙ ap (λ (es : List Effect). own_rights (fresh schema s) c.args.field.0 c.args.kind es) at in
-    let free = c.in_ok-own.ensures.free ∙ ap (λ (x : SchemaValue). share (fresh x s) c.args.field.0 c.args.kind c.in_ok-told.told.now) schema_is ∙ ap (λ (es : List Effect). share (fresh schema s) c.args.field.0 c.args.kind es) at in
+    let own = c.in_ok-own.ensures.own ∙ ap (λ (x : SchemaValue). own_rights (fresh x s) c.args.field.0 c.args.kind c.in_ok-told.told.now)
+    schema_is ∙ ap (λ (es : List Effect). own_rights (fresh schema s) c.args.field.0 c.args.kind es) at in
+    let free = c.in_ok-own.ensures.free ∙ ap (λ (x : SchemaValue). share (fresh x s) c.args.field.0 c.args.kind c.in_ok-told.told.now)
+    schema_is ∙ ap (λ (es : List Effect). share (fresh schema s) c.args.field.0 c.args.kind es) at in
     let small = own_small schema good t sound s c.args.field.0 c.args.kind c.requires.in_schema in
     omega (arith, own, free, small)
 
@@ -60,7 +65,9 @@ returns-clause-small c =
     let good = c.effects_at.ensures.limits in
     let at = c.in_ok-told.ensures.value in
     let schema_is = c.schema.ensures.value ∙ ap (λ (x : WorldValue). x.schema) c.world.ensures.value in
-    let own = c.in_ok-own.ensures.own ∙ ap (λ (x : SchemaValue). own_rights (fresh x s) c.args.field.0 c.args.kind c.in_ok-told.told.now) schema_is ∙ ap (λ (es : List Effect). own_rights (fresh schema s) c.args.field.0 c.args.kind es) at in
-    let free = c.in_ok-own.ensures.free ∙ ap (λ (x : SchemaValue). share (fresh x s) c.args.field.0 c.args.kind c.in_ok-told.told.now) schema_is ∙ ap (λ (es : List Effect). share (fresh schema s) c.args.field.0 c.args.kind es) at in
+    let own = c.in_ok-own.ensures.own ∙ ap (λ (x : SchemaValue). own_rights (fresh x s) c.args.field.0 c.args.kind c.in_ok-told.told.now)
+    schema_is ∙ ap (λ (es : List Effect). own_rights (fresh schema s) c.args.field.0 c.args.kind es) at in
+    let free = c.in_ok-own.ensures.free ∙ ap (λ (x : SchemaValue). share (fresh x s) c.args.field.0 c.args.kind c.in_ok-told.told.now)
+    schema_is ∙ ap (λ (es : List Effect). share (fresh schema s) c.args.field.0 c.args.kind es) at in
     let small = own_small schema good t sound s c.args.field.0 c.args.kind c.requires.in_schema in
     (omega (arith, own, free, small), omega (arith, own, free, small))

@@ -6,13 +6,19 @@ use Rattle.reaching_steps.specs.Told.{doubt_kept_in, Reads}
 use Rattle.reaching_steps.proofs.site_effects.read_entry.Goals as goal
 
 pub returns-then-entry-site : goal.returns-then-entry-site
-returns-then-entry-site c = record { read = reads_there c.args.schema.now c.args.site.0 _ _ c.args.entry.now c.args.later.now c.if-entry-site.true refl }
+returns-then-entry-site c = record {
+  read = reads_there c.args.schema.now c.args.site.0 _ _ c.args.entry.now c.args.later.now
+      c.if-entry-site.true refl;
+}
 
 pub returns : goal.returns
 returns c =
     record {
       read = on_ok c.read_own.result
-          (reverse c.read_own.new.told.items ≡ after (fresh c.args.schema.now c.args.site.0) (doubt_kept_in c.args.site.0 c.args.later.now) c.args.entry.now.command c.args.entry.now.reply (reverse c.args.told.now.items))
+          (reverse c.read_own.new.told.items ≡ after (fresh c.args.schema.now c.args.site.0)
+          (doubt_kept_in c.args.site.0 c.args.later.now) c.args.entry.now.command c.args.entry.now.reply
+          (reverse c.args.told.now.items))
           (Reads c.args.schema.now c.args.site.0 c.args.told.now.items c.args.entry.now c.args.later.now c.read_own.new.told.items)
-          (λ did. reads_here c.args.schema.now c.args.site.0 c.args.told.now.items c.read_own.new.told.items c.args.entry.now c.args.later.now c.if-entry-site.false did) c.read_own.ensures.read;
+          (λ did. reads_here c.args.schema.now c.args.site.0 c.args.told.now.items c.read_own.new.told.items c.args.entry.now
+          c.args.later.now c.if-entry-site.false did) c.read_own.ensures.read;
     }

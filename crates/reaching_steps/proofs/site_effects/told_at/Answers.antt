@@ -11,9 +11,11 @@ read_entry-requires-clause-lawful c =
     let w = c.args.world.now in
     let s = c.args.site.0 in
     subst (λ (x : SchemaValue). IsLawful x (fresh x s) (reverse c.loop-i.told.items)) (sym c.schema-schema.ensures.value)
-    (lawful_front w.schema s c.loop-i.i c.trace-trace.result.now (trace_of w) _ (reverse c.loop-i.told.items) c.requires.in_schema c.trace-trace.ensures.world c.trace-trace.ensures.sound c.loop-i.invariant)
+    (lawful_front w.schema s c.loop-i.i c.trace-trace.result.now (trace_of w) _
+    (reverse c.loop-i.told.items) c.requires.in_schema c.trace-trace.ensures.world c.trace-trace.ensures.sound c.loop-i.invariant)
 
 pub loop-i-preserved : goal.loop-i-preserved
 loop-i-preserved c =
-    reads_on c.args.world.now.schema c.schema-schema.result.now c.schema-schema.ensures.value c.args.site.0 c.loop-i.i c.trace-trace.result.now _ c.loop-i.told.items c.read_entry.new.told.items
+    reads_on c.args.world.now.schema c.schema-schema.result.now c.schema-schema.ensures.value c.args.site.0 c.loop-i.i
+    c.trace-trace.result.now _ c.loop-i.told.items c.read_entry.new.told.items
     c.loop-i-test.true c.in_ok-read_entry.ensures.read c.loop-i.invariant

@@ -6,5 +6,7 @@ use Rattle.reaching_steps.proofs.steps.abort_all.Goals as goal
 
 pub loop-s-preserved : goal.loop-s-preserved
 loop-s-preserved c =
-    grew_over c.args.trial.now c.loop-s.trial c.abort_open.new.trial _ _ _ (λ (schema : SchemaValue) (s : ℕ). aborts schema c.args.named.0 s ∷ []) c.loop-s.s c.loop-s.invariant
-    (grew_task c.loop-s.trial c.abort_open.new.trial _ _ (aborts c.loop-s.trial.schema c.args.named.0 c.loop-s.s) c.in_ok-abort_open.ensures.grew)
+    grew_over c.args.trial.now c.loop-s.trial c.abort_open.new.trial _ _ _
+    (λ (schema : SchemaValue) (s : ℕ). aborts schema c.args.named.0 s ∷ []) c.loop-s.s c.loop-s.invariant
+    (grew_task c.loop-s.trial c.abort_open.new.trial _ _
+    (aborts c.loop-s.trial.schema c.args.named.0 c.loop-s.s) c.in_ok-abort_open.ensures.grew)

@@ -5,4 +5,5 @@ use Rattle.reaching_steps.proofs.steps.abort_all.Given as goal
 
 abbrev pub invariant-loop-s : goal.invariant-loop-s
 invariant-loop-s l =
-    Grew l.fn.trial l.fn.taken.items (steps_of_tasks l.fn.trial.schema l.fn.trial.steps (over_sites l.s (λ s. aborts l.fn.trial.schema l.named.0 s ∷ []))) l.trial l.taken.items
+    Grew l.fn.trial l.fn.taken.items (steps_of_tasks l.fn.trial.schema l.fn.trial.steps
+    (over_sites l.s (λ s. aborts l.fn.trial.schema l.named.0 s ∷ []))) l.trial l.taken.items

@@ -12,4 +12,5 @@ loop-s-preserved c =
     let same = to_z-of_z c.ranges.target in
     let before = rw same at c.loop-s.invariant in
     let did = rw same at c.in_ok-move_field.ensures.grew in
-    rw same (moves_on c.args.trial.now c.loop-s.trial c.move_field.new.trial _ _ _ c.args.named.0 c.args.field.0 c.args.target c.loop-s.s before did)
+    rw same (moves_on c.args.trial.now c.loop-s.trial c.move_field.new.trial _ _ _ c.args.named.0 c.args.field.0 c.args.target c.loop-s.s
+    before did)

@@ -4,4 +4,5 @@ use Rattle.reaching_steps.proofs.steps.move_all.Given as goal
 
 abbrev pub invariant-loop-s : goal.invariant-loop-s
 invariant-loop-s l =
-    Grew l.fn.trial l.fn.taken.items (steps_of_tasks l.fn.trial.schema l.fn.trial.steps (move_tasks l.fn.trial.schema l.named.0 l.field.0 l.target l.s)) l.trial l.taken.items
+    Grew l.fn.trial l.fn.taken.items (steps_of_tasks l.fn.trial.schema l.fn.trial.steps
+    (move_tasks l.fn.trial.schema l.named.0 l.field.0 l.target l.s)) l.trial l.taken.items

@@ -23,15 +23,20 @@ returns-in_ok-ask-in-Some-2 c =
     let same = to_z-of_z c.ranges.target in
     let told = rw same at c.in_ok-found.ensures.value in
     let found = sym c.in-Some.is ∙ told in
-    let is = three_are c.args.trial.now c.args.named.0 c.args.field.0 c.args.target s txn change c.if-site-named.false c.next_at-txn.ensures.value found in
+    let is = three_are c.args.trial.now c.args.named.0 c.args.field.0 c.args.target s txn change c.if-site-named.false
+    c.next_at-txn.ensures.value found in
     let fits : SFits w64 change = search rules in
     let whole = to_z-of_z fits in
     let second = rw whole at c.in_ok-ask-in-Some-2.ensures.grew in
     record {
-      grew = on_ok c.ask-in-Some-2.result (Grew c.ask-in-Some.new.trial c.ask-in-Some.new.taken.items commit c.ask-in-Some-2.new.trial c.ask-in-Some-2.new.taken.items)
+      grew = on_ok c.ask-in-Some-2.result (Grew c.ask-in-Some.new.trial c.ask-in-Some.new.taken.items commit c.ask-in-Some-2.new.trial
+          c.ask-in-Some-2.new.taken.items)
           (Grew c.args.trial.now c.args.taken.now.items all c.ask-in-Some-2.new.trial c.ask-in-Some-2.new.taken.items)
-          (λ h. grew_as c.args.trial.now c.ask-in-Some-2.new.trial c.args.taken.now.items c.ask-in-Some-2.new.taken.items ((begin ++ escrow) ++ commit) all is
-          (grew_on c.args.trial.now c.ask-in-Some.new.trial c.ask-in-Some-2.new.trial c.args.taken.now.items c.ask-in-Some.new.taken.items c.ask-in-Some-2.new.taken.items (begin ++ escrow) commit
-          (grew_on c.args.trial.now c.ask.new.trial c.ask-in-Some.new.trial c.args.taken.now.items c.ask.new.taken.items c.ask-in-Some.new.taken.items begin escrow c.in_ok-ask-in-Some.ensures.grew second) h))
+          (λ h. grew_as c.args.trial.now c.ask-in-Some-2.new.trial c.args.taken.now.items c.ask-in-Some-2.new.taken.items
+          ((begin ++ escrow) ++ commit) all is
+          (grew_on c.args.trial.now c.ask-in-Some.new.trial c.ask-in-Some-2.new.trial c.args.taken.now.items c.ask-in-Some.new.taken.items
+          c.ask-in-Some-2.new.taken.items (begin ++ escrow) commit
+          (grew_on c.args.trial.now c.ask.new.trial c.ask-in-Some.new.trial c.args.taken.now.items c.ask.new.taken.items
+          c.ask-in-Some.new.taken.items begin escrow c.in_ok-ask-in-Some.ensures.grew second) h))
           c.ask-in-Some-2.ensures.grew;
     }

@@ -7,5 +7,6 @@ use Rattle.reaching_steps.proofs.steps.pass_all.Goals as goal
 pub loop-from-preserved : goal.loop-from-preserved
 loop-from-preserved c =
     grew_over c.args.trial.now c.loop-from.trial c.pass_from.new.trial _ _ _
-    (λ (schema : SchemaValue) (from : ℕ). over_sites c.args.sites (λ to. passes_on schema c.args.named.0 c.args.field.0 from to)) c.loop-from.from c.loop-from.invariant
+    (λ (schema : SchemaValue) (from : ℕ). over_sites c.args.sites (λ to. passes_on schema c.args.named.0 c.args.field.0 from to))
+    c.loop-from.from c.loop-from.invariant
     c.in_ok-pass_from.ensures.grew

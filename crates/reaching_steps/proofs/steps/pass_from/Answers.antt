@@ -11,7 +11,8 @@ loop-to-preserved c =
     let f = c.args.field.0 in
     let i = c.args.from.0 in
     let j = c.loop-to.to in
-    grew_over c.args.trial.now c.loop-to.trial c.pass_on-in-loop-to.new.trial _ _ _ (λ (schema : SchemaValue) (to : ℕ). passes_on schema m f i to) j c.loop-to.invariant
+    grew_over c.args.trial.now c.loop-to.trial c.pass_on-in-loop-to.new.trial _ _ _
+    (λ (schema : SchemaValue) (to : ℕ). passes_on schema m f i to) j c.loop-to.invariant
     (grew_tasks c.loop-to.trial c.pass_on.new.trial c.pass_on-in-loop-to.new.trial _ _ _
     (λ (schema : SchemaValue). restates schema m f i j Lower ∷ delivers schema m f i j Lower ∷ [])
     (λ (schema : SchemaValue). restates schema m f i j Raise ∷ delivers schema m f i j Raise ∷ [])

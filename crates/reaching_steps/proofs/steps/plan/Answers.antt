@@ -9,7 +9,8 @@ returns c =
     let last = rw same at c.in_ok-move_all.ensures.grew in
     let there = rw same at c.in_ok-there.ensures.value in
     record {
-      steps = planned_all c.args.trial.now c.abort_all.new.trial c.pass_all.new.trial c.move_all.new.trial c.new-taken.result.items c.abort_all.new.taken.items c.pass_all.new.taken.items c.move_all.new.taken.items
+      steps = planned_all c.args.trial.now c.abort_all.new.trial c.pass_all.new.trial c.move_all.new.trial c.new-taken.result.items
+          c.abort_all.new.taken.items c.pass_all.new.taken.items c.move_all.new.taken.items
           c.args.named.0 c.args.field.0 c.args.target c.args.sites c.requires.all c.new-taken.ensures.items (sym there ∙ c.if-there.false)
           c.in_ok-abort_all.ensures.grew c.in_ok-pass_all.ensures.grew last;
     }

@@ -13,10 +13,13 @@ pub returns : goal.returns
 returns c =
     let w : WorldValue = c.args.trial.now in
     let same = to_z-of_z c.ranges.target in
-    let good : IsSchema w.schema = subst (λ (s : SchemaValue). IsSchema s) (c.schema.ensures.value ∙ ap (λ (x : WorldValue). x.schema) c.world.ensures.value) c.sites-sites.ensures.limits in
-    let steps = subst (λ (z : ℤ). IfOk c.plan.result (λ taken. taken.items ≡ reach_steps w.schema w.steps c.args.named c.args.field z)) same c.plan.ensures.steps in
+    let good : IsSchema w.schema = subst (λ (s : SchemaValue). IsSchema s)
+    (c.schema.ensures.value ∙ ap (λ (x : WorldValue). x.schema) c.world.ensures.value) c.sites-sites.ensures.limits in
+    let steps = subst (λ (z : ℤ). IfOk c.plan.result (λ taken. taken.items ≡ reach_steps w.schema w.steps c.args.named c.args.field z)) same
+    c.plan.ensures.steps in
     record {
       steps = steps;
-      does = if_ok c.plan.result (λ taken. taken.items ≡ reach_steps w.schema w.steps c.args.named c.args.field c.args.target) (λ taken. Does w c.args.named c.args.field c.args.target taken.items)
+      does = if_ok c.plan.result (λ taken. taken.items ≡ reach_steps w.schema w.steps c.args.named c.args.field c.args.target)
+          (λ taken. Does w c.args.named c.args.field c.args.target taken.items)
           (λ taken is. does w c.args.named c.args.field c.args.target taken.items good c.requires.fit c.requires.clear is) steps;
     }

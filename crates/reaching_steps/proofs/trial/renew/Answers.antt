@@ -8,7 +8,8 @@ returns-in-NoStatement c = record { renewed = rw c.in-NoStatement.is (renews_non
 pub returns-then-from-len : goal.returns-then-from-len
 returns-then-from-len c =
     record {
-      renewed = rw c.in-Made.is (renews_made c.args.world.now c.in-Made.entry c.args.table.now.items _ c.in_ok-told-in-Made.told c.in_ok-told-in-Made.ensures.value
+      renewed = rw c.in-Made.is (renews_made c.args.world.now c.in-Made.entry c.args.table.now.items _ c.in_ok-told-in-Made.told
+          c.in_ok-told-in-Made.ensures.value
           (ap (λ (n : ℕ). slice_set c.args.table.now.items n c.in_ok-told-in-Made.told) c.from-then-from-len.ensures));
     }
 

@@ -14,21 +14,24 @@ loop-from-init c = record {
   from_in = omega arith;
   above_is = refl;
   missing_is = refl;
-  progress = rw c.new-plan.ensures.items (start (above c.args.shares.now) (missing c.args.shares.now) (length c.args.shares.now) (same_in_all c.args.shares.now));
+  progress = rw c.new-plan.ensures.items (start (above c.args.shares.now) (missing c.args.shares.now) (length c.args.shares.now)
+      (same_in_all c.args.shares.now));
 }
 
 pub overflow_add-above_end : goal.overflow_add-above_end
 overflow_add-above_end c =
     let xs : List ℕ = c.args.shares.now in
     let high : c.saturating_sub-above.result ≡ above xs c.loop-from.from =
-    above_read xs c.sum-total.result c.loop-from.from c.target_of.result c.saturating_sub-above.result c.loop-from.invariant.total_is c.target_of.ensures c.saturating_sub-above.ensures in
+    above_read xs c.sum-total.result c.loop-from.from c.target_of.result c.saturating_sub-above.result c.loop-from.invariant.total_is
+    c.target_of.ensures c.saturating_sub-above.ensures in
     omega (arith, above_in xs c.loop-from.from c.loop-from-test.true)
 
 pub overflow_add-missing_end : goal.overflow_add-missing_end
 overflow_add-missing_end c =
     let xs : List ℕ = c.args.shares.now in
     let low : c.saturating_sub-missing.result ≡ missing xs c.loop-from.to =
-    missing_read xs c.sum-total.result c.loop-from.to c.target_of-in-loop-from.result c.saturating_sub-missing.result c.loop-from.invariant.total_is c.target_of-in-loop-from.ensures c.saturating_sub-missing.ensures in
+    missing_read xs c.sum-total.result c.loop-from.to c.target_of-in-loop-from.result c.saturating_sub-missing.result
+    c.loop-from.invariant.total_is c.target_of-in-loop-from.ensures c.saturating_sub-missing.ensures in
     omega (arith, missing_in xs c.loop-from.to (c.loop-from.invariant.progress.to_left c.loop-from-test.true))
 
 pub returns-in_err-add_move-clause-err : goal.returns-in_err-add_move-clause-err
@@ -39,11 +42,14 @@ returns-in_err-add_move-clause-err c =
     let j : ℕ = c.loop-from.to in
     let so : Progress (above xs) (missing xs) (length xs) i j c.loop-from.plan.items = c.loop-from.invariant.progress in
     let here = turn xs c.sum-total.result i j c.target_of.result c.target_of-in-loop-from.result
-    c.saturating_sub-above.result c.saturating_sub-missing.result c.loop-from.above_before c.loop-from.missing_before c.max-start.result c.min-end.result
-    c.loop-from.invariant.total_is c.loop-from.invariant.above_is c.loop-from.invariant.missing_is c.target_of.ensures c.saturating_sub-above.ensures
+    c.saturating_sub-above.result c.saturating_sub-missing.result c.loop-from.above_before c.loop-from.missing_before c.max-start.result
+    c.min-end.result
+    c.loop-from.invariant.total_is c.loop-from.invariant.above_is c.loop-from.invariant.missing_is c.target_of.ensures
+    c.saturating_sub-above.ensures
     c.target_of-in-loop-from.ensures c.saturating_sub-missing.ensures c.max-start.ensures c.min-end.ensures in
     on_err c.from_residual.result (even_plan xs ≢ [])
-    (plan_some (above xs) (missing xs) (length xs) i j c.max-start.result c.min-end.result here.first_is here.last_is c.in_err-add_move.ensures.err
+    (plan_some (above xs) (missing xs) (length xs) i j c.max-start.result c.min-end.result here.first_is here.last_is
+    c.in_err-add_move.ensures.err
     c.loop-from-test.true (so.to_left c.loop-from-test.true))
 
 pub loop-from-preserved-then-above_end-missing_end :
@@ -54,8 +60,10 @@ loop-from-preserved-then-above_end-missing_end c =
     let j : ℕ = c.loop-from.to in
     let so : Progress (above xs) (missing xs) (length xs) i j c.loop-from.plan.items = c.loop-from.invariant.progress in
     let here = turn xs c.sum-total.result i j c.target_of.result c.target_of-in-loop-from.result
-    c.saturating_sub-above.result c.saturating_sub-missing.result c.loop-from.above_before c.loop-from.missing_before c.max-start.result c.min-end.result
-    c.loop-from.invariant.total_is c.loop-from.invariant.above_is c.loop-from.invariant.missing_is c.target_of.ensures c.saturating_sub-above.ensures
+    c.saturating_sub-above.result c.saturating_sub-missing.result c.loop-from.above_before c.loop-from.missing_before c.max-start.result
+    c.min-end.result
+    c.loop-from.invariant.total_is c.loop-from.invariant.above_is c.loop-from.invariant.missing_is c.target_of.ensures
+    c.saturating_sub-above.ensures
     c.target_of-in-loop-from.ensures c.saturating_sub-missing.ensures c.max-start.ensures c.min-end.ensures in
     let plan : c.add_move.new.plan.items ≡ c.loop-from.plan.items ++ pair_moves (above xs) (missing xs) i j =
     pair_added (above xs) (missing xs) i j c.max-start.result c.min-end.result c.loop-from.plan.items c.add_move.new.plan.items
@@ -66,7 +74,8 @@ loop-from-preserved-then-above_end-missing_end c =
       from_in = omega arith;
       above_is = rw add-one here.above_end_is;
       missing_is = c.loop-from.invariant.missing_is;
-      progress = rw (plan, add-one) (step_from (above xs) (missing xs) (length xs) i j c.loop-from.plan.items so (apart xs) c.loop-from-test.true
+      progress = rw (plan, add-one) (step_from (above xs) (missing xs) (length xs) i j c.loop-from.plan.items so
+          (apart xs) c.loop-from-test.true
           (omega (arith, here.above_end_is, here.missing_end_is)));
     }
 
@@ -77,8 +86,10 @@ loop-from-preserved c =
     let j : ℕ = c.loop-from.to in
     let so : Progress (above xs) (missing xs) (length xs) i j c.loop-from.plan.items = c.loop-from.invariant.progress in
     let here = turn xs c.sum-total.result i j c.target_of.result c.target_of-in-loop-from.result
-    c.saturating_sub-above.result c.saturating_sub-missing.result c.loop-from.above_before c.loop-from.missing_before c.max-start.result c.min-end.result
-    c.loop-from.invariant.total_is c.loop-from.invariant.above_is c.loop-from.invariant.missing_is c.target_of.ensures c.saturating_sub-above.ensures
+    c.saturating_sub-above.result c.saturating_sub-missing.result c.loop-from.above_before c.loop-from.missing_before c.max-start.result
+    c.min-end.result
+    c.loop-from.invariant.total_is c.loop-from.invariant.above_is c.loop-from.invariant.missing_is c.target_of.ensures
+    c.saturating_sub-above.ensures
     c.target_of-in-loop-from.ensures c.saturating_sub-missing.ensures c.max-start.ensures c.min-end.ensures in
     let plan : c.add_move.new.plan.items ≡ c.loop-from.plan.items ++ pair_moves (above xs) (missing xs) i j =
     pair_added (above xs) (missing xs) i j c.max-start.result c.min-end.result c.loop-from.plan.items c.add_move.new.plan.items
@@ -89,7 +100,8 @@ loop-from-preserved c =
       from_in = c.loop-from.invariant.from_in;
       above_is = c.loop-from.invariant.above_is;
       missing_is = rw add-one here.missing_end_is;
-      progress = rw (plan, add-one) (step_to (above xs) (missing xs) (length xs) i j c.loop-from.plan.items so (apart xs) (same_in_all xs) c.loop-from-test.true
+      progress = rw (plan, add-one) (step_to (above xs) (missing xs) (length xs) i j c.loop-from.plan.items so (apart xs)
+          (same_in_all xs) c.loop-from-test.true
           (omega (arith, here.above_end_is, here.missing_end_is)));
     }
 
@@ -106,7 +118,8 @@ returns-clause-gifts c = c.loop-from.invariant.progress.gifts
 
 pub returns-clause-few : goal.returns-clause-few
 returns-clause-few c =
-    let done = walked c.args.shares.now c.loop-from.from c.loop-from.to c.loop-from.plan.items (omega arith) c.loop-from.invariant.progress in
+    let done = walked c.args.shares.now c.loop-from.from c.loop-from.to c.loop-from.plan.items
+    (omega arith) c.loop-from.invariant.progress in
     λ h. omega (arith, done.few h)
 
 pub returns-clause-least : goal.returns-clause-least

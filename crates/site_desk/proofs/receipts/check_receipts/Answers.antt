@@ -9,26 +9,37 @@ oldest_first shown h e = sym (reverse-reverse shown) ∙ ap (λ (l : List Entry)
 
 pub returns-in_default-clause-fault : goal.returns-in_default-clause-fault
 returns-in_default-clause-fault g c =
-    differs_at _ _ _ _ c.args.receipts.now c.loop-receipt.receipt-index _ c.loop-receipt.seen.items _ _ c.site-own.ensures.value (oldest_first _ _ c.history-history.ensures.value) c.loop-receipt-test.true c.site-site.ensures.value c.number-number.ensures.value c.in_default.ensures.none c.loop-receipt.invariant.checked
+    differs_at _ _ _ _ c.args.receipts.now c.loop-receipt.receipt-index _ c.loop-receipt.seen.items _ _ c.site-own.ensures.value
+    (oldest_first _ _ c.history-history.ensures.value) c.loop-receipt-test.true c.site-site.ensures.value c.number-number.ensures.value
+    c.in_default.ensures.none c.loop-receipt.invariant.checked
 
 pub returns-then-index-clause-fault : goal.returns-then-index-clause-fault
 returns-then-index-clause-fault g c =
     let a = c.in-Some.ensures.some in
-    let sizes : length c.loop-receipt.seen.items ≡ length c.history-history.result.now = sym c.loop-receipt.seen.ok.0 ∙ c.loop-receipt.invariant.len in
-    let marked : get_or c.loop-receipt.seen.items c.in-Some.place false ≡ true = seen_at c.loop-receipt.seen.items c.in-Some.place c.index.result.now (omega arith) c.index.ensures ∙ c.if-index.true in
-    twice_at _ _ _ _ c.args.receipts.now c.loop-receipt.receipt-index _ c.loop-receipt.seen.items _ _ c.in-Some.place c.site-own.ensures.value (oldest_first _ _ c.history-history.ensures.value) c.loop-receipt-test.true c.site-site.ensures.value c.number-number.ensures.value a.0 a.1 marked c.loop-receipt.invariant.checked
+    let sizes : length c.loop-receipt.seen.items ≡ length c.history-history.result.now =
+    sym c.loop-receipt.seen.ok.0 ∙ c.loop-receipt.invariant.len in
+    let marked : get_or c.loop-receipt.seen.items c.in-Some.place false ≡ true =
+    seen_at c.loop-receipt.seen.items c.in-Some.place c.index.result.now (omega arith) c.index.ensures ∙ c.if-index.true in
+    twice_at _ _ _ _ c.args.receipts.now c.loop-receipt.receipt-index _ c.loop-receipt.seen.items _ _ c.in-Some.place
+    c.site-own.ensures.value (oldest_first _ _ c.history-history.ensures.value) c.loop-receipt-test.true c.site-site.ensures.value
+    c.number-number.ensures.value a.0 a.1 marked c.loop-receipt.invariant.checked
 
 pub loop-receipt-preserved : goal.loop-receipt-preserved
 loop-receipt-preserved g c =
     let a = c.in-Some.ensures.some in
-    let sizes : length c.loop-receipt.seen.items ≡ length c.history-history.result.now = sym c.loop-receipt.seen.ok.0 ∙ c.loop-receipt.invariant.len in
-    let unmarked : get_or c.loop-receipt.seen.items c.in-Some.place false ≡ false = seen_at c.loop-receipt.seen.items c.in-Some.place c.index.result.now (omega arith) c.index.ensures ∙ c.if-index.false in
+    let sizes : length c.loop-receipt.seen.items ≡ length c.history-history.result.now =
+    sym c.loop-receipt.seen.ok.0 ∙ c.loop-receipt.invariant.len in
+    let unmarked : get_or c.loop-receipt.seen.items c.in-Some.place false ≡ false =
+    seen_at c.loop-receipt.seen.items c.in-Some.place c.index.result.now (omega arith) c.index.ensures ∙ c.if-index.false in
     record {
       len = c.loop-receipt.invariant.len;
-      checked = checks_next _ _ c.args.receipts.now c.loop-receipt.receipt-index _ c.loop-receipt.seen.items c.in-Some.place c.loop-receipt-test.true (omega arith) a.1 a.0 unmarked c.loop-receipt.invariant.checked;
+      checked = checks_next _ _ c.args.receipts.now c.loop-receipt.receipt-index _ c.loop-receipt.seen.items c.in-Some.place
+          c.loop-receipt-test.true (omega arith) a.1 a.0 unmarked c.loop-receipt.invariant.checked;
     }
 
 pub returns-in-Some-first_unmarked-clause-fault : goal.returns-in-Some-first_unmarked-clause-fault
 returns-in-Some-first_unmarked-clause-fault g c =
-    missing_at _ _ _ _ c.args.receipts.now c.loop-receipt.receipt-index c.loop-receipt.seen.items _ _ c.site-own.ensures.value (oldest_first _ _ c.history-history.ensures.value) c.loop-receipt-test.false c.as_slice.ensures.value (sym c.loop-receipt.seen.ok.0 ∙ c.loop-receipt.invariant.len) c.in-Some-first_unmarked.ensures.some
+    missing_at _ _ _ _ c.args.receipts.now c.loop-receipt.receipt-index c.loop-receipt.seen.items _ _ c.site-own.ensures.value
+    (oldest_first _ _ c.history-history.ensures.value) c.loop-receipt-test.false c.as_slice.ensures.value
+    (sym c.loop-receipt.seen.ok.0 ∙ c.loop-receipt.invariant.len) c.in-Some-first_unmarked.ensures.some
     c.loop-receipt.invariant.checked

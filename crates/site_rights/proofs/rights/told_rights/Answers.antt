@@ -8,7 +8,11 @@ use Rattle.site_rights.proofs.rights.told_rights.Goals as goal
 pub returns-clause-told : goal.returns-clause-told
 returns-clause-told c =
     let schema = c.args.schema.now in
-    let row : FieldRights = record { width = c.abs_diff.result; lower = record { free = c.args.free.0; held = 0; cut = c.args.cut.0 }; raise = record { free = c.args.free.1; held = 0; cut = c.args.cut.1 } } in
+    let row : FieldRights = record {
+      width = c.abs_diff.result;
+      lower = record { free = c.args.free.0; held = 0; cut = c.args.cut.0 };
+      raise = record { free = c.args.free.1; held = 0; cut = c.args.cut.1 };
+    } in
     let width : c.abs_diff.result ≡ width_of (field_at schema c.args.field.0) = search rules in
     record {
       width = width;

@@ -6,7 +6,8 @@ returns-clause-call c = λ before later command reply holds known applies.
     call_is_sure before later holds.records holds.rest command reply holds.log known applies
 
 pub returns-clause-calls : goal.returns-clause-calls
-returns-clause-calls c = λ before later calls holds known leads. calls_are_sure calls before later holds.records holds.rest holds.log known leads
+returns-clause-calls c = λ before later calls holds known leads.
+    calls_are_sure calls before later holds.records holds.rest holds.log known leads
 
 pub returns-clause-lasts : goal.returns-clause-lasts
 returns-clause-lasts c = λ before later calls known leads. calls_stay calls before later known leads

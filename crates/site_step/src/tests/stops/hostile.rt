@@ -3,8 +3,8 @@
 use super::*;
 
 /// Logs of site 0, each with the first line that breaks a rule: more than its rights, an epoch that
-/// hasn't begun, a gift to itself, rights past its room, a site that isn't in the schema, a field that
-/// isn't, a line that ends in CR, and a total that doesn't grow.
+/// hasn't begun, a gift to itself, rights past its room, a site that isn't in the schema, a field
+/// that isn't, a line that ends in CR, and a total that doesn't grow.
 const HOSTILE_LOGS: [(&str, u64); 12] = [
     ("C 0 1 0 -21\n", 1),
     ("C 0 1 0 31\n", 1),

@@ -13,7 +13,8 @@ returns g c =
     let no_foreign : NoneForeign (histories_of c.as_slice.result.now) = search rules in
     let no_lost : NoneLost (histories_of c.as_slice-2.result.now) = search rules in record {
       ok =
-          all_worked c.args.schema.now (scripts_of c.args.scripts.items) (histories_of c.in_ok-histories.histories.items) c.requires.fit c.in_ok-histories.ensures.worked
+          all_worked c.args.schema.now (scripts_of c.args.scripts.items)
+          (histories_of c.in_ok-histories.histories.items) c.requires.fit c.in_ok-histories.ensures.worked
           (subst (λ (l : List (Vec Entry)). NoneForeign (histories_of l)) c.as_slice.ensures.value no_foreign)
           (subst (λ (l : List (Vec Entry)). NoneLost (histories_of l)) c.as_slice-2.ensures.value no_lost);
       foreign = tt;
@@ -24,7 +25,9 @@ returns g c =
 
 pub foreign-requires : goal.foreign-requires
 foreign-requires g c = record {
-  few = subst (λ (l : List (Vec Entry)). length l ≤ 65536) (sym c.as_slice.ensures.value) (few_histories c.args.schema.now (scripts_of c.args.scripts.items) c.in_ok-histories.histories.items c.sites.ensures.limits c.requires.fit c.in_ok-histories.ensures.worked);
+  few = subst (λ (l : List (Vec Entry)). length l ≤ 65536) (sym c.as_slice.ensures.value)
+      (few_histories c.args.schema.now (scripts_of c.args.scripts.items) c.in_ok-histories.histories.items c.sites.ensures.limits
+      c.requires.fit c.in_ok-histories.ensures.worked);
 }
 
 pub returns-in_err-histories-clause-foreign : goal.returns-in_err-histories-clause-foreign
@@ -53,10 +56,12 @@ returns-in-Some g c =
     let vs = c.in_ok-histories.histories.items in
     let worked = c.in_ok-histories.ensures.worked in record {
       ok = tt;
-      foreign = shows_foreign c.args.schema.now (scripts_of c.args.scripts.items) vs _ c.in-Some.site c.requires.fit worked c.as_slice.ensures.value lowest;
+      foreign = shows_foreign c.args.schema.now (scripts_of c.args.scripts.items) vs _ c.in-Some.site c.requires.fit worked
+          c.as_slice.ensures.value lowest;
       lost = tt;
       receipts = tt;
-      site = foreign_known c.args.schema.now (scripts_of c.args.scripts.items) vs _ c.in-Some.site c.requires.fit worked c.as_slice.ensures.value lowest;
+      site = foreign_known c.args.schema.now (scripts_of c.args.scripts.items) vs _ c.in-Some.site c.requires.fit worked
+          c.as_slice.ensures.value lowest;
     }
 
 pub returns-in-Some-lacking : goal.returns-in-Some-lacking
@@ -67,7 +72,9 @@ returns-in-Some-lacking g c =
     let worked = c.in_ok-histories.ensures.worked in record {
       ok = tt;
       foreign = tt;
-      lost = shows_lost c.args.schema.now (scripts_of c.args.scripts.items) vs _ c.in-Some-lacking.site c.requires.fit worked c.as_slice-2.ensures.value _ c.as_slice.ensures.value none lowest;
+      lost = shows_lost c.args.schema.now (scripts_of c.args.scripts.items) vs _ c.in-Some-lacking.site c.requires.fit worked
+          c.as_slice-2.ensures.value _ c.as_slice.ensures.value none lowest;
       receipts = tt;
-      site = lost_known c.args.schema.now (scripts_of c.args.scripts.items) vs _ c.in-Some-lacking.site c.requires.fit worked c.as_slice-2.ensures.value lowest;
+      site = lost_known c.args.schema.now (scripts_of c.args.scripts.items) vs _ c.in-Some-lacking.site c.requires.fit worked
+          c.as_slice-2.ensures.value lowest;
     }

@@ -10,7 +10,8 @@ loop-init g c = (tt, tt, c.requires.seat, omega arith, begins_at _ _ _ c.new-rec
 pub returns-then-whole-clause-whole : goal.returns-then-whole-clause-whole
 returns-then-whole-clause-whole g c = λ on.
     finishes _ _ _ _ _ (sym c.loop.ended.ok.0 ∙ c.loop.invariant.3) c.loop.invariant.4
-    (subst (λ (l : List Bool). (n : ℕ) → n < length l → slice_index_or l n false ≡ true) c.as_slice.ensures.value (c.all_marked-whole.ensures.all on))
+    (subst (λ (l : List Bool). (n : ℕ) → n < length l
+    → slice_index_or l n false ≡ true) c.as_slice.ensures.value (c.all_marked-whole.ensures.all on))
 
 pub returns-then-whole-clause-short : goal.returns-then-whole-clause-short
 returns-then-whole-clause-short g c = λ off. absurd (true≢false (sym c.if-whole.true ∙ off))
@@ -20,22 +21,42 @@ returns-in_default-clause-whole g c = λ on. absurd (true≢false (sym on ∙ c.
 
 pub returns-in_default-clause-short : goal.returns-in_default-clause-short
 returns-in_default-clause-short g c = λ off.
-    stops_at _ _ _ _ _ _ (ap (λ (v : View). v.taken) c.in_default.ensures.none) (sym c.loop.ended.ok.0 ∙ c.loop.invariant.3) c.loop.invariant.4
-    (subst (λ (l : List Bool). (n : ℕ) × (n < length l) × (slice_index_or l n false ≡ false)) c.as_slice.ensures.value (c.all_marked-whole.ensures.not_all off))
+    stops_at _ _ _ _ _ _ (ap (λ (v : View). v.taken) c.in_default.ensures.none)
+    (sym c.loop.ended.ok.0 ∙ c.loop.invariant.3) c.loop.invariant.4
+    (subst (λ (l : List Bool). (n : ℕ) × (n < length l)
+    × (slice_index_or l n false ≡ false)) c.as_slice.ensures.value (c.all_marked-whole.ensures.not_all off))
 
 pub returns-in-Err-clause-fault : goal.returns-in-Err-clause-fault
 returns-in-Err-clause-fault g c = courier_call _ _ _ _ _ c.fault_of_call.ensures c.site.ensures.value c.in-Err.ensures.fault
 
 pub loop-preserved-in-Continue-branch-2 : goal.loop-preserved-in-Continue-branch-2
-loop-preserved-in-Continue-branch-2 g c =
-    (tt, tt, c.in-Some-take.ensures.seat, c.loop.invariant.3, accepts_at _ _ _ _ _ _ _ _ _ (ap (λ (v : View). v.taken) c.in-Some-take.ensures.some) c.in-Stated.is c.in_ok-push-in-Ok.ensures.items c.in-Ok.ensures.ok.0 c.loop.invariant.4)
+loop-preserved-in-Continue-branch-2 g c = (
+  tt,
+  tt,
+  c.in-Some-take.ensures.seat,
+  c.loop.invariant.3,
+  accepts_at _ _ _ _ _ _ _ _ _ (ap (λ (v : View). v.taken) c.in-Some-take.ensures.some) c.in-Stated.is
+      c.in_ok-push-in-Ok.ensures.items c.in-Ok.ensures.ok.0 c.loop.invariant.4,
+)
 
 pub loop-preserved-then-place-len : goal.loop-preserved-then-place-len
 loop-preserved-then-place-len g c =
-    let within : c.from-place.result < length c.loop.ended.items = omega (arith, c.if-place-len.true, c.loop.ended.ok.0) in
-    (tt, tt, c.in-Some-take.ensures.seat, c.loop.invariant.3, ends_at _ _ _ _ _ _ _ _ (ap (λ (v : View). v.taken) c.in-Some-take.ensures.some) c.in-End.is c.from-place.ensures within c.loop.invariant.4)
+    let within : c.from-place.result < length c.loop.ended.items = omega (arith, c.if-place-len.true, c.loop.ended.ok.0) in (
+      tt,
+      tt,
+      c.in-Some-take.ensures.seat,
+      c.loop.invariant.3,
+      ends_at _ _ _ _ _ _ _ _ (ap (λ (v : View). v.taken) c.in-Some-take.ensures.some) c.in-End.is c.from-place.ensures within
+          c.loop.invariant.4,
+    )
 
 pub loop-preserved : goal.loop-preserved
 loop-preserved g c =
-    let past : length c.loop.ended.items ≤ c.from-place.result = omega (arith, c.if-place-len.false, c.loop.ended.ok.0) in
-    (tt, tt, c.in-Some-take.ensures.seat, c.loop.invariant.3, skips_at _ _ _ _ _ _ _ _ (ap (λ (v : View). v.taken) c.in-Some-take.ensures.some) c.in-End.is c.from-place.ensures past c.loop.invariant.4)
+    let past : length c.loop.ended.items ≤ c.from-place.result = omega (arith, c.if-place-len.false, c.loop.ended.ok.0) in (
+      tt,
+      tt,
+      c.in-Some-take.ensures.seat,
+      c.loop.invariant.3,
+      skips_at _ _ _ _ _ _ _ _ (ap (λ (v : View). v.taken) c.in-Some-take.ensures.some) c.in-End.is c.from-place.ensures past
+          c.loop.invariant.4,
+    )

@@ -6,4 +6,5 @@ pub returns-then-has_at : goal.returns-then-has_at
 returns-then-has_at c = told_has _ _ c.in-Some.told (sym c.statement_of.ensures.value ∙ c.in-Some.is) (c.has_at.ensures.0 c.if-has_at.true)
 
 pub returns : goal.returns
-returns c = told_lacks _ _ c.in-Some.told (sym c.statement_of.ensures.value ∙ c.in-Some.is) (λ has. absurd (true≢false (sym (c.has_at.ensures.1 has) ∙ c.if-has_at.false)))
+returns c = told_lacks _ _ c.in-Some.told (sym c.statement_of.ensures.value ∙ c.in-Some.is)
+    (λ has. absurd (true≢false (sym (c.has_at.ensures.1 has) ∙ c.if-has_at.false)))

@@ -4,4 +4,5 @@ use Rattle.site_workers.proofs.crossing.lost.Given as goal
 
 abbrev pub invariant-loop-history : goal.invariant-loop-history
 invariant-loop-history l =
-    IsLowest (LacksBefore l.accepted.items (histories_of l.histories) l.history-index) (TakesBefore l.accepted.items (histories_of l.histories) l.history-index) l.lowest
+    IsLowest (LacksBefore l.accepted.items (histories_of l.histories) l.history-index)
+    (TakesBefore l.accepted.items (histories_of l.histories) l.history-index) l.lowest

@@ -6,6 +6,8 @@ use Rattle.site_workers.proofs.crossing.lowest_lacking.Goals as goal
 
 pub loop-entry-preserved : goal.loop-entry-preserved
 loop-entry-preserved c =
-    subst (λ (o : Option SiteNo). IsLowest (LacksIn c.args.accepted.now (take (c.loop-entry.entry-index + 1) c.args.history.now)) (TakesIn c.args.accepted.now (take (c.loop-entry.entry-index + 1) c.args.history.now)) o)
+    subst (λ (o : Option SiteNo). IsLowest (LacksIn c.args.accepted.now (take (c.loop-entry.entry-index + 1) c.args.history.now))
+    (TakesIn c.args.accepted.now (take (c.loop-entry.entry-index + 1) c.args.history.now)) o)
     (sym c.lower_of-lowest.ensures)
-    (lowest_step c.args.accepted.now c.args.history.now c.loop-entry.entry-index _ c.loop-entry.lowest c.lacking.result c.loop-entry-test.true c.loop-entry.invariant c.lacking.ensures)
+    (lowest_step c.args.accepted.now c.args.history.now c.loop-entry.entry-index _ c.loop-entry.lowest c.lacking.result
+    c.loop-entry-test.true c.loop-entry.invariant c.lacking.ensures)

@@ -10,11 +10,13 @@ returns-then-not-has_no_accept c = record {
   fit = (
     λ no. search rules,
     λ fit. subst (λ (b : Bool). IsTrue b) c.if-not-has_no_accept.true
-        (c.has_no_accept.ensures.1 (subst (λ (l : List Command). HasNoAccept l) (sym c.as_slice.ensures.value) (script_at c.args.scripts.now c.loop-script.script-index c.script-item.result c.loop-script-test.true c.script-item.is fit.1))),
+        (c.has_no_accept.ensures.1 (subst (λ (l : List Command). HasNoAccept l) (sym c.as_slice.ensures.value)
+        (script_at c.args.scripts.now c.loop-script.script-index c.script-item.result c.loop-script-test.true c.script-item.is fit.1))),
   );
 }
 
 pub loop-script-preserved : goal.loop-script-preserved
 loop-script-preserved c =
     let now : HasNoAccept c.as_slice.result.now = search rules in
-    scripts_more c.args.scripts.now c.loop-script.script-index c.script-item.result c.loop-script-test.true c.script-item.is c.loop-script.invariant (subst (λ (l : List Command). HasNoAccept l) c.as_slice.ensures.value now)
+    scripts_more c.args.scripts.now c.loop-script.script-index c.script-item.result c.loop-script-test.true c.script-item.is
+    c.loop-script.invariant (subst (λ (l : List Command). HasNoAccept l) c.as_slice.ensures.value now)

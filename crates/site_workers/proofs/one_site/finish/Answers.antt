@@ -6,7 +6,8 @@ use Rattle.site_workers.proofs.one_site.finish.Goals as goal
 
 pub returns-clause-closed : goal.returns-clause-closed
 returns-clause-closed g c =
-    is_closed c.in-Ok.closed c.args.desk.schema c.args.desk.site c.history-entries.result.now c.loop-entry.history.items c.args.receipts.now c.history-entries.ensures.value c.in-Ok.ensures.ok.1 c.in-Ok.ensures.ok.2
+    is_closed c.in-Ok.closed c.args.desk.schema c.args.desk.site c.history-entries.result.now c.loop-entry.history.items c.args.receipts.now
+    c.history-entries.ensures.value c.in-Ok.ensures.ok.1 c.in-Ok.ensures.ok.2
     (sym c.on_fresh_base.ensures.value ∙ c.if-not-on_fresh_base.false)
     c.history-entries.ensures.run
     c.history-entries.ensures.own
@@ -15,7 +16,8 @@ returns-clause-closed g c =
 
 pub returns-in-Err-clause-fault : goal.returns-in-Err-clause-fault
 returns-in-Err-clause-fault g c =
-    differs_fault c.in-Ok.closed c.args.desk.schema c.args.desk.site c.args.receipts.now c.in-Err.fault _ c.fault_of_receipts.ensures c.in-Ok.ensures.ok.1 c.in-Ok.ensures.ok.2
+    differs_fault c.in-Ok.closed c.args.desk.schema c.args.desk.site c.args.receipts.now c.in-Err.fault _ c.fault_of_receipts.ensures
+    c.in-Ok.ensures.ok.1 c.in-Ok.ensures.ok.2
     (sym c.on_fresh_base.ensures.value ∙ c.if-not-on_fresh_base.false)
     c.history-entries.ensures.run
     c.history-entries.ensures.own

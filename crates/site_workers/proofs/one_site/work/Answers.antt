@@ -5,8 +5,10 @@ use Rattle.site_workers.proofs.one_site.work.Goals as goal
 
 pub loop-command-preserved : goal.loop-command-preserved
 loop-command-preserved g c = record {
-  calls = commands_step _ _ _ c.args.script.now c.loop-command.command-index _ c.in_ok-push-in-Ok.ensures.items c.in-Ok.ensures.ok.0 c.loop-command.invariant.calls c.loop-command-test.true;
-  rising = rises_more_at _ _ _ _ _ _ c.in_ok-push-in-Ok.ensures.items c.in-Ok.ensures.ok.1 c.in-Ok.ensures.ok.3 c.loop-command.invariant.rising;
+  calls = commands_step _ _ _ c.args.script.now c.loop-command.command-index _ c.in_ok-push-in-Ok.ensures.items c.in-Ok.ensures.ok.0
+      c.loop-command.invariant.calls c.loop-command-test.true;
+  rising = rises_more_at _ _ _ _ _ _ c.in_ok-push-in-Ok.ensures.items c.in-Ok.ensures.ok.1 c.in-Ok.ensures.ok.3
+      c.loop-command.invariant.rising;
 }
 
 pub returns-in-Err-clause-fault : goal.returns-in-Err-clause-fault

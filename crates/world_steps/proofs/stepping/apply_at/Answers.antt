@@ -11,5 +11,6 @@ apply_once-requires-clause-room c = (calm_at _ _ _ _ _ c.from.ensures c.requires
 pub returns-clause-stand : goal.returns-clause-stand
 returns-clause-stand c =
     IfOk-weaker c.apply_once.result _ _
-    (λ reply once schema past bound all. all_after schema past bound _ c.args.number c.args.command c.args.luck reply _ _ _ c.from.ensures c.requires.known all once)
+    (λ reply once schema past bound all. all_after schema past bound _ c.args.number c.args.command c.args.luck reply _ _ _ c.from.ensures
+    c.requires.known all once)
     c.apply_once.ensures.once

@@ -14,4 +14,5 @@ returns-then-reply_holds c = λ t is legal.
     let below : e.site.0 < schema.sites = omega arith in
     let told : test_of schema t e Told ≡ true = sym (c.statement_holds.ensures t is) ∙ c.if-statement_holds.true in
     let owed : test_of schema t e Owed ≡ true = sym (c.reply_holds.ensures t is.totals) ∙ c.if-reply_holds.true in
-    sym (rest_is_all schema c.sites.ensures.limits t e legal (none_broken (rest_tests schema t e) (lt-ltb e.site.0 schema.sites below, (told, (owed, tt)))))
+    sym (rest_is_all schema c.sites.ensures.limits t e legal
+    (none_broken (rest_tests schema t e) (lt-ltb e.site.0 schema.sites below, (told, (owed, tt)))))

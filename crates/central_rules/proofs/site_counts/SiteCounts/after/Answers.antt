@@ -4,10 +4,13 @@ use Rattle.central_rules.proofs.Counts.{count_few}
 use Rattle.central_rules.proofs.site_counts.SiteCounts.after.Goals as goal
 
 pub returns-in-Unsure-clause-unsure : goal.returns-in-Unsure-clause-unsure
-returns-in-Unsure-clause-unsure c = λ o few was. rw (c.in-Unsure.is) (omega (arith, few, was, c.saturating_add.ensures, count_few is_unsure o))
+returns-in-Unsure-clause-unsure c = λ o few was. rw (c.in-Unsure.is)
+    (omega (arith, few, was, c.saturating_add.ensures, count_few is_unsure o))
 
 pub returns-in-StillDown-clause-still_down : goal.returns-in-StillDown-clause-still_down
-returns-in-StillDown-clause-still_down c = λ o few was. rw (c.in-StillDown.is) (omega (arith, few, was, c.saturating_add-in-StillDown.ensures, count_few is_still_down o))
+returns-in-StillDown-clause-still_down c = λ o few was.
+    rw (c.in-StillDown.is) (omega (arith, few, was, c.saturating_add-in-StillDown.ensures, count_few is_still_down o))
 
 pub returns-in-Begun-clause-begun : goal.returns-in-Begun-clause-begun
-returns-in-Begun-clause-begun c = λ o few was. rw (c.in-Begun.is) (omega (arith, few, was, c.saturating_add-in-Begun.ensures, count_few is_begun_reply o))
+returns-in-Begun-clause-begun c = λ o few was. rw (c.in-Begun.is)
+    (omega (arith, few, was, c.saturating_add-in-Begun.ensures, count_few is_begun_reply o))

@@ -9,7 +9,8 @@ use Rattle.escrow_audit.proofs.reading.Reading.end_input.Goals as goal
 pub returns-clause-ok : goal.returns-clause-ok
 returns-clause-ok c =
     on_ok_weaker c.end_line.result (λ ended read at.
-    Holds-ended read _ _ (λ some empty. both_ways c.is_between_lines.result c.if-is_between_lines.false (c.is_between_lines.ensures.1 (some, empty))) at ended)
+    Holds-ended read _ _ (λ some empty. both_ways c.is_between_lines.result c.if-is_between_lines.false
+    (c.is_between_lines.ensures.1 (some, empty))) at ended)
     c.end_line.ensures.ok
 
 pub returns-clause-err : goal.returns-clause-err

@@ -11,13 +11,15 @@ regroup read line more = ap (λ l. read ++ l) (sym (append_assoc line (10 ∷ []
 pub returns-then-is_between_lines-clause-ok : goal.returns-then-is_between_lines-clause-ok
 returns-then-is_between_lines-clause-ok c =
     on_ok_weaker c.note_whole.result (λ noted read at.
-    At-whole read c.args.line.now _ _ c.requires.unbroken (c.is_between_lines.ensures.0 c.if-is_between_lines.true).1 at noted) c.note_whole.ensures.ok
+    At-whole read c.args.line.now _ _ c.requires.unbroken (c.is_between_lines.ensures.0 c.if-is_between_lines.true).1 at noted)
+    c.note_whole.ensures.ok
 
 pub returns-then-is_between_lines-clause-err : goal.returns-then-is_between_lines-clause-err
 returns-then-is_between_lines-clause-err c =
     err_and c.note_whole.result _ _ _ (λ stop why same read more at.
     Stops-along stop _ _ _ _ (regroup read c.args.line.now more)
-    (Stops-whole stop read c.args.line.now more _ c.note_whole.new.self _ c.requires.unbroken (c.is_between_lines.ensures.0 c.if-is_between_lines.true).1 at why same))
+    (Stops-whole stop read c.args.line.now more _ c.note_whole.new.self _ c.requires.unbroken
+    (c.is_between_lines.ensures.0 c.if-is_between_lines.true).1 at why same))
     c.note_whole.ensures.err c.note_whole.ensures.lines
 
 pub returns-in_err-keep-clause-err : goal.returns-in_err-keep-clause-err
@@ -25,7 +27,8 @@ returns-in_err-keep-clause-err c =
     let p = err_from_is_err_and c.from_residual.result c.from_residual.ensures.1 in
     rw (p.1, p.2) (λ read more at.
     Stops-along _ _ _ _ _ (regroup read c.args.line.now more)
-    (Stops-keep _ read c.args.line.now (10 ∷ more) _ c.keep.new.self _ c.requires.unbroken at c.in_err-keep.ensures.err c.in_err-keep.ensures.lines))
+    (Stops-keep _ read c.args.line.now (10 ∷ more) _ c.keep.new.self _ c.requires.unbroken at c.in_err-keep.ensures.err
+    c.in_err-keep.ensures.lines))
 
 pub returns-clause-ok : goal.returns-clause-ok
 returns-clause-ok c =

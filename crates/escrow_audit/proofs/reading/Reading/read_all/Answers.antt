@@ -36,11 +36,20 @@ pub returns-clause-err : goal.returns-clause-err
 returns-clause-err g c =
     let next = c.in_ok-count.ensures.ok _ c.pieces.invariant.stands in
     IfErr-weaker c.end_input.result _ _
-    (λ stop stops. (next.0.read, (next.0.consumed, Stops-weaker stop _ _ _ _ (λ _. next.1 c.if-count-eq0.true) (stops next.0.read next.0.at))))
+    (λ stop stops. (
+      next.0.read,
+      (
+        next.0.consumed,
+        Stops-weaker stop _ _ _ _ (λ _. next.1 c.if-count-eq0.true) (stops next.0.read next.0.at),
+      ),
+    ))
     c.end_input.ensures.err
 
 pub returns-clause-ok : goal.returns-clause-ok
 returns-clause-ok g c =
     let next = c.in_ok-count.ensures.ok _ c.pieces.invariant.stands in
-    on_ok_weaker c.end_input.result (λ finishes. (next.0.read, (next.0.consumed, (next.1 c.if-count-eq0.true, finishes next.0.read next.0.at))))
+    on_ok_weaker c.end_input.result (λ finishes. (
+      next.0.read,
+      (next.0.consumed, (next.1 c.if-count-eq0.true, finishes next.0.read next.0.at)),
+    ))
     c.end_input.ensures.ok

@@ -11,13 +11,15 @@ returns-in-Err-clause-err g c = λ from stands.
 
 pub returns-then-count-eq0-clause-ok : goal.returns-then-count-eq0-clause-ok
 returns-then-count-eq0-clause-ok g c = λ from stands.
-    Stands-end from _ _ c.args.self.now c.args.self.now c.in-Ok.count c.read.new.buffer _ c.if-count-eq0.true (omega arith) c.in-Ok.ensures.bytes c.in-Ok.ensures.nothing stands
+    Stands-end from _ _ c.args.self.now c.args.self.now c.in-Ok.count c.read.new.buffer _ c.if-count-eq0.true
+    (omega arith) c.in-Ok.ensures.bytes c.in-Ok.ensures.nothing stands
 
 pub returns-in_err-take_piece-clause-err : goal.returns-in_err-take_piece-clause-err
 returns-in_err-take_piece-clause-err g c =
     let p = err_from_is_err_and c.from_residual.result c.from_residual.ensures.1 in
     rw (p.1, p.2) (λ from stands.
-    Stops-more from _ _ _ c.take_piece.new.self _ c.in-Ok.count _ c.read.new.buffer _ _ c.front.ensures.bytes (omega arith) c.in-Ok.ensures.bytes.0
+    Stops-more from _ _ _ c.take_piece.new.self _ c.in-Ok.count _ c.read.new.buffer _ _ c.front.ensures.bytes
+    (omega arith) c.in-Ok.ensures.bytes.0
     c.in_err-take_piece.ensures.err stands)
 
 pub returns-then-count-room-clause-err : goal.returns-then-count-room-clause-err
@@ -29,7 +31,8 @@ pub returns-in_err-take_piece-2-clause-err : goal.returns-in_err-take_piece-2-cl
 returns-in_err-take_piece-2-clause-err g c =
     let p = err_from_is_err_and c.from_residual-in_err-take_piece-2.result c.from_residual-in_err-take_piece-2.ensures.1 in
     rw (p.1, p.2) (λ from stands.
-    Stops-more from _ _ _ c.take_piece-2.new.self _ c.in-Ok.count _ c.read.new.buffer _ _ c.front-2.ensures.bytes (omega arith) c.in-Ok.ensures.bytes.0
+    Stops-more from _ _ _ c.take_piece-2.new.self _ c.in-Ok.count _ c.read.new.buffer _ _ c.front-2.ensures.bytes
+    (omega arith) c.in-Ok.ensures.bytes.0
     c.in_err-take_piece-2.ensures.err stands)
 
 pub returns-clause-ok : goal.returns-clause-ok

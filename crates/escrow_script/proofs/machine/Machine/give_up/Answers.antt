@@ -7,5 +7,7 @@ use Rattle.escrow_script.proofs.machine.Machine.give_up.Goals as goal
 pub returns-in-Some-clause-ok : goal.returns-in-Some-clause-ok
 returns-in-Some-clause-ok c =
     let world = c.args.self.now.world in
-    let asks = asks_in_vain world c.args.line.now c.args.aim c.args.fault c.in-Some.word.now c.requires.aims c.requires.why c.in-Some.ensures in
-    on_ok_weaker c.add_reason.result (λ is. answered_many c.args.line.now [] _ world world _ _ _ asks is (took_none world _)) c.add_reason.ensures.ok
+    let asks = asks_in_vain world c.args.line.now c.args.aim c.args.fault c.in-Some.word.now c.requires.aims c.requires.why
+    c.in-Some.ensures in
+    on_ok_weaker c.add_reason.result (λ is. answered_many c.args.line.now [] _ world world _ _ _ asks is (took_none world _))
+    c.add_reason.ensures.ok

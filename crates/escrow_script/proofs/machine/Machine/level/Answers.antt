@@ -28,13 +28,17 @@ returns-clause-ok c =
     let field = c.args.level.field in
     let kind = c.args.level.kind in
     let sites = c.as_slice-2.ensures.value in
-    let shares = c.as_slice.ensures.value ∙ c.in_ok-up.ensures.shares ∙ ap (λ s. map (free_at world.schema (trace_of world) field kind) s) (sym sites) in
+    let shares = c.as_slice.ensures.value ∙ c.in_ok-up.ensures.shares
+    ∙ ap (λ s. map (free_at world.schema (trace_of world) field kind) s) (sym sites) in
     let gifts = gifts_are world.schema (trace_of world) field kind c.as_slice-2.result.now c.as_slice.result.now c.as_slice-moves.result.now
     (sites ∙ c.in_ok-up.ensures.sites) shares (c.as_slice-moves.ensures.value ∙ c.in_ok-plan.ensures.plan) in
     let count = sym (length-map c.as_slice-moves.result.now (gift_of c.as_slice-2.result.now field kind)) in
     let asks = asks_level world c.args.line.now field kind _ (length c.as_slice-moves.result.now) c.requires.levels gifts count in
-    on_ok_weaker c.take_gifts.result (λ took. answered_many c.args.line.now _ _ world _ _ _ _ asks c.in_ok-add_count.ensures.ok took) c.take_gifts.ensures.ok
+    on_ok_weaker c.take_gifts.result (λ took. answered_many c.args.line.now _ _ world _ _ _ _ asks c.in_ok-add_count.ensures.ok took)
+    c.take_gifts.ensures.ok
 
 pub returns-clause-err : goal.returns-clause-err
 returns-clause-err c =
-    on_err_weaker c.take_gifts.result (front_stays c.args.out.now.items (line_text (c.args.line.now ++ codes " -> moves " ++ decimal (length c.as_slice-moves.result.now))) _ _ c.in_ok-add_count.ensures.ok) c.take_gifts.ensures.err
+    on_err_weaker c.take_gifts.result (front_stays c.args.out.now.items
+    (line_text (c.args.line.now ++ codes " -> moves " ++ decimal (length c.as_slice-moves.result.now))) _ _
+    c.in_ok-add_count.ensures.ok) c.take_gifts.ensures.err

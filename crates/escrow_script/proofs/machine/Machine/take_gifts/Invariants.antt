@@ -5,4 +5,5 @@ use Rattle.escrow_script.proofs.machine.Machine.take_gifts.Given as goal
 
 abbrev pub invariant-loop-planned : goal.invariant-loop-planned
 invariant-loop-planned l =
-    HasTaken (map (gift_of l.sites l.level.field l.level.kind) (take l.planned-index l.plan)) l.initial.self.world l.self.world l.initial.out.items l.out.items
+    HasTaken (map (gift_of l.sites l.level.field l.level.kind) (take l.planned-index l.plan)) l.initial.self.world l.self.world
+    l.initial.out.items l.out.items

@@ -12,5 +12,6 @@ returns-clause-err c =
 pub returns-clause-ok : goal.returns-clause-ok
 returns-clause-ok c =
     on_ok_weaker c.end_line.result (λ ended read before after at.
-    Finishes-ended read _ _ before after (λ some empty. both_ways c.is_between_lines.result c.if-is_between_lines.false (c.is_between_lines.ensures.1 (some, empty))) at ended)
+    Finishes-ended read _ _ before after (λ some empty.
+    both_ways c.is_between_lines.result c.if-is_between_lines.false (c.is_between_lines.ensures.1 (some, empty))) at ended)
     c.end_line.ensures.ok

@@ -14,7 +14,8 @@ returns-in_err-answer_whole-clause-err c =
 
 pub returns-then-whole-clause-ok : goal.returns-then-whole-clause-ok
 returns-then-whole-clause-ok c = λ after read before at.
-    At-whole read c.args.line.now _ _ _ _ c.requires.unbroken (c.is_between_lines-whole.ensures.0 c.if-whole.true).1 at c.in_ok-answer_whole.ensures.ok
+    At-whole read c.args.line.now _ _ _ _ c.requires.unbroken
+    (c.is_between_lines-whole.ensures.0 c.if-whole.true).1 at c.in_ok-answer_whole.ensures.ok
 
 pub returns-in_err-keep-clause-err : goal.returns-in_err-keep-clause-err
 returns-in_err-keep-clause-err c =

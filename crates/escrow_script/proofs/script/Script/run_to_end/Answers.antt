@@ -37,13 +37,22 @@ pub returns-clause-err : goal.returns-clause-err
 returns-clause-err g c =
     let next = c.in_ok-count.ensures.ok _ _ c.pieces.invariant.stands in
     IfErr-weaker c.end_input.result _ _
-    (λ fault stops. (next.0.read, next.0.consumed, Stops-weaker fault _ _ _ _ _ _ (λ _. next.1 c.if-count-eq0.true) (stops next.0.read _ _ next.0.at)))
+    (λ fault stops. (
+      next.0.read,
+      next.0.consumed,
+      Stops-weaker fault _ _ _ _ _ _ (λ _. next.1 c.if-count-eq0.true) (stops next.0.read _ _ next.0.at),
+    ))
     c.end_input.ensures.err
 
 pub returns-clause-ok : goal.returns-clause-ok
 returns-clause-ok g c =
     let next = c.in_ok-count.ensures.ok _ _ c.pieces.invariant.stands in
-    on_ok_weaker c.end_input.result (λ finishes. (next.0.read, next.0.consumed, (next.1 c.if-count-eq0.true).0, finishes next.0.read _ _ next.0.at))
+    on_ok_weaker c.end_input.result (λ finishes. (
+      next.0.read,
+      next.0.consumed,
+      (next.1 c.if-count-eq0.true).0,
+      finishes next.0.read _ _ next.0.at,
+    ))
     c.end_input.ensures.ok
 
 pub returns-clause-end : goal.returns-clause-end

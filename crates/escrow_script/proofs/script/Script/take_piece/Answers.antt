@@ -49,7 +49,8 @@ returns-clause-err g c =
     let inv = c.lines.invariant in
     IfErr-weaker c.keep.result _ _ (λ fault cannot read more before at.
     Stops-along _ _ _ _ _ _ _ (piece_parts read inv.done c.lines.rest.now c.args.piece.now more inv.split)
-    (Stops-keep fault (read ++ inv.done) c.lines.rest.now more _ _ _ _ _ c.in_default.ensures.parts (inv.goes read before at) cannot)) c.keep.ensures.err
+    (Stops-keep fault (read ++ inv.done) c.lines.rest.now more _ _ _ _ _ c.in_default.ensures.parts (inv.goes read before at) cannot))
+    c.keep.ensures.err
 
 pub returns-clause-ok : goal.returns-clause-ok
 returns-clause-ok g c =

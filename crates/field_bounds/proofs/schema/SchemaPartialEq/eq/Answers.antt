@@ -19,5 +19,10 @@ returns-then-self-other c =
     let fields_of : SchemaValue → List FieldValue = λ s. s.fields in
     let sites = sym (ap sites_of c.self.view_is) ∙ c.if-self-other.true ∙ ap sites_of c.other.view_is in
     let is : c.eq.result ≡ same_schema c.args.self.now c.args.other.now =
-    seen ∙ alike_is_same c.args.self.now c.args.other.now es fs sites (sym (ap fields_of c.self.view_is)) (sym (ap fields_of c.other.view_is)) in
-    record { value = is; same = subst (λ (b : Bool). Decides b (c.args.self.now ≡ c.args.other.now)) (sym is) (schema_decides c.args.self.now c.args.other.now) }
+    seen ∙ alike_is_same c.args.self.now c.args.other.now es fs sites (sym (ap fields_of c.self.view_is))
+    (sym (ap fields_of c.other.view_is)) in
+    record {
+      value = is;
+      same = subst (λ (b : Bool). Decides b (c.args.self.now ≡ c.args.other.now)) (sym is)
+          (schema_decides c.args.self.now c.args.other.now);
+    }

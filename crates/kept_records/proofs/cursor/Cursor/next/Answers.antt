@@ -44,7 +44,8 @@ handed bytes left end kept same cut is =
     )
 
 pub returns-in-Ok-clause-handed : goal.returns-in-Ok-clause-handed
-returns-in-Ok-clause-handed c = handed c.args.self.now c.self.inside.left.now c.in-Some.end c.in-Ok.kept c.self.view_is (found 10 c.self.inside.left.now c.in-Some.end (cc)) c.in-Ok.ensures
+returns-in-Ok-clause-handed c = handed c.args.self.now c.self.inside.left.now c.in-Some.end c.in-Ok.kept c.self.view_is
+    (found 10 c.self.inside.left.now c.in-Some.end (cc)) c.in-Ok.ensures
 
 pub returns-in-Ok-clause-log : goal.returns-in-Ok-clause-log
 returns-in-Ok-clause-log c =

@@ -9,12 +9,18 @@ use Rattle.log_replay.proofs.standing.Standing.accept.Goals.{then-total-before-v
 pub accepted-before-requires : goal.accepted-before-requires
 accepted-before-requires c =
     let here = sym c.has_place.ensures ∙ c.if-not-has_place.false in
-    record { place = c.requires.places.place c.args.from.0 c.args.field.0 (is_other c.args.schema.now c.args.self.now.ledger.site c.args.from.0 c.args.field.0 here) }
+    record {
+      place = c.requires.places.place c.args.from.0 c.args.field.0
+          (is_other c.args.schema.now c.args.self.now.ledger.site c.args.from.0 c.args.field.0 here);
+    }
 
 pub accept-gain-requires : goal.accept-gain-requires
 accept-gain-requires c =
     let here = sym c.has_place.ensures ∙ c.if-not-has_place.false in
-    record { place = c.requires.places.place c.args.from.0 c.args.field.0 (is_other c.args.schema.now c.args.self.now.ledger.site c.args.from.0 c.args.field.0 here) }
+    record {
+      place = c.requires.places.place c.args.from.0 c.args.field.0
+          (is_other c.args.schema.now c.args.self.now.ledger.site c.args.from.0 c.args.field.0 here);
+    }
 
 pub returns-then-total-before : goal.returns-then-total-before
 returns-then-total-before c =
@@ -23,7 +29,8 @@ returns-then-total-before c =
       takes_in = accept_none c.args.schema.now c.args.self.now c.args.from c.args.field c.args.kind c.args.total _
           (elim c.then-total-before.branch [
             | then-total-before-via-then-total-before w ↦ λ more within. absurd (omega (arith, before, more, w.if-total-before.true))
-            | then-total-before-via-else-total-before+then-total-before-2 w ↦ λ more within. absurd (omega (arith, before, within, w.room.ensures.value, w.if-total-before-2.true))
+            | then-total-before-via-else-total-before+then-total-before-2 w ↦ λ more within.
+                absurd (omega (arith, before, within, w.room.ensures.value, w.if-total-before-2.true))
           ]);
     }
 
@@ -41,7 +48,8 @@ returns c =
     let is = c.accept-gain.ensures.gain in
     record {
       takes_in = takes_as schema old (Accept from field kind total) true c.add.new.self (at_field after_add old.rights field.0 kind gain)
-          c.accept-gain.new.self (with_accepted old.ledger from.0 field.0 kind (max total (accepted_at old.ledger from.0 field.0 kind))) old.epoch
+          c.accept-gain.new.self (with_accepted old.ledger from.0 field.0 kind (max total (accepted_at old.ledger from.0 field.0 kind)))
+          old.epoch
           refl c.add.ensures.added c.accept-gain.ensures.accepted
           (accept_taken schema old from field kind total gain c.requires.places here (omega (arith, before, c.if-total-before.false)) is
           (omega (arith, before, is, c.room.ensures.value, c.if-total-before-2.false)));

@@ -13,7 +13,8 @@ returns-then-txn-self c =
       takes_in = commit_none c.args.schema.now c.args.self.now c.args.txn c.args.escrows.now c.args.self.now
           (elim c.then-txn-self.branch [
             | then-txn-self-via-then-txn-self w ↦ λ same fields free. absurd (w.if-txn-self.true same)
-            | then-txn-self-via-else-txn-self+then-not-are_fields w ↦ λ same fields free. absurd (cc (fields, w.are_fields.ensures, w.if-not-are_fields.true))
+            | then-txn-self-via-else-txn-self+then-not-are_fields w ↦ λ same fields free.
+                absurd (cc (fields, w.are_fields.ensures, w.if-not-are_fields.true))
           ]);
     }
 
@@ -46,7 +47,9 @@ returns c =
     let fields = sym c.are_fields.ensures ∙ c.if-not-are_fields.false in
     let mid = c.take_all.ensures.taken c.if-not-take_all.false in
     record {
-      takes_in = takes_as schema old (Commit c.args.txn es) true c.end.new.self (by_escrows (ending Committed) (by_escrows after_take old.rights es) es) old.ledger old.ledger old.epoch
+      takes_in = takes_as schema old (Commit c.args.txn es) true c.end.new.self
+          (by_escrows (ending Committed) (by_escrows after_take old.rights es) es) old.ledger old.ledger old.epoch
           refl (c.end.ensures.ended ∙ ap (λ (x : List FieldRights). by_escrows (ending Committed) x es) mid) refl
-          (commit_taken schema old c.args.txn es c.requires.places c.if-txn-self.false fields (c.take_all.ensures.enough.0 c.if-not-take_all.false));
+          (commit_taken schema old c.args.txn es c.requires.places c.if-txn-self.false fields
+          (c.take_all.ensures.enough.0 c.if-not-take_all.false));
     }

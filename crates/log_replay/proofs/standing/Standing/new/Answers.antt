@@ -11,7 +11,8 @@ returns c =
     let rows = c.in_ok-new.field-0 in
     record {
       nothing = record {
-        for_ = subst (λ (l : LedgerValue). StandsFor schema s [] rows l 0) (sym c.in_ok-new-2.ensures.fresh) (stands_none schema s rows c.in_ok-new.ensures.fresh);
+        for_ = subst (λ (l : LedgerValue). StandsFor schema s [] rows l 0) (sym c.in_ok-new-2.ensures.fresh)
+            (stands_none schema s rows c.in_ok-new.ensures.fresh);
         none = λ f k l. (c.in_ok-new.ensures.fresh.each f l).held k;
       };
     }

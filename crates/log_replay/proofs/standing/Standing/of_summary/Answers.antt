@@ -16,9 +16,12 @@ note_gifts-requires c =
     let v = c.args.summary.now in
     let tells = c.requires.tells.2 in
     record {
-      places = subst (λ (ts : List Total). AllByRecursion (λ t. IsSlot c.in_ok-ledger.ledger t.site.0 t.field.0) ts) (sym c.gifts.ensures.all)
-          (subst (λ (l : LedgerValue). AllByRecursion (λ t. IsSlot l t.site.0 t.field.0) v.gifts) (sym c.in_ok-ledger.ensures.fresh) (placed_fresh schema s v.gifts tells.gifts_placed));
-      small = subst (λ (ts : List Total). AllByRecursion (λ t. t.total ≤ max_total) ts) (sym c.gifts.ensures.all) (listed_small v.gifts c.requires.in_range.gifts);
+      places = subst (λ (ts : List Total). AllByRecursion (λ t. IsSlot c.in_ok-ledger.ledger t.site.0 t.field.0) ts)
+          (sym c.gifts.ensures.all)
+          (subst (λ (l : LedgerValue). AllByRecursion (λ t. IsSlot l t.site.0 t.field.0) v.gifts) (sym c.in_ok-ledger.ensures.fresh)
+          (placed_fresh schema s v.gifts tells.gifts_placed));
+      small = subst (λ (ts : List Total). AllByRecursion (λ t. t.total ≤ max_total) ts) (sym c.gifts.ensures.all)
+          (listed_small v.gifts c.requires.in_range.gifts);
     }
 
 pub note_accepts-requires : goal.note_accepts-requires
@@ -27,9 +30,11 @@ note_accepts-requires c =
     let s = c.args.site.0 in
     let v = c.args.summary.now in
     let tells = c.requires.tells.2 in
-    let fresh = subst (λ (l : LedgerValue). AllByRecursion (λ t. IsSlot l t.site.0 t.field.0) v.accepts) (sym c.in_ok-ledger.ensures.fresh) (placed_fresh schema s v.accepts tells.accepts_placed) in
+    let fresh = subst (λ (l : LedgerValue). AllByRecursion (λ t. IsSlot l t.site.0 t.field.0) v.accepts) (sym c.in_ok-ledger.ensures.fresh)
+    (placed_fresh schema s v.accepts tells.accepts_placed) in
     record {
-      places = subst (λ (ts : List Total). AllByRecursion (λ t. IsSlot c.note_gifts.new.ledger t.site.0 t.field.0) ts) (sym c.accepts.ensures.all)
+      places = subst (λ (ts : List Total). AllByRecursion (λ t. IsSlot c.note_gifts.new.ledger t.site.0 t.field.0) ts)
+          (sym c.accepts.ensures.all)
           (placed_still c.in_ok-ledger.ledger c.note_gifts.new.ledger c.note_gifts.ensures.noted.place v.accepts fresh);
     }
 
@@ -37,16 +42,19 @@ pub of-requires-clause-cut_count : goal.of-requires-clause-cut_count
 of-requires-clause-cut_count c =
     let schema = c.args.schema.now in
     let v = c.args.summary.now in
-    ap length ((c.deref.ensures.value ∙ cuts_read schema v c.tightenings.result.now c.fields.result c.in_ok-cuts.cuts.items c.tightenings.ensures.all c.fields.ensures.value c.in_ok-cuts.ensures)) ∙ cuts_count schema v
+    ap length ((c.deref.ensures.value ∙ cuts_read schema v c.tightenings.result.now c.fields.result c.in_ok-cuts.cuts.items
+    c.tightenings.ensures.all c.fields.ensures.value c.in_ok-cuts.ensures)) ∙ cuts_count schema v
 
 pub of-requires-clause-within : goal.of-requires-clause-within
 of-requires-clause-within c =
     let schema = c.args.schema.now in
     let v = c.args.summary.now in
-    let cuts-are = (c.deref.ensures.value ∙ cuts_read schema v c.tightenings.result.now c.fields.result c.in_ok-cuts.cuts.items c.tightenings.ensures.all c.fields.ensures.value c.in_ok-cuts.ensures) in
+    let cuts-are = (c.deref.ensures.value ∙ cuts_read schema v c.tightenings.result.now c.fields.result c.in_ok-cuts.cuts.items
+    c.tightenings.ensures.all c.fields.ensures.value c.in_ok-cuts.ensures) in
     subst (λ (rights : List (ℕ × ℕ)). AreWithin schema rights c.deref.result.now) (sym c.rights.ensures.all)
     (subst (λ (cuts : List (ℕ × ℕ)). AreWithin schema v.rights cuts) (sym cuts-are)
-    (rights_within schema c.sites-sites.ensures.limits c.args.site.0 c.requires.site_in v c.requires.tells.0 c.requires.tells.1 c.requires.tells.2))
+    (rights_within schema c.sites-sites.ensures.limits c.args.site.0 c.requires.site_in v c.requires.tells.0 c.requires.tells.1
+    c.requires.tells.2))
 
 pub returns : goal.returns
 returns c =
@@ -55,13 +63,18 @@ returns c =
     let v = c.args.summary.now in
     let mid = c.note_gifts.new.ledger in
     let ledger = c.note_accepts.new.ledger in
-    let cuts-are : c.deref.result.now ≡ cuts_told schema v = (c.deref.ensures.value ∙ cuts_read schema v c.tightenings.result.now c.fields.result c.in_ok-cuts.cuts.items c.tightenings.ensures.all c.fields.ensures.value c.in_ok-cuts.ensures) in
+    let cuts-are : c.deref.result.now ≡ cuts_told schema v =
+    (c.deref.ensures.value ∙ cuts_read schema v c.tightenings.result.now c.fields.result c.in_ok-cuts.cuts.items
+    c.tightenings.ensures.all c.fields.ensures.value c.in_ok-cuts.ensures) in
     let told : AreTold schema v.rights (cuts_told schema v) c.in_ok-rights.rights =
     subst (λ (cuts : List (ℕ × ℕ)). AreTold schema v.rights cuts c.in_ok-rights.rights) cuts-are
-    (subst (λ (rights : List (ℕ × ℕ)). AreTold schema rights c.deref.result.now c.in_ok-rights.rights) c.rights.ensures.all c.in_ok-rights.ensures.told) in
+    (subst (λ (rights : List (ℕ × ℕ)). AreTold schema rights c.deref.result.now c.in_ok-rights.rights) c.rights.ensures.all
+    c.in_ok-rights.ensures.told) in
     let gifts : NotesGifts (fresh_ledger schema s) v.gifts mid =
-    subst (λ (ts : List Total). NotesGifts (fresh_ledger schema s) ts mid) c.gifts.ensures.all (subst (λ (l : LedgerValue). NotesGifts l c.gifts.result.now mid) c.in_ok-ledger.ensures.fresh c.note_gifts.ensures.noted) in
-    let accepts : NotesAccepts mid v.accepts ledger = subst (λ (ts : List Total). NotesAccepts mid ts ledger) c.accepts.ensures.all c.note_accepts.ensures.noted in
+    subst (λ (ts : List Total). NotesGifts (fresh_ledger schema s) ts mid) c.gifts.ensures.all
+    (subst (λ (l : LedgerValue). NotesGifts l c.gifts.result.now mid) c.in_ok-ledger.ensures.fresh c.note_gifts.ensures.noted) in
+    let accepts : NotesAccepts mid v.accepts ledger =
+    subst (λ (ts : List Total). NotesAccepts mid ts ledger) c.accepts.ensures.all c.note_accepts.ensures.noted in
     record {
       stands = λ rs tells. record {
         for_ = subst (λ (n : ℕ). StandsFor schema s rs c.in_ok-rights.rights ledger n) (sym c.epoch.ensures.value)

@@ -12,7 +12,8 @@ loop-written-preserved g c =
     let before = c.loop-written.invariant in
     let fits = c.in-Ok.ensures.bound in
     let most = length-take (length xs - done) (drop done xs) in
-    let joined = ap (λ l. take done xs ++ l) (take-take n (length xs - done) (drop done xs) (omega arith)) ∙ sym (take-add done n xs) in record {
+    let joined = ap (λ l. take done xs ++ l) (take-take n (length xs - done) (drop done xs) (omega arith)) ∙ sym (take-add done n xs) in
+    record {
       within = omega arith;
       bytes = subst (Appends _ _) joined (Appends-trans _ _ _ _ _ before.bytes c.in-Ok.ensures.bytes);
       refusals = c.in-Ok.ensures.refusals ∙ before.refusals;

@@ -9,5 +9,6 @@ pub end_one-requires : goal.end_one-requires
 end_one-requires c =
     let d : Escrow = record { field = record { 0 = 0 }; change = pos 0 } in
     let e : Escrow = get_or c.args.escrows.now c.loop-escrow.escrow-index d in
-    let can = can_end c.args.outcome c.args.self.now c.args.escrows.now c.loop-escrow.escrow-index e d c.requires.in_schema c.requires.there (omega arith) refl in
+    let can = can_end c.args.outcome c.args.self.now c.args.escrows.now c.loop-escrow.escrow-index e d c.requires.in_schema c.requires.there
+    (omega arith) refl in
     record { can = subst (λ (rows : List FieldRights). CanEnd rows e) (sym c.loop-escrow.invariant) can }

@@ -8,7 +8,9 @@ pub begin-requires-clause-room : goal.begin-requires-clause-room
 begin-requires-clause-room g c = begin_has_room c.self.invariant c.self.view_is c.requires.unrefused
 
 pub invariant_of-self-2 : goal.invariant_of-self-2
-invariant_of-self-2 g c = (begins c.self.invariant c.self.view_is c.requires.unrefused c.in_ok-begin.ensures.ok (grew c.push_reserved.ensures.items c.in_ok-reserve.ensures.items)).sound
+invariant_of-self-2 g c = (begins c.self.invariant c.self.view_is c.requires.unrefused c.in_ok-begin.ensures.ok
+    (grew c.push_reserved.ensures.items c.in_ok-reserve.ensures.items)).sound
 
 pub returns-clause-ok : goal.returns-clause-ok
-returns-clause-ok g c = (begins c.self.invariant c.self.view_is c.requires.unrefused c.in_ok-begin.ensures.ok (grew c.push_reserved.ensures.items c.in_ok-reserve.ensures.items)).applies
+returns-clause-ok g c = (begins c.self.invariant c.self.view_is c.requires.unrefused c.in_ok-begin.ensures.ok
+    (grew c.push_reserved.ensures.items c.in_ok-reserve.ensures.items)).applies

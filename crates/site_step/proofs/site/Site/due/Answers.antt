@@ -14,9 +14,11 @@ due_behind-requires g c =
 pub returns-clause-due : goal.returns-clause-due
 returns-clause-due g c =
     ok_is c.due_behind.result (λ due told.
-    due_is c.self.invariant c.self.view_is c.args.command c.requires.unrefused c.requires.told c.args.kept.now due c.requires.kept told) c.due_behind.ensures.due
+    due_is c.self.invariant c.self.view_is c.args.command c.requires.unrefused c.requires.told c.args.kept.now due c.requires.kept told)
+    c.due_behind.ensures.due
 
 pub returns-clause-ranges : goal.returns-clause-ranges
 returns-clause-ranges g c =
     ok_is c.due_behind.result (λ due told.
-    due_fits c.self.invariant c.self.view_is c.args.command c.requires.unrefused c.requires.told c.args.kept.now due c.requires.kept told) c.due_behind.ensures.due
+    due_fits c.self.invariant c.self.view_is c.args.command c.requires.unrefused c.requires.told c.args.kept.now due c.requires.kept told)
+    c.due_behind.ensures.due

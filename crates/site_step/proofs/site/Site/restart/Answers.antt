@@ -19,53 +19,79 @@ resume-requires-clause-place g c = seam c.self.invariant c.self.view_is
 pub invariant_of-self-in-NumbersFull : goal.invariant_of-self-in-NumbersFull
 invariant_of-self-in-NumbersFull g c =
     let s = c.self.invariant in
-    (fills s c.self.view_is (rw c.in-NumbersFull.is at c.in_ok-turns.ensures.resumes s.records s.rest s.log) (grew c.tell-in-NumbersFull.ensures.told c.in_ok-reserve.ensures.items)).sound
+    (fills s c.self.view_is (rw c.in-NumbersFull.is at c.in_ok-turns.ensures.resumes s.records s.rest s.log)
+    (grew c.tell-in-NumbersFull.ensures.told c.in_ok-reserve.ensures.items)).sound
 
 pub returns-in-NumbersFull-clause-ok : goal.returns-in-NumbersFull-clause-ok
 returns-in-NumbersFull-clause-ok g c =
     let s = c.self.invariant in
-    (fills s c.self.view_is (rw c.in-NumbersFull.is at c.in_ok-turns.ensures.resumes s.records s.rest s.log) (grew c.tell-in-NumbersFull.ensures.told c.in_ok-reserve.ensures.items)).applies
+    (fills s c.self.view_is (rw c.in-NumbersFull.is at c.in_ok-turns.ensures.resumes s.records s.rest s.log)
+    (grew c.tell-in-NumbersFull.ensures.told c.in_ok-reserve.ensures.items)).applies
 
 pub stand_on-requires : goal.stand_on-requires
 stand_on-requires g c =
     let s = c.self.invariant in
-    let can = can_restart s c.self.view_is c.in-Standing.standing c.in-Standing.epoch (rw c.in-Standing.is at c.in_ok-turns.ensures.resumes s.records s.rest s.log) in
+    let can = can_restart s c.self.view_is c.in-Standing.standing c.in-Standing.epoch
+    (rw c.in-Standing.is at c.in_ok-turns.ensures.resumes s.records s.rest s.log) in
     record { places = can.0; can = can.1; ranges = can.2 }
 
 pub invariant_of-self-in-Failed : goal.invariant_of-self-in-Failed
 invariant_of-self-in-Failed g c =
     let s = c.self.invariant in
-    (fails s c.self.view_is c.in-Failed.turns c.unwrap_or-self-inside.result (rw c.in-Failed.is at c.in_ok-turns.ensures.resumes s.records s.rest s.log)
-    (read_or_not c.in-Failed.turns c.self.inside.replayed c.unwrap_or-self-inside.result c.unwrap_or-self-inside.ensures) (grew c.tell.ensures.told c.in_ok-reserve.ensures.items)).sound
+    (fails s c.self.view_is c.in-Failed.turns c.unwrap_or-self-inside.result
+    (rw c.in-Failed.is at c.in_ok-turns.ensures.resumes s.records s.rest s.log)
+    (read_or_not c.in-Failed.turns c.self.inside.replayed c.unwrap_or-self-inside.result c.unwrap_or-self-inside.ensures)
+    (grew c.tell.ensures.told c.in_ok-reserve.ensures.items)).sound
 
 pub returns-in-Failed-clause-ok : goal.returns-in-Failed-clause-ok
 returns-in-Failed-clause-ok g c =
     let s = c.self.invariant in
-    (fails s c.self.view_is c.in-Failed.turns c.unwrap_or-self-inside.result (rw c.in-Failed.is at c.in_ok-turns.ensures.resumes s.records s.rest s.log)
-    (read_or_not c.in-Failed.turns c.self.inside.replayed c.unwrap_or-self-inside.result c.unwrap_or-self-inside.ensures) (grew c.tell.ensures.told c.in_ok-reserve.ensures.items)).applies
+    (fails s c.self.view_is c.in-Failed.turns c.unwrap_or-self-inside.result
+    (rw c.in-Failed.is at c.in_ok-turns.ensures.resumes s.records s.rest s.log)
+    (read_or_not c.in-Failed.turns c.self.inside.replayed c.unwrap_or-self-inside.result c.unwrap_or-self-inside.ensures)
+    (grew c.tell.ensures.told c.in_ok-reserve.ensures.items)).applies
 
 pub reach-requires : goal.reach-requires
 reach-requires g c =
     let s = c.self.invariant in
     let i = c.self.inside in
     let did = rw c.in-Standing.is at c.in_ok-turns.ensures.resumes s.records s.rest s.log in
-    let many : c.count_plain.result ≡ length (plain c.in-Standing.behind.items) = c.count_plain.ensures.count ∙ ap (λ (x : List Record). length (plain x)) c.deref-in-Standing.ensures.value in
-    record { few = omega (arith, few_more s c.self.view_is c.in-Standing.behind.items did.2, many, length-reverse i.history.items, i.history.ok, i.history.small, i.based.ok, i.based.small) }
+    let many : c.count_plain.result ≡ length (plain c.in-Standing.behind.items) =
+    c.count_plain.ensures.count ∙ ap (λ (x : List Record). length (plain x)) c.deref-in-Standing.ensures.value in
+    record {
+      few = omega (
+        arith,
+        few_more s c.self.view_is c.in-Standing.behind.items did.2,
+        many,
+        length-reverse i.history.items,
+        i.history.ok,
+        i.history.small,
+        i.based.ok,
+        i.based.small,
+      );
+    }
 
 pub invariant_of-self-in-Standing : goal.invariant_of-self-in-Standing
 invariant_of-self-in-Standing g c =
     let s = c.self.invariant in
-    let many : c.count_plain.result ≡ length (plain c.in-Standing.behind.items) = c.count_plain.ensures.count ∙ ap (λ (x : List Record). length (plain x)) c.deref-in-Standing.ensures.value in
-    rw c.reach.ensures.reached (restarts s c.self.view_is c.in-Standing.standing c.in-Standing.behind.items c.in-Standing.epoch c.in-Standing.turns c.in-Standing.length (if nat_le max_behind (c.in-Standing.turns + 1) then 0 else c.in-Standing.turns + 1) c.last_of-last.result
+    let many : c.count_plain.result ≡ length (plain c.in-Standing.behind.items) =
+    c.count_plain.ensures.count ∙ ap (λ (x : List Record). length (plain x)) c.deref-in-Standing.ensures.value in
+    rw c.reach.ensures.reached (restarts s c.self.view_is c.in-Standing.standing c.in-Standing.behind.items c.in-Standing.epoch
+    c.in-Standing.turns c.in-Standing.length (if nat_le max_behind (c.in-Standing.turns + 1) then 0 else c.in-Standing.turns
+    + 1) c.last_of-last.result
     (rw c.in-Standing.is at c.in_ok-turns.ensures.resumes s.records s.rest s.log)
-    c.stand_on.ensures.took c.stand_on.ensures.journal c.stand_on.ensures.last (c.last_of-last.ensures ∙ ap (found_by c.self.inside.doubt) c.deref.ensures.value) many refl
+    c.stand_on.ensures.took c.stand_on.ensures.journal c.stand_on.ensures.last
+    (c.last_of-last.ensures ∙ ap (found_by c.self.inside.doubt) c.deref.ensures.value) many refl
     (grew c.tell-in-Standing.ensures.told c.in_ok-reserve.ensures.items)).sound
 
 pub returns-in-Standing-clause-ok : goal.returns-in-Standing-clause-ok
 returns-in-Standing-clause-ok g c =
     let s = c.self.invariant in
-    let many : c.count_plain.result ≡ length (plain c.in-Standing.behind.items) = c.count_plain.ensures.count ∙ ap (λ (x : List Record). length (plain x)) c.deref-in-Standing.ensures.value in
-    (restarts s c.self.view_is c.in-Standing.standing c.in-Standing.behind.items c.in-Standing.epoch c.in-Standing.turns c.in-Standing.length (if nat_le max_behind (c.in-Standing.turns + 1) then 0 else c.in-Standing.turns + 1) c.last_of-last.result
+    let many : c.count_plain.result ≡ length (plain c.in-Standing.behind.items) =
+    c.count_plain.ensures.count ∙ ap (λ (x : List Record). length (plain x)) c.deref-in-Standing.ensures.value in
+    (restarts s c.self.view_is c.in-Standing.standing c.in-Standing.behind.items c.in-Standing.epoch c.in-Standing.turns
+    c.in-Standing.length (if nat_le max_behind (c.in-Standing.turns + 1) then 0 else c.in-Standing.turns + 1) c.last_of-last.result
     (rw c.in-Standing.is at c.in_ok-turns.ensures.resumes s.records s.rest s.log)
-    c.stand_on.ensures.took c.stand_on.ensures.journal c.stand_on.ensures.last (c.last_of-last.ensures ∙ ap (found_by c.self.inside.doubt) c.deref.ensures.value) many refl
+    c.stand_on.ensures.took c.stand_on.ensures.journal c.stand_on.ensures.last
+    (c.last_of-last.ensures ∙ ap (found_by c.self.inside.doubt) c.deref.ensures.value) many refl
     (grew c.tell-in-Standing.ensures.told c.in_ok-reserve.ensures.items)).applies

@@ -30,22 +30,34 @@ extend-requires g c =
 
 pub invariant_of-self-in-Ok : goal.invariant_of-self-in-Ok
 invariant_of-self-in-Ok g c =
-    let long : c.len.result ≡ length (flat_map text (with_due c.args.kept.now c.in_ok-due.due)) = omega (arith, c.len.ensures, c.append_piece.new.line.ok, ap length c.in_ok-append_piece.ensures.line) in
-    (wrote c.self.invariant c.self.view_is c.args.command c.requires.unrefused c.requires.told c.args.reply c.args.kept.now c.in_ok-due.due c.requires.kept c.requires.owed c.in_ok-due.ensures.due c.carry_out.ensures.took c.carry_out.ensures.journal c.carry_out.ensures.last
-    (rw c.in-Ok.is at c.in_ok-append_piece.ensures.added) (rw c.in-Ok.is at c.in_ok-append_piece.ensures.fate) (grew c.push_reserved.ensures.items c.in_ok-reserve.ensures.items) long c.extend.ensures.extended).sound
+    let long : c.len.result ≡ length (flat_map text (with_due c.args.kept.now c.in_ok-due.due)) =
+    omega (arith, c.len.ensures, c.append_piece.new.line.ok, ap length c.in_ok-append_piece.ensures.line) in
+    (wrote c.self.invariant c.self.view_is c.args.command c.requires.unrefused c.requires.told c.args.reply c.args.kept.now c.in_ok-due.due
+    c.requires.kept c.requires.owed c.in_ok-due.ensures.due c.carry_out.ensures.took c.carry_out.ensures.journal
+    c.carry_out.ensures.last
+    (rw c.in-Ok.is at c.in_ok-append_piece.ensures.added) (rw c.in-Ok.is at c.in_ok-append_piece.ensures.fate)
+    (grew c.push_reserved.ensures.items c.in_ok-reserve.ensures.items) long c.extend.ensures.extended).sound
 
 pub returns-in-Ok-clause-ok : goal.returns-in-Ok-clause-ok
 returns-in-Ok-clause-ok g c =
-    let long : c.len.result ≡ length (flat_map text (with_due c.args.kept.now c.in_ok-due.due)) = omega (arith, c.len.ensures, c.append_piece.new.line.ok, ap length c.in_ok-append_piece.ensures.line) in
-    (wrote c.self.invariant c.self.view_is c.args.command c.requires.unrefused c.requires.told c.args.reply c.args.kept.now c.in_ok-due.due c.requires.kept c.requires.owed c.in_ok-due.ensures.due c.carry_out.ensures.took c.carry_out.ensures.journal c.carry_out.ensures.last
-    (rw c.in-Ok.is at c.in_ok-append_piece.ensures.added) (rw c.in-Ok.is at c.in_ok-append_piece.ensures.fate) (grew c.push_reserved.ensures.items c.in_ok-reserve.ensures.items) long c.extend.ensures.extended).applies
+    let long : c.len.result ≡ length (flat_map text (with_due c.args.kept.now c.in_ok-due.due)) =
+    omega (arith, c.len.ensures, c.append_piece.new.line.ok, ap length c.in_ok-append_piece.ensures.line) in
+    (wrote c.self.invariant c.self.view_is c.args.command c.requires.unrefused c.requires.told c.args.reply c.args.kept.now c.in_ok-due.due
+    c.requires.kept c.requires.owed c.in_ok-due.ensures.due c.carry_out.ensures.took c.carry_out.ensures.journal
+    c.carry_out.ensures.last
+    (rw c.in-Ok.is at c.in_ok-append_piece.ensures.added) (rw c.in-Ok.is at c.in_ok-append_piece.ensures.fate)
+    (grew c.push_reserved.ensures.items c.in_ok-reserve.ensures.items) long c.extend.ensures.extended).applies
 
 pub invariant_of-self-in-Err : goal.invariant_of-self-in-Err
 invariant_of-self-in-Err g c =
-    (unsure c.self.invariant c.self.view_is c.args.command c.requires.unrefused c.requires.told c.args.kept.now c.in_ok-due.due c.in-Err.field-0 c.requires.kept c.in_ok-due.ensures.due
-    (rw c.in-Err.is at c.in_ok-append_piece.ensures.added) (rw c.in-Err.is at c.in_ok-append_piece.ensures.fate) (grew c.push_reserved-in-Err.ensures.items c.in_ok-reserve.ensures.items)).sound
+    (unsure c.self.invariant c.self.view_is c.args.command c.requires.unrefused c.requires.told c.args.kept.now c.in_ok-due.due
+    c.in-Err.field-0 c.requires.kept c.in_ok-due.ensures.due
+    (rw c.in-Err.is at c.in_ok-append_piece.ensures.added) (rw c.in-Err.is at c.in_ok-append_piece.ensures.fate)
+    (grew c.push_reserved-in-Err.ensures.items c.in_ok-reserve.ensures.items)).sound
 
 pub returns-in-Err-clause-ok : goal.returns-in-Err-clause-ok
 returns-in-Err-clause-ok g c =
-    (unsure c.self.invariant c.self.view_is c.args.command c.requires.unrefused c.requires.told c.args.kept.now c.in_ok-due.due c.in-Err.field-0 c.requires.kept c.in_ok-due.ensures.due
-    (rw c.in-Err.is at c.in_ok-append_piece.ensures.added) (rw c.in-Err.is at c.in_ok-append_piece.ensures.fate) (grew c.push_reserved-in-Err.ensures.items c.in_ok-reserve.ensures.items)).applies
+    (unsure c.self.invariant c.self.view_is c.args.command c.requires.unrefused c.requires.told c.args.kept.now c.in_ok-due.due
+    c.in-Err.field-0 c.requires.kept c.in_ok-due.ensures.due
+    (rw c.in-Err.is at c.in_ok-append_piece.ensures.added) (rw c.in-Err.is at c.in_ok-append_piece.ensures.fate)
+    (grew c.push_reserved-in-Err.ensures.items c.in_ok-reserve.ensures.items)).applies

@@ -11,14 +11,19 @@ due_behind-requires g c =
     record {
       in_range = (omega arith, omega (arith, c.requires.below));
       plain = search rules;
-      may = (held.1, next_over (g.M.Medium.bytes was) c.args.replay.standing c.args.replay.turns c.args.schema.now held.0 held.1 held.2 held.3 c.requires.below);
+      may = (
+        held.1,
+        next_over (g.M.Medium.bytes was) c.args.replay.standing c.args.replay.turns c.args.schema.now held.0 held.1 held.2
+            held.3 c.requires.below,
+      );
     }
 
 pub append_restart_piece-requires-clause-ranges : goal.append_restart_piece-requires-clause-ranges
 append_restart_piece-requires-clause-ranges g c =
     let was = c.args.medium.now in
     let held = c.requires.replayed in
-    due_over_fits (g.M.Medium.bytes was) c.args.replay.standing c.args.replay.turns c.args.schema.now held.0 held.1 held.2 held.3 c.requires.below c.in_ok-due.due c.in_ok-due.ensures.due
+    due_over_fits (g.M.Medium.bytes was) c.args.replay.standing c.args.replay.turns c.args.schema.now held.0 held.1 held.2 held.3
+    c.requires.below c.in_ok-due.due c.in_ok-due.ensures.due
 
 pub returns-in-Ok-clause-resumes : goal.returns-in-Ok-clause-resumes
 returns-in-Ok-clause-resumes g c =
@@ -27,10 +32,14 @@ returns-in-Ok-clause-resumes g c =
     let log = c.args.log in
     let standing = c.args.replay.standing in
     λ s place rs rest is behind.
-    let dues = due_over (g.M.Medium.bytes was) standing c.args.replay.turns c.args.schema.now s rs rest is c.requires.below c.in_ok-due.due c.in_ok-due.ensures.due in (
-      stands_over (g.M.Medium.bytes was) (g.M.Medium.bytes left) (g.M.Medium.foretold was) (g.M.Medium.foretold left) (g.M.Medium.failed was) (g.M.Medium.failed left) log.whole standing c.args.replay.turns
-          c.in_ok-due.due c.requires.whole c.requires.below c.requires.read c.args.schema.now s rs rest is dues c.append_restart_piece.new.line.items c.saturating_add.result c.in_ok-append_restart_piece.ensures.line
-          (c.saturating_add.ensures ∙ ap (λ (n : ℕ). told_length (log.whole + n)) (omega (arith, c.len.ensures, c.append_restart_piece.new.line.ok)))
+    let dues = due_over (g.M.Medium.bytes was) standing c.args.replay.turns c.args.schema.now s rs rest is c.requires.below c.in_ok-due.due
+    c.in_ok-due.ensures.due in (
+      stands_over (g.M.Medium.bytes was) (g.M.Medium.bytes left) (g.M.Medium.foretold was) (g.M.Medium.foretold left)
+          (g.M.Medium.failed was) (g.M.Medium.failed left) log.whole standing c.args.replay.turns
+          c.in_ok-due.due c.requires.whole c.requires.below c.requires.read c.args.schema.now s rs rest is dues
+          c.append_restart_piece.new.line.items c.saturating_add.result c.in_ok-append_restart_piece.ensures.line
+          (c.saturating_add.ensures ∙ ap (λ (n : ℕ). told_length (log.whole + n))
+          (omega (arith, c.len.ensures, c.append_restart_piece.new.line.ok)))
           (rw c.in-Ok.is at c.in_ok-append_restart_piece.ensures.added) (rw c.in-Ok.is at c.in_ok-append_restart_piece.ensures.fate),
       is.for_,
       behind,
@@ -43,7 +52,10 @@ returns-in-Err-clause-resumes g c =
     let log = c.args.log in
     let standing = c.args.replay.standing in
     λ s place rs rest is behind.
-    let dues = due_over (g.M.Medium.bytes was) standing c.args.replay.turns c.args.schema.now s rs rest is c.requires.below c.in_ok-due.due c.in_ok-due.ensures.due in
-    fails_over (g.M.Medium.bytes was) (g.M.Medium.bytes left) (g.M.Medium.foretold was) (g.M.Medium.foretold left) (g.M.Medium.failed was) (g.M.Medium.failed left) log.whole standing c.args.replay.turns
-    c.in_ok-due.due c.requires.whole c.requires.below c.requires.read c.args.schema.now s rs rest is dues c.in-Err.field-0 (Some c.args.replay.turns) (λ n same. cc)
+    let dues = due_over (g.M.Medium.bytes was) standing c.args.replay.turns c.args.schema.now s rs rest is c.requires.below c.in_ok-due.due
+    c.in_ok-due.ensures.due in
+    fails_over (g.M.Medium.bytes was) (g.M.Medium.bytes left) (g.M.Medium.foretold was) (g.M.Medium.foretold left) (g.M.Medium.failed was)
+    (g.M.Medium.failed left) log.whole standing c.args.replay.turns
+    c.in_ok-due.due c.requires.whole c.requires.below c.requires.read c.args.schema.now s rs rest is dues c.in-Err.field-0
+    (Some c.args.replay.turns) (λ n same. cc)
     (rw c.in-Err.is at c.in_ok-append_restart_piece.ensures.added) (rw c.in-Err.is at c.in_ok-append_restart_piece.ensures.fate)

@@ -9,6 +9,8 @@ use Rattle.statement_set.proofs.set.StatementSet.insert.Goals as goal
 
 pub returns-clause-ok : goal.returns-clause-ok
 returns-clause-ok c other =
-    subst (λ (before : List Statement). Contains (statements_of c.insert.new.self.keys) other ↔ ((c.args.statement ≡ other) ⊎ Contains before other)) c.self.view_is
+    subst (λ (before : List Statement). Contains (statements_of c.insert.new.self.keys) other ↔ ((c.args.statement ≡ other)
+    ⊎ Contains before other)) c.self.view_is
     (put_told c.self.inside.keys c.insert.new.self c.args.statement
-    (subst (λ (key : Key). Updates (order.ghosts).cmp c.self.inside.keys c.insert.new.self key true) c.key_of.ensures c.in_ok-insert.ensures.updates) other)
+    (subst (λ (key : Key). Updates (order.ghosts).cmp c.self.inside.keys c.insert.new.self key true) c.key_of.ensures
+    c.in_ok-insert.ensures.updates) other)

@@ -13,7 +13,8 @@ returns-in_default c =
       steps =
           c.reverse.ensures.items
           ∙ ap (λ (s : List WorldStep). reverse s)
-          (told_stop _ c.args.self.now.ways.items l.i _ l.steps.items l.entries.items c.newest.new.entries.items l.numbers.items c.newest.new.numbers.items l.torn.items c.newest.new.torn.items below way_is c.in_default.ensures.step l.invariant);
+          (told_stop _ c.args.self.now.ways.items l.i _ l.steps.items l.entries.items c.newest.new.entries.items l.numbers.items
+          c.newest.new.numbers.items l.torn.items c.newest.new.torn.items below way_is c.in_default.ensures.step l.invariant);
     }
 
 pub loop-i-preserved : goal.loop-i-preserved
@@ -22,5 +23,6 @@ loop-i-preserved c =
     let below : l.i < length c.args.self.now.ways.items = omega (arith, c.loop-i-test.true, c.len-i-end.ensures) in
     let long : c.len.result ≡ length c.args.self.now.ways.items = omega (arith, c.len.ensures) in
     let way_is = c.index-way.ensures ∙ ap (λ (n : ℕ). get_or c.args.self.now.ways.items (n - 1 - l.i) c.index-way.result.now) long in
-    told_on _ c.args.self.now.ways.items l.i _ l.steps.items _ c.in-Some.step l.entries.items c.newest.new.entries.items l.numbers.items c.newest.new.numbers.items l.torn.items c.newest.new.torn.items below way_is c.in-Some.ensures.step
+    told_on _ c.args.self.now.ways.items l.i _ l.steps.items _ c.in-Some.step l.entries.items c.newest.new.entries.items l.numbers.items
+    c.newest.new.numbers.items l.torn.items c.newest.new.torn.items below way_is c.in-Some.ensures.step
     c.in_ok-push.ensures.items l.invariant
