@@ -210,7 +210,8 @@ pub fn run_workers<'x, R: Threads + Wait + Sync, G: Gate>(
     // Lost names the lowest site of such histories, none of them foreign, that lacks an accept.
     ensures lost { IfErr result (TellsLost schema.now (scripts_of scripts.items)) }
 
-    // Receipts tells how the receipts of a site of the schema differ from a history of it.
+    // Receipts tells how receipts can differ from a history of a site of the schema, and no want
+    // of memory.
     ensures receipts { IfErr result (TellsDiffers schema.now) }
 
     // A fault that names a site names one of the schema.
