@@ -20,6 +20,3 @@ mod totals;
 pub use central_rules::{Rule, Verdict, judge_plain, verdict_is_exact};
 pub use judging::{judge, judge_counted};
 pub use parts::judge_fields;
-
-#[cfg(test)]
-mod tests;

@@ -27,6 +27,3 @@ pub use writing::{append_entry, write_command, write_entry};
 
 /// The most bytes of a line, without its line feed.
 pub const MAX_LINE: usize = 256;
-
-#[cfg(test)]
-mod tests;

@@ -10,6 +10,3 @@ mod remark;
 pub use answer::{AuditEnd, audit_text};
 pub use laws::one_answer;
 pub use script_input::{CallFailed, End, ScriptFault, Sink, Source, Watched};
-
-#[cfg(test)]
-mod tests;

@@ -12,6 +12,3 @@ mod script;
 pub use laws::one_text;
 pub use script::run_script;
 pub use script_input::{CallFailed, End, ScriptFault, Sink, Source, Watched};
-
-#[cfg(test)]
-mod tests;

@@ -13,6 +13,3 @@ pub use fault::WorkTextFault;
 pub use script_input::{CallFailed, End, ScriptFault, Sink, Source, Watched};
 pub use site_workers::WorkFault;
 pub use text::work_text;
-
-#[cfg(test)]
-mod tests;

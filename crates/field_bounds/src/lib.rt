@@ -36,6 +36,3 @@ pub use schema::Schema;
 pub use site_rows::{worked_runs, worked_sites, worked_values, wrong_replies, wrong_shares};
 pub use statements::statement_of;
 pub use tighten_rows::{worked_bounds, worked_tightenings, wrong_tightenings, wrong_traces};
-
-#[cfg(test)]
-mod tests;

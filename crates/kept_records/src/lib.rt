@@ -35,8 +35,3 @@ pub use summary::Summary;
 pub use torn::TornMedium;
 pub use total::{Cut, Total};
 pub use writing::write_record;
-
-#[cfg(test)]
-mod end_tests;
-#[cfg(test)]
-mod tests;

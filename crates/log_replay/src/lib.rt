@@ -20,6 +20,3 @@ pub use ranges::{summary_may_be_written, totals_rise};
 pub use resuming::{Resumed, resume};
 pub use standing::Standing;
 pub use telling::summary;
-
-#[cfg(test)]
-mod tests;

@@ -21,6 +21,3 @@ pub use fault::ReachFault;
 pub use laws::{no_narrower_interval_is_safe, reach_meets};
 pub use rows::worked_reaches;
 pub use steps::reach;
-
-#[cfg(test)]
-mod tests;

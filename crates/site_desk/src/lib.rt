@@ -13,6 +13,3 @@ pub use fault::DeskFault;
 pub use gate::{FreeGate, Gate};
 pub use locked::{Blank, Closed, Kept, Pass, Receipt};
 pub use receipts::{ReceiptFault, check_receipts};
-
-#[cfg(test)]
-mod tests;

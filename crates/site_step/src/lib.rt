@@ -9,6 +9,3 @@ mod site;
 
 pub use laws::{no_needless_cut_or_failure, nothing_in_doubt};
 pub use site::{OpenFault, Site};
-
-#[cfg(test)]
-mod tests;

@@ -21,6 +21,3 @@ pub use courier::carry;
 pub use fault::WorkFault;
 pub use fitting::scripts_fit;
 pub use inbox::{Inbox, Letter, Way};
-
-#[cfg(test)]
-mod tests;

@@ -20,6 +20,3 @@ pub use rows::{worked_worlds, wrong_outcomes, wrong_worlds};
 pub use run::run_world;
 pub use step::{StepReply, WorldStep, step_fits, steps_fit};
 pub use world::World;
-
-#[cfg(test)]
-mod tests;

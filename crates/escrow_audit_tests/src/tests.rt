@@ -1,0 +1,494 @@
+//! What no clause says: the texts, whole audits, and readers and writers that fail.
+
+mod faults;
+mod hostile;
+
+use escrow_audit::{AuditEnd, ScriptFault, Watched, audit_text};
+use field_bounds::SchemaFault;
+use std::alloc::{AllocError, Global};
+use std::io;
+use std::io::{ErrorKind, Read, Write};
+use std::process::Abort;
+use std::test::Fail;
+use std::thread::Threads;
+
+/// Two sites, which have half of the rights each: lower 20, raise 30.
+const HALVED: &str =
+    "{\"sites\":2,\"fields\":[{\"name\":\"stock\",\"floor\":0,\"ceiling\":100,\"value\":40}]}";
+
+/// How an audit over a reader ended, and what it wrote.
+fn audit<R: Read + Drop>(
+    rt: &(impl Threads + Sync),
+    alloc: Global,
+    fields: bool,
+    reader: R,
+) -> (Result<AuditEnd, ScriptFault>, Vec<u8>) {
+    let mut writer = Watched::new(Vec::new(alloc));
+    let end = audit_text(rt, alloc, fields, &mut Watched::new(reader), &mut writer);
+    (end, writer.into_inner())
+}
+
+/// The lines behind the header of two sites.
+fn text_of(alloc: Global, lines: &[&str]) -> Result<String, AllocError> {
+    let mut text = format!(in alloc; "{HALVED}\n")?;
+    for line in lines {
+        write!(text, "{line}\n")?;
+    }
+    Ok(text)
+}
+
+fn check(
+    rt: &(impl Abort + Threads + Sync),
+    alloc: Global,
+    lines: &[&str],
+    end: AuditEnd,
+    answer: &str,
+) -> Result<(), AllocError> {
+    let text = text_of(alloc, lines)?;
+    for fields in [false, true] {
+        let (ended, out) = audit(rt, alloc, fields, text.as_bytes());
+        assert_eq!(rt; ended, Ok(end), "at {answer}");
+        assert_eq!(rt; str::from_utf8(out.as_slice()), Ok(answer));
+    }
+    Ok(())
+}
+
+/// A reader that gives a byte a read.
+#[derive(Drop)]
+struct Trickle<'a>(&'a [u8]);
+
+impl Read for Trickle<'_> {
+    fn read(&mut self, buf: &mut [u8]) -> io::Result<usize> {
+        let count = buf.len().min(1);
+        self.0.read(&mut buf[..count])
+    }
+}
+
+/// A reader whose every read fails.
+#[derive(Drop)]
+struct Broken(ErrorKind);
+
+impl Read for Broken {
+    fn read(&mut self, _buf: &mut [u8]) -> io::Result<usize> {
+        Err(self.0.into())
+    }
+}
+
+/// A writer that takes so many bytes, one a write, and then fails or takes none.
+#[derive(Drop)]
+struct Narrow {
+    taken: Vec<u8>,
+    room: usize,
+    fails: bool,
+}
+
+impl Write for Narrow {
+    fn write(&mut self, buf: &[u8]) -> io::Result<usize> {
+        if self.room == 0 && self.fails {
+            return Err(ErrorKind::Interrupted.into());
+        }
+        let count = buf.len().min(self.room).min(1);
+        self.taken.extend_from_slice(&buf[..count])?;
+        self.room -= count;
+        Ok(count)
+    }
+
+    fn flush(&mut self) -> io::Result<()> {
+        Ok(())
+    }
+}
+
+/// A transaction, with reads and the shares before and after it.
+const ROW: [&str; 6] = [
+    "0 begin -> begun 0.1",
+    "0 escrow 0.1 stock -20 -> granted",
+    "0 read stock -> between 20 70",
+    "0 commit 0.1 -> committed",
+    "0 share stock -> share 0 50",
+    "0 read stock -> between 0 50",
+];
+
+/// Entries under two sites, and what is answered.
+const JUDGED: [(&[&str], AuditEnd, &str); 14] = [
+    (&[], AuditEnd::Legal, "legal 0\n"),
+    (&ROW, AuditEnd::Legal, "legal 6\n"),
+    (
+        &["5 begin -> begun 0.1"],
+        AuditEnd::Illegal,
+        "illegal 1 site\n",
+    ),
+    (
+        &["0 read stock -> between 41 100"],
+        AuditEnd::Illegal,
+        "illegal 1 interval\n",
+    ),
+    (
+        &["0 read stock -> between 0 100"],
+        AuditEnd::Illegal,
+        "illegal 1 reply\n",
+    ),
+    (
+        &[
+            "0 begin -> begun 0.1",
+            "0 escrow 0.1 stock -21 -> refused 7 short 19",
+        ],
+        AuditEnd::Illegal,
+        "illegal 2 shortage\n",
+    ),
+    (
+        &[
+            "0 begin -> begun 0.1",
+            "0 escrow 0.1 stock -21 -> refused 7 short 20",
+        ],
+        AuditEnd::Legal,
+        "legal 2\n",
+    ),
+    (
+        &["0 begin -> begun 0.1", "0 escrow 0.1 stock -41 -> granted"],
+        AuditEnd::Illegal,
+        "illegal 2 grant\n",
+    ),
+    (
+        &["0 begin -> begun 0.1", "0 escrow 0.1 stock -25 -> granted"],
+        AuditEnd::Illegal,
+        "illegal 2 reply\n",
+    ),
+    (
+        &["0 begin -> begun 0.1", "hello"],
+        AuditEnd::BadEntry,
+        "bad entry 3\n",
+    ),
+    // Each site accepts what the other gives only later.
+    (
+        &[
+            "0 accept 1 0 stock lower 5 -> accepted 5",
+            "0 give 1 stock lower 5 -> given 5",
+            "1 accept 0 1 stock lower 5 -> accepted 5",
+            "1 give 0 stock lower 5 -> given 5",
+        ],
+        AuditEnd::Illegal,
+        "illegal 1 statement\n",
+    ),
+    // A statement that nobody issued.
+    (
+        &["1 accept 0 1 stock lower 50 -> accepted 50"],
+        AuditEnd::Illegal,
+        "illegal 1 statement\n",
+    ),
+    // Two tightenings leave nothing to lower.
+    (
+        &[
+            "0 tighten stock lower 20 -> tightened 20",
+            "1 tighten stock lower 20 -> tightened 20",
+            "0 begin -> begun 0.1",
+            "0 escrow 0.1 stock -1 -> granted",
+        ],
+        AuditEnd::Illegal,
+        "illegal 4 grant\n",
+    ),
+    // A bad entry goes before every verdict.
+    (
+        &["5 begin -> begun 0.1", ""],
+        AuditEnd::BadEntry,
+        "bad entry 3\n",
+    ),
+];
+
+#[test]
+fn judges_entries(rt: HostRuntime) -> Result<(), Fail> {
+    for (lines, end, answer) in &JUDGED {
+        check(&rt, rt.alloc(), *lines, *end, *answer)?;
+    }
+    Ok(())
+}
+
+/// What the program writes in its stored run.
+const STORED: &str = "\
+{\"sites\":1,\"fields\":[{\"name\":\"stock\",\"floor\":0,\"ceiling\":100,\"value\":40}]}
+0 begin -> begun 0.1
+0 escrow 0.1 stock -20 -> granted
+0 read stock -> between 40 40
+0 commit 0.1 -> committed
+0 read stock -> between 20 20
+";
+
+#[test]
+fn judges_the_stored_run(rt: HostRuntime) -> Result<(), Fail> {
+    for fields in [false, true] {
+        let (end, out) = audit(&rt, rt.alloc(), fields, STORED.as_bytes());
+        assert_eq!(rt; end, Ok(AuditEnd::Legal));
+        assert_eq!(rt; str::from_utf8(out.as_slice()), Ok("legal 5\n"));
+    }
+    Ok(())
+}
+
+/// The remarks that a run writes.
+const REMARKS: [&str; 14] = [
+    "bad line",
+    "deliver 0 -> refused 16 no statement",
+    "deliver 18446744073709551615 -> refused 16 no statement",
+    "level stock lower -> moves 0",
+    "level stock raise -> moves 18446744073709551615",
+    "reach 0 stock -9223372036854775808 -> steps 3",
+    "reach 1 stock 20 -> no site",
+    "reach 1 stock 20 -> no field",
+    "reach 1 stock 20 -> no down",
+    "reach 1 stock 20 -> no flight",
+    "reach 1 stock 20 -> no unstated",
+    "reach 1 stock 20 -> no tightened",
+    "reach 1 stock 20 -> no numbers",
+    "reach 1 stock 20 -> no outside",
+];
+
+/// Lines that are nearly remarks or entries.
+const BAD: [&str; 24] = [
+    "",
+    " bad line",
+    "bad line ",
+    "bad  line",
+    "bad lines",
+    "bad",
+    "deliver 1 torn 3 -> refused 16 no statement",
+    "deliver 01 -> refused 16 no statement",
+    "deliver 18446744073709551616 -> refused 16 no statement",
+    "deliver 1 -> refused 16 no statements",
+    "deliver 1 -> refused 15 nothing given",
+    "deliver 1",
+    "level sock lower -> moves 1",
+    "level #1 lower -> moves 1",
+    "level stock lowered -> moves 1",
+    "level stock lower -> moves -1",
+    "level stock lower",
+    "reach 2 stock 20 -> steps 3",
+    "reach 0 sock 20 -> steps 3",
+    "reach 0 #1 20 -> no field",
+    "reach 0 stock -0 -> steps 3",
+    "reach 0 stock 20 -> no way",
+    "reach 0 stock 20 -> no down 1",
+    "0 begin->begun 0.1",
+];
+
+/// What runs write whose lines reach for a value, and what is answered.
+const REACHED: [(&[&str], &str); 6] = [
+    (
+        &[
+            "reach 0 stock 20 -> steps 3",
+            "1 begin -> begun 0.1",
+            "1 escrow 0.1 stock -20 -> granted",
+            "1 commit 0.1 -> committed",
+            "reach 0 stock 70 -> steps 3",
+            "1 begin -> begun 0.2",
+            "1 escrow 0.2 stock 50 -> granted",
+            "1 commit 0.2 -> committed",
+            "reach 0 stock 70 -> steps 0",
+            "reach 0 stock 19 -> no outside",
+        ],
+        "legal 6\n",
+    ),
+    (
+        &[
+            "1 give 0 stock lower 5 -> given 5",
+            "reach 0 stock 20 -> no flight",
+            "0 accept 1 0 stock lower 5 -> accepted 5",
+            "reach 0 stock 24 -> no outside",
+            "reach 0 stock 25 -> steps 3",
+            "1 begin -> begun 0.1",
+            "1 escrow 0.1 stock -15 -> granted",
+            "1 commit 0.1 -> committed",
+        ],
+        "legal 5\n",
+    ),
+    (
+        &[
+            "0 give 1 stock lower 5 -> unsure",
+            "0 restart -> restarted 1 kept",
+            "reach 0 stock 25 -> no unstated",
+            "0 restate 1 stock lower -> stated 5",
+            "reach 0 stock 15 -> steps 4",
+            "1 accept 0 1 stock lower 5 -> accepted 5",
+            "1 begin -> begun 0.1",
+            "1 escrow 0.1 stock -25 -> granted",
+            "1 commit 0.1 -> committed",
+        ],
+        "legal 7\n",
+    ),
+    (
+        &["1 restart -> still down", "reach 0 stock 40 -> no down"],
+        "legal 1\n",
+    ),
+    (
+        &[
+            "1 tighten stock lower 1 -> tightened 1",
+            "reach 0 stock 40 -> no tightened",
+        ],
+        "legal 1\n",
+    ),
+    (&["bad line"], "legal 0\n"),
+];
+
+#[test]
+fn judges_what_reaches(rt: HostRuntime) -> Result<(), Fail> {
+    for (lines, answer) in &REACHED {
+        check(&rt, rt.alloc(), *lines, AuditEnd::Legal, *answer)?;
+    }
+    Ok(())
+}
+
+#[test]
+fn skips_remarks(rt: HostRuntime) -> Result<(), Fail> {
+    let alloc = rt.alloc();
+    check(&rt, alloc, &REMARKS, AuditEnd::Legal, "legal 0\n")?;
+    for line in &REMARKS {
+        let lines = [*line, "0 begin -> begun 0.1", *line];
+        check(&rt, alloc, &lines, AuditEnd::Legal, "legal 1\n")?;
+    }
+    for line in &BAD {
+        let lines = ["bad line", *line, "0 begin -> begun 0.1"];
+        check(&rt, alloc, &lines, AuditEnd::BadEntry, "bad entry 3\n")?;
+    }
+    Ok(())
+}
+
+#[test]
+fn takes_a_last_line_without_its_end(rt: HostRuntime) -> Result<(), Fail> {
+    let alloc = rt.alloc();
+    for (behind, answer) in [
+        ("", "legal 0\n"),
+        ("\n", "legal 0\n"),
+        ("\n0 begin -> begun 0.1", "legal 1\n"),
+        ("\n0 begin -> begun 0.2", "illegal 1 reply\n"),
+        ("\n0 begin -> begun", "bad entry 2\n"),
+        ("\n\n", "bad entry 2\n"),
+        ("\r\n0 begin -> begun 0.1\r\n", "bad entry 2\n"),
+    ] {
+        let text = format!(in alloc; "{HALVED}{behind}")?;
+        let (end, out) = audit(&rt, alloc, false, text.as_bytes());
+        assert!(rt; end.is_ok());
+        assert_eq!(rt; str::from_utf8(out.as_slice()), Ok(answer));
+        let (end, out) = audit(&rt, alloc, false, Trickle(text.as_bytes()));
+        assert!(rt; end.is_ok());
+        assert_eq!(rt; str::from_utf8(out.as_slice()), Ok(answer));
+    }
+    Ok(())
+}
+
+#[test]
+fn tells_bad_headers(rt: HostRuntime) -> Result<(), Fail> {
+    let alloc = rt.alloc();
+    for (header, fault) in [
+        ("", SchemaFault::NotJson),
+        ("\n0 begin\n", SchemaFault::NotJson),
+        ("{\"sites\":1}\nhello\n", SchemaFault::Shape),
+        (
+            "{\"sites\":0,\"fields\":[{\"name\":\"stock\",\"floor\":0,\"ceiling\":100,\"value\":40}]}",
+            SchemaFault::SiteCount,
+        ),
+    ] {
+        let (end, out) = audit(&rt, alloc, false, header.as_bytes());
+        assert_eq!(rt; end, Err(ScriptFault::Header(fault)), "at {header}");
+        assert_eq!(rt; out.len(), 0);
+    }
+    // The 65,537th byte of a header ends the audit before the next read.
+    for (spaces, wanted) in [
+        (65_537, ScriptFault::Header(SchemaFault::TooLong)),
+        (65_536, ScriptFault::Read),
+    ] {
+        let reader = io::repeat(b' ')
+            .take(spaces)
+            .chain(Broken(ErrorKind::Other));
+        let (end, out) = audit(&rt, alloc, false, reader);
+        assert_eq!(rt; end, Err(wanted));
+        assert_eq!(rt; out.len(), 0);
+    }
+    Ok(())
+}
+
+// The 257th byte of a line behind the header ends the audit before the next read.
+#[test]
+fn ends_at_a_long_line(rt: HostRuntime) -> Result<(), Fail> {
+    let alloc = rt.alloc();
+    let header = format!(in alloc; "{HALVED}\n0 begin -> begun 0.1\n")?;
+    for (bytes, wanted, answer) in [
+        (256, Err(ScriptFault::Read), ""),
+        (257, Ok(AuditEnd::BadEntry), "bad entry 3\n"),
+        (100_000, Ok(AuditEnd::BadEntry), "bad entry 3\n"),
+    ] {
+        let reader = header
+            .as_bytes()
+            .chain(io::repeat(b'x').take(bytes))
+            .chain(Broken(ErrorKind::Other));
+        let (end, out) = audit(&rt, alloc, false, reader);
+        assert_eq!(rt; end, wanted);
+        assert_eq!(rt; str::from_utf8(out.as_slice()), Ok(answer));
+    }
+    Ok(())
+}
+
+#[test]
+fn keeps_the_limit_of_lines(rt: HostRuntime) -> Result<(), Fail> {
+    let alloc = rt.alloc();
+    let mut lines = String::new(alloc);
+    for _ in 0..999_999 {
+        lines.push_str("bad line\n")?;
+    }
+    let header = format!(in alloc; "{HALVED}\n")?;
+    for (more, wanted, answer) in [
+        (0, Ok(AuditEnd::Legal), "legal 0\n"),
+        (1, Err(ScriptFault::TooLong), ""),
+    ] {
+        let reader = header
+            .as_bytes()
+            .chain(lines.as_bytes())
+            .chain(io::repeat(b'x').take(more));
+        let (end, out) = audit(&rt, alloc, false, reader);
+        assert_eq!(rt; end, wanted);
+        assert_eq!(rt; str::from_utf8(out.as_slice()), Ok(answer));
+    }
+    Ok(())
+}
+
+#[test]
+fn ends_where_a_read_fails(rt: HostRuntime) -> Result<(), Fail> {
+    let alloc = rt.alloc();
+    let text = text_of(alloc, &ROW)?;
+    for count in 0..=text.len() {
+        let kind = if count % 2 == 0 {
+            ErrorKind::Interrupted
+        } else {
+            ErrorKind::Other
+        };
+        let reader = Trickle(&text.as_bytes()[..count]).chain(Broken(kind));
+        let (end, out) = audit(&rt, alloc, false, reader);
+        assert_eq!(rt; end, Err(ScriptFault::Read));
+        assert_eq!(rt; out.len(), 0);
+    }
+    Ok(())
+}
+
+#[test]
+fn ends_where_a_write_fails(rt: HostRuntime) -> Result<(), Fail> {
+    let alloc = rt.alloc();
+    let text = text_of(alloc, &ROW)?;
+    let wanted = b"legal 6\n";
+    for room in 0..=wanted.len() {
+        let mut writer = Watched::new(Narrow {
+            taken: Vec::new(alloc),
+            room,
+            fails: room % 2 == 0,
+        });
+        let end = audit_text(
+            &rt,
+            alloc,
+            false,
+            &mut Watched::new(text.as_bytes()),
+            &mut writer,
+        );
+        if room < wanted.len() {
+            assert_eq!(rt; end, Err(ScriptFault::Write));
+        } else {
+            assert_eq!(rt; end, Ok(AuditEnd::Legal));
+        }
+        assert_eq!(rt; writer.into_inner().taken.as_slice(), &wanted[..room]);
+    }
+    Ok(())
+}

@@ -1,0 +1,729 @@
+//! What no clause says: the texts, whole runs, and readers and writers that fail.
+
+mod bad_lines;
+mod faults;
+mod hostile;
+mod levels;
+mod reaches;
+
+use escrow_script::{End, ScriptFault, Watched, run_script};
+use field_bounds::SchemaFault;
+use std::alloc::{AllocError, Global};
+use std::io;
+use std::io::{ErrorKind, Read, Write};
+use std::process::Abort;
+use std::test::Fail;
+
+const HEADER: &str =
+    "{\"sites\":1,\"fields\":[{\"name\":\"stock\",\"floor\":0,\"ceiling\":100,\"value\":40}]}";
+
+/// How a run over a reader ended, and what it wrote.
+fn run<R: Read + Drop>(alloc: Global, reader: R) -> (Result<(), ScriptFault>, Vec<u8>) {
+    let mut writer = Watched::new(Vec::new(alloc));
+    let end = run_script(alloc, &mut Watched::new(reader), &mut writer);
+    (end, writer.into_inner())
+}
+
+/// A script beside the output that it is to give.
+#[derive(Drop)]
+struct Talk {
+    input: String,
+    wanted: String,
+}
+
+impl Talk {
+    fn new(alloc: Global, header: &str) -> Result<Talk, AllocError> {
+        Ok(Talk {
+            input: format!(in alloc; "{header}\n")?,
+            wanted: format!(in alloc; "{header}\n")?,
+        })
+    }
+
+    fn row(&mut self, line: &str, reply: &str) -> Result<(), AllocError> {
+        write!(self.input, "{line}\n")?;
+        write!(self.wanted, "{line} -> {reply}\n")
+    }
+
+    fn rows(&mut self, rows: &[(&str, &str)]) -> Result<(), AllocError> {
+        for (line, reply) in rows {
+            self.row(*line, *reply)?;
+        }
+        Ok(())
+    }
+
+    /// A line whose answer doesn't begin with it.
+    fn said(&mut self, line: &str, answer: &str) -> Result<(), AllocError> {
+        write!(self.input, "{line}\n")?;
+        write!(self.wanted, "{answer}\n")
+    }
+
+    fn bad(&mut self, line: &str) -> Result<(), AllocError> {
+        write!(self.input, "{line}\n")?;
+        write!(self.wanted, "bad line\n")
+    }
+
+    fn check(&self, rt: &impl Abort, alloc: Global) {
+        let (end, out) = run(alloc, self.input.as_bytes());
+        assert_eq!(rt; end, Ok(()));
+        assert_eq!(rt; str::from_utf8(out.as_slice()), Ok(self.wanted.as_str()));
+    }
+}
+
+/// A reader that gives a byte a read.
+#[derive(Drop)]
+struct Trickle<'a>(&'a [u8]);
+
+impl Read for Trickle<'_> {
+    fn read(&mut self, buf: &mut [u8]) -> io::Result<usize> {
+        let count = buf.len().min(1);
+        self.0.read(&mut buf[..count])
+    }
+}
+
+/// A reader whose every read fails.
+#[derive(Drop)]
+struct Broken(ErrorKind);
+
+impl Read for Broken {
+    fn read(&mut self, _buf: &mut [u8]) -> io::Result<usize> {
+        Err(self.0.into())
+    }
+}
+
+/// A writer that takes so many bytes, one a write, and then fails or takes none.
+#[derive(Drop)]
+struct Narrow {
+    taken: Vec<u8>,
+    room: usize,
+    fails: bool,
+}
+
+impl Write for Narrow {
+    fn write(&mut self, buf: &[u8]) -> io::Result<usize> {
+        if self.room == 0 && self.fails {
+            return Err(ErrorKind::Interrupted.into());
+        }
+        let count = buf.len().min(self.room).min(1);
+        self.taken.extend_from_slice(&buf[..count])?;
+        self.room -= count;
+        Ok(count)
+    }
+
+    fn flush(&mut self) -> io::Result<()> {
+        Ok(())
+    }
+}
+
+/// Two sites, which have half of the rights each: lower 20, raise 30.
+const HALVED: &str =
+    "{\"sites\":2,\"fields\":[{\"name\":\"stock\",\"floor\":0,\"ceiling\":100,\"value\":40}]}";
+
+/// Two fields of one site.
+const TWINS: &str =
+    "{\"sites\":1,\"fields\":[{\"name\":\"a\",\"floor\":0,\"ceiling\":10,\"value\":5},{\"name\":\"b\",\"floor\":0,\"ceiling\":10,\"value\":5}]}";
+
+/// A field that can't be moved.
+const FIXED: &str =
+    "{\"sites\":1,\"fields\":[{\"name\":\"stock\",\"floor\":7,\"ceiling\":7,\"value\":7}]}";
+
+/// The widest field, at its ceiling.
+const WIDEST: &str =
+    "{\"sites\":1,\"fields\":[{\"name\":\"stock\",\"floor\":-1000000000000000,\"ceiling\":1000000000000000,\"value\":1000000000000000}]}";
+
+/// Headers, each with command lines and what is replied to them.
+const WORKED: [(&str, &[(&str, &str)]); 14] = [
+    (
+        HEADER,
+        &[
+            ("0 begin", "begun 0.1"),
+            ("0 escrow 0.1 stock -20", "granted"),
+            ("0 read stock", "between 40 40"),
+            ("0 commit 0.1", "committed"),
+            ("0 read stock", "between 20 20"),
+        ],
+    ),
+    (
+        HEADER,
+        &[
+            ("0 begin", "begun 0.1"),
+            ("0 escrow 0.1 stock -41", "refused 7 short 40"),
+            ("0 escrow 0.1 stock 60", "granted"),
+            ("0 read stock", "between 40 40"),
+            ("0 commit 0.1", "committed"),
+            ("0 read stock", "between 100 100"),
+            ("0 begin", "begun 0.2"),
+            ("0 escrow 0.2 stock -100", "granted"),
+            ("0 abort 0.2", "aborted"),
+            ("0 read stock", "between 100 100"),
+            ("0 read #1", "refused 3 no field"),
+            ("0 read #65535", "refused 3 no field"),
+            ("0 share #1", "refused 3 no field"),
+            ("0 commit 0.7", "refused 4 no transaction"),
+            ("0 abort 4294967295.4294967295", "refused 4 no transaction"),
+            ("0 begin", "begun 0.3"),
+            ("0 escrow 0.3 stock 0", "refused 5 zero"),
+        ],
+    ),
+    (
+        FIXED,
+        &[
+            ("0 read stock", "between 7 7"),
+            ("0 begin", "begun 0.1"),
+            ("0 escrow 0.1 stock 1", "refused 7 short 0"),
+            ("0 escrow 0.1 stock -1", "refused 7 short 0"),
+        ],
+    ),
+    (
+        WIDEST,
+        &[
+            ("0 begin", "begun 0.1"),
+            (
+                "0 escrow 0.1 stock -2000000000000001",
+                "refused 6 too large",
+            ),
+            (
+                "0 escrow 0.1 stock -9223372036854775808",
+                "refused 6 too large",
+            ),
+            ("0 escrow 0.1 stock -2000000000000000", "granted"),
+            ("0 commit 0.1", "committed"),
+            (
+                "0 read stock",
+                "between -1000000000000000 -1000000000000000",
+            ),
+        ],
+    ),
+    (
+        HALVED,
+        &[
+            ("0 begin", "begun 0.1"),
+            ("0 escrow 0.1 stock -20", "granted"),
+            ("0 read stock", "between 20 70"),
+            ("0 commit 0.1", "committed"),
+            ("0 share stock", "share 0 50"),
+            ("0 read stock", "between 0 50"),
+        ],
+    ),
+    (
+        HALVED,
+        &[
+            ("0 begin", "begun 0.1"),
+            ("0 escrow 0.1 stock -21", "refused 7 short 20"),
+        ],
+    ),
+    (
+        HALVED,
+        &[
+            ("0 begin", "begun 0.1"),
+            ("0 escrow 0.1 stock 5", "granted"),
+            ("0 escrow 0.1 stock -3", "granted"),
+            ("0 commit 0.1", "committed"),
+            ("0 share stock", "share 22 28"),
+            ("0 read stock", "between 22 72"),
+        ],
+    ),
+    (
+        HALVED,
+        &[
+            ("0 begin", "begun 0.1"),
+            ("0 escrow 0.1 stock -20", "granted"),
+            ("0 abort 0.1", "aborted"),
+            ("0 begin", "begun 0.2"),
+            ("0 escrow 0.2 stock -20", "granted"),
+        ],
+    ),
+    (
+        HALVED,
+        &[
+            ("0 begin", "begun 0.1"),
+            ("1 begin", "begun 0.1"),
+            ("1 escrow 0.1 stock -20", "granted"),
+            ("0 commit 0.1", "committed"),
+            ("0 share stock", "share 20 30"),
+            ("1 share stock", "share 0 30"),
+            ("1 commit 0.1", "committed"),
+            ("1 commit 0.1", "refused 4 no transaction"),
+            ("1 share stock", "share 0 50"),
+            ("0 read stock", "between 20 70"),
+        ],
+    ),
+    (
+        HALVED,
+        &[
+            ("0 give 0 stock lower 1", "refused 8 self gift"),
+            ("0 restate 1 stock raise", "refused 15 nothing given"),
+            ("0 begin", "begun 0.1"),
+            ("0 escrow 0.1 stock 0", "refused 5 zero"),
+            ("0 read #1", "refused 3 no field"),
+        ],
+    ),
+    (
+        HALVED,
+        &[
+            ("0 give 1 stock lower 21", "refused 7 short 20"),
+            ("0 give 2 stock lower 1", "refused 2 no site"),
+            ("0 give 1 stock lower 20", "given 20"),
+            ("0 share stock", "share 0 30"),
+            ("0 read stock", "between 0 70"),
+            ("0 give 1 stock raise 7", "given 7"),
+            ("0 give 1 stock raise 3", "given 10"),
+            ("0 restate 1 stock raise", "stated 10"),
+            ("0 share stock", "share 0 20"),
+            ("1 share stock", "share 20 30"),
+        ],
+    ),
+    (
+        HALVED,
+        &[
+            ("0 spare 1 stock raise 100", "spared 15 15"),
+            ("0 spare 1 stock raise 100", "spared 8 23"),
+            ("0 spare 1 stock lower 3", "spared 3 3"),
+            ("0 spare 0 stock lower 3", "refused 8 self gift"),
+            ("0 spare 2 stock lower 3", "refused 2 no site"),
+            ("0 spare 1 stock lower 0", "refused 5 zero"),
+            ("0 give 1 stock lower 17", "given 20"),
+            ("0 spare 1 stock lower 3", "refused 7 short 0"),
+            ("0 share stock", "share 0 7"),
+        ],
+    ),
+    (
+        HALVED,
+        &[
+            ("0 tighten stock lower 5", "tightened 5"),
+            ("0 share stock", "share 15 30"),
+            ("0 read stock", "between 20 70"),
+            ("0 tighten stock lower 16", "refused 7 short 15"),
+            ("0 tighten stock raise 30", "tightened 30"),
+            ("0 read stock", "between 20 70"),
+        ],
+    ),
+    (
+        TWINS,
+        &[
+            ("0 begin", "begun 0.1"),
+            ("0 escrow 0.1 a -5", "granted"),
+            ("0 escrow 0.1 b 5", "granted"),
+            ("0 escrow 0.1 b -5", "granted"),
+            ("0 commit 0.1", "committed"),
+            ("0 share a", "share 0 10"),
+            ("0 share b", "share 5 5"),
+        ],
+    ),
+];
+
+/// Lines over two sites, with deliveries and torn appends, each beside what answers it.
+const SAID: [&[(&str, &str)]; 15] = [
+    // A gift is delivered, and again.
+    &[
+        (
+            "0 give 1 stock lower 5",
+            "0 give 1 stock lower 5 -> given 5",
+        ),
+        ("1 begin", "1 begin -> begun 0.1"),
+        (
+            "1 escrow 0.1 stock -25",
+            "1 escrow 0.1 stock -25 -> refused 7 short 20",
+        ),
+        ("deliver 1", "1 accept 0 1 stock lower 5 -> accepted 5"),
+        (
+            "1 escrow 0.1 stock -25",
+            "1 escrow 0.1 stock -25 -> granted",
+        ),
+        ("deliver 1", "1 accept 0 1 stock lower 5 -> accepted 0"),
+    ],
+    // The later statement comes first.
+    &[
+        (
+            "0 give 1 stock lower 3",
+            "0 give 1 stock lower 3 -> given 3",
+        ),
+        (
+            "0 give 1 stock lower 2",
+            "0 give 1 stock lower 2 -> given 5",
+        ),
+        ("deliver 2", "1 accept 0 1 stock lower 5 -> accepted 5"),
+        ("deliver 1", "1 accept 0 1 stock lower 3 -> accepted 0"),
+    ],
+    // A restart aborts what is open.
+    &[
+        ("0 begin", "0 begin -> begun 0.1"),
+        (
+            "0 escrow 0.1 stock -20",
+            "0 escrow 0.1 stock -20 -> granted",
+        ),
+        ("0 restart", "0 restart -> restarted 1 nothing"),
+        ("0 commit 0.1", "0 commit 0.1 -> refused 4 no transaction"),
+        ("0 begin", "0 begin -> begun 1.1"),
+    ],
+    // A gift in doubt issues no statement before it is stated.
+    &[
+        (
+            "0 give 1 stock lower 5 torn 10",
+            "0 give 1 stock lower 5 -> unsure",
+        ),
+        ("deliver 1", "deliver 1 -> refused 16 no statement"),
+        ("0 restart", "0 restart -> restarted 1 kept"),
+        (
+            "0 restate 1 stock lower",
+            "0 restate 1 stock lower -> stated 5",
+        ),
+        ("deliver 1", "1 accept 0 1 stock lower 5 -> accepted 5"),
+    ],
+    // So does a spare, which gives what it would have been answered.
+    &[
+        (
+            "0 spare 1 stock raise 100 torn 11",
+            "0 spare 1 stock raise 100 -> unsure",
+        ),
+        ("deliver 1", "deliver 1 -> refused 16 no statement"),
+        ("0 restart", "0 restart -> restarted 1 kept"),
+        (
+            "0 restate 1 stock raise",
+            "0 restate 1 stock raise -> stated 15",
+        ),
+        (
+            "0 spare 1 stock raise 100",
+            "0 spare 1 stock raise 100 -> spared 8 23",
+        ),
+        ("deliver 2", "1 accept 0 1 stock raise 23 -> accepted 23"),
+        ("deliver 1", "1 accept 0 1 stock raise 15 -> accepted 0"),
+        ("1 share stock", "1 share stock -> share 20 53"),
+    ],
+    // A tightening in doubt that was kept, and one that lacked a byte.
+    &[
+        (
+            "0 tighten stock lower 5 torn 8",
+            "0 tighten stock lower 5 -> unsure",
+        ),
+        ("0 restart", "0 restart -> restarted 1 kept"),
+        ("0 share stock", "0 share stock -> share 15 30"),
+    ],
+    &[
+        (
+            "0 tighten stock lower 5 torn 7",
+            "0 tighten stock lower 5 -> unsure",
+        ),
+        ("0 restart", "0 restart -> restarted 1 lost"),
+        ("0 share stock", "0 share stock -> share 20 30"),
+    ],
+    // A restart whose record is torn fails.
+    &[
+        ("0 begin", "0 begin -> begun 0.1"),
+        (
+            "0 escrow 0.1 stock -20",
+            "0 escrow 0.1 stock -20 -> granted",
+        ),
+        ("0 commit 0.1 torn 12", "0 commit 0.1 -> unsure"),
+        ("0 restart torn 2", "0 restart -> still down"),
+        ("0 restart", "0 restart -> restarted 1 kept"),
+    ],
+    // Where its record stands whole, its epoch is used up.
+    &[
+        ("0 restart torn 4", "0 restart -> still down"),
+        ("0 restart", "0 restart -> restarted 2 nothing"),
+    ],
+    // No statement has these numbers.
+    &[
+        ("deliver 0", "deliver 0 -> refused 16 no statement"),
+        ("deliver 1", "deliver 1 -> refused 16 no statement"),
+        ("deliver 1 torn 3", "deliver 1 -> refused 16 no statement"),
+        (
+            "deliver 18446744073709551615",
+            "deliver 18446744073709551615 -> refused 16 no statement",
+        ),
+    ],
+    // A step that appends nothing can't be torn.
+    &[
+        ("0 begin torn 3", "0 begin -> begun 0.1"),
+        ("0 read stock torn 0", "0 read stock -> between 20 70"),
+        (
+            "0 escrow 0.1 stock -20 torn 18446744073709551615",
+            "0 escrow 0.1 stock -20 -> granted",
+        ),
+        ("0 commit 0.1", "0 commit 0.1 -> committed"),
+    ],
+    // An acceptance in doubt that was kept.
+    &[
+        (
+            "0 give 1 stock lower 5",
+            "0 give 1 stock lower 5 -> given 5",
+        ),
+        ("deliver 1 torn 10", "1 accept 0 1 stock lower 5 -> unsure"),
+        ("deliver 1", "1 accept 0 1 stock lower 5 -> refused 1 down"),
+        ("1 restart", "1 restart -> restarted 1 kept"),
+        ("deliver 1", "1 accept 0 1 stock lower 5 -> accepted 0"),
+        ("1 share stock", "1 share stock -> share 25 30"),
+    ],
+    // One that was lost.
+    &[
+        (
+            "0 give 1 stock lower 5",
+            "0 give 1 stock lower 5 -> given 5",
+        ),
+        ("deliver 1 torn 9", "1 accept 0 1 stock lower 5 -> unsure"),
+        ("deliver 1", "1 accept 0 1 stock lower 5 -> refused 1 down"),
+        ("1 restart", "1 restart -> restarted 1 lost"),
+        ("deliver 1", "1 accept 0 1 stock lower 5 -> accepted 5"),
+        ("1 share stock", "1 share stock -> share 25 30"),
+    ],
+    // What is in doubt at one site isn't in doubt at the other.
+    &[
+        ("0 begin", "0 begin -> begun 0.1"),
+        (
+            "0 escrow 0.1 stock -20",
+            "0 escrow 0.1 stock -20 -> granted",
+        ),
+        ("0 commit 0.1 torn 12", "0 commit 0.1 -> unsure"),
+        ("1 read stock", "1 read stock -> between 20 70"),
+        ("0 restart", "0 restart -> restarted 1 kept"),
+        ("1 read stock", "1 read stock -> between 20 70"),
+    ],
+    // Luck is for its own line.
+    &[
+        ("0 begin torn 0", "0 begin -> begun 0.1"),
+        (
+            "0 escrow 0.1 stock -20",
+            "0 escrow 0.1 stock -20 -> granted",
+        ),
+        ("0 commit 0.1", "0 commit 0.1 -> committed"),
+        ("0 share stock", "0 share stock -> share 0 50"),
+    ],
+];
+
+/// A field whose name is the word of luck.
+const TORN: &str =
+    "{\"sites\":1,\"fields\":[{\"name\":\"torn\",\"floor\":0,\"ceiling\":10,\"value\":5}]}";
+
+fn check_said(
+    rt: &impl Abort,
+    alloc: Global,
+    header: &str,
+    rows: &[(&str, &str)],
+) -> Result<(), AllocError> {
+    let mut talk = Talk::new(alloc, header)?;
+    for (line, answer) in rows {
+        talk.said(*line, *answer)?;
+    }
+    talk.check(rt, alloc);
+    Ok(())
+}
+
+#[test]
+fn answers_deliveries_and_luck(rt: HostRuntime) -> Result<(), Fail> {
+    for rows in &SAID {
+        check_said(&rt, rt.alloc(), HALVED, *rows)?;
+    }
+    Ok(())
+}
+
+#[test]
+fn reads_no_field_as_luck(rt: HostRuntime) -> Result<(), Fail> {
+    let rows: [(&str, &str); 4] = [
+        ("0 begin", "0 begin -> begun 0.1"),
+        ("0 escrow 0.1 torn 5", "0 escrow 0.1 torn 5 -> granted"),
+        (
+            "0 escrow 0.1 torn -1 torn 5",
+            "0 escrow 0.1 torn -1 -> granted",
+        ),
+        ("0 commit 0.1 torn 5", "0 commit 0.1 -> unsure"),
+    ];
+    check_said(&rt, rt.alloc(), TORN, &rows)?;
+    Ok(())
+}
+
+// The record of the commit has 12 bytes.
+#[test]
+fn keeps_a_commit_that_is_whole(rt: HostRuntime) -> Result<(), Fail> {
+    let alloc = rt.alloc();
+    for bytes in 0..=13u64 {
+        let mut talk = Talk::new(alloc, HALVED)?;
+        talk.row("0 begin", "begun 0.1")?;
+        talk.row("0 escrow 0.1 stock -20", "granted")?;
+        let line = format!(in alloc; "0 commit 0.1 torn {bytes}")?;
+        talk.said(line.as_str(), "0 commit 0.1 -> unsure")?;
+        talk.row("0 read stock", "refused 1 down")?;
+        if bytes < 12 {
+            talk.row("0 restart", "restarted 1 lost")?;
+            talk.row("0 share stock", "share 20 30")?;
+        } else {
+            talk.row("0 restart", "restarted 1 kept")?;
+            talk.row("0 share stock", "share 0 50")?;
+        }
+        talk.check(&rt, alloc);
+    }
+    Ok(())
+}
+
+fn check_row(
+    rt: &impl Abort,
+    alloc: Global,
+    header: &str,
+    rows: &[(&str, &str)],
+) -> Result<(), AllocError> {
+    let mut talk = Talk::new(alloc, header)?;
+    talk.rows(rows)?;
+    talk.check(rt, alloc);
+    Ok(())
+}
+
+#[test]
+fn answers_worked_rows(rt: HostRuntime) -> Result<(), Fail> {
+    for (header, rows) in &WORKED {
+        check_row(&rt, rt.alloc(), *header, *rows)?;
+    }
+    Ok(())
+}
+
+#[test]
+fn refuses_past_the_limits(rt: HostRuntime) -> Result<(), Fail> {
+    let alloc = rt.alloc();
+    let mut talk = Talk::new(alloc, HALVED)?;
+    talk.row("0 begin", "begun 0.1")?;
+    for _ in 0..16 {
+        talk.row("0 escrow 0.1 stock -1", "granted")?;
+    }
+    talk.row("0 escrow 0.1 stock -1", "refused 13 too many escrows")?;
+    talk.row("0 escrow 0.1 stock -5", "refused 7 short 4")?;
+    for number in 2..=64u32 {
+        let reply = format!(in alloc; "begun 0.{number}")?;
+        talk.row("0 begin", reply.as_str())?;
+    }
+    talk.row("0 begin", "refused 12 too many open")?;
+    talk.check(&rt, alloc);
+    Ok(())
+}
+
+#[test]
+fn tells_bad_headers(rt: HostRuntime) -> Result<(), Fail> {
+    let alloc = rt.alloc();
+    for (header, fault) in [
+        ("", SchemaFault::NotJson),
+        ("\n0 begin\n", SchemaFault::NotJson),
+        ("{\"sites\":1}\n0 begin\n", SchemaFault::Shape),
+        (
+            "{\"sites\":0,\"fields\":[{\"name\":\"stock\",\"floor\":0,\"ceiling\":100,\"value\":40}]}",
+            SchemaFault::SiteCount,
+        ),
+    ] {
+        let (end, out) = run(alloc, header.as_bytes());
+        assert_eq!(rt; end, Err(ScriptFault::Header(fault)), "at {header}");
+        assert_eq!(rt; out.len(), 0);
+    }
+    // The 65,537th byte of a header ends the run before the next read.
+    for (spaces, wanted) in [
+        (65_537, ScriptFault::Header(SchemaFault::TooLong)),
+        (65_536, ScriptFault::Read),
+    ] {
+        let reader = io::repeat(b' ')
+            .take(spaces)
+            .chain(Broken(ErrorKind::Other));
+        let (end, out) = run(alloc, reader);
+        assert_eq!(rt; end, Err(wanted));
+        assert_eq!(rt; out.len(), 0);
+    }
+    // A header is echoed with its CR and, where its LF is missing, with LF.
+    let header = format!(in alloc; "{HEADER}\r")?;
+    let (end, out) = run(alloc, header.as_bytes());
+    assert_eq!(rt; end, Ok(()));
+    let wanted = format!(in alloc; "{HEADER}\r\n")?;
+    assert_eq!(rt; str::from_utf8(out.as_slice()), Ok(wanted.as_str()));
+    Ok(())
+}
+
+#[test]
+fn keeps_the_limit_of_lines(rt: HostRuntime) -> Result<(), Fail> {
+    let alloc = rt.alloc();
+    let header = format!(in alloc; "{HEADER}\n")?;
+    // 999,999 lines behind the header, and a byte more.
+    for (more, wanted) in [(0, Ok(())), (1, Err(ScriptFault::TooLong))] {
+        let lines = io::repeat(b'\n').take(999_999);
+        let reader = header
+            .as_bytes()
+            .chain(lines)
+            .chain(io::repeat(b'x').take(more));
+        let (end, out) = run(alloc, reader);
+        assert_eq!(rt; end, wanted);
+        assert_eq!(rt; out.len(), header.len() + 9 * 999_999);
+    }
+    Ok(())
+}
+
+/// A script of one site, each line beside what answers it.
+const ROW: [(&str, &str); 6] = [
+    (HEADER, HEADER),
+    ("0 begin", "0 begin -> begun 0.1"),
+    (
+        "0 escrow 0.1 stock -20",
+        "0 escrow 0.1 stock -20 -> granted",
+    ),
+    ("0 read stock", "0 read stock -> between 40 40"),
+    ("0 commit 0.1", "0 commit 0.1 -> committed"),
+    ("0 read stock", "0 read stock -> between 20 20"),
+];
+
+/// The input of the row.
+fn row_input(alloc: Global) -> Result<String, AllocError> {
+    let mut input = String::new(alloc);
+    for (line, _) in &ROW {
+        write!(input, "{line}\n")?;
+    }
+    Ok(input)
+}
+
+/// What answers the whole lines among the first so many bytes of the row.
+fn row_output(alloc: Global, bytes: usize) -> Result<String, AllocError> {
+    let mut output = String::new(alloc);
+    let mut left = bytes;
+    for (line, answer) in &ROW {
+        if left <= line.len() {
+            break;
+        }
+        left -= line.len() + 1;
+        write!(output, "{answer}\n")?;
+    }
+    Ok(output)
+}
+
+#[test]
+fn ends_where_a_read_fails(rt: HostRuntime) -> Result<(), Fail> {
+    let alloc = rt.alloc();
+    let input = row_input(alloc)?;
+    for count in 0..=input.len() {
+        let kind = if count % 2 == 0 {
+            ErrorKind::Interrupted
+        } else {
+            ErrorKind::Other
+        };
+        let reader = Trickle(&input.as_bytes()[..count]).chain(Broken(kind));
+        let (end, out) = run(alloc, reader);
+        assert_eq!(rt; end, Err(ScriptFault::Read));
+        let wanted = row_output(alloc, count)?;
+        assert_eq!(rt; str::from_utf8(out.as_slice()), Ok(wanted.as_str()));
+    }
+    Ok(())
+}
+
+#[test]
+fn ends_where_a_write_fails(rt: HostRuntime) -> Result<(), Fail> {
+    let alloc = rt.alloc();
+    let input = row_input(alloc)?;
+    let wanted = row_output(alloc, input.len())?;
+    for room in 0..=wanted.len() {
+        let mut writer = Watched::new(Narrow {
+            taken: Vec::new(alloc),
+            room,
+            fails: room % 2 == 0,
+        });
+        let end = run_script(alloc, &mut Watched::new(input.as_bytes()), &mut writer);
+        assert_eq!(rt; end.is_ok(), room == wanted.len());
+        assert!(rt; writer.last() != End::NotCalled);
+        assert_eq!(rt;
+            writer.into_inner().taken.as_slice(),
+            &wanted.as_bytes()[..room]
+        );
+        if room < wanted.len() {
+            assert_eq!(rt; end, Err(ScriptFault::Write));
+        }
+    }
+    Ok(())
+}

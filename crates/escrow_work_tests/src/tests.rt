@@ -1,0 +1,286 @@
+//! What no clause says: the texts, honest works, and readers and writers that fail.
+
+use escrow_work::{ScriptFault, Watched, WorkTextFault, work_text};
+use field_bounds::SchemaFault;
+use std::alloc::{AllocError, Global};
+use std::io;
+use std::io::{ErrorKind, Read, Write};
+use std::process::Abort;
+use std::sync::Wait;
+use std::test::Fail;
+use std::thread::Threads;
+
+/// Two sites, which have half of the rights each: lower 20, raise 30.
+const HALVED: &str =
+    "{\"sites\":2,\"fields\":[{\"name\":\"stock\",\"floor\":0,\"ceiling\":100,\"value\":40}]}";
+
+/// How a work over a reader ended, and what it wrote.
+fn work<R: Read + Drop>(
+    rt: &(impl Threads + Wait + Sync),
+    alloc: Global,
+    reader: R,
+) -> (Result<(), WorkTextFault>, Vec<u8>) {
+    let mut writer = Watched::new(Vec::new(alloc));
+    let end = work_text(rt, alloc, &mut Watched::new(reader), &mut writer);
+    (end, writer.into_inner())
+}
+
+/// The lines behind the header of two sites.
+fn text_of(alloc: Global, lines: &[&str]) -> Result<String, AllocError> {
+    let mut text = format!(in alloc; "{HALVED}\n")?;
+    for line in lines {
+        write!(text, "{line}\n")?;
+    }
+    Ok(text)
+}
+
+/// Works that have one trace, and that trace.
+const WORKS: [(&[&str], &[&str]); 4] = [
+    (&[], &[]),
+    (
+        &["0 give 1 stock lower 5"],
+        &[
+            "0 give 1 stock lower 5 -> given 5",
+            "1 accept 0 1 stock lower 5 -> accepted 5",
+        ],
+    ),
+    (
+        &[
+            "1 begin",
+            "1 escrow 0.1 stock -20",
+            "1 read stock",
+            "1 commit 0.1",
+            "1 share stock",
+            "1 read stock",
+        ],
+        &[
+            "1 begin -> begun 0.1",
+            "1 escrow 0.1 stock -20 -> granted",
+            "1 read stock -> between 20 70",
+            "1 commit 0.1 -> committed",
+            "1 share stock -> share 0 50",
+            "1 read stock -> between 0 50",
+        ],
+    ),
+    // Sites that state nothing stand one behind the other, the lowest first.
+    (
+        &["1 begin", "0 begin", "1 read stock"],
+        &[
+            "0 begin -> begun 0.1",
+            "1 begin -> begun 0.1",
+            "1 read stock -> between 20 70",
+        ],
+    ),
+];
+
+#[test]
+fn writes_what_the_sites_do(rt: HostRuntime) -> Result<(), Fail> {
+    let alloc = rt.alloc();
+    for (lines, entries) in &WORKS {
+        let (end, out) = work(&rt, alloc, text_of(alloc, *lines)?.as_bytes());
+        assert_eq!(rt; end, Ok(()));
+        let wanted = text_of(alloc, *entries)?;
+        assert_eq!(rt; str::from_utf8(out.as_slice()), Ok(wanted.as_str()));
+    }
+    Ok(())
+}
+
+/// How many lines there are, and how many of them end so.
+fn count(text: &[u8], ending: &str) -> (usize, usize) {
+    let text = str::from_utf8(text).unwrap_or("");
+    let lines = text.lines().count();
+    let ended = text.lines().filter(|line| line.ends_with(ending)).count();
+    (lines, ended)
+}
+
+// Ten gifts each way, whose traces are many: each is judged before it is written.
+#[test]
+fn gifts_go_both_ways(rt: HostRuntime) -> Result<(), Fail> {
+    let alloc = rt.alloc();
+    let mut text = format!(in alloc; "{HALVED}\n")?;
+    for _ in 0..10 {
+        text.push_str("0 give 1 stock lower 1\n1 give 0 stock lower 1\n")?;
+    }
+    let (end, out) = work(&rt, alloc, text.as_bytes());
+    assert_eq!(rt; end, Ok(()));
+    assert_eq!(rt; count(out.as_slice(), " -> given 10"), (41, 2));
+    Ok(())
+}
+
+/// Lines that are no plain commands.
+const BAD: [&str; 14] = [
+    "",
+    "0 begin torn 3",
+    "0 accept 1 0 stock lower 5",
+    "2 begin",
+    "0  begin",
+    "0 begin ",
+    "begin",
+    "deliver 1",
+    "level stock lower",
+    "reach 0 stock 20",
+    "bad line",
+    "0 read sock",
+    "0 begin -> begun 0.1",
+    "0 begin\r",
+];
+
+#[test]
+fn tells_the_first_bad_line(rt: HostRuntime) -> Result<(), Fail> {
+    let alloc = rt.alloc();
+    for line in &BAD {
+        for (lines, number) in [([*line, "0 begin"], 2), (["0 begin", *line], 3)] {
+            let (end, out) = work(&rt, alloc, text_of(alloc, &lines)?.as_bytes());
+            assert_eq!(rt; end, Err(WorkTextFault::BadLine(number)));
+            assert_eq!(rt; out.len(), 0);
+        }
+    }
+    Ok(())
+}
+
+// The 257th byte of a line behind the header ends the work before the next read.
+#[test]
+fn ends_at_a_long_line(rt: HostRuntime) -> Result<(), Fail> {
+    let alloc = rt.alloc();
+    let header = format!(in alloc; "{HALVED}\n0 begin\n")?;
+    for (bytes, fault) in [
+        (256, WorkTextFault::Script(ScriptFault::Read)),
+        (257, WorkTextFault::BadLine(3)),
+    ] {
+        let reader = header
+            .as_bytes()
+            .chain(io::repeat(b'x').take(bytes))
+            .chain(Broken(ErrorKind::Other));
+        let (end, out) = work(&rt, alloc, reader);
+        assert_eq!(rt; end, Err(fault));
+        assert_eq!(rt; out.len(), 0);
+    }
+    Ok(())
+}
+
+#[test]
+fn tells_bad_headers(rt: HostRuntime) -> Result<(), Fail> {
+    let alloc = rt.alloc();
+    for (header, fault) in [
+        ("", SchemaFault::NotJson),
+        ("\n0 begin\n", SchemaFault::NotJson),
+        ("{\"sites\":1}\nhello\n", SchemaFault::Shape),
+    ] {
+        let (end, out) = work(&rt, alloc, header.as_bytes());
+        let wanted = WorkTextFault::Script(ScriptFault::Header(fault));
+        assert_eq!(rt; end, Err(wanted), "at {header}");
+        assert_eq!(rt; out.len(), 0);
+    }
+    Ok(())
+}
+
+/// A reader that gives a byte a read.
+#[derive(Drop)]
+struct Trickle<'a>(&'a [u8]);
+
+impl Read for Trickle<'_> {
+    fn read(&mut self, buf: &mut [u8]) -> io::Result<usize> {
+        let count = buf.len().min(1);
+        self.0.read(&mut buf[..count])
+    }
+}
+
+/// A reader whose every read fails.
+#[derive(Drop)]
+struct Broken(ErrorKind);
+
+impl Read for Broken {
+    fn read(&mut self, _buf: &mut [u8]) -> io::Result<usize> {
+        Err(self.0.into())
+    }
+}
+
+/// A writer that takes so many bytes, one a write, and then fails or takes none.
+#[derive(Drop)]
+struct Narrow {
+    taken: Vec<u8>,
+    room: usize,
+    fails: bool,
+}
+
+impl Write for Narrow {
+    fn write(&mut self, buf: &[u8]) -> io::Result<usize> {
+        if self.room == 0 && self.fails {
+            return Err(ErrorKind::Interrupted.into());
+        }
+        let count = buf.len().min(self.room).min(1);
+        self.taken.extend_from_slice(&buf[..count])?;
+        self.room -= count;
+        Ok(count)
+    }
+
+    fn flush(&mut self) -> io::Result<()> {
+        Ok(())
+    }
+}
+
+#[test]
+fn ends_where_a_read_fails(rt: HostRuntime) -> Result<(), Fail> {
+    let alloc = rt.alloc();
+    let text = text_of(alloc, &["0 give 1 stock lower 5"])?;
+    for count in 0..=text.len() {
+        let kind = if count % 2 == 0 {
+            ErrorKind::Interrupted
+        } else {
+            ErrorKind::Other
+        };
+        let reader = Trickle(&text.as_bytes()[..count]).chain(Broken(kind));
+        let (end, out) = work(&rt, alloc, reader);
+        assert_eq!(rt; end, Err(WorkTextFault::Script(ScriptFault::Read)));
+        assert_eq!(rt; out.len(), 0);
+    }
+    Ok(())
+}
+
+#[test]
+fn ends_where_a_write_fails(rt: HostRuntime) -> Result<(), Fail> {
+    let alloc = rt.alloc();
+    let text = text_of(alloc, &["0 begin"])?;
+    let wanted = text_of(alloc, &["0 begin -> begun 0.1"])?;
+    for room in 0..=wanted.len() {
+        let mut writer = Watched::new(Narrow {
+            taken: Vec::new(alloc),
+            room,
+            fails: room % 2 == 0,
+        });
+        let end = work_text(&rt, alloc, &mut Watched::new(text.as_bytes()), &mut writer);
+        if room < wanted.len() {
+            assert_eq!(rt; end, Err(WorkTextFault::Script(ScriptFault::Write)));
+        } else {
+            assert_eq!(rt; end, Ok(()));
+        }
+        assert_eq!(rt;
+            writer.into_inner().taken.as_slice(),
+            &wanted.as_bytes()[..room]
+        );
+    }
+    Ok(())
+}
+
+// The texts by which a program tells the faults.
+#[test]
+fn tells_faults(rt: HostRuntime) -> Result<(), Fail> {
+    let alloc = rt.alloc();
+    for (fault, text) in [
+        (WorkTextFault::Script(ScriptFault::Read), "read fault"),
+        (
+            WorkTextFault::Script(ScriptFault::NoMemory),
+            "out of memory",
+        ),
+        (WorkTextFault::BadLine(2), "bad line 2"),
+        (
+            WorkTextFault::Work(escrow_work::WorkFault::GateTurns),
+            "work fault",
+        ),
+        (WorkTextFault::Stuck, "stuck"),
+        (WorkTextFault::Illegal, "illegal"),
+    ] {
+        assert_eq!(rt; format!(in alloc; "{fault}")?.as_str(), text);
+    }
+    Ok(())
+}

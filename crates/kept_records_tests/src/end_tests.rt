@@ -1,0 +1,173 @@
+//! Worked rows of the end of a medium.
+
+ghost use Rattle.std.specs.Prelude.{IfSome};
+ghost use Rattle.kept_records.specs.Keeping.{IsKept};
+
+use kept_records::*;
+use std::alloc::{AllocError, Global};
+use std::process::Abort;
+
+/// A medium of the calls that have no body of their own.
+#[derive(Drop)]
+struct Plain {
+    under: TornMedium,
+}
+
+impl Medium for Plain {
+    ghost use Rattle.kept_records.specs.Media.{mishap_next};
+
+    ghost bytes = { λ m. m.under.bytes };
+
+    ghost room = { λ m. m.under.room };
+
+    ghost failed = { λ m. m.under.failures };
+
+    ghost foretold = { λ m. mishap_next m.under };
+
+    fn read_all(&mut self, alloc: Global) -> Result<Vec<u8>, MediumFault> {
+        self.under.read_all(alloc)
+    }
+
+    fn reserve(&mut self, additional: usize) -> Result<(), AllocError> {
+        self.under.reserve(additional)
+    }
+
+    fn append(&mut self, piece: &[u8]) -> Result<(), Device> {
+        self.under.append(piece)
+    }
+
+    fn cut(&mut self, kept: usize) -> Result<(), Device> {
+        self.under.cut(kept)
+    }
+
+    fn failures(&self) -> u64 {
+        self.under.failures()
+    }
+}
+
+fn bytes_of(alloc: Global, text: &str) -> Option<Vec<u8>> {
+    Vec::from_slice(alloc, text.as_bytes()).ok()
+}
+
+/// Whether the medium ends with these bytes where so many are read, and holds so many in all.
+fn ends_with<M: Medium>(
+    alloc: Global,
+    medium: &mut M,
+    most: usize,
+    wanted: &str,
+    length: usize,
+) -> bool {
+    match medium.read_end(alloc, most) {
+        Ok(end) => end.bytes.as_slice() == wanted.as_bytes() && end.length == length,
+        Err(_) => false,
+    }
+}
+
+fn ends(rt: &impl Abort, alloc: Global, medium: &mut impl Medium) {
+    assert!(rt; ends_with(alloc, medium, 0, "", 9));
+    assert!(rt; ends_with(alloc, medium, 5, "G 1 0", 9));
+    assert!(rt; ends_with(alloc, medium, 9, "R 1\nG 1 0", 9));
+    assert!(rt; ends_with(alloc, medium, 10, "R 1\nG 1 0", 9));
+}
+
+#[test]
+fn the_end_of_each_medium(rt: HostRuntime) {
+    let alloc = rt.alloc();
+    let held = bytes_of(alloc, "R 1\nG 1 0").expect(&rt, "memory");
+    ends(&rt, alloc, &mut MemoryMedium::new(held));
+    let held = bytes_of(alloc, "R 1\nG 1 0").expect(&rt, "memory");
+    ends(&rt, alloc, &mut TornMedium::new(held));
+    let held = bytes_of(alloc, "R 1\nG 1 0").expect(&rt, "memory");
+    let mut plain = Plain {
+        under: TornMedium::new(held),
+    };
+    ends(&rt, alloc, &mut plain);
+}
+
+#[test]
+fn a_mishap_for_reads_strikes_the_end(rt: HostRuntime) {
+    let alloc = rt.alloc();
+    let held = bytes_of(alloc, "R 1\nG 1 0").expect(&rt, "memory");
+    let mut medium = TornMedium::new(held);
+    medium.arm(Mishap::Read);
+    assert!(rt; matches!(medium.read_end(alloc, 5), Err(MediumFault::Device)));
+    assert!(rt; ends_with(alloc, &mut medium, 5, "G 1 0", 9));
+    assert_eq!(rt; medium.failures(), 1);
+}
+
+/// The text's bytes, or None where they are no log.
+fn log_of(alloc: Global, text: &str) -> Option<Vec<u8>>
+    ensures { IfSome result (λ bytes. IsKept bytes.items) }
+{
+    let bytes = bytes_of(alloc, text)?;
+    match read_records(alloc, &bytes) {
+        Ok(_) => Some(bytes),
+        Err(_) => None,
+    }
+}
+
+/// How many records a cursor hands out.
+fn handed_out(alloc: Global, lines: &[u8]) -> Option<u64>
+    requires { IsKept lines.now }
+{
+    let mut count: u64 = 0;
+    let mut records = Cursor::new(alloc, lines);
+    while let Some(record) = records.next(alloc).ok()? {
+        count = count.saturating_add(1);
+        records.give_back(record);
+    }
+    Some(count)
+}
+
+/// What the end of a log is read as, with all records behind the place: the epoch of the last
+/// summary; how many records stand behind it, and in all; and the length of the records and of all
+/// bytes.
+fn told_back(alloc: Global, text: &str) -> Option<(Option<u32>, (u64, usize), (usize, usize))> {
+    let mut medium = MemoryMedium::new(log_of(alloc, text)?);
+    let read = read_back(alloc, &mut medium, 0).ok()?;
+    let behind = handed_out(alloc, read.lines.as_slice())?;
+    let epoch = match &read.summary {
+        Some(summary) => Some(summary.epoch()),
+        None => None,
+    };
+    Some((
+        epoch,
+        (behind, read.behind.len()),
+        (read.whole, read.present),
+    ))
+}
+
+#[test]
+fn the_last_summary_and_the_lines_behind_it(rt: HostRuntime) {
+    let alloc = rt.alloc();
+    assert_eq!(rt;
+        told_back(alloc, "R 1\nS 1 1 20 30\nR 2\nC 2 1 0 -5 0 3\nC 2 2 0 1\n"),
+        Some((Some(1), (3, 5), (45, 45)))
+    );
+    assert_eq!(rt;
+        told_back(alloc, "R 1\nS 1 1 20 30\nR 2\nS 2 1 20 30\nR 3\nG 1"),
+        Some((Some(2), (1, 5), (36, 39)))
+    );
+    assert_eq!(rt;
+        told_back(alloc, "R 1\nS 1 1 20 30\nR 2\nS 2 1 20 3"),
+        Some((Some(1), (1, 3), (20, 30)))
+    );
+    assert_eq!(rt;
+        told_back(alloc, "R 1\nG 1 0 l 5\nR"),
+        Some((None, (2, 2), (14, 15)))
+    );
+}
+
+#[test]
+fn a_summary_at_the_front_of_a_log(rt: HostRuntime) {
+    let alloc = rt.alloc();
+    assert_eq!(rt;
+        told_back(alloc, "S 0 1 20 30\nT 0 l 5\n"),
+        Some((Some(0), (1, 2), (20, 20)))
+    );
+    assert_eq!(rt;
+        told_back(alloc, "S 0 1 20 30"),
+        Some((None, (0, 0), (0, 11)))
+    );
+    assert_eq!(rt; told_back(alloc, ""), Some((None, (0, 0), (0, 0))));
+}

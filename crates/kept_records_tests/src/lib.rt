@@ -1,0 +1,7 @@
+//! What no clause says, tried over the public calls of `kept_records`.
+#![tactic(auto)]
+
+#[cfg(test)]
+mod end_tests;
+#[cfg(test)]
+mod tests;

@@ -1,0 +1,520 @@
+mod pieces;
+
+ghost use Rattle.std.specs.Prelude.{◌≡◌, ◌<◌, ◌≤◌, IfSome};
+ghost use Rattle.field_bounds.specs.Owed.{max_epoch};
+ghost use Rattle.kept_records.specs.Text.{IsRecord};
+ghost use Rattle.kept_records.specs.Keeping.{IsKept};
+
+use field_bounds::{Escrow, FieldNo, Kind, SiteNo, TxnId};
+use kept_records::*;
+use std::alloc::Global;
+use std::process::Abort;
+
+/// Lines that are no records, each for one reason.
+const NO_RECORDS: [&str; 78] = [
+    "\n",
+    " \n",
+    "r 1\n",
+    "X 1\n",
+    "S 1\n",
+    "T 1\n",
+    "RR 1\n",
+    "R\n",
+    "R \n",
+    "R 1 \n",
+    " R 1\n",
+    "R  1\n",
+    "R\t1\n",
+    "R 1\r\n",
+    "R 1 1\n",
+    "R 01\n",
+    "R +1\n",
+    "R 0\n",
+    "R 1000000001\n",
+    "R 18446744073709551617\n",
+    "C 0 1\n",
+    "C 0 1 0\n",
+    "C 0 1 0 1 0\n",
+    "C 0 0 0 1\n",
+    "C 1000000001 1 0 1\n",
+    "C 0 1000000001 0 1\n",
+    "C 0 1 65536 1\n",
+    "C 0 1 0 0\n",
+    "C 0 1 0 -0\n",
+    "C 0 1 0 -020\n",
+    "C 0 1 0 2000000000000001\n",
+    "C 0 1 0 -2000000000000001\n",
+    "C 0 1 0 1 0 1 0 1 0 1 0 1 0 1 0 1 0 1 0 1 0 1 0 1 0 1 0 1 0 1 0 1 0 1 0 1\n",
+    "G 1 0 l 0\n",
+    "G 1 0 l 1000000000000000001\n",
+    "G 65536 0 l 5\n",
+    "G 1 65536 l 5\n",
+    "G 1 0 x 5\n",
+    "A 1 0 l\n",
+    "A 1 0 l 5 6\n",
+    "T\n",
+    "T 0 l\n",
+    "T 0 l 0\n",
+    "T 0 l 05\n",
+    "T 0 l -5\n",
+    "T 0 l 2000000000000001\n",
+    "T 65536 l 5\n",
+    "T 0 x 5\n",
+    "T 0 l 5 6\n",
+    "T 1 0 l 5\n",
+    "S 0 0\n",
+    "S 0 1 20\n",
+    "S 1000000001 1 20 30\n",
+    "S 0 1 2000000000000000 1\n",
+    "S 0 2 20 30\n",
+    "S 0 257 20 30\n",
+    "S 0 1 20 30 \n",
+    "S 0 1 20 30 40\n",
+    "S 0 1 20 30 g 1 0 l 0\n",
+    "S 0 1 20 30 g 1 0 l 1000000000000000001\n",
+    "S 0 1 20 30 g 1 0 l\n",
+    "S 0 1 20 30 g 1 0 l 5 g 1 0 l 6\n",
+    "S 0 1 20 30 g 1 0 r 5 g 1 0 l 6\n",
+    "S 0 1 20 30 g 1 1 l 5 g 1 0 r 6\n",
+    "S 0 1 20 30 g 2 0 l 5 g 1 1 r 6\n",
+    "S 0 1 20 30 a 1 0 l 5 g 1 0 l 5\n",
+    "S 0 1 20 30 a 2 0 l 5 a 1 0 l 5\n",
+    "S 0 1 20 30 a 1 65536 l 5\n",
+    "S 0 1 20 30 a 65536 0 l 5\n",
+    "S 0 1 20 30 t 0 l 0\n",
+    "S 0 1 20 30 t 0 l 2000000000000001\n",
+    "S 0 1 20 30 t 0 l 5 g 1 0 l 5\n",
+    "S 0 1 20 30 t 0 l 5 a 1 0 l 5\n",
+    "S 0 1 20 30 t 0 l 5 t 0 l 6\n",
+    "S 0 1 20 30 t 0 r 5 t 0 l 6\n",
+    "S 0 1 20 30 t 1 0 l 5\n",
+    "S 0 1 20 30 t 0 l\n",
+    "S 0 1 20 30 u 0 l 5\n",
+];
+
+/// Lines at the ends of the ranges.
+const RECORDS: [&str; 13] = [
+    "C 1000000000 1000000000 65535 2000000000000000\n",
+    "C 0 1 0 1 0 1 0 1 0 1 0 1 0 1 0 1 0 1 0 1 0 1 0 1 0 1 0 1 0 1 0 1 0 1\n",
+    "G 0 0 l 1\n",
+    "A 65535 65535 r 1000000000000000000\n",
+    "T 0 l 1\n",
+    "T 65535 r 2000000000000000\n",
+    "R 1\n",
+    "R 1000000000\n",
+    "S 0 1 20 30\n",
+    "S 0 1 0 0\n",
+    "S 0 2 20 30 0 0 a 1 0 l 4 t 1 r 7\n",
+    "S 1000000000 1 0 2000000000000000 g 1 0 l 5 g 1 0 r 1 g 2 0 l 1 a 1 0 l 5 t 0 l 5 t 0 r 1 t 1 l 2000000000000000\n",
+    "S 0 1 20 30 g 65535 65535 r 1000000000000000000 a 65535 65535 r 1000000000000000000 t 65535 r 1\n",
+];
+
+fn is_text(text: Option<Vec<u8>>, wanted: &str) -> bool {
+    match text {
+        Some(bytes) => bytes.as_slice() == wanted.as_bytes(),
+        None => false,
+    }
+}
+
+fn commit_text(alloc: Global) -> Option<Vec<u8>> {
+    let lowered = Escrow {
+        field: FieldNo(0),
+        change: -20,
+    };
+    let txn = TxnId {
+        epoch: 0,
+        number: 1,
+    };
+    let escrows = Escrows::new(vec![in alloc; lowered].ok()?);
+    write_record(alloc, &Record::Commit { txn, escrows }).ok()
+}
+
+fn gift_text(alloc: Global) -> Option<Vec<u8>> {
+    let gift = Record::Gift {
+        to: SiteNo(1),
+        field: FieldNo(0),
+        kind: Kind::Lower,
+        total: 5,
+    };
+    write_record(alloc, &gift).ok()
+}
+
+fn accept_text(alloc: Global) -> Option<Vec<u8>> {
+    let accept = Record::Accept {
+        from: SiteNo(15),
+        field: FieldNo(63),
+        kind: Kind::Raise,
+        total: 1_000_000_000_000_000_000,
+    };
+    write_record(alloc, &accept).ok()
+}
+
+fn tighten_text(alloc: Global) -> Option<Vec<u8>> {
+    let tighten = Record::Tighten {
+        field: FieldNo(0),
+        kind: Kind::Lower,
+        total: 5,
+    };
+    write_record(alloc, &tighten).ok()
+}
+
+fn restart_text(alloc: Global) -> Option<Vec<u8>> {
+    write_record(alloc, &Record::Restart { epoch: 1 }).ok()
+}
+
+#[test]
+fn texts(rt: HostRuntime) {
+    let alloc = rt.alloc();
+    assert!(rt; is_text(commit_text(alloc), "C 0 1 0 -20\n"));
+    assert!(rt; is_text(gift_text(alloc), "G 1 0 l 5\n"));
+    assert!(rt; is_text(accept_text(alloc), "A 15 63 r 1000000000000000000\n"));
+    assert!(rt; is_text(tighten_text(alloc), "T 0 l 5\n"));
+    assert!(rt; is_text(restart_text(alloc), "R 1\n"));
+}
+
+/// How many records are read, and how many bytes they take up.
+fn read_lengths(alloc: Global, bytes: &[u8]) -> Option<(usize, usize)> {
+    let (records, length) = read_records(alloc, bytes).ok()?;
+    Some((records.len(), length))
+}
+
+/// The line that is no record, if one is named.
+fn bad_line(alloc: Global, text: &str) -> Option<u64> {
+    match read_records(alloc, text.as_bytes()) {
+        Err(RecordFault::Line(line)) => Some(line),
+        _ => None,
+    }
+}
+
+#[test]
+fn lines_that_are_no_records(rt: HostRuntime) {
+    for line in NO_RECORDS {
+        assert_eq!(rt; bad_line(rt.alloc(), line), Some(1));
+    }
+    assert_eq!(rt; bad_line(rt.alloc(), "R 1\nR 2\nR 03\nR 4"), Some(3));
+}
+
+#[test]
+fn lines_at_the_ends_of_the_ranges(rt: HostRuntime) {
+    for line in RECORDS {
+        assert_eq!(rt;
+            read_lengths(rt.alloc(), line.as_bytes()),
+            Some((1, line.len()))
+        );
+    }
+}
+
+/// Whether the records are the three that the test below writes.
+fn are_three(records: &[Record]) -> bool {
+    match records {
+        [
+            Record::Commit { txn, escrows },
+            Record::Gift {
+                to,
+                field,
+                kind,
+                total,
+            },
+            Record::Restart { epoch },
+        ] => {
+            *txn == TxnId {
+                epoch: 0,
+                number: 1,
+            } && escrows.as_slice().len() == 1
+                && *to == SiteNo(1)
+                && *field == FieldNo(0)
+                && *kind == Kind::Lower
+                && *total == 5
+                && *epoch == 1
+        }
+        _ => false,
+    }
+}
+
+/// Whether the bytes are read as those three records, of so many bytes.
+fn reads_three(alloc: Global, bytes: &[u8], wanted: usize) -> bool {
+    match read_records(alloc, bytes) {
+        Ok((records, length)) => are_three(&records) && length == wanted,
+        Err(_) => false,
+    }
+}
+
+#[test]
+fn records_and_a_torn_one(rt: HostRuntime) {
+    let bytes = b"C 0 1 0 -20\nG 1 0 l 5\nR 1\nG 1 0 l 5";
+    assert!(rt; reads_three(rt.alloc(), bytes, 26));
+    assert!(rt; reads_three(rt.alloc(), b"C 0 1 0 -20\nG 1 0 l 5\nR 1\n", 26));
+    assert_eq!(rt; read_lengths(rt.alloc(), b""), Some((0, 0)));
+    assert_eq!(rt; read_lengths(rt.alloc(), b"\x00\xff  R 01"), Some((0, 0)));
+}
+
+#[test]
+fn each_length_of_a_torn_record(rt: HostRuntime) {
+    let whole = b"C 0 1 0 -20\n";
+    for length in 0..12 {
+        assert_eq!(rt; read_lengths(rt.alloc(), &whole[..length]), Some((0, 0)));
+    }
+    assert_eq!(rt; read_lengths(rt.alloc(), whole), Some((1, 12)));
+    let cut = b"T 0 l 5\n";
+    for length in 0..8 {
+        assert_eq!(rt; read_lengths(rt.alloc(), &cut[..length]), Some((0, 0)));
+    }
+    assert_eq!(rt; read_lengths(rt.alloc(), cut), Some((1, 8)));
+}
+
+/// Whether the device took the piece, or None where memory was refused.
+fn added<M: Medium>(medium: &mut M, piece: &[u8]) -> Option<bool> {
+    medium.reserve(piece.len()).ok()?;
+    Some(medium.append(piece).is_ok())
+}
+
+/// Whether the device cut, or None where there are no more bytes than are to be kept.
+fn shortened<M: Medium>(alloc: Global, medium: &mut M, kept: usize) -> Option<bool> {
+    let bytes = medium.read_all(alloc).ok()?;
+    if bytes.len() <= kept {
+        return None;
+    }
+    Some(medium.cut(kept).is_ok())
+}
+
+fn holds<M: Medium>(alloc: Global, medium: &mut M, wanted: &str) -> bool {
+    is_text(medium.read_all(alloc).ok(), wanted)
+}
+
+fn memory_of(alloc: Global, text: &str) -> Option<MemoryMedium> {
+    Some(MemoryMedium::new(Vec::from_slice(alloc, text.as_bytes()).ok()?))
+}
+
+fn torn_of(alloc: Global, text: &str) -> Option<TornMedium> {
+    Some(TornMedium::new(Vec::from_slice(alloc, text.as_bytes()).ok()?))
+}
+
+#[test]
+fn memory_never_fails(rt: HostRuntime) {
+    let alloc = rt.alloc();
+    let mut medium = memory_of(alloc, "R 1\n").expect(&rt, "memory");
+    assert_eq!(rt; added(&mut medium, b"G 1 0"), Some(true));
+    assert!(rt; holds(alloc, &mut medium, "R 1\nG 1 0"));
+    assert_eq!(rt; shortened(alloc, &mut medium, 4), Some(true));
+    assert!(rt; holds(alloc, &mut medium, "R 1\n"));
+    assert_eq!(rt; medium.failures(), 0);
+}
+
+fn torn_appends(rt: &impl Abort, alloc: Global, medium: &mut TornMedium) {
+    medium.arm(Mishap::Append(11));
+    assert_eq!(rt; added(medium, b"C 0 1 0 -20\n"), Some(false));
+    assert!(rt; holds(alloc, medium, "R 1\nC 0 1 0 -20"));
+    assert_eq!(rt; added(medium, b"\n"), Some(true));
+    medium.arm(Mishap::Append(18_446_744_073_709_551_615));
+    assert_eq!(rt; added(medium, b"R 2\n"), Some(false));
+    assert!(rt; holds(alloc, medium, "R 1\nC 0 1 0 -20\nR 2\n"));
+    assert_eq!(rt; medium.failures(), 2);
+}
+
+fn failed_cut(rt: &impl Abort, alloc: Global, medium: &mut TornMedium) {
+    medium.arm(Mishap::Cut);
+    assert_eq!(rt; shortened(alloc, medium, 4), Some(false));
+    assert!(rt; holds(alloc, medium, "R 1\nC 0 1 0 -20\nR 2\n"));
+    assert_eq!(rt; shortened(alloc, medium, 4), Some(true));
+    assert!(rt; holds(alloc, medium, "R 1\n"));
+}
+
+fn failed_read(rt: &impl Abort, alloc: Global, medium: &mut TornMedium) {
+    medium.arm(Mishap::Read);
+    assert!(rt; matches!(medium.read_all(alloc), Err(MediumFault::Device)));
+    assert!(rt; holds(alloc, medium, "R 1\n"));
+    assert_eq!(rt; medium.failures(), 4);
+}
+
+#[test]
+fn mishaps_strike_once(rt: HostRuntime) {
+    let alloc = rt.alloc();
+    let mut medium = torn_of(alloc, "R 1\n").expect(&rt, "memory");
+    torn_appends(&rt, alloc, &mut medium);
+    failed_cut(&rt, alloc, &mut medium);
+    failed_read(&rt, alloc, &mut medium);
+}
+
+/// How many records stand in front of the first line that is none, how many bytes they take up, and
+/// that line.
+fn front_of(alloc: Global, text: &str) -> Option<(usize, usize, Option<u64>)> {
+    let front = read_front(alloc, text.as_bytes()).ok()?;
+    Some((front.records.len(), front.length, front.bad_line))
+}
+
+#[test]
+fn fronts(rt: HostRuntime) {
+    let alloc = rt.alloc();
+    assert_eq!(rt;
+        front_of(alloc, "R 1\nR 12\nR 03\nR 4\n"),
+        Some((2, 9, Some(3)))
+    );
+    assert_eq!(rt; front_of(alloc, "R 03\nR 4\n"), Some((0, 0, Some(1))));
+    assert_eq!(rt; front_of(alloc, "R 1\nR 12\nR 03"), Some((2, 9, None)));
+    assert_eq!(rt; front_of(alloc, ""), Some((0, 0, None)));
+}
+
+/// Whether a record that is no restart stands behind none, one, two and three records of a log.
+fn standing(alloc: Global, text: &str) -> Option<[bool; 4]> {
+    let (records, _) = read_records(alloc, text.as_bytes()).ok()?;
+    Some([
+        stands_behind(&records, 0),
+        stands_behind(&records, 1),
+        stands_behind(&records, 2),
+        stands_behind(&records, 3),
+    ])
+}
+
+#[test]
+fn records_behind_others(rt: HostRuntime) {
+    assert_eq!(rt;
+        standing(rt.alloc(), "C 0 1 0 -20\nR 1\nG 1 0 l 5\n"),
+        Some([true, false, true, false])
+    );
+    assert_eq!(rt;
+        standing(rt.alloc(), "T 0 l 5\nR 1\n"),
+        Some([true, false, false, false])
+    );
+}
+
+/// The text's bytes, or None where they are no log.
+fn log_of(alloc: Global, text: &str) -> Option<Vec<u8>>
+    ensures { IfSome result (λ bytes. IsKept bytes.items) }
+{
+    let bytes = Vec::from_slice(alloc, text.as_bytes()).ok()?;
+    match read_records(alloc, &bytes) {
+        Ok(_) => Some(bytes),
+        Err(_) => None,
+    }
+}
+
+/// How many records the medium holds, how many bytes they take up, and how many there are.
+fn log_lengths<M: Medium>(alloc: Global, medium: &mut M) -> Option<(usize, usize, usize)>
+    requires { IsKept (M.bytes medium.old) }
+{
+    let read = read_log(alloc, medium).ok()?;
+    Some((read.records.len(), read.whole, read.present))
+}
+
+#[test]
+fn a_log_is_read(rt: HostRuntime) {
+    let alloc = rt.alloc();
+    let bytes = log_of(alloc, "C 0 1 0 -20\nG 1 0").expect(&rt, "a log");
+    let mut medium = MemoryMedium::new(bytes);
+    assert_eq!(rt; log_lengths(alloc, &mut medium), Some((1, 12, 17)));
+    assert!(rt; holds(alloc, &mut medium, "C 0 1 0 -20\nG 1 0"));
+}
+
+#[test]
+fn a_log_whose_device_fails_is_not_read(rt: HostRuntime) {
+    let alloc = rt.alloc();
+    let bytes = log_of(alloc, "R 1\n").expect(&rt, "a log");
+    let mut medium = TornMedium::new(bytes);
+    medium.arm(Mishap::Read);
+    assert!(rt; matches!(read_log(alloc, &mut medium), Err(MediumFault::Device)));
+    assert_eq!(rt; log_lengths(alloc, &mut medium), Some((1, 4, 4)));
+    assert_eq!(rt; medium.failures(), 1);
+}
+
+/// Whether the record stands whole, or None where memory was refused.
+fn appended<M: Medium>(alloc: Global, medium: &mut M, kept: &Record) -> Option<bool>
+    requires { IsRecord kept.now }
+{
+    Some(
+        append_record(&mut Vec::new(alloc), medium, kept)
+            .ok()?
+            .is_ok(),
+    )
+}
+
+#[test]
+fn records_are_appended(rt: HostRuntime) {
+    let alloc = rt.alloc();
+    let mut medium = memory_of(alloc, "").expect(&rt, "memory");
+    let gift = Record::Gift {
+        to: SiteNo(1),
+        field: FieldNo(0),
+        kind: Kind::Lower,
+        total: 5,
+    };
+    assert_eq!(rt;
+        appended(alloc, &mut medium, &Record::Restart { epoch: 1 }),
+        Some(true)
+    );
+    assert_eq!(rt; appended(alloc, &mut medium, &gift), Some(true));
+    assert!(rt; holds(alloc, &mut medium, "R 1\nG 1 0 l 5\n"));
+}
+
+fn torn_restart(rt: &impl Abort, alloc: Global, kept: u64, wanted: &str) {
+    let mut medium = torn_of(alloc, "").expect(rt, "memory");
+    medium.arm(Mishap::Append(kept));
+    assert_eq!(rt;
+        appended(alloc, &mut medium, &Record::Restart { epoch: 1 }),
+        Some(false)
+    );
+    assert!(rt; holds(alloc, &mut medium, wanted));
+    assert_eq!(rt; medium.failures(), 1);
+}
+
+#[test]
+fn a_torn_append_leaves_a_front(rt: HostRuntime) {
+    torn_restart(&rt, rt.alloc(), 2, "R ");
+    torn_restart(&rt, rt.alloc(), 4, "R 1\n");
+}
+
+/// Whether the restart stands behind so many bytes of the medium, or None where there are fewer or
+/// memory was refused.
+fn restarted<M: Medium>(alloc: Global, medium: &mut M, whole: usize, epoch: u32) -> Option<bool>
+    requires some { 0 < epoch }
+    requires most { epoch ≤ max_epoch }
+{
+    let present = medium.read_all(alloc).ok()?.len();
+    if present < whole {
+        return None;
+    }
+    Some(
+        append_restart(&mut Vec::new(alloc), medium, whole, present, epoch)
+            .ok()?
+            .is_ok(),
+    )
+}
+
+#[test]
+fn a_restart_is_appended(rt: HostRuntime) {
+    let alloc = rt.alloc();
+    let mut medium = memory_of(alloc, "C 0 1 0 -20\nR 1").expect(&rt, "memory");
+    assert_eq!(rt; restarted(alloc, &mut medium, 12, 1), Some(true));
+    assert!(rt; holds(alloc, &mut medium, "C 0 1 0 -20\nR 1\n"));
+    assert_eq!(rt;
+        restarted(alloc, &mut medium, 16, 1_000_000_000),
+        Some(true)
+    );
+    assert!(rt; holds(alloc, &mut medium, "C 0 1 0 -20\nR 1\nR 1000000000\n"));
+}
+
+fn restart_under(rt: &impl Abort, alloc: Global, mishap: Mishap, stands: bool, wanted: &str) {
+    let mut medium = torn_of(alloc, "C 0 1 0 -20\nG 1 0").expect(rt, "memory");
+    medium.arm(mishap);
+    assert_eq!(rt; restarted(alloc, &mut medium, 12, 1), Some(stands));
+    assert!(rt; holds(alloc, &mut medium, wanted));
+}
+
+#[test]
+fn a_restart_under_a_mishap(rt: HostRuntime) {
+    let alloc = rt.alloc();
+    restart_under(&rt, alloc, Mishap::Never, true, "C 0 1 0 -20\nR 1\n");
+    restart_under(&rt, alloc, Mishap::Append(0), false, "C 0 1 0 -20\n");
+    restart_under(&rt, alloc, Mishap::Append(3), false, "C 0 1 0 -20\nR 1");
+    restart_under(&rt, alloc, Mishap::Append(4), false, "C 0 1 0 -20\nR 1\n");
+    restart_under(&rt, alloc, Mishap::Cut, false, "C 0 1 0 -20\nG 1 0");
+}
+
+#[test]
+fn nothing_is_cut_of_whole_records(rt: HostRuntime) {
+    let alloc = rt.alloc();
+    let mut medium = torn_of(alloc, "R 1\n").expect(&rt, "memory");
+    medium.arm(Mishap::Cut);
+    assert_eq!(rt; restarted(alloc, &mut medium, 4, 2), Some(true));
+    assert!(rt; holds(alloc, &mut medium, "R 1\nR 2\n"));
+    assert_eq!(rt; medium.failures(), 0);
+}

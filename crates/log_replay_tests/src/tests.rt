@@ -1,0 +1,406 @@
+//! Worked logs of site 0 of two, on one field from 0 to 100 at 40: each site begins with 20 rights
+//! to lower it and 30 to raise it. Every expected value is worked out by hand.
+
+ghost use Rattle.std.specs.Prelude.{◌<◌, ◌≤◌, length};
+ghost use Rattle.field_bounds.specs.Owed.{max_total};
+ghost use Rattle.gift_ledger.specs.Ledger.{IsSlot};
+
+use field_bounds::{FieldNo, FieldSpec, Kind, Schema, SiteNo};
+use kept_records::{MemoryMedium, Record, read_back, read_records};
+use log_replay::*;
+use std::alloc::Global;
+
+const STOCK: FieldNo = FieldNo(0);
+
+const HERE: SiteNo = SiteNo(0);
+
+const OTHER: SiteNo = SiteNo(1);
+
+/// What is read off a standing: the rights of both kinds, what was given up of each, the totals of
+/// lowering rights with the other site, and the epoch.
+#[derive(Clone, Copy, Debug, PartialEq, Eq)]
+struct Stands {
+    lower: u64,
+    raise: u64,
+    cut_lower: u64,
+    cut_raise: u64,
+    given: u64,
+    accepted: u64,
+    epoch: u32,
+}
+
+const PARTS: Stands = Stands {
+    lower: 20,
+    raise: 30,
+    cut_lower: 0,
+    cut_raise: 0,
+    given: 0,
+    accepted: 0,
+    epoch: 0,
+};
+
+/// Logs that break no rule, and what they stand for.
+const LAWFUL: [(&str, Stands); 21] = [
+    ("", PARTS),
+    (
+        "C 0 1 0 -20\n",
+        Stands {
+            lower: 0,
+            raise: 50,
+            ..PARTS
+        },
+    ),
+    (
+        "C 0 1 0 -5 0 3 0 -1\n",
+        Stands {
+            lower: 17,
+            raise: 33,
+            ..PARTS
+        },
+    ),
+    (
+        "G 1 0 l 5\n",
+        Stands {
+            lower: 15,
+            given: 5,
+            ..PARTS
+        },
+    ),
+    (
+        "G 1 0 l 5\nG 1 0 l 20\n",
+        Stands {
+            lower: 0,
+            given: 20,
+            ..PARTS
+        },
+    ),
+    (
+        "A 1 0 l 5\n",
+        Stands {
+            lower: 25,
+            accepted: 5,
+            ..PARTS
+        },
+    ),
+    (
+        "A 1 0 l 5\nA 1 0 l 50\n",
+        Stands {
+            lower: 70,
+            accepted: 50,
+            ..PARTS
+        },
+    ),
+    ("R 1\n", Stands { epoch: 1, ..PARTS }),
+    (
+        "R 1\nC 1 1 0 -1\n",
+        Stands {
+            lower: 19,
+            raise: 31,
+            epoch: 1,
+            ..PARTS
+        },
+    ),
+    (
+        "C 0 1 0 -20\nR 3\nA 1 0 l 4\nG 1 0 l 4\n",
+        Stands {
+            lower: 0,
+            raise: 50,
+            given: 4,
+            accepted: 4,
+            epoch: 3,
+            ..PARTS
+        },
+    ),
+    (
+        "T 0 l 5\n",
+        Stands {
+            lower: 15,
+            cut_lower: 5,
+            ..PARTS
+        },
+    ),
+    (
+        "T 0 l 5\nT 0 r 30\nT 0 l 20\n",
+        Stands {
+            lower: 0,
+            raise: 0,
+            cut_lower: 20,
+            cut_raise: 30,
+            ..PARTS
+        },
+    ),
+    (
+        "T 0 l 5\nR 1\nC 1 1 0 -15\nT 0 r 45\n",
+        Stands {
+            lower: 0,
+            raise: 0,
+            cut_lower: 5,
+            cut_raise: 45,
+            epoch: 1,
+            ..PARTS
+        },
+    ),
+    (
+        "T 0 l 20\nA 1 0 l 50\n",
+        Stands {
+            lower: 50,
+            cut_lower: 20,
+            accepted: 50,
+            ..PARTS
+        },
+    ),
+    ("S 0 1 20 30\n", PARTS),
+    (
+        "G 1 0 l 5\nS 0 1 15 30 g 1 0 l 5\n",
+        Stands {
+            lower: 15,
+            given: 5,
+            ..PARTS
+        },
+    ),
+    (
+        "T 0 l 5\nS 0 1 15 30 t 0 l 5\n",
+        Stands {
+            lower: 15,
+            cut_lower: 5,
+            ..PARTS
+        },
+    ),
+    (
+        "C 0 1 0 -20\nR 3\nS 3 1 0 50\nA 1 0 l 4\nG 1 0 l 4\n",
+        Stands {
+            lower: 0,
+            raise: 50,
+            given: 4,
+            accepted: 4,
+            epoch: 3,
+            ..PARTS
+        },
+    ),
+    (
+        "G 1 0 l 5\nA 1 0 l 4\nS 0 1 19 30 g 1 0 l 5 a 1 0 l 4\nG 1 0 l 6\n",
+        Stands {
+            lower: 18,
+            given: 6,
+            accepted: 4,
+            ..PARTS
+        },
+    ),
+    (
+        "T 0 l 5\nS 0 1 15 30 t 0 l 5\nA 1 0 l 50\n",
+        Stands {
+            lower: 65,
+            cut_lower: 5,
+            accepted: 50,
+            ..PARTS
+        },
+    ),
+    (
+        "G 1 0 l 5\nT 0 r 30\nT 0 l 15\nS 0 1 0 0 g 1 0 l 5 t 0 l 15 t 0 r 30\n",
+        Stands {
+            lower: 0,
+            raise: 0,
+            cut_lower: 15,
+            cut_raise: 30,
+            given: 5,
+            ..PARTS
+        },
+    ),
+];
+
+/// Logs that break a rule, and the first record that does.
+const BROKEN: [(&str, u64); 33] = [
+    ("C 0 1 0 -20\nC 0 2 0 -20\n", 2),
+    ("C 0 1 0 -20 0 -1\n", 1),
+    ("C 0 1 0 31\n", 1),
+    ("C 1 1 0 -1\n", 1),
+    ("R 1\nC 0 1 0 -1\n", 2),
+    ("R 1\nR 1\n", 2),
+    ("R 2\nR 1\nG 0 0 l 5\n", 2),
+    ("G 0 0 l 5\n", 1),
+    ("G 2 0 l 5\n", 1),
+    ("G 1 0 l 21\n", 1),
+    ("G 1 0 l 5\nG 1 0 l 5\n", 2),
+    ("A 0 0 l 5\n", 1),
+    ("A 2 0 l 5\n", 1),
+    ("A 1 0 l 51\n", 1),
+    ("A 1 0 l 5\nA 1 0 l 5\n", 2),
+    ("C 0 1 1 -1\n", 1),
+    ("G 1 1 l 5\n", 1),
+    ("A 1 1 l 5\n", 1),
+    ("T 0 l 5\nT 0 l 5\n", 2),
+    ("T 0 l 5\nT 0 l 4\n", 2),
+    ("T 0 l 21\n", 1),
+    ("T 1 l 5\n", 1),
+    ("T 0 l 20\nA 1 0 l 51\n", 2),
+    ("T 0 l 5\nC 0 1 0 -16\n", 2),
+    ("S 0 1 20 31\n", 1),
+    ("S 1 1 20 30\n", 1),
+    ("S 0 2 20 30 0 0\n", 1),
+    ("G 1 0 l 5\nS 0 1 15 30\n", 2),
+    ("G 1 0 l 5\nS 0 1 15 30 g 1 0 l 5 a 1 0 l 5\n", 2),
+    ("T 0 l 5\nS 0 1 15 30\n", 2),
+    ("T 0 l 5\nS 0 1 20 30 t 0 l 5\n", 2),
+    ("S 0 1 20 30 t 0 l 5\n", 1),
+    ("S 0 1 20 30\nT 0 l 5\nS 0 1 20 30\n", 3),
+];
+
+fn stock_of_two(alloc: Global) -> Option<Schema> {
+    let field = FieldSpec {
+        name: String::from_str(alloc, "stock").ok()?,
+        floor: 0,
+        ceiling: 100,
+        value: 40,
+    };
+    Schema::new(alloc, 2, vec![in alloc; field].ok()?).ok()
+}
+
+fn read_off(standing: &Standing) -> Stands
+    requires rights { 0 < length standing.now.rights }
+    requires place { IsSlot standing.now.ledger 1 0 }
+{
+    Stands {
+        lower: standing.rights.free(STOCK, Kind::Lower),
+        raise: standing.rights.free(STOCK, Kind::Raise),
+        cut_lower: standing.rights.tightened(STOCK, Kind::Lower),
+        cut_raise: standing.rights.tightened(STOCK, Kind::Raise),
+        given: standing.ledger.total(OTHER, STOCK, Kind::Lower),
+        accepted: standing.ledger.accepted(OTHER, STOCK, Kind::Lower),
+        epoch: standing.epoch,
+    }
+}
+
+/// What the log comes to, or None where memory was refused.
+fn replayed(alloc: Global, log: &str) -> Option<Result<Stands, u64>> {
+    let schema = stock_of_two(alloc)?;
+    if schema.sites() != 2 || schema.fields() != 1 {
+        return None;
+    }
+    let (records, _) = read_records(alloc, log.as_bytes()).ok()?;
+    match replay(alloc, &schema, HERE, &records) {
+        Ok(Replayed::Standing(standing)) => Some(Ok(read_off(&standing))),
+        Ok(Replayed::BreaksRule { number }) => Some(Err(number)),
+        Err(_) => None,
+    }
+}
+
+#[test]
+fn lawful_logs(rt: HostRuntime) {
+    for (log, stands) in LAWFUL {
+        assert_eq!(rt; replayed(rt.alloc(), log), Some(Ok(stands)));
+    }
+}
+
+#[test]
+fn broken_logs(rt: HostRuntime) {
+    for (log, number) in BROKEN {
+        assert_eq!(rt; replayed(rt.alloc(), log), Some(Err(number)));
+    }
+}
+
+/// What a lawful log comes to from its last summary on, and how many records were taken in for
+/// that.
+fn resumed(alloc: Global, log: &str) -> Option<(Stands, u64)> {
+    let schema = stock_of_two(alloc)?;
+    if schema.sites() != 2 || schema.fields() != 1 {
+        return None;
+    }
+    let bytes = log.as_bytes();
+    let (records, _) = read_records(alloc, bytes).ok()?;
+    let Ok(Replayed::Standing(_)) = replay(alloc, &schema, HERE, &records) else {
+        return None;
+    };
+    let mut medium = MemoryMedium::new(Vec::from_slice(alloc, bytes).ok()?);
+    let end = read_back(alloc, &mut medium, 0).ok()?;
+    match resume(alloc, &schema, HERE, &end) {
+        Ok(resumed) => Some((read_off(&resumed.standing), resumed.turns)),
+        Err(_) => None,
+    }
+}
+
+fn resumed_stands(alloc: Global, log: &str) -> Option<Stands> {
+    let (stands, _) = resumed(alloc, log)?;
+    Some(stands)
+}
+
+#[test]
+fn every_lawful_log_resumes(rt: HostRuntime) {
+    for (log, stands) in LAWFUL {
+        assert_eq!(rt; resumed_stands(rt.alloc(), log), Some(stands));
+    }
+}
+
+#[test]
+fn a_log_resumes_at_its_last_summary(rt: HostRuntime) {
+    let alloc = rt.alloc();
+    let given = Stands {
+        lower: 15,
+        given: 5,
+        ..PARTS
+    };
+    assert_eq!(rt; resumed(alloc, "G 1 0 l 5\n"), Some((given, 1)));
+    assert_eq!(rt;
+        resumed(alloc, "S 0 1 20 30\nG 1 0 l 5\nS 0 1 15 30 g 1 0 l 5\n"),
+        Some((given, 0))
+    );
+    assert_eq!(rt; resumed(alloc, "G 1 0 l 5\nS 0 1 15 3"), Some((given, 1)));
+    let restarted = Stands { epoch: 2, ..given };
+    assert_eq!(rt;
+        resumed(alloc, "G 1 0 l 5\nS 0 1 15 30 g 1 0 l 5\nR 1\nR 2\n"),
+        Some((restarted, 2))
+    );
+    assert_eq!(rt;
+        resumed(
+            alloc,
+            "G 1 0 l 5\nS 0 1 15 30 g 1 0 l 5\nR 1\nR 2\nS 2 1 15 30 g 1 0 l"
+        ),
+        Some((restarted, 2))
+    );
+}
+
+/// What the summary tells that follows a first gift of so many rights to lower: the epoch, the
+/// rights, and how many totals each group has. None where the gift breaks a rule.
+fn told_after_gift(
+    alloc: Global,
+    total: u64,
+) -> Option<(u32, Option<(u64, u64)>, (usize, usize, usize))>
+    requires some { 0 < total }
+    requires few { total ≤ max_total }
+{
+    let schema = stock_of_two(alloc)?;
+    if schema.sites() != 2 {
+        return None;
+    }
+    let records = [Record::Gift {
+        to: OTHER,
+        field: STOCK,
+        kind: Kind::Lower,
+        total,
+    }];
+    let Ok(Replayed::Standing(_)) = replay(alloc, &schema, HERE, &records) else {
+        return None;
+    };
+    let Ok(standing) = Standing::new(alloc, &schema, HERE) else {
+        return None;
+    };
+    let told = summary_after(alloc, &schema, &standing, &records[0]).ok()?;
+    Some((
+        told.epoch(),
+        told.rights().get(0).copied(),
+        (
+            told.gifts().len(),
+            told.accepts().len(),
+            told.tightenings().len(),
+        ),
+    ))
+}
+
+#[test]
+fn a_summary_after_one_more_record(rt: HostRuntime) {
+    let alloc = rt.alloc();
+    assert_eq!(rt;
+        told_after_gift(alloc, 5),
+        Some((0, Some((15, 30)), (1, 0, 0)))
+    );
+    assert_eq!(rt; told_after_gift(alloc, 21), None);
+}

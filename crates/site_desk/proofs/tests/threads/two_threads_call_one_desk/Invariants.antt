@@ -1,4 +1,0 @@
-use Rattle.site_desk.proofs.tests.threads.two_threads_call_one_desk.Given as goal
-
-abbrev pub ghosts-two_threads : goal.ghosts-two_threads
-ghosts-two_threads g a = record { name = a.blank.name; parts = a.blank.parts }

@@ -1,4 +1,0 @@
-use Rattle.site_workers.proofs.tests.a_courier_accepts_what_is_stated.Given as goal
-
-abbrev pub ghosts-carried : goal.ghosts-carried
-ghosts-carried g a = record { name = a.blank.name; parts = a.blank.parts }

@@ -1,4 +1,0 @@
-use Rattle.site_workers.proofs.tests.a_courier_whose_inbox_is_closed_early_tells_it.Given as goal
-
-abbrev pub ghosts-carried : goal.ghosts-carried
-ghosts-carried g a = record { name = a.blank.name; parts = a.blank.parts }
