@@ -53,8 +53,30 @@ fn made(
     Schema::new(alloc, sites, fields)
 }
 
+/// The same of the header's schema, and of a copy of it.
+fn parts_of(alloc: Global, header: &str, site: u16) -> Option<(u64, u64)> {
+    match Schema::from_header(alloc, header.as_bytes()) {
+        Ok(schema) => parts_at(&schema, site),
+        Err(_) => None,
+    }
+}
+
+fn parts_of_copy(alloc: Global, header: &str, site: u16) -> Option<(u64, u64)> {
+    match Schema::from_header(alloc, header.as_bytes()) {
+        Ok(schema) => parts_at_copy(&schema, site),
+        Err(_) => None,
+    }
+}
+
+fn parts_at_copy(schema: &Schema, site: u16) -> Option<(u64, u64)> {
+    match schema.copy() {
+        Ok(copy) => parts_at(&copy, site),
+        Err(_) => None,
+    }
+}
+
 #[test]
-fn parts(rt: HostRuntime) -> Result<(), Fail> {
+fn parts(rt: HostRuntime) {
     for (header, site, parts) in [
         (ODD, 0, Some((21, 30))),
         (ODD, 1, Some((20, 29))),
@@ -65,15 +87,11 @@ fn parts(rt: HostRuntime) -> Result<(), Fail> {
         (THREE, 1, Some((13, 20))),
         (THREE, 2, Some((13, 20))),
     ] {
-        let schema = Schema::from_header(rt.alloc(), header.as_bytes())?;
-        assert_eq!(rt; parts_at(&schema, site), parts, "{header} {site}");
-        assert_eq!(rt;
-            parts_at(&schema.copy()?, site),
-            parts,
-            "copy of {header} {site}"
-        );
+        let found = parts_of(rt.alloc(), header, site);
+        assert_eq!(rt; found, parts, "{header} {site}");
+        let copied = parts_of_copy(rt.alloc(), header, site);
+        assert_eq!(rt; copied, parts, "copy of {header} {site}");
     }
-    Ok(())
 }
 
 #[test]

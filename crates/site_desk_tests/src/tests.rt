@@ -7,6 +7,7 @@ use kept_records::MemoryMedium;
 use site_desk::*;
 use std::alloc::Global;
 use std::marker::Brand;
+use std::process::Abort;
 use std::sync::Wait;
 use std::sync::atomic::{AtomicU64, Ordering};
 use std::sync::ledger::Ledger;
@@ -59,8 +60,39 @@ fn desk_over<L: Ledger>(
     .ok()
 }
 
-/// The closed site of a desk with one pass, and the receipts of a begin, an escrow, a commit and a
-/// share.
+/// What the pass's desk answers to a begin, an escrow, a commit and a share.
+fn four_receipts<L: Ledger, R: Wait>(
+    rt: &R,
+    alloc: Global,
+    desk: &Desk<L, MemoryMedium>,
+    pass: &mut Pass<L>,
+) -> Option<Vec<Receipt>> {
+    let mut receipts = Vec::new(alloc);
+    let escrow = Command::Escrow {
+        txn: FIRST,
+        field: STOCK,
+        change: -20,
+    };
+    let commit = Command::Commit { txn: FIRST };
+    let share = Command::Share { field: STOCK };
+    for command in &[Command::Begin, escrow, commit, share] {
+        let receipt = desk.call(rt, alloc, pass, *command).ok()?;
+        receipts.push(receipt).ok()?;
+    }
+    Some(receipts)
+}
+
+/// The desk closed with this pass.
+fn closed_with<L: Ledger>(
+    alloc: Global,
+    desk: Desk<L, MemoryMedium>,
+    pass: Pass<L>,
+) -> Option<Closed<MemoryMedium>> {
+    let passes = vec![in alloc; pass].ok()?;
+    desk.close(passes).ok()
+}
+
+/// The closed site of a desk with one pass, and the receipts of the four calls.
 fn four_calls<L: Ledger, R: Wait>(
     rt: &R,
     alloc: Global,
@@ -72,41 +104,37 @@ fn four_calls<L: Ledger, R: Wait>(
 {
     let (desk, mut passes) = desk_over::<L>(alloc, blank, 0, &[])?;
     let mut pass = passes.pop()?;
-    let mut receipts = Vec::new(alloc);
-    let escrow = Command::Escrow {
-        txn: FIRST,
-        field: STOCK,
-        change: -20,
-    };
-    let commit = Command::Commit { txn: FIRST };
-    let share = Command::Share { field: STOCK };
-    for command in [Command::Begin, escrow, commit, share] {
-        receipts
-            .push(desk.call(rt, alloc, &mut pass, command).ok()?)
-            .ok()?;
-    }
-    passes.push(pass).ok()?;
-    Some((desk.close(passes).ok()?, receipts))
+    let receipts = four_receipts(rt, alloc, &desk, &mut pass)?;
+    Some((closed_with(alloc, desk, pass)?, receipts))
 }
 
-#[test]
-fn four_receipts_of_one_pass(rt: HostRuntime) {
-    let alloc = rt.alloc();
-    let done = four_calls::<Brand, _>(&rt, alloc, Blank::new(1));
-    assert!(&rt; done.is_some());
-    let (closed, receipts) = done.unwrap();
-    assert_eq!(&rt; closed.history().len(), 4);
-    assert!(&rt; closed.on_fresh_base());
+fn assert_four(
+    rt: &impl Abort,
+    alloc: Global,
+    closed: &Closed<MemoryMedium>,
+    receipts: &[Receipt],
+) {
+    assert_eq!(rt; closed.history().len(), 4);
+    assert!(rt; closed.on_fresh_base());
     for (number, receipt) in (1..5u64).zip(receipts.iter()) {
-        assert_eq!(&rt; receipt.site(), SiteNo(0));
-        assert_eq!(&rt; receipt.number(), number);
+        assert_eq!(rt; receipt.site(), SiteNo(0));
+        assert_eq!(rt; receipt.number(), number);
     }
     let shares = Reply::Shares {
         lower: 0,
         raise: 50,
     };
-    assert!(&rt; receipts.last().map(|receipt| receipt.entry().reply) == Some(shares));
-    assert_eq!(&rt; check_receipts(alloc, &closed, &receipts), Ok(()));
+    assert!(rt; receipts.last().map(|receipt| receipt.entry().reply) == Some(shares));
+    assert_eq!(rt; check_receipts(alloc, closed, receipts), Ok(()));
+}
+
+#[test]
+fn four_receipts_of_one_pass(rt: HostRuntime) {
+    let alloc = rt.alloc();
+    match four_calls::<Brand, _>(&rt, alloc, Blank::new(1)) {
+        Some((closed, receipts)) => assert_four(&rt, alloc, &closed, &receipts),
+        None => panic!(&rt; "a call failed"),
+    }
 }
 
 /// The receipts at these places, in this order.

@@ -26,11 +26,23 @@ const OTHER_ORDER: &str =
 
 const FEWER_FIELDS: &str = r#"{"sites":2,"fields":[{"name":"a","floor":0,"ceiling":9,"value":4}]}"#;
 
+/// Whether this header is read as a schema that is equal to the first.
+fn is_read_as(alloc: Global, first: &Schema, header: &str) -> Option<bool> {
+    match Schema::from_header(alloc, header.as_bytes()) {
+        Ok(other) => Some(*first == other),
+        Err(_) => None,
+    }
+}
+
+fn are_equal(alloc: Global, first: &str, second: &str) -> Option<bool> {
+    match Schema::from_header(alloc, first.as_bytes()) {
+        Ok(schema) => is_read_as(alloc, &schema, second),
+        Err(_) => None,
+    }
+}
+
 #[test]
-fn equal_schemas(rt: HostRuntime) -> Result<(), Fail> {
-    let schema = Schema::from_header(rt.alloc(), PAIR.as_bytes())?;
-    let copy = schema.copy()?;
-    assert_eq!(rt; schema == copy, true);
+fn equal_schemas(rt: HostRuntime) {
     for (header, equal) in [
         (PAIR, true),
         (MORE_SITES, false),
@@ -41,8 +53,7 @@ fn equal_schemas(rt: HostRuntime) -> Result<(), Fail> {
         (OTHER_ORDER, false),
         (FEWER_FIELDS, false),
     ] {
-        let other = Schema::from_header(rt.alloc(), header.as_bytes())?;
-        assert_eq!(rt; schema == other, equal, "{header}");
+        let found = are_equal(rt.alloc(), PAIR, header);
+        assert_eq!(rt; found, Some(equal), "{header}");
     }
-    Ok(())
 }

@@ -34,6 +34,45 @@ struct Left {
     receipts: Vec<Receipt>,
 }
 
+/// The receipts of two threads with a pass each, those of the first in front.
+fn both_begin_and_abort<L: Ledger + Send + Sync, R: Threads + Wait + Sync>(
+    rt: &R,
+    alloc: Global,
+    desk: &Desk<L, MemoryMedium>,
+    first: &mut Pass<L>,
+    second: &mut Pass<L>,
+) -> Option<Vec<Receipt>> {
+    let (of_first, of_second) = thread::join(
+        rt,
+        move || begin_and_abort(rt, alloc, desk, first),
+        move || begin_and_abort(rt, alloc, desk, second),
+    );
+    let mut receipts = of_first?;
+    receipts.extend_from_slice(&of_second?).ok()?;
+    Some(receipts)
+}
+
+/// The desk closed with the second pass too, after a close with the first alone was refused.
+fn closed_at_last<L: Ledger>(
+    refused: CloseError<L, MemoryMedium>,
+    second: Pass<L>,
+    receipts: Vec<Receipt>,
+) -> Option<Left> {
+    let CloseError {
+        desk,
+        mut passes,
+        length,
+    } = refused;
+    let handed_back = passes.len();
+    passes.push(second).ok()?;
+    Some(Left {
+        refused_at: length,
+        handed_back,
+        closed: desk.close(passes).ok()?,
+        receipts,
+    })
+}
+
 fn two_threads<L: Ledger + Send + Sync, R: Threads + Wait + Sync>(
     rt: &R,
     alloc: Global,
@@ -46,44 +85,26 @@ fn two_threads<L: Ledger + Send + Sync, R: Threads + Wait + Sync>(
     let (desk, mut passes) = desk_over::<L>(alloc, blank, 0, &[])?;
     let mut second = passes.pop()?;
     let mut first = passes.pop()?;
-    let shared = &desk;
-    let one = &mut first;
-    let other = &mut second;
-    let (of_one, of_other) = thread::join(
-        rt,
-        move || begin_and_abort(rt, alloc, shared, one),
-        move || begin_and_abort(rt, alloc, shared, other),
-    );
-    let mut receipts = of_one?;
-    let others = of_other?;
-    receipts.extend_from_slice(&others).ok()?;
+    let receipts = both_begin_and_abort(rt, alloc, &desk, &mut first, &mut second)?;
     passes.push(first).ok()?;
-    let CloseError {
-        desk,
-        mut passes,
-        length,
-    } = desk.close(passes).err()?;
-    let handed_back = passes.len();
-    passes.push(second).ok()?;
-    Some(Left {
-        refused_at: length,
-        handed_back,
-        closed: desk.close(passes).ok()?,
-        receipts,
-    })
+    closed_at_last(desk.close(passes).err()?, second, receipts)
+}
+
+fn assert_left(rt: &impl Abort, alloc: Global, left: &Left) {
+    assert_eq!(rt; left.refused_at, 200);
+    assert_eq!(rt; left.handed_back, 1);
+    assert_eq!(rt; left.receipts.len(), 200);
+    assert_eq!(rt; left.closed.history().len(), 200);
+    assert_eq!(rt; check_receipts(alloc, &left.closed, &left.receipts), Ok(()));
 }
 
 #[test]
 fn two_threads_call_one_desk(rt: HostRuntime) {
     let alloc = rt.alloc();
-    let left = two_threads::<Brand, _>(&rt, alloc, Blank::new(2));
-    assert!(&rt; left.is_some());
-    let left = left.unwrap();
-    assert_eq!(&rt; left.refused_at, 200);
-    assert_eq!(&rt; left.handed_back, 1);
-    assert_eq!(&rt; left.receipts.len(), 200);
-    assert_eq!(&rt; left.closed.history().len(), 200);
-    assert_eq!(&rt; check_receipts(alloc, &left.closed, &left.receipts), Ok(()));
+    match two_threads::<Brand, _>(&rt, alloc, Blank::new(2)) {
+        Some(left) => assert_left(&rt, alloc, &left),
+        None => panic!(&rt; "a call failed"),
+    }
 }
 
 /// A gate whose first call at each of two sites waits, as long as it takes to turn so many times,
@@ -145,6 +166,33 @@ fn one_read_of(
     one_read::<Brand, _>(rt, alloc, Blank::new(1), site, gate)
 }
 
+/// The same, without the closed site.
+fn receipt_of(rt: &(impl Wait + Sync), alloc: Global, site: u16, gate: &Both) -> Option<Receipt> {
+    match one_read_of(rt, alloc, site, gate) {
+        Some((_closed, receipt)) => Some(receipt),
+        None => None,
+    }
+}
+
+/// The first receipt is of this closed site's only entry, and the other site's isn't.
+fn assert_own(
+    rt: &impl Abort,
+    alloc: Global,
+    closed: &Closed<MemoryMedium>,
+    own: Receipt,
+    foreign: Option<Receipt>,
+) {
+    assert_eq!(rt; check_receipts(alloc, closed, &[own]), Ok(()));
+    let Some(foreign) = foreign else {
+        panic!(rt; "a read failed");
+    };
+    let differs = ReceiptFault::Differs {
+        site: SiteNo(1),
+        number: 1,
+    };
+    assert_eq!(rt; check_receipts(alloc, closed, &[foreign]), Err(differs));
+}
+
 #[test]
 fn two_desks_are_called_at_the_same_time(rt: HostRuntime) {
     let alloc = rt.alloc();
@@ -154,19 +202,13 @@ fn two_desks_are_called_at_the_same_time(rt: HostRuntime) {
     };
     let shared = &gate;
     let handle = &rt;
-    let (zero, one) = thread::join(
+    let (zero, foreign) = thread::join(
         &rt,
         move || one_read_of(handle, alloc, 0, shared),
-        move || one_read_of(handle, alloc, 1, shared),
+        move || receipt_of(handle, alloc, 1, shared),
     );
-    assert!(&rt; zero.is_some());
-    assert!(&rt; one.is_some());
-    let (closed, own) = zero.unwrap();
-    let (_other, foreign) = one.unwrap();
-    assert_eq!(&rt; check_receipts(alloc, &closed, &[own]), Ok(()));
-    let differs = ReceiptFault::Differs {
-        site: SiteNo(1),
-        number: 1,
-    };
-    assert_eq!(&rt; check_receipts(alloc, &closed, &[foreign]), Err(differs));
+    match zero {
+        Some((closed, own)) => assert_own(&rt, alloc, &closed, own, foreign),
+        None => panic!(&rt; "a read failed"),
+    }
 }
