@@ -28,11 +28,21 @@ fn audit<R: Read + Drop>(
     (end, writer.into_inner())
 }
 
+/// A text of these parts.
+fn joined(alloc: Global, parts: &[&str]) -> Result<String, AllocError> {
+    let mut text = String::new(alloc);
+    for part in parts {
+        text.push_str(*part)?;
+    }
+    Ok(text)
+}
+
 /// The lines behind the header of two sites.
 fn text_of(alloc: Global, lines: &[&str]) -> Result<String, AllocError> {
-    let mut text = format!(in alloc; "{HALVED}\n")?;
+    let mut text = joined(alloc, &[HALVED, "\n"])?;
     for line in lines {
-        write!(text, "{line}\n")?;
+        text.push_str(*line)?;
+        text.push_str("\n")?;
     }
     Ok(text)
 }
@@ -361,7 +371,7 @@ fn takes_a_last_line_without_its_end(rt: HostRuntime) -> Result<(), Fail> {
         ("\n\n", "bad entry 2\n"),
         ("\r\n0 begin -> begun 0.1\r\n", "bad entry 2\n"),
     ] {
-        let text = format!(in alloc; "{HALVED}{behind}")?;
+        let text = joined(alloc, &[HALVED, behind])?;
         let (end, out) = audit(&rt, alloc, false, text.as_bytes());
         assert!(rt; end.is_ok());
         assert_eq!(rt; str::from_utf8(out.as_slice()), Ok(answer));
@@ -407,7 +417,7 @@ fn tells_bad_headers(rt: HostRuntime) -> Result<(), Fail> {
 #[test]
 fn ends_at_a_long_line(rt: HostRuntime) -> Result<(), Fail> {
     let alloc = rt.alloc();
-    let header = format!(in alloc; "{HALVED}\n0 begin -> begun 0.1\n")?;
+    let header = joined(alloc, &[HALVED, "\n0 begin -> begun 0.1\n"])?;
     for (bytes, wanted, answer) in [
         (256, Err(ScriptFault::Read), ""),
         (257, Ok(AuditEnd::BadEntry), "bad entry 3\n"),
@@ -431,7 +441,7 @@ fn keeps_the_limit_of_lines(rt: HostRuntime) -> Result<(), Fail> {
     for _ in 0..999_999 {
         lines.push_str("bad line\n")?;
     }
-    let header = format!(in alloc; "{HALVED}\n")?;
+    let header = joined(alloc, &[HALVED, "\n"])?;
     for (more, wanted, answer) in [
         (0, Ok(AuditEnd::Legal), "legal 0\n"),
         (1, Err(ScriptFault::TooLong), ""),

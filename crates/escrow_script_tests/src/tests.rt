@@ -8,6 +8,7 @@ mod reaches;
 
 use escrow_script::{End, ScriptFault, Watched, run_script};
 use field_bounds::SchemaFault;
+use itoa::Buffer;
 use std::alloc::{AllocError, Global};
 use std::io;
 use std::io::{ErrorKind, Read, Write};
@@ -24,6 +25,21 @@ fn run<R: Read + Drop>(alloc: Global, reader: R) -> (Result<(), ScriptFault>, Ve
     (end, writer.into_inner())
 }
 
+/// Adds the parts, one behind the other.
+fn add(text: &mut String, parts: &[&str]) -> Result<(), AllocError> {
+    for part in parts {
+        text.push_str(*part)?;
+    }
+    Ok(())
+}
+
+/// A text of these parts.
+fn joined(alloc: Global, parts: &[&str]) -> Result<String, AllocError> {
+    let mut text = String::new(alloc);
+    add(&mut text, parts)?;
+    Ok(text)
+}
+
 /// A script beside the output that it is to give.
 #[derive(Drop)]
 struct Talk {
@@ -34,14 +50,14 @@ struct Talk {
 impl Talk {
     fn new(alloc: Global, header: &str) -> Result<Talk, AllocError> {
         Ok(Talk {
-            input: format!(in alloc; "{header}\n")?,
-            wanted: format!(in alloc; "{header}\n")?,
+            input: joined(alloc, &[header, "\n"])?,
+            wanted: joined(alloc, &[header, "\n"])?,
         })
     }
 
     fn row(&mut self, line: &str, reply: &str) -> Result<(), AllocError> {
-        write!(self.input, "{line}\n")?;
-        write!(self.wanted, "{line} -> {reply}\n")
+        add(&mut self.input, &[line, "\n"])?;
+        add(&mut self.wanted, &[line, " -> ", reply, "\n"])
     }
 
     fn rows(&mut self, rows: &[(&str, &str)]) -> Result<(), AllocError> {
@@ -53,13 +69,12 @@ impl Talk {
 
     /// A line whose answer doesn't begin with it.
     fn said(&mut self, line: &str, answer: &str) -> Result<(), AllocError> {
-        write!(self.input, "{line}\n")?;
-        write!(self.wanted, "{answer}\n")
+        add(&mut self.input, &[line, "\n"])?;
+        add(&mut self.wanted, &[answer, "\n"])
     }
 
     fn bad(&mut self, line: &str) -> Result<(), AllocError> {
-        write!(self.input, "{line}\n")?;
-        write!(self.wanted, "bad line\n")
+        self.said(line, "bad line")
     }
 
     fn check(&self, rt: &impl Abort, alloc: Global) {
@@ -539,7 +554,7 @@ fn keeps_a_commit_that_is_whole(rt: HostRuntime) -> Result<(), Fail> {
         let mut talk = Talk::new(alloc, HALVED)?;
         talk.row("0 begin", "begun 0.1")?;
         talk.row("0 escrow 0.1 stock -20", "granted")?;
-        let line = format!(in alloc; "0 commit 0.1 torn {bytes}")?;
+        let line = joined(alloc, &["0 commit 0.1 torn ", Buffer::new().format(bytes)])?;
         talk.said(line.as_str(), "0 commit 0.1 -> unsure")?;
         talk.row("0 read stock", "refused 1 down")?;
         if bytes < 12 {
@@ -585,7 +600,7 @@ fn refuses_past_the_limits(rt: HostRuntime) -> Result<(), Fail> {
     talk.row("0 escrow 0.1 stock -1", "refused 13 too many escrows")?;
     talk.row("0 escrow 0.1 stock -5", "refused 7 short 4")?;
     for number in 2..=64u32 {
-        let reply = format!(in alloc; "begun 0.{number}")?;
+        let reply = joined(alloc, &["begun 0.", Buffer::new().format(number)])?;
         talk.row("0 begin", reply.as_str())?;
     }
     talk.row("0 begin", "refused 12 too many open")?;
@@ -622,10 +637,10 @@ fn tells_bad_headers(rt: HostRuntime) -> Result<(), Fail> {
         assert_eq!(rt; out.len(), 0);
     }
     // A header is echoed with its CR and, where its LF is missing, with LF.
-    let header = format!(in alloc; "{HEADER}\r")?;
+    let header = joined(alloc, &[HEADER, "\r"])?;
     let (end, out) = run(alloc, header.as_bytes());
     assert_eq!(rt; end, Ok(()));
-    let wanted = format!(in alloc; "{HEADER}\r\n")?;
+    let wanted = joined(alloc, &[HEADER, "\r\n"])?;
     assert_eq!(rt; str::from_utf8(out.as_slice()), Ok(wanted.as_str()));
     Ok(())
 }
@@ -633,7 +648,7 @@ fn tells_bad_headers(rt: HostRuntime) -> Result<(), Fail> {
 #[test]
 fn keeps_the_limit_of_lines(rt: HostRuntime) -> Result<(), Fail> {
     let alloc = rt.alloc();
-    let header = format!(in alloc; "{HEADER}\n")?;
+    let header = joined(alloc, &[HEADER, "\n"])?;
     // 999,999 lines behind the header, and a byte more.
     for (more, wanted) in [(0, Ok(())), (1, Err(ScriptFault::TooLong))] {
         let lines = io::repeat(b'\n').take(999_999);
@@ -665,7 +680,7 @@ const ROW: [(&str, &str); 6] = [
 fn row_input(alloc: Global) -> Result<String, AllocError> {
     let mut input = String::new(alloc);
     for (line, _) in &ROW {
-        write!(input, "{line}\n")?;
+        add(&mut input, &[*line, "\n"])?;
     }
     Ok(input)
 }
@@ -679,7 +694,7 @@ fn row_output(alloc: Global, bytes: usize) -> Result<String, AllocError> {
             break;
         }
         left -= line.len() + 1;
-        write!(output, "{answer}\n")?;
+        add(&mut output, &[*answer, "\n"])?;
     }
     Ok(output)
 }

@@ -25,11 +25,21 @@ fn work<R: Read + Drop>(
     (end, writer.into_inner())
 }
 
+/// A text of these parts.
+fn joined(alloc: Global, parts: &[&str]) -> Result<String, AllocError> {
+    let mut text = String::new(alloc);
+    for part in parts {
+        text.push_str(*part)?;
+    }
+    Ok(text)
+}
+
 /// The lines behind the header of two sites.
 fn text_of(alloc: Global, lines: &[&str]) -> Result<String, AllocError> {
-    let mut text = format!(in alloc; "{HALVED}\n")?;
+    let mut text = joined(alloc, &[HALVED, "\n"])?;
     for line in lines {
-        write!(text, "{line}\n")?;
+        text.push_str(*line)?;
+        text.push_str("\n")?;
     }
     Ok(text)
 }
@@ -97,7 +107,7 @@ fn count(text: &[u8], ending: &str) -> (usize, usize) {
 #[test]
 fn gifts_go_both_ways(rt: HostRuntime) -> Result<(), Fail> {
     let alloc = rt.alloc();
-    let mut text = format!(in alloc; "{HALVED}\n")?;
+    let mut text = joined(alloc, &[HALVED, "\n"])?;
     for _ in 0..10 {
         text.push_str("0 give 1 stock lower 1\n1 give 0 stock lower 1\n")?;
     }
@@ -142,7 +152,7 @@ fn tells_the_first_bad_line(rt: HostRuntime) -> Result<(), Fail> {
 #[test]
 fn ends_at_a_long_line(rt: HostRuntime) -> Result<(), Fail> {
     let alloc = rt.alloc();
-    let header = format!(in alloc; "{HALVED}\n0 begin\n")?;
+    let header = joined(alloc, &[HALVED, "\n0 begin\n"])?;
     for (bytes, fault) in [
         (256, WorkTextFault::Script(ScriptFault::Read)),
         (257, WorkTextFault::BadLine(3)),

@@ -7,6 +7,7 @@ use super::commands::{
 use super::refused::Refusals;
 use super::schema::{STOCK, stock_of_two};
 use field_bounds::{Command, Last, Reply, SiteNo, TxnId};
+use itoa::Buffer;
 use kept_records::{Medium, Mishap, TornMedium};
 use site_step::{OpenFault, Site};
 use std::alloc::{AllocError, Global};
@@ -211,7 +212,10 @@ fn spelled(alloc: Global, log: Log) -> Option<Vec<u8>> {
     let (restarts, records) = log;
     let mut text = String::new(alloc);
     for epoch in 0..restarts {
-        write!(text, "R {}\n", u64::from(epoch) + 1).ok()?;
+        text.push_str("R ").ok()?;
+        text.push_str(Buffer::new().format(u64::from(epoch) + 1))
+            .ok()?;
+        text.push_str("\n").ok()?;
     }
     text.push_str(records).ok()?;
     Some(text.into_bytes())

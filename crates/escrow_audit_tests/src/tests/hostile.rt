@@ -1,6 +1,6 @@
 //! Input without end, and a reader that is interrupted once.
 
-use super::{HALVED, ROW, audit, text_of};
+use super::{HALVED, ROW, audit, joined, text_of};
 use escrow_audit::{AuditEnd, ScriptFault};
 use field_bounds::SchemaFault;
 use std::io;
@@ -18,7 +18,7 @@ fn ends_a_header_without_end(rt: HostRuntime) {
 #[test]
 fn ends_lines_without_end(rt: HostRuntime) -> Result<(), Fail> {
     let alloc = rt.alloc();
-    let header = format!(in alloc; "{HALVED}\n")?;
+    let header = joined(alloc, &[HALVED, "\n"])?;
     for byte in [b'\n', b'x'] {
         let reader = header.as_bytes().chain(io::repeat(byte));
         let (end, out) = audit(&rt, alloc, false, reader);

@@ -1,9 +1,10 @@
 //! Appends torn at each byte, a header without end, and readers and writers that are interrupted
 //! once.
 
-use super::{HALVED, Talk, check_said, row_input, row_output, run};
+use super::{HALVED, Talk, check_said, joined, row_input, row_output, run};
 use escrow_script::{ScriptFault, Watched, run_script};
 use field_bounds::SchemaFault;
+use itoa::Buffer;
 use std::io;
 use std::io::{ErrorKind, Read, Write};
 use std::test::Fail;
@@ -14,7 +15,10 @@ fn keeps_a_gift_that_is_whole(rt: HostRuntime) -> Result<(), Fail> {
     let alloc = rt.alloc();
     for bytes in [0u64, 1, 2, 3, 4, 5, 6, 7, 8, 9, 10, 1000] {
         let mut talk = Talk::new(alloc, HALVED)?;
-        let line = format!(in alloc; "0 give 1 stock lower 5 torn {bytes}")?;
+        let line = joined(
+            alloc,
+            &["0 give 1 stock lower 5 torn ", Buffer::new().format(bytes)],
+        )?;
         talk.said(line.as_str(), "0 give 1 stock lower 5 -> unsure")?;
         talk.said("deliver 1", "deliver 1 -> refused 16 no statement")?;
         if bytes < 10 {

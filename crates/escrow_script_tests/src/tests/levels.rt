@@ -1,6 +1,7 @@
 //! Lines that level a field, and the gifts that answer them.
 
-use super::{HALVED, Talk, check_said};
+use super::{HALVED, Talk, add, check_said};
+use itoa::Buffer;
 use std::alloc::AllocError;
 use std::test::Fail;
 
@@ -75,23 +76,29 @@ impl Talk {
     fn carry(
         &mut self,
         number: u64,
-        from: u8,
-        to: u8,
+        from: &str,
+        to: &str,
         amount: u64,
         total: u64,
     ) -> Result<(), AllocError> {
-        write!(
-            self.input,
-            "{from} give {to} stock lower {amount}\ndeliver {number}\n"
+        let (mut of_number, mut of_amount, mut of_total) = (
+            Buffer::new(),
+            Buffer::new(),
+            Buffer::new(),
+        );
+        let number = of_number.format(number);
+        let amount = of_amount.format(amount);
+        let total = of_total.format(total);
+        let gift = [from, " give ", to, " stock lower ", amount];
+        add(&mut self.input, &gift)?;
+        add(&mut self.input, &["\ndeliver ", number, "\n"])?;
+        add(&mut self.wanted, &gift)?;
+        add(&mut self.wanted, &[" -> given ", total, "\n"])?;
+        add(
+            &mut self.wanted,
+            &[to, " accept ", from, " ", to, " stock lower ", total],
         )?;
-        write!(
-            self.wanted,
-            "{from} give {to} stock lower {amount} -> given {total}\n"
-        )?;
-        write!(
-            self.wanted,
-            "{to} accept {from} {to} stock lower {total} -> accepted {amount}\n"
-        )
+        add(&mut self.wanted, &[" -> accepted ", amount, "\n"])
     }
 }
 
@@ -101,22 +108,22 @@ impl Talk {
 fn levels_past_a_refused_gift(rt: HostRuntime) -> Result<(), Fail> {
     let all = 2_000_000_000_000_000u64;
     let mut talk = Talk::new(rt.alloc(), WIDEST_OF_THREE)?;
-    talk.carry(1, 1, 0, 666_666_666_666_667, 666_666_666_666_667)?;
-    talk.carry(2, 2, 0, 666_666_666_666_666, 666_666_666_666_666)?;
+    talk.carry(1, "1", "0", 666_666_666_666_667, 666_666_666_666_667)?;
+    talk.carry(2, "2", "0", 666_666_666_666_666, 666_666_666_666_666)?;
     for round in 0..500u64 {
-        talk.carry(2 * round + 3, 0, 1, all, (round + 1) * all)?;
+        talk.carry(2 * round + 3, "0", "1", all, (round + 1) * all)?;
         if round < 499 {
             talk.carry(
                 2 * round + 4,
-                1,
-                0,
+                "1",
+                "0",
                 all,
                 666_666_666_666_667 + (round + 1) * all,
             )?;
         }
     }
-    talk.carry(1_002, 1, 2, all, all)?;
-    talk.carry(1_003, 2, 0, all, 666_666_666_666_666 + all)?;
+    talk.carry(1_002, "1", "2", all, all)?;
+    talk.carry(1_003, "2", "0", all, 666_666_666_666_666 + all)?;
     talk.said(
         "level stock lower",
         "level stock lower -> moves 2\n0 give 1 stock lower 666666666666667 -> refused 9 ledger full 1000000000000000000\n0 give 2 stock lower 666666666666666 -> given 666666666666666",

@@ -41,19 +41,22 @@ fn are_equal(alloc: Global, first: &str, second: &str) -> Option<bool> {
     }
 }
 
+/// Headers, and whether each is read as a schema that is equal to the first.
+const ROWS: [(&str, bool); 8] = [
+    (PAIR, true),
+    (MORE_SITES, false),
+    (OTHER_NAME, false),
+    (OTHER_FLOOR, false),
+    (OTHER_CEILING, false),
+    (OTHER_VALUE, false),
+    (OTHER_ORDER, false),
+    (FEWER_FIELDS, false),
+];
+
 #[test]
 fn equal_schemas(rt: HostRuntime) {
-    for (header, equal) in [
-        (PAIR, true),
-        (MORE_SITES, false),
-        (OTHER_NAME, false),
-        (OTHER_FLOOR, false),
-        (OTHER_CEILING, false),
-        (OTHER_VALUE, false),
-        (OTHER_ORDER, false),
-        (FEWER_FIELDS, false),
-    ] {
-        let found = are_equal(rt.alloc(), PAIR, header);
-        assert_eq!(rt; found, Some(equal), "{header}");
+    for (header, equal) in &ROWS {
+        let found = are_equal(rt.alloc(), PAIR, *header);
+        assert_eq!(rt; found, Some(*equal), "{header}");
     }
 }

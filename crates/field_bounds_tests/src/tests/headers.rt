@@ -1,6 +1,7 @@
 //! Headers as lines of JSON: each fault, the order of the faults, and the limits.
 
 use super::*;
+use itoa::Buffer;
 
 /// The greatest quantity.
 const MOST: i64 = 1_000_000_000_000_000;
@@ -143,41 +144,44 @@ fn prints(alloc: Global, fault: SchemaFault, text: &str) -> bool {
     }
 }
 
+/// Headers with two faults, the one that is told, and how it prints.
+const TWO_FAULTS: [(&str, SchemaFault, &str); 7] = [
+    (
+        r#"{"sites":65,"fields":[{"name":"a"}"#,
+        SchemaFault::NotJson,
+        "S1",
+    ),
+    (
+        r#"{"sites":65,"fields":[{"name":"a"}]}"#,
+        SchemaFault::Shape,
+        "S2",
+    ),
+    (r#"{"sites":65,"fields":[]}"#, SchemaFault::SiteCount, "S3"),
+    (r#"{"sites":1,"fields":[]}"#, SchemaFault::FieldCount, "S4"),
+    (
+        r#"{"sites":1,"fields":[{"name":"A","floor":1,"ceiling":0,"value":0}]}"#,
+        SchemaFault::Name,
+        "S5",
+    ),
+    (
+        r#"{"sites":1,"fields":[{"name":"a","floor":0,"ceiling":1,"value":0},{"name":"a","floor":1,"ceiling":0,"value":0}]}"#,
+        SchemaFault::NameUsed,
+        "S6",
+    ),
+    (
+        r#"{"sites":1,"fields":[{"name":"a","floor":1,"ceiling":0,"value":0},{"name":"A","floor":0,"ceiling":1,"value":0}]}"#,
+        SchemaFault::Bounds,
+        "S7",
+    ),
+];
+
 /// Of two faults in a header the earlier test tells, and this is how each prints.
 #[test]
 fn order(rt: HostRuntime) {
-    for (header, fault, text) in [
-        (
-            r#"{"sites":65,"fields":[{"name":"a"}"#,
-            SchemaFault::NotJson,
-            "S1",
-        ),
-        (
-            r#"{"sites":65,"fields":[{"name":"a"}]}"#,
-            SchemaFault::Shape,
-            "S2",
-        ),
-        (r#"{"sites":65,"fields":[]}"#, SchemaFault::SiteCount, "S3"),
-        (r#"{"sites":1,"fields":[]}"#, SchemaFault::FieldCount, "S4"),
-        (
-            r#"{"sites":1,"fields":[{"name":"A","floor":1,"ceiling":0,"value":0}]}"#,
-            SchemaFault::Name,
-            "S5",
-        ),
-        (
-            r#"{"sites":1,"fields":[{"name":"a","floor":0,"ceiling":1,"value":0},{"name":"a","floor":1,"ceiling":0,"value":0}]}"#,
-            SchemaFault::NameUsed,
-            "S6",
-        ),
-        (
-            r#"{"sites":1,"fields":[{"name":"a","floor":1,"ceiling":0,"value":0},{"name":"A","floor":0,"ceiling":1,"value":0}]}"#,
-            SchemaFault::Bounds,
-            "S7",
-        ),
-    ] {
+    for (header, fault, text) in &TWO_FAULTS {
         let found = header_fault(rt.alloc(), header.as_bytes());
-        assert_eq!(rt; found, Some(fault), "{header}");
-        assert!(rt; prints(rt.alloc(), fault, text), "{text}");
+        assert_eq!(rt; found, Some(*fault), "{header}");
+        assert!(rt; prints(rt.alloc(), *fault, *text), "{text}");
     }
     assert!(rt; prints(rt.alloc(), SchemaFault::NoMemory, "S8"));
     assert!(rt; prints(rt.alloc(), SchemaFault::TooLong, "S9"));
@@ -206,15 +210,32 @@ fn length_and_depth(rt: HostRuntime) {
     assert_eq!(rt; fault_of_nested(alloc, 127), Some(SchemaFault::Shape));
 }
 
+/// Adds the parts, one behind the other.
+fn add(text: &mut String, parts: &[&str]) -> Result<(), AllocError> {
+    for part in parts {
+        text.push_str(*part)?;
+    }
+    Ok(())
+}
+
 /// A header of so many fields, named f0, f1 and so on.
 fn many(alloc: Global, fields: u16) -> Result<String, AllocError> {
     let mut header = String::from_str(alloc, r#"{"sites":64,"fields":["#)?;
     for i in 0..fields {
+        let mut digits = Buffer::new();
+        let number = digits.format(i);
         let comma = if i == 0 { "" } else { "," };
-        let field = format!(in alloc;
-            r#"{comma}{{"name":"f{i}","floor":0,"ceiling":{i},"value":{i}}}"#
-        )?;
-        header.push_str(field.as_str())?;
+        let parts = [
+            comma,
+            r#"{"name":"f"#,
+            number,
+            r#"","floor":0,"ceiling":"#,
+            number,
+            r#","value":"#,
+            number,
+            "}",
+        ];
+        add(&mut header, &parts)?;
     }
     header.push_str("]}")?;
     Ok(header)
@@ -246,28 +267,30 @@ fn first_bounds(alloc: Global, header: &[u8]) -> Option<(i64, i64, i64)> {
     Some(schema.bounds(FieldNo(0)))
 }
 
-/// Headers that are just good.
+/// Headers that are just good, and the floor, the ceiling and the value of the first field.
+const GOOD: [(&str, (i64, i64, i64)); 4] = [
+    (
+        r#"{"sites":1,"fields":[{"name":"a","floor":-1000000000000000,"ceiling":1000000000000000,"value":-1000000000000000}]}"#,
+        (-MOST, MOST, -MOST),
+    ),
+    (
+        r#"{"fields":[{"value":5,"name":"abcdefghijklmnopqrstuvwxyz_01234","ceiling":5,"floor":5}],"sites":64}"#,
+        (5, 5, 5),
+    ),
+    (
+        "\r \t{ \"sites\" : 1 , \"fields\" : [ { \"name\":\"a\",\"floor\":0,\"ceiling\":1,\"value\":1 } ] }\n\r",
+        (0, 1, 1),
+    ),
+    (
+        r#"{"sites":0,"fields":[],"sites":1,"fields":[{"name":"A","floor":0,"ceiling":9,"value":7,"name":"a","value":8}]}"#,
+        (0, 9, 8),
+    ),
+];
+
 #[test]
 fn good(rt: HostRuntime) {
-    for (header, bounds) in [
-        (
-            r#"{"sites":1,"fields":[{"name":"a","floor":-1000000000000000,"ceiling":1000000000000000,"value":-1000000000000000}]}"#,
-            (-MOST, MOST, -MOST),
-        ),
-        (
-            r#"{"fields":[{"value":5,"name":"abcdefghijklmnopqrstuvwxyz_01234","ceiling":5,"floor":5}],"sites":64}"#,
-            (5, 5, 5),
-        ),
-        (
-            "\r \t{ \"sites\" : 1 , \"fields\" : [ { \"name\":\"a\",\"floor\":0,\"ceiling\":1,\"value\":1 } ] }\n\r",
-            (0, 1, 1),
-        ),
-        (
-            r#"{"sites":0,"fields":[],"sites":1,"fields":[{"name":"A","floor":0,"ceiling":9,"value":7,"name":"a","value":8}]}"#,
-            (0, 9, 8),
-        ),
-    ] {
+    for (header, bounds) in &GOOD {
         let found = first_bounds(rt.alloc(), header.as_bytes());
-        assert_eq!(rt; found, Some(bounds), "{header}");
+        assert_eq!(rt; found, Some(*bounds), "{header}");
     }
 }
