@@ -5,9 +5,9 @@ beside a plain Rust program of the same shape.
     bench/bench.py [LINES [TURNS]] [--audit | --restarts | --desk | --work]
 
 LINES is the length of the input, its header line included (1,000,000 if left out, which is the
-most that `run` takes), and TURNS how often each program runs (5). It prints, for the best turn of
-each program, the time, lines a second and peak memory, and fails where the two programs differ in
-what they write. Needs `rt`, and `rustc` for the plain one.
+most that `run` takes), and TURNS how often each program runs (5), the two in turn. It prints, for
+the best turn of each program, the time, lines a second and peak memory, and the time of the middle
+turn, and fails where the two programs differ in what they write. Needs `rt`, and `rustc` for the plain one.
 
 The scripts:
 
@@ -46,6 +46,7 @@ The scripts:
 import filecmp
 import os
 import shutil
+import statistics
 import subprocess
 import sys
 import tempfile
@@ -205,14 +206,35 @@ def run(words, source, target, wanted=0):
     return passed, usage.ru_utime + usage.ru_stime, usage.ru_maxrss
 
 
-def measure(name, words, source, target, lines, turns):
-    times = [run(words, source, target) for _ in range(turns)]
+def tell(name, times, lines):
+    """Prints the best turn, and the seconds of the middle one, and returns both."""
     passed, used, memory = min(times)
+    middle = statistics.median(time[0] for time in times)
     print(
-        f"{name:8} {passed:8.3f} s  {used:8.3f} s of processor  "
+        f"{name:8} {passed:8.3f} s, median {middle:8.3f} s  {used:8.3f} s of processor  "
         f"{lines / passed:12,.0f} lines/s  {memory / 1024:8.1f} MiB  {memory * 1024 / lines:6.0f} bytes/line"
     )
-    return passed
+    return passed, middle
+
+
+def measure(name, words, source, target, lines, turns):
+    """The seconds of the best turn."""
+    return tell(name, [run(words, source, target) for _ in range(turns)], lines)[0]
+
+
+def beside(ours, theirs, source, targets, lines, turns):
+    """The seconds of our best turn, beside those of the plain program: the two take turns, so that what else the
+    machine does falls on both."""
+    pairs = [(run(ours, source, targets[0]), run(theirs, source, targets[1])) for _ in range(turns)]
+    best, middle = tell("escrow", [pair[0] for pair in pairs], lines)
+    plain_best, plain_middle = tell("plain", [pair[1] for pair in pairs], lines)
+    if not filecmp.cmp(*targets, shallow=False):
+        sys.exit("the two programs wrote different bytes")
+    print(
+        f"         same output; escrow takes {best / plain_best:.2f} times the plain program's time, "
+        f"by medians {middle / plain_middle:.2f} times"
+    )
+    return best
 
 
 def build_plain(folder):
@@ -242,14 +264,9 @@ def compare(name, script, folder, programs, turns):
         lines = sum(1 for _ in file)
     program, plain = programs
     print(f"{name}: {lines:,} lines, {os.path.getsize(source):,} bytes, best of {turns}")
-    ours = measure("escrow", [program, "run"], source, proved, lines, turns)
     if plain is None:
-        return ours
-    theirs = measure("plain", [plain], source, written, lines, turns)
-    if not filecmp.cmp(proved, written, shallow=False):
-        sys.exit("the two programs wrote different bytes")
-    print(f"         same output; escrow takes {ours / theirs:.2f} times the plain program's time")
-    return ours
+        return measure("escrow", [program, "run"], source, proved, lines, turns)
+    return beside([program, "run"], [plain], source, (proved, written), lines, turns)
 
 
 def judges_alone(program, trace, folder, turns, ours, parts):
@@ -280,17 +297,14 @@ def audit(name, script, folder, programs, turns):
     with open(trace, "rb") as file:
         lines = sum(1 for _ in file)
     print(f"audit, {name}: {lines:,} lines, {os.path.getsize(trace):,} bytes, best of {turns}")
-    ours = measure("escrow", [program, "audit"], trace, proved, lines, turns)
+    if plain is None:
+        ours = measure("escrow", [program, "audit"], trace, proved, lines, turns)
+    else:
+        ours = beside([program, "audit"], [plain, "audit"], trace, (proved, written), lines, turns)
     parts = measure("--fields", [program, "audit", "--fields"], trace, written, lines, turns)
     if not filecmp.cmp(proved, written, shallow=False):
         sys.exit("with --fields it wrote other bytes")
     judges_alone(program, trace, folder, turns, ours, parts)
-    if plain is None:
-        return ours
-    theirs = measure("plain", [plain, "audit"], trace, written, lines, turns)
-    if not filecmp.cmp(proved, written, shallow=False):
-        sys.exit("the two programs wrote different bytes")
-    print(f"         same output; escrow takes {ours / theirs:.2f} times the plain program's time")
     return ours
 
 
