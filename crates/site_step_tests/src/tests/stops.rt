@@ -450,17 +450,22 @@ const BAD_LOGS: [(&str, u64); 14] = [
     ("R 1\nS 1 1 20 30\nT 0 l 5\nS 1 1 20 30\n", 4),
 ];
 
-/// The fault of an open over these bytes under a mishap, and whether the medium comes back with as
-/// many failures as are told.
-fn open_fault(alloc: Global, bytes: &str, mishap: Mishap, failures: u64) -> Option<OpenFault> {
+/// A medium that holds these bytes, under a mishap.
+fn medium_over(alloc: Global, bytes: &str, mishap: Mishap) -> Option<TornMedium> {
     let held = Vec::from_slice(alloc, bytes.as_bytes()).ok()?;
     let mut medium = TornMedium::new(held);
     medium.arm(mishap);
+    Some(medium)
+}
+
+/// The fault of an open over these bytes under a mishap, and whether the medium comes back with as
+/// many failures as are told.
+fn open_fault(alloc: Global, bytes: &str, mishap: Mishap, failures: u64) -> Option<OpenFault> {
     let schema = stock_of_two(alloc)?;
     if schema.sites() == 0 {
         return None;
     }
-    match Site::open(alloc, schema, SiteNo(0), medium) {
+    match Site::open(alloc, schema, SiteNo(0), medium_over(alloc, bytes, mishap)?) {
         Ok(_) => None,
         Err((fault, back)) => {
             if back.failures() == failures {
@@ -475,10 +480,10 @@ fn open_fault(alloc: Global, bytes: &str, mishap: Mishap, failures: u64) -> Opti
 #[test]
 fn faults_of_open(rt: HostRuntime) {
     let alloc = rt.alloc();
-    for (bytes, line) in BAD_LOGS {
+    for (bytes, line) in &BAD_LOGS {
         assert_eq!(rt;
-            open_fault(alloc, bytes, Mishap::Never, 0),
-            Some(OpenFault::Line(line))
+            open_fault(alloc, *bytes, Mishap::Never, 0),
+            Some(OpenFault::Line(*line))
         );
     }
     assert_eq!(rt;
@@ -487,7 +492,26 @@ fn faults_of_open(rt: HostRuntime) {
     );
 }
 
-/// The share of lowering rights after a torn command and a restart, and what the restart says.
+/// What a restart says after a torn command, and the shares that it leaves.
+fn restart_after_torn(
+    alloc: Global,
+    site: &mut Site<TornMedium>,
+    before: &[Command],
+    torn: Command,
+    bytes: u64,
+) -> Option<(Reply, Option<(u64, u64)>)> {
+    for command in before {
+        answer(alloc, site, *command)?;
+    }
+    site.arm(Mishap::Append(bytes));
+    if answer(alloc, site, torn) != Some(Reply::Unsure) || site.is_up() {
+        return None;
+    }
+    let reply = answer(alloc, site, Command::Restart)?;
+    Some((reply, site.share(STOCK)))
+}
+
+/// The same of a site over an empty medium.
 fn after_torn(
     alloc: Global,
     before: &[Command],
@@ -495,15 +519,7 @@ fn after_torn(
     bytes: u64,
 ) -> Option<(Reply, Option<(u64, u64)>)> {
     let mut site = site_over(alloc, "")?;
-    for command in before {
-        answer(alloc, &mut site, *command)?;
-    }
-    site.arm(Mishap::Append(bytes));
-    if answer(alloc, &mut site, torn) != Some(Reply::Unsure) || site.is_up() {
-        return None;
-    }
-    let reply = answer(alloc, &mut site, Command::Restart)?;
-    Some((reply, site.share(STOCK)))
+    restart_after_torn(alloc, &mut site, before, torn, bytes)
 }
 
 #[test]

@@ -11,33 +11,38 @@ const IN_999: TxnId = TxnId {
     number: 1,
 };
 
-/// Site 0 after 999 restarts.
-fn restarted_999_times(alloc: Global) -> Option<Site<TornMedium>> {
-    let mut site = open_over(alloc, 0, TornMedium::new(Vec::new(alloc)))?;
+/// Whether 999 restarts say that nothing was in doubt.
+fn restarts_999_times(alloc: Global, site: &mut Site<TornMedium>) -> bool {
     for epoch in 1..1000 {
         let told = Reply::Restarted {
             epoch,
             last: Last::Nothing,
         };
-        if answer(alloc, &mut site, Command::Restart) != Some(told) {
-            return None;
+        if answer(alloc, site, Command::Restart) != Some(told) {
+            return false;
         }
     }
-    Some(site)
+    true
 }
 
-/// Site 0 after one restart over the records of 998.
-fn restarted_behind_998(alloc: Global) -> Option<Site<TornMedium>> {
+/// Whether the records of 998 restarts were appended.
+fn appends_998(medium: &mut TornMedium, line: &mut Vec<u8>) -> bool {
+    for epoch in 1..999 {
+        if append_record(line, medium, &Record::Restart { epoch }) != Ok(Ok(())) {
+            return false;
+        }
+    }
+    true
+}
+
+/// Site 0 over the records of 998 restarts.
+fn behind_998(alloc: Global) -> Option<Site<TornMedium>> {
     let mut line = Vec::new(alloc);
     let mut medium = TornMedium::new(Vec::new(alloc));
-    for epoch in 1..999 {
-        append_record(&mut line, &mut medium, &Record::Restart { epoch })
-            .ok()?
-            .ok()?;
+    if !appends_998(&mut medium, &mut line) {
+        return None;
     }
-    let mut site = open_over(alloc, 0, medium)?;
-    answer(alloc, &mut site, Command::Restart)?;
-    Some(site)
+    open_over(alloc, 0, medium)
 }
 
 /// A restart that is torn after so many bytes, and one that isn't: what the latter says, and how
@@ -56,27 +61,41 @@ fn restarted(epoch: u32, last: Last, replayed: u64) -> Option<(Reply, u64)> {
     Some((Reply::Restarted { epoch, last }, replayed))
 }
 
-/// The same of the restart behind 999 that take one record each.
+/// The same behind one more restart.
+fn restart_and_tear(
+    alloc: Global,
+    site: &mut Site<TornMedium>,
+    bytes: u64,
+) -> Option<(Reply, u64)> {
+    answer(alloc, site, Command::Restart)?;
+    torn_restart(alloc, site, bytes)
+}
+
+/// The same of a restart behind 999 that take one record each.
 fn torn_behind_998(alloc: Global, bytes: u64) -> Option<(Reply, u64)> {
-    let mut site = restarted_behind_998(alloc)?;
-    torn_restart(alloc, &mut site, bytes)
+    let mut site = behind_998(alloc)?;
+    restart_and_tear(alloc, &mut site, bytes)
+}
+
+/// The same of a restart behind 999 that the site itself made.
+fn torn_behind_its_own(alloc: Global, bytes: u64) -> Option<(Reply, u64)> {
+    let mut site = open_over(alloc, 0, TornMedium::new(Vec::new(alloc)))?;
+    if restarts_999_times(alloc, &mut site) {
+        torn_restart(alloc, &mut site, bytes)
+    } else {
+        None
+    }
 }
 
 #[test]
 fn thousandth_restart_torn_behind_its_record(rt: HostRuntime) {
-    let alloc = rt.alloc();
-    let site = restarted_999_times(alloc);
-    assert!(rt; site.is_some());
-    let after = torn_restart(alloc, &mut site.unwrap(), 7);
+    let after = torn_behind_its_own(rt.alloc(), 7);
     assert_eq!(rt; after, restarted(1001, Last::Nothing, 1000));
 }
 
 #[test]
 fn thousandth_restart_torn_in_its_record(rt: HostRuntime) {
-    let alloc = rt.alloc();
-    let site = restarted_999_times(alloc);
-    assert!(rt; site.is_some());
-    let after = torn_restart(alloc, &mut site.unwrap(), 6);
+    let after = torn_behind_its_own(rt.alloc(), 6);
     assert_eq!(rt; after, restarted(1000, Last::Nothing, 999));
 }
 
@@ -97,22 +116,32 @@ fn each_length_of_a_torn_restart_with_a_summary(rt: HostRuntime) {
 
 /// A commit of 20 rights to lower that is torn after so many bytes, and a restart: what the restart
 /// says, with how many records it replayed, and the site's shares.
-fn torn_commit(alloc: Global, bytes: u64) -> Option<(Option<(Reply, u64)>, Option<(u64, u64)>)> {
-    let mut site = restarted_behind_998(alloc)?;
+fn tear_commit(
+    alloc: Global,
+    site: &mut Site<TornMedium>,
+    bytes: u64,
+) -> Option<(Option<(Reply, u64)>, Option<(u64, u64)>)> {
     let take_twenty = Command::Escrow {
         txn: IN_999,
         field: STOCK,
         change: -20,
     };
     let commit = Command::Commit { txn: IN_999 };
-    answer(alloc, &mut site, Command::Begin)?;
-    answer(alloc, &mut site, take_twenty)?;
+    answer(alloc, site, Command::Restart)?;
+    answer(alloc, site, Command::Begin)?;
+    answer(alloc, site, take_twenty)?;
     site.arm(Mishap::Append(bytes));
-    if answer(alloc, &mut site, commit) != Some(Reply::Unsure) || site.is_up() {
+    if answer(alloc, site, commit) != Some(Reply::Unsure) || site.is_up() {
         return None;
     }
-    let reply = answer(alloc, &mut site, Command::Restart)?;
+    let reply = answer(alloc, site, Command::Restart)?;
     Some((Some((reply, site.replayed())), site.share(STOCK)))
+}
+
+/// The same behind 999 restarts.
+fn torn_commit(alloc: Global, bytes: u64) -> Option<(Option<(Reply, u64)>, Option<(u64, u64)>)> {
+    let mut site = behind_998(alloc)?;
+    tear_commit(alloc, &mut site, bytes)
 }
 
 // The piece is `C 999 1 0 -20` and `S 999 1 0 50`, each with a line feed: 14 bytes and 13.

@@ -22,10 +22,10 @@ const HOSTILE_LOGS: [(&str, u64); 12] = [
 
 #[test]
 fn opens_over_no_hostile_log(rt: HostRuntime) {
-    for (bytes, line) in HOSTILE_LOGS {
+    for (bytes, line) in &HOSTILE_LOGS {
         assert_eq!(rt;
-            open_fault(rt.alloc(), bytes, Mishap::Never, 0),
-            Some(OpenFault::Line(line))
+            open_fault(rt.alloc(), *bytes, Mishap::Never, 0),
+            Some(OpenFault::Line(*line))
         );
     }
 }
