@@ -207,18 +207,30 @@ const WITHOUT_SUMMARY: [Step; 4] = [
     (Mishap::Never, SHARE, FREE),
 ];
 
+/// Adds the record of the restart behind so many.
+fn add_restart(text: &mut String, behind: u32) -> Result<(), AllocError> {
+    let mut digits = Buffer::new();
+    text.push_str("R ")?;
+    text.push_str(digits.format(u64::from(behind) + 1))?;
+    text.push_str("\n")
+}
+
+/// Adds the text of a log.
+fn spell(text: &mut String, log: Log) -> Result<(), AllocError> {
+    let (restarts, records) = log;
+    for behind in 0..restarts {
+        add_restart(text, behind)?;
+    }
+    text.push_str(records)
+}
+
 /// The text of a log. None where memory was refused.
 fn spelled(alloc: Global, log: Log) -> Option<Vec<u8>> {
-    let (restarts, records) = log;
     let mut text = String::new(alloc);
-    for epoch in 0..restarts {
-        text.push_str("R ").ok()?;
-        text.push_str(Buffer::new().format(u64::from(epoch) + 1))
-            .ok()?;
-        text.push_str("\n").ok()?;
+    match spell(&mut text, log) {
+        Ok(()) => Some(text.into_bytes()),
+        Err(_) => None,
     }
-    text.push_str(records).ok()?;
-    Some(text.into_bytes())
 }
 
 /// The text of a log, of two tries.
