@@ -102,26 +102,47 @@ fn answer<M: Medium>(alloc: Global, site: &mut Site<M>, command: Command) -> Opt
     site.apply(alloc, command).ok()
 }
 
-#[test]
-fn each_call(rt: HostRuntime) -> Result<(), Fail> {
-    let alloc = rt.alloc();
-    let mut site = site_of_two(&rt, alloc, 1)?;
+/// A spare of so many rights, with the total given so far.
+fn spared(amount: u64, total: u64) -> Reply {
+    Reply::Spared { amount, total }
+}
+
+/// The site answers each command as told, one after another.
+fn assert_answers<M: Medium>(
+    rt: &impl Abort,
+    alloc: Global,
+    site: &mut Site<M>,
+    rows: &[(Command, Reply)],
+) {
+    for (command, reply) in rows {
+        assert_eq!(rt; answer(alloc, site, *command), Some(*reply));
+    }
+}
+
+fn assert_each_call<M: Medium>(rt: &impl Abort, alloc: Global, site: &mut Site<M>) {
     let short = Reply::Refused(Refusal::Short { share: 20 });
-    assert_eq!(rt;
-        answer(alloc, &mut site, Command::Begin),
-        Some(Reply::Begun(FIRST))
-    );
-    assert_eq!(rt; answer(alloc, &mut site, lower(-21)), Some(short));
-    assert_eq!(rt; answer(alloc, &mut site, lower(-20)), Some(Reply::Granted));
+    let rows = [
+        (Command::Begin, Reply::Begun(FIRST)),
+        (lower(-21), short),
+        (lower(-20), Reply::Granted),
+    ];
+    assert_answers(rt, alloc, site, &rows);
     assert_eq!(rt; site.interval(STOCK), Some((20, 70)));
     let commit = Command::Commit { txn: FIRST };
-    assert_eq!(rt; answer(alloc, &mut site, commit), Some(Reply::Committed));
+    assert_answers(rt, alloc, site, &[(commit, Reply::Committed)]);
     assert_eq!(rt; site.interval(STOCK), Some((0, 50)));
     assert_eq!(rt; site.share(STOCK), Some((0, 50)));
     assert_eq!(rt; site.share(FieldNo(1)), None);
     assert_eq!(rt; site.interval(FieldNo(1)), None);
     assert_eq!(rt; site.site(), SiteNo(1));
     assert_eq!(rt; site.history().len(), 4);
+}
+
+#[test]
+fn each_call(rt: HostRuntime) -> Result<(), Fail> {
+    let alloc = rt.alloc();
+    let mut site = site_of_two(&rt, alloc, 1)?;
+    assert_each_call(&rt, alloc, &mut site);
     Ok(())
 }
 
@@ -138,14 +159,18 @@ fn gives(rt: HostRuntime) -> Result<(), Fail> {
     let between = Reply::Between { lo: 0, hi: 70 };
     let share = Command::Share { field: STOCK };
     let read = Command::Read { field: STOCK };
-    assert_eq!(rt; answer(alloc, &mut site, give_lower(1, 21)), Some(short));
-    assert_eq!(rt; answer(alloc, &mut site, give_lower(2, 1)), Some(no_site));
-    assert_eq!(rt;
-        answer(alloc, &mut site, give_lower(1, 20)),
-        Some(Reply::Given { total: 20 })
+    assert_answers(
+        &rt,
+        alloc,
+        &mut site,
+        &[
+            (give_lower(1, 21), short),
+            (give_lower(2, 1), no_site),
+            (give_lower(1, 20), Reply::Given { total: 20 }),
+            (share, shares),
+            (read, between),
+        ],
     );
-    assert_eq!(rt; answer(alloc, &mut site, share), Some(shares));
-    assert_eq!(rt; answer(alloc, &mut site, read), Some(between));
     Ok(())
 }
 
@@ -154,13 +179,18 @@ fn spares_half_at_most(rt: HostRuntime) -> Result<(), Fail> {
     let alloc = rt.alloc();
     let mut site = site_of_two(&rt, alloc, 0)?;
     let itself = Reply::Refused(Refusal::SelfGift);
-    for (want, amount, total) in [(100, 15, 15), (100, 8, 23), (2, 2, 25), (9, 3, 28)] {
-        assert_eq!(rt;
-            answer(alloc, &mut site, spare_raise(1, want)),
-            Some(Reply::Spared { amount, total })
-        );
-    }
-    assert_eq!(rt; answer(alloc, &mut site, spare_raise(0, 1)), Some(itself));
+    assert_answers(
+        &rt,
+        alloc,
+        &mut site,
+        &[
+            (spare_raise(1, 100), spared(15, 15)),
+            (spare_raise(1, 100), spared(8, 23)),
+            (spare_raise(1, 2), spared(2, 25)),
+            (spare_raise(1, 9), spared(3, 28)),
+            (spare_raise(0, 1), itself),
+        ],
+    );
     assert_eq!(rt; site.share(STOCK), Some((20, 2)));
     Ok(())
 }
@@ -177,7 +207,7 @@ fn tightens(rt: HostRuntime) -> Result<(), Fail> {
     let short = Reply::Refused(Refusal::Short { share: 15 });
     let share = Command::Share { field: STOCK };
     let read = Command::Read { field: STOCK };
-    for (command, reply) in [
+    let rows = [
         (tighten(Kind::Lower, 5), Reply::Tightened { total: 5 }),
         (share, shares),
         (read, between),
@@ -187,9 +217,8 @@ fn tightens(rt: HostRuntime) -> Result<(), Fail> {
         (tighten(Kind::Lower, 15), Reply::Tightened { total: 20 }),
         (read, between),
         (tighten(Kind::Lower, 0), Reply::Refused(Refusal::Zero)),
-    ] {
-        assert_eq!(rt; answer(alloc, &mut site, command), Some(reply));
-    }
+    ];
+    assert_answers(&rt, alloc, &mut site, &rows);
     assert_eq!(rt; site.share(STOCK), Some((0, 0)));
     Ok(())
 }
@@ -201,15 +230,16 @@ fn room_is_less_what_was_given_up(rt: HostRuntime) -> Result<(), Fail> {
     let cut = Reply::Tightened { total: 20 };
     let forged = Reply::Refused(Refusal::Forged { room: 50 });
     let all = Reply::Accepted { gain: 50 };
-    assert_eq!(rt;
-        answer(alloc, &mut site, tighten(Kind::Lower, 20)),
-        Some(cut)
+    assert_answers(
+        &rt,
+        alloc,
+        &mut site,
+        &[
+            (tighten(Kind::Lower, 20), cut),
+            (accept_lower(0, 1, 51), forged),
+            (accept_lower(0, 1, 50), all),
+        ],
     );
-    assert_eq!(rt;
-        answer(alloc, &mut site, accept_lower(0, 1, 51)),
-        Some(forged)
-    );
-    assert_eq!(rt; answer(alloc, &mut site, accept_lower(0, 1, 50)), Some(all));
     assert_eq!(rt; site.interval(STOCK), Some((70, 70)));
     Ok(())
 }
@@ -220,19 +250,17 @@ fn states(rt: HostRuntime) -> Result<(), Fail> {
     let mut site = site_of_two(&rt, alloc, 0)?;
     let nothing = Reply::Refused(Refusal::NothingGiven);
     let itself = Reply::Refused(Refusal::SelfGift);
-    assert_eq!(rt; answer(alloc, &mut site, give_lower(0, 1)), Some(itself));
-    assert_eq!(rt; answer(alloc, &mut site, restate_lower(1)), Some(nothing));
-    assert_eq!(rt;
-        answer(alloc, &mut site, give_lower(1, 3)),
-        Some(Reply::Given { total: 3 })
-    );
-    assert_eq!(rt;
-        answer(alloc, &mut site, give_lower(1, 2)),
-        Some(Reply::Given { total: 5 })
-    );
-    assert_eq!(rt;
-        answer(alloc, &mut site, restate_lower(1)),
-        Some(Reply::Stated { total: 5 })
+    assert_answers(
+        &rt,
+        alloc,
+        &mut site,
+        &[
+            (give_lower(0, 1), itself),
+            (restate_lower(1), nothing),
+            (give_lower(1, 3), Reply::Given { total: 3 }),
+            (give_lower(1, 2), Reply::Given { total: 5 }),
+            (restate_lower(1), Reply::Stated { total: 5 }),
+        ],
     );
     assert_eq!(rt; site.share(STOCK), Some((15, 30)));
     Ok(())
@@ -246,19 +274,24 @@ fn accepts_up_to_the_room(rt: HostRuntime) -> Result<(), Fail> {
     let too_much = Reply::Refused(Refusal::Forged { room: 50 });
     let forged = Reply::Refused(Refusal::Forged { room: 0 });
     let not_yours = Reply::Refused(Refusal::NotYours);
-    assert_eq!(rt;
-        answer(alloc, &mut site, accept_lower(0, 0, 50)),
-        Some(not_yours)
-    );
-    assert_eq!(rt;
-        answer(alloc, &mut site, accept_lower(0, 1, 51)),
-        Some(too_much)
+    assert_answers(
+        &rt,
+        alloc,
+        &mut site,
+        &[
+            (accept_lower(0, 0, 50), not_yours),
+            (accept_lower(0, 1, 51), too_much),
+        ],
     );
     assert_eq!(rt; site.share(STOCK), Some((20, 30)));
-    assert_eq!(rt; answer(alloc, &mut site, accept_lower(0, 1, 50)), Some(all));
-    assert_eq!(rt;
-        answer(alloc, &mut site, accept_lower(0, 1, 51)),
-        Some(forged)
+    assert_answers(
+        &rt,
+        alloc,
+        &mut site,
+        &[
+            (accept_lower(0, 1, 50), all),
+            (accept_lower(0, 1, 51), forged),
+        ],
     );
     assert_eq!(rt; site.share(STOCK), Some((70, 30)));
     Ok(())
@@ -270,14 +303,15 @@ fn accepts_late_and_twice(rt: HostRuntime) -> Result<(), Fail> {
     let mut site = site_of_two(&rt, alloc, 1)?;
     let five = Reply::Accepted { gain: 5 };
     let nothing = Reply::Accepted { gain: 0 };
-    assert_eq!(rt; answer(alloc, &mut site, accept_lower(0, 1, 5)), Some(five));
-    assert_eq!(rt;
-        answer(alloc, &mut site, accept_lower(0, 1, 3)),
-        Some(nothing)
-    );
-    assert_eq!(rt;
-        answer(alloc, &mut site, accept_lower(0, 1, 5)),
-        Some(nothing)
+    assert_answers(
+        &rt,
+        alloc,
+        &mut site,
+        &[
+            (accept_lower(0, 1, 5), five),
+            (accept_lower(0, 1, 3), nothing),
+            (accept_lower(0, 1, 5), nothing),
+        ],
     );
     assert_eq!(rt; site.share(STOCK), Some((25, 30)));
     Ok(())
