@@ -71,6 +71,11 @@ fn levels_no_site(rt: HostRuntime) -> Result<(), Fail> {
 const WIDEST_OF_THREE: &str =
     "{\"sites\":3,\"fields\":[{\"name\":\"stock\",\"floor\":-1000000000000000,\"ceiling\":1000000000000000,\"value\":1000000000000000}]}";
 
+/// Adds a gift of so many lowering rights.
+fn add_gift(text: &mut String, from: &str, to: &str, amount: &str) -> Result<(), AllocError> {
+    add(text, &[from, " give ", to, " stock lower ", amount])
+}
+
 impl Talk {
     /// A gift of lowering rights with the total so far, and its delivery.
     fn carry(
@@ -89,10 +94,9 @@ impl Talk {
         let number = of_number.format(number);
         let amount = of_amount.format(amount);
         let total = of_total.format(total);
-        let gift = [from, " give ", to, " stock lower ", amount];
-        add(&mut self.input, &gift)?;
+        add_gift(&mut self.input, from, to, amount)?;
         add(&mut self.input, &["\ndeliver ", number, "\n"])?;
-        add(&mut self.wanted, &gift)?;
+        add_gift(&mut self.wanted, from, to, amount)?;
         add(&mut self.wanted, &[" -> given ", total, "\n"])?;
         add(
             &mut self.wanted,
