@@ -1,10 +1,10 @@
 -- The lines of a text that goes on.
-use Rattle.std.proofs.Common.{◌≡◌, ◌≢◌, ℕ, ◌-◌, ◌<◌, ◌≤◌, List, [], ◌∷◌, ◌++◌, Bool, true, false, cond, eqb, length, take, drop, refl, sym, ap, ◌∙◌, append_assoc, append-nil, take-append-drop, arith}
+use Rattle.std.proofs.Common.{◌≡◌, ◌≢◌, ℕ, suc, ◌+◌, ◌-◌, ◌<◌, ◌≤◌, List, [], ◌∷◌, ◌++◌, Bool, true, false, cond, eqb, length, take, drop, refl, sym, ap, ◌∙◌, append_assoc, append-nil, take-append-drop, arith}
 use Rattle.std.specs.List.{All}
-use Rattle.std.proofs.lemmas.List.{length-take-le, length-drop, take-take}
+use Rattle.std.proofs.lemmas.List.{length-take-le, length-drop, take-take, length-append, length_push}
 use Rattle.std.proofs.lemmas.Bool.{ne_eqb}
 use Rattle.std.proofs.lemmas.List.Elements.{All-tail}
-use Rattle.script_input.specs.Lines.{whole_lines_after, last_part_after, whole_lines, last_part, last_line, with_header}
+use Rattle.script_input.specs.Lines.{whole_lines_after, last_part_after, whole_lines, last_part, last_line, lines_of, with_header}
 
 pub whole_lines_after-append : (front bs cs : List ℕ)
     → whole_lines_after front (bs ++ cs) ≡ whole_lines_after front bs ++ whole_lines_after (last_part_after front bs) cs
@@ -82,6 +82,31 @@ pub with_header-some : (lines more : List (List ℕ)) (header : List ℕ) (behin
     → with_header (lines ++ more) ≡ lines ++ more
 with_header-some [] more header behind = λ e. cc
 with_header-some (line ∷ lines) more header behind = λ e. refl
+
+-- ---- how many lines there are
+
+last_line-most : (line : List ℕ) → length (last_line line) ≤ 1
+last_line-most [] = omega arith
+last_line-most (b ∷ bs) = omega arith
+
+-- one line more than the whole ones, at most
+lines_of-most : (read : List ℕ) → length (lines_of read) ≤ length (whole_lines read) + 1
+lines_of-most read =
+    omega (arith, length-append (whole_lines read) (last_line (last_part read)), last_line-most (last_part read))
+
+-- behind less lines than the limit, a part of one more is within it
+pub within-unbroken : (read piece : List ℕ) → All (λ b. b ≢ 10) piece → length (whole_lines read) < 1000000
+    → length (lines_of (read ++ piece)) ≤ 1000000
+within-unbroken read piece h room =
+    omega (arith, lines_of-most (read ++ piece), ap length (whole_lines-unbroken read piece h), room)
+
+-- and so is the LF behind it
+pub within-broken : (read : List ℕ) → length (whole_lines read) < 1000000 → length (lines_of (read ++ 10 ∷ [])) ≤ 1000000
+within-broken read room =
+    let lines : length (lines_of (read ++ 10 ∷ [])) ≡ length (whole_lines (read ++ 10 ∷ [])) =
+    ap (λ l. length (whole_lines (read ++ 10 ∷ []) ++ last_line l)) (last_part-broken read)
+    ∙ ap length (append-nil (whole_lines (read ++ 10 ∷ []))) in
+    omega (arith, lines, ap length (whole_lines-broken read), length_push (whole_lines read) (last_part read), room)
 
 -- ---- bytes that are some
 

@@ -9,7 +9,7 @@ use Rattle.script_input.specs.declared.fault.ScriptFault.{ScriptFault}
 use Rattle.script_input.specs.declared.fault.ScriptFault.TheVariants as faults
 use Rattle.script_input.specs.declared.streams.End.{End}
 use Rattle.script_input.specs.declared.streams.End.TheVariants.{Nothing}
-use Rattle.script_input.specs.Lines.{whole_lines}
+use Rattle.script_input.specs.Lines.{whole_lines, lines_of}
 use Rattle.script_input.specs.Streams.{one_more}
 
 -- How a fault of the schema is told: want of memory as such, any other as the header's fault.
@@ -28,6 +28,12 @@ TellsHeader faults.NoMemory told = Unit {0}
 -- The bytes begin with LF (10).
 abbrev pub BeginsWithBreak : List ℕ → Type 0
 BeginsWithBreak bs = (rest : List ℕ) × (bs ≡ 10 ∷ rest)
+
+-- An input is within the limits: at most 1,000,000 lines, a last one without LF counted where it has a byte, and at most
+-- 268,435,456 bytes.
+pub record IsWithin (read : List ℕ) : Type 0 where
+  pub lines : length (lines_of read) ≤ 1000000
+  pub bytes : length read ≤ 268435456
 
 -- What a fault says of the bytes in front of it and of those that were read after them.
 abbrev pub Explains : ScriptFault → List ℕ → List ℕ → Type 0 → Type 0
