@@ -92,6 +92,7 @@ Stands-start from r fresh = record {
     stands = rw (fresh.schema, fresh.entries) (refl, refl);
     line = fresh.line;
     lines = fresh.lines;
+    within = omega arith;
   };
   count = refl;
 }

@@ -13,7 +13,7 @@ use Rattle.script_input.specs.declared.fault.ScriptFault.{ScriptFault}
 use Rattle.script_input.specs.declared.fault.ScriptFault.TheVariants.{Read, TooLong, Write, Header, NoMemory}
 use Rattle.script_input.specs.Lines.{whole_lines_after, last_part_after, whole_lines, last_part, last_line, with_header, lines_of, script_lines}
 use Rattle.script_input.specs.Faults.{BeginsWithBreak, Explains}
-use Rattle.script_input.proofs.LineLemmas.{whole_lines_after-append, last_part_after-append, whole_lines-unbroken, last_part-unbroken, whole_lines-broken, last_part-broken, last_part_after-none, last_line-some, with_header-last, with_header-some}
+use Rattle.script_input.proofs.LineLemmas.{whole_lines_after-append, last_part_after-append, whole_lines-unbroken, last_part-unbroken, whole_lines-broken, last_part-broken, last_part_after-none, last_line-some, with_header-last, with_header-some, within-unbroken, within-broken}
 use Rattle.escrow_audit.specs.declared.reading.Stop.{Stop}
 use Rattle.escrow_audit.specs.declared.reading.Stop.TheVariants.{Fault, BadEntry}
 use Rattle.escrow_audit.specs.declared.reading.Reading.{Reading}
@@ -22,18 +22,19 @@ use Rattle.escrow_audit.specs.Reading.{HasKept, KeepStop, LineStop, HasEnded, Ha
 use Rattle.escrow_audit.proofs.Entries.{StandsFor-next, StandsFor-along, good_stands, none_lines, first_line, moved_some}
 
 -- with a piece that has no LF
-pub At-kept : (read piece : List ℕ) (old new : Reading) → All (λ b. b ≢ 10) piece → At read old → HasKept old new piece
-    → At (read ++ piece) new
-At-kept read piece old new unbroken at step =
+pub At-kept : (read piece : List ℕ) (old new : Reading) → All (λ b. b ≢ 10) piece → old.lines < 1000000 → At read old
+    → HasKept old new piece → At (read ++ piece) new
+At-kept read piece old new unbroken room at step =
     let same = whole_lines-unbroken read piece unbroken in record {
       stands = StandsFor-along _ _ _ _ _ _ (sym step.schema) (sym step.entries) (sym same) at.stands;
       line = step.line ∙ ap (λ l. l ++ piece) at.line ∙ sym (last_part-unbroken read piece unbroken);
       lines = step.lines ∙ at.lines ∙ ap length (sym same);
+      within = within-unbroken read piece unbroken (omega (arith, at.lines, room));
     }
 
 -- with an LF
-pub At-ended : (read : List ℕ) (old new : Reading) → At read old → HasEnded old new → At (read ++ 10 ∷ []) new
-At-ended read old new at step =
+pub At-ended : (read : List ℕ) (old new : Reading) → old.lines < 1000000 → At read old → HasEnded old new → At (read ++ 10 ∷ []) new
+At-ended read old new room at step =
     let more = whole_lines-broken read in
     let stands : IsAfterLines new.schema new.entries.items (whole_lines read ++ old.line.items ∷ []) =
     StandsFor-next old.schema new.schema (whole_lines read) old.line.items old.entries.items new.entries.items at.stands step.moves in
@@ -41,6 +42,7 @@ At-ended read old new at step =
       stands = subst (IsAfterLines new.schema new.entries.items) (ap (λ l. whole_lines read ++ l ∷ []) at.line ∙ sym more) stands;
       line = step.line ∙ sym (last_part-broken read);
       lines = step.lines ∙ ap (λ n. n + 1) at.lines ∙ sym (length_push (whole_lines read) (last_part read)) ∙ ap length (sym more);
+      within = within-broken read (omega (arith, at.lines, room));
     }
 
 pub At-along : (read other : List ℕ) (r : Reading) → read ≡ other → At read r → At other r
@@ -51,9 +53,9 @@ pub whole_last : (read line : List ℕ) → All (λ b. b ≢ 10) line → last_p
 whole_last read line unbroken none = last_part-unbroken read line unbroken ∙ ap (λ l. l ++ line) none
 
 -- with a line of which nothing was kept
-pub At-whole : (read line : List ℕ) (old new : Reading) → All (λ b. b ≢ 10) line → old.line.items ≡ [] → At read old → HasNoted old new line
-    → At (read ++ (line ++ 10 ∷ [])) new
-At-whole read line old new unbroken empty at step =
+pub At-whole : (read line : List ℕ) (old new : Reading) → All (λ b. b ≢ 10) line → old.line.items ≡ [] → old.lines < 1000000
+    → At read old → HasNoted old new line → At (read ++ (line ++ 10 ∷ [])) new
+At-whole read line old new unbroken empty room at step =
     let last : last_part (read ++ line) ≡ line = whole_last read line unbroken (sym at.line ∙ empty) in
     let more : whole_lines ((read ++ line) ++ 10 ∷ []) ≡ whole_lines read ++ line ∷ [] =
     whole_lines-broken (read ++ line) ∙ ap (λ ls. ls ++ last_part (read ++ line) ∷ []) (whole_lines-unbroken read line unbroken)
@@ -63,6 +65,7 @@ At-whole read line old new unbroken empty at step =
           (StandsFor-next old.schema new.schema (whole_lines read) line old.entries.items new.entries.items at.stands step.moves);
       line = step.kept ∙ empty ∙ sym (last_part-broken (read ++ line));
       lines = step.lines ∙ ap (λ n. n + 1) at.lines ∙ sym (length_push (whole_lines read) line) ∙ ap length (sym more);
+      within = within-broken (read ++ line) (omega (arith, ap length (whole_lines-unbroken read line unbroken), at.lines, room));
     })
 
 -- ---- the lines of bytes that go on
@@ -121,10 +124,10 @@ long_some (b ∷ part) more long e = cc
 
 -- a line behind the whole lines, that goes on or is ended, is the first bad entry
 pub bad_goes_on : (stop_at : ℕ) (a more : List ℕ) (s : Option SchemaValue) (entries : List Entry) (ended : Type 0)
-    → IsAfterLines s entries (whole_lines a) → IsSome s → stop_at ≡ length (whole_lines a) → max_line < length (last_part a)
+    → IsAfterLines s entries (whole_lines a) → IsSome s → stop_at ≡ length (whole_lines a) → stop_at < 1000000 → max_line < length (last_part a)
     → ((schema : SchemaValue) (rest : List ℕ) → s ≡ Some schema → IsBadEntry schema (last_part a ++ rest))
     → FindsBad (a ++ more) (stop_at + 1) ended
-bad_goes_on stop_at a more s entries ended stands some at long bad =
+bad_goes_on stop_at a more s entries ended stands some at room long bad =
     let w = whole_lines a in
     let p = last_part a in
     elim (part_on p more) [
@@ -139,6 +142,7 @@ bad_goes_on stop_at a more s entries ended stands some at long bad =
                 (first_bad s entries w (p ++ ends.0) _ _ stands some (λ schema e. bad schema ends.0 e)
                 (script_on s entries w _ _ some stands lines));
             reached = inl (omega (arith, count, at));
+            within = omega (arith, room);
           }
       | inr on ↦
           let lines : lines_of (a ++ more) ≡ w ++ (p ++ more) ∷ [] =
@@ -150,15 +154,16 @@ bad_goes_on stop_at a more s entries ended stands some at long bad =
                 (first_bad s entries w (p ++ more) [] _ stands some (λ schema e. bad schema more e)
                 (script_on s entries w _ _ some stands lines));
             reached = inr (inl (omega (arith, ap length last, length-append p more, long)));
+            within = omega (arith, room);
           }
     ]
 
 -- a line that an LF ends
 pub bad_ended : (stop_at : ℕ) (a more : List ℕ) (s : Option SchemaValue) (entries : List Entry) (ended : Type 0)
-    → IsAfterLines s entries (whole_lines a) → IsSome s → stop_at ≡ length (whole_lines a)
+    → IsAfterLines s entries (whole_lines a) → IsSome s → stop_at ≡ length (whole_lines a) → stop_at < 1000000
     → ((schema : SchemaValue) → s ≡ Some schema → IsBadEntry schema (last_part a))
     → FindsBad (a ++ 10 ∷ more) (stop_at + 1) ended
-bad_ended stop_at a more s entries ended stands some at bad =
+bad_ended stop_at a more s entries ended stands some at room bad =
     let w = whole_lines a in
     let p = last_part a in
     let lines : lines_of (a ++ 10 ∷ more) ≡ w ++ p ∷ (whole_lines more ++ last_line (last_part more)) = lines_on a (10 ∷ more) in
@@ -168,20 +173,23 @@ bad_ended stop_at a more s entries ended stands some at bad =
       first = subst (λ (n : ℕ). IsFirstBad (script_lines (a ++ 10 ∷ more)) n) (ap (λ n. n + 1) (sym at))
           (first_bad s entries w p _ _ stands some bad (script_on s entries w _ _ some stands lines));
       reached = inl (omega (arith, count, at));
+      within = omega (arith, room);
     }
 
 -- a last line that the end of the input ends
 pub bad_last : (stop_at : ℕ) (a : List ℕ) (s : Option SchemaValue) (entries : List Entry) (ended : Type 0)
-    → IsAfterLines s entries (whole_lines a) → IsSome s → stop_at ≡ length (whole_lines a) → (last_part a ≡ [] → ⊥)
+    → IsAfterLines s entries (whole_lines a) → IsSome s → stop_at ≡ length (whole_lines a)
+    → length (lines_of a) ≤ 1000000 → (last_part a ≡ [] → ⊥)
     → ((schema : SchemaValue) → s ≡ Some schema → IsBadEntry schema (last_part a)) → ended
     → FindsBad a (stop_at + 1) ended
-bad_last stop_at a s entries ended stands some at not_none bad is =
+bad_last stop_at a s entries ended stands some at within not_none bad is =
     let w = whole_lines a in
     let p = last_part a in
     let lines : lines_of a ≡ w ++ p ∷ [] = ap (λ (l : List (List ℕ)). w ++ l) (last_line-some p not_none) in record {
       first = subst (λ (n : ℕ). IsFirstBad (script_lines a) n) (ap (λ n. n + 1) (sym at))
           (first_bad s entries w p [] _ stands some bad (script_on s entries w _ _ some stands lines));
       reached = inr (inr is);
+      within = omega (arith, at, within, ap length lines, length_push w p);
     }
 
 -- ---- where the reading stops
@@ -202,8 +210,8 @@ stops_no_memory read ended = record { front = []; back = read; parts = refl; why
 
 -- a piece that isn't kept
 pub Stops-keep : (stop : Stop) (read piece more : List ℕ) (old new : Reading) (ended : Type 0) → All (λ b. b ≢ 10) piece → At read old
-    → KeepStop old piece stop → new.lines ≡ old.lines → Stops (read ++ (piece ++ more)) new.lines ended stop
-Stops-keep (Fault (Header e)) read piece more old new ended unbroken at why same =
+    → KeepStop old piece stop → new.lines ≡ old.lines → old.lines < 1000000 → Stops (read ++ (piece ++ more)) new.lines ended stop
+Stops-keep (Fault (Header e)) read piece more old new ended unbroken at why same room =
     let keeps = whole_lines-unbroken read piece unbroken in
     let none = none_lines old.schema old.entries.items (whole_lines read) why.1 at.stands in
     let all : old.line.items ≡ read = at.line ∙ all_of read none in record {
@@ -214,11 +222,11 @@ Stops-keep (Fault (Header e)) read piece more old new ended unbroken at why same
       good = inl (keeps ∙ none);
       other = λ h. cc;
     }
-Stops-keep (Fault NoMemory) read piece more old new ended unbroken at why same = stops_no_memory (read ++ (piece ++ more)) ended
-Stops-keep (Fault Read) read piece more old new ended unbroken at why same = absurd why
-Stops-keep (Fault TooLong) read piece more old new ended unbroken at why same = absurd why
-Stops-keep (Fault Write) read piece more old new ended unbroken at why same = absurd why
-Stops-keep BadEntry read piece more old new ended unbroken at why same =
+Stops-keep (Fault NoMemory) read piece more old new ended unbroken at why same room = stops_no_memory (read ++ (piece ++ more)) ended
+Stops-keep (Fault Read) read piece more old new ended unbroken at why same room = absurd why
+Stops-keep (Fault TooLong) read piece more old new ended unbroken at why same room = absurd why
+Stops-keep (Fault Write) read piece more old new ended unbroken at why same room = absurd why
+Stops-keep BadEntry read piece more old new ended unbroken at why same room =
     let a = read ++ piece in
     let keeps : whole_lines a ≡ whole_lines read = whole_lines-unbroken read piece unbroken in
     let last : last_part a ≡ last_part read ++ piece = last_part-unbroken read piece unbroken in
@@ -226,8 +234,8 @@ Stops-keep BadEntry read piece more old new ended unbroken at why same =
     omega (arith, why.1, ap length last, length-append (last_part read) piece, ap length at.line) in
     subst (λ (l : List ℕ). FindsBad l (new.lines + 1) ended) (append_assoc read piece more)
     (bad_goes_on new.lines a more old.schema old.entries.items ended
-    (subst (IsAfterLines old.schema old.entries.items) (sym keeps) at.stands) why.0 (same ∙ at.lines ∙ ap length (sym keeps)) long
-    (λ schema rest e. long_is_bad schema (last_part a ++ rest) (omega (arith, long, length-append (last_part a) rest))))
+    (subst (IsAfterLines old.schema old.entries.items) (sym keeps) at.stands) why.0 (same ∙ at.lines ∙ ap length (sym keeps))
+    (omega (arith, same, room)) long (λ schema rest e. long_is_bad schema (last_part a ++ rest) (omega (arith, long, length-append (last_part a) rest))))
 
 line_is_bad : (s : Option SchemaValue) (line : List ℕ) → LineStop s line BadEntry → IsSome s
     × ((schema : SchemaValue) → s ≡ Some schema → IsBadEntry schema line)
@@ -250,42 +258,44 @@ stops_header e read back s entries ended is_none told stands breaks =
 
 -- a line that an LF ends and that isn't taken in
 pub Stops-broken : (stop : Stop) (read more : List ℕ) (s : Option SchemaValue) (entries : List Entry) (lines : ℕ) (ended : Type 0)
-    → IsAfterLines s entries (whole_lines read) → lines ≡ length (whole_lines read) → LineStop s (last_part read) stop
-    → Stops (read ++ 10 ∷ more) lines ended stop
-Stops-broken (Fault (Header e)) read more s entries lines ended stands at why =
+    → IsAfterLines s entries (whole_lines read) → lines ≡ length (whole_lines read) → lines < 1000000
+    → LineStop s (last_part read) stop → Stops (read ++ 10 ∷ more) lines ended stop
+Stops-broken (Fault (Header e)) read more s entries lines ended stands at room why =
     stops_header e read (10 ∷ more) s entries ended why.0 why.1 stands (inl (more, refl))
-Stops-broken (Fault NoMemory) read more s entries lines ended stands at why = stops_no_memory (read ++ 10 ∷ more) ended
-Stops-broken (Fault Read) read more s entries lines ended stands at why = absurd why
-Stops-broken (Fault TooLong) read more s entries lines ended stands at why = absurd why
-Stops-broken (Fault Write) read more s entries lines ended stands at why = absurd why
-Stops-broken BadEntry read more s entries lines ended stands at why =
-    let bad = line_is_bad s (last_part read) why in bad_ended lines read more s entries ended stands bad.0 at bad.1
+Stops-broken (Fault NoMemory) read more s entries lines ended stands at room why = stops_no_memory (read ++ 10 ∷ more) ended
+Stops-broken (Fault Read) read more s entries lines ended stands at room why = absurd why
+Stops-broken (Fault TooLong) read more s entries lines ended stands at room why = absurd why
+Stops-broken (Fault Write) read more s entries lines ended stands at room why = absurd why
+Stops-broken BadEntry read more s entries lines ended stands at room why =
+    let bad = line_is_bad s (last_part read) why in bad_ended lines read more s entries ended stands bad.0 at room bad.1
 
 -- a last line that isn't taken in
 pub Stops-last : (stop : Stop) (read : List ℕ) (s : Option SchemaValue) (entries : List Entry) (lines : ℕ) (ended : Type 0)
-    → IsAfterLines s entries (whole_lines read) → lines ≡ length (whole_lines read) → (IsSome s → last_part read ≡ [] → ⊥)
+    → IsAfterLines s entries (whole_lines read) → lines ≡ length (whole_lines read) → length (lines_of read) ≤ 1000000
+    → (IsSome s → last_part read ≡ [] → ⊥)
     → LineStop s (last_part read) stop → ended → Stops read lines ended stop
-Stops-last (Fault (Header e)) read s entries lines ended stands at some why is =
+Stops-last (Fault (Header e)) read s entries lines ended stands at within some why is =
     subst (λ (l : List ℕ). FaultIn (Header e) l ended) (append-nil read)
     (stops_header e read [] s entries ended why.0 why.1 stands (inr (refl, is)))
-Stops-last (Fault NoMemory) read s entries lines ended stands at some why is = stops_no_memory read ended
-Stops-last (Fault Read) read s entries lines ended stands at some why is = absurd why
-Stops-last (Fault TooLong) read s entries lines ended stands at some why is = absurd why
-Stops-last (Fault Write) read s entries lines ended stands at some why is = absurd why
-Stops-last BadEntry read s entries lines ended stands at some why is =
-    let bad = line_is_bad s (last_part read) why in bad_last lines read s entries ended stands bad.0 at (some bad.0) bad.1 is
+Stops-last (Fault NoMemory) read s entries lines ended stands at within some why is = stops_no_memory read ended
+Stops-last (Fault Read) read s entries lines ended stands at within some why is = absurd why
+Stops-last (Fault TooLong) read s entries lines ended stands at within some why is = absurd why
+Stops-last (Fault Write) read s entries lines ended stands at within some why is = absurd why
+Stops-last BadEntry read s entries lines ended stands at within some why is =
+    let bad = line_is_bad s (last_part read) why in bad_last lines read s entries ended stands bad.0 at within (some bad.0) bad.1 is
 
 -- a line of which nothing was kept, and that isn't taken in
 pub Stops-whole : (stop : Stop) (read line more : List ℕ) (old new : Reading) (ended : Type 0) → All (λ b. b ≢ 10) line
     → old.line.items ≡ [] → At read old
-    → LineStop old.schema line stop → new.lines ≡ old.lines → Stops (read ++ (line ++ 10 ∷ more)) new.lines ended stop
-Stops-whole stop read line more old new ended unbroken empty at why same =
+    → LineStop old.schema line stop → new.lines ≡ old.lines → old.lines < 1000000
+    → Stops (read ++ (line ++ 10 ∷ more)) new.lines ended stop
+Stops-whole stop read line more old new ended unbroken empty at why same room =
     let keeps : whole_lines (read ++ line) ≡ whole_lines read = whole_lines-unbroken read line unbroken in
     let last : last_part (read ++ line) ≡ line = whole_last read line unbroken (sym at.line ∙ empty) in
     subst (λ (l : List ℕ). Stops l new.lines ended stop) (append_assoc read line (10 ∷ more))
     (Stops-broken stop (read ++ line) more old.schema old.entries.items new.lines ended
     (subst (IsAfterLines old.schema old.entries.items) (sym keeps) at.stands) (same ∙ at.lines ∙ ap length (sym keeps))
-    (subst (λ (l : List ℕ). LineStop old.schema l stop) (sym last) why))
+    (omega (arith, same, room)) (subst (λ (l : List ℕ). LineStop old.schema l stop) (sym last) why))
 
 pub Stops-along : (stop : Stop) (read other : List ℕ) (lines : ℕ) (ended : Type 0) → read ≡ other → Stops read lines ended stop
     → Stops other lines ended stop
@@ -359,6 +369,7 @@ Stops-weaker BadEntry read lines P Q f finds = record {
     | inl h ↦ inl h
     | inr h ↦ elim h [ inl k ↦ inr (inl k) | inr k ↦ inr (inr (f k)) ]
   ];
+  within = finds.within;
 }
 
 -- ---- the end of the input

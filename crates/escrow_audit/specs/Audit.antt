@@ -17,7 +17,7 @@ use Rattle.script_input.specs.declared.fault.ScriptFault.{ScriptFault}
 use Rattle.script_input.specs.declared.fault.ScriptFault.TheVariants as faults
 use Rattle.script_input.specs.declared.streams.End.{End}
 use Rattle.script_input.specs.Lines.{whole_lines, last_part, script_lines}
-use Rattle.script_input.specs.Faults.{Explains, HasEndedAt}
+use Rattle.script_input.specs.Faults.{Explains, HasEndedAt, IsWithin}
 use Rattle.script_input.specs.Streams.{AppendsPrefix}
 use Rattle.escrow_audit.specs.declared.answer.AuditEnd.{AuditEnd}
 use Rattle.escrow_audit.specs.declared.answer.AuditEnd.TheVariants as ends
@@ -97,10 +97,11 @@ pub record IsJudged (lines : List (List ℕ)) (end : AuditEnd) (text : List ℕ)
   pub told : text ≡ verdict_text (verdict_of schema entries) (length entries)
 
 -- The bytes have a bad entry, and this is the first. Of its line was read: its LF, or more than 256 bytes, or all up to the
--- end of the input.
+-- end of the input. It is within the limit on lines.
 pub record FindsBad (read : List ℕ) (number : ℕ) (ended : Type 0) : Type 0 where
   pub first : IsFirstBad (script_lines read) number
   pub reached : (number ≤ length (whole_lines read)) ⊎ ((max_line < length (last_part read)) ⊎ ended)
+  pub within : number ≤ 1000000
 
 -- What an audit answers of the bytes that it read, with what says that the input has ended: the first bad entry, or at the
 -- end of the input the verdict.
@@ -114,11 +115,18 @@ Answers end read text = IsAudit end read (Unit {0}) text
 
 -- ---- what an audit reads and writes
 
+-- A verdict is on an input within the limits on lines and bytes. At a bad entry nothing is said of what stands behind it.
+abbrev pub IsWithinAt : AuditEnd → List ℕ → Type 0
+IsWithinAt ends.Legal read = IsWithin read
+IsWithinAt ends.Illegal read = IsWithin read
+IsWithinAt ends.BadEntry read = Unit {0}
+
 -- The answer to all that was read is written.
 pub record Audits (from to before after : Option (List ℕ)) (last : End) (end : AuditEnd) : Type 0 where
   pub read : List ℕ
   pub text : List ℕ
   pub consumed : Consumes from to read
+  pub within : IsWithinAt end read
   pub answer : IsAudit end read (HasEndedAt to last) text
   pub written : Appends before after text
 

@@ -1,5 +1,5 @@
 -- What the parts of the reading do to its state (this project).
-use Rattle.std.specs.Prelude.{◌≡◌, ◌≢◌, ℕ, ◌+◌, ◌<◌, List, [], ◌∷◌, ◌++◌, length, ◌⊎◌, Option, None, Some, IsNone, IsSome, Result, Ok, Err}
+use Rattle.std.specs.Prelude.{◌≡◌, ◌≢◌, ℕ, ◌+◌, ◌<◌, ◌≤◌, List, [], ◌∷◌, ◌++◌, length, ◌⊎◌, Option, None, Some, IsNone, IsSome, Result, Ok, Err}
 use Rattle.std.specs.Io.KnownBytes.{Consumes}
 use Rattle.field_bounds.specs.Schema.{SchemaValue}
 use Rattle.field_bounds.specs.Header.{schema_of}
@@ -9,14 +9,14 @@ use Rattle.entry_text.specs.Lines.{max_line}
 use Rattle.script_input.specs.declared.fault.ScriptFault.{ScriptFault}
 use Rattle.script_input.specs.declared.fault.ScriptFault.TheVariants as faults
 use Rattle.script_input.specs.declared.streams.End.{End}
-use Rattle.script_input.specs.Lines.{whole_lines, last_part, script_lines}
-use Rattle.script_input.specs.Faults.{Explains, HasEndedAt, CountsRead}
+use Rattle.script_input.specs.Lines.{whole_lines, last_part, lines_of, script_lines}
+use Rattle.script_input.specs.Faults.{Explains, HasEndedAt, IsWithin, CountsRead}
 use Rattle.escrow_audit.specs.declared.reading.Stop.{Stop}
 use Rattle.escrow_audit.specs.declared.reading.Stop.TheVariants.{Fault, BadEntry}
 use Rattle.escrow_audit.specs.declared.reading.Reading.{Reading}
 use Rattle.escrow_audit.specs.declared.answer.AuditEnd.{AuditEnd}
 use Rattle.escrow_audit.specs.Remarks.{IsRemark}
-use Rattle.escrow_audit.specs.Audit.{IsEntry, IsBadEntry, HasEntries, IsGood, FindsBad, IsAudit}
+use Rattle.escrow_audit.specs.Audit.{IsEntry, IsBadEntry, HasEntries, IsGood, FindsBad, IsAudit, IsWithinAt}
 
 -- A line behind the header is taken in: an entry joins the others, and a remark is left out.
 abbrev pub Notes : SchemaValue → List ℕ → List Entry → List Entry → Type 0
@@ -82,11 +82,12 @@ abbrev pub IsAfterLines : Option SchemaValue → List Entry → List (List ℕ) 
 IsAfterLines None entries lines = (lines ≡ []) × (entries ≡ [])
 IsAfterLines (Some schema) entries lines = HasEntries schema entries lines
 
--- The state after these bytes.
+-- The state after these bytes, whose lines are within the limit.
 pub record At (read : List ℕ) (r : Reading) : Type 0 where
   pub stands : IsAfterLines r.schema r.entries.items (whole_lines read)
   pub line : r.line.items ≡ last_part read
   pub lines : r.lines ≡ length (whole_lines read)
+  pub within : length (lines_of read) ≤ 1000000
 
 -- The fault came in these bytes.
 pub record FaultIn (fault : ScriptFault) (read : List ℕ) (ended : Type 0) : Type 0 where
@@ -135,9 +136,10 @@ pub record IsFresh (r : Reading) : Type 0 where
   pub line : r.line.items ≡ []
   pub lines : r.lines ≡ 0
 
--- All of the input is read, and the entries are those of its lines.
+-- All of the input is read, it is within the limits, and the entries are those of its lines.
 abbrev pub ReadsThrough : Option (List ℕ) → Option (List ℕ) → End → Reading → Type 0
-ReadsThrough from to last r = (read : List ℕ) × (Consumes from to read × (HasEndedAt to last × Holds r (script_lines read)))
+ReadsThrough from to last r =
+    (read : List ℕ) × (Consumes from to read × (HasEndedAt to last × (IsWithin read × Holds r (script_lines read))))
 
 -- The reading stopped in what was read.
 abbrev pub StopsAfter : Option (List ℕ) → Option (List ℕ) → End → Reading → Stop → Type 0
@@ -155,7 +157,8 @@ StopsNext middle to old new last bytes stop =
 
 -- What is answered of all that was read.
 abbrev pub Tells : Option (List ℕ) → Option (List ℕ) → End → AuditEnd → List ℕ → Type 0
-Tells from to last end text = (read : List ℕ) × (Consumes from to read × IsAudit end read (HasEndedAt to last) text)
+Tells from to last end text =
+    (read : List ℕ) × (Consumes from to read × (IsWithinAt end read × IsAudit end read (HasEndedAt to last) text))
 
 -- The fault came in what was read.
 abbrev pub FaultsIn : Option (List ℕ) → Option (List ℕ) → End → ScriptFault → Type 0

@@ -7,7 +7,9 @@ ghost use Rattle.escrow_audit.specs.Reading.{Notes, NoteStop};
 use crate::remark::is_remark;
 use entry_text::{MAX_LINE, read_entry};
 use field_bounds::{Entry, MAX_HEADER, Schema, SchemaFault};
-use script_input::{MOST_BYTES, MOST_LINES, ScriptFault, Source, front, new_buffer, split_line};
+use script_input::{
+    MOST_BYTES, MOST_LINES, ScriptFault, Source, front, new_buffer, read_piece, split_line,
+};
 use std::alloc::{AllocError, Global};
 
 /// Why the reading ended before the input did: a fault, or a line that is neither an entry nor a
@@ -232,9 +234,9 @@ impl Reading {
             → HasFailed (R.last reader.new)) }
         ensures reads { CountsStops result (R.failures reader.old) (R.failures reader.new) }
     {
-        let count = match reader.read(buffer) {
+        let count = match read_piece(reader, buffer) {
             Ok(count) => count,
-            Err(_) => return Err(Stop::Fault(ScriptFault::Read)),
+            Err(fault) => return Err(Stop::Fault(fault)),
         };
         if count == 0 {
             return Ok(0);

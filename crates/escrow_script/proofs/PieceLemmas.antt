@@ -151,6 +151,7 @@ At-start s w fresh = record {
   stands = rw fresh.machine (refl, fresh.out);
   line = fresh.line ∙ sym (kept-nil s.machine);
   lines = fresh.lines;
+  within = omega arith;
 }
 
 pub Stands-start : (from before : Option (List ℕ)) (s : Script) → IsFresh s → HasRead from from before before s 0
@@ -179,10 +180,11 @@ Stops-memory from before s ended fresh = (
 pub Answers-written : (from to before middle after : Option (List ℕ)) (s : Script)
     → RunsThrough from to before middle s → Appends middle after s.out.items → Answers from to before after
 Answers-written from to before middle after s runs appended =
-    let (read, consumed, end, (schema, (steps, (written, wrote, has)))) = runs in record {
+    let (read, consumed, end, within, (schema, (steps, (written, wrote, has)))) = runs in record {
       read = read;
       consumed = consumed;
       end = end;
+      within = within;
       schema = schema;
       steps = steps;
       text = written ++ s.out.items;
@@ -226,7 +228,7 @@ on_ok (Err fault) P Q f p = tt
 pub Fails-last : (from to before middle after : Option (List ℕ)) (s : Script) (ended : End)
     → RunsThrough from to before middle s → AppendsPrefix middle after s.out.items → Fails from to before after ended Write
 Fails-last from to before middle after s ended runs front =
-    let (read, consumed, end, (schema, (steps, (written, wrote, has)))) = runs in record {
+    let (read, consumed, end, within, (schema, (steps, (written, wrote, has)))) = runs in record {
       front = read;
       back = [];
       consumed = subst (Consumes from to) (sym (append-nil read)) consumed;

@@ -1,5 +1,5 @@
 -- The state of a run, step by step.
-use Rattle.std.proofs.Common.{◌≡◌, ◌≢◌, ℕ, ◌+◌, ◌<◌, ◌≤◌, List, [], ◌∷◌, ◌++◌, Option, None, Some, Err, length, take, reverse, refl, sym, ap, ◌∙◌, subst, append_assoc, append-nil, inl, inr, ◌⊎◌}
+use Rattle.std.proofs.Common.{◌≡◌, ◌≢◌, ℕ, ◌+◌, ◌<◌, ◌≤◌, List, [], ◌∷◌, ◌++◌, Option, None, Some, Err, length, take, reverse, refl, sym, ap, ◌∙◌, subst, append_assoc, append-nil, inl, inr, ◌⊎◌, arith}
 use Rattle.std.proofs.lemmas.List.{length_push, length-append}
 use Rattle.std.proofs.Math.Seq.{take-append-add}
 use Rattle.std.specs.List.{All}
@@ -17,7 +17,7 @@ use Rattle.escrow_script.specs.Text.{IsTextOf}
 use Rattle.script_input.specs.Faults.{BeginsWithBreak}
 use Rattle.script_input.specs.Streams.{AppendsPrefix}
 use Rattle.escrow_script.specs.Run.{At, HasKept, CannotKeep, HasEnded, CannotEnd, HasAnswered, HasWritten, Stops, line_held, with_piece, Leaves, LeavesPrefix, IsAfterLines, Moves, Completes}
-use Rattle.script_input.proofs.LineLemmas.{whole_lines-unbroken, last_part-unbroken, whole_lines-broken, last_part-broken, last_part_after-none, last_line-some, with_header-last, with_header-some}
+use Rattle.script_input.proofs.LineLemmas.{whole_lines-unbroken, last_part-unbroken, whole_lines-broken, last_part-broken, last_part_after-none, last_line-some, with_header-last, with_header-some, within-unbroken, within-broken}
 use Rattle.escrow_script.proofs.TextLemmas.{StandsFor-next, StandsFor-more, with_piece-kept}
 
 StandsFor-along : (m n : Option Machine) (ks ls : List (List ℕ)) (s t : List ℕ) → m ≡ n → ks ≡ ls → s ≡ t → IsAfterLines m ks s
@@ -31,8 +31,8 @@ IsTextOf-stands (Some m) lines text stands = inr (m.world.schema, (reverse m.wor
 
 -- with a piece that has no LF
 pub At-kept : (read piece : List ℕ) (old new : Script) (before after : Option (List ℕ)) → All (λ b. b ≢ 10) piece
-    → At read old before after → HasKept old new piece → At (read ++ piece) new before after
-At-kept read piece old new before after unbroken at step =
+    → old.lines < 1000000 → At read old before after → HasKept old new piece → At (read ++ piece) new before after
+At-kept read piece old new before after unbroken room at step =
     let same = whole_lines-unbroken read piece unbroken in record {
       written = at.written;
       appended = at.appended;
@@ -41,6 +41,7 @@ At-kept read piece old new before after unbroken at step =
           ∙ ap (line_held old.machine) (sym (last_part-unbroken read piece unbroken))
           ∙ ap (λ m. line_held m (last_part (read ++ piece))) (sym step.machine);
       lines = step.lines ∙ at.lines ∙ ap length (sym same);
+      within = within-unbroken read piece unbroken (omega (arith, at.lines, room));
     }
 
 pub kept-nil : (m : Option Machine) → line_held m [] ≡ []
@@ -65,8 +66,8 @@ Ended-stands read old new before after at step =
 
 -- with an LF
 pub At-ended : (read : List ℕ) (old new : Script) (before after : Option (List ℕ))
-    → At read old before after → HasEnded old new → At (read ++ 10 ∷ []) new before after
-At-ended read old new before after at step =
+    → old.lines < 1000000 → At read old before after → HasEnded old new → At (read ++ 10 ∷ []) new before after
+At-ended read old new before after room at step =
     let more = whole_lines-broken read in
     record {
       written = at.written;
@@ -75,6 +76,7 @@ At-ended read old new before after at step =
           (Ended-stands read old new before after at step);
       line = step.line ∙ sym (ap (line_held new.machine) (last_part-broken read) ∙ kept-nil new.machine);
       lines = step.lines ∙ ap (λ n. n + 1) at.lines ∙ sym (length_push (whole_lines read) (last_part read)) ∙ ap length (sym more);
+      within = within-broken read (omega (arith, at.lines, room));
     }
 
 -- with the output written
@@ -87,6 +89,7 @@ At-written read old new before middle after at step appended = record {
       (sym (ap (λ l. (at.written ++ old.out.items) ++ l) step.out ∙ append-nil (at.written ++ old.out.items))) at.stands;
   line = step.line ∙ at.line ∙ ap (λ m. line_held m (last_part read)) (sym step.machine);
   lines = step.lines ∙ at.lines;
+  within = at.within;
 }
 
 -- with a front of the output written
@@ -222,8 +225,9 @@ some_lines (Some m) wl text some stands = with_header-some wl [] stands.header s
 -- ---- a line of which nothing was kept
 
 pub At-whole : (read line : List ℕ) (old new : Script) (before after : Option (List ℕ)) → All (λ b. b ≢ 10) line
-    → old.line.items ≡ [] → At read old before after → HasAnswered old new line → At (read ++ (line ++ 10 ∷ [])) new before after
-At-whole read line old new before after unbroken empty at step =
+    → old.line.items ≡ [] → old.lines < 1000000 → At read old before after → HasAnswered old new line
+    → At (read ++ (line ++ 10 ∷ [])) new before after
+At-whole read line old new before after unbroken empty room at step =
     let none : last_part read ≡ [] = kept-empty old.machine (last_part read) (sym at.line ∙ empty) in
     let last : last_part (read ++ line) ≡ line = last_part-unbroken read line unbroken ∙ ap (λ l. l ++ line) none in
     let more : whole_lines ((read ++ line) ++ 10 ∷ []) ≡ whole_lines read ++ line ∷ [] =
@@ -236,6 +240,7 @@ At-whole read line old new before after unbroken empty at step =
           (StandsFor-next old.machine new.machine (whole_lines read) line at.written old.out.items new.out.items at.stands step.machine);
       line = step.kept ∙ empty ∙ sym (ap (line_held new.machine) (last_part-broken (read ++ line)) ∙ kept-nil new.machine);
       lines = step.lines ∙ ap (λ n. n + 1) at.lines ∙ sym (length_push (whole_lines read) line) ∙ ap length (sym more);
+      within = within-broken (read ++ line) (omega (arith, ap length (whole_lines-unbroken read line unbroken), at.lines, room));
     })
 
 -- memory ran out before anything changed what is to be written

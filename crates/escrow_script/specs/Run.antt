@@ -15,8 +15,8 @@ use Rattle.world_steps.specs.declared.step.WorldStep.{WorldStep}
 use Rattle.world_steps.specs.declared.step.WorldStep.TheVariants.{Do, Deliver}
 use Rattle.field_bounds.specs.declared.entry.Entry.{Entry}
 use Rattle.world_steps.specs.View.{WorldValue}
-use Rattle.script_input.specs.Lines.{whole_lines, last_part, script_lines}
-use Rattle.script_input.specs.Faults.{HasEndedAt, Explains}
+use Rattle.script_input.specs.Lines.{whole_lines, last_part, lines_of, script_lines}
+use Rattle.script_input.specs.Faults.{HasEndedAt, IsWithin, Explains}
 use Rattle.script_input.specs.Streams.{AppendsPrefix}
 
 -- A line with the next bytes: all of them in a header line, and else as many as tell that the line is too long.
@@ -105,13 +105,14 @@ abbrev pub IsAfterLines : Option Machine → List (List ℕ) → List ℕ → Ty
 IsAfterLines None lines text = (lines ≡ []) × (text ≡ [])
 IsAfterLines (Some m) lines text = HasText m.world.schema (reverse m.world.steps) lines text
 
--- The state after these bytes, with the writer's known bytes before and after.
+-- The state after these bytes, whose lines are within the limit, with the writer's known bytes before and after.
 pub record At (read : List ℕ) (s : Script) (before after : Option (List ℕ)) : Type 0 where
   pub written : List ℕ
   pub appended : Appends before after written
   pub stands : IsAfterLines s.machine (whole_lines read) (written ++ s.out.items)
   pub line : s.line.items ≡ line_held s.machine (last_part read)
   pub lines : s.lines ≡ length (whole_lines read)
+  pub within : length (lines_of read) ≤ 1000000
 
 -- The output is written.
 pub record HasWritten (old new : Script) : Type 0 where
@@ -196,10 +197,10 @@ pub record IsFresh (s : Script) : Type 0 where
   pub lines : s.lines ≡ 0
   pub out : s.out.items ≡ []
 
--- All of the input is read, and what is written, with the buffer, is its text.
+-- All of the input is read, it is within the limits, and what is written, with the buffer, is its text.
 abbrev pub RunsThrough : Option (List ℕ) → Option (List ℕ) → Option (List ℕ) → Option (List ℕ) → Script → Type 0
 RunsThrough from to before after s =
-    (read : List ℕ) × Consumes from to read × IsAtEnd to × Completes before after s.out.items (script_lines read)
+    (read : List ℕ) × Consumes from to read × IsAtEnd to × IsWithin read × Completes before after s.out.items (script_lines read)
 
 -- The fault came in what was read.
 abbrev pub StopsAfter : Option (List ℕ) → Option (List ℕ) → Option (List ℕ) → Option (List ℕ) → Script → End → ScriptFault → Type 0
@@ -220,11 +221,12 @@ StopsNext middle to written after old new last bytes fault =
     (from before : Option (List ℕ)) → HasRead from middle before written old bytes
     → StopsAfter from to before after new last fault
 
--- All known bytes of the reader are read, and the text of their lines is written.
+-- All known bytes of the reader are read, they are within the limits on lines and bytes, and the text of their lines is written.
 pub record Answers (from to before after : Option (List ℕ)) : Type 0 where
   pub read : List ℕ
   pub consumed : Consumes from to read
   pub end : IsAtEnd to
+  pub within : IsWithin read
   pub schema : SchemaValue
   pub steps : List WorldStep
   pub text : List ℕ

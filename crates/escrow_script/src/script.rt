@@ -9,7 +9,8 @@ use crate::machine::{Machine, add_line};
 use entry_text::MAX_LINE;
 use field_bounds::{MAX_HEADER, SchemaFault};
 use script_input::{
-    MOST_BYTES, MOST_LINES, PIECE, ScriptFault, Sink, Source, front, new_buffer, split_line,
+    MOST_BYTES, MOST_LINES, PIECE, ScriptFault, Sink, Source, front, new_buffer, read_piece,
+    split_line,
 };
 use std::alloc::{AllocError, Global};
 
@@ -236,10 +237,7 @@ impl Script {
         ensures empty { IfErr result (λ fault. fault ≡ ScriptFault.Read → self.new.out.items ≡ []) }
     {
         self.write_out(writer)?;
-        let count = match reader.read(buffer) {
-            Ok(count) => count,
-            Err(_) => return Err(ScriptFault::Read),
-        };
+        let count = read_piece(reader, buffer)?;
         if count == 0 {
             return Ok(0);
         }

@@ -11,7 +11,7 @@ use Rattle.script_input.specs.declared.fault.ScriptFault.{ScriptFault}
 use Rattle.script_input.specs.declared.fault.ScriptFault.TheVariants.{Read, TooLong, Write, Header, NoMemory}
 use Rattle.script_input.specs.Lines.{whole_lines_after, last_part_after, whole_lines, last_part, last_line, with_header, lines_of, script_lines}
 use Rattle.script_input.specs.Faults.{BeginsWithBreak, Explains}
-use Rattle.script_input.proofs.LineLemmas.{whole_lines_after-append, last_part_after-append, whole_lines-unbroken, last_part-unbroken, whole_lines-broken, last_part-broken, last_part_after-none, last_line-some, with_header-last, with_header-some}
+use Rattle.script_input.proofs.LineLemmas.{whole_lines_after-append, last_part_after-append, whole_lines-unbroken, last_part-unbroken, whole_lines-broken, last_part-broken, last_part_after-none, last_line-some, with_header-last, with_header-some, within-unbroken, within-broken}
 use Rattle.field_bounds.specs.Schema.{SchemaValue}
 use Rattle.site_workers.specs.Scripts.{scripts_of}
 use Rattle.escrow_work.specs.declared.reading.Stop.{Stop}
@@ -24,24 +24,26 @@ use Rattle.escrow_work.specs.Reading.{HasKept, KeepStop, LineStop, HasEnded, Has
 use Rattle.escrow_work.proofs.Asked.{StandsFor-next, StandsFor-along, good_stands, none_lines, first_line, moved_some}
 
 -- with a piece that has no LF
-pub At-kept : (read piece : List ℕ) (old new : Reading) → All (λ b. b ≢ 10) piece → At read old → HasKept old new piece
-    → At (read ++ piece) new
-At-kept read piece old new unbroken at step =
+pub At-kept : (read piece : List ℕ) (old new : Reading) → All (λ b. b ≢ 10) piece → old.lines < 1000000 → At read old
+    → HasKept old new piece → At (read ++ piece) new
+At-kept read piece old new unbroken room at step =
     let same = whole_lines-unbroken read piece unbroken in record {
       stands = StandsFor-along _ _ _ _ (sym step.scripts) (sym same) at.stands;
       line = step.line ∙ ap (λ l. l ++ piece) at.line ∙ sym (last_part-unbroken read piece unbroken);
       lines = step.lines ∙ at.lines ∙ ap length (sym same);
+      within = within-unbroken read piece unbroken (omega (arith, at.lines, room));
     }
 
 -- with an LF
-pub At-ended : (read : List ℕ) (old new : Reading) → At read old → HasEnded old new → At (read ++ 10 ∷ []) new
-At-ended read old new at step =
+pub At-ended : (read : List ℕ) (old new : Reading) → old.lines < 1000000 → At read old → HasEnded old new → At (read ++ 10 ∷ []) new
+At-ended read old new room at step =
     let more = whole_lines-broken read in
     let stands : IsAfterLines new.scripts (whole_lines read ++ old.line.items ∷ []) =
     StandsFor-next old.scripts new.scripts (whole_lines read) old.line.items at.stands step.moves in record {
       stands = subst (IsAfterLines new.scripts) (ap (λ l. whole_lines read ++ l ∷ []) at.line ∙ sym more) stands;
       line = step.line ∙ sym (last_part-broken read);
       lines = step.lines ∙ ap (λ n. n + 1) at.lines ∙ sym (length_push (whole_lines read) (last_part read)) ∙ ap length (sym more);
+      within = within-broken read (omega (arith, at.lines, room));
     }
 
 pub At-along : (read other : List ℕ) (r : Reading) → read ≡ other → At read r → At other r
@@ -52,9 +54,9 @@ pub whole_last : (read line : List ℕ) → All (λ b. b ≢ 10) line → last_p
 whole_last read line unbroken none = last_part-unbroken read line unbroken ∙ ap (λ l. l ++ line) none
 
 -- with a line of which nothing was kept
-pub At-whole : (read line : List ℕ) (old new : Reading) → All (λ b. b ≢ 10) line → old.line.items ≡ [] → At read old → HasNoted old new line
-    → At (read ++ (line ++ 10 ∷ [])) new
-At-whole read line old new unbroken empty at step =
+pub At-whole : (read line : List ℕ) (old new : Reading) → All (λ b. b ≢ 10) line → old.line.items ≡ [] → old.lines < 1000000
+    → At read old → HasNoted old new line → At (read ++ (line ++ 10 ∷ [])) new
+At-whole read line old new unbroken empty room at step =
     let last : last_part (read ++ line) ≡ line = whole_last read line unbroken (sym at.line ∙ empty) in
     let more : whole_lines ((read ++ line) ++ 10 ∷ []) ≡ whole_lines read ++ line ∷ [] =
     whole_lines-broken (read ++ line) ∙ ap (λ ls. ls ++ last_part (read ++ line) ∷ []) (whole_lines-unbroken read line unbroken)
@@ -64,6 +66,7 @@ At-whole read line old new unbroken empty at step =
           (StandsFor-next old.scripts new.scripts (whole_lines read) line at.stands step.moves);
       line = step.kept ∙ empty ∙ sym (last_part-broken (read ++ line));
       lines = step.lines ∙ ap (λ n. n + 1) at.lines ∙ sym (length_push (whole_lines read) line) ∙ ap length (sym more);
+      within = within-broken (read ++ line) (omega (arith, ap length (whole_lines-unbroken read line unbroken), at.lines, room));
     })
 
 -- ---- the lines of bytes that go on

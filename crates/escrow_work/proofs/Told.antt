@@ -47,7 +47,7 @@ pub fit_through : (from to : Option (List ℕ)) (last : End) (r : Reading) (w : 
     → r.scripts ≡ Some w → ScriptsFit w.schema (scripts_of w.rows.items)
 fit_through from to last r w through is =
     let stands : IsAfterLines (Some w) (script_lines through.0) = subst (λ (x : Option Scripts). IsAfterLines x
-    (script_lines through.0)) is through.1.1.1.1 in
+    (script_lines through.0)) is through.1.1.1.1.1 in
     subst (λ (l : List (List Command)). ScriptsFit w.schema l) (sym stands.dealt)
     (dealt_fit w.schema stands.behind stands.asked stands.each)
 
@@ -70,7 +70,7 @@ faults_through from to last r w fault through is none =
           record {
             header = w.header.items;
             good = subst (λ
-                (x : Option Scripts). IsAfterLines x (script_lines through.0)) is through.1.1.1.1;
+                (x : Option Scripts). IsAfterLines x (script_lines through.0)) is through.1.1.1.1.1;
             at = through.1.1.0;
           },
         ),
@@ -84,7 +84,7 @@ faults_through from to last r w fault through is none =
           record {
             header = w.header.items;
             good = subst (λ
-                (x : Option Scripts). IsAfterLines x (script_lines through.0)) is through.1.1.1.1;
+                (x : Option Scripts). IsAfterLines x (script_lines through.0)) is through.1.1.1.1.1;
             at = through.1.1.0;
           },
           none,

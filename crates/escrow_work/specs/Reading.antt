@@ -1,5 +1,5 @@
 -- What the parts of the reading do to its state (this project).
-use Rattle.std.specs.Prelude.{◌≡◌, ℕ, ◌+◌, ◌<◌, List, [], ◌++◌, length, Option, None, Some, IsNone, IsSome, Result, Ok, Err}
+use Rattle.std.specs.Prelude.{◌≡◌, ℕ, ◌+◌, ◌<◌, ◌≤◌, List, [], ◌++◌, length, Option, None, Some, IsNone, IsSome, Result, Ok, Err}
 use Rattle.std.specs.Io.KnownBytes.{Consumes}
 use Rattle.field_bounds.specs.Header.{schema_of}
 use Rattle.field_bounds.specs.declared.id.SiteNo.{SiteNo}
@@ -9,8 +9,8 @@ use Rattle.entry_text.specs.Lines.{max_line}
 use Rattle.script_input.specs.declared.fault.ScriptFault.{ScriptFault}
 use Rattle.script_input.specs.declared.fault.ScriptFault.TheVariants as faults
 use Rattle.script_input.specs.declared.streams.End.{End}
-use Rattle.script_input.specs.Lines.{whole_lines, last_part, script_lines}
-use Rattle.script_input.specs.Faults.{HasEndedAt, CountsRead}
+use Rattle.script_input.specs.Lines.{whole_lines, last_part, lines_of, script_lines}
+use Rattle.script_input.specs.Faults.{HasEndedAt, IsWithin, CountsRead}
 use Rattle.site_workers.specs.Scripts.{scripts_of}
 use Rattle.escrow_work.specs.declared.reading.Stop.{Stop}
 use Rattle.escrow_work.specs.declared.reading.Stop.TheVariants.{Fault, BadLine}
@@ -104,11 +104,12 @@ abbrev pub IsAfterLines : Option Scripts → List (List ℕ) → Type 0
 IsAfterLines None lines = lines ≡ []
 IsAfterLines (Some scripts) lines = HasScripts scripts.schema scripts.header.items (scripts_of scripts.rows.items) lines
 
--- The state after these bytes.
+-- The state after these bytes, whose lines are within the limit.
 pub record At (read : List ℕ) (r : Reading) : Type 0 where
   pub stands : IsAfterLines r.scripts (whole_lines read)
   pub line : r.line.items ≡ last_part read
   pub lines : r.lines ≡ length (whole_lines read)
+  pub within : length (lines_of read) ≤ 1000000
 
 -- The reading stopped in these bytes, behind so many whole lines.
 abbrev pub Stops : List ℕ → ℕ → Type 0 → Stop → Type 0
@@ -147,9 +148,10 @@ pub record IsFresh (r : Reading) : Type 0 where
   pub line : r.line.items ≡ []
   pub lines : r.lines ≡ 0
 
--- All of the input is read, and the scripts are those of its lines.
+-- All of the input is read, it is within the limits, and the scripts are those of its lines.
 abbrev pub ReadsThrough : Option (List ℕ) → Option (List ℕ) → End → Reading → Type 0
-ReadsThrough from to last r = (read : List ℕ) × (Consumes from to read × (HasEndedAt to last × Holds r (script_lines read)))
+ReadsThrough from to last r =
+    (read : List ℕ) × (Consumes from to read × (HasEndedAt to last × (IsWithin read × Holds r (script_lines read))))
 
 -- The reading stopped in what was read.
 abbrev pub StopsAfter : Option (List ℕ) → Option (List ℕ) → End → Reading → Stop → Type 0

@@ -17,7 +17,7 @@ use Rattle.script_input.specs.declared.fault.ScriptFault.{ScriptFault}
 use Rattle.script_input.specs.declared.fault.ScriptFault.TheVariants as faults
 use Rattle.script_input.specs.declared.streams.End.{End}
 use Rattle.script_input.specs.Lines.{whole_lines, last_part, script_lines}
-use Rattle.script_input.specs.Faults.{Explains, HasEndedAt, CountsRead, CountsWrite}
+use Rattle.script_input.specs.Faults.{Explains, HasEndedAt, IsWithin, CountsRead, CountsWrite}
 use Rattle.script_input.specs.Streams.{AppendsPrefix}
 use Rattle.escrow_work.specs.declared.fault.WorkTextFault.{WorkTextFault}
 use Rattle.escrow_work.specs.declared.fault.WorkTextFault.TheVariants as ends
@@ -66,12 +66,13 @@ pub record IsWorkOf (lines : List (List ℕ)) (text : List ℕ) : Type 0 where
   pub made : WorksLegally schema scripts entries
   pub told : text ≡ work_text schema header entries
 
--- The work of all that was read is written, and the input has ended.
+-- The work of all that was read is written, the input has ended, and it is within the limits on lines and bytes.
 pub record WritesWork (from to before after : Option (List ℕ)) (last : End) : Type 0 where
   pub read : List ℕ
   pub text : List ℕ
   pub consumed : Consumes from to read
   pub ended : HasEndedAt to last
+  pub within : IsWithin read
   pub work : IsWorkOf (script_lines read) text
   pub written : Appends before after text
 
@@ -126,9 +127,10 @@ MakesNone schema scripts (ends.Work fault) = IsWorkFault fault
 MakesNone schema scripts ends.Stuck = Sticks schema scripts
 MakesNone schema scripts ends.Illegal = ⊥
 
--- The text of the work of all that was read, at whose end the input has ended.
+-- The text of the work of all that was read, at whose end the input has ended, and which is within the limits.
 abbrev pub Tells : Option (List ℕ) → Option (List ℕ) → End → List ℕ → Type 0
-Tells from to last text = (read : List ℕ) × (Consumes from to read × (HasEndedAt to last × IsWorkOf (script_lines read) text))
+Tells from to last text =
+    (read : List ℕ) × (Consumes from to read × (HasEndedAt to last × (IsWithin read × IsWorkOf (script_lines read) text)))
 
 -- The fault came in what was read.
 abbrev pub FaultsIn : Option (List ℕ) → Option (List ℕ) → End → WorkTextFault → Type 0

@@ -6,7 +6,9 @@ ghost use Rattle.script_input.specs.Streams.{HasFailed, GaveNothing};
 use crate::scripts::Scripts;
 use entry_text::MAX_LINE;
 use field_bounds::{MAX_HEADER, SchemaFault};
-use script_input::{MOST_BYTES, MOST_LINES, ScriptFault, Source, front, new_buffer, split_line};
+use script_input::{
+    MOST_BYTES, MOST_LINES, ScriptFault, Source, front, new_buffer, read_piece, split_line,
+};
 use std::alloc::{AllocError, Global};
 
 /// Why the reading ended before the input did: a fault, or a line that is no plain command.
@@ -201,9 +203,9 @@ impl Reading {
             stop ≡ Fault ScriptFault.Read → HasFailed (R.last reader.new)) }
         ensures reads { CountsStops result (R.failures reader.old) (R.failures reader.new) }
     {
-        let count = match reader.read(buffer) {
+        let count = match read_piece(reader, buffer) {
             Ok(count) => count,
-            Err(_) => return Err(Stop::Fault(ScriptFault::Read)),
+            Err(fault) => return Err(Stop::Fault(fault)),
         };
         if count == 0 {
             return Ok(0);

@@ -8,6 +8,6 @@ mod streams;
 mod watched;
 
 pub use fault::ScriptFault;
-pub use pieces::{MOST_BYTES, MOST_LINES, PIECE, front, new_buffer, split_line};
+pub use pieces::{MOST_BYTES, MOST_LINES, PIECE, front, new_buffer, read_piece, split_line};
 pub use streams::{CallFailed, End, Sink, Source};
 pub use watched::Watched;

@@ -1,7 +1,13 @@
 //! Pieces of an input, its lines, and its limits.
 
-ghost use Rattle.std.specs.Prelude.{◌≡◌, ◌≢◌, ◌≤◌, ◌∷◌, ◌++◌, length, take, All, IfOk, MatchOption, vec_len};
+ghost use Rattle.std.specs.Prelude.{◌≡◌, ◌≢◌, ◌<◌, ◌≤◌, ◌∷◌, ◌++◌, length, take, All, IfOk, IfErr, OnErr, MatchOption, vec_len};
+ghost use Rattle.std.specs.Io.{ReadsAtMost};
+ghost use Rattle.std.specs.Io.KnownBytes.{ReadConsumes};
+ghost use Rattle.script_input.specs.Faults.{CountsReads};
+ghost use Rattle.script_input.specs.Streams.{HasFailed, GaveNothing};
 
+use crate::fault::ScriptFault;
+use crate::streams::Source;
 use std::alloc::{AllocError, Global};
 
 /// The most lines of an input, the header line included.
@@ -38,4 +44,28 @@ pub fn new_buffer(alloc: Global) -> Result<Vec<u8>, AllocError>
     ensures length { IfOk result (λ buffer. vec_len buffer ≡ 65536) }
 {
     vec![in alloc; 0u8; PIECE]
+}
+
+/// Reads the next bytes, and tells how many: one read of the source. Where it fails, that is a read
+/// fault, and nothing is tried again. Costs no memory.
+pub fn read_piece<R: Source>(reader: &mut R, buffer: &mut [u8]) -> Result<usize, ScriptFault>
+    // At most as many bytes came as there was room for, and the source has lost just those.
+    ensures bound { ReadsAtMost result buffer.new }
+    ensures bytes { ReadConsumes (R.bytes reader.old) (R.bytes reader.new) result buffer.new }
+
+    // With room, none came only where the read gave nothing.
+    ensures nothing { IfOk result (λ n. n ≡ 0 → 0 < length buffer.new
+        → GaveNothing (R.last reader.new)) }
+
+    // The fault is a read fault, and the read failed.
+    ensures fault { IfErr result (λ fault. fault ≡ ScriptFault.Read) }
+    ensures failed { OnErr result (HasFailed (R.last reader.new)) }
+
+    // One read failed at a fault, and else none.
+    ensures reads { CountsReads result (R.failures reader.old) (R.failures reader.new) }
+{
+    match reader.read(buffer) {
+        Ok(count) => Ok(count),
+        Err(_) => Err(ScriptFault::Read),
+    }
 }

@@ -5,7 +5,6 @@
 ghost use Rattle.std.specs.Prelude.{◌≡◌};
 
 mod fault;
-mod metered;
 mod office;
 mod post;
 mod shop;

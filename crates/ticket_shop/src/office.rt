@@ -3,13 +3,13 @@
 ghost use Rattle.std.specs.Prelude.{◌≡◌, ◌<◌};
 
 use crate::fault::ShopFault;
-use crate::metered::Metered;
 use entry_text::write_entry;
 use field_bounds::{
     Command, Entry, FieldNo, Kind, Last, Refusal, Reply, Schema, SiteNo, Statement, TxnId,
     statement_of,
 };
 use kept_records::{Mishap, TornMedium};
+use metered_medium::Metered;
 use site_desk::{Blank, Desk, Pass, Receipt, check_receipts};
 use std::alloc::Global;
 use std::sync::atomic::{AtomicU64, Ordering};

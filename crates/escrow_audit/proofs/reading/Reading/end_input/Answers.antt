@@ -16,7 +16,7 @@ returns-clause-ok c =
 pub returns-clause-err : goal.returns-clause-err
 returns-clause-err c =
     err_and c.end_line.result _ _ _ (λ stop why same read at.
-    Stops-last stop read _ _ _ _ at.stands (same ∙ at.lines)
+    Stops-last stop read _ _ _ _ at.stands (same ∙ at.lines) at.within
     (λ some none. both_ways c.is_between_lines.result c.if-is_between_lines.false (c.is_between_lines.ensures.1 (some, at.line ∙ none)))
     (subst (λ l. LineStop c.args.self.now.schema l stop) at.line why) tt)
     c.end_line.ensures.err c.end_line.ensures.lines

@@ -50,6 +50,15 @@ returns-clause-ok g c =
     let next = c.in_ok-count.ensures.ok _ c.pieces.invariant.stands in
     on_ok_weaker c.end_input.result (λ finishes. (
       next.0.read,
-      (next.0.consumed, (next.1 c.if-count-eq0.true, finishes next.0.read next.0.at)),
+      (
+        next.0.consumed,
+        (
+          next.1 c.if-count-eq0.true,
+          (
+            record { lines = next.0.at.within; bytes = omega (arith, next.0.count, c.in_ok-count.ensures.within) },
+            finishes next.0.read next.0.at,
+          ),
+        ),
+      ),
     ))
     c.end_input.ensures.ok

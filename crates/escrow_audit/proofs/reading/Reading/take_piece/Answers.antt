@@ -50,7 +50,8 @@ returns-clause-err c =
     let inv = c.lines.invariant in
     err_and c.keep.result _ _ _ (λ stop why same read more at.
     Stops-along _ _ _ _ _ (piece_parts read inv.done c.lines.rest.now c.args.piece.now more inv.split)
-    (Stops-keep stop (read ++ inv.done) c.lines.rest.now more _ c.keep.new.self _ c.in_default.ensures.parts (inv.goes read at) why same))
+    (Stops-keep stop (read ++ inv.done) c.lines.rest.now more _ c.keep.new.self _ c.in_default.ensures.parts (inv.goes read at) why same
+    (omega (arith, c.if-self-ge-MOST_LINES-2.false))))
     c.keep.ensures.err (on_err_always c.keep.result _ c.keep.ensures.lines)
 
 pub returns-clause-ok : goal.returns-clause-ok
@@ -58,4 +59,4 @@ returns-clause-ok c =
     let inv = c.lines.invariant in
     on_ok_weaker c.keep.result (λ kept read at.
     At-along _ _ _ (append_assoc read inv.done c.lines.rest.now ∙ ap (λ l. read ++ l) (sym inv.split))
-    (At-kept _ _ _ _ c.in_default.ensures.parts (inv.goes read at) kept)) c.keep.ensures.ok
+    (At-kept _ _ _ _ c.in_default.ensures.parts (omega (arith, c.if-self-ge-MOST_LINES-2.false)) (inv.goes read at) kept)) c.keep.ensures.ok

@@ -51,6 +51,7 @@ returns-clause-ok g c =
       next.0.read,
       next.0.consumed,
       (next.1 c.if-count-eq0.true).0,
+      record { lines = next.0.at.within; bytes = omega (arith, next.0.count, next.0.within) },
       finishes next.0.read _ _ next.0.at,
     ))
     c.end_input.ensures.ok

@@ -57,4 +57,5 @@ returns-clause-ok g c =
     let inv = c.lines.invariant in
     on_ok_weaker c.keep.result (λ kept read before at.
     At-along _ _ _ _ _ (append_assoc read inv.done c.lines.rest.now ∙ ap (λ l. read ++ l) (sym inv.split))
-    (At-kept _ _ _ _ _ _ c.in_default.ensures.parts (inv.goes read before at) kept)) c.keep.ensures.ok
+    (At-kept _ _ _ _ _ _ c.in_default.ensures.parts (omega (arith, c.if-self-ge-MOST_LINES-2.false)) (inv.goes read before at) kept))
+    c.keep.ensures.ok

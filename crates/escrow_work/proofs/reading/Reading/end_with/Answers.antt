@@ -1,4 +1,4 @@
-use Rattle.std.proofs.Common.{◌≡◌, ℕ, List, [], ◌∷◌, ◌++◌, sym, ap, subst, ◌∙◌, append_assoc}
+use Rattle.std.proofs.Common.{◌≡◌, ℕ, List, [], ◌∷◌, ◌++◌, sym, ap, subst, ◌∙◌, append_assoc, arith}
 use Rattle.std.proofs.lemmas.Result.{err_from_is_err_and, on_ok_weaker}
 use Rattle.escrow_work.specs.Reading.{LineStop}
 use Rattle.escrow_work.proofs.States.{At-kept, At-ended, At-whole, At-along, Stops-keep, Stops-broken, Stops-whole, Stops-along}
@@ -11,7 +11,7 @@ regroup read line more = ap (λ l. read ++ l) (sym (append_assoc line (10 ∷ []
 pub returns-then-is_between_lines-clause-ok : goal.returns-then-is_between_lines-clause-ok
 returns-then-is_between_lines-clause-ok c =
     on_ok_weaker c.note_whole.result (λ noted read at.
-    At-whole read c.args.line.now _ _ c.requires.unbroken (c.is_between_lines.ensures.0 c.if-is_between_lines.true).1 at noted)
+    At-whole read c.args.line.now _ _ c.requires.unbroken (c.is_between_lines.ensures.0 c.if-is_between_lines.true).1 c.requires.room at noted)
     c.note_whole.ensures.ok
 
 pub returns-then-is_between_lines-clause-err : goal.returns-then-is_between_lines-clause-err
@@ -34,12 +34,13 @@ pub returns-clause-ok : goal.returns-clause-ok
 returns-clause-ok c =
     on_ok_weaker c.end_line.result (λ ended read at.
     At-along _ _ _ (append_assoc read c.args.line.now (10 ∷ []))
-    (At-ended _ _ _ (At-kept _ _ _ _ c.requires.unbroken at c.in_ok-keep.ensures.ok) ended)) c.end_line.ensures.ok
+    (At-ended _ _ _ (omega (arith, c.in_ok-keep.ensures.lines, c.requires.room))
+    (At-kept _ _ _ _ c.requires.unbroken c.requires.room at c.in_ok-keep.ensures.ok) ended)) c.end_line.ensures.ok
 
 pub returns-clause-err : goal.returns-clause-err
 returns-clause-err c =
     err_and c.end_line.result _ _ _ (λ stop why same read more at.
-    let kept = At-kept read c.args.line.now _ _ c.requires.unbroken at c.in_ok-keep.ensures.ok in
+    let kept = At-kept read c.args.line.now _ _ c.requires.unbroken c.requires.room at c.in_ok-keep.ensures.ok in
     Stops-along stop _ _ _ _ (append_assoc read c.args.line.now (10 ∷ more) ∙ regroup read c.args.line.now more)
     (Stops-broken stop (read ++ c.args.line.now) more _ _ _ kept.stands (same ∙ kept.lines)
     (subst (λ l. LineStop c.keep.new.self.scripts l stop) kept.line why)))

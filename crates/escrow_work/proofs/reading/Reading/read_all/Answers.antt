@@ -55,8 +55,10 @@ returns-clause-ok g c =
         next.0.consumed,
         (
           next.1 c.if-count-eq0.true,
-          finishes next.0.read
-              next.0.at,
+          (
+            record { lines = next.0.at.within; bytes = omega (arith, next.0.count, c.in_ok-count.ensures.within) },
+            finishes next.0.read next.0.at,
+          ),
         ),
       ),
     ))

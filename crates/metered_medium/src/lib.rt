@@ -1,4 +1,5 @@
-//! A medium of the shop's own.
+//! A medium of a caller's own: what another one does, with a meter.
+#![tactic(auto)]
 
 use kept_records::{Device, End, Medium, MediumFault};
 use std::alloc::{AllocError, Global};
