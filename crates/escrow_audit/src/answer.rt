@@ -198,7 +198,7 @@ pub fn audit_text<R: Source, W: Sink>(
     reader: &mut R,
     writer: &mut W,
 ) -> Result<AuditEnd, ScriptFault>
-    // The answer to what was read is written.
+    // The answer to what was read is written. A verdict is on an input within the limits.
     ensures ok { IfOk result (Audits (R.bytes reader.old) (R.bytes reader.new)
         (W.bytes writer.old) (W.bytes writer.new) (R.last reader.new)) }
 

