@@ -15,14 +15,11 @@ const FIRST: TxnId = TxnId {
 };
 
 /// Two sites, on one field from 0 to 100 at 40.
+const STOCK_OF_TWO: &str =
+    r#"{"sites":2,"fields":[{"name":"stock","floor":0,"ceiling":100,"value":40}]}"#;
+
 fn stock(rt: &impl Abort, alloc: Global) -> Result<Schema, Fail> {
-    let stock = FieldSpec {
-        name: String::from_str(alloc, "stock")?,
-        floor: 0,
-        ceiling: 100,
-        value: 40,
-    };
-    let schema = Schema::new(alloc, 2, vec![in alloc; stock]?)?;
+    let schema = Schema::from_header(alloc, STOCK_OF_TWO.as_bytes())?;
     assert!(rt; schema.sites() == 2);
     Ok(schema)
 }

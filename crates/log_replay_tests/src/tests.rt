@@ -5,7 +5,7 @@ ghost use Rattle.std.specs.Prelude.{◌<◌, ◌≤◌, length};
 ghost use Rattle.field_bounds.specs.Owed.{max_total};
 ghost use Rattle.gift_ledger.specs.Ledger.{IsSlot};
 
-use field_bounds::{FieldNo, FieldSpec, Kind, Schema, SiteNo};
+use field_bounds::{FieldNo, Kind, Schema, SiteNo};
 use kept_records::{MemoryMedium, Record, read_back, read_records};
 use log_replay::*;
 use std::alloc::Global;
@@ -245,14 +245,13 @@ const BROKEN: [(&str, u64); 33] = [
     ("S 0 1 20 30\nT 0 l 5\nS 0 1 20 30\n", 3),
 ];
 
+/// Two sites, and one field from 0 to 100 at 40: each site begins with 20 rights to lower it and 30
+/// to raise it.
+const STOCK_OF_TWO: &str =
+    r#"{"sites":2,"fields":[{"name":"stock","floor":0,"ceiling":100,"value":40}]}"#;
+
 fn stock_of_two(alloc: Global) -> Option<Schema> {
-    let field = FieldSpec {
-        name: String::from_str(alloc, "stock").ok()?,
-        floor: 0,
-        ceiling: 100,
-        value: 40,
-    };
-    Schema::new(alloc, 2, vec![in alloc; field].ok()?).ok()
+    Schema::from_header(alloc, STOCK_OF_TWO.as_bytes()).ok()
 }
 
 fn read_off(standing: &Standing) -> Stands

@@ -1,4 +1,4 @@
-use field_bounds::{Command, FieldNo, FieldSpec, Kind, Schema, SiteNo, TxnId};
+use field_bounds::{Command, FieldNo, Kind, Schema, SiteNo, TxnId};
 use reaching_steps::*;
 use std::alloc::Global;
 use std::process::Abort;
@@ -75,15 +75,13 @@ fn moves(number: u32, change: i64) -> [WorldStep; 3] {
     ]
 }
 
-/// Two sites, and one field from 0 to 100 at 40.
+/// Two sites, and one field from 0 to 100 at 40: each site begins with 20 rights to lower it and 30
+/// to raise it.
+const STOCK_OF_TWO: &str =
+    r#"{"sites":2,"fields":[{"name":"stock","floor":0,"ceiling":100,"value":40}]}"#;
+
 fn stock_of_two(alloc: Global) -> Option<Schema> {
-    let stock = FieldSpec {
-        name: String::from_str(alloc, "stock").ok()?,
-        floor: 0,
-        ceiling: 100,
-        value: 40,
-    };
-    Schema::new(alloc, 2, vec![in alloc; stock].ok()?).ok()
+    Schema::from_header(alloc, STOCK_OF_TWO.as_bytes()).ok()
 }
 
 /// A world of two sites in which these steps were taken; None where they don't fit.

@@ -2,7 +2,7 @@ ghost use Rattle.std.specs.Prelude.{◌≡◌, ◌<◌};
 
 mod threads;
 
-use field_bounds::{Command, FieldNo, FieldSpec, Kind, Reply, Schema, SiteNo, TxnId};
+use field_bounds::{Command, FieldNo, Kind, Reply, Schema, SiteNo, TxnId};
 use kept_records::MemoryMedium;
 use site_desk::*;
 use std::alloc::Global;
@@ -23,14 +23,11 @@ const FIRST: TxnId = TxnId {
 
 /// Two sites, and one field from 0 to 100 at 40: each site begins with 20 rights to lower it and 30
 /// to raise it.
+const STOCK_OF_TWO: &str =
+    r#"{"sites":2,"fields":[{"name":"stock","floor":0,"ceiling":100,"value":40}]}"#;
+
 fn stock_of_two(alloc: Global) -> Option<Schema> {
-    let stock = FieldSpec {
-        name: String::from_str(alloc, "stock").ok()?,
-        floor: 0,
-        ceiling: 100,
-        value: 40,
-    };
-    Schema::new(alloc, 2, vec![in alloc; stock].ok()?).ok()
+    Schema::from_header(alloc, STOCK_OF_TWO.as_bytes()).ok()
 }
 
 /// A desk of one of the two sites over these bytes, with its passes.

@@ -1,9 +1,7 @@
 mod stops;
 mod summaries;
 
-use field_bounds::{
-    Command, FieldNo, FieldSpec, Kind, Refusal, Reply, Schema, SiteNo, Statement, TxnId,
-};
+use field_bounds::{Command, FieldNo, Kind, Refusal, Reply, Schema, SiteNo, Statement, TxnId};
 use kept_records::{Medium, MemoryMedium};
 use site_step::*;
 use std::alloc::Global;
@@ -19,14 +17,11 @@ const FIRST: TxnId = TxnId {
 
 /// Two sites, and one field from 0 to 100 at 40: each site begins with 20 rights to lower it and 30
 /// to raise it.
+const STOCK_OF_TWO: &str =
+    r#"{"sites":2,"fields":[{"name":"stock","floor":0,"ceiling":100,"value":40}]}"#;
+
 fn stock_of_two(alloc: Global) -> Option<Schema> {
-    let stock = FieldSpec {
-        name: String::from_str(alloc, "stock").ok()?,
-        floor: 0,
-        ceiling: 100,
-        value: 40,
-    };
-    Schema::new(alloc, 2, vec![in alloc; stock].ok()?).ok()
+    Schema::from_header(alloc, STOCK_OF_TWO.as_bytes()).ok()
 }
 
 /// One of the two sites over a medium.

@@ -151,8 +151,10 @@ pub fn put<R: Wait>(rt: &R, slot: &Slot, way: &mut Way, letter: Letter) -> Resul
     ensures put { OnOk result (view way.new ≡ after_put (view way.old) letter) }
     ensures back { IfErr result (λ back. (back ≡ letter) × (view way.new ≡ view way.old)) }
 {
-    slot.send_as::<Puts, R>(rt, way, letter)
-        .map_err(|e| e.into_inner())
+    match slot.send_as::<Puts, R>(rt, way, letter) {
+        Ok(()) => Ok(()),
+        Err(refused) => Err(refused.into_inner()),
+    }
 }
 
 /// Takes the next letter, and waits for one. None where all that could put one are gone. Costs no

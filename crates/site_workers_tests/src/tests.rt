@@ -4,7 +4,7 @@ ghost use Rattle.std.specs.Prelude.{◌≡◌, ◌<◌};
 ghost use Rattle.crossbeam_channel.specs.Claims.{IsSeatAt};
 ghost use Rattle.crossbeam_channel.specs.Ends.{receives_on};
 
-use field_bounds::{Command, Entry, FieldNo, FieldSpec, Kind, Reply, Schema, SiteNo, Statement};
+use field_bounds::{Command, Entry, FieldNo, Kind, Reply, Schema, SiteNo, Statement};
 use kept_records::MemoryMedium;
 use site_desk::{Blank, Desk, FreeGate, Gate, Receipt};
 use site_workers::inbox::{admit, hire, open_inbox, put};
@@ -19,18 +19,19 @@ use std::thread::Threads;
 const STOCK: FieldNo = FieldNo(0);
 
 /// A field from 0 to 100 at 40, at two sites: each begins with 20 rights to lower it.
-fn stock_of_two(alloc: Global) -> Option<Schema> {
-    stock(alloc, 2, 100, 40)
+const STOCK_OF_TWO: &str =
+    r#"{"sites":2,"fields":[{"name":"stock","floor":0,"ceiling":100,"value":40}]}"#;
+
+/// A field from 0 to 10,000 at 4,000, at 16 sites.
+const STOCK_OF_SIXTEEN: &str =
+    r#"{"sites":16,"fields":[{"name":"stock","floor":0,"ceiling":10000,"value":4000}]}"#;
+
+fn schema_of(alloc: Global, header: &str) -> Option<Schema> {
+    Schema::from_header(alloc, header.as_bytes()).ok()
 }
 
-fn stock(alloc: Global, sites: u16, ceiling: i64, value: i64) -> Option<Schema> {
-    let stock = FieldSpec {
-        name: String::from_str(alloc, "stock").ok()?,
-        floor: 0,
-        ceiling,
-        value,
-    };
-    Schema::new(alloc, sites, vec![in alloc; stock].ok()?).ok()
+fn stock_of_two(alloc: Global) -> Option<Schema> {
+    schema_of(alloc, STOCK_OF_TWO)
 }
 
 /// A gift of one right to lower.
@@ -142,7 +143,7 @@ fn sixteen_sites_give_in_a_ring(rt: HostRuntime) -> Result<(), AllocError> {
     let answer = run(
         &rt,
         alloc,
-        stock(alloc, 16, 10_000, 4_000),
+        schema_of(alloc, STOCK_OF_SIXTEEN),
         scripts,
         &FreeGate,
     );

@@ -1,9 +1,7 @@
 mod rows;
 mod stops;
 
-use field_bounds::{
-    Command, Entry, FieldNo, FieldSpec, Kind, Reply, Schema, SiteNo, Statement, TxnId,
-};
+use field_bounds::{Command, Entry, FieldNo, Kind, Reply, Schema, SiteNo, Statement, TxnId};
 use std::alloc::Global;
 use std::process::Abort;
 use std::test::Fail;
@@ -64,14 +62,11 @@ fn fine(site: u16, command: Command) -> WorldStep {
 
 /// Two sites, and one field from 0 to 100 at 40: each site begins with 20 rights to lower it and 30
 /// to raise it.
+const STOCK_OF_TWO: &str =
+    r#"{"sites":2,"fields":[{"name":"stock","floor":0,"ceiling":100,"value":40}]}"#;
+
 fn stock_of_two(alloc: Global) -> Option<Schema> {
-    let stock = FieldSpec {
-        name: String::from_str(alloc, "stock").ok()?,
-        floor: 0,
-        ceiling: 100,
-        value: 40,
-    };
-    Schema::new(alloc, 2, vec![in alloc; stock].ok()?).ok()
+    Schema::from_header(alloc, STOCK_OF_TWO.as_bytes()).ok()
 }
 
 /// Takes the step, where it fits. None where it doesn't, or memory was refused.
