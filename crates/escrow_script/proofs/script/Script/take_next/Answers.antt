@@ -26,7 +26,7 @@ returns-in_err-count-clause-err g c =
 
 pub returns-then-count-eq0-clause-ok : goal.returns-then-count-eq0-clause-ok
 returns-then-count-eq0-clause-ok g c = λ from before stands.
-    Stands-end from _ _ before _ _ _ _ _ c.in_ok-count.count c.read_piece-count.new.buffer _ c.if-count-eq0.true
+    Stands-end from _ _ before _ _ _ _ _ c.in_ok-count.count c.read_piece.new.buffer _ c.if-count-eq0.true
     (omega arith) c.in_ok-count.ensures.bytes c.in_ok-count.ensures.nothing
     c.in_ok-write_out.ensures.ok.0 c.in_ok-write_out.ensures.ok.1 stands
 
@@ -34,13 +34,13 @@ pub returns-in_err-take_piece-clause-err : goal.returns-in_err-take_piece-clause
 returns-in_err-take_piece-clause-err g c =
     let p = err_from_is_err_and c.from_residual-in_err-take_piece.result c.from_residual-in_err-take_piece.ensures.1 in
     rw (p.1, p.2) (λ from before stands.
-    Stops-more from _ _ before _ _ _ _ _ _ _ _ c.in_ok-count.count _ c.read_piece-count.new.buffer _ _ c.front.ensures.bytes
+    Stops-more from _ _ before _ _ _ _ _ _ _ _ c.in_ok-count.count _ c.read_piece.new.buffer _ _ c.front.ensures.bytes
     (omega arith) c.in_ok-count.ensures.bytes.0
     c.in_ok-write_out.ensures.ok.0 c.in_ok-write_out.ensures.ok.1 c.in_err-take_piece.ensures.err stands)
 
 pub returns-then-count-room-clause-err : goal.returns-then-count-room-clause-err
 returns-then-count-room-clause-err g c = λ from before stands.
-    Stops-over from _ _ before _ _ _ _ _ _ _ c.in_ok-count.count _ c.read_piece-count.new.buffer _ _ c.front.ensures.bytes
+    Stops-over from _ _ before _ _ _ _ _ _ _ c.in_ok-count.count _ c.read_piece.new.buffer _ _ c.front.ensures.bytes
     (omega arith) c.in_ok-count.ensures.bound.0 (omega arith)
     c.in_ok-count.ensures.bytes.0 c.in_ok-write_out.ensures.ok.0 c.in_ok-write_out.ensures.ok.1 c.in_ok-take_piece.ensures.ok stands
 
@@ -48,13 +48,13 @@ pub returns-in_err-take_piece-2-clause-err : goal.returns-in_err-take_piece-2-cl
 returns-in_err-take_piece-2-clause-err g c =
     let p = err_from_is_err_and c.from_residual-in_err-take_piece-2.result c.from_residual-in_err-take_piece-2.ensures.1 in
     rw (p.1, p.2) (λ from before stands.
-    Stops-more from _ _ before _ _ _ _ _ _ _ _ c.in_ok-count.count _ c.read_piece-count.new.buffer _ _ c.front-2.ensures.bytes
+    Stops-more from _ _ before _ _ _ _ _ _ _ _ c.in_ok-count.count _ c.read_piece.new.buffer _ _ c.front-2.ensures.bytes
     (omega arith) c.in_ok-count.ensures.bytes.0
     c.in_ok-write_out.ensures.ok.0 c.in_ok-write_out.ensures.ok.1 c.in_err-take_piece-2.ensures.err stands)
 
 pub returns-clause-ok : goal.returns-clause-ok
 returns-clause-ok g c = λ from before stands. (
-  Stands-more from _ _ before _ _ _ _ _ _ _ c.in_ok-count.count c.read_piece-count.new.buffer _ c.front-2.ensures.bytes c.in_ok-count.ensures.bound.0 (omega arith)
+  Stands-more from _ _ before _ _ _ _ _ _ _ c.in_ok-count.count c.read_piece.new.buffer _ c.front-2.ensures.bytes c.in_ok-count.ensures.bound.0 (omega arith)
       c.in_ok-count.ensures.bytes.0 c.in_ok-write_out.ensures.ok.0 c.in_ok-write_out.ensures.ok.1 c.in_ok-take_piece-2.ensures.ok stands,
   λ none. absurd (c.if-count-eq0.false none),
 )
