@@ -124,7 +124,8 @@ long_some (b ∷ part) more long e = cc
 
 -- a line behind the whole lines, that goes on or is ended, is the first bad entry
 pub bad_goes_on : (stop_at : ℕ) (a more : List ℕ) (s : Option SchemaValue) (entries : List Entry) (ended : Type 0)
-    → IsAfterLines s entries (whole_lines a) → IsSome s → stop_at ≡ length (whole_lines a) → stop_at < 1000000 → max_line < length (last_part a)
+    → IsAfterLines s entries (whole_lines a) → IsSome s → stop_at ≡ length (whole_lines a) → stop_at < 1000000
+    → max_line < length (last_part a)
     → ((schema : SchemaValue) (rest : List ℕ) → s ≡ Some schema → IsBadEntry schema (last_part a ++ rest))
     → FindsBad (a ++ more) (stop_at + 1) ended
 bad_goes_on stop_at a more s entries ended stands some at room long bad =
@@ -235,7 +236,8 @@ Stops-keep BadEntry read piece more old new ended unbroken at why same room =
     subst (λ (l : List ℕ). FindsBad l (new.lines + 1) ended) (append_assoc read piece more)
     (bad_goes_on new.lines a more old.schema old.entries.items ended
     (subst (IsAfterLines old.schema old.entries.items) (sym keeps) at.stands) why.0 (same ∙ at.lines ∙ ap length (sym keeps))
-    (omega (arith, same, room)) long (λ schema rest e. long_is_bad schema (last_part a ++ rest) (omega (arith, long, length-append (last_part a) rest))))
+    (omega (arith, same, room)) long
+    (λ schema rest e. long_is_bad schema (last_part a ++ rest) (omega (arith, long, length-append (last_part a) rest))))
 
 line_is_bad : (s : Option SchemaValue) (line : List ℕ) → LineStop s line BadEntry → IsSome s
     × ((schema : SchemaValue) → s ≡ Some schema → IsBadEntry schema line)

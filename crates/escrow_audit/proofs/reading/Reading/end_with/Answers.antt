@@ -11,7 +11,8 @@ regroup read line more = ap (λ l. read ++ l) (sym (append_assoc line (10 ∷ []
 pub returns-then-is_between_lines-clause-ok : goal.returns-then-is_between_lines-clause-ok
 returns-then-is_between_lines-clause-ok c =
     on_ok_weaker c.note_whole.result (λ noted read at.
-    At-whole read c.args.line.now _ _ c.requires.unbroken (c.is_between_lines.ensures.0 c.if-is_between_lines.true).1 c.requires.room at noted)
+    At-whole read c.args.line.now _ _ c.requires.unbroken (c.is_between_lines.ensures.0 c.if-is_between_lines.true).1
+    c.requires.room at noted)
     c.note_whole.ensures.ok
 
 pub returns-then-is_between_lines-clause-err : goal.returns-then-is_between_lines-clause-err

@@ -54,7 +54,8 @@ returns-in_err-take_piece-2-clause-err g c =
 
 pub returns-clause-ok : goal.returns-clause-ok
 returns-clause-ok g c = λ from before stands. (
-  Stands-more from _ _ before _ _ _ _ _ _ _ c.in_ok-count.count c.read_piece.new.buffer _ c.front-2.ensures.bytes c.in_ok-count.ensures.bound.0 (omega arith)
+  Stands-more from _ _ before _ _ _ _ _ _ _ c.in_ok-count.count c.read_piece.new.buffer _ c.front-2.ensures.bytes
+      c.in_ok-count.ensures.bound.0 (omega arith)
       c.in_ok-count.ensures.bytes.0 c.in_ok-write_out.ensures.ok.0 c.in_ok-write_out.ensures.ok.1 c.in_ok-take_piece-2.ensures.ok stands,
   λ none. absurd (c.if-count-eq0.false none),
 )

@@ -24,7 +24,8 @@ returns-in_err-take_piece-clause-err g c =
 
 pub returns-then-count-room-clause-err : goal.returns-then-count-room-clause-err
 returns-then-count-room-clause-err g c = λ from stands.
-    Stops-over from _ _ _ _ c.in-Ok.count _ c.read_piece.new.buffer _ _ c.front.ensures.bytes (omega arith) c.in-Ok.ensures.bound.0 (omega arith)
+    Stops-over from _ _ _ _ c.in-Ok.count _ c.read_piece.new.buffer _ _ c.front.ensures.bytes (omega arith)
+    c.in-Ok.ensures.bound.0 (omega arith)
     c.in-Ok.ensures.bytes.0 c.in_ok-take_piece.ensures.ok stands
 
 pub returns-in_err-take_piece-2-clause-err : goal.returns-in_err-take_piece-2-clause-err
