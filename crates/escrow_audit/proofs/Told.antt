@@ -50,9 +50,16 @@ pub Tells-judged : (from to : Option (List ℕ)) (last : End) (r : Reading) (end
     → ((schema : SchemaValue) → r.schema ≡ Some schema → text ≡ verdict_text (verdict_of schema r.entries.items) (length r.entries.items))
     → Tells from to last end text
 Tells-judged from to last r end text through is told =
-    let (read, (consumed, (ended, (within, (some, stands))))) = through in
-    (read, (consumed, (within_at end read within,
-    judged_audit r.schema r.entries.items end read text (HasEndedAt to last) some stands is told ended)))
+    let (read, (consumed, (ended, (within, (some, stands))))) = through in (
+      read,
+      (
+        consumed,
+        (
+          within_at end read within,
+          judged_audit r.schema r.entries.items end read text (HasEndedAt to last) some stands is told ended,
+        ),
+      ),
+    )
 
 pub Tells-bad : (from to : Option (List ℕ)) (last : End) (r : Reading) (number : ℕ) (text : List ℕ) → StopsAfter from to last r BadEntry
     → number ≡ r.lines + 1 → text ≡ bad_entry_text number → Tells from to last ends.BadEntry text
