@@ -42,6 +42,13 @@ impl Accounts {
         Ok(Accounts { fields })
     }
 
+    /// The totals of both kinds, field by field.
+    pub(crate) fn as_slice(&self) -> &[FieldAccounts]
+        ensures value { result.now ≡ self.now }
+    {
+        self.fields.as_slice()
+    }
+
     /// The totals of a kind on a field.
     pub(crate) fn at(&self, field: FieldNo, kind: Kind) -> Account
         requires field_in { field.0 < length self.now }

@@ -2,9 +2,9 @@
 
 ghost use Rattle.std.specs.Prelude.{◌≡◌, ◌≢◌, ◌+◌, ◌-◌, ◌<◌, ◌≤◌, ◌↔◌, max, ◌==◌, if◌then◌else◌, Some, None, IsErr, IfOk, IfErr, OnOk, OnErr};
 ghost use Rattle.field_bounds.specs.Owed.{max_total};
-ghost use Rattle.gift_ledger.specs.Ledger.{IsSlot, fresh_ledger, account_at, total_at, accepted_at, put_at, with_total, with_accepted};
+ghost use Rattle.gift_ledger.specs.Ledger.{IsSlot, fresh_ledger, accounts_with, account_at, total_at, accepted_at, put_at, with_total, with_accepted};
 
-use crate::account::{Account, LedgerFull};
+use crate::account::{Account, FieldAccounts, LedgerFull};
 use crate::accounts::Accounts;
 use field_bounds::{FieldNo, Kind, MAX_TOTAL, Schema, SiteNo};
 use std::alloc::{AllocError, Global};
@@ -52,6 +52,17 @@ impl Ledger {
         ensures value { result.0 ≡ self.now.site }
     {
         self.site
+    }
+
+    /// The totals with another site, in rights, by number of field; none where the site is not of
+    /// the schema. A pass over them costs less than a call for each.
+    pub fn accounts(&self, site: SiteNo) -> &[FieldAccounts]
+        ensures value { result.now ≡ accounts_with self.now.rows site.0 }
+    {
+        match self.sites.get(usize::from(site.0)) {
+            Some(accounts) => accounts.as_slice(),
+            None => &[],
+        }
     }
 
     /// The total given so far to another site, of a kind on a field, at most

@@ -14,10 +14,11 @@ use Rattle.kept_records.specs.declared.total.Cut.{Cut}
 use Rattle.kept_records.specs.Summary.{SummaryValue, same_rights, same_totals, same_cuts, one_total, one_cut, totals_of_site, totals_of, cuts_of, rights_of, cut_told_more, cut_told}
 use Rattle.kept_records.specs.Stands.{greatest, own_in, given_in, accepted_in, cut_in, summary_of}
 use Rattle.site_rights.specs.Rights.{own_at, cut_at}
-use Rattle.gift_ledger.specs.Ledger.{LedgerValue}
+use Rattle.gift_ledger.specs.declared.account.FieldAccounts.{FieldAccounts}
+use Rattle.gift_ledger.specs.Ledger.{accounts_with, LedgerValue}
 use Rattle.log_replay.specs.declared.standing.Standing.{Standing}
 use Rattle.log_replay.specs.Standing.{IsOther, Stands}
-use Rattle.log_replay.specs.Telling.{side, side_with, is_of_site, summary_now}
+use Rattle.log_replay.specs.Telling.{side, side_in, side_with, is_of_site, summary_now}
 
 one_same : (F G : ℕ → ℕ → Kind → ℕ) (r f : ℕ) (k : Kind) → F r f k ≡ G r f k → one_total F r f k ≡ one_total G r f k
 one_same F G r f k h = ap (λ (n : ℕ). cond (n == 0) []
@@ -32,6 +33,12 @@ site_same F G r (suc m) h =
     let high = one_same F G r m Raise (h m Raise (omega arith)) in
     let rest = site_same F G r m (λ f k below. h f k (omega (arith, below))) in
     rw (rest, low, high) refl
+
+-- the totals of a site by its accounts
+pub side_by_accounts : (given : Bool) (ledger : LedgerValue) (accounts : List FieldAccounts) (r f : ℕ) (k : Kind)
+    → accounts ≡ accounts_with ledger.rows r → side_in given accounts f k ≡ side given ledger r f k
+side_by_accounts true ledger accounts r f k are = ap (λ (fields : List FieldAccounts). side_in true fields f k) are
+side_by_accounts false ledger accounts r f k are = ap (λ (fields : List FieldAccounts). side_in false fields f k) are
 
 -- a total told anew changes none of another site
 of_other : (anew : Option Total) (given : Bool) (ledger : LedgerValue) (r f : ℕ) (k : Kind) → is_of_site anew r ≡ false

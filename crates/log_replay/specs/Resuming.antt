@@ -1,5 +1,5 @@
 -- A log that is taken in from its last summary on (this project).
-use Rattle.std.specs.Prelude.{◌≡◌, ℕ, ◌<◌, Bool, true, false, fold, length, List, [], ◌∷◌, ◌++◌, Option}
+use Rattle.std.specs.Prelude.{◌≡◌, ℕ, ◌<◌, true, fold, length, List, [], ◌++◌, Option}
 use Rattle.std.specs.List.{AllByRecursion}
 use Rattle.field_bounds.specs.declared.kind.Kind.{Kind}
 use Rattle.field_bounds.specs.Schema.{SchemaValue}

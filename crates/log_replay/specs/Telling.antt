@@ -11,7 +11,8 @@ use Rattle.kept_records.specs.declared.total.Cut.{Cut}
 use Rattle.kept_records.specs.Summary.{SummaryValue, rights_of, totals_of, cuts_of, told_more, cut_told_more}
 use Rattle.site_rights.specs.declared.field_rights.FieldRights.{FieldRights}
 use Rattle.site_rights.specs.Rights.{own_at, cut_at}
-use Rattle.gift_ledger.specs.Ledger.{LedgerValue, total_at, accepted_at}
+use Rattle.gift_ledger.specs.declared.account.FieldAccounts.{FieldAccounts}
+use Rattle.gift_ledger.specs.Ledger.{account_in, LedgerValue, total_at, accepted_at}
 use Rattle.log_replay.specs.declared.standing.Standing.{Standing}
 
 -- The record of a summary.
@@ -23,7 +24,12 @@ abbrev pub side : Bool → LedgerValue → ℕ → ℕ → Kind → ℕ
 side true ledger r f k = total_at ledger r f k
 side false ledger r f k = accepted_at ledger r f k
 
--- The same, where one of them is told anew.
+-- The same, of the accounts with one site.
+abbrev pub side_in : Bool → List FieldAccounts → ℕ → Kind → ℕ
+side_in true accounts f k = (account_in accounts f k).given
+side_in false accounts f k = (account_in accounts f k).accepted
+
+-- The totals, where one of them is told anew.
 abbrev pub side_with : Option Total → Bool → LedgerValue → ℕ → ℕ → Kind → ℕ
 side_with None given ledger r f k = side given ledger r f k
 side_with (Some t) given ledger r f k = told_more r f k (side given ledger r f k) t

@@ -8,11 +8,11 @@ ghost use Rattle.field_bounds.specs.Kind.{same_kind};
 ghost use Rattle.site_rights.specs.Rights.{own_at};
 ghost use Rattle.gift_ledger.specs.Ledger.{IsSlot};
 ghost use Rattle.log_replay.specs.Standing.{HasSlots, Stands};
-ghost use Rattle.log_replay.specs.Telling.{record_of, side, side_with, is_of_site, cut_with, told_if, cut_if, summary_now};
+ghost use Rattle.log_replay.specs.Telling.{record_of, side, side_in, side_with, is_of_site, cut_with, told_if, cut_if, summary_now};
 
 use crate::standing::{Standing, cut_or};
 use field_bounds::{FieldNo, Kind, Schema, SiteNo};
-use gift_ledger::Ledger;
+use gift_ledger::{FieldAccounts, Ledger};
 use kept_records::{Cut, Summary, Total};
 use site_rights::Rights;
 use std::alloc::{AllocError, Global};
@@ -46,6 +46,23 @@ fn total_on_side(ledger: &Ledger, given: bool, site: SiteNo, field: FieldNo, kin
         ledger.total(site, field, kind)
     } else {
         ledger.accepted(site, field, kind)
+    }
+}
+
+/// The same, of the accounts with one site.
+fn total_in(accounts: &[FieldAccounts], given: bool, field: FieldNo, kind: Kind) -> u64
+    requires field_in { field.0 < length accounts.now }
+    ensures value { result ≡ side_in given accounts.now field.0 kind }
+{
+    let on_field = accounts[usize::from(field.0)];
+    let account = match kind {
+        Kind::Lower => on_field.lower,
+        Kind::Raise => on_field.raise,
+    };
+    if given {
+        account.given
+    } else {
+        account.accepted
     }
 }
 
@@ -91,11 +108,12 @@ fn push_site(
     ensures { OnOk result (totals.new.items ≡ totals.old.items
         ++ totals_of_site (side given ledger.now) site.0 fields) }
 {
+    let accounts = ledger.accounts(site);
     for number in 0..fields {
         let field = FieldNo(number);
-        let lower = total_on_side(ledger, given, site, field, Kind::Lower);
+        let lower = total_in(accounts, given, field, Kind::Lower);
         push_total(totals, site, field, Kind::Lower, lower)?;
-        let raise = total_on_side(ledger, given, site, field, Kind::Raise);
+        let raise = total_in(accounts, given, field, Kind::Raise);
         push_total(totals, site, field, Kind::Raise, raise)?;
     }
     Ok(())

@@ -1,7 +1,6 @@
-use Rattle.std.proofs.Common.{◌≡◌, Bool, ◌+◌, ◌<◌, ◌^◌, ◌++◌, ℕ, List, length, sym, ap, ◌∙◌, subst, arith}
-use Rattle.kept_records.specs.declared.record.Record.{Record}
-use Rattle.log_replay.specs.Standing.{IsStandingFor, TakesIn}
-use Rattle.log_replay.specs.Resuming.{IsEnd, up_to, Walks}
+use Rattle.std.proofs.Common.{Bool, ◌+◌, ◌<◌, ◌++◌, ℕ, List, length, sym, ap, ◌∙◌, subst, arith}
+use Rattle.log_replay.specs.Standing.{TakesIn}
+use Rattle.log_replay.specs.Resuming.{up_to, Walks}
 use Rattle.log_replay.proofs.StandingLaws.{has_places, after_one}
 use Rattle.log_replay.proofs.FromSummary.{walks_start, turn_of, walks_on, walks_end}
 use Rattle.log_replay.proofs.resuming.resume.Goals as goal
