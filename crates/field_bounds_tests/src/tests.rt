@@ -94,9 +94,8 @@ fn parts(rt: HostRuntime) {
     }
 }
 
-#[test]
-fn readers(rt: HostRuntime) -> Result<(), Fail> {
-    let schema = Schema::from_header(rt.alloc(), EVEN.as_bytes())?;
+/// What a schema tells of its one field.
+fn assert_readers(rt: &impl Abort, schema: &Schema) {
     assert_eq!(rt; schema.sites(), 2);
     assert_eq!(rt; schema.fields(), 1);
     assert_eq!(rt; schema.bounds(FieldNo(0)), (0, 100, 40));
@@ -105,6 +104,12 @@ fn readers(rt: HostRuntime) -> Result<(), Fail> {
     assert_eq!(rt; schema.field_no("sock"), None);
     assert_eq!(rt; schema.field_no_of(b"stock"), Some(FieldNo(0)));
     assert_eq!(rt; schema.field_no_of(&[255]), None);
+}
+
+#[test]
+fn readers(rt: HostRuntime) -> Result<(), Fail> {
+    let schema = Schema::from_header(rt.alloc(), EVEN.as_bytes())?;
+    assert_readers(&rt, &schema);
     Ok(())
 }
 

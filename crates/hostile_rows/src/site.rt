@@ -210,9 +210,11 @@ const WITHOUT_SUMMARY: [Step; 4] = [
 /// Adds the record of the restart behind so many.
 fn add_restart(text: &mut String, behind: u32) -> Result<(), AllocError> {
     let mut digits = Buffer::new();
-    text.push_str("R ")?;
-    text.push_str(digits.format(u64::from(behind) + 1))?;
-    text.push_str("\n")
+    let epoch = digits.format(behind.saturating_add(1));
+    for part in &["R ", epoch, "\n"] {
+        text.push_str(*part)?;
+    }
+    Ok(())
 }
 
 /// Adds the text of a log.

@@ -188,15 +188,15 @@ fn bad_line(alloc: Global, text: &str) -> Option<u64> {
 
 #[test]
 fn lines_that_are_no_records(rt: HostRuntime) {
-    for line in NO_RECORDS {
-        assert_eq!(rt; bad_line(rt.alloc(), line), Some(1));
+    for line in &NO_RECORDS {
+        assert_eq!(rt; bad_line(rt.alloc(), *line), Some(1));
     }
     assert_eq!(rt; bad_line(rt.alloc(), "R 1\nR 2\nR 03\nR 4"), Some(3));
 }
 
 #[test]
 fn lines_at_the_ends_of_the_ranges(rt: HostRuntime) {
-    for line in RECORDS {
+    for line in &RECORDS {
         assert_eq!(rt;
             read_lengths(rt.alloc(), line.as_bytes()),
             Some((1, line.len()))

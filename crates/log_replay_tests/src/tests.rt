@@ -285,15 +285,15 @@ fn replayed(alloc: Global, log: &str) -> Option<Result<Stands, u64>> {
 
 #[test]
 fn lawful_logs(rt: HostRuntime) {
-    for (log, stands) in LAWFUL {
-        assert_eq!(rt; replayed(rt.alloc(), log), Some(Ok(stands)));
+    for (log, stands) in &LAWFUL {
+        assert_eq!(rt; replayed(rt.alloc(), *log), Some(Ok(*stands)));
     }
 }
 
 #[test]
 fn broken_logs(rt: HostRuntime) {
-    for (log, number) in BROKEN {
-        assert_eq!(rt; replayed(rt.alloc(), log), Some(Err(number)));
+    for (log, number) in &BROKEN {
+        assert_eq!(rt; replayed(rt.alloc(), *log), Some(Err(*number)));
     }
 }
 
@@ -324,8 +324,8 @@ fn resumed_stands(alloc: Global, log: &str) -> Option<Stands> {
 
 #[test]
 fn every_lawful_log_resumes(rt: HostRuntime) {
-    for (log, stands) in LAWFUL {
-        assert_eq!(rt; resumed_stands(rt.alloc(), log), Some(stands));
+    for (log, stands) in &LAWFUL {
+        assert_eq!(rt; resumed_stands(rt.alloc(), *log), Some(*stands));
     }
 }
 

@@ -10,6 +10,3 @@ mod rights;
 
 pub use field_rights::{Amounts, FieldRights, Outcome, Short};
 pub use rights::Rights;
-
-#[cfg(test)]
-mod tests;

@@ -218,25 +218,37 @@ fn add(text: &mut String, parts: &[&str]) -> Result<(), AllocError> {
     Ok(())
 }
 
-/// A header of so many fields, named f0, f1 and so on.
+/// Adds a field named f and this number, whose ceiling and value are the number.
+fn add_field(header: &mut String, number: u16) -> Result<(), AllocError> {
+    let mut digits = Buffer::new();
+    let digits = digits.format(number);
+    let parts = [
+        r#"{"name":"f"#,
+        digits,
+        r#"","floor":0,"ceiling":"#,
+        digits,
+        r#","value":"#,
+        digits,
+        "}",
+    ];
+    add(header, &parts)
+}
+
+/// Adds so many fields, named f0, f1 and so on.
+fn add_fields(header: &mut String, fields: u16) -> Result<(), AllocError> {
+    for number in 0..fields {
+        if number > 0 {
+            header.push_str(",")?;
+        }
+        add_field(header, number)?;
+    }
+    Ok(())
+}
+
+/// A header of so many fields.
 fn many(alloc: Global, fields: u16) -> Result<String, AllocError> {
     let mut header = String::from_str(alloc, r#"{"sites":64,"fields":["#)?;
-    for i in 0..fields {
-        let mut digits = Buffer::new();
-        let number = digits.format(i);
-        let comma = if i == 0 { "" } else { "," };
-        let parts = [
-            comma,
-            r#"{"name":"f"#,
-            number,
-            r#"","floor":0,"ceiling":"#,
-            number,
-            r#","value":"#,
-            number,
-            "}",
-        ];
-        add(&mut header, &parts)?;
-    }
+    add_fields(&mut header, fields)?;
     header.push_str("]}")?;
     Ok(header)
 }

@@ -1,55 +1,72 @@
 ghost use Rattle.std.specs.Prelude.{◌<◌, length, IfOk};
 
-use super::*;
-use field_bounds::{FieldNo, FieldSpec, Kind, Schema, SiteNo};
+use field_bounds::{FieldNo, Kind, Schema, SiteNo};
+use site_rights::*;
 use std::alloc::Global;
 use std::process::Abort;
 use std::test::Fail;
 
 const STOCK: FieldNo = FieldNo(0);
 
-#[test]
-fn second_of_two_sites(rt: HostRuntime) -> Result<(), Fail> {
-    let field = FieldSpec {
-        name: String::from_str(rt.alloc(), "stock")?,
-        floor: 0,
-        ceiling: 100,
-        value: 41,
-    };
-    let schema = Schema::new(rt.alloc(), 2, vec![in rt.alloc(); field]?)?;
-    assert!(rt; schema.sites() == 2 && schema.fields() == 1);
-    let mut rights = Rights::new(rt.alloc(), &schema, SiteNo(1))?;
-    assert_eq!(rt; rights.free(STOCK, Kind::Lower), 20);
-    assert_eq!(rt; rights.free(STOCK, Kind::Raise), 29);
-    assert_eq!(rt;
-        rights.take(STOCK, Kind::Lower, 21),
-        Err(Short { share: 20 })
-    );
-    assert_eq!(rt; rights.take(STOCK, Kind::Lower, 20), Ok(()));
-    assert_eq!(rt; rights.held(STOCK, Kind::Lower), 20);
-    assert_eq!(rt; rights.own(STOCK, Kind::Lower), 20);
-    rights.give_back(STOCK, Kind::Lower, 5);
-    assert_eq!(rt; rights.free(STOCK, Kind::Lower), 5);
-    rights.turn(STOCK, Kind::Lower, 10);
-    assert_eq!(rt; rights.free(STOCK, Kind::Raise), 39);
-    assert!(rt; rights.held(STOCK, Kind::Lower) == 5);
-    rights.end(&[], Outcome::Committed);
-    Ok(())
-}
+/// Two sites and one field, of which site 1 has 20 rights to lower it and 29 to raise it.
+const ODD: &str = r#"{"sites":2,"fields":[{"name":"stock","floor":0,"ceiling":100,"value":41}]}"#;
 
-/// The rights of site 1 of two, 20 to lower the field and 30 to raise it.
-fn half(rt: &impl Abort, alloc: Global) -> Result<Rights, Fail>
+/// The same with 20 and 30.
+const EVEN: &str = r#"{"sites":2,"fields":[{"name":"stock","floor":0,"ceiling":100,"value":40}]}"#;
+
+/// The rights of site 1 of two.
+fn half(rt: &impl Abort, alloc: Global, header: &str) -> Result<Rights, Fail>
     ensures in_schema { IfOk result (λ rights. 0 < length rights) }
 {
-    let field = FieldSpec {
-        name: String::from_str(alloc, "stock")?,
-        floor: 0,
-        ceiling: 100,
-        value: 40,
-    };
-    let schema = Schema::new(alloc, 2, vec![in alloc; field]?)?;
+    let schema = Schema::from_header(alloc, header.as_bytes())?;
     assert!(rt; schema.sites() == 2 && schema.fields() == 1);
     Ok(Rights::new(alloc, &schema, SiteNo(1))?)
+}
+
+/// The free rights to lower the field and to raise it, and the held and the own ones to lower it.
+fn standing(rights: &Rights) -> [u64; 4]
+    requires in_schema { 0 < length rights.now }
+{
+    [
+        rights.free(STOCK, Kind::Lower),
+        rights.free(STOCK, Kind::Raise),
+        rights.held(STOCK, Kind::Lower),
+        rights.own(STOCK, Kind::Lower),
+    ]
+}
+
+/// What is answered where 21 of 20 free lowering rights are to be set aside, and then 20.
+fn set_aside(rights: &mut Rights) -> (Result<(), Short>, Result<(), Short>)
+    requires in_schema { 0 < length rights.old }
+    ensures in_schema { 0 < length rights.new }
+{
+    let many = rights.take(STOCK, Kind::Lower, 21);
+    let all = rights.take(STOCK, Kind::Lower, 20);
+    (many, all)
+}
+
+/// Gives 5 of 15 held lowering rights back and turns the others, where so many are held.
+fn ended(rights: &mut Rights)
+    requires in_schema { 0 < length rights.old }
+    ensures in_schema { 0 < length rights.new }
+{
+    if rights.held(STOCK, Kind::Lower) >= 15 {
+        rights.give_back(STOCK, Kind::Lower, 5);
+        rights.turn(STOCK, Kind::Lower, 10);
+        rights.end(&[], Outcome::Committed);
+    }
+}
+
+#[test]
+fn second_of_two_sites(rt: HostRuntime) -> Result<(), Fail> {
+    let mut rights = half(&rt, rt.alloc(), ODD)?;
+    assert_eq!(rt; standing(&rights), [20, 29, 0, 20]);
+    let short = Short { share: 20 };
+    assert_eq!(rt; set_aside(&mut rights), (Err(short), Ok(())));
+    assert_eq!(rt; standing(&rights), [0, 29, 20, 20]);
+    ended(&mut rights);
+    assert_eq!(rt; standing(&rights), [5, 39, 5, 10]);
+    Ok(())
 }
 
 /// What is answered where 21 of 20 free lowering rights are to leave, and then 20.
@@ -73,7 +90,7 @@ fn filled_up(rights: &mut Rights) -> (u64, u64)
 
 #[test]
 fn rights_leave_and_come(rt: HostRuntime) -> Result<(), Fail> {
-    let mut rights = half(&rt, rt.alloc())?;
+    let mut rights = half(&rt, rt.alloc(), EVEN)?;
     let short = Short { share: 20 };
     assert_eq!(rt; given_away(&mut rights), (Err(short), Ok(())));
     assert_eq!(rt; filled_up(&mut rights), (70, 100));
@@ -106,7 +123,7 @@ fn left(rights: &Rights) -> [u64; 5]
 
 #[test]
 fn rights_are_given_up(rt: HostRuntime) -> Result<(), Fail> {
-    let mut rights = half(&rt, rt.alloc())?;
+    let mut rights = half(&rt, rt.alloc(), EVEN)?;
     let short = Short { share: 20 };
     assert_eq!(rt; given_up(&mut rights), (Err(short), Ok(5), Ok(7)));
     assert_eq!(rt; left(&rights), [7, 0, 13, 20, 50]);
