@@ -8,9 +8,9 @@ use field_bounds::{
     Command, Entry, FieldNo, Kind, Last, Refusal, Reply, Schema, SiteNo, Statement, TxnId,
     statement_of,
 };
-use kept_records::{Mishap, TornMedium};
+use kept_records::{Medium, Mishap, TornMedium};
 use metered_medium::Metered;
-use site_desk::{Blank, Desk, Pass, Receipt, check_receipts};
+use site_desk::{Blank, Closed, Desk, Pass, Receipt, check_receipts};
 use std::alloc::Global;
 use std::sync::atomic::{AtomicU64, Ordering};
 use std::sync::ledger::Ledger;
@@ -325,12 +325,22 @@ impl<L: Ledger> Office<L> {
     pub fn close(self, alloc: Global) -> Result<Vec<Entry>, ShopFault> {
         // guide: close
         let passes = vec![in alloc; self.pass]?;
-        let closed = match self.desk.close(passes) {
-            Ok(closed) => closed,
-            Err(refused) => return Err(ShopFault::Close(refused.length)),
-        };
-        check_receipts(alloc, &closed, &self.receipts)?;
-        Ok(Vec::from_slice(alloc, closed.history())?)
+        match self.desk.close(passes) {
+            Ok(closed) => checked_history(alloc, &closed, &self.receipts),
+            Err(refused) => Err(ShopFault::Close(refused.length)),
+        }
         // guide: end
     }
 }
+
+// guide: receipts
+/// The history of a site that is closed, where the receipts are those of all its entries.
+fn checked_history<M: Medium>(
+    alloc: Global,
+    closed: &Closed<M>,
+    receipts: &[Receipt],
+) -> Result<Vec<Entry>, ShopFault> {
+    check_receipts(alloc, closed, receipts)?;
+    Ok(Vec::from_slice(alloc, closed.history())?)
+}
+// guide: end
