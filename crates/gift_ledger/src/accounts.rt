@@ -1,6 +1,6 @@
 //! The totals with one other site, field by field.
 
-ghost use Rattle.std.specs.Prelude.{◌≡◌, ◌<◌, length, replicate, IfOk};
+ghost use Rattle.std.specs.Prelude.{◌≡◌, ◌<◌, ℕ, length, replicate, IfOk};
 ghost use Rattle.gift_ledger.specs.Ledger.{no_accounts, account_in, put_in};
 
 use crate::account::{Account, FieldAccounts};
@@ -22,15 +22,20 @@ const NOTHING_YET: FieldAccounts = FieldAccounts {
 #[derive(Drop)]
 pub(crate) struct Accounts {
     fields: Vec<FieldAccounts>,
+    // Whether any total was set; where none was, all are 0.
+    used: bool,
 }
 
 impl Model for Accounts {
-    ghost use Rattle.std.specs.Prelude.{List};
+    ghost use Rattle.std.specs.Prelude.{◌≡◌, List, false};
     ghost use Rattle.gift_ledger.specs.declared.account.FieldAccounts.{FieldAccounts};
+    ghost use Rattle.gift_ledger.specs.Ledger.{AreNothing};
 
     ghost Value = { List FieldAccounts };
 
     ghost view = { λ a. a.fields.items };
+
+    ghost invariant = { λ a. a.used ≡ false → AreNothing a.fields.items };
 }
 
 impl Accounts {
@@ -39,14 +44,21 @@ impl Accounts {
         ensures empty { IfOk result (λ accounts. accounts ≡ replicate fields no_accounts) }
     {
         let fields = vec![in alloc; NOTHING_YET; usize::from(fields)]?;
-        Ok(Accounts { fields })
+        Ok(Accounts {
+            fields,
+            used: false,
+        })
     }
 
-    /// The totals of both kinds, field by field.
+    /// The totals of both kinds, field by field; none where all are 0.
     pub(crate) fn as_slice(&self) -> &[FieldAccounts]
-        ensures value { result.now ≡ self.now }
+        ensures value { (f : ℕ) (k : Kind) → account_in result.now f k ≡ account_in self.now f k }
     {
-        self.fields.as_slice()
+        if self.used {
+            self.fields.as_slice()
+        } else {
+            &[]
+        }
     }
 
     /// The totals of a kind on a field.
@@ -66,6 +78,7 @@ impl Accounts {
         requires field_in { field.0 < length self.old }
         ensures put { self.new ≡ put_in self.old field.0 kind account }
     {
+        self.used = true;
         let accounts = &mut self.fields[usize::from(field.0)];
         both_kinds!(kind, accounts, |own| {
             *own = account;

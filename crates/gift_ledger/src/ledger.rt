@@ -1,8 +1,8 @@
 //! The ledger of one site.
 
-ghost use Rattle.std.specs.Prelude.{◌≡◌, ◌≢◌, ◌+◌, ◌-◌, ◌<◌, ◌≤◌, ◌↔◌, max, ◌==◌, if◌then◌else◌, Some, None, IsErr, IfOk, IfErr, OnOk, OnErr};
+ghost use Rattle.std.specs.Prelude.{ℕ, ◌≡◌, ◌≢◌, ◌+◌, ◌-◌, ◌<◌, ◌≤◌, ◌↔◌, max, ◌==◌, if◌then◌else◌, Some, None, IsErr, IfOk, IfErr, OnOk, OnErr};
 ghost use Rattle.field_bounds.specs.Owed.{max_total};
-ghost use Rattle.gift_ledger.specs.Ledger.{IsSlot, fresh_ledger, accounts_with, account_at, total_at, accepted_at, put_at, with_total, with_accepted};
+ghost use Rattle.gift_ledger.specs.Ledger.{IsSlot, fresh_ledger, account_in, account_at, total_at, accepted_at, put_at, with_total, with_accepted};
 
 use crate::account::{Account, FieldAccounts, LedgerFull};
 use crate::accounts::Accounts;
@@ -54,10 +54,12 @@ impl Ledger {
         self.site
     }
 
-    /// The totals with another site, in rights, by number of field; none where the site is not of
-    /// the schema. A pass over them costs less than a call for each.
+    /// The totals with another site, in rights, by number of field: of a field past the end both
+    /// are 0, and so nothing is there where no total was set yet. A pass over them costs less than a
+    /// call for each.
     pub fn accounts(&self, site: SiteNo) -> &[FieldAccounts]
-        ensures value { result.now ≡ accounts_with self.now.rows site.0 }
+        ensures value { (f : ℕ) (k : Kind) → account_in result.now f k
+            ≡ account_at self.now site.0 f k }
     {
         match self.sites.get(usize::from(site.0)) {
             Some(accounts) => accounts.as_slice(),

@@ -14,8 +14,9 @@ use Rattle.kept_records.specs.declared.total.Cut.{Cut}
 use Rattle.kept_records.specs.Summary.{SummaryValue, same_rights, same_totals, same_cuts, one_total, one_cut, totals_of_site, totals_of, cuts_of, rights_of, cut_told_more, cut_told}
 use Rattle.kept_records.specs.Stands.{greatest, own_in, given_in, accepted_in, cut_in, summary_of}
 use Rattle.site_rights.specs.Rights.{own_at, cut_at}
+use Rattle.gift_ledger.specs.declared.account.Account.{Account}
 use Rattle.gift_ledger.specs.declared.account.FieldAccounts.{FieldAccounts}
-use Rattle.gift_ledger.specs.Ledger.{accounts_with, LedgerValue}
+use Rattle.gift_ledger.specs.Ledger.{account_in, account_at, LedgerValue}
 use Rattle.log_replay.specs.declared.standing.Standing.{Standing}
 use Rattle.log_replay.specs.Standing.{IsOther, Stands}
 use Rattle.log_replay.specs.Telling.{side, side_in, side_with, is_of_site, summary_now}
@@ -34,11 +35,41 @@ site_same F G r (suc m) h =
     let rest = site_same F G r m (λ f k below. h f k (omega (arith, below))) in
     rw (rest, low, high) refl
 
--- the totals of a site by its accounts
+-- the totals of a site by accounts that read as its own
 pub side_by_accounts : (given : Bool) (ledger : LedgerValue) (accounts : List FieldAccounts) (r f : ℕ) (k : Kind)
-    → accounts ≡ accounts_with ledger.rows r → side_in given accounts f k ≡ side given ledger r f k
-side_by_accounts true ledger accounts r f k are = ap (λ (fields : List FieldAccounts). side_in true fields f k) are
-side_by_accounts false ledger accounts r f k are = ap (λ (fields : List FieldAccounts). side_in false fields f k) are
+    → account_in accounts f k ≡ account_at ledger r f k → side_in given accounts f k ≡ side given ledger r f k
+side_by_accounts true ledger accounts r f k reads = ap (λ (account : Account). account.given) reads
+side_by_accounts false ledger accounts r f k reads = ap (λ (account : Account). account.accepted) reads
+
+-- totals that are all 0 add nothing
+nothing_of_site : (F : ℕ → ℕ → Kind → ℕ) (r m : ℕ) → ((f : ℕ) (k : Kind) → F r f k ≡ 0) → totals_of_site F r m ≡ []
+unfolding totals_of_site
+nothing_of_site F r zero none = refl
+nothing_of_site F r (suc m) none =
+    let low = one_nothing F r m Lower (none m Lower) in
+    let high = one_nothing F r m Raise (none m Raise) in
+    let rest = nothing_of_site F r m none in
+    rw (rest, low, high) refl
+  where
+    one_nothing : (F : ℕ → ℕ → Kind → ℕ) (r f : ℕ) (k : Kind) → F r f k ≡ 0 → one_total F r f k ≡ []
+    one_nothing F r f k none = ap (λ (n : ℕ). cond (n == 0) []
+        (record { site = record { 0 = r }; field = record { 0 = f }; kind = k; total = n } ∷ [])) none
+
+-- so no accounts at all add nothing
+pub site_without_accounts : (given : Bool) (ledger : LedgerValue) (accounts : List FieldAccounts) (r m : ℕ) (start : List Total)
+    → ((f : ℕ) (k : Kind) → account_in accounts f k ≡ account_at ledger r f k) → length accounts ≡ 0
+    → start ≡ start ++ totals_of_site (side given ledger) r m
+site_without_accounts given ledger [] r m start reads none =
+    sym (append-nil start)
+    ∙ ap (λ (l : List Total). start ++ l) (sym (nothing_of_site (side given ledger) r m (λ f k.
+    sym (side_by_accounts given ledger [] r f k (reads f k)) ∙ nothing given f k)))
+  where
+    nothing : (given : Bool) (f : ℕ) (k : Kind) → side_in given [] f k ≡ 0
+    nothing true f Lower = refl
+    nothing true f Raise = refl
+    nothing false f Lower = refl
+    nothing false f Raise = refl
+site_without_accounts given ledger (a ∷ accounts) r m start reads none = absurd (omega (arith, none))
 
 -- a total told anew changes none of another site
 of_other : (anew : Option Total) (given : Bool) (ledger : LedgerValue) (r f : ℕ) (k : Kind) → is_of_site anew r ≡ false
