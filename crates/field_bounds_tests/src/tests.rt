@@ -30,9 +30,8 @@ fn parts_at(schema: &Schema, site: u16) -> Option<(u64, u64)> {
 
 /// A field of 0 to 100.
 fn spec(alloc: Global, name: &str, value: i64) -> Result<FieldSpec, AllocError> {
-    let name = String::from_str(alloc, name)?;
     Ok(FieldSpec {
-        name,
+        name: String::from_str(alloc, name)?,
         floor: 0,
         ceiling: 100,
         value,
@@ -55,17 +54,13 @@ fn made(
 
 /// The same of the header's schema, and of a copy of it.
 fn parts_of(alloc: Global, header: &str, site: u16) -> Option<(u64, u64)> {
-    match Schema::from_header(alloc, header.as_bytes()) {
-        Ok(schema) => parts_at(&schema, site),
-        Err(_) => None,
-    }
+    let schema = Schema::from_header(alloc, header.as_bytes()).ok()?;
+    parts_at(&schema, site)
 }
 
 fn parts_of_copy(alloc: Global, header: &str, site: u16) -> Option<(u64, u64)> {
-    match Schema::from_header(alloc, header.as_bytes()) {
-        Ok(schema) => parts_at_copy(&schema, site),
-        Err(_) => None,
-    }
+    let schema = Schema::from_header(alloc, header.as_bytes()).ok()?;
+    parts_at_copy(&schema, site)
 }
 
 fn parts_at_copy(schema: &Schema, site: u16) -> Option<(u64, u64)> {
@@ -95,11 +90,15 @@ fn parts(rt: HostRuntime) {
 }
 
 /// What a schema tells of its one field.
-fn assert_readers(rt: &impl Abort, schema: &Schema) {
+fn assert_field(rt: &impl Abort, schema: &Schema) {
     assert_eq!(rt; schema.sites(), 2);
     assert_eq!(rt; schema.fields(), 1);
     assert_eq!(rt; schema.bounds(FieldNo(0)), (0, 100, 40));
     assert_eq!(rt; schema.name(FieldNo(0)), "stock");
+}
+
+/// Which names a schema finds.
+fn assert_names(rt: &impl Abort, schema: &Schema) {
     assert_eq!(rt; schema.field_no("stock"), Some(FieldNo(0)));
     assert_eq!(rt; schema.field_no("sock"), None);
     assert_eq!(rt; schema.field_no_of(b"stock"), Some(FieldNo(0)));
@@ -109,7 +108,8 @@ fn assert_readers(rt: &impl Abort, schema: &Schema) {
 #[test]
 fn readers(rt: HostRuntime) -> Result<(), Fail> {
     let schema = Schema::from_header(rt.alloc(), EVEN.as_bytes())?;
-    assert_readers(&rt, &schema);
+    assert_field(&rt, &schema);
+    assert_names(&rt, &schema);
     Ok(())
 }
 
@@ -285,14 +285,17 @@ const TIGHTEN: Command = Command::Tighten {
 };
 
 /// What site 0 tells site 1 of its gifts.
+const TOLD: Statement = Statement {
+    from: SiteNo(0),
+    to: SiteNo(1),
+    field: FieldNo(0),
+    kind: Kind::Lower,
+    total: 8,
+};
+
+/// The same with another total.
 fn told(total: u64) -> Statement {
-    Statement {
-        from: SiteNo(0),
-        to: SiteNo(1),
-        field: FieldNo(0),
-        kind: Kind::Lower,
-        total,
-    }
+    Statement { total, ..TOLD }
 }
 
 /// The statement of an entry of site 0.
@@ -304,27 +307,43 @@ fn stated(command: Command, reply: Reply) -> Option<Statement> {
     })
 }
 
+const GIVEN: Reply = Reply::Given { total: 8 };
+
+const RESTATED: Reply = Reply::Stated { total: 8 };
+
+const SPARED: Reply = Reply::Spared {
+    amount: 3,
+    total: 8,
+};
+
+/// Commands, their replies, and what these state.
+const STATEMENTS: [(Command, Reply, Option<Statement>); 12] = [
+    (GIVE, GIVEN, Some(TOLD)),
+    (RESTATE, RESTATED, Some(TOLD)),
+    (SPARE, SPARED, Some(TOLD)),
+    (SPARE, GIVEN, None),
+    (GIVE, SPARED, None),
+    (GIVE, RESTATED, None),
+    (RESTATE, GIVEN, None),
+    (TIGHTEN, Reply::Tightened { total: 8 }, None),
+    (Command::Accept(TOLD), Reply::Accepted { gain: 8 }, None),
+    (GIVE, Reply::Refused(Refusal::NoSite), None),
+    (GIVE, Reply::Unsure, None),
+    (
+        Command::Restart,
+        Reply::Restarted {
+            epoch: 1,
+            last: Last::Kept,
+        },
+        None,
+    ),
+];
+
 #[test]
 fn statements(rt: HostRuntime) {
-    let given = Reply::Given { total: 8 };
-    let restated = Reply::Stated { total: 8 };
-    let gained = Reply::Accepted { gain: 8 };
-    let spared = Reply::Spared {
-        amount: 3,
-        total: 8,
-    };
-    assert_eq!(rt; stated(GIVE, given), Some(told(8)));
-    assert_eq!(rt; stated(RESTATE, restated), Some(told(8)));
-    assert_eq!(rt; stated(SPARE, spared), Some(told(8)));
-    assert_eq!(rt; stated(SPARE, given), None);
-    assert_eq!(rt; stated(GIVE, spared), None);
-    assert_eq!(rt; stated(GIVE, restated), None);
-    assert_eq!(rt; stated(RESTATE, given), None);
-    assert_eq!(rt; stated(TIGHTEN, Reply::Tightened { total: 8 }), None);
-    assert_eq!(rt; stated(Command::Accept(told(8)), gained), None);
-    assert_eq!(rt; stated(GIVE, Reply::Refused(Refusal::NoSite)), None);
-    assert_eq!(rt; stated(GIVE, Reply::Unsure), None);
-    assert_eq!(rt; stated(Command::Restart, restarted(1, Last::Kept)), None);
+    for (command, reply, statement) in &STATEMENTS {
+        assert_eq!(rt; stated(*command, *reply), *statement);
+    }
 }
 
 /// The last amount that a command bears, read by the arm of its name; 0 where it bears none.

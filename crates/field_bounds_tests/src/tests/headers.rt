@@ -245,11 +245,17 @@ fn add_fields(header: &mut String, fields: u16) -> Result<(), AllocError> {
     Ok(())
 }
 
+/// Adds a header of so many fields.
+fn add_header(text: &mut String, fields: u16) -> Result<(), AllocError> {
+    text.push_str(r#"{"sites":64,"fields":["#)?;
+    add_fields(text, fields)?;
+    text.push_str("]}")
+}
+
 /// A header of so many fields.
 fn many(alloc: Global, fields: u16) -> Result<String, AllocError> {
-    let mut header = String::from_str(alloc, r#"{"sites":64,"fields":["#)?;
-    add_fields(&mut header, fields)?;
-    header.push_str("]}")?;
+    let mut header = String::new(alloc);
+    add_header(&mut header, fields)?;
     Ok(header)
 }
 

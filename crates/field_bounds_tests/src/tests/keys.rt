@@ -3,33 +3,51 @@
 use super::*;
 use std::collections::{BTreeMap, HashMap};
 
-/// A transaction of an epoch.
-const fn txn(epoch: u32, number: u32) -> TxnId {
-    TxnId { epoch, number }
+fn add_totals(totals: &mut HashMap<SiteNo, u64>) -> Result<(), AllocError> {
+    totals.insert(SiteNo(1), 5)?;
+    totals.insert(SiteNo(0), 7)?;
+    totals.insert(SiteNo(1), 2)?;
+    Ok(())
+}
+
+fn assert_totals(rt: &impl Abort, totals: &HashMap<SiteNo, u64>) {
+    assert_eq!(rt; totals.get(&SiteNo(0)), Some(&7));
+    assert_eq!(rt; totals.get(&SiteNo(1)), Some(&2));
+    assert_eq!(rt; totals.get(&SiteNo(2)), None);
 }
 
 #[test]
 fn keyed_by_site(rt: HostRuntime) -> Result<(), Fail> {
     let mut totals = HashMap::new(rt.alloc());
-    for (site, amount) in [(1, 5), (0, 7), (1, 2)] {
-        totals.insert(SiteNo(site), amount)?;
-    }
-    assert_eq!(rt; totals.get(&SiteNo(0)), Some(&7));
-    assert_eq!(rt; totals.get(&SiteNo(1)), Some(&2));
-    assert_eq!(rt; totals.get(&SiteNo(2)), None);
+    add_totals(&mut totals)?;
+    assert_totals(&rt, &totals);
     Ok(())
+}
+
+/// A transaction of an epoch.
+const fn txn(epoch: u32, number: u32) -> TxnId {
+    TxnId { epoch, number }
+}
+
+fn add_fates(fates: &mut BTreeMap<TxnId, &'static str>) -> Result<(), AllocError> {
+    fates.insert(txn(2, 1), "open")?;
+    fates.insert(txn(1, 9), "committed")?;
+    fates.insert(txn(1, 8), "aborted")?;
+    Ok(())
+}
+
+fn assert_fates(rt: &impl Abort, fates: &BTreeMap<TxnId, &'static str>) {
+    assert_eq!(rt; fates.get(&txn(1, 9)), Some(&"committed"));
+    assert_eq!(rt; fates.get(&txn(2, 9)), None);
+    let first = fates.first_key_value().map(|(txn, _)| *txn);
+    assert_eq!(rt; first, Some(txn(1, 8)));
 }
 
 #[test]
 fn keyed_by_transaction(rt: HostRuntime) -> Result<(), Fail> {
     let mut fates = BTreeMap::new(rt.alloc());
-    fates.insert(txn(2, 1), "open")?;
-    fates.insert(txn(1, 9), "committed")?;
-    fates.insert(txn(1, 8), "aborted")?;
-    assert_eq!(rt; fates.get(&txn(1, 9)), Some(&"committed"));
-    assert_eq!(rt; fates.get(&txn(2, 9)), None);
-    let first = fates.first_key_value().map(|(txn, _)| *txn);
-    assert_eq!(rt; first, Some(txn(1, 8)));
+    add_fates(&mut fates)?;
+    assert_fates(&rt, &fates);
     Ok(())
 }
 
