@@ -1,8 +1,8 @@
 //! Worked rows of the end of a medium.
 
-ghost use Rattle.std.specs.Prelude.{IfSome};
 ghost use Rattle.kept_records.specs.Keeping.{IsKept};
 
+use crate::tests::{bytes_of, log_of};
 use kept_records::*;
 use std::alloc::{AllocError, Global};
 use std::process::Abort;
@@ -43,10 +43,6 @@ impl Medium for Plain {
     fn failures(&self) -> u64 {
         self.under.failures()
     }
-}
-
-fn bytes_of(alloc: Global, text: &str) -> Option<Vec<u8>> {
-    Vec::from_slice(alloc, text.as_bytes()).ok()
 }
 
 /// Whether the medium ends with these bytes where so many are read, and holds so many in all.
@@ -95,17 +91,6 @@ fn a_mishap_for_reads_strikes_the_end(rt: HostRuntime) {
     assert_eq!(rt; medium.failures(), 1);
 }
 
-/// The text's bytes, or None where they are no log.
-fn log_of(alloc: Global, text: &str) -> Option<Vec<u8>>
-    ensures { IfSome result (λ bytes. IsKept bytes.items) }
-{
-    let bytes = bytes_of(alloc, text)?;
-    match read_records(alloc, &bytes) {
-        Ok(_) => Some(bytes),
-        Err(_) => None,
-    }
-}
-
 /// How many records a cursor hands out.
 fn handed_out(alloc: Global, lines: &[u8]) -> Option<u64>
     requires { IsKept lines.now }
@@ -137,25 +122,28 @@ fn told_back(alloc: Global, text: &str) -> Option<(Option<u32>, (u64, usize), (u
     ))
 }
 
+/// Logs, and what their ends are read as.
+const ENDS: [(&str, (Option<u32>, (u64, usize), (usize, usize))); 4] = [
+    (
+        "R 1\nS 1 1 20 30\nR 2\nC 2 1 0 -5 0 3\nC 2 2 0 1\n",
+        (Some(1), (3, 5), (45, 45)),
+    ),
+    (
+        "R 1\nS 1 1 20 30\nR 2\nS 2 1 20 30\nR 3\nG 1",
+        (Some(2), (1, 5), (36, 39)),
+    ),
+    (
+        "R 1\nS 1 1 20 30\nR 2\nS 2 1 20 3",
+        (Some(1), (1, 3), (20, 30)),
+    ),
+    ("R 1\nG 1 0 l 5\nR", (None, (2, 2), (14, 15))),
+];
+
 #[test]
 fn the_last_summary_and_the_lines_behind_it(rt: HostRuntime) {
-    let alloc = rt.alloc();
-    assert_eq!(rt;
-        told_back(alloc, "R 1\nS 1 1 20 30\nR 2\nC 2 1 0 -5 0 3\nC 2 2 0 1\n"),
-        Some((Some(1), (3, 5), (45, 45)))
-    );
-    assert_eq!(rt;
-        told_back(alloc, "R 1\nS 1 1 20 30\nR 2\nS 2 1 20 30\nR 3\nG 1"),
-        Some((Some(2), (1, 5), (36, 39)))
-    );
-    assert_eq!(rt;
-        told_back(alloc, "R 1\nS 1 1 20 30\nR 2\nS 2 1 20 3"),
-        Some((Some(1), (1, 3), (20, 30)))
-    );
-    assert_eq!(rt;
-        told_back(alloc, "R 1\nG 1 0 l 5\nR"),
-        Some((None, (2, 2), (14, 15)))
-    );
+    for (text, end) in &ENDS {
+        assert_eq!(rt; told_back(rt.alloc(), *text), Some(*end), "{text}");
+    }
 }
 
 #[test]

@@ -129,14 +129,15 @@ fn commit_text(alloc: Global) -> Option<Vec<u8>> {
     write_record(alloc, &Record::Commit { txn, escrows }).ok()
 }
 
+const GIFT: Record = Record::Gift {
+    to: SiteNo(1),
+    field: FieldNo(0),
+    kind: Kind::Lower,
+    total: 5,
+};
+
 fn gift_text(alloc: Global) -> Option<Vec<u8>> {
-    let gift = Record::Gift {
-        to: SiteNo(1),
-        field: FieldNo(0),
-        kind: Kind::Lower,
-        total: 5,
-    };
-    write_record(alloc, &gift).ok()
+    write_record(alloc, &GIFT).ok()
 }
 
 fn accept_text(alloc: Global) -> Option<Vec<u8>> {
@@ -170,6 +171,10 @@ fn texts(rt: HostRuntime) {
     assert!(rt; is_text(accept_text(alloc), "A 15 63 r 1000000000000000000\n"));
     assert!(rt; is_text(tighten_text(alloc), "T 0 l 5\n"));
     assert!(rt; is_text(restart_text(alloc), "R 1\n"));
+}
+
+pub(crate) fn bytes_of(alloc: Global, text: &str) -> Option<Vec<u8>> {
+    Vec::from_slice(alloc, text.as_bytes()).ok()
 }
 
 /// How many records are read, and how many bytes they take up.
@@ -270,8 +275,8 @@ fn added<M: Medium>(medium: &mut M, piece: &[u8]) -> Option<bool> {
 
 /// Whether the device cut, or None where there are no more bytes than are to be kept.
 fn shortened<M: Medium>(alloc: Global, medium: &mut M, kept: usize) -> Option<bool> {
-    let bytes = medium.read_all(alloc).ok()?;
-    if bytes.len() <= kept {
+    let present = medium.read_all(alloc).ok()?.len();
+    if present <= kept {
         return None;
     }
     Some(medium.cut(kept).is_ok())
@@ -282,11 +287,11 @@ fn holds<M: Medium>(alloc: Global, medium: &mut M, wanted: &str) -> bool {
 }
 
 fn memory_of(alloc: Global, text: &str) -> Option<MemoryMedium> {
-    Some(MemoryMedium::new(Vec::from_slice(alloc, text.as_bytes()).ok()?))
+    Some(MemoryMedium::new(bytes_of(alloc, text)?))
 }
 
 fn torn_of(alloc: Global, text: &str) -> Option<TornMedium> {
-    Some(TornMedium::new(Vec::from_slice(alloc, text.as_bytes()).ok()?))
+    Some(TornMedium::new(bytes_of(alloc, text)?))
 }
 
 #[test]
@@ -342,16 +347,18 @@ fn front_of(alloc: Global, text: &str) -> Option<(usize, usize, Option<u64>)> {
     Some((front.records.len(), front.length, front.bad_line))
 }
 
+const FRONTS: [(&str, (usize, usize, Option<u64>)); 4] = [
+    ("R 1\nR 12\nR 03\nR 4\n", (2, 9, Some(3))),
+    ("R 03\nR 4\n", (0, 0, Some(1))),
+    ("R 1\nR 12\nR 03", (2, 9, None)),
+    ("", (0, 0, None)),
+];
+
 #[test]
 fn fronts(rt: HostRuntime) {
-    let alloc = rt.alloc();
-    assert_eq!(rt;
-        front_of(alloc, "R 1\nR 12\nR 03\nR 4\n"),
-        Some((2, 9, Some(3)))
-    );
-    assert_eq!(rt; front_of(alloc, "R 03\nR 4\n"), Some((0, 0, Some(1))));
-    assert_eq!(rt; front_of(alloc, "R 1\nR 12\nR 03"), Some((2, 9, None)));
-    assert_eq!(rt; front_of(alloc, ""), Some((0, 0, None)));
+    for (text, front) in &FRONTS {
+        assert_eq!(rt; front_of(rt.alloc(), *text), Some(*front), "{text}");
+    }
 }
 
 /// Whether a record that is no restart stands behind none, one, two and three records of a log.
@@ -378,10 +385,10 @@ fn records_behind_others(rt: HostRuntime) {
 }
 
 /// The text's bytes, or None where they are no log.
-fn log_of(alloc: Global, text: &str) -> Option<Vec<u8>>
+pub(crate) fn log_of(alloc: Global, text: &str) -> Option<Vec<u8>>
     ensures { IfSome result (λ bytes. IsKept bytes.items) }
 {
-    let bytes = Vec::from_slice(alloc, text.as_bytes()).ok()?;
+    let bytes = bytes_of(alloc, text)?;
     match read_records(alloc, &bytes) {
         Ok(_) => Some(bytes),
         Err(_) => None,
@@ -431,17 +438,11 @@ fn appended<M: Medium>(alloc: Global, medium: &mut M, kept: &Record) -> Option<b
 fn records_are_appended(rt: HostRuntime) {
     let alloc = rt.alloc();
     let mut medium = memory_of(alloc, "").expect(&rt, "memory");
-    let gift = Record::Gift {
-        to: SiteNo(1),
-        field: FieldNo(0),
-        kind: Kind::Lower,
-        total: 5,
-    };
     assert_eq!(rt;
         appended(alloc, &mut medium, &Record::Restart { epoch: 1 }),
         Some(true)
     );
-    assert_eq!(rt; appended(alloc, &mut medium, &gift), Some(true));
+    assert_eq!(rt; appended(alloc, &mut medium, &GIFT), Some(true));
     assert!(rt; holds(alloc, &mut medium, "R 1\nG 1 0 l 5\n"));
 }
 

@@ -10,10 +10,9 @@ const PIECE: &str = "R 1000\nS 1000 1 20 30\n";
 fn due(alloc: Global) -> Option<Summary>
     ensures { IfSome result (λ summary. IsSummary summary) }
 {
-    let rights = vec![in alloc; (20, 30)].ok()?;
     Some(Summary::new(
         1_000,
-        rights,
+        vec![in alloc; (20, 30)].ok()?,
         Vec::new(alloc),
         Vec::new(alloc),
         Vec::new(alloc),
