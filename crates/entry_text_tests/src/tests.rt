@@ -1,9 +1,8 @@
 use entry_text::*;
 use field_bounds::{
-    Command, Entry, FieldNo, FieldSpec, Kind, Last, Refusal, Reply, Schema, SiteNo, Statement,
-    TxnId,
+    Command, Entry, FieldNo, Kind, Last, Refusal, Reply, Schema, SiteNo, Statement, TxnId,
 };
-use std::alloc::Global;
+use std::alloc::{AllocError, Global};
 use std::process::Abort;
 use std::test::Fail;
 
@@ -36,8 +35,18 @@ fn is_command(alloc: Global, schema: &Schema, line: &str, site: u16, command: Co
     }
 }
 
-fn is_no_command(schema: &Schema, line: &str) -> bool {
-    read_command(schema, line.as_bytes()).is_none()
+/// Each line is read as the command at the site, which is written as the line.
+fn assert_commands(rt: &impl Abort, alloc: Global, schema: &Schema, rows: &[(&str, u16, Command)]) {
+    for (line, site, command) in rows {
+        assert!(rt; is_command(alloc, schema, *line, *site, *command), "{line}");
+    }
+}
+
+/// None of the lines is a command's.
+fn assert_no_commands(rt: &impl Abort, schema: &Schema, lines: &[&str]) {
+    for line in lines {
+        assert!(rt; read_command(schema, line.as_bytes()).is_none(), "{line}");
+    }
 }
 
 /// The line is read as the entry of a begin at site 0 with the reply, which is written as the line.
@@ -68,207 +77,256 @@ fn is_appended(alloc: Global, line: &str, reply: Reply) -> bool {
     append_reply(&mut out, reply).is_ok() && out.as_slice() == line.as_bytes()
 }
 
-fn is_refusal(alloc: Global, schema: &Schema, line: &str, refusal: Refusal) -> bool {
-    is_reply(alloc, schema, line, Reply::Refused(refusal))
+/// Each line is read as the entry with the reply, which is written as the line.
+fn assert_replies(rt: &impl Abort, alloc: Global, schema: &Schema, rows: &[(&str, Reply)]) {
+    for (line, reply) in rows {
+        assert!(rt; is_reply(alloc, schema, *line, *reply), "{line}");
+    }
 }
 
-/// A read and a share of one field.
-fn spells_field(alloc: Global, schema: &Schema, read: &str, share: &str, field: FieldNo) -> bool {
-    is_command(alloc, schema, read, 0, Command::Read { field })
-        && is_command(alloc, schema, share, 0, Command::Share { field })
+/// The same with refusals as the replies.
+fn assert_refusals(rt: &impl Abort, alloc: Global, schema: &Schema, rows: &[(&str, Refusal)]) {
+    for (line, refusal) in rows {
+        assert!(rt;
+            is_reply(alloc, schema, *line, Reply::Refused(*refusal)),
+            "{line}"
+        );
+    }
 }
+
+const COMMANDS: [(&str, u16, Command); 5] = [
+    ("0 begin", 0, Command::Begin),
+    ("65535 begin", 65535, Command::Begin),
+    (
+        "1 escrow 0.1 stock -20",
+        1,
+        Command::Escrow {
+            txn: FIRST,
+            field: STOCK,
+            change: -20,
+        },
+    ),
+    ("0 commit 0.1", 0, Command::Commit { txn: FIRST }),
+    ("0 abort 0.1", 0, Command::Abort { txn: FIRST }),
+];
 
 #[test]
 fn spells_commands(rt: HostRuntime) -> Result<(), Fail> {
-    let alloc = rt.alloc();
-    let schema = stock(&rt, alloc)?;
-    let escrow = Command::Escrow {
-        txn: FIRST,
-        field: STOCK,
-        change: -20,
-    };
-    let commit = Command::Commit { txn: FIRST };
-    let abort = Command::Abort { txn: FIRST };
-    assert!(rt; is_command(alloc, &schema, "0 begin", 0, Command::Begin));
-    assert!(rt; is_command(alloc, &schema, "65535 begin", 65535, Command::Begin));
-    assert!(rt; is_command(alloc, &schema, "1 escrow 0.1 stock -20", 1, escrow));
-    assert!(rt; is_command(alloc, &schema, "0 commit 0.1", 0, commit));
-    assert!(rt; is_command(alloc, &schema, "0 abort 0.1", 0, abort));
+    let schema = stock(&rt, rt.alloc())?;
+    assert_commands(&rt, rt.alloc(), &schema, &COMMANDS);
     Ok(())
 }
+
+const GIFTS: [(&str, u16, Command); 5] = [
+    (
+        "0 give 1 stock lower 18446744073709551615",
+        0,
+        Command::Give {
+            to: SiteNo(1),
+            field: STOCK,
+            kind: Kind::Lower,
+            amount: 18446744073709551615,
+        },
+    ),
+    (
+        "0 restate 65535 #1 raise",
+        0,
+        Command::Restate {
+            to: SiteNo(65535),
+            field: FieldNo(1),
+            kind: Kind::Raise,
+        },
+    ),
+    (
+        "0 spare 1 stock raise 100",
+        0,
+        Command::Spare {
+            to: SiteNo(1),
+            field: STOCK,
+            kind: Kind::Raise,
+            want: 100,
+        },
+    ),
+    (
+        "0 tighten stock lower 5",
+        0,
+        Command::Tighten {
+            field: STOCK,
+            kind: Kind::Lower,
+            amount: 5,
+        },
+    ),
+    (
+        "1 accept 0 1 stock lower 30",
+        1,
+        Command::Accept(Statement {
+            from: SiteNo(0),
+            to: SiteNo(1),
+            field: STOCK,
+            kind: Kind::Lower,
+            total: 30,
+        }),
+    ),
+];
 
 #[test]
 fn spells_gifts(rt: HostRuntime) -> Result<(), Fail> {
-    let alloc = rt.alloc();
-    let schema = stock(&rt, alloc)?;
-    let give = Command::Give {
-        to: SiteNo(1),
-        field: STOCK,
-        kind: Kind::Lower,
-        amount: 18446744073709551615,
-    };
-    let restate = Command::Restate {
-        to: SiteNo(65535),
-        field: FieldNo(1),
-        kind: Kind::Raise,
-    };
-    let spare = Command::Spare {
-        to: SiteNo(1),
-        field: STOCK,
-        kind: Kind::Raise,
-        want: 100,
-    };
-    let tighten = Command::Tighten {
-        field: STOCK,
-        kind: Kind::Lower,
-        amount: 5,
-    };
-    let accept = Command::Accept(Statement {
-        from: SiteNo(0),
-        to: SiteNo(1),
-        field: STOCK,
-        kind: Kind::Lower,
-        total: 30,
-    });
-    assert!(rt;
-        is_command(
-            alloc,
-            &schema,
-            "0 give 1 stock lower 18446744073709551615",
-            0,
-            give
-        )
-    );
-    assert!(rt; is_command(alloc, &schema, "0 restate 65535 #1 raise", 0, restate));
-    assert!(rt; is_command(alloc, &schema, "0 spare 1 stock raise 100", 0, spare));
-    assert!(rt; is_command(alloc, &schema, "0 tighten stock lower 5", 0, tighten));
-    assert!(rt; is_command(alloc, &schema, "1 accept 0 1 stock lower 30", 1, accept));
+    let schema = stock(&rt, rt.alloc())?;
+    assert_commands(&rt, rt.alloc(), &schema, &GIFTS);
     Ok(())
 }
 
+/// A read and a share of each field.
+const OF_FIELDS: [(&str, u16, Command); 6] = [
+    ("0 read stock", 0, Command::Read { field: STOCK }),
+    ("0 share stock", 0, Command::Share { field: STOCK }),
+    ("0 read #1", 0, Command::Read { field: FieldNo(1) }),
+    ("0 share #1", 0, Command::Share { field: FieldNo(1) }),
+    (
+        "0 read #65535",
+        0,
+        Command::Read {
+            field: FieldNo(65535),
+        },
+    ),
+    (
+        "0 share #65535",
+        0,
+        Command::Share {
+            field: FieldNo(65535),
+        },
+    ),
+];
+
 #[test]
 fn spells_fields(rt: HostRuntime) -> Result<(), Fail> {
-    let alloc = rt.alloc();
-    let schema = stock(&rt, alloc)?;
-    assert!(rt; spells_field(alloc, &schema, "0 read stock", "0 share stock", STOCK));
-    assert!(rt; spells_field(alloc, &schema, "0 read #1", "0 share #1", FieldNo(1)));
-    assert!(rt;
-        spells_field(
-            alloc,
-            &schema,
-            "0 read #65535",
-            "0 share #65535",
-            FieldNo(65535)
-        )
-    );
+    let schema = stock(&rt, rt.alloc())?;
+    assert_commands(&rt, rt.alloc(), &schema, &OF_FIELDS);
     Ok(())
+}
+
+fn assert_fields(rt: &impl Abort, schema: &Schema) {
+    assert_eq!(rt; read_field(schema, b"stock"), Some(STOCK));
+    assert_eq!(rt; read_field(schema, b"#0"), None);
+}
+
+fn assert_kinds(rt: &impl Abort) {
+    assert_eq!(rt; read_kind(b"raise"), Some(Kind::Raise));
+    assert_eq!(rt; read_kind(b"rise"), None);
+}
+
+fn assert_numbers(rt: &impl Abort) {
+    assert_eq!(rt; read_number(b"20"), Some(20));
+    assert_eq!(rt; read_signed(b"-20"), Some(-20));
 }
 
 #[test]
 fn reads_words(rt: HostRuntime) -> Result<(), Fail> {
     let schema = stock(&rt, rt.alloc())?;
-    assert_eq!(rt; read_field(&schema, b"stock"), Some(STOCK));
-    assert_eq!(rt; read_field(&schema, b"#0"), None);
-    assert_eq!(rt; read_kind(b"raise"), Some(Kind::Raise));
-    assert_eq!(rt; read_kind(b"rise"), None);
-    assert_eq!(rt; read_number(b"20"), Some(20));
-    assert_eq!(rt; read_signed(b"-20"), Some(-20));
+    assert_fields(&rt, &schema);
+    assert_kinds(&rt);
+    assert_numbers(&rt);
     Ok(())
 }
 
-/// A name as long as a field's may be.
-const LONG: &str = "abbbbbbbbbbbbbbbbbbbbbbbbbbbbbbc";
+/// Two sites, on one field with a name as long as a field's may be.
+const LONG_OF_TWO: &str =
+    r#"{"sites":2,"fields":[{"name":"abbbbbbbbbbbbbbbbbbbbbbbbbbbbbbc","floor":0,"ceiling":100,"value":40}]}"#;
 
-/// The longest entry: 84 bytes of a command, 4 of the arrow and 49 of the reply.
+const LONGEST_ENTRY: Entry = Entry {
+    site: SiteNo(65535),
+    command: Command::Accept(Statement {
+        from: SiteNo(65535),
+        to: SiteNo(65535),
+        field: FieldNo(0),
+        kind: Kind::Lower,
+        total: 18446744073709551615,
+    }),
+    reply: Reply::Between {
+        lo: -9223372036854775808,
+        hi: -9223372036854775808,
+    },
+};
+
+/// The text of the longest entry: 84 bytes of a command, 4 of the arrow and 49 of the reply.
 const LONGEST: &str =
     "65535 accept 65535 65535 abbbbbbbbbbbbbbbbbbbbbbbbbbbbbbc lower 18446744073709551615 -> between -9223372036854775808 -9223372036854775808";
+
+fn assert_longest(rt: &impl Abort, text: &str) {
+    assert_eq!(rt; text, LONGEST);
+    assert_eq!(rt; text.len(), 137);
+}
+
+fn assert_longest_is_read(rt: &impl Abort, schema: &Schema) {
+    assert_eq!(rt; read_entry(schema, LONGEST.as_bytes()), Some(LONGEST_ENTRY));
+}
 
 #[test]
 fn longest_entry_is_a_line(rt: HostRuntime) -> Result<(), Fail> {
     texts_are_lines();
-    let long = FieldSpec {
-        name: String::from_str(rt.alloc(), LONG)?,
-        floor: 0,
-        ceiling: 100,
-        value: 40,
-    };
-    let schema = Schema::new(rt.alloc(), 2, vec![in rt.alloc(); long]?)?;
-    let entry = Entry {
-        site: SiteNo(65535),
-        command: Command::Accept(Statement {
-            from: SiteNo(65535),
-            to: SiteNo(65535),
-            field: FieldNo(0),
-            kind: Kind::Lower,
-            total: 18446744073709551615,
-        }),
-        reply: Reply::Between {
-            lo: -9223372036854775808,
-            hi: -9223372036854775808,
-        },
-    };
-    let text = write_entry(rt.alloc(), &schema, entry)?;
-    assert_eq!(rt; text.as_str(), LONGEST);
-    assert_eq!(rt; text.len(), 137);
-    assert_eq!(rt; read_entry(&schema, LONGEST.as_bytes()), Some(entry));
+    let schema = Schema::from_header(rt.alloc(), LONG_OF_TWO.as_bytes())?;
+    let text = write_entry(rt.alloc(), &schema, LONGEST_ENTRY)?;
+    assert_longest(&rt, &text);
+    assert_longest_is_read(&rt, &schema);
     Ok(())
 }
 
 #[test]
 fn refuses_other_commands(rt: HostRuntime) -> Result<(), Fail> {
     let schema = stock(&rt, rt.alloc())?;
-    assert!(rt; is_no_command(&schema, ""));
-    assert!(rt; is_no_command(&schema, "00 begin"));
-    assert!(rt; is_no_command(&schema, "0  begin"));
-    assert!(rt; is_no_command(&schema, "65536 begin"));
-    assert!(rt; is_no_command(&schema, "0 escrow 0.1 stock -0"));
-    assert!(rt; is_no_command(&schema, "0 escrow 0.01 stock 1"));
+    assert_no_commands(
+        &rt,
+        &schema,
+        &[
+            "",
+            "00 begin",
+            "0  begin",
+            "65536 begin",
+            "0 escrow 0.1 stock -0",
+            "0 escrow 0.01 stock 1",
+        ],
+    );
     Ok(())
 }
 
 #[test]
 fn refuses_other_fields(rt: HostRuntime) -> Result<(), Fail> {
     let schema = stock(&rt, rt.alloc())?;
-    assert!(rt; is_no_command(&schema, "0 read #0"));
-    assert!(rt; is_no_command(&schema, "0 read #65536"));
-    assert!(rt; is_no_command(&schema, "0 read stock "));
-    assert!(rt; is_no_command(&schema, "0 read sock"));
+    assert_no_commands(
+        &rt,
+        &schema,
+        &["0 read #0", "0 read #65536", "0 read stock ", "0 read sock"],
+    );
     Ok(())
 }
 
+const LATEST: TxnId = TxnId {
+    epoch: 4294967295,
+    number: 7,
+};
+
+const REPLIES: [(&str, Reply); 6] = [
+    ("0 begin -> begun 4294967295.7", Reply::Begun(LATEST)),
+    ("0 begin -> granted", Reply::Granted),
+    ("0 begin -> committed", Reply::Committed),
+    ("0 begin -> aborted", Reply::Aborted),
+    (
+        "0 begin -> between -1 70",
+        Reply::Between { lo: -1, hi: 70 },
+    ),
+    (
+        "0 begin -> share 18446744073709551615 0",
+        Reply::Shares {
+            lower: 18446744073709551615,
+            raise: 0,
+        },
+    ),
+];
+
 #[test]
 fn spells_replies(rt: HostRuntime) -> Result<(), Fail> {
-    let alloc = rt.alloc();
-    let schema = stock(&rt, alloc)?;
-    let between = Reply::Between { lo: -1, hi: 70 };
-    let shares = Reply::Shares {
-        lower: 18446744073709551615,
-        raise: 0,
-    };
-    let latest = TxnId {
-        epoch: 4294967295,
-        number: 7,
-    };
-    assert!(rt;
-        is_reply(
-            alloc,
-            &schema,
-            "0 begin -> begun 4294967295.7",
-            Reply::Begun(latest)
-        )
-    );
-    assert!(rt; is_reply(alloc, &schema, "0 begin -> granted", Reply::Granted));
-    assert!(rt; is_reply(alloc, &schema, "0 begin -> committed", Reply::Committed));
-    assert!(rt; is_reply(alloc, &schema, "0 begin -> aborted", Reply::Aborted));
-    assert!(rt; is_reply(alloc, &schema, "0 begin -> between -1 70", between));
-    assert!(rt;
-        is_reply(
-            alloc,
-            &schema,
-            "0 begin -> share 18446744073709551615 0",
-            shares
-        )
-    );
+    let schema = stock(&rt, rt.alloc())?;
+    assert_replies(&rt, rt.alloc(), &schema, &REPLIES);
     assert!(rt; read_entry(&schema, b"0 begin->granted").is_none());
     Ok(())
 }
@@ -276,230 +334,198 @@ fn spells_replies(rt: HostRuntime) -> Result<(), Fail> {
 #[test]
 fn refuses_other_gifts(rt: HostRuntime) -> Result<(), Fail> {
     let schema = stock(&rt, rt.alloc())?;
-    assert!(rt; is_no_command(&schema, "0 give 65536 stock lower 1"));
-    assert!(rt; is_no_command(&schema, "0 give 1 stock lower 18446744073709551616"));
-    assert!(rt; is_no_command(&schema, "0 restate 1 stock"));
-    assert!(rt; is_no_command(&schema, "0 spare 1 stock raise"));
-    assert!(rt; is_no_command(&schema, "0 spare 1 stock raise 18446744073709551616"));
-    assert!(rt; is_no_command(&schema, "0 tighten stock lower"));
-    assert!(rt; is_no_command(&schema, "0 tighten 1 stock lower 5"));
-    assert!(rt; is_no_command(&schema, "0 tighten stock lower -5"));
-    assert!(rt; is_no_command(&schema, "0 tighten stock lower 18446744073709551616"));
-    assert!(rt; is_no_command(&schema, "0 accept 0 1 stock rise 30"));
+    assert_no_commands(
+        &rt,
+        &schema,
+        &[
+            "0 give 65536 stock lower 1",
+            "0 give 1 stock lower 18446744073709551616",
+            "0 restate 1 stock",
+            "0 spare 1 stock raise",
+            "0 spare 1 stock raise 18446744073709551616",
+            "0 tighten stock lower",
+            "0 tighten 1 stock lower 5",
+            "0 tighten stock lower -5",
+            "0 tighten stock lower 18446744073709551616",
+            "0 accept 0 1 stock rise 30",
+        ],
+    );
     Ok(())
 }
+
+const GIFT_REPLIES: [(&str, Reply); 5] = [
+    (
+        "0 begin -> spared 8 23",
+        Reply::Spared {
+            amount: 8,
+            total: 23,
+        },
+    ),
+    ("0 begin -> tightened 5", Reply::Tightened { total: 5 }),
+    ("0 begin -> given 30", Reply::Given { total: 30 }),
+    (
+        "0 begin -> stated 18446744073709551615",
+        Reply::Stated {
+            total: 18446744073709551615,
+        },
+    ),
+    ("0 begin -> accepted 0", Reply::Accepted { gain: 0 }),
+];
 
 #[test]
 fn spells_gift_replies(rt: HostRuntime) -> Result<(), Fail> {
-    let alloc = rt.alloc();
-    let schema = stock(&rt, alloc)?;
-    let stated = Reply::Stated {
-        total: 18446744073709551615,
-    };
-    let spared = Reply::Spared {
-        amount: 8,
-        total: 23,
-    };
-    assert!(rt; is_reply(alloc, &schema, "0 begin -> spared 8 23", spared));
-    let tightened = Reply::Tightened { total: 5 };
-    assert!(rt; is_reply(alloc, &schema, "0 begin -> tightened 5", tightened));
-    assert!(rt;
-        is_reply(
-            alloc,
-            &schema,
-            "0 begin -> given 30",
-            Reply::Given { total: 30 }
-        )
-    );
-    assert!(rt;
-        is_reply(
-            alloc,
-            &schema,
-            "0 begin -> stated 18446744073709551615",
-            stated
-        )
-    );
-    assert!(rt;
-        is_reply(
-            alloc,
-            &schema,
-            "0 begin -> accepted 0",
-            Reply::Accepted { gain: 0 }
-        )
-    );
+    let schema = stock(&rt, rt.alloc())?;
+    assert_replies(&rt, rt.alloc(), &schema, &GIFT_REPLIES);
     Ok(())
 }
+
+const GIFT_REFUSALS: [(&str, Refusal); 3] = [
+    ("0 begin -> refused 2 no site", Refusal::NoSite),
+    ("0 begin -> refused 8 self gift", Refusal::SelfGift),
+    (
+        "0 begin -> refused 9 ledger full 30",
+        Refusal::LedgerFull { total: 30 },
+    ),
+];
 
 #[test]
 fn spells_gift_refusals(rt: HostRuntime) -> Result<(), Fail> {
-    let alloc = rt.alloc();
-    let schema = stock(&rt, alloc)?;
-    let full = Refusal::LedgerFull { total: 30 };
-    assert!(rt;
-        is_refusal(
-            alloc,
-            &schema,
-            "0 begin -> refused 2 no site",
-            Refusal::NoSite
-        )
-    );
-    assert!(rt;
-        is_refusal(
-            alloc,
-            &schema,
-            "0 begin -> refused 8 self gift",
-            Refusal::SelfGift
-        )
-    );
-    assert!(rt; is_refusal(alloc, &schema, "0 begin -> refused 9 ledger full 30", full));
+    let schema = stock(&rt, rt.alloc())?;
+    assert_refusals(&rt, rt.alloc(), &schema, &GIFT_REFUSALS);
     Ok(())
 }
+
+const STATEMENT_REFUSALS: [(&str, Refusal); 3] = [
+    ("0 begin -> refused 10 not yours", Refusal::NotYours),
+    (
+        "0 begin -> refused 11 forged 60",
+        Refusal::Forged { room: 60 },
+    ),
+    ("0 begin -> refused 15 nothing given", Refusal::NothingGiven),
+];
 
 #[test]
 fn spells_statement_refusals(rt: HostRuntime) -> Result<(), Fail> {
-    let alloc = rt.alloc();
-    let schema = stock(&rt, alloc)?;
-    let forged = Refusal::Forged { room: 60 };
-    let nothing = Refusal::NothingGiven;
-    assert!(rt;
-        is_refusal(
-            alloc,
-            &schema,
-            "0 begin -> refused 10 not yours",
-            Refusal::NotYours
-        )
-    );
-    assert!(rt; is_refusal(alloc, &schema, "0 begin -> refused 11 forged 60", forged));
-    assert!(rt;
-        is_refusal(
-            alloc,
-            &schema,
-            "0 begin -> refused 15 nothing given",
-            nothing
-        )
-    );
+    let schema = stock(&rt, rt.alloc())?;
+    assert_refusals(&rt, rt.alloc(), &schema, &STATEMENT_REFUSALS);
     Ok(())
 }
+
+const REFUSALS: [(&str, Refusal); 5] = [
+    ("0 begin -> refused 3 no field", Refusal::NoField),
+    (
+        "0 begin -> refused 4 no transaction",
+        Refusal::NoTransaction,
+    ),
+    ("0 begin -> refused 5 zero", Refusal::Zero),
+    ("0 begin -> refused 6 too large", Refusal::TooLarge),
+    (
+        "0 begin -> refused 7 short 20",
+        Refusal::Short { share: 20 },
+    ),
+];
 
 #[test]
 fn spells_refusals(rt: HostRuntime) -> Result<(), Fail> {
-    let alloc = rt.alloc();
-    let schema = stock(&rt, alloc)?;
-    let short = Refusal::Short { share: 20 };
-    assert!(rt;
-        is_refusal(
-            alloc,
-            &schema,
-            "0 begin -> refused 3 no field",
-            Refusal::NoField
-        )
-    );
-    assert!(rt;
-        is_refusal(
-            alloc,
-            &schema,
-            "0 begin -> refused 4 no transaction",
-            Refusal::NoTransaction
-        )
-    );
-    assert!(rt; is_refusal(alloc, &schema, "0 begin -> refused 5 zero", Refusal::Zero));
-    assert!(rt;
-        is_refusal(
-            alloc,
-            &schema,
-            "0 begin -> refused 6 too large",
-            Refusal::TooLarge
-        )
-    );
-    assert!(rt; is_refusal(alloc, &schema, "0 begin -> refused 7 short 20", short));
+    let schema = stock(&rt, rt.alloc())?;
+    assert_refusals(&rt, rt.alloc(), &schema, &REFUSALS);
     Ok(())
 }
+
+const REFUSALS_AT_LIMITS: [(&str, Refusal); 3] = [
+    ("0 begin -> refused 12 too many open", Refusal::TooManyOpen),
+    (
+        "0 begin -> refused 13 too many escrows",
+        Refusal::TooManyEscrows,
+    ),
+    ("0 begin -> refused 14 numbers full", Refusal::NumbersFull),
+];
 
 #[test]
 fn spells_refusals_at_limits(rt: HostRuntime) -> Result<(), Fail> {
-    let alloc = rt.alloc();
-    let schema = stock(&rt, alloc)?;
-    let many = Refusal::TooManyEscrows;
-    assert!(rt;
-        is_refusal(
-            alloc,
-            &schema,
-            "0 begin -> refused 12 too many open",
-            Refusal::TooManyOpen
-        )
-    );
-    assert!(rt;
-        is_refusal(
-            alloc,
-            &schema,
-            "0 begin -> refused 13 too many escrows",
-            many
-        )
-    );
-    assert!(rt;
-        is_refusal(
-            alloc,
-            &schema,
-            "0 begin -> refused 14 numbers full",
-            Refusal::NumbersFull
-        )
-    );
+    let schema = stock(&rt, rt.alloc())?;
+    assert_refusals(&rt, rt.alloc(), &schema, &REFUSALS_AT_LIMITS);
     Ok(())
 }
 
-/// The line is no entry's.
-fn is_no_entry(schema: &Schema, line: &str) -> bool {
-    read_entry(schema, line.as_bytes()).is_none()
-}
-
-/// The reply of a restart at epoch 1.
-fn restarted(last: Last) -> Reply {
-    Reply::Restarted { epoch: 1, last }
-}
+const RESTARTS: [(&str, Reply); 6] = [
+    (
+        "0 begin -> restarted 1 nothing",
+        Reply::Restarted {
+            epoch: 1,
+            last: Last::Nothing,
+        },
+    ),
+    (
+        "0 begin -> restarted 1 kept",
+        Reply::Restarted {
+            epoch: 1,
+            last: Last::Kept,
+        },
+    ),
+    (
+        "0 begin -> restarted 1 lost",
+        Reply::Restarted {
+            epoch: 1,
+            last: Last::Lost,
+        },
+    ),
+    ("0 begin -> unsure", Reply::Unsure),
+    ("0 begin -> still down", Reply::StillDown),
+    ("0 begin -> refused 1 down", Reply::Refused(Refusal::Down)),
+];
 
 #[test]
 fn spells_restarts(rt: HostRuntime) -> Result<(), Fail> {
-    let alloc = rt.alloc();
-    let schema = stock(&rt, alloc)?;
-    let nothing = restarted(Last::Nothing);
-    let kept = restarted(Last::Kept);
-    let lost = restarted(Last::Lost);
-    let refusal = Refusal::Down;
-    assert!(rt; is_command(alloc, &schema, "0 restart", 0, Command::Restart));
-    assert!(rt; is_reply(alloc, &schema, "0 begin -> restarted 1 nothing", nothing));
-    assert!(rt; is_reply(alloc, &schema, "0 begin -> restarted 1 kept", kept));
-    assert!(rt; is_reply(alloc, &schema, "0 begin -> restarted 1 lost", lost));
-    assert!(rt; is_reply(alloc, &schema, "0 begin -> unsure", Reply::Unsure));
-    assert!(rt; is_reply(alloc, &schema, "0 begin -> still down", Reply::StillDown));
-    assert!(rt; is_refusal(alloc, &schema, "0 begin -> refused 1 down", refusal));
+    let schema = stock(&rt, rt.alloc())?;
+    assert!(rt; is_command(rt.alloc(), &schema, "0 restart", 0, Command::Restart));
+    assert_replies(&rt, rt.alloc(), &schema, &RESTARTS);
     Ok(())
+}
+
+/// None of the lines is an entry's.
+fn assert_no_entries(rt: &impl Abort, schema: &Schema, lines: &[&str]) {
+    for line in lines {
+        assert!(rt; read_entry(schema, line.as_bytes()).is_none(), "{line}");
+    }
 }
 
 #[test]
 fn refuses_other_restarts(rt: HostRuntime) -> Result<(), Fail> {
     let schema = stock(&rt, rt.alloc())?;
-    assert!(rt; is_no_command(&schema, "0 restart 1"));
-    assert!(rt; is_no_entry(&schema, "0 begin -> restarted 1"));
-    assert!(rt; is_no_entry(&schema, "0 begin -> restarted 1 Kept"));
-    assert!(rt; is_no_entry(&schema, "0 begin -> restarted 4294967296 kept"));
-    assert!(rt; is_no_entry(&schema, "0 begin -> still  down"));
-    assert!(rt; is_no_entry(&schema, "0 begin -> refused 01 down"));
+    assert_no_commands(&rt, &schema, &["0 restart 1"]);
+    assert_no_entries(
+        &rt,
+        &schema,
+        &[
+            "0 begin -> restarted 1",
+            "0 begin -> restarted 1 Kept",
+            "0 begin -> restarted 4294967296 kept",
+            "0 begin -> still  down",
+            "0 begin -> refused 01 down",
+        ],
+    );
     Ok(())
+}
+
+/// Appends the entry of the first begin at site 1, and again.
+fn append_twice(out: &mut Vec<u8>, text: &mut String, schema: &Schema) -> Result<(), AllocError> {
+    let entry = Entry {
+        site: SiteNo(1),
+        command: Command::Begin,
+        reply: Reply::Begun(FIRST),
+    };
+    append_entry(out, text, schema, entry)?;
+    append_entry(out, text, schema, entry)
 }
 
 #[test]
 fn appends_entries(rt: HostRuntime) -> Result<(), Fail> {
     let alloc = rt.alloc();
     let schema = stock(&rt, alloc)?;
-    let entry = Entry {
-        site: SiteNo(1),
-        command: Command::Begin,
-        reply: Reply::Begun(FIRST),
-    };
     let mut text = String::new(alloc);
     let mut out = vec![in alloc; b'#']?;
-    append_entry(&mut out, &mut text, &schema, entry)?;
-    append_entry(&mut out, &mut text, &schema, entry)?;
+    append_twice(&mut out, &mut text, &schema)?;
     assert!(rt; out.as_slice() == b"#1 begin -> begun 0.11 begin -> begun 0.1".as_slice());
     Ok(())
 }
