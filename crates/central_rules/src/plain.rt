@@ -37,6 +37,7 @@ pub fn judge_plain(alloc: Global, schema: &Schema, entries: &[Entry]) -> Result<
 
 /// How many entries there are: fewer than would fill the memory.
 fn length_of(entries: &[Entry]) -> usize
+    ensures value { result ≡ length entries.now }
     ensures few { length entries.now ≤ 230584300921369395 }
 {
     entries.len()

@@ -1,1 +1,2 @@
 pub mod LedgerLaws
+pub mod Written

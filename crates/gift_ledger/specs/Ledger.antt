@@ -1,6 +1,6 @@
 -- The ledger of a site: by number of the other site, number of field and kind, the total given and the greatest total
 -- accepted (Balegas and others 2015 for totals that only grow; this project for their limit).
-use Rattle.std.specs.Prelude.{◌≡◌, ◌≢◌, ℕ, ◌<◌, ◌≤◌, List, [], length, replicate, slice_index_or, slice_set}
+use Rattle.std.specs.Prelude.{◌≢◌, ℕ, ◌-◌, ◌<◌, ◌≤◌, List, [], ◌++◌, length, replicate, slice_index_or, slice_set}
 use Rattle.field_bounds.specs.declared.kind.Kind.{Kind}
 use Rattle.field_bounds.specs.declared.kind.Kind.TheVariants.{Lower, Raise}
 use Rattle.field_bounds.specs.Schema.{SchemaValue}
@@ -32,9 +32,9 @@ account_in fields f k = account_of (slice_index_or fields f no_accounts) k
 abbrev pub put_in : List FieldAccounts → ℕ → Kind → Account → List FieldAccounts
 put_in fields f k account = slice_set fields f (with_account (slice_index_or fields f no_accounts) k account)
 
--- Nothing was given or accepted on any field.
-abbrev pub AreNothing : List FieldAccounts → Type 0
-AreNothing fields = (f : ℕ) (k : Kind) → account_in fields f k ≡ account_of no_accounts k
+-- The accounts on so many fields, where those on the first are given: on all others nothing was given or accepted.
+abbrev pub of_fields : ℕ → List FieldAccounts → List FieldAccounts
+of_fields n first = first ++ replicate (n - length first) no_accounts
 
 -- ---- with all sites
 

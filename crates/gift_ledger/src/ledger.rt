@@ -14,7 +14,9 @@ use std::marker::Model;
 /// as totals in rights. Contracts see the site and the totals by number of the other site, number
 /// of field, and kind.
 ///
-/// Every call after `new` costs the same, whatever the size of the ledger, and takes no memory.
+/// Every call after `new` costs the same, whatever the size of the ledger, and takes no memory. But
+/// where a total is set behind the last field on which one was set, with the same site, the rows up
+/// to it are written out: over all calls once for each site and field at most.
 ///
 /// Source: Balegas and others 2015 for totals that only grow, this project for their limit.
 #[derive(Drop)]
@@ -34,8 +36,8 @@ impl Model for Ledger {
 }
 
 impl Ledger {
-    /// The ledger of a site that has given and accepted nothing. The error is want of memory. Costs
-    /// four totals for each site and field; no later call takes memory.
+    /// The ledger of a site that has given and accepted nothing. The error is want of memory. Reserves
+    /// memory for four totals for each site and field, and writes none; no later call takes memory.
     pub fn new(alloc: Global, schema: &Schema, site: SiteNo) -> Result<Ledger, AllocError>
         requires site_in { site.0 < schema.now.sites }
         ensures fresh { IfOk result (λ ledger. ledger ≡ fresh_ledger schema.now site.0) }
@@ -55,8 +57,8 @@ impl Ledger {
     }
 
     /// The totals with another site, in rights, by number of field: of a field past the end both
-    /// are 0, and so nothing is there where no total was set yet. A pass over them costs less than a
-    /// call for each.
+    /// are 0, and none stands behind the last field on which one was set. A pass over them costs less
+    /// than a call for each.
     pub fn accounts(&self, site: SiteNo) -> &[FieldAccounts]
         ensures value { (f : ℕ) (k : Kind) → account_in result.now f k
             ≡ account_at self.now site.0 f k }

@@ -97,7 +97,8 @@ fn total_with(
     }
 }
 
-/// Adds the totals of one site, field by field. Costs no look at the fields where all are 0.
+/// Adds the totals of one site, field by field. Costs no look at the fields where no total was ever
+/// set.
 fn push_site(
     totals: &mut Vec<Total>,
     ledger: &Ledger,

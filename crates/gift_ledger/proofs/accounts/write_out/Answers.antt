@@ -1,0 +1,9 @@
+use Rattle.std.proofs.Common.{◌++◌, ◌∙◌, ap, arith, replicate}
+use Rattle.gift_ledger.specs.Ledger.{no_accounts}
+use Rattle.gift_ledger.proofs.accounts.write_out.Goals as goal
+
+pub returns-clause-out : goal.returns-clause-out
+returns-clause-out c =
+    c.loop.invariant.0
+    ∙ ap (λ m. c.args.written.now.items ++ replicate m no_accounts)
+    (omega (arith, c.loop-test.false, c.loop.invariant.1, c.loop.invariant.2))
