@@ -1,6 +1,6 @@
 -- What a schema keeps, and that it is within the limits.
 use Rattle.std.proofs.Common.{◌≡◌, ℕ, ◌≤◌, ◌≤ℤ◌, Bool, true, false, cond, not, ◌&&◌, List, [], ◌∷◌, ◌++◌, length, Option, ltb, arith, IsUtf8, Some, None, Ok, String, string_bytes, bytes_eq, option_map, ◌+◌, ℤ, position, slice_get, slice_index_or, int_le, T, refl, sym, ap, subst, ◌∙◌}
-use Rattle.std.specs.List.{AllByRecursion, AllZip, prefix_len}
+use Rattle.std.specs.List.{AllByRecursion, prefix_len}
 use Rattle.std.specs.Map.{keys_of}
 use Rattle.std.specs.Bool.{Decides}
 use Rattle.std.specs.Int.Signed.{le_z_yes}
@@ -30,16 +30,6 @@ prefix_len-kept p (e ∷ es) = ap (λ n. cond (not (p (string_bytes e.0))) (1 + 
 pub place_is : (name : List ℕ) (es : List (String Global × FieldBounds))
     → position (λ k. bytes_eq name (string_bytes k)) (keys_of es) ≡ position (λ f. bytes_eq name f.name) (stored_values es)
 place_is name es = rw (prefix_len-kept (bytes_eq name) es, length-map es (λ e. e.0), length-map es entry_value) refl
-
-pub clone_is : (D : FieldBounds → FieldBounds → Type 0) → ((x y : FieldBounds) → D x y → y ≡ x)
-    → (es fs : List (String Global × FieldBounds)) → AllZip (λ p q. (string_bytes q.0 ≡ string_bytes p.0) × D p.1 q.1) es fs
-    → stored_values fs ≡ stored_values es
-clone_is D same [] [] h = refl
-clone_is D same [] (f ∷ fs) h = absurd h
-clone_is D same (e ∷ es) [] h = absurd h
-clone_is D same (e ∷ es) (f ∷ fs) h =
-    let one : entry_value f ≡ entry_value e = rw (h.0.0, same e.1 f.1 h.0.1) refl in
-    rw (one, clone_is D same es fs h.1) refl
 
 -- ---- no fault, so within the limits
 

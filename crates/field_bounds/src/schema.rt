@@ -17,6 +17,7 @@ use crate::limits::{MAX_FIELDS, MAX_HEADER, MAX_NAME, MAX_QUANTITY, MAX_SITES};
 use indexmap::IndexMap;
 use std::alloc::{AllocError, Global};
 use std::marker::Model;
+use std::sync::Arc;
 
 /// The numbers that a field begins with.
 #[derive(Clone, Copy, PartialEq, Eq)]
@@ -32,23 +33,27 @@ pub(crate) struct FieldBounds {
 #[derive(Drop)]
 pub struct Schema {
     sites: u16,
-    fields: IndexMap<String, FieldBounds>,
+    // All copies of a schema share them, so that a look at a field finds it in the same memory.
+    fields: Arc<IndexMap<String, FieldBounds>>,
 }
 
 impl Model for Schema {
     ghost use Rattle.std.specs.Prelude.{map};
+    ghost use Rattle.std.specs.Arc.{arc_value};
     ghost use Rattle.field_bounds.specs.Schema.{SchemaValue};
     ghost use Rattle.field_bounds.specs.Limits.{IsSchema};
     ghost use Rattle.field_bounds.specs.Kept.{entry_value};
 
     ghost Value = { SchemaValue };
 
-    ghost view = { λ s. record { sites = s.sites; fields = map entry_value s.fields.entries } };
+    ghost view = { λ s. record {
+      sites = s.sites;
+      fields = map entry_value (arc_value s.fields).entries;
+    } };
 
     ghost invariant = { λ s. IsSchema (record {
       sites = s.sites;
-      fields =
-          map entry_value s.fields.entries;
+      fields = map entry_value (arc_value s.fields).entries;
     }) };
 }
 
@@ -210,18 +215,19 @@ impl Schema {
         let fields = keep_fields(alloc, fields)?;
         Ok(Schema {
             sites: sites as u16,
-            fields,
+            fields: Arc::new(alloc, fields)?,
         })
     }
 
-    /// An equal schema, with memory of its own from the allocator of this one. The error is want of
-    /// memory. Costs a copy of each field and its name.
+    /// An equal schema, which shares the fields of this one. The error comes where as many copies
+    /// stand as can be counted, 9,223,372,036,854,775,807, and never else. Costs one step on a count,
+    /// and no memory.
     pub fn copy(&self) -> Result<Schema, AllocError>
         ensures equal { IfOk result (λ copy. copy ≡ self.now) }
     {
         Ok(Schema {
             sites: self.sites,
-            fields: self.fields.clone()?,
+            fields: Arc::try_clone(&self.fields)?,
         })
     }
 

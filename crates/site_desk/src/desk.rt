@@ -51,8 +51,8 @@ impl<L: Ledger, M: Medium + Drop> Desk<L, M> {
     /// many as the blank has parts, and no call was made with them. At a fault, which is the site's
     /// own, the medium is dropped.
     ///
-    /// The blank is the one that `L` names, and has a part. Costs what opening the site costs, and
-    /// memory for the passes and for two copies of the schema.
+    /// The blank is the one that `L` names, and has a part. Costs what opening the site costs, two
+    /// copies of the schema, and memory for the passes.
     pub fn new(
         alloc: Global,
         blank: Blank,

@@ -9,8 +9,8 @@ use Rattle.field_bounds.proofs.schema.SchemaPartialEq.eq.Goals as goal
 
 pub returns-then-self-other : goal.returns-then-self-other
 returns-then-self-other c =
-    let es = c.self.inside.fields.entries in
-    let fs = c.other.inside.fields.entries in
+    let es = c.deref.result.now.entries in
+    let fs = c.deref-then-self-other.result.now.entries in
     let seen : c.eq.result ≡ pointwise kept_alike es fs =
     c.eq.ensures
     ∙ ap (λ (xs : List (String Global × FieldBounds)). pointwise kept_alike xs c.as_slice-then-self-other.result) c.as_slice.ensures.entries
@@ -19,8 +19,9 @@ returns-then-self-other c =
     let fields_of : SchemaValue → List FieldValue = λ s. s.fields in
     let sites = sym (ap sites_of c.self.view_is) ∙ c.if-self-other.true ∙ ap sites_of c.other.view_is in
     let is : c.eq.result ≡ same_schema c.args.self.now c.args.other.now =
-    seen ∙ alike_is_same c.args.self.now c.args.other.now es fs sites (sym (ap fields_of c.self.view_is))
-    (sym (ap fields_of c.other.view_is)) in
+    seen ∙ alike_is_same c.args.self.now c.args.other.now es fs sites
+    (rw (c.deref.ensures) (sym (ap fields_of c.self.view_is)))
+    (rw (c.deref-then-self-other.ensures) (sym (ap fields_of c.other.view_is))) in
     record {
       value = is;
       same = subst (λ (b : Bool). Decides b (c.args.self.now ≡ c.args.other.now)) (sym is)
