@@ -1,12 +1,14 @@
-//! Replies added to bytes piece by piece, for a script that answers line after line. `write_entry`
-//! and `append_entry` spell them by `Display`; both ways write `reply_text`.
+//! Replies and acceptances added to bytes piece by piece, for a script that answers line after line.
+//! `write_entry` spells them by `Display`, as all else; both ways write `reply_text` and `entry_text`.
 
 ghost use Rattle.std.specs.Prelude.{◌≡◌, ◌++◌, ◌∷◌, [], OnOk, OnErr, length, take, codes};
 ghost use Rattle.std.specs.Fmt.{decimal, signed_decimal};
 ghost use Rattle.line_words.specs.Words.{line};
-ghost use Rattle.entry_text.specs.Spelling.{id_text, found_text, refusal_words, reply_text};
+ghost use Rattle.field_bounds.specs.declared.entry.Entry.{Entry};
+ghost use Rattle.field_bounds.specs.declared.entry.Command.TheVariants.{Accept};
+ghost use Rattle.entry_text.specs.Spelling.{site_text, id_text, kind_text, found_text, field_text, command_text, refusal_words, reply_text, entry_text};
 
-use field_bounds::{Last, Refusal, Reply, TxnId};
+use field_bounds::{FieldNo, Kind, Last, Refusal, Reply, Schema, SiteNo, Statement, TxnId};
 use itoa::Buffer;
 use std::alloc::AllocError;
 
@@ -174,6 +176,105 @@ pub fn append_reply(out: &mut Vec<u8>, reply: Reply) -> Result<(), AllocError>
     let kept = out.len();
     if push_reply(out, reply).is_err() {
         out.truncate(kept);
+        return Err(AllocError);
+    }
+    Ok(())
+}
+
+fn kind_word(kind: Kind) -> &'static [u8]
+    ensures { result.now ≡ kind_text kind }
+{
+    match kind {
+        Kind::Lower => b"lower",
+        Kind::Raise => b"raise",
+    }
+}
+
+// Adds the name of a field, or a sharp and its number where the schema has no field of the number.
+fn push_field(out: &mut Vec<u8>, schema: &Schema, field: FieldNo) -> Result<(), AllocError>
+    ensures ok { OnOk result (out.new.items ≡ out.old.items ++ field_text schema.now field) }
+    ensures err { OnErr result (take (length out.old.items) out.new.items ≡ out.old.items) }
+{
+    if field.0 < schema.fields() {
+        return out.extend_from_slice(schema.name(field).as_bytes());
+    }
+    push_counted(out, b"#", u64::from(field.0))
+}
+
+// Adds two sites, a space between them and one behind them.
+fn push_sites(out: &mut Vec<u8>, from: SiteNo, to: SiteNo) -> Result<(), AllocError>
+    ensures ok { OnOk result (out.new.items
+        ≡ out.old.items ++ (site_text from ++ 32 ∷ (site_text to ++ 32 ∷ []))) }
+    ensures err { OnErr result (take (length out.old.items) out.new.items ≡ out.old.items) }
+{
+    push_number(out, u64::from(from.0))?;
+    out.push(b' ')?;
+    push_number(out, u64::from(to.0))?;
+    out.extend_from_slice(b" ")
+}
+
+// Adds a kind of right and a total, a space before each.
+fn push_total(out: &mut Vec<u8>, kind: Kind, total: u64) -> Result<(), AllocError>
+    ensures ok { OnOk result (out.new.items
+        ≡ out.old.items ++ 32 ∷ (kind_text kind ++ 32 ∷ decimal total)) }
+    ensures err { OnErr result (take (length out.old.items) out.new.items ≡ out.old.items) }
+{
+    out.push(b' ')?;
+    out.extend_from_slice(kind_word(kind))?;
+    push_counted(out, b" ", total)
+}
+
+// Adds the acceptance of a statement at a site.
+fn push_acceptance(
+    out: &mut Vec<u8>,
+    schema: &Schema,
+    site: SiteNo,
+    statement: Statement,
+) -> Result<(), AllocError>
+    ensures ok { OnOk result (out.new.items
+        ≡ out.old.items ++ command_text schema.now site (Accept statement)) }
+    ensures err { OnErr result (take (length out.old.items) out.new.items ≡ out.old.items) }
+{
+    push_number(out, u64::from(site.0))?;
+    out.extend_from_slice(b" accept ")?;
+    push_sites(out, statement.from, statement.to)?;
+    push_field(out, schema, statement.field)?;
+    push_total(out, statement.kind, statement.total)
+}
+
+// Adds the entry of the acceptance of a statement at a site.
+fn push_accepted(
+    out: &mut Vec<u8>,
+    schema: &Schema,
+    site: SiteNo,
+    statement: Statement,
+    reply: Reply,
+) -> Result<(), AllocError>
+    ensures ok { OnOk result (out.new.items ≡ out.old.items ++ entry_text schema.now
+        (record { site = site; command = Accept statement; reply = reply })) }
+    ensures err { OnErr result (take (length out.old.items) out.new.items ≡ out.old.items) }
+{
+    push_acceptance(out, schema, site, statement)?;
+    out.extend_from_slice(b" -> ")?;
+    push_reply(out, reply)
+}
+
+/// Adds the text of the entry of an acceptance behind what `out` holds. The error is want of memory,
+/// and leaves `out` as it was.
+pub(crate) fn append_accepted(
+    out: &mut Vec<u8>,
+    schema: &Schema,
+    site: SiteNo,
+    statement: Statement,
+    reply: Reply,
+) -> Result<(), AllocError>
+    ensures ok { OnOk result (out.new.items ≡ out.old.items ++ entry_text schema.now
+        (record { site = site; command = Accept statement; reply = reply })) }
+    ensures err { OnErr result (out.new.items ≡ out.old.items) }
+{
+    let before = out.len();
+    if push_accepted(out, schema, site, statement, reply).is_err() {
+        out.truncate(before);
         return Err(AllocError);
     }
     Ok(())

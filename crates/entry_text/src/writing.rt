@@ -3,6 +3,7 @@
 ghost use Rattle.std.specs.Prelude.{◌≡◌, ◌++◌, IfOk, OnOk, OnErr, string_bytes, codes};
 ghost use Rattle.entry_text.specs.Spelling.{command_text, entry_text};
 
+use crate::append::append_accepted;
 use crate::display::{CommandText, ReplyText};
 use field_bounds::{Command, Entry, Schema, SiteNo};
 use std::alloc::{AllocError, Global};
@@ -53,8 +54,9 @@ fn put_entry(text: &mut String, schema: &Schema, entry: Entry) -> Result<(), All
 }
 
 /// Adds the text of the entry under the schema, without an LF, behind what `out` holds. The error
-/// is want of memory, and leaves `out` as it was. The line is made in `text`, whatever that held:
-/// its memory is used again, so that line after line costs no memory but that of `out`.
+/// is want of memory, and leaves `out` as it was. The line of an acceptance is added piece by piece.
+/// Any other is made in `text`, whatever that held: its memory is used again, so that line after
+/// line costs no memory but that of `out`.
 pub fn append_entry(
     out: &mut Vec<u8>,
     text: &mut String,
@@ -64,6 +66,9 @@ pub fn append_entry(
     ensures ok { OnOk result (out.new.items ≡ out.old.items ++ entry_text schema.now entry) }
     ensures err { OnErr result (out.new.items ≡ out.old.items) }
 {
+    if let Command::Accept(statement) = entry.command {
+        return append_accepted(out, schema, entry.site, statement, entry.reply);
+    }
     put_entry(text, schema, entry)?;
     out.extend_from_slice(text.as_bytes())
 }

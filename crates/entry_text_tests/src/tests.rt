@@ -529,3 +529,41 @@ fn appends_entries(rt: HostRuntime) -> Result<(), Fail> {
     assert!(rt; out.as_slice() == b"#1 begin -> begun 0.11 begin -> begun 0.1".as_slice());
     Ok(())
 }
+
+/// Appends the entry of an acceptance at site 1 of 5 lowering rights on this field.
+fn append_acceptance(
+    out: &mut Vec<u8>,
+    text: &mut String,
+    schema: &Schema,
+    field: FieldNo,
+) -> Result<(), AllocError> {
+    let entry = Entry {
+        site: SiteNo(1),
+        command: Command::Accept(Statement {
+            from: SiteNo(0),
+            to: SiteNo(1),
+            field,
+            kind: Kind::Lower,
+            total: 25,
+        }),
+        reply: Reply::Accepted { gain: 5 },
+    };
+    append_entry(out, text, schema, entry)
+}
+
+#[test]
+fn appends_acceptances(rt: HostRuntime) -> Result<(), Fail> {
+    let alloc = rt.alloc();
+    let schema = stock(&rt, alloc)?;
+    let mut text = String::new(alloc);
+    let mut out = Vec::new(alloc);
+    append_acceptance(&mut out, &mut text, &schema, STOCK)?;
+    out.push(b'/')?;
+    append_acceptance(&mut out, &mut text, &schema, FieldNo(300))?;
+    let named = b"1 accept 0 1 stock lower 25 -> accepted 5/";
+    let unnamed = b"1 accept 0 1 #300 lower 25 -> accepted 5";
+    assert!(rt; out.starts_with(named.as_slice()));
+    assert!(rt; out.ends_with(unnamed.as_slice()));
+    assert!(rt; out.len() == named.len() + unnamed.len());
+    Ok(())
+}
