@@ -97,6 +97,7 @@ impl World {
     /// Costs what the site's `apply` costs, and amortized pushes of the entry, of the statement and
     /// of what the entry doesn't tell of the step, which are kept: one byte, 8 more for the number
     /// of a delivery, and 8 more for luck that is torn. Nothing else grows with the trace.
+    #[inline(always)]
     pub fn step(&mut self, alloc: Global, step: &WorldStep) -> Result<StepReply, AllocError>
         requires fits { StepFits self.old.schema step.now }
         ensures steps { OnOk result (self.new ≡ record self.old {
