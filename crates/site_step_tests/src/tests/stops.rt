@@ -2,6 +2,7 @@
 
 mod hostile;
 
+use super::tears::{After, Tear, assert_lengths};
 use super::*;
 use field_bounds::Last;
 use kept_records::{Mishap, TornMedium};
@@ -9,34 +10,9 @@ use kept_records::{Mishap, TornMedium};
 /// A command under a mishap, and what the site answers.
 type Step = (Mishap, Command, Reply);
 
-const TAKE_TWENTY: Command = Command::Escrow {
-    txn: FIRST,
-    field: STOCK,
-    change: -20,
-};
-
-const COMMIT: Command = Command::Commit { txn: FIRST };
-
-const SHARE: Command = Command::Share { field: STOCK };
-
-const READ: Command = Command::Read { field: STOCK };
-
 const DOWN: Reply = Reply::Refused(Refusal::Down);
 
 const FULL: Reply = Reply::Refused(Refusal::NumbersFull);
-
-const GIVE_TWO: Command = Command::Give {
-    to: SiteNo(1),
-    field: STOCK,
-    kind: Kind::Lower,
-    amount: 2,
-};
-
-const TIGHTEN_TWO: Command = Command::Tighten {
-    field: STOCK,
-    kind: Kind::Lower,
-    amount: 2,
-};
 
 /// An open transaction is aborted by a restart, and numbers start anew in the new epoch.
 const OPEN_AT_A_RESTART: [Step; 5] = [
@@ -373,63 +349,57 @@ fn count_told_over(alloc: Global, bytes: &str, steps: &[Step]) -> Option<usize> 
     Some(count_told(alloc, &mut site, steps))
 }
 
+/// The bytes that a site is opened over, its steps, and how many of them it answers as told: all.
+type Run = (&'static str, &'static [Step], usize);
+
+fn assert_runs(rt: &impl Abort, alloc: Global, runs: &[Run]) {
+    for (bytes, steps, told) in runs {
+        assert_eq!(rt; count_told_over(alloc, *bytes, *steps), Some(*told));
+    }
+}
+
+const OVER_NOTHING: [Run; 6] = [
+    ("", &OPEN_AT_A_RESTART, 5),
+    ("", &LOST, 7),
+    ("", &KEPT, 7),
+    ("", &FAILED_RESTART, 5),
+    ("", &EPOCH_USED_UP, 2),
+    ("", &EACH_MISHAP, 6),
+];
+
 #[test]
 fn stops_and_restarts(rt: HostRuntime) {
-    let alloc = rt.alloc();
-    assert_eq!(rt; count_told_over(alloc, "", &OPEN_AT_A_RESTART), Some(5));
-    assert_eq!(rt; count_told_over(alloc, "", &LOST), Some(7));
-    assert_eq!(rt; count_told_over(alloc, "", &KEPT), Some(7));
-    assert_eq!(rt; count_told_over(alloc, "", &FAILED_RESTART), Some(5));
-    assert_eq!(rt; count_told_over(alloc, "", &EPOCH_USED_UP), Some(2));
-    assert_eq!(rt; count_told_over(alloc, "", &EACH_MISHAP), Some(6));
+    assert_runs(&rt, rt.alloc(), &OVER_NOTHING);
 }
+
+const OVER_WHAT_IS_KEPT: [Run; 6] = [
+    ("R 1000000000\n", &LAST_EPOCH, 2),
+    ("R 1", &TORN_RECORD, 2),
+    (KEPT_RECORDS, &OVER_KEPT_RECORDS, 11),
+    (KEPT_TIGHTENINGS, &OVER_KEPT_TIGHTENINGS, 6),
+    ("R 1000000000\nR 1", &LAST_EPOCH_UNDER_MISHAPS, 2),
+    ("R 1\n", &NOTHING_TO_CUT, 1),
+];
 
 #[test]
 fn opens_over_what_is_kept(rt: HostRuntime) {
-    let alloc = rt.alloc();
-    assert_eq!(rt;
-        count_told_over(alloc, "R 1000000000\n", &LAST_EPOCH),
-        Some(2)
-    );
-    assert_eq!(rt; count_told_over(alloc, "R 1", &TORN_RECORD), Some(2));
-    assert_eq!(rt;
-        count_told_over(alloc, KEPT_RECORDS, &OVER_KEPT_RECORDS),
-        Some(11)
-    );
-    assert_eq!(rt;
-        count_told_over(alloc, KEPT_TIGHTENINGS, &OVER_KEPT_TIGHTENINGS),
-        Some(6)
-    );
-    assert_eq!(rt;
-        count_told_over(alloc, "R 1000000000\nR 1", &LAST_EPOCH_UNDER_MISHAPS),
-        Some(2)
-    );
-    assert_eq!(rt; count_told_over(alloc, "R 1\n", &NOTHING_TO_CUT), Some(1));
+    assert_runs(&rt, rt.alloc(), &OVER_WHAT_IS_KEPT);
 }
+
+const OVER_SUMMARIES: [Run; 4] = [
+    ("S 0 1 20 30\n", &OVER_FRESH_SUMMARY, 2),
+    ("G 1 0 l 5\nS 0 1 15 30 g 1 0 l 5\n", &OVER_SUMMARY, 2),
+    ("T 0 l 5\nS 0 1 15 30 t 0 l 5\n", &OVER_SUMMARY, 2),
+    (
+        "S 0 1 20 30\nG 1 0 l 5\nS 0 1 15 30 g 1 0 l 5\nS 0",
+        &OVER_SUMMARY,
+        2,
+    ),
+];
 
 #[test]
 fn opens_over_summaries(rt: HostRuntime) {
-    let alloc = rt.alloc();
-    assert_eq!(rt;
-        count_told_over(alloc, "S 0 1 20 30\n", &OVER_FRESH_SUMMARY),
-        Some(2)
-    );
-    assert_eq!(rt;
-        count_told_over(alloc, "G 1 0 l 5\nS 0 1 15 30 g 1 0 l 5\n", &OVER_SUMMARY),
-        Some(2)
-    );
-    assert_eq!(rt;
-        count_told_over(alloc, "T 0 l 5\nS 0 1 15 30 t 0 l 5\n", &OVER_SUMMARY),
-        Some(2)
-    );
-    assert_eq!(rt;
-        count_told_over(
-            alloc,
-            "S 0 1 20 30\nG 1 0 l 5\nS 0 1 15 30 g 1 0 l 5\nS 0",
-            &OVER_SUMMARY
-        ),
-        Some(2)
-    );
+    assert_runs(&rt, rt.alloc(), &OVER_SUMMARIES);
 }
 
 /// Logs of site 0, and the first line that is no record or breaks a rule.
@@ -458,147 +428,131 @@ fn medium_over(alloc: Global, bytes: &str, mishap: Mishap) -> Option<TornMedium>
     Some(medium)
 }
 
-/// The fault of an open over these bytes under a mishap, and whether the medium comes back with as
-/// many failures as are told.
-fn open_fault(alloc: Global, bytes: &str, mishap: Mishap, failures: u64) -> Option<OpenFault> {
-    let schema = stock_of_two(alloc)?;
-    if schema.sites() == 0 {
-        return None;
-    }
-    match Site::open(alloc, schema, SiteNo(0), medium_over(alloc, bytes, mishap)?) {
+/// The fault of an open, and how many failures the medium has that comes back.
+fn fault_of(opened: Result<Site<TornMedium>, (OpenFault, TornMedium)>) -> Option<(OpenFault, u64)> {
+    match opened {
         Ok(_) => None,
-        Err((fault, back)) => {
-            if back.failures() == failures {
-                Some(fault)
-            } else {
-                None
-            }
-        }
+        Err((fault, back)) => Some((fault, back.failures())),
+    }
+}
+
+/// The same of an open of site 0 over these bytes under a mishap.
+fn open_fault(alloc: Global, bytes: &str, mishap: Mishap) -> Option<(OpenFault, u64)> {
+    fault_of(opened_over(alloc, 0, medium_over(alloc, bytes, mishap)?)?)
+}
+
+/// The first bad line of each log is found, and the medium hasn't failed.
+fn assert_bad_logs(rt: &impl Abort, alloc: Global, logs: &[(&str, u64)]) {
+    for (bytes, line) in logs {
+        assert_eq!(rt;
+            open_fault(alloc, *bytes, Mishap::Never),
+            Some((OpenFault::Line(*line), 0))
+        );
     }
 }
 
 #[test]
 fn faults_of_open(rt: HostRuntime) {
     let alloc = rt.alloc();
-    for (bytes, line) in &BAD_LOGS {
-        assert_eq!(rt;
-            open_fault(alloc, *bytes, Mishap::Never, 0),
-            Some(OpenFault::Line(*line))
-        );
-    }
+    assert_bad_logs(&rt, alloc, &BAD_LOGS);
     assert_eq!(rt;
-        open_fault(alloc, "", Mishap::Read, 1),
-        Some(OpenFault::Device)
+        open_fault(alloc, "", Mishap::Read),
+        Some((OpenFault::Device, 1))
     );
 }
 
-/// What a restart says after a torn command, and the shares that it leaves.
-fn restart_after_torn(
-    alloc: Global,
-    site: &mut Site<TornMedium>,
-    before: &[Command],
-    torn: Command,
-    bytes: u64,
-) -> Option<(Reply, Option<(u64, u64)>)> {
-    for command in before {
-        answer(alloc, site, *command)?;
-    }
-    site.arm(Mishap::Append(bytes));
-    if answer(alloc, site, torn) != Some(Reply::Unsure) || site.is_up() {
-        return None;
-    }
-    let reply = answer(alloc, site, Command::Restart)?;
-    Some((reply, site.share(STOCK)))
-}
+/// The record in doubt is lost: nothing stands, and nothing is replayed.
+const AFTER_NONE: After = (
+    Reply::Restarted {
+        epoch: 1,
+        last: Last::Lost,
+    },
+    0,
+    Some((20, 30)),
+);
 
-/// The same of a site over an empty medium.
-fn after_torn(
-    alloc: Global,
-    before: &[Command],
-    torn: Command,
-    bytes: u64,
-) -> Option<(Reply, Option<(u64, u64)>)> {
-    let mut site = site_over(alloc, "")?;
-    restart_after_torn(alloc, &mut site, before, torn, bytes)
-}
+/// The record in doubt is kept, and replayed: a commit of 20 rights to lower.
+const AFTER_COMMIT: After = (
+    Reply::Restarted {
+        epoch: 1,
+        last: Last::Kept,
+    },
+    1,
+    Some((0, 50)),
+);
+
+/// A gift of 5 rights to lower, or as many given up.
+const AFTER_GIFT: After = (
+    Reply::Restarted {
+        epoch: 1,
+        last: Last::Kept,
+    },
+    1,
+    Some((15, 30)),
+);
+
+/// A spare of 15 rights to raise.
+const AFTER_SPARE: After = (
+    Reply::Restarted {
+        epoch: 1,
+        last: Last::Kept,
+    },
+    1,
+    Some((20, 15)),
+);
+
+const TORN_COMMIT: Tear = Tear {
+    first: 1,
+    end: 1,
+    before: &[Command::Begin, TAKE_TWENTY],
+    torn: COMMIT,
+    reply: Reply::Unsure,
+};
+
+const TORN_GIFT: Tear = Tear {
+    first: 1,
+    end: 1,
+    before: &[],
+    torn: GIVE_FIVE,
+    reply: Reply::Unsure,
+};
+
+const TORN_SPARE: Tear = Tear {
+    first: 1,
+    end: 1,
+    before: &[],
+    torn: SPARE_100,
+    reply: Reply::Unsure,
+};
+
+const TORN_TIGHTENING: Tear = Tear {
+    first: 1,
+    end: 1,
+    before: &[],
+    torn: TIGHTEN_FIVE,
+    reply: Reply::Unsure,
+};
 
 #[test]
 fn each_length_of_a_torn_commit(rt: HostRuntime) {
-    let lost = Reply::Restarted {
-        epoch: 1,
-        last: Last::Lost,
-    };
-    let kept = Reply::Restarted {
-        epoch: 1,
-        last: Last::Kept,
-    };
-    let before = [Command::Begin, TAKE_TWENTY];
-    for bytes in 0..12 {
-        let after = after_torn(rt.alloc(), &before, COMMIT, bytes);
-        assert_eq!(rt; after, Some((lost, Some((20, 30)))));
-    }
-    for bytes in 12..14 {
-        let after = after_torn(rt.alloc(), &before, COMMIT, bytes);
-        assert_eq!(rt; after, Some((kept, Some((0, 50)))));
-    }
+    assert_lengths(&rt, rt.alloc(), &TORN_COMMIT, (0, 12), AFTER_NONE);
+    assert_lengths(&rt, rt.alloc(), &TORN_COMMIT, (12, 14), AFTER_COMMIT);
 }
 
 #[test]
 fn each_length_of_a_torn_gift(rt: HostRuntime) {
-    let lost = Reply::Restarted {
-        epoch: 1,
-        last: Last::Lost,
-    };
-    let kept = Reply::Restarted {
-        epoch: 1,
-        last: Last::Kept,
-    };
-    for bytes in 0..10 {
-        let after = after_torn(rt.alloc(), &[], give_lower(1, 5), bytes);
-        assert_eq!(rt; after, Some((lost, Some((20, 30)))));
-    }
-    for bytes in 10..12 {
-        let after = after_torn(rt.alloc(), &[], give_lower(1, 5), bytes);
-        assert_eq!(rt; after, Some((kept, Some((15, 30)))));
-    }
+    assert_lengths(&rt, rt.alloc(), &TORN_GIFT, (0, 10), AFTER_NONE);
+    assert_lengths(&rt, rt.alloc(), &TORN_GIFT, (10, 12), AFTER_GIFT);
 }
 
 #[test]
 fn each_length_of_a_torn_spare(rt: HostRuntime) {
-    let lost = Reply::Restarted {
-        epoch: 1,
-        last: Last::Lost,
-    };
-    let kept = Reply::Restarted {
-        epoch: 1,
-        last: Last::Kept,
-    };
-    for bytes in 0..11 {
-        let after = after_torn(rt.alloc(), &[], spare_raise(1, 100), bytes);
-        assert_eq!(rt; after, Some((lost, Some((20, 30)))));
-    }
-    for bytes in 11..13 {
-        let after = after_torn(rt.alloc(), &[], spare_raise(1, 100), bytes);
-        assert_eq!(rt; after, Some((kept, Some((20, 15)))));
-    }
+    assert_lengths(&rt, rt.alloc(), &TORN_SPARE, (0, 11), AFTER_NONE);
+    assert_lengths(&rt, rt.alloc(), &TORN_SPARE, (11, 13), AFTER_SPARE);
 }
 
 #[test]
 fn each_length_of_a_torn_tightening(rt: HostRuntime) {
-    let lost = Reply::Restarted {
-        epoch: 1,
-        last: Last::Lost,
-    };
-    let kept = Reply::Restarted {
-        epoch: 1,
-        last: Last::Kept,
-    };
-    for bytes in 0..8 {
-        let after = after_torn(rt.alloc(), &[], tighten(Kind::Lower, 5), bytes);
-        assert_eq!(rt; after, Some((lost, Some((20, 30)))));
-    }
-    for bytes in 8..10 {
-        let after = after_torn(rt.alloc(), &[], tighten(Kind::Lower, 5), bytes);
-        assert_eq!(rt; after, Some((kept, Some((15, 30)))));
-    }
+    assert_lengths(&rt, rt.alloc(), &TORN_TIGHTENING, (0, 8), AFTER_NONE);
+    assert_lengths(&rt, rt.alloc(), &TORN_TIGHTENING, (8, 10), AFTER_GIFT);
 }

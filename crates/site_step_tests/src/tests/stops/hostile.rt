@@ -22,12 +22,7 @@ const HOSTILE_LOGS: [(&str, u64); 12] = [
 
 #[test]
 fn opens_over_no_hostile_log(rt: HostRuntime) {
-    for (bytes, line) in &HOSTILE_LOGS {
-        assert_eq!(rt;
-            open_fault(rt.alloc(), *bytes, Mishap::Never, 0),
-            Some(OpenFault::Line(*line))
-        );
-    }
+    assert_bad_logs(&rt, rt.alloc(), &HOSTILE_LOGS);
 }
 
 /// All that fits beside the 50 rights of site 0 was accepted.
@@ -50,13 +45,11 @@ const OVER_ALL_THE_ROOM: [Step; 2] = [
     ),
 ];
 
+const ALL_THE_ROOM: [Run; 1] = [("A 1 0 l 50\n", &OVER_ALL_THE_ROOM, 2)];
+
 #[test]
 fn opens_over_all_the_room(rt: HostRuntime) {
-    let alloc = rt.alloc();
-    assert_eq!(rt;
-        count_told_over(alloc, "A 1 0 l 50\n", &OVER_ALL_THE_ROOM),
-        Some(2)
-    );
+    assert_runs(&rt, rt.alloc(), &ALL_THE_ROOM);
 }
 
 /// Each failed restart left its whole record, `R 1` to `R 3`.
@@ -91,22 +84,15 @@ const READ_THEN_CUT: [Step; 6] = [
     ),
 ];
 
+const ONE_AFTER_ANOTHER: [Run; 2] = [("", &STOPPED_THREE_TIMES, 4), ("", &READ_THEN_CUT, 6)];
+
 #[test]
 fn stops_one_after_another(rt: HostRuntime) {
-    let alloc = rt.alloc();
-    assert_eq!(rt; count_told_over(alloc, "", &STOPPED_THREE_TIMES), Some(4));
-    assert_eq!(rt; count_told_over(alloc, "", &READ_THEN_CUT), Some(6));
+    assert_runs(&rt, rt.alloc(), &ONE_AFTER_ANOTHER);
 }
 
 #[test]
 fn an_append_torn_far_behind_its_end(rt: HostRuntime) {
-    let kept = Reply::Restarted {
-        epoch: 1,
-        last: Last::Kept,
-    };
-    let before = [Command::Begin, TAKE_TWENTY];
-    let commit = after_torn(rt.alloc(), &before, COMMIT, 1000);
-    assert_eq!(rt; commit, Some((kept, Some((0, 50)))));
-    let gift = after_torn(rt.alloc(), &[], give_lower(1, 5), 1000);
-    assert_eq!(rt; gift, Some((kept, Some((15, 30)))));
+    assert_lengths(&rt, rt.alloc(), &TORN_COMMIT, (1000, 1001), AFTER_COMMIT);
+    assert_lengths(&rt, rt.alloc(), &TORN_GIFT, (1000, 1001), AFTER_GIFT);
 }
