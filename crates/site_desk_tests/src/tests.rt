@@ -2,7 +2,7 @@ ghost use Rattle.std.specs.Prelude.{◌≡◌, ◌<◌};
 
 mod threads;
 
-use field_bounds::{Command, FieldNo, Kind, Reply, Schema, SiteNo, TxnId};
+use field_bounds::{Command, FieldNo, Reply, Schema, SiteNo, TxnId};
 use kept_records::MemoryMedium;
 use site_desk::*;
 use std::alloc::Global;
@@ -30,6 +30,13 @@ fn stock_of_two(alloc: Global) -> Option<Schema> {
     Schema::from_header(alloc, STOCK_OF_TWO.as_bytes()).ok()
 }
 
+/// A medium that holds these bytes.
+fn medium_over(alloc: Global, bytes: &[u8]) -> Option<MemoryMedium> {
+    let mut held = Vec::new(alloc);
+    held.extend_from_slice(bytes).ok()?;
+    Some(MemoryMedium::new(held))
+}
+
 /// A desk of one of the two sites over these bytes, with its passes.
 fn desk_over<L: Ledger>(
     alloc: Global,
@@ -41,97 +48,97 @@ fn desk_over<L: Ledger>(
     requires parts { blank.parts ≡ L.parts }
     requires some { 0 < blank.parts }
 {
+    let medium = medium_over(alloc, bytes)?;
     let schema = stock_of_two(alloc)?;
     if number >= schema.sites() {
         return None;
     }
-    let mut held = Vec::new(alloc);
-    held.extend_from_slice(bytes).ok()?;
-    Desk::new(
-        alloc,
-        blank,
-        &schema,
-        SiteNo(number),
-        MemoryMedium::new(held),
-    )
-    .ok()
+    Desk::new(alloc, blank, &schema, SiteNo(number), medium).ok()
 }
 
-/// What the pass's desk answers to a begin, an escrow, a commit and a share.
-fn four_receipts<L: Ledger, R: Wait>(
+/// The desk closed with these passes.
+fn closed_with<L: Ledger>(
+    desk: Desk<L, MemoryMedium>,
+    passes: Vec<Pass<L>>,
+) -> Option<Closed<MemoryMedium>> {
+    desk.close(passes).ok()
+}
+
+/// What the desk answers to a command, or None where it doesn't. The receipt is added to the
+/// others.
+fn served<L: Ledger, R: Wait>(
     rt: &R,
     alloc: Global,
     desk: &Desk<L, MemoryMedium>,
     pass: &mut Pass<L>,
-) -> Option<Vec<Receipt>> {
-    let mut receipts = Vec::new(alloc);
-    let escrow = Command::Escrow {
+    command: Command,
+    receipts: &mut Vec<Receipt>,
+) -> Option<Reply> {
+    let receipt = desk.call(rt, alloc, pass, command).ok()?;
+    receipts.push(receipt).ok()?;
+    Some(receipt.entry().reply)
+}
+
+/// The four calls.
+const FOUR: [Command; 4] = [
+    Command::Begin,
+    Command::Escrow {
         txn: FIRST,
         field: STOCK,
         change: -20,
-    };
-    let commit = Command::Commit { txn: FIRST };
-    let share = Command::Share { field: STOCK };
-    for command in &[Command::Begin, escrow, commit, share] {
-        let receipt = desk.call(rt, alloc, pass, *command).ok()?;
-        receipts.push(receipt).ok()?;
-    }
-    Some(receipts)
-}
+    },
+    Command::Commit { txn: FIRST },
+    Command::Share { field: STOCK },
+];
 
-/// The desk closed with this pass.
-fn closed_with<L: Ledger>(
+/// Whether the desk answers a begin, an escrow, a commit and a share with the first pass.
+fn serves_four<L: Ledger, R: Wait>(
+    rt: &R,
     alloc: Global,
-    desk: Desk<L, MemoryMedium>,
-    pass: Pass<L>,
-) -> Option<Closed<MemoryMedium>> {
-    let passes = vec![in alloc; pass].ok()?;
-    desk.close(passes).ok()
+    desk: &Desk<L, MemoryMedium>,
+    passes: &mut [Pass<L>],
+    receipts: &mut Vec<Receipt>,
+) -> bool {
+    let Some(pass) = passes.first_mut() else {
+        return false;
+    };
+    for command in &FOUR {
+        if served(rt, alloc, desk, pass, *command, receipts).is_none() {
+            return false;
+        }
+    }
+    true
 }
 
-/// The closed site of a desk with one pass, and the receipts of the four calls.
-fn four_calls<L: Ledger, R: Wait>(
+/// The closed site of a desk with one pass, and whether it answered the four calls.
+fn closed_after_four<L: Ledger, R: Wait>(
     rt: &R,
     alloc: Global,
     blank: Blank,
-) -> Option<(Closed<MemoryMedium>, Vec<Receipt>)>
+    receipts: &mut Vec<Receipt>,
+) -> Option<(Closed<MemoryMedium>, bool)>
     requires name { blank.name ≡ L.name }
     requires parts { blank.parts ≡ L.parts }
     requires some { 0 < blank.parts }
 {
     let (desk, mut passes) = desk_over::<L>(alloc, blank, 0, &[])?;
-    let mut pass = passes.pop()?;
-    let receipts = four_receipts(rt, alloc, &desk, &mut pass)?;
-    Some((closed_with(alloc, desk, pass)?, receipts))
+    let served = serves_four(rt, alloc, &desk, &mut passes, receipts);
+    Some((closed_with(desk, passes)?, served))
 }
 
-fn assert_four(
-    rt: &impl Abort,
-    alloc: Global,
-    closed: &Closed<MemoryMedium>,
-    receipts: &[Receipt],
-) {
-    assert_eq!(rt; closed.history().len(), 4);
-    assert!(rt; closed.on_fresh_base());
+/// The first receipt, from 1, that isn't of site 0 or hasn't the number of its place.
+fn first_misnumbered(receipts: &[Receipt]) -> Option<u64> {
     for (number, receipt) in (1..5u64).zip(receipts.iter()) {
-        assert_eq!(rt; receipt.site(), SiteNo(0));
-        assert_eq!(rt; receipt.number(), number);
+        if receipt.site() != SiteNo(0) || receipt.number() != number {
+            return Some(number);
+        }
     }
-    let shares = Reply::Shares {
-        lower: 0,
-        raise: 50,
-    };
-    assert!(rt; receipts.last().map(|receipt| receipt.entry().reply) == Some(shares));
-    assert_eq!(rt; check_receipts(alloc, closed, receipts), Ok(()));
+    None
 }
 
-#[test]
-fn four_receipts_of_one_pass(rt: HostRuntime) {
-    let alloc = rt.alloc();
-    match four_calls::<Brand, _>(&rt, alloc, Blank::new(1)) {
-        Some((closed, receipts)) => assert_four(&rt, alloc, &closed, &receipts),
-        None => panic!(&rt; "a call failed"),
-    }
+/// The reply of the last receipt.
+fn last_reply(receipts: &[Receipt]) -> Option<Reply> {
+    Some(receipts.last()?.entry().reply)
 }
 
 /// The receipts at these places, in this order.
@@ -143,49 +150,119 @@ fn chosen(alloc: Global, receipts: &[Receipt], places: &[usize]) -> Option<Vec<R
     Some(some)
 }
 
+/// Whether the receipts at these places are those of the closed site.
+fn verdict_at(
+    alloc: Global,
+    closed: &Closed<MemoryMedium>,
+    receipts: &[Receipt],
+    places: &[usize],
+) -> Option<Result<(), ReceiptFault>> {
+    let some = chosen(alloc, receipts, places)?;
+    Some(check_receipts(alloc, closed, &some))
+}
+
+/// What a closed site and the receipts of its four calls show.
+#[derive(Clone, Copy)]
+struct Shown {
+    served: bool,
+    entries: usize,
+    fresh: bool,
+    misnumbered: Option<u64>,
+    last: Option<Reply>,
+    verdict: Result<(), ReceiptFault>,
+    without_third: Option<Result<(), ReceiptFault>>,
+    second_twice: Option<Result<(), ReceiptFault>>,
+}
+
+/// What this site and these receipts show, with whether the calls were served.
+fn show(alloc: Global, closed: Closed<MemoryMedium>, served: bool, receipts: &[Receipt]) -> Shown {
+    Shown {
+        served,
+        entries: closed.history().len(),
+        fresh: closed.on_fresh_base(),
+        misnumbered: first_misnumbered(receipts),
+        last: last_reply(receipts),
+        verdict: check_receipts(alloc, &closed, receipts),
+        without_third: verdict_at(alloc, &closed, receipts, &[0, 1, 3]),
+        second_twice: verdict_at(alloc, &closed, receipts, &[0, 1, 1, 2, 3]),
+    }
+}
+
+/// What a desk of one pass shows after the four calls.
+fn shown_after_four<L: Ledger, R: Wait>(rt: &R, alloc: Global, blank: Blank) -> Option<Shown>
+    requires name { blank.name ≡ L.name }
+    requires parts { blank.parts ≡ L.parts }
+    requires some { 0 < blank.parts }
+{
+    let mut receipts = Vec::new(alloc);
+    let (closed, served) = closed_after_four::<L, R>(rt, alloc, blank, &mut receipts)?;
+    Some(show(alloc, closed, served, &receipts))
+}
+
+/// The same of a desk of its own.
+fn four_calls(rt: &impl Wait, alloc: Global) -> Option<Shown> {
+    shown_after_four::<Brand, _>(rt, alloc, Blank::new(1))
+}
+
+/// All four calls were served, and each has its receipt.
+fn assert_four(rt: &impl Abort, shown: &Shown) {
+    assert!(rt; shown.served && shown.fresh);
+    assert_eq!(rt; shown.entries, 4);
+    assert_eq!(rt; shown.misnumbered, None);
+    let shares = Reply::Shares {
+        lower: 0,
+        raise: 50,
+    };
+    assert_eq!(rt; shown.last, Some(shares));
+    assert_eq!(rt; shown.verdict, Ok(()));
+}
+
+#[test]
+fn four_receipts_of_one_pass(rt: HostRuntime) {
+    match four_calls(&rt, rt.alloc()) {
+        Some(shown) => assert_four(&rt, &shown),
+        None => panic!(&rt; "a call failed"),
+    }
+}
+
 #[test]
 fn a_receipt_is_missing_or_there_twice(rt: HostRuntime) {
-    let alloc = rt.alloc();
-    let done = four_calls::<Brand, _>(&rt, alloc, Blank::new(1));
-    assert!(&rt; done.is_some());
-    let (closed, receipts) = done.unwrap();
-    let without_third = chosen(alloc, &receipts, &[0, 1, 3]).unwrap_or(Vec::new(alloc));
+    let Some(shown) = four_calls(&rt, rt.alloc()) else {
+        panic!(&rt; "a call failed");
+    };
     let missing = ReceiptFault::Missing {
         site: SiteNo(0),
         number: 3,
     };
-    assert_eq!(&rt;
-        check_receipts(alloc, &closed, &without_third),
-        Err(missing)
-    );
-    let second_twice = chosen(alloc, &receipts, &[0, 1, 1, 2, 3]).unwrap_or(Vec::new(alloc));
+    assert_eq!(rt; shown.without_third, Some(Err(missing)));
     let twice = ReceiptFault::Twice {
         site: SiteNo(0),
         number: 2,
     };
-    assert_eq!(&rt; check_receipts(alloc, &closed, &second_twice), Err(twice));
+    assert_eq!(rt; shown.second_twice, Some(Err(twice)));
 }
 
-/// A desk over these bytes, closed without a call.
-fn closed_at_once<L: Ledger>(
-    alloc: Global,
-    blank: Blank,
-    bytes: &[u8],
-) -> Option<Closed<MemoryMedium>>
+/// Whether the site stands on its fresh base.
+fn is_fresh(closed: Closed<MemoryMedium>) -> bool {
+    closed.on_fresh_base()
+}
+
+/// Whether a desk over these bytes that is closed without a call has a fresh base.
+fn is_fresh_at_once<L: Ledger>(alloc: Global, blank: Blank, bytes: &[u8]) -> Option<bool>
     requires name { blank.name ≡ L.name }
     requires parts { blank.parts ≡ L.parts }
     requires some { 0 < blank.parts }
 {
     let (desk, passes) = desk_over::<L>(alloc, blank, 0, bytes)?;
-    desk.close(passes).ok()
+    Some(is_fresh(closed_with(desk, passes)?))
 }
 
 #[test]
 fn a_desk_over_a_record_has_no_fresh_base(rt: HostRuntime) {
-    let closed = closed_at_once::<Brand>(rt.alloc(), Blank::new(1), b"R 1\n");
-    assert!(&rt; closed.is_some_and(|closed| !closed.on_fresh_base()));
-    let fresh = closed_at_once::<Brand>(rt.alloc(), Blank::new(1), b"");
-    assert!(&rt; fresh.is_some_and(|closed| closed.on_fresh_base()));
+    let over_record = is_fresh_at_once::<Brand>(rt.alloc(), Blank::new(1), b"R 1\n");
+    assert_eq!(rt; over_record, Some(false));
+    let over_nothing = is_fresh_at_once::<Brand>(rt.alloc(), Blank::new(1), b"");
+    assert_eq!(rt; over_nothing, Some(true));
 }
 
 /// What each gate of this kind lets in: nothing.
@@ -199,31 +276,52 @@ impl Gate for Shut {
     fn answered(&self, _site: SiteNo, _call: u64) {}
 }
 
-/// What a call at a shut gate and one at a free gate give, with the pass's count and last number
-/// after each.
-fn turned_then_served<L: Ledger, R: Wait>(
+/// The fault of a begin at a gate, with the pass's count and last number after it.
+fn fault_at<L: Ledger, R: Wait, G: Gate>(
     rt: &R,
     alloc: Global,
-    blank: Blank,
-) -> Option<(Option<DeskFault>, (u64, u64), (u64, u64))>
+    desk: &Desk<L, MemoryMedium>,
+    pass: &mut Pass<L>,
+    gate: &G,
+) -> (Option<DeskFault>, (u64, u64)) {
+    let fault = desk.call_at(rt, alloc, pass, Command::Begin, gate).err();
+    (fault, (pass.count(), pass.last()))
+}
+
+/// What a call at a shut gate leaves, and then one at a free gate.
+type Turned = (
+    (Option<DeskFault>, (u64, u64)),
+    (Option<DeskFault>, (u64, u64)),
+);
+
+/// The same of a desk, with the first pass.
+fn both_faults<L: Ledger, R: Wait>(
+    rt: &R,
+    alloc: Global,
+    desk: &Desk<L, MemoryMedium>,
+    passes: &mut [Pass<L>],
+) -> Option<Turned> {
+    let pass = passes.first_mut()?;
+    let turned = fault_at(rt, alloc, desk, pass, &Shut);
+    Some((turned, fault_at(rt, alloc, desk, pass, &FreeGate)))
+}
+
+/// The same of a desk that is opened for it.
+fn turned_then_served<L: Ledger, R: Wait>(rt: &R, alloc: Global, blank: Blank) -> Option<Turned>
     requires name { blank.name ≡ L.name }
     requires parts { blank.parts ≡ L.parts }
     requires some { 0 < blank.parts }
 {
     let (desk, mut passes) = desk_over::<L>(alloc, blank, 1, &[])?;
-    let mut pass = passes.pop()?;
-    let turned = desk
-        .call_at(rt, alloc, &mut pass, Command::Begin, &Shut)
-        .err();
-    let before = (pass.count(), pass.last());
-    desk.call_at(rt, alloc, &mut pass, Command::Begin, &FreeGate)
-        .ok()?;
-    let after = (pass.count(), pass.last());
-    Some((turned, before, after))
+    both_faults(rt, alloc, &desk, &mut passes)
 }
 
 #[test]
 fn a_gate_turns_a_call_away(rt: HostRuntime) {
-    let seen = turned_then_served::<Brand, _>(&rt, rt.alloc(), Blank::new(1));
-    assert!(&rt; seen == Some((Some(DeskFault::GateTurns), (0, 0), (1, 1))));
+    let Some((turned, served)) = turned_then_served::<Brand, _>(&rt, rt.alloc(), Blank::new(1))
+    else {
+        panic!(&rt; "no desk");
+    };
+    assert_eq!(rt; turned, (Some(DeskFault::GateTurns), (0, 0)));
+    assert_eq!(rt; served, (None, (1, 1)));
 }

@@ -4,7 +4,21 @@ ghost use Rattle.std.specs.Prelude.{◌≡◌, ◌<◌};
 
 use super::*;
 
-/// Fifty times a begin, and an abort of what was begun.
+/// Whether a begin is answered, and an abort of what was begun.
+fn begins_and_aborts<L: Ledger, R: Wait>(
+    rt: &R,
+    alloc: Global,
+    desk: &Desk<L, MemoryMedium>,
+    pass: &mut Pass<L>,
+    receipts: &mut Vec<Receipt>,
+) -> bool {
+    let Some(Reply::Begun(txn)) = served(rt, alloc, desk, pass, Command::Begin, receipts) else {
+        return false;
+    };
+    served(rt, alloc, desk, pass, Command::Abort { txn }, receipts).is_some()
+}
+
+/// The same fifty times.
 fn begin_and_abort<L: Ledger, R: Wait>(
     rt: &R,
     alloc: Global,
@@ -13,51 +27,52 @@ fn begin_and_abort<L: Ledger, R: Wait>(
 ) -> Option<Vec<Receipt>> {
     let mut receipts = Vec::new(alloc);
     for _turn in 0..50u32 {
-        let begun = desk.call(rt, alloc, pass, Command::Begin).ok()?;
-        receipts.push(begun).ok()?;
-        let Reply::Begun(txn) = begun.entry().reply else {
+        if !begins_and_aborts(rt, alloc, desk, pass, &mut receipts) {
             return None;
-        };
-        let aborted = desk.call(rt, alloc, pass, Command::Abort { txn }).ok()?;
-        receipts.push(aborted).ok()?;
+        }
     }
     Some(receipts)
 }
 
-/// What two threads with a pass each leave behind: how many entries a close with one of the passes
-/// found and how many passes it handed back, the closed site, and all receipts.
-#[derive(Drop)]
-struct Left {
-    refused_at: u64,
-    handed_back: usize,
-    closed: Closed<MemoryMedium>,
-    receipts: Vec<Receipt>,
+/// Whether there are receipts, and they are added behind the others.
+fn adds_all(receipts: &mut Vec<Receipt>, more: Option<Vec<Receipt>>) -> bool {
+    match more {
+        Some(more) => receipts.extend_from_slice(&more).is_ok(),
+        None => false,
+    }
 }
 
-/// The receipts of two threads with a pass each, those of the first in front.
+/// Whether two threads with one of the two passes each are served, with the receipts of the first
+/// in front.
 fn both_begin_and_abort<L: Ledger + Send + Sync, R: Threads + Wait + Sync>(
     rt: &R,
     alloc: Global,
     desk: &Desk<L, MemoryMedium>,
-    first: &mut Pass<L>,
-    second: &mut Pass<L>,
-) -> Option<Vec<Receipt>> {
+    passes: &mut [Pass<L>],
+    receipts: &mut Vec<Receipt>,
+) -> bool {
+    let Some((first, rest)) = passes.split_first_mut() else {
+        return false;
+    };
+    let Some(second) = rest.first_mut() else {
+        return false;
+    };
     let (of_first, of_second) = thread::join(
         rt,
         move || begin_and_abort(rt, alloc, desk, first),
         move || begin_and_abort(rt, alloc, desk, second),
     );
-    let mut receipts = of_first?;
-    receipts.extend_from_slice(&of_second?).ok()?;
-    Some(receipts)
+    adds_all(receipts, of_first) && adds_all(receipts, of_second)
 }
 
-/// The desk closed with the second pass too, after a close with the first alone was refused.
-fn closed_at_last<L: Ledger>(
+/// How many entries a close with one of two passes found, and how many passes it handed back.
+type Refused = (u64, usize);
+
+/// The desk closed with this pass too, after a close without it was refused.
+fn closed_after_all<L: Ledger>(
     refused: CloseError<L, MemoryMedium>,
     second: Pass<L>,
-    receipts: Vec<Receipt>,
-) -> Option<Left> {
+) -> Option<(Refused, Closed<MemoryMedium>)> {
     let CloseError {
         desk,
         mut passes,
@@ -65,14 +80,65 @@ fn closed_at_last<L: Ledger>(
     } = refused;
     let handed_back = passes.len();
     passes.push(second).ok()?;
-    Some(Left {
-        refused_at: length,
-        handed_back,
-        closed: desk.close(passes).ok()?,
-        receipts,
-    })
+    Some(((length, handed_back), closed_with(desk, passes)?))
 }
 
+/// The desk closed with all passes, after a close without the last was refused.
+fn closed_at_last<L: Ledger>(
+    desk: Desk<L, MemoryMedium>,
+    passes: Vec<Pass<L>>,
+) -> Option<(Refused, Closed<MemoryMedium>)> {
+    let mut passes = passes;
+    let second = passes.pop()?;
+    closed_after_all(desk.close(passes).err()?, second)
+}
+
+/// What two threads with a pass each leave behind: whether both were served, what a close with one
+/// of the passes gave, how many entries the closed site has, how many receipts there are, and
+/// whether they are those of the site.
+#[derive(Clone, Copy)]
+struct Left {
+    served: bool,
+    refused: Refused,
+    entries: usize,
+    receipts: usize,
+    verdict: Result<(), ReceiptFault>,
+}
+
+/// What the closed site and the receipts show.
+fn left_by(
+    alloc: Global,
+    served: bool,
+    refused: Refused,
+    closed: Closed<MemoryMedium>,
+    receipts: &[Receipt],
+) -> Left {
+    Left {
+        served,
+        refused,
+        entries: closed.history().len(),
+        receipts: receipts.len(),
+        verdict: check_receipts(alloc, &closed, receipts),
+    }
+}
+
+/// Whether two threads were served, and the desk closed behind them.
+fn closed_after_both<L: Ledger + Send + Sync, R: Threads + Wait + Sync>(
+    rt: &R,
+    alloc: Global,
+    blank: Blank,
+    receipts: &mut Vec<Receipt>,
+) -> Option<(bool, (Refused, Closed<MemoryMedium>))>
+    requires name { blank.name ≡ L.name }
+    requires parts { blank.parts ≡ L.parts }
+    requires some { 0 < blank.parts }
+{
+    let (desk, mut passes) = desk_over::<L>(alloc, blank, 0, &[])?;
+    let served = both_begin_and_abort(rt, alloc, &desk, &mut passes, receipts);
+    Some((served, closed_at_last(desk, passes)?))
+}
+
+/// What two threads at a desk of two passes leave behind.
 fn two_threads<L: Ledger + Send + Sync, R: Threads + Wait + Sync>(
     rt: &R,
     alloc: Global,
@@ -82,27 +148,29 @@ fn two_threads<L: Ledger + Send + Sync, R: Threads + Wait + Sync>(
     requires parts { blank.parts ≡ L.parts }
     requires some { 0 < blank.parts }
 {
-    let (desk, mut passes) = desk_over::<L>(alloc, blank, 0, &[])?;
-    let mut second = passes.pop()?;
-    let mut first = passes.pop()?;
-    let receipts = both_begin_and_abort(rt, alloc, &desk, &mut first, &mut second)?;
-    passes.push(first).ok()?;
-    closed_at_last(desk.close(passes).err()?, second, receipts)
+    let mut receipts = Vec::new(alloc);
+    let (served, (refused, closed)) = closed_after_both::<L, R>(rt, alloc, blank, &mut receipts)?;
+    Some(left_by(alloc, served, refused, closed, &receipts))
 }
 
-fn assert_left(rt: &impl Abort, alloc: Global, left: &Left) {
-    assert_eq!(rt; left.refused_at, 200);
-    assert_eq!(rt; left.handed_back, 1);
-    assert_eq!(rt; left.receipts.len(), 200);
-    assert_eq!(rt; left.closed.history().len(), 200);
-    assert_eq!(rt; check_receipts(alloc, &left.closed, &left.receipts), Ok(()));
+/// The same of a desk of its own.
+fn two_threads_of(rt: &(impl Threads + Wait + Sync), alloc: Global) -> Option<Left> {
+    two_threads::<Brand, _>(rt, alloc, Blank::new(2))
+}
+
+/// Both threads made a hundred calls each, and each call has its receipt.
+fn assert_left(rt: &impl Abort, left: &Left) {
+    assert!(rt; left.served);
+    assert_eq!(rt; left.refused, (200, 1));
+    assert_eq!(rt; left.receipts, 200);
+    assert_eq!(rt; left.entries, 200);
+    assert_eq!(rt; left.verdict, Ok(()));
 }
 
 #[test]
 fn two_threads_call_one_desk(rt: HostRuntime) {
-    let alloc = rt.alloc();
-    match two_threads::<Brand, _>(&rt, alloc, Blank::new(2)) {
-        Some(left) => assert_left(&rt, alloc, &left),
+    match two_threads_of(&rt, rt.alloc()) {
+        Some(left) => assert_left(&rt, &left),
         None => panic!(&rt; "a call failed"),
     }
 }
@@ -137,60 +205,74 @@ impl Gate for Both {
     fn answered(&self, _site: SiteNo, _call: u64) {}
 }
 
-/// One read of a desk of its own at the gate: the closed site and the receipt.
+/// The receipt of a read at the gate with the first pass.
+fn read_at<L: Ledger, R: Wait>(
+    rt: &R,
+    alloc: Global,
+    desk: &Desk<L, MemoryMedium>,
+    passes: &mut [Pass<L>],
+    gate: &Both,
+) -> Option<Receipt> {
+    let read = Command::Read { field: STOCK };
+    desk.call_at(rt, alloc, passes.first_mut()?, read, gate)
+        .ok()
+}
+
+/// A closed site, and the receipt of a read.
+type Read = (Closed<MemoryMedium>, Option<Receipt>);
+
+/// One read of a desk of its own at the gate.
 fn one_read<L: Ledger, R: Wait>(
     rt: &R,
     alloc: Global,
     blank: Blank,
     site: u16,
     gate: &Both,
-) -> Option<(Closed<MemoryMedium>, Receipt)>
+) -> Option<Read>
     requires name { blank.name ≡ L.name }
     requires parts { blank.parts ≡ L.parts }
     requires some { 0 < blank.parts }
 {
     let (desk, mut passes) = desk_over::<L>(alloc, blank, site, &[])?;
-    let mut pass = passes.pop()?;
-    let read = Command::Read { field: STOCK };
-    let receipt = desk.call_at(rt, alloc, &mut pass, read, gate).ok()?;
-    passes.push(pass).ok()?;
-    Some((desk.close(passes).ok()?, receipt))
+    let receipt = read_at(rt, alloc, &desk, &mut passes, gate);
+    Some((closed_with(desk, passes)?, receipt))
 }
 
-fn one_read_of(
-    rt: &(impl Wait + Sync),
-    alloc: Global,
-    site: u16,
-    gate: &Both,
-) -> Option<(Closed<MemoryMedium>, Receipt)> {
+/// The same of a desk that has the only pass.
+fn one_read_of(rt: &(impl Wait + Sync), alloc: Global, site: u16, gate: &Both) -> Option<Read> {
     one_read::<Brand, _>(rt, alloc, Blank::new(1), site, gate)
 }
 
-/// The same, without the closed site.
+/// The receipt of such a read, without the closed site.
 fn receipt_of(rt: &(impl Wait + Sync), alloc: Global, site: u16, gate: &Both) -> Option<Receipt> {
     match one_read_of(rt, alloc, site, gate) {
-        Some((_closed, receipt)) => Some(receipt),
+        Some((_closed, receipt)) => receipt,
         None => None,
     }
 }
 
-/// The first receipt is of this closed site's only entry, and the other site's isn't.
-fn assert_own(
-    rt: &impl Abort,
+/// Whether this receipt alone is that of the closed site's entries, and None for no receipt.
+fn verdict_alone(
     alloc: Global,
     closed: &Closed<MemoryMedium>,
-    own: Receipt,
-    foreign: Option<Receipt>,
-) {
-    assert_eq!(rt; check_receipts(alloc, closed, &[own]), Ok(()));
-    let Some(foreign) = foreign else {
-        panic!(rt; "a read failed");
-    };
-    let differs = ReceiptFault::Differs {
-        site: SiteNo(1),
-        number: 1,
-    };
-    assert_eq!(rt; check_receipts(alloc, closed, &[foreign]), Err(differs));
+    receipt: Option<Receipt>,
+) -> Option<Result<(), ReceiptFault>> {
+    Some(check_receipts(alloc, closed, &[receipt?]))
+}
+
+/// Whether the first read's receipt is of its closed site's only entry, and whether the other's is.
+type Verdicts = (
+    Option<Result<(), ReceiptFault>>,
+    Option<Result<(), ReceiptFault>>,
+);
+
+/// The check of both receipts beside the closed site of the first read.
+fn verdicts(alloc: Global, read: Read, foreign: Option<Receipt>) -> Verdicts {
+    let (closed, own) = read;
+    (
+        verdict_alone(alloc, &closed, own),
+        verdict_alone(alloc, &closed, foreign),
+    )
 }
 
 #[test]
@@ -207,8 +289,15 @@ fn two_desks_are_called_at_the_same_time(rt: HostRuntime) {
         move || one_read_of(handle, alloc, 0, shared),
         move || receipt_of(handle, alloc, 1, shared),
     );
+    let differs = ReceiptFault::Differs {
+        site: SiteNo(1),
+        number: 1,
+    };
     match zero {
-        Some((closed, own)) => assert_own(&rt, alloc, &closed, own, foreign),
+        Some(read) => assert_eq!(rt;
+            verdicts(alloc, read, foreign),
+            (Some(Ok(())), Some(Err(differs)))
+        ),
         None => panic!(&rt; "a read failed"),
     }
 }

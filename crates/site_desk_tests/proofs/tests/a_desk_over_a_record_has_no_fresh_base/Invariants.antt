@@ -1,4 +1,4 @@
 use Rattle.site_desk_tests.proofs.tests.a_desk_over_a_record_has_no_fresh_base.Given as goal
 
-abbrev pub ghosts-closed_at_once : goal.ghosts-closed_at_once
-ghosts-closed_at_once g a = record { name = a.blank.name; parts = a.blank.parts }
+abbrev pub ghosts-is_fresh_at_once : goal.ghosts-is_fresh_at_once
+ghosts-is_fresh_at_once g a = record { name = a.blank.name; parts = a.blank.parts }
