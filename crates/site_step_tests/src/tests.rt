@@ -258,6 +258,7 @@ struct Known {
     answered: usize,
 }
 
+/// What this site knows.
 fn known_by(site: &Site<MemoryMedium>) -> Known {
     Known {
         share: site.share(STOCK),

@@ -352,6 +352,7 @@ fn count_told_over(alloc: Global, bytes: &str, steps: &[Step]) -> Option<usize> 
 /// The bytes that a site is opened over, its steps, and how many of them it answers as told: all.
 type Run = (&'static str, &'static [Step], usize);
 
+/// Each run is answered as told.
 fn assert_runs(rt: &impl Abort, alloc: Global, runs: &[Run]) {
     for (bytes, steps, told) in runs {
         assert_eq!(rt; count_told_over(alloc, *bytes, *steps), Some(*told));
