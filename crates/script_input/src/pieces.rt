@@ -8,6 +8,7 @@ ghost use Rattle.script_input.specs.Streams.{HasFailed, GaveNothing};
 
 use crate::fault::ScriptFault;
 use crate::streams::Source;
+use memchr::memchr;
 use std::alloc::{AllocError, Global};
 
 /// The most lines of an input, the header line included.
@@ -25,10 +26,8 @@ pub fn split_line(bytes: &[u8]) -> Option<(&[u8], &[u8])>
     ensures parts { MatchOption result (All (λ b. b ≢ 10) bytes.now)
         (λ parts. All (λ b. b ≢ 10) parts.0.now × (bytes.now ≡ parts.0.now ++ 10 ∷ parts.1.now)) }
 {
-    match bytes.iter().position(|byte| *byte == b'\n') {
-        Some(at) => Some((&bytes[..at], &bytes[at + 1..])),
-        None => None,
-    }
+    let at = memchr(b'\n', bytes)?;
+    Some((&bytes[..at], &bytes[at + 1..]))
 }
 
 /// The first bytes. Costs no memory.
