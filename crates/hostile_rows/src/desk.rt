@@ -102,6 +102,55 @@ fn are_told(
             == Err(ReceiptFault::Twice { site, number: 2 })
 }
 
+/// How many of the calls are answered as told, from the first on. Their receipts are added.
+fn count_calls<L: Ledger, R: Wait>(
+    rt: &R,
+    alloc: Global,
+    desk: &Desk<L, MemoryMedium>,
+    pass: &mut Pass<L>,
+    receipts: &mut Vec<Receipt>,
+    refusals: &mut Refusals,
+) -> usize {
+    for (at, (command, wanted)) in CALLS.iter().enumerate() {
+        let Some(receipt) = receipt_of(rt, alloc, desk, pass, *command, refusals) else {
+            return at;
+        };
+        if receipt.entry().reply != *wanted || receipts.push(receipt).is_err() {
+            return at;
+        }
+    }
+    CALLS.len()
+}
+
+/// The same with the first of the passes.
+fn count_of_first<L: Ledger, R: Wait>(
+    rt: &R,
+    alloc: Global,
+    desk: &Desk<L, MemoryMedium>,
+    passes: &mut [Pass<L>],
+    receipts: &mut Vec<Receipt>,
+    refusals: &mut Refusals,
+) -> usize {
+    match passes.first_mut() {
+        Some(pass) => count_calls(rt, alloc, desk, pass, receipts, refusals),
+        None => 0,
+    }
+}
+
+/// Whether the desk closes, and its receipts are told so.
+fn closes_told<L: Ledger>(
+    alloc: Global,
+    desk: Desk<L, MemoryMedium>,
+    passes: Vec<Pass<L>>,
+    receipts: &[Receipt],
+    refusals: &mut Refusals,
+) -> bool {
+    match desk.close(passes) {
+        Ok(closed) => are_told(alloc, &closed, receipts, refusals),
+        Err(_) => false,
+    }
+}
+
 /// How many calls are answered as told, from the first on, and whether the desk closes and its
 /// receipts are told so. None where memory was refused before the first call.
 fn count_over<L: Ledger, R: Wait>(
@@ -114,26 +163,15 @@ fn count_over<L: Ledger, R: Wait>(
     requires parts { blank.parts ≡ L.parts }
     requires some { 0 < blank.parts }
 {
+    let mut receipts = Vec::with_capacity(alloc, CALLS.len()).ok()?;
     let (desk, mut passes) = match fresh_desk::<L>(alloc, blank) {
         Ok(made) => made,
         Err(OpenFault::NoMemory) => return None,
         Err(_) => return Some((0, false)),
     };
-    let mut receipts = Vec::with_capacity(alloc, CALLS.len()).ok()?;
-    let mut pass = passes.pop()?;
-    for (at, (command, wanted)) in CALLS.iter().enumerate() {
-        let Some(receipt) = receipt_of(rt, alloc, &desk, &mut pass, *command, refusals) else {
-            return Some((at, false));
-        };
-        if receipt.entry().reply != *wanted || receipts.push(receipt).is_err() {
-            return Some((at, false));
-        }
-    }
-    passes.push(pass).ok()?;
-    let Ok(closed) = desk.close(passes) else {
-        return Some((CALLS.len(), false));
-    };
-    Some((CALLS.len(), are_told(alloc, &closed, &receipts, refusals)))
+    let count = count_of_first(rt, alloc, &desk, &mut passes, &mut receipts, refusals);
+    let told = count == CALLS.len() && closes_told(alloc, desk, passes, &receipts, refusals);
+    Some((count, told))
 }
 
 /// The same, of two tries with a desk each.

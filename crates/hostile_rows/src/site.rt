@@ -19,7 +19,7 @@ type Step = (Mishap, Command, Reply);
 type Log = (u32, &'static str);
 
 /// The rows, each with its name and what the site is opened over.
-pub const ROWS: [(&str, Log, &[Step]); 10] = [
+pub static ROWS: [(&str, Log, &[Step]); 10] = [
     ("a commit", (0, ""), &COMMITTED),
     ("an abort", (0, ""), &ABORTED),
     ("a gift in doubt", (0, ""), &IN_DOUBT),
@@ -336,6 +336,61 @@ fn follows(
     false
 }
 
+/// Whether the site answers the step as told, and its twin follows and then looks like it.
+fn is_told(
+    alloc: Global,
+    site: &mut Site<TornMedium>,
+    twin: &mut Site<TornMedium>,
+    step: &Step,
+    refusals: &mut Refusals,
+) -> bool {
+    let (mishap, command, wanted) = *step;
+    site.arm(mishap);
+    twin.arm(mishap);
+    reply_of(alloc, site, twin, command, refusals) == Some(wanted)
+        && follows(alloc, twin, command, refusals)
+        && look_alike(site, twin)
+}
+
+/// How many of the steps are answered as told, from the first on, by the site and then by its twin.
+fn count_at(
+    alloc: Global,
+    site: &mut Site<TornMedium>,
+    twin: &mut Site<TornMedium>,
+    steps: &[Step],
+    refusals: &mut Refusals,
+) -> usize {
+    for (at, step) in steps.iter().enumerate() {
+        if !is_told(alloc, site, twin, step, refusals) {
+            return at;
+        }
+    }
+    steps.len()
+}
+
+/// The same, by a twin that is opened over the bytes that the site was. None where it couldn't be.
+fn count_beside(
+    alloc: Global,
+    bytes: &[u8],
+    site: &mut Site<TornMedium>,
+    steps: &[Step],
+    refusals: &mut Refusals,
+) -> Option<usize> {
+    let mut twin = site_over(alloc, bytes, refusals)?;
+    Some(count_at(alloc, site, &mut twin, steps, refusals))
+}
+
+/// The same, by a site over these bytes and its twin. None where one of them couldn't be opened.
+fn count_over(
+    alloc: Global,
+    bytes: &[u8],
+    steps: &[Step],
+    refusals: &mut Refusals,
+) -> Option<usize> {
+    let mut site = site_over(alloc, bytes, refusals)?;
+    count_beside(alloc, bytes, &mut site, steps, refusals)
+}
+
 /// How many of the steps are answered as told, from the first on, by a site over the log and then
 /// by its twin. None where one of them couldn't be opened.
 pub fn count_told(
@@ -345,17 +400,5 @@ pub fn count_told(
     refusals: &mut Refusals,
 ) -> Option<usize> {
     let text = text_of(alloc, log, refusals)?;
-    let mut site = site_over(alloc, &text, refusals)?;
-    let mut twin = site_over(alloc, &text, refusals)?;
-    for (at, (mishap, command, wanted)) in steps.iter().enumerate() {
-        site.arm(*mishap);
-        twin.arm(*mishap);
-        if reply_of(alloc, &mut site, &twin, *command, refusals) != Some(*wanted) {
-            return Some(at);
-        }
-        if !follows(alloc, &mut twin, *command, refusals) || !look_alike(&site, &twin) {
-            return Some(at);
-        }
-    }
-    Some(steps.len())
+    count_over(alloc, &text, steps, refusals)
 }

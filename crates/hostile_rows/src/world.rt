@@ -24,7 +24,7 @@ pub enum Told {
 }
 
 /// The rows, each with its name.
-pub const ROWS: [(&str, &[Told]); 8] = [
+pub static ROWS: [(&str, &[Told]); 8] = [
     ("a commit", &COMMITTED),
     ("a gift", &PASSED_ON),
     ("a gift in doubt", &IN_DOUBT),
@@ -200,19 +200,40 @@ fn follows(alloc: Global, twin: &mut World, step: WorldStep, refusals: &mut Refu
     false
 }
 
-/// How many steps of the row are answered as told, from the first on, by a world and then by its
+/// Whether the world replies to the step as told, and its twin takes it and then looks like it.
+fn is_told(
+    alloc: Global,
+    world: &mut World,
+    twin: &mut World,
+    told: Told,
+    refusals: &mut Refusals,
+) -> bool {
+    let (step, wanted) = read_told(told);
+    reply_of(alloc, world, twin, step, refusals) == Some(wanted)
+        && follows(alloc, twin, step, refusals)
+        && look_alike(world, twin)
+}
+
+/// How many steps of the row are answered as told, from the first on, by the world and then by its
 /// twin.
+fn count_at(
+    alloc: Global,
+    world: &mut World,
+    twin: &mut World,
+    row: &[Told],
+    refusals: &mut Refusals,
+) -> usize {
+    for (at, told) in row.iter().enumerate() {
+        if !is_told(alloc, world, twin, *told, refusals) {
+            return at;
+        }
+    }
+    row.len()
+}
+
+/// The same, by a new world and a twin of it. None where one of them couldn't be made.
 pub fn count_told(alloc: Global, row: &[Told], refusals: &mut Refusals) -> Option<usize> {
     let mut world = fresh_world(alloc, refusals)?;
     let mut twin = fresh_world(alloc, refusals)?;
-    for (at, told) in row.iter().enumerate() {
-        let (step, wanted) = read_told(*told);
-        if reply_of(alloc, &mut world, &twin, step, refusals) != Some(wanted) {
-            return Some(at);
-        }
-        if !follows(alloc, &mut twin, step, refusals) || !look_alike(&world, &twin) {
-            return Some(at);
-        }
-    }
-    Some(row.len())
+    Some(count_at(alloc, &mut world, &mut twin, row, refusals))
 }
