@@ -30,14 +30,6 @@ pub length-of_fields : (n : ℕ) (first : List FieldAccounts) → length first �
 length-of_fields n first within =
     omega (arith, within, length-append first (replicate (n - length first) no_accounts), length-replicate (n - length first) no_accounts)
 
--- one more is written out
-pub one_more : (first : List FieldAccounts) (n : ℕ) → length first ≤ n
-    → (first ++ replicate (n - length first) no_accounts) ++ no_accounts ∷ [] ≡ of_fields (n + 1) first
-one_more first n within =
-    append_assoc first (replicate (n - length first) no_accounts) (no_accounts ∷ [])
-    ∙ ap (λ xs. first ++ xs) (replicate-append-replicate (n - length first) 1 no_accounts)
-    ∙ ap (λ m. first ++ replicate m no_accounts) (omega (arith, within))
-
 -- more written out are the same accounts
 pub of_fields-twice : (n m : ℕ) (first : List FieldAccounts) → length first ≤ n → m ≤ n
     → of_fields n (of_fields m first) ≡ of_fields n first
