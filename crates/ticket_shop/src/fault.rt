@@ -4,12 +4,12 @@ use field_bounds::{Entry, SchemaFault};
 use site_desk::{DeskFault, ReceiptFault};
 use site_step::OpenFault;
 use std::alloc::AllocError;
-use std::io;
+use std::{fmt, io};
 use thiserror::Error;
 use trace_weave::WeaveFault;
 
-/// Why the shop can't go on.
-#[derive(Debug, Drop, Error)]
+/// Why the shop can't go on. `main` prints its `Debug`, which is the text of its `Display`.
+#[derive(Drop, Error)]
 pub enum ShopFault {
     #[error("header {0}")]
     Header(#[from] SchemaFault),
@@ -32,4 +32,10 @@ pub enum ShopFault {
     Print(#[from] io::Error),
     #[error(transparent)]
     Memory(#[from(alloc)] AllocError),
+}
+
+impl fmt::Debug for ShopFault {
+    fn fmt<W: fmt::Write>(&self, f: &mut fmt::Formatter<W>) -> fmt::Result {
+        write!(f, "{self}")
+    }
 }

@@ -47,18 +47,6 @@ pub enum Errand<'a> {
     Look,
 }
 
-/// How a sale ended.
-#[derive(Clone, Copy, Debug, PartialEq, Eq)]
-enum Sale {
-    Sold,
-    /// The customer gave up.
-    GivenUp,
-    /// The office has rights for so many seats, and more were asked.
-    Short(u64),
-    /// The office stopped in the commit, and nothing was sold.
-    Lost,
-}
-
 impl<L: Ledger> Office<L> {
     // guide: open
     /// Opens the site over an empty medium that this mishap will strike.
@@ -75,12 +63,7 @@ impl<L: Ledger> Office<L> {
         requires in_schema { number.0 < schema.now.sites }
     {
         let meter = Arc::new(alloc, AtomicU64::new(0))?;
-        let mut torn = TornMedium::new(Vec::new(alloc));
-        torn.arm(mishap);
-        let medium = Metered {
-            inner: torn,
-            meter: Arc::try_clone(&meter)?,
-        };
+        let medium = empty_medium(alloc, mishap, &meter)?;
         let (desk, mut passes) = Desk::new(alloc, blank, schema, number, medium)?;
         Ok(Office {
             desk,
@@ -93,33 +76,40 @@ impl<L: Ledger> Office<L> {
     }
     // guide: end
 
-    /// Asks the site, and keeps the receipt. Room for it comes first, so that none is lost.
+    /// Asks the site, and keeps the receipt.
     fn ask<R: Wait>(
         &mut self,
         rt: &R,
         alloc: Global,
         command: Command,
     ) -> Result<Entry, ShopFault> {
-        // guide: ask
-        self.receipts.reserve(1)?;
-        let receipt = self.desk.call(rt, alloc, &mut self.pass, command)?;
-        self.receipts.push(receipt)?;
-        Ok(receipt.entry())
-        // guide: end
+        ask_desk(
+            rt,
+            alloc,
+            &self.desk,
+            &mut self.pass,
+            &mut self.receipts,
+            command,
+        )
     }
 
-    /// Sets seats aside and sells them to a customer who pays, or gives them back.
-    fn sell<R: Wait>(
+    /// Opens a transaction, which is to be ended by `pay` or an abort.
+    fn begin<R: Wait>(&mut self, rt: &R, alloc: Global) -> Result<TxnId, ShopFault> {
+        let entry = self.ask(rt, alloc, Command::Begin)?;
+        match entry.reply {
+            Reply::Begun(txn) => Ok(txn),
+            _ => Err(ShopFault::Reply(entry)),
+        }
+    }
+
+    /// Sets seats aside, and tells whether the office has rights for so many.
+    fn set_aside<R: Wait>(
         &mut self,
         rt: &R,
         alloc: Global,
+        txn: TxnId,
         seats: u32,
-        pays: bool,
-    ) -> Result<Sale, ShopFault> {
-        let entry = self.ask(rt, alloc, Command::Begin)?;
-        let Reply::Begun(txn) = entry.reply else {
-            return Err(ShopFault::Reply(entry));
-        };
+    ) -> Result<bool, ShopFault> {
         let escrow = Command::Escrow {
             txn,
             field: SEATS,
@@ -127,13 +117,27 @@ impl<L: Ledger> Office<L> {
         };
         let entry = self.ask(rt, alloc, escrow)?;
         match entry.reply {
-            Reply::Granted if pays => self.pay(rt, alloc, txn),
-            Reply::Granted => self.give_up(rt, alloc, txn, Sale::GivenUp),
-            Reply::Refused(Refusal::Short { share }) => {
-                self.give_up(rt, alloc, txn, Sale::Short(share))
-            }
+            Reply::Granted => Ok(true),
+            Reply::Refused(Refusal::Short { share: _ }) => Ok(false),
             _ => Err(ShopFault::Reply(entry)),
         }
+    }
+
+    /// Sets seats aside and sells them to a customer who pays, or gives them back. Tells whether
+    /// that is done: a sale that was lost isn't.
+    fn sell<R: Wait>(
+        &mut self,
+        rt: &R,
+        alloc: Global,
+        seats: u32,
+        pays: bool,
+    ) -> Result<bool, ShopFault> {
+        let txn = self.begin(rt, alloc)?;
+        if self.set_aside(rt, alloc, txn, seats)? && pays {
+            return self.pay(rt, alloc, txn);
+        }
+        self.ask(rt, alloc, Command::Abort { txn })?;
+        Ok(true)
     }
 
     // guide: unsure
@@ -146,29 +150,16 @@ impl<L: Ledger> Office<L> {
         }
     }
 
-    /// Commits a sale that was granted.
-    fn pay<R: Wait>(&mut self, rt: &R, alloc: Global, txn: TxnId) -> Result<Sale, ShopFault> {
+    /// Commits a sale that was granted, and tells whether the seats are sold.
+    fn pay<R: Wait>(&mut self, rt: &R, alloc: Global, txn: TxnId) -> Result<bool, ShopFault> {
         let entry = self.ask(rt, alloc, Command::Commit { txn })?;
         match entry.reply {
-            Reply::Committed => Ok(Sale::Sold),
-            Reply::Unsure if self.was_kept(rt, alloc)? => Ok(Sale::Sold),
-            Reply::Unsure => Ok(Sale::Lost),
+            Reply::Committed => Ok(true),
+            Reply::Unsure => self.was_kept(rt, alloc),
             _ => Err(ShopFault::Reply(entry)),
         }
     }
     // guide: end
-
-    /// Aborts a sale, which ended so.
-    fn give_up<R: Wait>(
-        &mut self,
-        rt: &R,
-        alloc: Global,
-        txn: TxnId,
-        ended: Sale,
-    ) -> Result<Sale, ShopFault> {
-        self.ask(rt, alloc, Command::Abort { txn })?;
-        Ok(ended)
-    }
 
     /// Gives rights to sell so many seats to another site, and answers the statement that tells it:
     /// None where nothing was given.
@@ -203,6 +194,21 @@ impl<L: Ledger> Office<L> {
         // guide: end
     }
 
+    // guide: accept
+    /// Asks the site, and once more where it has answered Unsure and the command was lost.
+    fn ask_till_kept<R: Wait>(
+        &mut self,
+        rt: &R,
+        alloc: Global,
+        command: Command,
+    ) -> Result<(), ShopFault> {
+        let entry = self.ask(rt, alloc, command)?;
+        if entry.reply == Reply::Unsure && !self.was_kept(rt, alloc)? {
+            self.ask(rt, alloc, command)?;
+        }
+        Ok(())
+    }
+
     /// Takes in statements, however often and in whatever order they come.
     fn accept<R: Wait>(
         &mut self,
@@ -210,16 +216,12 @@ impl<L: Ledger> Office<L> {
         alloc: Global,
         arrived: &[Statement],
     ) -> Result<(), ShopFault> {
-        // guide: accept
         for statement in arrived {
-            let told = Command::Accept(*statement);
-            if self.ask(rt, alloc, told)?.reply == Reply::Unsure && !self.was_kept(rt, alloc)? {
-                self.ask(rt, alloc, told)?;
-            }
+            self.ask_till_kept(rt, alloc, Command::Accept(*statement))?;
         }
-        // guide: end
         Ok(())
     }
+    // guide: end
 
     /// Holds so many seats back for good, where the site has rights to sell them.
     fn withdraw<R: Wait>(&mut self, rt: &R, alloc: Global, amount: u64) -> Result<(), ShopFault> {
@@ -228,23 +230,21 @@ impl<L: Ledger> Office<L> {
             kind: Kind::Lower,
             amount,
         };
-        if self.ask(rt, alloc, tighten)?.reply == Reply::Unsure && !self.was_kept(rt, alloc)? {
-            self.ask(rt, alloc, tighten)?;
+        self.ask_till_kept(rt, alloc, tighten)
+    }
+
+    /// Sells seats to a customer who pays. A sale that was lost is made again.
+    fn sell_again<R: Wait>(&mut self, rt: &R, alloc: Global, seats: u32) -> Result<(), ShopFault> {
+        if !self.sell(rt, alloc, seats, true)? {
+            self.sell(rt, alloc, seats, true)?;
         }
         Ok(())
     }
 
-    /// Sells seats to a customer who pays. A sale that was lost is made again.
-    fn sell_again<R: Wait>(
-        &mut self,
-        rt: &R,
-        alloc: Global,
-        seats: u32,
-    ) -> Result<Sale, ShopFault> {
-        match self.sell(rt, alloc, seats, true)? {
-            Sale::Lost => self.sell(rt, alloc, seats, true),
-            ended => Ok(ended),
-        }
+    /// Sets seats aside for a customer, who gives up.
+    fn hold<R: Wait>(&mut self, rt: &R, alloc: Global, seats: u32) -> Result<(), ShopFault> {
+        self.sell(rt, alloc, seats, false)?;
+        Ok(())
     }
 
     /// Gives rights to another site, and keeps the statement for the post.
@@ -274,8 +274,8 @@ impl<L: Ledger> Office<L> {
         errand: Errand,
     ) -> Result<(), ShopFault> {
         match errand {
-            Errand::Sell(seats) => self.sell_again(rt, alloc, seats).map(|_| ()),
-            Errand::Hold(seats) => self.sell(rt, alloc, seats, false).map(|_| ()),
+            Errand::Sell(seats) => self.sell_again(rt, alloc, seats),
+            Errand::Hold(seats) => self.hold(rt, alloc, seats),
             Errand::Give(to, amount) => self.send(rt, alloc, to, amount),
             Errand::Accept(arrived) => self.accept(rt, alloc, arrived),
             Errand::Withdraw(amount) => self.withdraw(rt, alloc, amount),
@@ -304,8 +304,7 @@ impl<L: Ledger> Office<L> {
         schema: &Schema,
     ) -> Result<(), ShopFault> {
         for receipt in self.receipts.iter().skip(self.printed) {
-            let line = write_entry(alloc, schema, receipt.entry())?;
-            println!(rt; "{line}")?;
+            print_entry(rt, alloc, schema, receipt.entry())?;
         }
         self.printed = self.receipts.len();
         Ok(())
@@ -325,15 +324,69 @@ impl<L: Ledger> Office<L> {
     pub fn close(self, alloc: Global) -> Result<Vec<Entry>, ShopFault> {
         // guide: close
         let passes = vec![in alloc; self.pass]?;
-        match self.desk.close(passes) {
-            Ok(closed) => checked_history(alloc, &closed, &self.receipts),
-            Err(refused) => Err(ShopFault::Close(refused.length)),
-        }
+        close_desk(alloc, self.desk, passes, &self.receipts)
         // guide: end
     }
 }
 
+// guide: ask
+/// Asks the site that is behind a desk, and keeps the receipt. Room for it comes first, so that
+/// none is lost.
+fn ask_desk<L: Ledger, M: Medium + Drop, R: Wait>(
+    rt: &R,
+    alloc: Global,
+    desk: &Desk<L, M>,
+    pass: &mut Pass<L>,
+    receipts: &mut Vec<Receipt>,
+    command: Command,
+) -> Result<Entry, ShopFault> {
+    receipts.reserve(1)?;
+    let receipt = desk.call(rt, alloc, pass, command)?;
+    receipts.push(receipt)?;
+    Ok(receipt.entry())
+}
+// guide: end
+
+// guide: medium
+/// An empty medium that this mishap will strike, with the meter.
+fn empty_medium(
+    alloc: Global,
+    mishap: Mishap,
+    meter: &Arc<AtomicU64>,
+) -> Result<Metered<TornMedium>, ShopFault> {
+    let meter = Arc::try_clone(meter)?;
+    let mut inner = TornMedium::new(Vec::new(alloc));
+    inner.arm(mishap);
+    Ok(Metered { inner, meter })
+}
+// guide: end
+
+/// Prints the text of an entry.
+fn print_entry(
+    rt: &impl Print,
+    alloc: Global,
+    schema: &Schema,
+    entry: Entry,
+) -> Result<(), ShopFault> {
+    let line = write_entry(alloc, schema, entry)?;
+    println!(rt; "{line}")?;
+    Ok(())
+}
+
 // guide: receipts
+/// Closes the site that is behind a desk, and answers its history.
+fn close_desk<L: Ledger, M: Medium + Drop>(
+    alloc: Global,
+    desk: Desk<L, M>,
+    passes: Vec<Pass<L>>,
+    receipts: &[Receipt],
+) -> Result<Vec<Entry>, ShopFault> {
+    match desk.close(passes) {
+        Ok(closed) => checked_history(alloc, &closed, receipts),
+        Err(refused) => Err(ShopFault::Close(refused.length)),
+    }
+}
+
 /// The history of a site that is closed, where the receipts are those of all its entries.
 fn checked_history<M: Medium>(
     alloc: Global,

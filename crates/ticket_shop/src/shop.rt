@@ -32,6 +32,29 @@ const STOPS_LATE: Mishap = Mishap::Append(u64::MAX);
 /// 2, 0 and 3, from 0.
 const SEED: usize = 8;
 
+/// What each office does first.
+const SALES_NORTH: [Errand<'static>; 2] = [Errand::Sell(8), Errand::Look];
+
+const SALES_SOUTH: [Errand<'static>; 2] = [Errand::Hold(5), Errand::Look];
+
+const SALES_WEB: [Errand<'static>; 2] = [Errand::Sell(20), Errand::Look];
+
+/// What each does while the box offices give rights to the web.
+const GIFTS_NORTH: [Errand<'static>; 3] = [
+    Errand::Give(WEB, 5),
+    Errand::Give(WEB, 3),
+    Errand::Give(WEB, 2),
+];
+
+const GIFTS_SOUTH: [Errand<'static>; 1] = [Errand::Give(WEB, 6)];
+
+const SALE_WEB: [Errand<'static>; 1] = [Errand::Sell(6)];
+
+/// What the box offices do while the web takes in what came by post.
+const SALE_NORTH: [Errand<'static>; 1] = [Errand::Sell(3)];
+
+const WITHDRAWAL_SOUTH: [Errand<'static>; 2] = [Errand::Withdraw(4), Errand::Look];
+
 /// Two box offices and the web.
 #[derive(Drop)]
 pub struct Shop<A: Ledger, B: Ledger, C: Ledger> {
@@ -86,9 +109,7 @@ impl<A: Ledger + Send + Sync, B: Ledger + Send + Sync, C: Ledger + Send + Sync> 
             },
         );
         // guide: end
-        of_north?;
-        of_south?;
-        of_web
+        of_north.and(of_south).and(of_web)
     }
 
     fn print_news(
@@ -113,6 +134,17 @@ impl<A: Ledger + Send + Sync, B: Ledger + Send + Sync, C: Ledger + Send + Sync> 
         Ok(sent)
     }
 
+    /// The web takes in what the post brings of the statements so far, while the others go on.
+    fn work_after_post<R: Threads + Wait + Sync>(
+        &mut self,
+        rt: &R,
+        alloc: Global,
+    ) -> Result<(), ShopFault> {
+        let arrived = Post::new(SEED).carry(alloc, &self.sent(alloc)?)?;
+        let at_web = [Errand::Accept(&arrived), Errand::Sell(6), Errand::Look];
+        self.work(rt, alloc, &SALE_NORTH, &WITHDRAWAL_SOUTH, &at_web)
+    }
+
     /// A day of the shop: sales, gifts to the web, their statements by post, and more sales.
     pub fn trade<R: Threads + Wait + Print + Sync>(
         &mut self,
@@ -120,53 +152,35 @@ impl<A: Ledger + Send + Sync, B: Ledger + Send + Sync, C: Ledger + Send + Sync> 
         alloc: Global,
         schema: &Schema,
     ) -> Result<(), ShopFault> {
-        self.work(
-            rt,
-            alloc,
-            &[Errand::Sell(8), Errand::Look],
-            &[Errand::Hold(5), Errand::Look],
-            &[Errand::Sell(20), Errand::Look],
-        )?;
+        self.work(rt, alloc, &SALES_NORTH, &SALES_SOUTH, &SALES_WEB)?;
         self.print_news(rt, alloc, schema, "sales")?;
-        self.work(
-            rt,
-            alloc,
-            &[
-                Errand::Give(WEB, 5),
-                Errand::Give(WEB, 3),
-                Errand::Give(WEB, 2),
-            ],
-            &[Errand::Give(WEB, 6)],
-            &[Errand::Sell(6)],
-        )?;
+        self.work(rt, alloc, &GIFTS_NORTH, &GIFTS_SOUTH, &SALE_WEB)?;
         self.print_news(rt, alloc, schema, "gifts")?;
-        let arrived = Post::new(SEED).carry(alloc, &self.sent(alloc)?)?;
-        self.work(
-            rt,
-            alloc,
-            &[Errand::Sell(3)],
-            &[Errand::Withdraw(4), Errand::Look],
-            &[Errand::Accept(&arrived), Errand::Sell(6), Errand::Look],
-        )?;
+        self.work_after_post(rt, alloc)?;
         self.print_news(rt, alloc, schema, "post")
     }
 
     /// Prints how many bytes each office has appended to its medium.
     pub fn print_appended(&self, rt: &impl Print) -> Result<(), ShopFault> {
         println!(rt; "appended")?;
-        println!(rt; "0 {} bytes", self.north.appended())?;
-        println!(rt; "1 {} bytes", self.south.appended())?;
-        println!(rt; "2 {} bytes", self.web.appended())?;
+        let offices = [
+            self.north.appended(),
+            self.south.appended(),
+            self.web.appended(),
+        ];
+        for (site, bytes) in offices.iter().enumerate() {
+            println!(rt; "{site} {bytes} bytes")?;
+        }
         Ok(())
     }
 
     /// Closes the offices, and judges what they did as one store.
     pub fn close<R: Print>(self, rt: &R, alloc: Global, schema: &Schema) -> Result<(), ShopFault> {
         let Shop { north, south, web } = self;
-        let of_north = north.close(alloc);
-        let of_south = south.close(alloc);
-        let of_web = web.close(alloc);
-        judge_all(rt, alloc, schema, of_north?, of_south?, of_web?)
+        let north = north.close(alloc)?;
+        let south = south.close(alloc)?;
+        let web = web.close(alloc)?;
+        judge_all(rt, alloc, schema, north, south, web)
     }
 }
 
@@ -182,10 +196,22 @@ fn judge_all<R: Print>(
     // guide: judge
     let histories = vec![in alloc; north, south, web]?;
     let trace = weave(alloc, &histories).map_err(ShopFault::Weave)?;
-    match judge(alloc, schema, &trace)? {
+    print_verdict(rt, alloc, schema, &trace)
+    // guide: end
+}
+
+// guide: verdict
+/// Judges a trace, and prints the verdict on it.
+fn print_verdict(
+    rt: &impl Print,
+    alloc: Global,
+    schema: &Schema,
+    trace: &[Entry],
+) -> Result<(), ShopFault> {
+    match judge(alloc, schema, trace)? {
         Verdict::Legal => println!(rt; "legal {}", trace.len())?,
         Verdict::Illegal { at, rule } => println!(rt; "illegal {at} {rule:?}")?,
     }
-    // guide: end
     Ok(())
 }
+// guide: end
