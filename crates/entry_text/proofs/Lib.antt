@@ -1,6 +1,7 @@
 pub mod FieldLemmas
 pub mod WordKinds
 pub mod Tables
+pub mod RefusalNumbers
 pub mod Commands
 pub mod Replies
 pub mod Entries

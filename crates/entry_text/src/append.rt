@@ -22,16 +22,6 @@ fn push_number(out: &mut Vec<u8>, number: u64) -> Result<(), AllocError>
     out.extend_from_slice(buffer.format(number).as_bytes())
 }
 
-// Adds a number of u32.
-#[inline]
-fn push_medium(out: &mut Vec<u8>, number: u32) -> Result<(), AllocError>
-    ensures ok { OnOk result (out.new.items ≡ out.old.items ++ decimal number) }
-    ensures err { OnErr result (out.new.items ≡ out.old.items) }
-{
-    let mut buffer = Buffer::new();
-    out.extend_from_slice(buffer.format(number).as_bytes())
-}
-
 // Adds a number with its sign.
 #[inline]
 fn push_signed(out: &mut Vec<u8>, number: i64) -> Result<(), AllocError>
@@ -52,6 +42,17 @@ fn push_counted(out: &mut Vec<u8>, words: &[u8], number: u64) -> Result<(), Allo
     push_number(out, number)
 }
 
+// Adds some words and two numbers, a space between them.
+fn push_two(out: &mut Vec<u8>, words: &[u8], first: u64, second: u64) -> Result<(), AllocError>
+    ensures ok { OnOk result (out.new.items
+        ≡ out.old.items ++ (words.now ++ (decimal first ++ 32 ∷ decimal second))) }
+    ensures err { OnErr result (take (length out.old.items) out.new.items ≡ out.old.items) }
+{
+    push_counted(out, words, first)?;
+    out.push(b' ')?;
+    push_number(out, second)
+}
+
 #[inline]
 fn push_begun(out: &mut Vec<u8>, txn: TxnId) -> Result<(), AllocError>
     ensures ok { OnOk result (out.new.items
@@ -59,9 +60,9 @@ fn push_begun(out: &mut Vec<u8>, txn: TxnId) -> Result<(), AllocError>
     ensures err { OnErr result (take (length out.old.items) out.new.items ≡ out.old.items) }
 {
     out.extend_from_slice(b"begun ")?;
-    push_medium(out, txn.epoch)?;
+    push_number(out, u64::from(txn.epoch))?;
     out.push(b'.')?;
-    push_medium(out, txn.number)
+    push_number(out, u64::from(txn.number))
 }
 
 #[inline]
@@ -74,28 +75,6 @@ fn push_between(out: &mut Vec<u8>, lo: i64, hi: i64) -> Result<(), AllocError>
     push_signed(out, lo)?;
     out.push(b' ')?;
     push_signed(out, hi)
-}
-
-fn push_spared(out: &mut Vec<u8>, amount: u64, total: u64) -> Result<(), AllocError>
-    ensures ok { OnOk result (out.new.items
-        ≡ out.old.items ++ line (codes "spared" ∷ decimal amount ∷ decimal total ∷ [])) }
-    ensures err { OnErr result (take (length out.old.items) out.new.items ≡ out.old.items) }
-{
-    out.extend_from_slice(b"spared ")?;
-    push_number(out, amount)?;
-    out.extend_from_slice(b" ")?;
-    push_number(out, total)
-}
-
-fn push_shares(out: &mut Vec<u8>, lower: u64, raise: u64) -> Result<(), AllocError>
-    ensures ok { OnOk result (out.new.items
-        ≡ out.old.items ++ line (codes "share" ∷ decimal lower ∷ decimal raise ∷ [])) }
-    ensures err { OnErr result (take (length out.old.items) out.new.items ≡ out.old.items) }
-{
-    out.extend_from_slice(b"share ")?;
-    push_number(out, lower)?;
-    out.push(b' ')?;
-    push_number(out, raise)
 }
 
 fn last_word(last: Last) -> &'static [u8]
@@ -114,7 +93,7 @@ fn push_restarted(out: &mut Vec<u8>, epoch: u32, last: Last) -> Result<(), Alloc
     ensures err { OnErr result (take (length out.old.items) out.new.items ≡ out.old.items) }
 {
     out.extend_from_slice(b"restarted ")?;
-    push_medium(out, epoch)?;
+    push_number(out, u64::from(epoch))?;
     out.push(b' ')?;
     out.extend_from_slice(last_word(last))
 }
@@ -155,11 +134,11 @@ fn push_reply(out: &mut Vec<u8>, reply: Reply) -> Result<(), AllocError>
         Reply::Aborted => out.extend_from_slice(b"aborted"),
         Reply::Given { total } => push_counted(out, b"given ", total),
         Reply::Stated { total } => push_counted(out, b"stated ", total),
-        Reply::Spared { amount, total } => push_spared(out, amount, total),
+        Reply::Spared { amount, total } => push_two(out, b"spared ", amount, total),
         Reply::Tightened { total } => push_counted(out, b"tightened ", total),
         Reply::Accepted { gain } => push_counted(out, b"accepted ", gain),
         Reply::Between { lo, hi } => push_between(out, lo, hi),
-        Reply::Shares { lower, raise } => push_shares(out, lower, raise),
+        Reply::Shares { lower, raise } => push_two(out, b"share ", lower, raise),
         Reply::Restarted { epoch, last } => push_restarted(out, epoch, last),
         Reply::Unsure => out.extend_from_slice(b"unsure"),
         Reply::StillDown => out.extend_from_slice(b"still down"),
@@ -201,16 +180,13 @@ fn push_field(out: &mut Vec<u8>, schema: &Schema, field: FieldNo) -> Result<(), 
     push_counted(out, b"#", u64::from(field.0))
 }
 
-// Adds two sites, a space between them and one behind them.
+// Adds the word of an acceptance and its two sites, with a space before each.
 fn push_sites(out: &mut Vec<u8>, from: SiteNo, to: SiteNo) -> Result<(), AllocError>
     ensures ok { OnOk result (out.new.items
-        ≡ out.old.items ++ (site_text from ++ 32 ∷ (site_text to ++ 32 ∷ []))) }
+        ≡ out.old.items ++ (codes " accept " ++ (site_text from ++ 32 ∷ site_text to))) }
     ensures err { OnErr result (take (length out.old.items) out.new.items ≡ out.old.items) }
 {
-    push_number(out, u64::from(from.0))?;
-    out.push(b' ')?;
-    push_number(out, u64::from(to.0))?;
-    out.extend_from_slice(b" ")
+    push_two(out, b" accept ", u64::from(from.0), u64::from(to.0))
 }
 
 // Adds a kind of right and a total, a space before each.
@@ -236,8 +212,8 @@ fn push_acceptance(
     ensures err { OnErr result (take (length out.old.items) out.new.items ≡ out.old.items) }
 {
     push_number(out, u64::from(site.0))?;
-    out.extend_from_slice(b" accept ")?;
     push_sites(out, statement.from, statement.to)?;
+    out.extend_from_slice(b" ")?;
     push_field(out, schema, statement.field)?;
     push_total(out, statement.kind, statement.total)
 }

@@ -1,6 +1,7 @@
 //! What each value is displayed as.
 
-ghost use Rattle.std.specs.Prelude.{Some};
+ghost use Rattle.std.specs.Prelude.{[], ◌∷◌, Some};
+ghost use Rattle.std.specs.Fmt.{decimal};
 ghost use Rattle.line_words.specs.Words.{line};
 ghost use Rattle.entry_text.specs.Spelling.{id_text, kind_text, found_text, field_text, command_text, refusal_words, reply_text};
 
@@ -37,7 +38,7 @@ impl fmt::Display for KindText {
 }
 
 /// A field beside the schema that names it.
-#[derive(Drop)]
+#[derive(Clone, Copy)]
 struct FieldText<'a> {
     schema: &'a Schema,
     field: FieldNo,
@@ -57,8 +58,32 @@ impl fmt::Display for FieldText<'_> {
     }
 }
 
+/// So many rights of a kind at a field, as the field, the kind and the number.
+#[derive(Clone, Copy)]
+struct RightsText<'a> {
+    schema: &'a Schema,
+    field: FieldNo,
+    kind: Kind,
+    amount: u64,
+}
+
+impl fmt::Display for RightsText<'_> {
+    ghost output = { λ x. Some
+        (line (field_text x.schema.now x.field ∷ kind_text x.kind ∷ decimal x.amount ∷ [])) };
+
+    fn fmt<W: fmt::Write>(&self, f: &mut fmt::Formatter<W>) -> fmt::Result {
+        let field = FieldText {
+            schema: self.schema,
+            field: self.field,
+        };
+        let kind = KindText(self.kind);
+        let amount = self.amount;
+        write!(f, "{field} {kind} {amount}")
+    }
+}
+
 /// A command beside its site and the schema that names its field.
-#[derive(Drop)]
+#[derive(Clone, Copy)]
 pub(crate) struct CommandText<'a> {
     pub(crate) schema: &'a Schema,
     pub(crate) site: SiteNo,
@@ -93,9 +118,13 @@ impl fmt::Display for CommandText<'_> {
                 amount,
             } => {
                 let to = to.0;
-                let field = FieldText { schema, field };
-                let kind = KindText(kind);
-                write!(f, "{site} give {to} {field} {kind} {amount}")
+                let rights = RightsText {
+                    schema,
+                    field,
+                    kind,
+                    amount,
+                };
+                write!(f, "{site} give {to} {rights}")
             }
             Command::Restate { to, field, kind } => {
                 let to = to.0;
@@ -110,29 +139,37 @@ impl fmt::Display for CommandText<'_> {
                 want,
             } => {
                 let to = to.0;
-                let field = FieldText { schema, field };
-                let kind = KindText(kind);
-                write!(f, "{site} spare {to} {field} {kind} {want}")
+                let rights = RightsText {
+                    schema,
+                    field,
+                    kind,
+                    amount: want,
+                };
+                write!(f, "{site} spare {to} {rights}")
             }
             Command::Tighten {
                 field,
                 kind,
                 amount,
             } => {
-                let field = FieldText { schema, field };
-                let kind = KindText(kind);
-                write!(f, "{site} tighten {field} {kind} {amount}")
+                let rights = RightsText {
+                    schema,
+                    field,
+                    kind,
+                    amount,
+                };
+                write!(f, "{site} tighten {rights}")
             }
             Command::Accept(statement) => {
                 let from = statement.from.0;
                 let to = statement.to.0;
-                let field = FieldText {
+                let rights = RightsText {
                     schema,
                     field: statement.field,
+                    kind: statement.kind,
+                    amount: statement.total,
                 };
-                let kind = KindText(statement.kind);
-                let total = statement.total;
-                write!(f, "{site} accept {from} {to} {field} {kind} {total}")
+                write!(f, "{site} accept {from} {to} {rights}")
             }
             Command::Read { field } => {
                 let field = FieldText { schema, field };

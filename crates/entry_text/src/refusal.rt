@@ -1,21 +1,30 @@
 //! Refusals as text.
 
-ghost use Rattle.std.specs.Prelude.{[], ◌∷◌};
-ghost use Rattle.line_words.specs.Reading.{Gives};
-ghost use Rattle.entry_text.specs.Reading.{read_beside, phrase};
-ghost use Rattle.entry_text.specs.Replies.{two_digit_refusals, refusal_at};
+ghost use Rattle.std.specs.Prelude.{◌^◌, [], ◌∷◌, codes};
+ghost use Rattle.std.specs.Fmt.{decimal};
+ghost use Rattle.field_bounds.specs.declared.entry.Refusal.TheVariants.{Short as ShortText, LedgerFull as FullText, Forged as ForgedText};
+ghost use Rattle.line_words.specs.Reading.{Gives, number_of, only_of};
+ghost use Rattle.entry_text.specs.Reading.{read_beside, phrase, two_words, three_words};
+ghost use Rattle.entry_text.specs.Replies.{refusal_table, refusal_at};
 
-use crate::word::{expect, is_text, number_at};
+use crate::word::{expect, number_at};
 use field_bounds::Refusal;
 use line_words::Words;
 
-/// Takes two words that have to be these, and gives the refusal.
+/// Takes a word that has to be this, and gives the refusal.
+fn one(line: &mut Words<'_>, only: &str, refusal: Refusal) -> Option<Refusal>
+    ensures { Gives result line.new (phrase (only.now ∷ []) refusal line.old) }
+{
+    expect(line, only)?;
+    Some(refusal)
+}
+
+/// The same with two words.
 fn two(line: &mut Words<'_>, first: &str, second: &str, refusal: Refusal) -> Option<Refusal>
     ensures { Gives result line.new (phrase (first.now ∷ second.now ∷ []) refusal line.old) }
 {
     expect(line, first)?;
-    expect(line, second)?;
-    Some(refusal)
+    one(line, second, refusal)
 }
 
 /// The same with three words.
@@ -33,61 +42,65 @@ fn three(
     two(line, second, third, refusal)
 }
 
-// Takes what follows a number of two digits.
-fn two_digit_refusal(line: &mut Words<'_>, number: &[u8]) -> Option<Refusal>
-    ensures { Gives result line.new (read_beside two_digit_refusals number.now line.old) }
+/// Takes the words of a refusal that tells a share.
+fn short(line: &mut Words<'_>) -> Option<Refusal>
+    ensures { Gives result line.new (two_words (only_of (codes "short")) (number_of (2 ^ 64))
+        (λ a share. ShortText share) line.old) }
 {
-    if is_text(number, "10") {
-        two(line, "not", "yours", Refusal::NotYours)
-    } else if is_text(number, "11") {
-        expect(line, "forged")?;
-        let room = number_at(line)?;
-        Some(Refusal::Forged { room })
-    } else if is_text(number, "12") {
-        three(line, "too", "many", "open", Refusal::TooManyOpen)
-    } else if is_text(number, "13") {
-        three(line, "too", "many", "escrows", Refusal::TooManyEscrows)
-    } else if is_text(number, "14") {
-        two(line, "numbers", "full", Refusal::NumbersFull)
-    } else if is_text(number, "15") {
-        two(line, "nothing", "given", Refusal::NothingGiven)
-    } else {
-        None
+    expect(line, "short")?;
+    let share = number_at(line)?;
+    Some(Refusal::Short { share })
+}
+
+/// Takes the words of a refusal that tells the total of a full ledger.
+fn ledger_full(line: &mut Words<'_>) -> Option<Refusal>
+    ensures { Gives result line.new (three_words (only_of (codes "ledger"))
+        (only_of (codes "full")) (number_of (2 ^ 64)) (λ a b total. FullText total) line.old) }
+{
+    expect(line, "ledger")?;
+    expect(line, "full")?;
+    let total = number_at(line)?;
+    Some(Refusal::LedgerFull { total })
+}
+
+/// Takes the words of a refusal that tells the room that was left.
+fn forged(line: &mut Words<'_>) -> Option<Refusal>
+    ensures { Gives result line.new (two_words (only_of (codes "forged")) (number_of (2 ^ 64))
+        (λ a room. ForgedText room) line.old) }
+{
+    expect(line, "forged")?;
+    let room = number_at(line)?;
+    Some(Refusal::Forged { room })
+}
+
+/// Takes the words that follow the number of a refusal.
+fn numbered(line: &mut Words<'_>, number: u64) -> Option<Refusal>
+    ensures { Gives result line.new (read_beside refusal_table (decimal number) line.old) }
+{
+    match number {
+        1 => one(line, "down", Refusal::Down),
+        2 => two(line, "no", "site", Refusal::NoSite),
+        3 => two(line, "no", "field", Refusal::NoField),
+        4 => two(line, "no", "transaction", Refusal::NoTransaction),
+        5 => one(line, "zero", Refusal::Zero),
+        6 => two(line, "too", "large", Refusal::TooLarge),
+        7 => short(line),
+        8 => two(line, "self", "gift", Refusal::SelfGift),
+        9 => ledger_full(line),
+        10 => two(line, "not", "yours", Refusal::NotYours),
+        11 => forged(line),
+        12 => three(line, "too", "many", "open", Refusal::TooManyOpen),
+        13 => three(line, "too", "many", "escrows", Refusal::TooManyEscrows),
+        14 => two(line, "numbers", "full", Refusal::NumbersFull),
+        15 => two(line, "nothing", "given", Refusal::NothingGiven),
+        _ => None,
     }
 }
 
 /// Takes a refusal: its number and its words.
-#[tactic(auto, unfolding(crate::specs::Replies::refusal_at, crate::specs::Reading::table_at))]
 pub(crate) fn refusal(line: &mut Words<'_>) -> Option<Refusal>
     ensures { Gives result line.new (refusal_at line.old) }
 {
-    let number = line.next()?;
-    if is_text(number, "1") {
-        expect(line, "down")?;
-        Some(Refusal::Down)
-    } else if is_text(number, "2") {
-        two(line, "no", "site", Refusal::NoSite)
-    } else if is_text(number, "3") {
-        two(line, "no", "field", Refusal::NoField)
-    } else if is_text(number, "4") {
-        two(line, "no", "transaction", Refusal::NoTransaction)
-    } else if is_text(number, "5") {
-        expect(line, "zero")?;
-        Some(Refusal::Zero)
-    } else if is_text(number, "6") {
-        two(line, "too", "large", Refusal::TooLarge)
-    } else if is_text(number, "7") {
-        expect(line, "short")?;
-        let share = number_at(line)?;
-        Some(Refusal::Short { share })
-    } else if is_text(number, "8") {
-        two(line, "self", "gift", Refusal::SelfGift)
-    } else if is_text(number, "9") {
-        expect(line, "ledger")?;
-        expect(line, "full")?;
-        let total = number_at(line)?;
-        Some(Refusal::LedgerFull { total })
-    } else {
-        two_digit_refusal(line, number)
-    }
+    let number = number_at(line)?;
+    numbered(line, number)
 }
