@@ -8,6 +8,7 @@ ghost use Rattle.field_bounds.specs.declared.entry.Entry.{Entry};
 ghost use Rattle.field_bounds.specs.declared.entry.Command.TheVariants.{Accept};
 ghost use Rattle.entry_text.specs.Spelling.{site_text, id_text, kind_text, found_text, field_text, command_text, refusal_words, reply_text, entry_text};
 
+use crate::refusal::refusal_parts;
 use field_bounds::{FieldNo, Kind, Last, Refusal, Reply, Schema, SiteNo, Statement, TxnId};
 use itoa::Buffer;
 use std::alloc::AllocError;
@@ -103,22 +104,13 @@ fn push_refusal(out: &mut Vec<u8>, refusal: Refusal) -> Result<(), AllocError>
         ≡ out.old.items ++ line (codes "refused" ∷ refusal_words refusal)) }
     ensures err { OnErr result (take (length out.old.items) out.new.items ≡ out.old.items) }
 {
-    match refusal {
-        Refusal::Down => out.extend_from_slice(b"refused 1 down"),
-        Refusal::NoSite => out.extend_from_slice(b"refused 2 no site"),
-        Refusal::NoField => out.extend_from_slice(b"refused 3 no field"),
-        Refusal::NoTransaction => out.extend_from_slice(b"refused 4 no transaction"),
-        Refusal::Zero => out.extend_from_slice(b"refused 5 zero"),
-        Refusal::TooLarge => out.extend_from_slice(b"refused 6 too large"),
-        Refusal::Short { share } => push_counted(out, b"refused 7 short ", share),
-        Refusal::SelfGift => out.extend_from_slice(b"refused 8 self gift"),
-        Refusal::LedgerFull { total } => push_counted(out, b"refused 9 ledger full ", total),
-        Refusal::NotYours => out.extend_from_slice(b"refused 10 not yours"),
-        Refusal::Forged { room } => push_counted(out, b"refused 11 forged ", room),
-        Refusal::TooManyOpen => out.extend_from_slice(b"refused 12 too many open"),
-        Refusal::TooManyEscrows => out.extend_from_slice(b"refused 13 too many escrows"),
-        Refusal::NumbersFull => out.extend_from_slice(b"refused 14 numbers full"),
-        Refusal::NothingGiven => out.extend_from_slice(b"refused 15 nothing given"),
+    let (words, told) = refusal_parts(refusal);
+    match told {
+        None => out.extend_from_slice(words.as_bytes()),
+        Some(number) => {
+            out.extend_from_slice(words.as_bytes())?;
+            push_counted(out, b" ", number)
+        }
     }
 }
 

@@ -1,10 +1,11 @@
 //! What each value is displayed as.
 
-ghost use Rattle.std.specs.Prelude.{[], ◌∷◌, Some};
+ghost use Rattle.std.specs.Prelude.{[], ◌∷◌, Some, codes};
 ghost use Rattle.std.specs.Fmt.{decimal};
 ghost use Rattle.line_words.specs.Words.{line};
 ghost use Rattle.entry_text.specs.Spelling.{id_text, kind_text, found_text, field_text, command_text, refusal_words, reply_text};
 
+use crate::refusal::refusal_parts;
 use field_bounds::{Command, FieldNo, Kind, Last, Refusal, Reply, Schema, SiteNo, TxnId};
 use std::fmt;
 
@@ -200,30 +201,18 @@ impl fmt::Display for LastText {
     }
 }
 
-/// A refusal, as its number and its words.
+/// A refusal, as the word `refused`, its number and its words.
 #[derive(Clone, Copy)]
 struct RefusalText(Refusal);
 
 impl fmt::Display for RefusalText {
-    ghost output = { λ r. Some (line (refusal_words r.0)) };
+    ghost output = { λ r. Some (line (codes "refused" ∷ refusal_words r.0)) };
 
     fn fmt<W: fmt::Write>(&self, f: &mut fmt::Formatter<W>) -> fmt::Result {
-        match self.0 {
-            Refusal::Down => write!(f, "1 down"),
-            Refusal::NoSite => write!(f, "2 no site"),
-            Refusal::NoField => write!(f, "3 no field"),
-            Refusal::NoTransaction => write!(f, "4 no transaction"),
-            Refusal::Zero => write!(f, "5 zero"),
-            Refusal::TooLarge => write!(f, "6 too large"),
-            Refusal::Short { share } => write!(f, "7 short {share}"),
-            Refusal::SelfGift => write!(f, "8 self gift"),
-            Refusal::LedgerFull { total } => write!(f, "9 ledger full {total}"),
-            Refusal::NotYours => write!(f, "10 not yours"),
-            Refusal::Forged { room } => write!(f, "11 forged {room}"),
-            Refusal::TooManyOpen => write!(f, "12 too many open"),
-            Refusal::TooManyEscrows => write!(f, "13 too many escrows"),
-            Refusal::NumbersFull => write!(f, "14 numbers full"),
-            Refusal::NothingGiven => write!(f, "15 nothing given"),
+        let (words, told) = refusal_parts(self.0);
+        match told {
+            None => write!(f, "{words}"),
+            Some(number) => write!(f, "{words} {number}"),
         }
     }
 }
@@ -259,7 +248,7 @@ impl fmt::Display for ReplyText {
             Reply::StillDown => write!(f, "still down"),
             Reply::Refused(refusal) => {
                 let refusal = RefusalText(refusal);
-                write!(f, "refused {refusal}")
+                write!(f, "{refusal}")
             }
         }
     }

@@ -1,15 +1,42 @@
 //! Refusals as text.
 
-ghost use Rattle.std.specs.Prelude.{◌^◌, [], ◌∷◌, codes};
+ghost use Rattle.std.specs.Prelude.{◌≡◌, ◌^◌, ◌++◌, [], ◌∷◌, MatchOption, codes};
 ghost use Rattle.std.specs.Fmt.{decimal};
-ghost use Rattle.field_bounds.specs.declared.entry.Refusal.TheVariants.{Short as ShortText, LedgerFull as FullText, Forged as ForgedText};
+ghost use Rattle.field_bounds.specs.declared.entry.Refusal.TheVariants.{Short, LedgerFull, Forged};
+ghost use Rattle.line_words.specs.Words.{line};
 ghost use Rattle.line_words.specs.Reading.{Gives, number_of, only_of};
 ghost use Rattle.entry_text.specs.Reading.{read_beside, phrase, two_words, three_words};
 ghost use Rattle.entry_text.specs.Replies.{refusal_table, refusal_at};
+ghost use Rattle.entry_text.specs.Spelling.{refusal_words};
 
 use crate::word::{expect, number_at};
 use field_bounds::Refusal;
 use line_words::Words;
+
+/// The words of a refusal, and the number that it tells behind them.
+pub(crate) fn refusal_parts(refusal: Refusal) -> (&'static str, Option<u64>)
+    ensures { MatchOption result.1
+        (result.0.now ≡ line (codes "refused" ∷ refusal_words refusal))
+        (λ told. result.0.now ++ 32 ∷ decimal told ≡ line (codes "refused" ∷ refusal_words refusal)) }
+{
+    match refusal {
+        Refusal::Down => ("refused 1 down", None),
+        Refusal::NoSite => ("refused 2 no site", None),
+        Refusal::NoField => ("refused 3 no field", None),
+        Refusal::NoTransaction => ("refused 4 no transaction", None),
+        Refusal::Zero => ("refused 5 zero", None),
+        Refusal::TooLarge => ("refused 6 too large", None),
+        Refusal::Short { share } => ("refused 7 short", Some(share)),
+        Refusal::SelfGift => ("refused 8 self gift", None),
+        Refusal::LedgerFull { total } => ("refused 9 ledger full", Some(total)),
+        Refusal::NotYours => ("refused 10 not yours", None),
+        Refusal::Forged { room } => ("refused 11 forged", Some(room)),
+        Refusal::TooManyOpen => ("refused 12 too many open", None),
+        Refusal::TooManyEscrows => ("refused 13 too many escrows", None),
+        Refusal::NumbersFull => ("refused 14 numbers full", None),
+        Refusal::NothingGiven => ("refused 15 nothing given", None),
+    }
+}
 
 /// Takes a word that has to be this, and gives the refusal.
 fn one(line: &mut Words<'_>, only: &str, refusal: Refusal) -> Option<Refusal>
@@ -45,7 +72,7 @@ fn three(
 /// Takes the words of a refusal that tells a share.
 fn short(line: &mut Words<'_>) -> Option<Refusal>
     ensures { Gives result line.new (two_words (only_of (codes "short")) (number_of (2 ^ 64))
-        (λ a share. ShortText share) line.old) }
+        (λ a share. Short share) line.old) }
 {
     expect(line, "short")?;
     let share = number_at(line)?;
@@ -55,7 +82,7 @@ fn short(line: &mut Words<'_>) -> Option<Refusal>
 /// Takes the words of a refusal that tells the total of a full ledger.
 fn ledger_full(line: &mut Words<'_>) -> Option<Refusal>
     ensures { Gives result line.new (three_words (only_of (codes "ledger"))
-        (only_of (codes "full")) (number_of (2 ^ 64)) (λ a b total. FullText total) line.old) }
+        (only_of (codes "full")) (number_of (2 ^ 64)) (λ a b total. LedgerFull total) line.old) }
 {
     expect(line, "ledger")?;
     expect(line, "full")?;
@@ -66,7 +93,7 @@ fn ledger_full(line: &mut Words<'_>) -> Option<Refusal>
 /// Takes the words of a refusal that tells the room that was left.
 fn forged(line: &mut Words<'_>) -> Option<Refusal>
     ensures { Gives result line.new (two_words (only_of (codes "forged")) (number_of (2 ^ 64))
-        (λ a room. ForgedText room) line.old) }
+        (λ a room. Forged room) line.old) }
 {
     expect(line, "forged")?;
     let room = number_at(line)?;

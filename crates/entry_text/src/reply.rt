@@ -1,7 +1,9 @@
 //! Replies as text.
 
-ghost use Rattle.line_words.specs.Reading.{Gives, word_at};
-ghost use Rattle.entry_text.specs.Reading.{read_beside};
+ghost use Rattle.std.specs.Prelude.{◌^◌};
+ghost use Rattle.field_bounds.specs.declared.entry.Reply.TheVariants.{Spared, Between, Shares, Restarted};
+ghost use Rattle.line_words.specs.Reading.{Gives, below, number_of, signed_of, word_at};
+ghost use Rattle.entry_text.specs.Reading.{read_beside, two_words};
 ghost use Rattle.entry_text.specs.Replies.{found_of, right_replies, reply_at};
 
 use crate::refusal::refusal;
@@ -26,6 +28,44 @@ fn last_at(line: &mut Words<'_>) -> Option<Last>
     }
 }
 
+// Takes what follows `between`.
+fn between(line: &mut Words<'_>) -> Option<Reply>
+    ensures { Gives result line.new (two_words signed_of signed_of Between line.old) }
+{
+    let lo = signed_at(line)?;
+    let hi = signed_at(line)?;
+    Some(Reply::Between { lo, hi })
+}
+
+// Takes what follows `restarted`.
+fn restarted(line: &mut Words<'_>) -> Option<Reply>
+    ensures { Gives result line.new (two_words (below (2 ^ 32)) found_of Restarted line.old) }
+{
+    let epoch = epoch_at(line)?;
+    let last = last_at(line)?;
+    Some(Reply::Restarted { epoch, last })
+}
+
+// Takes what follows `spared`.
+fn spared(line: &mut Words<'_>) -> Option<Reply>
+    ensures { Gives result line.new
+        (two_words (number_of (2 ^ 64)) (number_of (2 ^ 64)) Spared line.old) }
+{
+    let amount = number_at(line)?;
+    let total = number_at(line)?;
+    Some(Reply::Spared { amount, total })
+}
+
+// Takes what follows `share`.
+fn shares(line: &mut Words<'_>) -> Option<Reply>
+    ensures { Gives result line.new
+        (two_words (number_of (2 ^ 64)) (number_of (2 ^ 64)) Shares line.old) }
+{
+    let lower = number_at(line)?;
+    let raise = number_at(line)?;
+    Some(Reply::Shares { lower, raise })
+}
+
 // Takes what follows the first word of a reply that tells of rights.
 fn right_reply(line: &mut Words<'_>, first: &[u8]) -> Option<Reply>
     ensures { Gives result line.new (read_beside right_replies first.now line.old) }
@@ -37,9 +77,7 @@ fn right_reply(line: &mut Words<'_>, first: &[u8]) -> Option<Reply>
         let total = number_at(line)?;
         Some(Reply::Stated { total })
     } else if is_text(first, "spared") {
-        let amount = number_at(line)?;
-        let total = number_at(line)?;
-        Some(Reply::Spared { amount, total })
+        spared(line)
     } else if is_text(first, "tightened") {
         let total = number_at(line)?;
         Some(Reply::Tightened { total })
@@ -47,9 +85,7 @@ fn right_reply(line: &mut Words<'_>, first: &[u8]) -> Option<Reply>
         let gain = number_at(line)?;
         Some(Reply::Accepted { gain })
     } else if is_text(first, "share") {
-        let lower = number_at(line)?;
-        let raise = number_at(line)?;
-        Some(Reply::Shares { lower, raise })
+        shares(line)
     } else {
         None
     }
@@ -71,13 +107,9 @@ pub(crate) fn reply(line: &mut Words<'_>) -> Option<Reply>
     } else if is_text(first, "aborted") {
         Some(Reply::Aborted)
     } else if is_text(first, "between") {
-        let lo = signed_at(line)?;
-        let hi = signed_at(line)?;
-        Some(Reply::Between { lo, hi })
+        between(line)
     } else if is_text(first, "restarted") {
-        let epoch = epoch_at(line)?;
-        let last = last_at(line)?;
-        Some(Reply::Restarted { epoch, last })
+        restarted(line)
     } else if is_text(first, "unsure") {
         Some(Reply::Unsure)
     } else if is_text(first, "still") {
