@@ -1,13 +1,13 @@
 -- Refusals by their numbers: each row of their table stands beside a number.
-use Rattle.std.proofs.Common.{◌≡◌, ℕ, ◌^◌, ◌<◌, ◌≤◌, Bool, true, false, List, [], ◌∷◌, Option, Some, None, refl, sym, ap, subst, ◌∙◌, arith, inl, inr}
-use Rattle.std.specs.Prelude.{◌≢◌, ◌⊎◌, bytes_eq}
+use Rattle.std.proofs.Common.{◌≡◌, ℕ, ◌^◌, ◌<◌, ◌≤◌, Bool, true, false, List, [], ◌∷◌, Option, Some, None, refl, sym, ap, ◌∙◌, arith, inl, inr}
+use Rattle.std.specs.Prelude.{◌⊎◌, bytes_eq}
 use Rattle.std.specs.List.{AllByRecursion}
 use Rattle.std.specs.Fmt.{decimal, digits}
 use Rattle.std.proofs.lemmas.Bool.{cond-false}
 use Rattle.std.proofs.lemmas.Option.{same_Some, some_pair_parts}
 use Rattle.std.proofs.lemmas.Slice.Eq.{bytes_eq-Decides}
 use Rattle.field_bounds.specs.declared.entry.Refusal.{Refusal}
-use Rattle.line_words.specs.Reading.{◌>>=◌, number_of, word_at, Gives}
+use Rattle.line_words.specs.Reading.{◌>>=◌, number_of, word_at}
 use Rattle.line_words.proofs.Numbers.{bind_some, number_takes, number_again}
 use Rattle.entry_text.specs.Reading.{Reader, read_beside, table_at}
 use Rattle.entry_text.specs.Replies.{refusal_table, refusal_at}

@@ -1,4 +1,4 @@
-use Rattle.std.proofs.Common.{◌≡◌, ℕ, List, Option, sym, subst, arith}
+use Rattle.std.proofs.Common.{ℕ, List, Option, sym, subst, arith}
 use Rattle.std.specs.Fmt.{decimal, digits}
 use Rattle.field_bounds.specs.declared.entry.Refusal.{Refusal}
 use Rattle.line_words.specs.Reading.{Gives}
