@@ -2,6 +2,7 @@
 
 use field_bounds::*;
 use std::alloc::{AllocError, Global};
+use std::fmt::Debug;
 use std::process::Abort;
 use std::test::Fail;
 
@@ -52,17 +53,7 @@ fn made(
     Schema::new(alloc, sites, fields)
 }
 
-/// The same of the header's schema, and of a copy of it.
-fn parts_of(alloc: Global, header: &str, site: u16) -> Option<(u64, u64)> {
-    let schema = Schema::from_header(alloc, header.as_bytes()).ok()?;
-    parts_at(&schema, site)
-}
-
-fn parts_of_copy(alloc: Global, header: &str, site: u16) -> Option<(u64, u64)> {
-    let schema = Schema::from_header(alloc, header.as_bytes()).ok()?;
-    parts_at_copy(&schema, site)
-}
-
+/// The same of a copy of the schema.
 fn parts_at_copy(schema: &Schema, site: u16) -> Option<(u64, u64)> {
     match schema.copy() {
         Ok(copy) => parts_at(&copy, site),
@@ -70,39 +61,50 @@ fn parts_at_copy(schema: &Schema, site: u16) -> Option<(u64, u64)> {
     }
 }
 
+/// Both of the header's schema.
+fn parts_of(alloc: Global, header: &str, site: u16) -> Option<[Option<(u64, u64)>; 2]> {
+    let schema = Schema::from_header(alloc, header.as_bytes()).ok()?;
+    Some([parts_at(&schema, site), parts_at_copy(&schema, site)])
+}
+
+/// A row of a table comes to what was worked out for it.
+fn assert_row<T: PartialEq + Debug>(rt: &impl Abort, row: &str, found: &T, worked_out: &T) {
+    assert_eq!(rt; *found, *worked_out, "{row}");
+}
+
+/// Headers, sites, and the rights of each on the first field.
+const PARTS: [(&str, u16, Option<(u64, u64)>); 8] = [
+    (ODD, 0, Some((21, 30))),
+    (ODD, 1, Some((20, 29))),
+    (ODD, 2, None),
+    (EVEN, 0, Some((20, 30))),
+    (EVEN, 1, Some((20, 30))),
+    (THREE, 0, Some((14, 20))),
+    (THREE, 1, Some((13, 20))),
+    (THREE, 2, Some((13, 20))),
+];
+
 #[test]
 fn parts(rt: HostRuntime) {
-    for (header, site, parts) in [
-        (ODD, 0, Some((21, 30))),
-        (ODD, 1, Some((20, 29))),
-        (ODD, 2, None),
-        (EVEN, 0, Some((20, 30))),
-        (EVEN, 1, Some((20, 30))),
-        (THREE, 0, Some((14, 20))),
-        (THREE, 1, Some((13, 20))),
-        (THREE, 2, Some((13, 20))),
-    ] {
-        let found = parts_of(rt.alloc(), header, site);
-        assert_eq!(rt; found, parts, "{header} {site}");
-        let copied = parts_of_copy(rt.alloc(), header, site);
-        assert_eq!(rt; copied, parts, "copy of {header} {site}");
+    for (header, site, parts) in &PARTS {
+        let found = (*site, parts_of(rt.alloc(), *header, *site));
+        assert_row(&rt, *header, &found, &(*site, Some([*parts, *parts])));
     }
 }
 
 /// What a schema tells of its one field.
 fn assert_field(rt: &impl Abort, schema: &Schema) {
-    assert_eq!(rt; schema.sites(), 2);
-    assert_eq!(rt; schema.fields(), 1);
-    assert_eq!(rt; schema.bounds(FieldNo(0)), (0, 100, 40));
-    assert_eq!(rt; schema.name(FieldNo(0)), "stock");
+    let counts = (schema.sites(), schema.fields());
+    let field = (schema.bounds(FieldNo(0)), schema.name(FieldNo(0)));
+    assert_eq!(rt; (counts, field), ((2, 1), ((0, 100, 40), "stock")));
 }
 
 /// Which names a schema finds.
 fn assert_names(rt: &impl Abort, schema: &Schema) {
-    assert_eq!(rt; schema.field_no("stock"), Some(FieldNo(0)));
-    assert_eq!(rt; schema.field_no("sock"), None);
-    assert_eq!(rt; schema.field_no_of(b"stock"), Some(FieldNo(0)));
-    assert_eq!(rt; schema.field_no_of(&[255]), None);
+    let texts = (schema.field_no("stock"), schema.field_no("sock"));
+    let bytes = (schema.field_no_of(b"stock"), schema.field_no_of(&[255]));
+    let found = Some(FieldNo(0));
+    assert_eq!(rt; (texts, bytes), ((found, None), (found, None)));
 }
 
 #[test]
@@ -113,140 +115,191 @@ fn readers(rt: HostRuntime) -> Result<(), Fail> {
     Ok(())
 }
 
+/// The rights of sites 0 and 1 by a schema that was made of its parts.
+fn parts_of_made(alloc: Global) -> Option<[Option<(u64, u64)>; 2]> {
+    let schema = made(alloc, 2, "stock", "other", 41).ok()?;
+    Some([parts_at(&schema, 0), parts_at(&schema, 1)])
+}
+
 #[test]
-fn new(rt: HostRuntime) -> Result<(), Fail> {
-    let schema = made(rt.alloc(), 2, "stock", "other", 41)?;
-    assert_eq!(rt; parts_at(&schema, 0), Some((21, 30)));
-    assert_eq!(rt; parts_at(&schema, 1), Some((20, 29)));
-    Ok(())
+fn new(rt: HostRuntime) {
+    let found = parts_of_made(rt.alloc());
+    assert_eq!(rt; found, Some([Some((21, 30)), Some((20, 29))]));
+}
+
+/// How many sites, the names of both fields, the value of the first, and the fault.
+type New = (u16, &'static str, &'static str, i64, Option<SchemaFault>);
+
+const FAULTS_OF_NEW: [New; 6] = [
+    (0, "a", "b", 0, Some(SchemaFault::SiteCount)),
+    (65, "a", "b", 0, Some(SchemaFault::SiteCount)),
+    (64, "A", "b", 0, Some(SchemaFault::Name)),
+    (64, "a", "a", 0, Some(SchemaFault::NameUsed)),
+    (64, "a", "b", 101, Some(SchemaFault::Bounds)),
+    (64, "a", "b", 100, None),
+];
+
+/// The row with the fault that is found.
+fn with_fault_found(alloc: Global, row: &New) -> New {
+    let (sites, first, second, value, _) = *row;
+    let fault = made(alloc, sites, first, second, value).err();
+    (sites, first, second, value, fault)
 }
 
 #[test]
 fn faults_of_new(rt: HostRuntime) {
-    let alloc = rt.alloc();
-    for (sites, first, second, value, fault) in [
-        (0, "a", "b", 0, Some(SchemaFault::SiteCount)),
-        (65, "a", "b", 0, Some(SchemaFault::SiteCount)),
-        (64, "A", "b", 0, Some(SchemaFault::Name)),
-        (64, "a", "a", 0, Some(SchemaFault::NameUsed)),
-        (64, "a", "b", 101, Some(SchemaFault::Bounds)),
-        (64, "a", "b", 100, None),
-    ] {
-        let found = made(alloc, sites, first, second, value).err();
-        assert_eq!(rt; found, fault, "{sites} {first} {second} {value}");
+    for row in &FAULTS_OF_NEW {
+        assert_eq!(rt; with_fault_found(rt.alloc(), row), *row);
     }
-    let none = Schema::new(alloc, 1, Vec::new(alloc)).err();
+}
+
+#[test]
+fn no_fields(rt: HostRuntime) {
+    let none = Schema::new(rt.alloc(), 1, Vec::new(rt.alloc())).err();
     assert_eq!(rt; none, Some(SchemaFault::FieldCount));
 }
 
 #[test]
 fn kinds(rt: HostRuntime) {
-    assert_eq!(rt; Kind::Lower.other(), Kind::Raise);
-    assert_eq!(rt; Kind::Raise.other(), Kind::Lower);
-    assert_eq!(rt; Kind::of(-1), Kind::Lower);
-    assert_eq!(rt; Kind::of(1), Kind::Raise);
+    let others = (Kind::Lower.other(), Kind::Raise.other());
+    let of_changes = (Kind::of(-1), Kind::of(1));
+    let (lower, raise) = (Kind::Lower, Kind::Raise);
+    assert_eq!(rt; (others, of_changes), ((raise, lower), (lower, raise)));
 }
 
-/// Each of these is equal to itself, and to none of the others.
-fn assert_differ<T: PartialEq>(rt: &impl Abort, values: &[T]) {
+/// The first two places where values are equal and the places aren't, or the other way round.
+fn first_mistaken<T: PartialEq>(values: &[T]) -> Option<(usize, usize)> {
     for i in 0..values.len() {
         for j in 0..values.len() {
-            assert_eq!(rt; values[i] == values[j], i == j, "at {i} and {j}");
+            if (values[i] == values[j]) != (i == j) {
+                return Some((i, j));
+            }
         }
     }
+    None
 }
+
+const FIRST_TXN: TxnId = TxnId {
+    epoch: 1,
+    number: 1,
+};
+
+const NEXT_TXN: TxnId = TxnId {
+    epoch: 1,
+    number: 2,
+};
+
+/// Each command is equal to itself, and to none of the others.
+const COMMANDS: [Command; 18] = [
+    Command::Begin,
+    Command::Escrow {
+        txn: FIRST_TXN,
+        field: FieldNo(0),
+        change: 1,
+    },
+    Command::Escrow {
+        txn: FIRST_TXN,
+        field: FieldNo(0),
+        change: -1,
+    },
+    Command::Commit { txn: FIRST_TXN },
+    Command::Commit { txn: NEXT_TXN },
+    Command::Abort { txn: FIRST_TXN },
+    GIVE,
+    RESTATE,
+    SPARE,
+    TIGHTEN,
+    Command::Tighten {
+        field: FieldNo(0),
+        kind: Kind::Raise,
+        amount: 5,
+    },
+    Command::Accept(TOLD_FIVE),
+    Command::Accept(TOLD_SIX),
+    Command::Read { field: FieldNo(0) },
+    Command::Read { field: FieldNo(1) },
+    Command::Share { field: FieldNo(0) },
+    Command::Share { field: FieldNo(1) },
+    Command::Restart,
+];
+
+/// The same of replies.
+const REPLIES: [Reply; 26] = [
+    Reply::Begun(FIRST_TXN),
+    Reply::Begun(NEXT_TXN),
+    Reply::Granted,
+    Reply::Committed,
+    Reply::Aborted,
+    Reply::Given { total: 5 },
+    Reply::Stated { total: 5 },
+    Reply::Tightened { total: 5 },
+    Reply::Accepted { gain: 5 },
+    Reply::Accepted { gain: 0 },
+    Reply::Between { lo: 0, hi: 1 },
+    Reply::Shares { lower: 0, raise: 1 },
+    Reply::Shares { lower: 1, raise: 0 },
+    Reply::Refused(Refusal::Zero),
+    Reply::Refused(Refusal::Short { share: 1 }),
+    Reply::Refused(Refusal::Short { share: 2 }),
+    Reply::Refused(Refusal::LedgerFull { total: 1 }),
+    Reply::Refused(Refusal::Forged { room: 1 }),
+    Reply::Refused(Refusal::NotYours),
+    Reply::Refused(Refusal::Down),
+    Reply::Restarted {
+        epoch: 1,
+        last: Last::Nothing,
+    },
+    Reply::Restarted {
+        epoch: 2,
+        last: Last::Nothing,
+    },
+    Reply::Restarted {
+        epoch: 1,
+        last: Last::Kept,
+    },
+    Reply::Restarted {
+        epoch: 1,
+        last: Last::Lost,
+    },
+    Reply::Unsure,
+    Reply::StillDown,
+];
+
+/// The same of entries.
+const ENTRIES: [Entry; 2] = [
+    Entry {
+        site: SiteNo(0),
+        command: Command::Begin,
+        reply: Reply::Begun(FIRST_TXN),
+    },
+    Entry {
+        site: SiteNo(1),
+        command: Command::Begin,
+        reply: Reply::Begun(FIRST_TXN),
+    },
+];
+
+/// The same of escrows.
+const ESCROWS: [Escrow; 2] = [
+    Escrow {
+        field: FieldNo(0),
+        change: 1,
+    },
+    Escrow {
+        field: FieldNo(0),
+        change: -1,
+    },
+];
 
 #[test]
 fn equality(rt: HostRuntime) {
-    let txn = TxnId {
-        epoch: 1,
-        number: 1,
-    };
-    let next = TxnId {
-        epoch: 1,
-        number: 2,
-    };
-    let field = FieldNo(0);
-    let up = Command::Escrow {
-        txn,
-        field,
-        change: 1,
-    };
-    let down = Command::Escrow {
-        txn,
-        field,
-        change: -1,
-    };
-    let commands = [
-        Command::Begin,
-        up,
-        down,
-        Command::Commit { txn },
-        Command::Commit { txn: next },
-        Command::Abort { txn },
-        GIVE,
-        RESTATE,
-        SPARE,
-        TIGHTEN,
-        Command::Tighten {
-            field,
-            kind: Kind::Raise,
-            amount: 5,
-        },
-        Command::Accept(told(5)),
-        Command::Accept(told(6)),
-        Command::Read { field },
-        Command::Read { field: FieldNo(1) },
-        Command::Share { field },
-        Command::Share { field: FieldNo(1) },
-        Command::Restart,
+    let mistaken = [
+        first_mistaken(&COMMANDS),
+        first_mistaken(&REPLIES),
+        first_mistaken(&ENTRIES),
+        first_mistaken(&ESCROWS),
     ];
-    assert_differ(&rt, &commands);
-    let replies = [
-        Reply::Begun(txn),
-        Reply::Begun(next),
-        Reply::Granted,
-        Reply::Committed,
-        Reply::Aborted,
-        Reply::Given { total: 5 },
-        Reply::Stated { total: 5 },
-        Reply::Tightened { total: 5 },
-        Reply::Accepted { gain: 5 },
-        Reply::Accepted { gain: 0 },
-        Reply::Between { lo: 0, hi: 1 },
-        Reply::Shares { lower: 0, raise: 1 },
-        Reply::Shares { lower: 1, raise: 0 },
-        Reply::Refused(Refusal::Zero),
-        Reply::Refused(Refusal::Short { share: 1 }),
-        Reply::Refused(Refusal::Short { share: 2 }),
-        Reply::Refused(Refusal::LedgerFull { total: 1 }),
-        Reply::Refused(Refusal::Forged { room: 1 }),
-        Reply::Refused(Refusal::NotYours),
-        Reply::Refused(Refusal::Down),
-        restarted(1, Last::Nothing),
-        restarted(2, Last::Nothing),
-        restarted(1, Last::Kept),
-        restarted(1, Last::Lost),
-        Reply::Unsure,
-        Reply::StillDown,
-    ];
-    assert_differ(&rt, &replies);
-    let command = Command::Begin;
-    let reply = Reply::Begun(txn);
-    let first = Entry {
-        site: SiteNo(0),
-        command,
-        reply,
-    };
-    let second = Entry {
-        site: SiteNo(1),
-        command,
-        reply,
-    };
-    assert_differ(&rt, &[first, second]);
-    let raise = Escrow { field, change: 1 };
-    let lower = Escrow { field, change: -1 };
-    assert_differ(&rt, &[raise, lower]);
+    assert_eq!(rt; mistaken, [None, None, None, None]);
 }
 
 /// A gift of 5 lowering rights on the first field to site 1.
@@ -256,11 +309,6 @@ const GIVE: Command = Command::Give {
     kind: Kind::Lower,
     amount: 5,
 };
-
-/// A restart that ended so.
-fn restarted(epoch: u32, last: Last) -> Reply {
-    Reply::Restarted { epoch, last }
-}
 
 /// The same asked to be told again.
 const RESTATE: Command = Command::Restate {
@@ -293,10 +341,10 @@ const TOLD: Statement = Statement {
     total: 8,
 };
 
-/// The same with another total.
-fn told(total: u64) -> Statement {
-    Statement { total, ..TOLD }
-}
+/// The same with smaller totals.
+const TOLD_FIVE: Statement = Statement { total: 5, ..TOLD };
+
+const TOLD_SIX: Statement = Statement { total: 6, ..TOLD };
 
 /// The statement of an entry of site 0.
 fn stated(command: Command, reply: Reply) -> Option<Statement> {
@@ -364,11 +412,18 @@ fn amount_of(command: Command) -> u64 {
     }
 }
 
+/// Commands, and the amount that each bears last.
+const AMOUNTS: [(Command, u64); 5] = [
+    (GIVE, 5),
+    (Command::Accept(TOLD_SIX), 6),
+    (SPARE, 9),
+    (TIGHTEN, 5),
+    (Command::Begin, 0),
+];
+
 #[test]
 fn arms(rt: HostRuntime) {
-    assert_eq!(rt; amount_of(GIVE), 5);
-    assert_eq!(rt; amount_of(Command::Accept(told(6))), 6);
-    assert_eq!(rt; amount_of(SPARE), 9);
-    assert_eq!(rt; amount_of(TIGHTEN), 5);
-    assert_eq!(rt; amount_of(Command::Begin), 0);
+    for (command, amount) in &AMOUNTS {
+        assert_eq!(rt; amount_of(*command), *amount);
+    }
 }

@@ -57,6 +57,6 @@ const ROWS: [(&str, bool); 8] = [
 fn equal_schemas(rt: HostRuntime) {
     for (header, equal) in &ROWS {
         let found = are_equal(rt.alloc(), PAIR, *header);
-        assert_eq!(rt; found, Some(*equal), "{header}");
+        assert_row(&rt, *header, &found, &Some(*equal));
     }
 }

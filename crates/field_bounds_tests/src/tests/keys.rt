@@ -11,9 +11,12 @@ fn add_totals(totals: &mut HashMap<SiteNo, u64>) -> Result<(), AllocError> {
 }
 
 fn assert_totals(rt: &impl Abort, totals: &HashMap<SiteNo, u64>) {
-    assert_eq!(rt; totals.get(&SiteNo(0)), Some(&7));
-    assert_eq!(rt; totals.get(&SiteNo(1)), Some(&2));
-    assert_eq!(rt; totals.get(&SiteNo(2)), None);
+    let found = [
+        totals.get(&SiteNo(0)),
+        totals.get(&SiteNo(1)),
+        totals.get(&SiteNo(2)),
+    ];
+    assert_eq!(rt; found, [Some(&7), Some(&2), None]);
 }
 
 #[test]
@@ -37,10 +40,12 @@ fn add_fates(fates: &mut BTreeMap<TxnId, &'static str>) -> Result<(), AllocError
 }
 
 fn assert_fates(rt: &impl Abort, fates: &BTreeMap<TxnId, &'static str>) {
-    assert_eq!(rt; fates.get(&txn(1, 9)), Some(&"committed"));
-    assert_eq!(rt; fates.get(&txn(2, 9)), None);
-    let first = fates.first_key_value().map(|(txn, _)| *txn);
-    assert_eq!(rt; first, Some(txn(1, 8)));
+    let of_keys = (fates.get(&txn(1, 9)), fates.get(&txn(2, 9)));
+    let first = fates.first_key_value();
+    assert_eq!(rt;
+        (of_keys, first),
+        ((Some(&"committed"), None), Some((&txn(1, 8), &"aborted")))
+    );
 }
 
 #[test]
@@ -52,14 +57,25 @@ fn keyed_by_transaction(rt: HostRuntime) -> Result<(), Fail> {
 }
 
 #[test]
-fn in_order(rt: HostRuntime) {
+fn transactions_in_order(rt: HostRuntime) {
     let mut txns = [txn(2, 1), txn(1, 9), txn(1, 8)];
     txns.sort_unstable();
     assert_eq!(rt; txns, [txn(1, 8), txn(1, 9), txn(2, 1)]);
+}
+
+#[test]
+fn fields_in_order(rt: HostRuntime) {
     let mut fields = [FieldNo(3), FieldNo(0), FieldNo(1)];
     fields.sort_unstable();
     assert_eq!(rt; fields, [FieldNo(0), FieldNo(1), FieldNo(3)]);
-    assert_eq!(rt; Kind::Lower < Kind::Raise, true);
-    assert_eq!(rt; told(5) < told(6), true);
-    assert_eq!(rt; told(5) < told(5), false);
+}
+
+#[test]
+fn kinds_and_statements_in_order(rt: HostRuntime) {
+    let found = [
+        Kind::Lower < Kind::Raise,
+        TOLD_FIVE < TOLD_SIX,
+        TOLD_FIVE < TOLD_FIVE,
+    ];
+    assert_eq!(rt; found, [true, true, false]);
 }
