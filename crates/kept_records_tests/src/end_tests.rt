@@ -2,10 +2,9 @@
 
 ghost use Rattle.kept_records.specs.Keeping.{IsKept};
 
-use crate::tests::{bytes_of, log_of};
+use crate::tests::{log_of, memory_of, torn_of};
 use kept_records::*;
 use std::alloc::{AllocError, Global};
-use std::process::Abort;
 
 /// A medium of the calls that have no body of their own.
 #[derive(Drop)]
@@ -59,36 +58,66 @@ fn ends_with<M: Medium>(
     }
 }
 
-fn ends(rt: &impl Abort, alloc: Global, medium: &mut impl Medium) {
-    assert!(rt; ends_with(alloc, medium, 0, "", 9));
-    assert!(rt; ends_with(alloc, medium, 5, "G 1 0", 9));
-    assert!(rt; ends_with(alloc, medium, 9, "R 1\nG 1 0", 9));
-    assert!(rt; ends_with(alloc, medium, 10, "R 1\nG 1 0", 9));
+/// What each medium holds.
+const HELD: &str = "R 1\nG 1 0";
+
+/// How many bytes are read from the end of those held, and which come.
+const READ: [(usize, &str); 4] = [(0, ""), (5, "G 1 0"), (9, "R 1\nG 1 0"), (10, "R 1\nG 1 0")];
+
+/// Whether each of these ends is read of the medium.
+fn ends<M: Medium>(alloc: Global, medium: &mut M) -> bool {
+    for (most, wanted) in &READ {
+        if !ends_with(alloc, medium, *most, *wanted, 9) {
+            return false;
+        }
+    }
+    true
+}
+
+/// The same of a medium in memory, or None where memory was refused.
+fn memory_ends(alloc: Global) -> Option<bool> {
+    let mut medium = memory_of(alloc, HELD)?;
+    Some(ends(alloc, &mut medium))
+}
+
+/// The same of a medium that mishaps can strike.
+fn torn_ends(alloc: Global) -> Option<bool> {
+    let mut medium = torn_of(alloc, HELD)?;
+    Some(ends(alloc, &mut medium))
+}
+
+/// The same of one whose calls have no body of their own.
+fn plain_ends(alloc: Global) -> Option<bool> {
+    let under = torn_of(alloc, HELD)?;
+    let mut medium = Plain { under };
+    Some(ends(alloc, &mut medium))
 }
 
 #[test]
 fn the_end_of_each_medium(rt: HostRuntime) {
     let alloc = rt.alloc();
-    let held = bytes_of(alloc, "R 1\nG 1 0").expect(&rt, "memory");
-    ends(&rt, alloc, &mut MemoryMedium::new(held));
-    let held = bytes_of(alloc, "R 1\nG 1 0").expect(&rt, "memory");
-    ends(&rt, alloc, &mut TornMedium::new(held));
-    let held = bytes_of(alloc, "R 1\nG 1 0").expect(&rt, "memory");
-    let mut plain = Plain {
-        under: TornMedium::new(held),
-    };
-    ends(&rt, alloc, &mut plain);
+    let ends = [memory_ends(alloc), torn_ends(alloc), plain_ends(alloc)];
+    assert_eq!(rt; ends, [Some(true), Some(true), Some(true)]);
+}
+
+/// Whether a read of the end meets a fault of the device.
+fn end_fails<M: Medium>(alloc: Global, medium: &mut M) -> bool {
+    matches!(medium.read_end(alloc, 5), Err(MediumFault::Device))
+}
+
+/// Whether a first read of the end fails under a mishap, whether a second one gives the end, and
+/// how many failures there were.
+fn struck_end(alloc: Global) -> Option<(bool, bool, u64)> {
+    let mut medium = torn_of(alloc, HELD)?;
+    medium.arm(Mishap::Read);
+    let fails = end_fails(alloc, &mut medium);
+    let ends = ends_with(alloc, &mut medium, 5, "G 1 0", 9);
+    Some((fails, ends, medium.failures()))
 }
 
 #[test]
 fn a_mishap_for_reads_strikes_the_end(rt: HostRuntime) {
-    let alloc = rt.alloc();
-    let held = bytes_of(alloc, "R 1\nG 1 0").expect(&rt, "memory");
-    let mut medium = TornMedium::new(held);
-    medium.arm(Mishap::Read);
-    assert!(rt; matches!(medium.read_end(alloc, 5), Err(MediumFault::Device)));
-    assert!(rt; ends_with(alloc, &mut medium, 5, "G 1 0", 9));
-    assert_eq!(rt; medium.failures(), 1);
+    assert_eq!(rt; struck_end(rt.alloc()), Some((true, true, 1)));
 }
 
 /// How many records a cursor hands out.
@@ -123,7 +152,7 @@ fn told_back(alloc: Global, text: &str) -> Option<(Option<u32>, (u64, usize), (u
 }
 
 /// Logs, and what their ends are read as.
-const ENDS: [(&str, (Option<u32>, (u64, usize), (usize, usize))); 4] = [
+const ENDS: [(&str, (Option<u32>, (u64, usize), (usize, usize))); 7] = [
     (
         "R 1\nS 1 1 20 30\nR 2\nC 2 1 0 -5 0 3\nC 2 2 0 1\n",
         (Some(1), (3, 5), (45, 45)),
@@ -137,25 +166,16 @@ const ENDS: [(&str, (Option<u32>, (u64, usize), (usize, usize))); 4] = [
         (Some(1), (1, 3), (20, 30)),
     ),
     ("R 1\nG 1 0 l 5\nR", (None, (2, 2), (14, 15))),
+    // A summary at the front of a log, the same without its line feed, and no log.
+    ("S 0 1 20 30\nT 0 l 5\n", (Some(0), (1, 2), (20, 20))),
+    ("S 0 1 20 30", (None, (0, 0), (0, 11))),
+    ("", (None, (0, 0), (0, 0))),
 ];
 
 #[test]
 fn the_last_summary_and_the_lines_behind_it(rt: HostRuntime) {
     for (text, end) in &ENDS {
-        assert_eq!(rt; told_back(rt.alloc(), *text), Some(*end), "{text}");
+        let found = (*text, told_back(rt.alloc(), *text));
+        assert_eq!(rt; found, (*text, Some(*end)));
     }
-}
-
-#[test]
-fn a_summary_at_the_front_of_a_log(rt: HostRuntime) {
-    let alloc = rt.alloc();
-    assert_eq!(rt;
-        told_back(alloc, "S 0 1 20 30\nT 0 l 5\n"),
-        Some((Some(0), (1, 2), (20, 20)))
-    );
-    assert_eq!(rt;
-        told_back(alloc, "S 0 1 20 30"),
-        Some((None, (0, 0), (0, 11)))
-    );
-    assert_eq!(rt; told_back(alloc, ""), Some((None, (0, 0), (0, 0))));
 }

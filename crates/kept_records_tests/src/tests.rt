@@ -159,18 +159,24 @@ fn tighten_text(alloc: Global) -> Option<Vec<u8>> {
     write_record(alloc, &tighten).ok()
 }
 
+/// The first restart.
+const RESTART: Record = Record::Restart { epoch: 1 };
+
 fn restart_text(alloc: Global) -> Option<Vec<u8>> {
-    write_record(alloc, &Record::Restart { epoch: 1 }).ok()
+    write_record(alloc, &RESTART).ok()
 }
 
 #[test]
 fn texts(rt: HostRuntime) {
     let alloc = rt.alloc();
-    assert!(rt; is_text(commit_text(alloc), "C 0 1 0 -20\n"));
-    assert!(rt; is_text(gift_text(alloc), "G 1 0 l 5\n"));
-    assert!(rt; is_text(accept_text(alloc), "A 15 63 r 1000000000000000000\n"));
-    assert!(rt; is_text(tighten_text(alloc), "T 0 l 5\n"));
-    assert!(rt; is_text(restart_text(alloc), "R 1\n"));
+    let written = [
+        is_text(commit_text(alloc), "C 0 1 0 -20\n"),
+        is_text(gift_text(alloc), "G 1 0 l 5\n"),
+        is_text(accept_text(alloc), "A 15 63 r 1000000000000000000\n"),
+        is_text(tighten_text(alloc), "T 0 l 5\n"),
+        is_text(restart_text(alloc), "R 1\n"),
+    ];
+    assert_eq!(rt; written, [true, true, true, true, true]);
 }
 
 pub(crate) fn bytes_of(alloc: Global, text: &str) -> Option<Vec<u8>> {
@@ -245,26 +251,44 @@ fn reads_three(alloc: Global, bytes: &[u8], wanted: usize) -> bool {
 }
 
 #[test]
-fn records_and_a_torn_one(rt: HostRuntime) {
-    let bytes = b"C 0 1 0 -20\nG 1 0 l 5\nR 1\nG 1 0 l 5";
-    assert!(rt; reads_three(rt.alloc(), bytes, 26));
-    assert!(rt; reads_three(rt.alloc(), b"C 0 1 0 -20\nG 1 0 l 5\nR 1\n", 26));
-    assert_eq!(rt; read_lengths(rt.alloc(), b""), Some((0, 0)));
-    assert_eq!(rt; read_lengths(rt.alloc(), b"\x00\xff  R 01"), Some((0, 0)));
+fn three_records_and_a_torn_one(rt: HostRuntime) {
+    let read = (
+        reads_three(rt.alloc(), b"C 0 1 0 -20\nG 1 0 l 5\nR 1\nG 1 0 l 5", 26),
+        reads_three(rt.alloc(), b"C 0 1 0 -20\nG 1 0 l 5\nR 1\n", 26),
+    );
+    assert_eq!(rt; read, (true, true));
+}
+
+/// Bytes, how many records are read of them, and how many bytes these take up.
+const LENGTHS: [(&[u8], (usize, usize)); 4] = [
+    (b"", (0, 0)),
+    (b"\x00\xff  R 01", (0, 0)),
+    (b"C 0 1 0 -20\n", (1, 12)),
+    (b"T 0 l 5\n", (1, 8)),
+];
+
+#[test]
+fn lengths(rt: HostRuntime) {
+    for (bytes, lengths) in &LENGTHS {
+        assert_eq!(rt; read_lengths(rt.alloc(), *bytes), Some(*lengths));
+    }
+}
+
+/// The shortest front of a record, the record itself left out, that isn't read as no record.
+fn first_front_read(alloc: Global, record: &[u8]) -> Option<usize> {
+    for length in 0..record.len() {
+        if read_lengths(alloc, &record[..length]) != Some((0, 0)) {
+            return Some(length);
+        }
+    }
+    None
 }
 
 #[test]
 fn each_length_of_a_torn_record(rt: HostRuntime) {
-    let whole = b"C 0 1 0 -20\n";
-    for length in 0..12 {
-        assert_eq!(rt; read_lengths(rt.alloc(), &whole[..length]), Some((0, 0)));
-    }
-    assert_eq!(rt; read_lengths(rt.alloc(), whole), Some((1, 12)));
-    let cut = b"T 0 l 5\n";
-    for length in 0..8 {
-        assert_eq!(rt; read_lengths(rt.alloc(), &cut[..length]), Some((0, 0)));
-    }
-    assert_eq!(rt; read_lengths(rt.alloc(), cut), Some((1, 8)));
+    let alloc = rt.alloc();
+    assert_eq!(rt; first_front_read(alloc, b"C 0 1 0 -20\n"), None);
+    assert_eq!(rt; first_front_read(alloc, b"T 0 l 5\n"), None);
 }
 
 /// Whether the device took the piece, or None where memory was refused.
@@ -286,49 +310,84 @@ fn holds<M: Medium>(alloc: Global, medium: &mut M, wanted: &str) -> bool {
     is_text(medium.read_all(alloc).ok(), wanted)
 }
 
-fn memory_of(alloc: Global, text: &str) -> Option<MemoryMedium> {
+pub(crate) fn memory_of(alloc: Global, text: &str) -> Option<MemoryMedium> {
     Some(MemoryMedium::new(bytes_of(alloc, text)?))
 }
 
-fn torn_of(alloc: Global, text: &str) -> Option<TornMedium> {
+pub(crate) fn torn_of(alloc: Global, text: &str) -> Option<TornMedium> {
     Some(TornMedium::new(bytes_of(alloc, text)?))
+}
+
+/// Whether the device cut all but four bytes, and the medium holds these.
+fn cut_to_four<M: Medium>(alloc: Global, medium: &mut M, wanted: &str) -> (Option<bool>, bool) {
+    (shortened(alloc, medium, 4), holds(alloc, medium, wanted))
+}
+
+/// A medium in memory grows and is cut, and never fails.
+fn assert_memory(rt: &impl Abort, alloc: Global, medium: &mut MemoryMedium) {
+    let grown = (added(medium, b"G 1 0"), holds(alloc, medium, "R 1\nG 1 0"));
+    assert_eq!(rt; grown, (Some(true), true));
+    let cut = (cut_to_four(alloc, medium, "R 1\n"), medium.failures());
+    assert_eq!(rt; cut, ((Some(true), true), 0));
 }
 
 #[test]
 fn memory_never_fails(rt: HostRuntime) {
-    let alloc = rt.alloc();
-    let mut medium = memory_of(alloc, "R 1\n").expect(&rt, "memory");
-    assert_eq!(rt; added(&mut medium, b"G 1 0"), Some(true));
-    assert!(rt; holds(alloc, &mut medium, "R 1\nG 1 0"));
-    assert_eq!(rt; shortened(alloc, &mut medium, 4), Some(true));
-    assert!(rt; holds(alloc, &mut medium, "R 1\n"));
-    assert_eq!(rt; medium.failures(), 0);
+    let mut medium = memory_of(rt.alloc(), "R 1\n").expect(&rt, "memory");
+    assert_memory(&rt, rt.alloc(), &mut medium);
+}
+
+/// Whether the device took the piece though its append is torn after so many bytes, and the medium
+/// holds these.
+fn torn_append(
+    alloc: Global,
+    medium: &mut TornMedium,
+    kept: u64,
+    piece: &[u8],
+    wanted: &str,
+) -> (Option<bool>, bool) {
+    medium.arm(Mishap::Append(kept));
+    (added(medium, piece), holds(alloc, medium, wanted))
 }
 
 fn torn_appends(rt: &impl Abort, alloc: Global, medium: &mut TornMedium) {
-    medium.arm(Mishap::Append(11));
-    assert_eq!(rt; added(medium, b"C 0 1 0 -20\n"), Some(false));
-    assert!(rt; holds(alloc, medium, "R 1\nC 0 1 0 -20"));
-    assert_eq!(rt; added(medium, b"\n"), Some(true));
-    medium.arm(Mishap::Append(18_446_744_073_709_551_615));
-    assert_eq!(rt; added(medium, b"R 2\n"), Some(false));
-    assert!(rt; holds(alloc, medium, "R 1\nC 0 1 0 -20\nR 2\n"));
-    assert_eq!(rt; medium.failures(), 2);
+    let torn = (
+        torn_append(alloc, medium, 11, b"C 0 1 0 -20\n", "R 1\nC 0 1 0 -20"),
+        added(medium, b"\n"),
+    );
+    assert_eq!(rt; torn, ((Some(false), true), Some(true)));
+    let whole = torn_append(
+        alloc,
+        medium,
+        18_446_744_073_709_551_615,
+        b"R 2\n",
+        "R 1\nC 0 1 0 -20\nR 2\n",
+    );
+    assert_eq!(rt; (whole, medium.failures()), ((Some(false), true), 2));
 }
 
 fn failed_cut(rt: &impl Abort, alloc: Global, medium: &mut TornMedium) {
     medium.arm(Mishap::Cut);
-    assert_eq!(rt; shortened(alloc, medium, 4), Some(false));
-    assert!(rt; holds(alloc, medium, "R 1\nC 0 1 0 -20\nR 2\n"));
-    assert_eq!(rt; shortened(alloc, medium, 4), Some(true));
-    assert!(rt; holds(alloc, medium, "R 1\n"));
+    let cuts = (
+        cut_to_four(alloc, medium, "R 1\nC 0 1 0 -20\nR 2\n"),
+        cut_to_four(alloc, medium, "R 1\n"),
+    );
+    assert_eq!(rt; cuts, ((Some(false), true), (Some(true), true)));
+}
+
+/// Whether a read meets a fault of the device.
+fn read_fails<M: Medium>(alloc: Global, medium: &mut M) -> bool {
+    matches!(medium.read_all(alloc), Err(MediumFault::Device))
 }
 
 fn failed_read(rt: &impl Abort, alloc: Global, medium: &mut TornMedium) {
     medium.arm(Mishap::Read);
-    assert!(rt; matches!(medium.read_all(alloc), Err(MediumFault::Device)));
-    assert!(rt; holds(alloc, medium, "R 1\n"));
-    assert_eq!(rt; medium.failures(), 4);
+    let read = (
+        read_fails(alloc, medium),
+        holds(alloc, medium, "R 1\n"),
+        medium.failures(),
+    );
+    assert_eq!(rt; read, (true, true, 4));
 }
 
 #[test]
@@ -357,7 +416,8 @@ const FRONTS: [(&str, (usize, usize, Option<u64>)); 4] = [
 #[test]
 fn fronts(rt: HostRuntime) {
     for (text, front) in &FRONTS {
-        assert_eq!(rt; front_of(rt.alloc(), *text), Some(*front), "{text}");
+        let found = (*text, front_of(rt.alloc(), *text));
+        assert_eq!(rt; found, (*text, Some(*front)));
     }
 }
 
@@ -408,8 +468,11 @@ fn a_log_is_read(rt: HostRuntime) {
     let alloc = rt.alloc();
     let bytes = log_of(alloc, "C 0 1 0 -20\nG 1 0").expect(&rt, "a log");
     let mut medium = MemoryMedium::new(bytes);
-    assert_eq!(rt; log_lengths(alloc, &mut medium), Some((1, 12, 17)));
-    assert!(rt; holds(alloc, &mut medium, "C 0 1 0 -20\nG 1 0"));
+    let found = (
+        log_lengths(alloc, &mut medium),
+        holds(alloc, &mut medium, "C 0 1 0 -20\nG 1 0"),
+    );
+    assert_eq!(rt; found, (Some((1, 12, 17)), true));
 }
 
 #[test]
@@ -418,9 +481,10 @@ fn a_log_whose_device_fails_is_not_read(rt: HostRuntime) {
     let bytes = log_of(alloc, "R 1\n").expect(&rt, "a log");
     let mut medium = TornMedium::new(bytes);
     medium.arm(Mishap::Read);
-    assert!(rt; matches!(read_log(alloc, &mut medium), Err(MediumFault::Device)));
-    assert_eq!(rt; log_lengths(alloc, &mut medium), Some((1, 4, 4)));
-    assert_eq!(rt; medium.failures(), 1);
+    let fails = matches!(read_log(alloc, &mut medium), Err(MediumFault::Device));
+    let lengths = log_lengths(alloc, &mut medium);
+    let found = (fails, lengths, medium.failures());
+    assert_eq!(rt; found, (true, Some((1, 4, 4)), 1));
 }
 
 /// Whether the record stands whole, or None where memory was refused.
@@ -438,29 +502,32 @@ fn appended<M: Medium>(alloc: Global, medium: &mut M, kept: &Record) -> Option<b
 fn records_are_appended(rt: HostRuntime) {
     let alloc = rt.alloc();
     let mut medium = memory_of(alloc, "").expect(&rt, "memory");
-    assert_eq!(rt;
-        appended(alloc, &mut medium, &Record::Restart { epoch: 1 }),
-        Some(true)
+    let found = (
+        appended(alloc, &mut medium, &RESTART),
+        appended(alloc, &mut medium, &GIFT),
+        holds(alloc, &mut medium, "R 1\nG 1 0 l 5\n"),
     );
-    assert_eq!(rt; appended(alloc, &mut medium, &GIFT), Some(true));
-    assert!(rt; holds(alloc, &mut medium, "R 1\nG 1 0 l 5\n"));
+    assert_eq!(rt; found, (Some(true), Some(true), true));
 }
 
-fn torn_restart(rt: &impl Abort, alloc: Global, kept: u64, wanted: &str) {
-    let mut medium = torn_of(alloc, "").expect(rt, "memory");
+/// Whether a restart stands whole though its append is torn after so many bytes, whether the medium
+/// holds what is wanted, and how often it failed.
+fn torn_restart(alloc: Global, kept: u64, wanted: &str) -> Option<(Option<bool>, bool, u64)> {
+    let mut medium = torn_of(alloc, "")?;
     medium.arm(Mishap::Append(kept));
-    assert_eq!(rt;
-        appended(alloc, &mut medium, &Record::Restart { epoch: 1 }),
-        Some(false)
-    );
-    assert!(rt; holds(alloc, &mut medium, wanted));
-    assert_eq!(rt; medium.failures(), 1);
+    let stands = appended(alloc, &mut medium, &RESTART);
+    let holds = holds(alloc, &mut medium, wanted);
+    Some((stands, holds, medium.failures()))
 }
 
 #[test]
 fn a_torn_append_leaves_a_front(rt: HostRuntime) {
-    torn_restart(&rt, rt.alloc(), 2, "R ");
-    torn_restart(&rt, rt.alloc(), 4, "R 1\n");
+    let found = (
+        torn_restart(rt.alloc(), 2, "R "),
+        torn_restart(rt.alloc(), 4, "R 1\n"),
+    );
+    let torn = Some((Some(false), true, 1));
+    assert_eq!(rt; found, (torn, torn));
 }
 
 /// Whether the restart stands behind so many bytes of the medium, or None where there are fewer or
@@ -480,34 +547,50 @@ fn restarted<M: Medium>(alloc: Global, medium: &mut M, whole: usize, epoch: u32)
     )
 }
 
-#[test]
-fn a_restart_is_appended(rt: HostRuntime) {
-    let alloc = rt.alloc();
-    let mut medium = memory_of(alloc, "C 0 1 0 -20\nR 1").expect(&rt, "memory");
-    assert_eq!(rt; restarted(alloc, &mut medium, 12, 1), Some(true));
-    assert!(rt; holds(alloc, &mut medium, "C 0 1 0 -20\nR 1\n"));
-    assert_eq!(rt;
-        restarted(alloc, &mut medium, 16, 1_000_000_000),
-        Some(true)
+/// A restart stands behind a commit, and the last one behind it.
+fn assert_restarts(rt: &impl Abort, alloc: Global, medium: &mut MemoryMedium) {
+    let first = (
+        restarted(alloc, medium, 12, 1),
+        holds(alloc, medium, "C 0 1 0 -20\nR 1\n"),
     );
-    assert!(rt; holds(alloc, &mut medium, "C 0 1 0 -20\nR 1\nR 1000000000\n"));
+    assert_eq!(rt; first, (Some(true), true));
+    let last = (
+        restarted(alloc, medium, 16, 1_000_000_000),
+        holds(alloc, medium, "C 0 1 0 -20\nR 1\nR 1000000000\n"),
+    );
+    assert_eq!(rt; last, (Some(true), true));
 }
 
-fn restart_under(rt: &impl Abort, alloc: Global, mishap: Mishap, stands: bool, wanted: &str) {
-    let mut medium = torn_of(alloc, "C 0 1 0 -20\nG 1 0").expect(rt, "memory");
-    medium.arm(mishap);
-    assert_eq!(rt; restarted(alloc, &mut medium, 12, 1), Some(stands));
-    assert!(rt; holds(alloc, &mut medium, wanted));
+#[test]
+fn a_restart_is_appended(rt: HostRuntime) {
+    let mut medium = memory_of(rt.alloc(), "C 0 1 0 -20\nR 1").expect(&rt, "memory");
+    assert_restarts(&rt, rt.alloc(), &mut medium);
 }
+
+/// Whether a restart behind a commit and a torn gift stands whole under a mishap, and the medium
+/// then holds these.
+fn restart_under(alloc: Global, mishap: Mishap, wanted: &str) -> Option<(Option<bool>, bool)> {
+    let mut medium = torn_of(alloc, "C 0 1 0 -20\nG 1 0")?;
+    medium.arm(mishap);
+    let stands = restarted(alloc, &mut medium, 12, 1);
+    Some((stands, holds(alloc, &mut medium, wanted)))
+}
+
+/// Mishaps, whether the restart stands whole, and what the medium then holds.
+const RESTARTS: [(Mishap, bool, &str); 5] = [
+    (Mishap::Never, true, "C 0 1 0 -20\nR 1\n"),
+    (Mishap::Append(0), false, "C 0 1 0 -20\n"),
+    (Mishap::Append(3), false, "C 0 1 0 -20\nR 1"),
+    (Mishap::Append(4), false, "C 0 1 0 -20\nR 1\n"),
+    (Mishap::Cut, false, "C 0 1 0 -20\nG 1 0"),
+];
 
 #[test]
 fn a_restart_under_a_mishap(rt: HostRuntime) {
-    let alloc = rt.alloc();
-    restart_under(&rt, alloc, Mishap::Never, true, "C 0 1 0 -20\nR 1\n");
-    restart_under(&rt, alloc, Mishap::Append(0), false, "C 0 1 0 -20\n");
-    restart_under(&rt, alloc, Mishap::Append(3), false, "C 0 1 0 -20\nR 1");
-    restart_under(&rt, alloc, Mishap::Append(4), false, "C 0 1 0 -20\nR 1\n");
-    restart_under(&rt, alloc, Mishap::Cut, false, "C 0 1 0 -20\nG 1 0");
+    for (mishap, stands, wanted) in &RESTARTS {
+        let found = (*mishap, restart_under(rt.alloc(), *mishap, *wanted));
+        assert_eq!(rt; found, (*mishap, Some((Some(*stands), true))));
+    }
 }
 
 #[test]
@@ -515,7 +598,8 @@ fn nothing_is_cut_of_whole_records(rt: HostRuntime) {
     let alloc = rt.alloc();
     let mut medium = torn_of(alloc, "R 1\n").expect(&rt, "memory");
     medium.arm(Mishap::Cut);
-    assert_eq!(rt; restarted(alloc, &mut medium, 4, 2), Some(true));
-    assert!(rt; holds(alloc, &mut medium, "R 1\nR 2\n"));
-    assert_eq!(rt; medium.failures(), 0);
+    let stands = restarted(alloc, &mut medium, 4, 2);
+    let holds = holds(alloc, &mut medium, "R 1\nR 2\n");
+    let found = (stands, holds, medium.failures());
+    assert_eq!(rt; found, (Some(true), true, 0));
 }

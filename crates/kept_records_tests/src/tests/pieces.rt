@@ -34,27 +34,39 @@ fn piece_appended<M: Medium>(alloc: Global, medium: &mut M) -> Option<bool> {
 fn a_record_takes_its_summary_along(rt: HostRuntime) {
     let alloc = rt.alloc();
     let mut medium = memory_of(alloc, "R 999\n").expect(&rt, "memory");
-    assert_eq!(rt; piece_appended(alloc, &mut medium), Some(true));
-    assert!(rt; holds(alloc, &mut medium, "R 999\nR 1000\nS 1000 1 20 30\n"));
+    let found = (
+        piece_appended(alloc, &mut medium),
+        holds(alloc, &mut medium, "R 999\nR 1000\nS 1000 1 20 30\n"),
+    );
+    assert_eq!(rt; found, (Some(true), true));
 }
 
-fn torn_piece(rt: &impl Abort, alloc: Global, kept: u64, wanted: &str) {
-    let mut medium = torn_of(alloc, "").expect(rt, "memory");
+/// Whether a record and its summary stand whole though their append is torn after so many bytes,
+/// whether the medium holds what is wanted, and how often it failed.
+fn torn_piece(alloc: Global, kept: u64, wanted: &str) -> Option<(Option<bool>, bool, u64)> {
+    let mut medium = torn_of(alloc, "")?;
     medium.arm(Mishap::Append(kept));
-    assert_eq!(rt; piece_appended(alloc, &mut medium), Some(false));
-    assert!(rt; holds(alloc, &mut medium, wanted));
-    assert_eq!(rt; medium.failures(), 1);
+    let stands = piece_appended(alloc, &mut medium);
+    let holds = holds(alloc, &mut medium, wanted);
+    Some((stands, holds, medium.failures()))
 }
+
+/// How many bytes of the piece are kept, and what the medium then holds.
+const TORN: [(u64, &str); 6] = [
+    (0, ""),
+    (6, "R 1000"),
+    (7, "R 1000\n"),
+    (8, "R 1000\nS"),
+    (21, "R 1000\nS 1000 1 20 30"),
+    (22, PIECE),
+];
 
 #[test]
 fn a_torn_piece_leaves_a_front(rt: HostRuntime) {
-    let alloc = rt.alloc();
-    torn_piece(&rt, alloc, 0, "");
-    torn_piece(&rt, alloc, 6, "R 1000");
-    torn_piece(&rt, alloc, 7, "R 1000\n");
-    torn_piece(&rt, alloc, 8, "R 1000\nS");
-    torn_piece(&rt, alloc, 21, "R 1000\nS 1000 1 20 30");
-    torn_piece(&rt, alloc, 22, PIECE);
+    for (kept, wanted) in &TORN {
+        let found = (*kept, torn_piece(rt.alloc(), *kept, *wanted));
+        assert_eq!(rt; found, (*kept, Some((Some(false), true, 1))));
+    }
 }
 
 /// Whether the restart and its summary stand behind so many bytes of the medium, or None where
@@ -83,8 +95,11 @@ fn restarted_with_summary<M: Medium>(alloc: Global, medium: &mut M, whole: usize
 fn a_restart_takes_its_summary_along(rt: HostRuntime) {
     let alloc = rt.alloc();
     let mut medium = memory_of(alloc, "R 999\nR 10").expect(&rt, "memory");
-    assert_eq!(rt; restarted_with_summary(alloc, &mut medium, 6), Some(true));
-    assert!(rt; holds(alloc, &mut medium, "R 999\nR 1000\nS 1000 1 20 30\n"));
+    let found = (
+        restarted_with_summary(alloc, &mut medium, 6),
+        holds(alloc, &mut medium, "R 999\nR 1000\nS 1000 1 20 30\n"),
+    );
+    assert_eq!(rt; found, (Some(true), true));
 }
 
 /// What a summary that was read tells: the epoch, the rights of the first field, and how many
