@@ -3,18 +3,42 @@
 mod faults;
 mod hostile;
 
-use escrow_audit::{AuditEnd, ScriptFault, Watched, audit_text};
+use escrow_audit::{AuditEnd, ScriptFault, Sink, Source, Watched, audit_text};
 use field_bounds::SchemaFault;
 use std::alloc::{AllocError, Global};
 use std::io;
-use std::io::{ErrorKind, Read, Write};
+use std::io::{Chain, ErrorKind, Read, Repeat, Take, Write};
 use std::process::Abort;
-use std::test::Fail;
 use std::thread::Threads;
 
 /// Two sites, which have half of the rights each: lower 20, raise 30.
 const HALVED: &str =
     "{\"sites\":2,\"fields\":[{\"name\":\"stock\",\"floor\":0,\"ceiling\":100,\"value\":40}]}";
+
+/// How an audit ends.
+type Ended = Result<AuditEnd, ScriptFault>;
+
+const READ_FAULT: Ended = Err(ScriptFault::Read);
+
+/// How an audit of a source ends.
+fn ended<R: Source, W: Sink>(
+    rt: &(impl Threads + Sync),
+    alloc: Global,
+    fields: bool,
+    source: &mut R,
+    sink: &mut W,
+) -> Ended {
+    audit_text(rt, alloc, fields, source, sink)
+}
+
+/// How an audit ends by whether its legal answer is written whole.
+fn written(is_whole: bool) -> Ended {
+    if is_whole {
+        Ok(AuditEnd::Legal)
+    } else {
+        Err(ScriptFault::Write)
+    }
+}
 
 /// How an audit over a reader ended, and what it wrote.
 fn audit<R: Read + Drop>(
@@ -22,24 +46,34 @@ fn audit<R: Read + Drop>(
     alloc: Global,
     fields: bool,
     reader: R,
-) -> (Result<AuditEnd, ScriptFault>, Vec<u8>) {
+) -> (Ended, Vec<u8>) {
     let mut writer = Watched::new(Vec::new(alloc));
-    let end = audit_text(rt, alloc, fields, &mut Watched::new(reader), &mut writer);
+    let end = ended(rt, alloc, fields, &mut Watched::new(reader), &mut writer);
     (end, writer.into_inner())
 }
 
-/// A text of these parts.
-fn joined(alloc: Global, parts: &[&str]) -> Result<String, AllocError> {
-    let mut text = String::new(alloc);
-    for part in parts {
-        text.push_str(*part)?;
-    }
-    Ok(text)
+/// Tests how an audit ended, and what it wrote.
+fn check_end(rt: &impl Abort, end: Ended, out: &[u8], wanted: Ended, answer: &str) {
+    assert_eq!(rt; end, wanted, "at {answer}");
+    assert_eq!(rt; str::from_utf8(out), Ok(answer));
+}
+
+/// Audits a reader, and tests how the audit ends and what it writes.
+fn check_reader<R: Read + Drop>(
+    rt: &(impl Abort + Threads + Sync),
+    alloc: Global,
+    fields: bool,
+    reader: R,
+    wanted: Ended,
+    answer: &str,
+) {
+    let (end, out) = audit(rt, alloc, fields, reader);
+    check_end(rt, end, out.as_slice(), wanted, answer);
 }
 
 /// The lines behind the header of two sites.
 fn text_of(alloc: Global, lines: &[&str]) -> Result<String, AllocError> {
-    let mut text = joined(alloc, &[HALVED, "\n"])?;
+    let mut text = [HALVED, "\n"].concat(alloc)?;
     for line in lines {
         text.push_str(*line)?;
         text.push_str("\n")?;
@@ -47,6 +81,7 @@ fn text_of(alloc: Global, lines: &[&str]) -> Result<String, AllocError> {
     Ok(text)
 }
 
+/// Audits lines behind the header of two sites, in one pass and field by field.
 fn check(
     rt: &(impl Abort + Threads + Sync),
     alloc: Global,
@@ -55,12 +90,20 @@ fn check(
     answer: &str,
 ) -> Result<(), AllocError> {
     let text = text_of(alloc, lines)?;
-    for fields in [false, true] {
-        let (ended, out) = audit(rt, alloc, fields, text.as_bytes());
-        assert_eq!(rt; ended, Ok(end), "at {answer}");
-        assert_eq!(rt; str::from_utf8(out.as_slice()), Ok(answer));
-    }
+    check_text(rt, alloc, text.as_bytes(), Ok(end), answer);
     Ok(())
+}
+
+/// Audits a text, in one pass and field by field.
+fn check_text(
+    rt: &(impl Abort + Threads + Sync),
+    alloc: Global,
+    text: &[u8],
+    wanted: Ended,
+    answer: &str,
+) {
+    check_reader(rt, alloc, false, text, wanted, answer);
+    check_reader(rt, alloc, true, text, wanted, answer);
 }
 
 /// A reader that gives a byte a read.
@@ -205,7 +248,7 @@ const JUDGED: [(&[&str], AuditEnd, &str); 14] = [
 ];
 
 #[test]
-fn judges_entries(rt: HostRuntime) -> Result<(), Fail> {
+fn judges_entries(rt: HostRuntime) -> Result<(), AllocError> {
     for (lines, end, answer) in &JUDGED {
         check(&rt, rt.alloc(), *lines, *end, *answer)?;
     }
@@ -223,13 +266,9 @@ const STORED: &str = "\
 ";
 
 #[test]
-fn judges_the_stored_run(rt: HostRuntime) -> Result<(), Fail> {
-    for fields in [false, true] {
-        let (end, out) = audit(&rt, rt.alloc(), fields, STORED.as_bytes());
-        assert_eq!(rt; end, Ok(AuditEnd::Legal));
-        assert_eq!(rt; str::from_utf8(out.as_slice()), Ok("legal 5\n"));
-    }
-    Ok(())
+fn judges_the_stored_run(rt: HostRuntime) {
+    let text = STORED.as_bytes();
+    check_text(&rt, rt.alloc(), text, Ok(AuditEnd::Legal), "legal 5\n");
 }
 
 /// The remarks that a run writes.
@@ -337,168 +376,196 @@ const REACHED: [(&[&str], &str); 6] = [
 ];
 
 #[test]
-fn judges_what_reaches(rt: HostRuntime) -> Result<(), Fail> {
+fn judges_what_reaches(rt: HostRuntime) -> Result<(), AllocError> {
     for (lines, answer) in &REACHED {
         check(&rt, rt.alloc(), *lines, AuditEnd::Legal, *answer)?;
     }
     Ok(())
 }
 
+/// Audits a line before and behind an entry, as remarks.
+fn check_remark(
+    rt: &(impl Abort + Threads + Sync),
+    alloc: Global,
+    line: &str,
+) -> Result<(), AllocError> {
+    let lines = [line, "0 begin -> begun 0.1", line];
+    check(rt, alloc, &lines, AuditEnd::Legal, "legal 1\n")
+}
+
+/// Audits a bad line between a remark and an entry.
+fn check_bad(
+    rt: &(impl Abort + Threads + Sync),
+    alloc: Global,
+    line: &str,
+) -> Result<(), AllocError> {
+    let lines = ["bad line", line, "0 begin -> begun 0.1"];
+    check(rt, alloc, &lines, AuditEnd::BadEntry, "bad entry 3\n")
+}
+
 #[test]
-fn skips_remarks(rt: HostRuntime) -> Result<(), Fail> {
+fn skips_remarks(rt: HostRuntime) -> Result<(), AllocError> {
     let alloc = rt.alloc();
     check(&rt, alloc, &REMARKS, AuditEnd::Legal, "legal 0\n")?;
     for line in &REMARKS {
-        let lines = [*line, "0 begin -> begun 0.1", *line];
-        check(&rt, alloc, &lines, AuditEnd::Legal, "legal 1\n")?;
+        check_remark(&rt, alloc, *line)?;
     }
     for line in &BAD {
-        let lines = ["bad line", *line, "0 begin -> begun 0.1"];
-        check(&rt, alloc, &lines, AuditEnd::BadEntry, "bad entry 3\n")?;
+        check_bad(&rt, alloc, *line)?;
     }
     Ok(())
 }
 
+/// What stands behind a header without its end, and what is answered.
+const LAST_LINES: [(&str, AuditEnd, &str); 7] = [
+    ("", AuditEnd::Legal, "legal 0\n"),
+    ("\n", AuditEnd::Legal, "legal 0\n"),
+    ("\n0 begin -> begun 0.1", AuditEnd::Legal, "legal 1\n"),
+    (
+        "\n0 begin -> begun 0.2",
+        AuditEnd::Illegal,
+        "illegal 1 reply\n",
+    ),
+    ("\n0 begin -> begun", AuditEnd::BadEntry, "bad entry 2\n"),
+    ("\n\n", AuditEnd::BadEntry, "bad entry 2\n"),
+    (
+        "\r\n0 begin -> begun 0.1\r\n",
+        AuditEnd::BadEntry,
+        "bad entry 2\n",
+    ),
+];
+
+/// Audits a text in large reads, and byte by byte.
+fn check_reads(
+    rt: &(impl Abort + Threads + Sync),
+    alloc: Global,
+    text: &[u8],
+    wanted: Ended,
+    answer: &str,
+) {
+    check_reader(rt, alloc, false, text, wanted, answer);
+    check_reader(rt, alloc, false, Trickle(text), wanted, answer);
+}
+
 #[test]
-fn takes_a_last_line_without_its_end(rt: HostRuntime) -> Result<(), Fail> {
+fn takes_a_last_line_without_its_end(rt: HostRuntime) -> Result<(), AllocError> {
     let alloc = rt.alloc();
-    for (behind, answer) in [
-        ("", "legal 0\n"),
-        ("\n", "legal 0\n"),
-        ("\n0 begin -> begun 0.1", "legal 1\n"),
-        ("\n0 begin -> begun 0.2", "illegal 1 reply\n"),
-        ("\n0 begin -> begun", "bad entry 2\n"),
-        ("\n\n", "bad entry 2\n"),
-        ("\r\n0 begin -> begun 0.1\r\n", "bad entry 2\n"),
-    ] {
-        let text = joined(alloc, &[HALVED, behind])?;
-        let (end, out) = audit(&rt, alloc, false, text.as_bytes());
-        assert!(rt; end.is_ok());
-        assert_eq!(rt; str::from_utf8(out.as_slice()), Ok(answer));
-        let (end, out) = audit(&rt, alloc, false, Trickle(text.as_bytes()));
-        assert!(rt; end.is_ok());
-        assert_eq!(rt; str::from_utf8(out.as_slice()), Ok(answer));
+    for (behind, end, answer) in &LAST_LINES {
+        let text = [HALVED, *behind].concat(alloc)?;
+        check_reads(&rt, alloc, text.as_bytes(), Ok(*end), *answer);
     }
     Ok(())
 }
 
+/// Headers that are refused, and why.
+const BAD_HEADERS: [(&str, SchemaFault); 4] = [
+    ("", SchemaFault::NotJson),
+    ("\n0 begin\n", SchemaFault::NotJson),
+    ("{\"sites\":1}\nhello\n", SchemaFault::Shape),
+    (
+        "{\"sites\":0,\"fields\":[{\"name\":\"stock\",\"floor\":0,\"ceiling\":100,\"value\":40}]}",
+        SchemaFault::SiteCount,
+    ),
+];
+
+/// A reader of so many bytes, all the same, behind which every read fails.
+fn same_bytes(byte: u8, count: u64) -> Chain<Take<Repeat>, Broken> {
+    io::repeat(byte).take(count).chain(Broken(ErrorKind::Other))
+}
+
 #[test]
-fn tells_bad_headers(rt: HostRuntime) -> Result<(), Fail> {
+fn tells_bad_headers(rt: HostRuntime) {
     let alloc = rt.alloc();
-    for (header, fault) in [
-        ("", SchemaFault::NotJson),
-        ("\n0 begin\n", SchemaFault::NotJson),
-        ("{\"sites\":1}\nhello\n", SchemaFault::Shape),
-        (
-            "{\"sites\":0,\"fields\":[{\"name\":\"stock\",\"floor\":0,\"ceiling\":100,\"value\":40}]}",
-            SchemaFault::SiteCount,
-        ),
-    ] {
-        let (end, out) = audit(&rt, alloc, false, header.as_bytes());
-        assert_eq!(rt; end, Err(ScriptFault::Header(fault)), "at {header}");
-        assert_eq!(rt; out.len(), 0);
+    for (header, fault) in &BAD_HEADERS {
+        let wanted = Err(ScriptFault::Header(*fault));
+        check_reader(&rt, alloc, false, header.as_bytes(), wanted, "");
     }
     // The 65,537th byte of a header ends the audit before the next read.
-    for (spaces, wanted) in [
-        (65_537, ScriptFault::Header(SchemaFault::TooLong)),
-        (65_536, ScriptFault::Read),
-    ] {
-        let reader = io::repeat(b' ')
-            .take(spaces)
-            .chain(Broken(ErrorKind::Other));
-        let (end, out) = audit(&rt, alloc, false, reader);
-        assert_eq!(rt; end, Err(wanted));
-        assert_eq!(rt; out.len(), 0);
-    }
-    Ok(())
+    let long = Err(ScriptFault::Header(SchemaFault::TooLong));
+    check_reader(&rt, alloc, false, same_bytes(b' ', 65_537), long, "");
+    check_reader(&rt, alloc, false, same_bytes(b' ', 65_536), READ_FAULT, "");
 }
+
+/// Line lengths behind an entry, how the audit ends, and what is answered.
+const LONG_LINES: [(u64, Ended, &str); 3] = [
+    (256, READ_FAULT, ""),
+    (257, Ok(AuditEnd::BadEntry), "bad entry 3\n"),
+    (100_000, Ok(AuditEnd::BadEntry), "bad entry 3\n"),
+];
 
 // The 257th byte of a line behind the header ends the audit before the next read.
 #[test]
-fn ends_at_a_long_line(rt: HostRuntime) -> Result<(), Fail> {
+fn ends_at_a_long_line(rt: HostRuntime) -> Result<(), AllocError> {
     let alloc = rt.alloc();
-    let header = joined(alloc, &[HALVED, "\n0 begin -> begun 0.1\n"])?;
-    for (bytes, wanted, answer) in [
-        (256, Err(ScriptFault::Read), ""),
-        (257, Ok(AuditEnd::BadEntry), "bad entry 3\n"),
-        (100_000, Ok(AuditEnd::BadEntry), "bad entry 3\n"),
-    ] {
-        let reader = header
-            .as_bytes()
-            .chain(io::repeat(b'x').take(bytes))
-            .chain(Broken(ErrorKind::Other));
-        let (end, out) = audit(&rt, alloc, false, reader);
-        assert_eq!(rt; end, wanted);
-        assert_eq!(rt; str::from_utf8(out.as_slice()), Ok(answer));
+    let text = text_of(alloc, &["0 begin -> begun 0.1"])?;
+    for (bytes, wanted, answer) in &LONG_LINES {
+        let reader = text.as_bytes().chain(same_bytes(b'x', *bytes));
+        check_reader(&rt, alloc, false, reader, *wanted, *answer);
     }
     Ok(())
 }
 
 #[test]
-fn keeps_the_limit_of_lines(rt: HostRuntime) -> Result<(), Fail> {
+fn keeps_the_limit_of_lines(rt: HostRuntime) -> Result<(), AllocError> {
     let alloc = rt.alloc();
-    let mut lines = String::new(alloc);
-    for _ in 0..999_999 {
-        lines.push_str("bad line\n")?;
-    }
-    let header = joined(alloc, &[HALVED, "\n"])?;
-    for (more, wanted, answer) in [
-        (0, Ok(AuditEnd::Legal), "legal 0\n"),
-        (1, Err(ScriptFault::TooLong), ""),
-    ] {
-        let reader = header
-            .as_bytes()
-            .chain(lines.as_bytes())
-            .chain(io::repeat(b'x').take(more));
-        let (end, out) = audit(&rt, alloc, false, reader);
-        assert_eq!(rt; end, wanted);
-        assert_eq!(rt; str::from_utf8(out.as_slice()), Ok(answer));
-    }
+    let lines = "bad line\n".repeat(alloc, 999_999)?;
+    let text = [HALVED, "\n", lines.as_str()].concat(alloc)?;
+    let bytes = text.as_bytes();
+    check_reader(&rt, alloc, false, bytes, Ok(AuditEnd::Legal), "legal 0\n");
+    let longer = bytes.chain(b"x".as_slice());
+    check_reader(&rt, alloc, false, longer, Err(ScriptFault::TooLong), "");
     Ok(())
 }
 
-#[test]
-fn ends_where_a_read_fails(rt: HostRuntime) -> Result<(), Fail> {
-    let alloc = rt.alloc();
-    let text = text_of(alloc, &ROW)?;
+/// Behind each byte of a text a read fails.
+fn check_fronts(rt: &(impl Abort + Threads + Sync), alloc: Global, text: &[u8]) {
     for count in 0..=text.len() {
         let kind = if count % 2 == 0 {
             ErrorKind::Interrupted
         } else {
             ErrorKind::Other
         };
-        let reader = Trickle(&text.as_bytes()[..count]).chain(Broken(kind));
-        let (end, out) = audit(&rt, alloc, false, reader);
-        assert_eq!(rt; end, Err(ScriptFault::Read));
-        assert_eq!(rt; out.len(), 0);
+        let reader = Trickle(&text[..count]).chain(Broken(kind));
+        check_reader(rt, alloc, false, reader, READ_FAULT, "");
     }
-    Ok(())
 }
 
 #[test]
-fn ends_where_a_write_fails(rt: HostRuntime) -> Result<(), Fail> {
-    let alloc = rt.alloc();
-    let text = text_of(alloc, &ROW)?;
+fn ends_where_a_read_fails(rt: HostRuntime) -> Result<(), AllocError> {
+    let text = text_of(rt.alloc(), &ROW)?;
+    check_fronts(&rt, rt.alloc(), text.as_bytes());
+    Ok(())
+}
+
+/// How an audit of a text ends whose writer takes so many bytes, and what was taken.
+fn audit_narrow(
+    rt: &(impl Threads + Sync),
+    alloc: Global,
+    text: &[u8],
+    room: usize,
+) -> (Ended, Vec<u8>) {
+    let mut writer = Watched::new(Narrow {
+        taken: Vec::new(alloc),
+        room,
+        fails: room % 2 == 0,
+    });
+    let end = ended(rt, alloc, false, &mut Watched::new(text), &mut writer);
+    (end, writer.into_inner().taken)
+}
+
+/// Behind each byte of the answer a write fails.
+fn check_rooms(rt: &(impl Abort + Threads + Sync), alloc: Global, text: &[u8]) {
     let wanted = b"legal 6\n";
     for room in 0..=wanted.len() {
-        let mut writer = Watched::new(Narrow {
-            taken: Vec::new(alloc),
-            room,
-            fails: room % 2 == 0,
-        });
-        let end = audit_text(
-            &rt,
-            alloc,
-            false,
-            &mut Watched::new(text.as_bytes()),
-            &mut writer,
-        );
-        if room < wanted.len() {
-            assert_eq!(rt; end, Err(ScriptFault::Write));
-        } else {
-            assert_eq!(rt; end, Ok(AuditEnd::Legal));
-        }
-        assert_eq!(rt; writer.into_inner().taken.as_slice(), &wanted[..room]);
+        let (end, taken) = audit_narrow(rt, alloc, text, room);
+        assert_eq!(rt; end, written(room == wanted.len()));
+        assert_eq!(rt; taken.as_slice(), &wanted[..room]);
     }
+}
+
+#[test]
+fn ends_where_a_write_fails(rt: HostRuntime) -> Result<(), AllocError> {
+    let text = text_of(rt.alloc(), &ROW)?;
+    check_rooms(&rt, rt.alloc(), text.as_bytes());
     Ok(())
 }

@@ -4,11 +4,15 @@
 ghost use Rattle.std.specs.Prelude.{◌≡◌, ◌≤◌, ◌++◌, length, Some};
 ghost use Rattle.script_input.specs.Streams.{one_more};
 
-use super::{ROW, text_of};
-use escrow_audit::{AuditEnd, CallFailed, End, ScriptFault, Sink, Source, Watched, audit_text};
-use std::alloc::Global;
+use super::{Ended, READ_FAULT, ROW, ended, text_of, written};
+use escrow_audit::{CallFailed, End, Sink, Source, Watched};
+use std::alloc::{AllocError, Global};
 use std::io::Read;
-use std::test::Fail;
+use std::process::Abort;
+use std::thread::Threads;
+
+/// The answer to the row.
+const ANSWER: &[u8] = b"legal 6\n";
 
 /// A source of the bytes before and behind a read that fails.
 #[derive(Drop)]
@@ -126,42 +130,66 @@ impl Sink for RefusingSink {
     }
 }
 
+/// Tests that an audit of a source ends at the one read that fails, and writes nothing.
+fn check_failing(
+    rt: &(impl Abort + Threads + Sync),
+    alloc: Global,
+    source: &mut FailingSource,
+    sink: &mut Watched<Vec<u8>>,
+) {
+    let end = ended(rt, alloc, false, source, sink);
+    assert_eq!(rt; end, READ_FAULT);
+    assert_eq!(rt; source.failures, 1);
+    assert_eq!(rt; sink.last(), End::NotCalled);
+}
+
+/// Behind each byte of a text a read fails once.
+fn check_failures(rt: &(impl Abort + Threads + Sync), alloc: Global, text: &[u8]) {
+    for count in 0..=text.len() {
+        let mut source = FailingSource::new(text, count);
+        let mut sink = Watched::new(Vec::new(alloc));
+        check_failing(rt, alloc, &mut source, &mut sink);
+        assert_eq!(rt; source.behind.len(), text.len() - count);
+    }
+}
+
 // Behind each byte of the row a read fails once. It isn't tried again, and nothing is written.
 #[test]
-fn reads_no_more_once_a_source_failed(rt: HostRuntime) -> Result<(), Fail> {
-    let alloc = rt.alloc();
-    let text = text_of(alloc, &ROW)?;
-    for count in 0..=text.len() {
-        let mut source = FailingSource::new(text.as_bytes(), count);
-        let mut sink = Watched::new(Vec::new(alloc));
-        let end = audit_text(&rt, alloc, false, &mut source, &mut sink);
-        assert_eq!(rt; end, Err(ScriptFault::Read));
-        assert_eq!(rt; source.failures, 1);
-        assert_eq!(rt; source.behind.len(), text.len() - count);
-        assert_eq!(rt; sink.last(), End::NotCalled);
-    }
+fn reads_no_more_once_a_source_failed(rt: HostRuntime) -> Result<(), AllocError> {
+    let text = text_of(rt.alloc(), &ROW)?;
+    check_failures(&rt, rt.alloc(), text.as_bytes());
     Ok(())
+}
+
+/// How an audit of a text into a sink ends. No read fails.
+fn end_into(
+    rt: &(impl Abort + Threads + Sync),
+    alloc: Global,
+    text: &[u8],
+    sink: &mut RefusingSink,
+) -> Ended {
+    let mut source = Watched::new(text);
+    let end = ended(rt, alloc, false, &mut source, sink);
+    assert_eq!(rt; source.failures(), 0);
+    end
+}
+
+/// Audits a text into a sink that takes so many bytes of the answer before it refuses a write.
+fn check_refusing(rt: &(impl Abort + Threads + Sync), alloc: Global, text: &[u8], taken: &[u8]) {
+    let mut sink = RefusingSink::new(alloc, taken.len());
+    let end = end_into(rt, alloc, text, &mut sink);
+    let is_whole = taken.len() == ANSWER.len();
+    assert_eq!(rt; end, written(is_whole));
+    assert_eq!(rt; sink.refusals, u64::from(!is_whole));
+    assert_eq!(rt; sink.taken.as_slice(), taken);
 }
 
 // Behind each byte of the answer a write is refused once. It isn't tried again.
 #[test]
-fn writes_no_more_once_a_sink_refused(rt: HostRuntime) -> Result<(), Fail> {
-    let alloc = rt.alloc();
-    let text = text_of(alloc, &ROW)?;
-    let wanted = b"legal 6\n";
-    for room in 0..=wanted.len() {
-        let mut source = Watched::new(text.as_bytes());
-        let mut sink = RefusingSink::new(alloc, room);
-        let end = audit_text(&rt, alloc, false, &mut source, &mut sink);
-        if room < wanted.len() {
-            assert_eq!(rt; end, Err(ScriptFault::Write));
-            assert_eq!(rt; sink.refusals, 1);
-        } else {
-            assert_eq!(rt; end, Ok(AuditEnd::Legal));
-            assert_eq!(rt; sink.refusals, 0);
-        }
-        assert_eq!(rt; source.failures(), 0);
-        assert_eq!(rt; sink.taken.as_slice(), &wanted[..room]);
+fn writes_no_more_once_a_sink_refused(rt: HostRuntime) -> Result<(), AllocError> {
+    let text = text_of(rt.alloc(), &ROW)?;
+    for room in 0..=ANSWER.len() {
+        check_refusing(&rt, rt.alloc(), text.as_bytes(), &ANSWER[..room]);
     }
     Ok(())
 }

@@ -1,30 +1,39 @@
 //! Input without end, and a reader that is interrupted once.
 
-use super::{HALVED, ROW, audit, joined, text_of};
+use super::{HALVED, READ_FAULT, ROW, check_reader, text_of};
 use escrow_audit::{AuditEnd, ScriptFault};
 use field_bounds::SchemaFault;
+use std::alloc::{AllocError, Global};
 use std::io;
 use std::io::{ErrorKind, Read};
-use std::test::Fail;
+use std::process::Abort;
+use std::thread::Threads;
 
 #[test]
 fn ends_a_header_without_end(rt: HostRuntime) {
-    let (end, out) = audit(&rt, rt.alloc(), false, io::repeat(b'x'));
-    assert_eq!(rt; end, Err(ScriptFault::Header(SchemaFault::TooLong)));
-    assert_eq!(rt; out.len(), 0);
+    let wanted = Err(ScriptFault::Header(SchemaFault::TooLong));
+    check_reader(&rt, rt.alloc(), false, io::repeat(b'x'), wanted, "");
+}
+
+/// Audits a header and a byte without end.
+fn check_endless(rt: &(impl Abort + Threads + Sync), alloc: Global, header: &[u8], byte: u8) {
+    let reader = header.chain(io::repeat(byte));
+    check_reader(
+        rt,
+        alloc,
+        false,
+        reader,
+        Ok(AuditEnd::BadEntry),
+        "bad entry 2\n",
+    );
 }
 
 // An empty line and one past its limit are bad entries.
 #[test]
-fn ends_lines_without_end(rt: HostRuntime) -> Result<(), Fail> {
-    let alloc = rt.alloc();
-    let header = joined(alloc, &[HALVED, "\n"])?;
-    for byte in [b'\n', b'x'] {
-        let reader = header.as_bytes().chain(io::repeat(byte));
-        let (end, out) = audit(&rt, alloc, false, reader);
-        assert_eq!(rt; end, Ok(AuditEnd::BadEntry));
-        assert_eq!(rt; str::from_utf8(out.as_slice()), Ok("bad entry 2\n"));
-    }
+fn ends_lines_without_end(rt: HostRuntime) -> Result<(), AllocError> {
+    let header = [HALVED, "\n"].concat(rt.alloc())?;
+    check_endless(&rt, rt.alloc(), header.as_bytes(), b'\n');
+    check_endless(&rt, rt.alloc(), header.as_bytes(), b'x');
     Ok(())
 }
 
@@ -49,19 +58,21 @@ impl Read for InterruptedReader<'_> {
     }
 }
 
-#[test]
-fn reads_no_more_once_interrupted(rt: HostRuntime) -> Result<(), Fail> {
-    let alloc = rt.alloc();
-    let text = text_of(alloc, &ROW)?;
+/// Behind each byte of a text a read is interrupted.
+fn check_interrupted(rt: &(impl Abort + Threads + Sync), alloc: Global, text: &[u8]) {
     for count in 0..=text.len() {
         let reader = InterruptedReader {
-            before: &text.as_bytes()[..count],
-            behind: &text.as_bytes()[count..],
+            before: &text[..count],
+            behind: &text[count..],
             was_interrupted: false,
         };
-        let (end, out) = audit(&rt, alloc, false, reader);
-        assert_eq!(rt; end, Err(ScriptFault::Read));
-        assert_eq!(rt; out.len(), 0);
+        check_reader(rt, alloc, false, reader, READ_FAULT, "");
     }
+}
+
+#[test]
+fn reads_no_more_once_interrupted(rt: HostRuntime) -> Result<(), AllocError> {
+    let text = text_of(rt.alloc(), &ROW)?;
+    check_interrupted(&rt, rt.alloc(), text.as_bytes());
     Ok(())
 }
