@@ -12,16 +12,16 @@ use Rattle.field_bounds.proofs.Sums.{term_below}
 use Rattle.reaching_steps.specs.Reach.{is_tightened}
 use Rattle.reaching_steps.specs.Body.{is_cut_at}
 use Rattle.std.proofs.Common.{◌≡◌, ℕ, zero, suc, ◌+◌, ◌-◌, ◌<◌, ◌≤◌, ◌⊎◌, Bool, true, false, List, ◌∷◌, refl, sym, ◌∙◌, ap, inl, inr, arith, Option, Some, None}
-use Rattle.std.specs.Prelude.{ℤ}
+use Rattle.std.specs.Prelude.{ℤ, IfOk, Result, Ok, Err}
 use Rattle.reaching_steps.specs.declared.fault.ReachFault.TheVariants.{Outside}
 use Rattle.field_bounds.specs.declared.id.SiteNo.{SiteNo}
 use Rattle.reaching_steps.specs.declared.fault.ReachFault.{ReachFault}
 use Rattle.reaching_steps.specs.Reach.{least, fault_at, fault_if, first_fault, lies_outside}
 
-pub none_more : (p : ℕ → Bool) (i : ℕ) → least i p ≡ None → p i ≡ false → least (i + 1) p ≡ None
-none_more p i none off =
-    let one : i + 1 ≡ suc i = omega arith in
-    ap (λ (n : ℕ). least n p) one ∙ rw (none, off) refl
+-- of what is promised of a value, where there is one
+pub if_ok : {A E : Type 0} (r : Result A E) (P Q : A → Type 0) → ((a : A) → P a → Q a) → IfOk r P → IfOk r Q
+if_ok (Ok x) P Q f h = f x h
+if_ok (Err e) P Q f h = tt
 
 later : (p : ℕ → Bool) (i m k : ℕ) → least i p ≡ Some m → least (k + i) p ≡ Some m
 later p i m zero h = let same : 0 + i ≡ i = omega arith in ap (λ (n : ℕ). least n p) same ∙ h

@@ -40,15 +40,6 @@ grew_on w x y had mid has a b g h =
       taken = h.taken ∙ ap (λ (l : List WorldStep). l ++ b) g.taken ∙ append_assoc had a b;
     }
 
-pub grew_schema : (w x : WorldValue) (had has more : List WorldStep) → Grew w had more x has → x.schema ≡ w.schema
-grew_schema w x had has more g = ap (λ (v : WorldValue). v.schema) g.world
-
-pub still_in : (w x : WorldValue) (had has more : List WorldStep) (s sites : ℕ) → s < sites → sites ≡ w.schema.sites → Grew w had more x has
-    → s < x.schema.sites
-still_in w x had has more s sites below all g =
-    let same : x.schema.sites ≡ w.schema.sites = ap (λ (v : WorldValue). v.schema.sites) g.world in
-    omega (arith, below, all, same)
-
 -- one more turn of a loop over sites
 pub grew_over : (w x y : WorldValue) (had mid has : List WorldStep) (f : SchemaValue → ℕ → List Task) (i : ℕ)
     → Grew w had (steps_of_tasks w.schema w.steps (over_sites i (f w.schema))) x mid
@@ -96,42 +87,6 @@ pub on_ok : {A E : Type 0} (r : Result A E) (P Q : Type 0) → (P → Q) → OnO
 on_ok (Ok x) P Q f h = f h
 on_ok (Err e) P Q f h = tt
 
-pub wanted_some : (b : Bool) (n m : ℕ) → Some n ≡ cond b (Some m) None → (b ≡ true) × (n ≡ m)
-wanted_some true n m h = (refl, cc)
-wanted_some false n m h = cc
-
-pub wanted_none : (b : Bool) (m : ℕ) → None ≡ cond b (Some m) None → b ≡ false
-wanted_none true m h = cc
-wanted_none false m h = refl
-
-both_true : (b c : Bool) → b ≡ true → c ≡ true → (b && c) ≡ true
-both_true b c h g = rw (h, g) refl
-
-second_false : (b c : Bool) → c ≡ false → (b && c) ≡ false
-second_false true c h = h
-second_false false c h = refl
-
-first_false : (b c : Bool) → b ≡ false → (b && c) ≡ false
-first_false b c h = rw h refl
-
--- what was found of a statement tells whether it is told again, and delivered
-pub retold : (wanted : Bool) (number which : ℕ) (list : List WorldStep) → Some which ≡ cond wanted (Some number) None → which ≡ 0
-    → list ≡ cond (wanted && eqb number 0) list []
-retold wanted number which list found none =
-    let is = wanted_some wanted which number found in
-    sym (ap (λ (b : Bool). cond b list []) (both_true wanted (eqb number 0) is.0 (eq-eqb number 0 (sym is.1 ∙ none))))
-
-pub not_retold : (wanted : Bool) (number which : ℕ) (list : List WorldStep) → Some which ≡ cond wanted (Some number) None → which ≢ 0
-    → [] ≡ cond (wanted && eqb number 0) list []
-not_retold wanted number which list found some =
-    let is = wanted_some wanted which number found in
-    sym (ap (λ (b : Bool). cond b list []) (second_false wanted (eqb number 0) (ne_eqb number 0 (λ e. some (is.1 ∙ e)))))
-
-pub not_wanted : (wanted : Bool) (number : ℕ) (more : Bool) (list : List WorldStep) → None ≡ cond wanted (Some number) None
-    → [] ≡ cond (wanted && more) list []
-not_wanted wanted number more list found = sym (ap (λ (b : Bool). cond b list [])
-    (first_false wanted more (wanted_none wanted number found)))
-
 -- the three steps of a move
 change_some : (z change : ℤ) → Some change ≡ change_of z → (change ≡ z) × (unsigned_abs z ≢ 0)
 change_some z change h = by (eqb (unsigned_abs z) 0) refl h
@@ -139,13 +94,6 @@ change_some z change h = by (eqb (unsigned_abs z) 0) refl h
     by : (b : Bool) → eqb (unsigned_abs z) 0 ≡ b → Some change ≡ cond b None (Some z) → (change ≡ z) × (unsigned_abs z ≢ 0)
     by true is h = cc
     by false is h = (cc, eqb-false (unsigned_abs z) 0 is)
-
-change_none : (z : ℤ) → None ≡ change_of z → eqb (unsigned_abs z) 0 ≡ true
-change_none z h = by (eqb (unsigned_abs z) 0) h
-  where
-    by : (b : Bool) → None ≡ cond b None (Some z) → b ≡ true
-    by true h = refl
-    by false h = cc
 
 pub three_are : (w : WorldValue) (named f : ℕ) (target : ℤ) (s : ℕ) (txn : TxnId) (change : ℤ) → s ≢ named
     → txn ≡ next_txn w.schema (trace_of w) s
@@ -166,28 +114,6 @@ three_are w named f target s txn change apart txn_is found =
     ∙ ap (λ (id : TxnId). changes_by s f id change) txn_is
     ∙ ap (λ (z : ℤ). changes_by s f (next_txn w.schema t s) z) is.0
     ∙ sym (ap (λ (b : Bool). cond b [] (changes_by s f (next_txn w.schema t s) all)) (ne_eqb s named apart))
-
-pub none_are : (w : WorldValue) (named f : ℕ) (target : ℤ) (s : ℕ) → s ≢ named
-    → None ≡ change_of (towards (target -ℤ committed_value w.schema (trace_of w) f)
-    (share (fresh w.schema s) f Lower (at_site w.schema (trace_of w) s))
-    (share (fresh w.schema s) f Raise (at_site w.schema (trace_of w) s)))
-    → [] ≡ moves w.schema named f target s (trace_of w)
-none_are w named f target s apart found =
-    let t = trace_of w in
-    let id = next_txn w.schema t s in
-    let all = towards (target -ℤ committed_value w.schema t f) (share (fresh w.schema s) f Lower (at_site w.schema t s))
-    (share (fresh w.schema s) f Raise (at_site w.schema t s)) in
-    let three : List WorldStep = fine s Begin ∷ fine s (Escrow id (record { 0 = f }) all) ∷ fine s (Commit id) ∷ [] in
-    let one : [] ≡ changes_by s f id all = sym (ap (λ (b : Bool). cond b [] three) (change_none all found)) in
-    one ∙ sym (ap (λ (b : Bool). cond b [] (changes_by s f id all)) (ne_eqb s named apart))
-
-pub none_mine : (w : WorldValue) (named f : ℕ) (target : ℤ) (s : ℕ) → s ≡ named → [] ≡ moves w.schema named f target s (trace_of w)
-none_mine w named f target s same =
-    let t = trace_of w in
-    let id = next_txn w.schema t s in
-    let all = towards (target -ℤ committed_value w.schema t f) (share (fresh w.schema s) f Lower (at_site w.schema t s))
-    (share (fresh w.schema s) f Raise (at_site w.schema t s)) in
-    sym (ap (λ (b : Bool). cond b [] (changes_by s f id all)) (eq-eqb s named same))
 
 -- ---- the last tasks, closed
 
@@ -224,12 +150,6 @@ planned_all w x y z a b c d named f target n count empty there g h k =
     grew.taken ∙ ap (λ (l : List WorldStep). l ++ all n) empty ∙ ap all count
     ∙ sym (ap (λ (b : Bool). cond b [] (steps_of_tasks w.schema w.steps (tasks w.schema named f target))) there)
 
-pub planned_none : (w : WorldValue) (a : List WorldStep) (site : SiteNo) (field : FieldNo) (target : ℤ) → a ≡ []
-    → same_value (committed_value w.schema (trace_of w) field.0) target ≡ true
-    → a ≡ reach_steps w.schema w.steps site field target
-planned_none w a site field target empty there =
-    empty ∙ sym (ap (λ (b : Bool). cond b [] (steps_of_tasks w.schema w.steps (tasks w.schema site.0 field.0 target))) there)
-
 -- ---- the end
 
 pub does : (w : WorldValue) (site : SiteNo) (field : FieldNo) (target : ℤ) (items : List WorldStep) → IsSchema w.schema
@@ -240,15 +160,3 @@ does w site field target items good fit clear is =
     let went = all_reached w.schema good w.steps fit site field target clear in
     subst (λ (l : List WorldStep). Does w site field target l) (sym is)
     (record { fit = went.fit; fine = went.fine; elsewhere = went.then.0; reached = went.then.1 })
-
-pub does_for : (w v : WorldValue) (site : SiteNo) (field : FieldNo) (target : ℤ) (items : List WorldStep) → v ≡ w
-    → Does v site field target items → Does w site field target items
-does_for w v site field target items is d = subst (λ (x : WorldValue). Does x site field target items) is d
-
-pub steps_for : (w v : WorldValue) (site : SiteNo) (field : FieldNo) (target : ℤ) (items : List WorldStep) → v ≡ w
-    → items ≡ reach_steps v.schema v.steps site field target → items ≡ reach_steps w.schema w.steps site field target
-steps_for w v site field target items is h = h ∙ ap (λ (x : WorldValue). reach_steps x.schema x.steps site field target) is
-
-pub if_ok : {A E : Type 0} (r : Result A E) (P Q : A → Type 0) → ((a : A) → P a → Q a) → IfOk r P → IfOk r Q
-if_ok (Ok x) P Q f h = f x h
-if_ok (Err e) P Q f h = tt

@@ -78,14 +78,3 @@ reads_on schema x same s i trace d told more below read was =
     (subst (λ (l : List Entry). Reads schema s told (get_or trace i d) l more) (rest_is trace (i + 1))
     (subst (λ (y : SchemaValue). Reads y s told (get_or trace i d) (take (length trace - (i + 1)) (drop (i + 1) trace)) more) same read))
     was
-
-pub reads_end : (schema : SchemaValue) (s i : ℕ) (trace t : List Entry) (told more : List Effect) → length trace ≡ i → reverse trace ≡ t
-    → more ≡ reverse told
-    → reverse told ≡ effects (fresh schema s) (doubt_kept_in s (drop i trace)) (own s (reverse (take i trace))) → more ≡ at_site schema t s
-reads_end schema s i trace t told more at is same was =
-    same ∙ was
-    ∙ ap (λ (n : ℕ). effects (fresh schema s) (doubt_kept_in s (drop n trace)) (own s (reverse (take n trace)))) (sym at)
-    ∙ ap (λ (l : List Entry). effects (fresh schema s) (doubt_kept_in s l) (own s (reverse (take (length trace) trace))))
-    (drop_of_length-le trace (omega arith))
-    ∙ ap (λ (l : List Entry). effects (fresh schema s) false (own s (reverse l))) (take-length trace)
-    ∙ ap (λ (l : List Entry). at_site schema l s) is

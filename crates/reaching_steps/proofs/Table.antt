@@ -81,11 +81,6 @@ made_is w v step e is = ap (λ (l : List Lucky). entries l) is
 none_is : (w v : WorldValue) (step : WorldStep) → Answers NoStatement w step v → trace_of v ≡ trace_of w
 none_is w v step is = ap (λ (l : List Lucky). entries l) is.1
 
-pub made_within : (w v : WorldValue) (step : WorldStep) (reply : StepReply) → Answers reply w step v → IsOneStore v.schema (trace_of v)
-    → IsMadeWithin reply v.schema.sites
-made_within w v step NoStatement is store = tt
-made_within w v step (Made e) is store = (subst (λ (l : List Entry). IsSound v.schema l) (made_is w v step e is) store.sound).sites.1
-
 pub renews_none : (v : WorldValue) (lists : List (Vec Effect)) → Renews v NoStatement lists lists
 unfolding Renews
 renews_none v lists = λ w step is same told. (

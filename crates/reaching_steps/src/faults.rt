@@ -251,10 +251,7 @@ fn fault_numbers(
     let found = first_full(trial, site, sites);
     match found {
         Some(at) => Ok(Some(ReachFault::Numbers { site: SiteNo(at) })),
-        None => {
-            let rest = fault_outside(alloc, trial, site, field, target)?;
-            Ok(rest)
-        }
+        None => fault_outside(alloc, trial, site, field, target),
     }
 }
 
@@ -321,10 +318,7 @@ fn fault_unstated(
     let found = first_untold(trial, site, field, sites)?;
     match found {
         Some(at) => Ok(Some(ReachFault::Unstated { to: SiteNo(at) })),
-        None => {
-            let rest = fault_tightened(alloc, trial, site, field, target)?;
-            Ok(rest)
-        }
+        None => fault_tightened(alloc, trial, site, field, target),
     }
 }
 
@@ -345,10 +339,7 @@ fn fault_flight(
     let found = first_short(trial, site, field, sites)?;
     match found {
         Some(at) => Ok(Some(ReachFault::InFlight { from: SiteNo(at) })),
-        None => {
-            let rest = fault_unstated(alloc, trial, site, field, target)?;
-            Ok(rest)
-        }
+        None => fault_unstated(alloc, trial, site, field, target),
     }
 }
 
@@ -369,10 +360,7 @@ fn fault_up(
     let found = first_down(trial, sites);
     match found {
         Some(at) => Ok(Some(ReachFault::NotUp { site: SiteNo(at) })),
-        None => {
-            let rest = fault_flight(alloc, trial, site, field, target)?;
-            Ok(rest)
-        }
+        None => fault_flight(alloc, trial, site, field, target),
     }
 }
 
@@ -393,6 +381,5 @@ pub(crate) fn fault_of(
     if field.0 >= trial.world().schema().fields() {
         return Ok(Some(ReachFault::NoField));
     }
-    let rest = fault_up(alloc, trial, site, field, target)?;
-    Ok(rest)
+    fault_up(alloc, trial, site, field, target)
 }

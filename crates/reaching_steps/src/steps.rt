@@ -354,6 +354,35 @@ fn plan_clear(
     plan(alloc, trial, named, field, target, sites)
 }
 
+/// The steps, told and tried on a trial in which no other step was tried yet, or the first fault.
+fn reach_on(
+    alloc: Global,
+    trial: &mut Trial,
+    site: SiteNo,
+    field: FieldNo,
+    target: i64,
+) -> Result<Vec<WorldStep>, ReachFault>
+    requires fit { All (StepFits trial.old.schema) trial.old.steps }
+    ensures clear { OnOk result (reach_fault trial.old.schema (trace_of trial.old) site field target
+        ≡ None) }
+    ensures fault { IfErr result (λ fault. Explains fault
+        (reach_fault trial.old.schema (trace_of trial.old) site field target)) }
+    ensures steps { IfOk result (λ taken. taken.items
+        ≡ reach_steps trial.old.schema trial.old.steps site field target) }
+    ensures does { IfOk result (λ taken. Does trial.old site field target taken.items) }
+{
+    let Ok(found) = fault_of(alloc, trial, site, field, target) else {
+        return Err(ReachFault::NoMemory);
+    };
+    match found {
+        Some(fault) => Err(fault),
+        None => match plan_clear(alloc, trial, site, field, target) {
+            Ok(taken) => Ok(taken),
+            Err(_) => Err(ReachFault::NoMemory),
+        },
+    }
+}
+
 /// The steps at other sites after which the committed value of a field is the target: told by the
 /// steps that a world has taken, all with luck that is fine (`steps`). First the open transactions
 /// of the other sites are aborted, in order of site and begin; then what the sites gave each other
@@ -389,14 +418,5 @@ pub fn reach(
     let Ok(mut trial) = Trial::new(alloc, world) else {
         return Err(ReachFault::NoMemory);
     };
-    let Ok(found) = fault_of(alloc, &trial, site, field, target) else {
-        return Err(ReachFault::NoMemory);
-    };
-    match found {
-        Some(fault) => Err(fault),
-        None => match plan_clear(alloc, &mut trial, site, field, target) {
-            Ok(taken) => Ok(taken),
-            Err(_) => Err(ReachFault::NoMemory),
-        },
-    }
+    reach_on(alloc, &mut trial, site, field, target)
 }

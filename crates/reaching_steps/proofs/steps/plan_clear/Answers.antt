@@ -6,7 +6,8 @@ use Rattle.field_bounds.specs.Limits.{IsSchema}
 use Rattle.world_steps.specs.View.{WorldValue}
 use Rattle.reaching_steps.specs.Reach.{reach_steps}
 use Rattle.reaching_steps.specs.Body.{Does}
-use Rattle.reaching_steps.proofs.Growing.{if_ok, does}
+use Rattle.reaching_steps.proofs.Firsts.{if_ok}
+use Rattle.reaching_steps.proofs.Growing.{does}
 use Rattle.reaching_steps.proofs.steps.plan_clear.Goals as goal
 
 pub returns : goal.returns
