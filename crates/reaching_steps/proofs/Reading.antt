@@ -1,14 +1,13 @@
 -- A trace is read from its oldest entry on.
-use Rattle.std.proofs.Common.{◌≡◌, ◌≢◌, ℕ, suc, ◌+◌, ◌-◌, ◌<◌, Bool, false, cond, List, [], ◌∷◌, ◌++◌, take, drop, reverse, length, get_or, sym, ◌∙◌, ap, subst, arith}
+use Rattle.std.proofs.Common.{◌≡◌, ◌≢◌, ℕ, suc, ◌+◌, ◌-◌, ◌<◌, Bool, cond, List, [], ◌∷◌, ◌++◌, take, drop, reverse, length, get_or, sym, ◌∙◌, ap, subst, arith}
 use Rattle.std.proofs.Math.Seq.{take-suc, take-length}
-use Rattle.std.proofs.Math.ListN.{drop_of_length-le}
 use Rattle.std.proofs.lemmas.Bool.{eq-eqb, ne_eqb}
 use Rattle.std.proofs.lemmas.List.{reverse-append, take-append-drop, drop_more, length-drop}
 use Rattle.field_bounds.specs.declared.entry.Entry.{Entry}
 use Rattle.field_bounds.specs.declared.effect.Effect.{Effect}
 use Rattle.field_bounds.specs.Schema.{SchemaValue}
 use Rattle.field_bounds.specs.Effects.{fresh, after, doubt_kept_before, effects}
-use Rattle.field_bounds.specs.Central.{own, at_site, IsSound}
+use Rattle.field_bounds.specs.Central.{own, IsSound}
 use Rattle.field_bounds.proofs.Lawful.{IsLawful}
 use Rattle.field_bounds.proofs.Runs.{run_is_lawful}
 use Rattle.field_bounds.proofs.Traces.{own_here, own_there, sound_front}

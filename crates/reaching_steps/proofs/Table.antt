@@ -11,13 +11,11 @@ use Rattle.field_bounds.specs.Central.{own, at_site}
 use Rattle.field_bounds.proofs.Traces.{own_there}
 use Rattle.world_steps.specs.View.{WorldValue, trace_of}
 use Rattle.kept_state.specs.Luck.{Lucky, entries}
-use Rattle.field_bounds.specs.Central.{IsSound}
 use Rattle.world_steps.specs.View.{Answers}
-use Rattle.world_steps.specs.Promises.{IsOneStore}
 use Rattle.world_steps.specs.declared.step.WorldStep.{WorldStep}
 use Rattle.world_steps.specs.declared.step.StepReply.{StepReply}
 use Rattle.world_steps.specs.declared.step.StepReply.TheVariants.{Made, NoStatement}
-use Rattle.reaching_steps.specs.Told.{AllTold, IsTrial, IsMadeWithin, Renews}
+use Rattle.reaching_steps.specs.Told.{AllTold, IsTrial, Renews}
 
 pub told_none : (schema : SchemaValue) (t : List Entry) (lists : List (Vec Effect)) → lists ≡ [] → AllTold schema t lists
 unfolding AllTold

@@ -8,7 +8,7 @@ ghost use Rattle.world_steps.specs.View.{trace_of};
 ghost use Rattle.reaching_steps.specs.Told.{AllTold, IsMadeWithin, Renews};
 
 use crate::site_effects::told_at;
-use field_bounds::{Effect, SiteNo};
+use field_bounds::{Effect, Schema, SiteNo};
 use std::alloc::{AllocError, Global};
 use std::marker::Model;
 use world_steps::{StepReply, World, WorldStep};
@@ -71,14 +71,16 @@ fn renew(
     }
 }
 
-/// A world in which the same steps were taken.
-fn replay(alloc: Global, world: &World) -> Result<World, AllocError>
-    ensures same { IfOk result (λ replayed. replayed ≡ world.now) }
-    ensures fit { All (StepFits world.now.schema) world.now.steps }
+/// A world of a schema in which these steps were taken. The error is want of memory.
+fn replay(alloc: Global, schema: &Schema, steps: &[WorldStep]) -> Result<World, AllocError>
+    requires fit { All (StepFits schema.now) steps.now }
+    ensures taken { IfOk result (λ replayed. replayed ≡ record {
+      schema = schema.now;
+      steps = steps.now;
+    }) }
 {
-    let steps = world.steps(alloc)?;
-    let mut replayed = World::new(alloc, world.schema().copy()?)?;
-    for step in &steps {
+    let mut replayed = World::new(alloc, schema.copy()?)?;
+    for step in steps {
         replayed.step(alloc, step)?;
     }
     Ok(replayed)
@@ -90,10 +92,11 @@ impl Trial {
         ensures same { IfOk result (λ trial. trial ≡ world.now) }
         ensures fit { All (StepFits world.now.schema) world.now.steps }
     {
-        let world = replay(alloc, world)?;
-        let told = table_of(alloc, &world)?;
+        let steps = world.steps(alloc)?;
+        let replayed = replay(alloc, world.schema(), &steps)?;
+        let told = table_of(alloc, &replayed)?;
         Ok(Trial {
-            world,
+            world: replayed,
             told,
             is_whole: true,
         })

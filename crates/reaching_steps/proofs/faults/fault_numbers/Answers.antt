@@ -31,8 +31,8 @@ returns-in-None c =
     (c.schema.ensures.value ∙ ap (λ (x : WorldValue). x.schema) c.world.ensures.value) in
     let p : ℕ → Bool = has_no_number schema t c.args.site.0 in
     let same = to_z-of_z c.ranges.target in
-    let rest = subst (λ (z : ℤ). IfOk c.fault_outside.result (λ found. found ≡ first_fault (from_outside schema t c.args.site c.args.field z))) same
-    c.fault_outside.ensures.value in
+    let rest = subst (λ (z : ℤ).
+    IfOk c.fault_outside.result (λ found. found ≡ first_fault (from_outside schema t c.args.site c.args.field z))) same c.fault_outside.ensures.value in
     record {
       value = if_ok c.fault_outside.result
           (λ found. found ≡ first_fault (from_outside schema t c.args.site c.args.field c.args.target))

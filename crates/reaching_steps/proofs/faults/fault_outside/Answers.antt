@@ -38,10 +38,12 @@ returns c =
     let ceiling : SFits w64 c.bounds-floor.result.1 = search rules in
     let told = rw (to_z-of_z floor, to_z-of_z ceiling, to_z-of_z c.ranges.target) at c.outside.ensures.value in
     let low : (c.bounds-floor.result.0 +ℤ pos c.in_ok-lower.lower) ≡ interval.0 =
-    ap (λ (z : ℤ). z +ℤ pos c.in_ok-lower.lower) (ap (λ (b : ℤ × ℤ × ℤ). b.0) is ∙ ap (λ (x : SchemaValue). (field_at x c.args.field.0).floor) same)
+    ap (λ (z : ℤ). z +ℤ pos c.in_ok-lower.lower)
+    (ap (λ (b : ℤ × ℤ × ℤ). b.0) is ∙ ap (λ (x : SchemaValue). (field_at x c.args.field.0).floor) same)
     ∙ ap (λ (n : ℕ). (field_at schema c.args.field.0).floor +ℤ pos n) c.in_ok-lower.ensures.value in
     let high : (c.bounds-floor.result.1 -ℤ pos c.in_ok-raise.raise) ≡ interval.1 =
-    ap (λ (z : ℤ). z -ℤ pos c.in_ok-raise.raise) (ap (λ (b : ℤ × ℤ × ℤ). b.1) is ∙ ap (λ (x : SchemaValue). (field_at x c.args.field.0).ceiling) same)
+    ap (λ (z : ℤ). z -ℤ pos c.in_ok-raise.raise)
+    (ap (λ (b : ℤ × ℤ × ℤ). b.1) is ∙ ap (λ (x : SchemaValue). (field_at x c.args.field.0).ceiling) same)
     ∙ ap (λ (n : ℕ). (field_at schema c.args.field.0).ceiling -ℤ pos n) c.in_ok-raise.ensures.value in
     record {
       value = read_so c.outside.result c.bounds-floor.result.0 c.bounds-floor.result.1 interval.0 interval.1 c.args.target

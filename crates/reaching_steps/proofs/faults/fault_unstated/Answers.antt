@@ -32,8 +32,8 @@ returns-in-None c =
     (c.schema.ensures.value ∙ ap (λ (x : WorldValue). x.schema) c.world.ensures.value) in
     let p : ℕ → Bool = is_untold_to schema t c.args.site c.args.field in
     let same = to_z-of_z c.ranges.target in
-    let rest = subst (λ (z : ℤ). IfOk c.fault_tightened.result (λ found. found ≡ first_fault (from_tightened schema t c.args.site c.args.field z))) same
-    c.fault_tightened.ensures.value in
+    let rest = subst (λ (z : ℤ).
+    IfOk c.fault_tightened.result (λ found. found ≡ first_fault (from_tightened schema t c.args.site c.args.field z))) same c.fault_tightened.ensures.value in
     record {
       value = if_ok c.fault_tightened.result
           (λ found. found ≡ first_fault (from_tightened schema t c.args.site c.args.field c.args.target))

@@ -22,14 +22,16 @@ returns c =
     let target = c.args.target in
     let clear = subst (λ (z : ℤ). OnOk r (reach_fault c.in-Ok.trial.schema (trace_of c.in-Ok.trial) site field z ≡ None)) whole
     c.reach_on.ensures.clear in
-    let fault = subst (λ (z : ℤ). IfErr r (λ fault. Explains fault (reach_fault c.in-Ok.trial.schema (trace_of c.in-Ok.trial) site field z)))
+    let fault = subst (λ (z : ℤ).
+    IfErr r (λ fault. Explains fault (reach_fault c.in-Ok.trial.schema (trace_of c.in-Ok.trial) site field z)))
     whole c.reach_on.ensures.fault in
     let steps = subst (λ (z : ℤ). IfOk r (λ taken. taken.items ≡ reach_steps c.in-Ok.trial.schema c.in-Ok.trial.steps site field z)) whole
     c.reach_on.ensures.steps in
     let does = subst (λ (z : ℤ). IfOk r (λ taken. Does c.in-Ok.trial site field z taken.items)) whole c.reach_on.ensures.does in
     record {
       clear = subst (λ (x : WorldValue). OnOk r (reach_fault x.schema (trace_of x) site field target ≡ None)) same clear;
-      fault = subst (λ (x : WorldValue). IfErr r (λ fault. Explains fault (reach_fault x.schema (trace_of x) site field target))) same fault;
+      fault = subst (λ (x : WorldValue). IfErr r (λ fault. Explains fault (reach_fault x.schema (trace_of x) site field target))) same
+          fault;
       steps = subst (λ (x : WorldValue). IfOk r (λ taken. taken.items ≡ reach_steps x.schema x.steps site field target)) same steps;
       does = subst (λ (x : WorldValue). IfOk r (λ taken. Does x site field target taken.items)) same does;
     }
