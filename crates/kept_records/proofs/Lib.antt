@@ -2,6 +2,7 @@ pub mod Bytes
 pub mod Spaced
 pub mod OneWord
 pub mod RecordKinds
+pub mod Listed
 pub mod Pairs
 pub mod Lines
 pub mod Appending

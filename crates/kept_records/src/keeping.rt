@@ -1,6 +1,6 @@
 //! What a site does with its medium.
 
-ghost use Rattle.std.specs.Prelude.{◌≡◌, ◌+◌, ◌<◌, ◌≤◌, List, ℕ, OnErr, IfOk, length};
+ghost use Rattle.std.specs.Prelude.{◌≡◌, ◌+◌, ◌<◌, ◌≤◌, List, ℕ, OnOk, OnErr, IfOk, length};
 ghost use Rattle.std.specs.List.{flat_map, AllByRecursion};
 ghost use Rattle.field_bounds.specs.Owed.{max_epoch};
 ghost use Rattle.kept_records.specs.declared.record.Record.{Record};
@@ -8,13 +8,13 @@ ghost use Rattle.kept_records.specs.declared.record.Record.TheVariants.{Restart}
 ghost use Rattle.kept_records.specs.Text.{text, IsRecord};
 ghost use Rattle.kept_records.specs.Logs.{IsLog, Reads, AreAll};
 ghost use Rattle.kept_records.specs.Medium.{CountsRead, AppendFate, ReadFate};
-ghost use Rattle.kept_records.specs.Keeping.{with_due, IsKept, Appends, CutsAndAppends, CutAndAppendFate, is_record_behind};
+ghost use Rattle.kept_records.specs.Keeping.{with_due, IsKept, Appends, CutsAndAppends, CutAndAppendFate, is_restart, is_record_behind};
 
 use crate::log::{RecordFault, read_records};
 use crate::medium::{Device, Medium, MediumFault};
 use crate::record::Record;
 use crate::summary::Summary;
-use crate::writing::{put_piece, put_record};
+use crate::writing::put_piece;
 use std::alloc::{AllocError, Global};
 
 /// What a medium was read as.
@@ -78,9 +78,7 @@ pub fn append_record<M: Medium>(
     ensures foretold { OnErr result (M.foretold medium.new ≡ M.foretold medium.old) }
     ensures line { IfOk result (λ added. line.new.items ≡ text kept.now) }
 {
-    put_record(line, kept)?;
-    medium.reserve(line.len())?;
-    Ok(medium.append(line))
+    append_piece(line, medium, kept, None)
 }
 
 /// Adds a record behind the bytes of a medium, and in the same piece, with one call of the medium,
@@ -162,9 +160,7 @@ pub fn append_restart<M: Medium>(
     ensures foretold { OnErr result (M.foretold medium.new ≡ M.foretold medium.old) }
     ensures line { IfOk result (λ added. line.new.items ≡ text (Restart epoch)) }
 {
-    put_record(line, &Record::Restart { epoch })?;
-    medium.reserve(line.len())?;
-    Ok(cut_and_append(medium, whole, present, line))
+    append_restart_piece(line, medium, whole, present, epoch, None)
 }
 
 /// Cuts the torn end of a medium, where it has one, and adds the record of a restart, and in the
@@ -198,9 +194,16 @@ pub fn append_restart_piece<M: Medium>(
     ensures failed { OnErr result (M.failed medium.new ≡ M.failed medium.old) }
     ensures foretold { OnErr result (M.foretold medium.new ≡ M.foretold medium.old) }
 {
-    put_piece(line, &Record::Restart { epoch }, due)?;
+    put_restart(line, epoch, due)?;
     medium.reserve(line.len())?;
     Ok(cut_and_append(medium, whole, present, line))
+}
+
+// Writes the text of a restart's record, and behind it that of the summary that is due.
+fn put_restart(line: &mut Vec<u8>, epoch: u32, due: Option<Summary>) -> Result<(), AllocError>
+    ensures { OnOk result (line.new.items ≡ flat_map text (with_due (Restart epoch) due)) }
+{
+    put_piece(line, &Record::Restart { epoch }, due)
 }
 
 /// Whether a record stands behind so many, and it is no restart: whether the record is there that
@@ -210,13 +213,19 @@ pub fn stands_behind(records: &[Record], place: usize) -> bool
 {
     match records.get(place) {
         None => false,
-        Some(Record::Restart { .. }) => false,
-        Some(
-            Record::Commit { .. }
-            | Record::Gift { .. }
-            | Record::Accept { .. }
-            | Record::Tighten { .. }
-            | Record::Summary(_),
-        ) => true,
+        Some(kept) => !is_restart(kept),
+    }
+}
+
+fn is_restart(kept: &Record) -> bool
+    ensures { result ≡ is_restart kept.now }
+{
+    match kept {
+        Record::Restart { .. } => true,
+        Record::Commit { .. }
+        | Record::Gift { .. }
+        | Record::Accept { .. }
+        | Record::Tighten { .. }
+        | Record::Summary(_) => false,
     }
 }

@@ -7,11 +7,9 @@ ghost use Rattle.kept_records.specs.declared.reading.LineFault.TheVariants.{NoMe
 ghost use Rattle.kept_records.specs.Reading.{number_within, change_of, kind_of, total_from, escrows_from, commit_from, gift_from, accept_from, cut_from, tighten_from, restart_from, record_of, Tells};
 
 use crate::record::{Escrows, Record};
-use crate::summary_reading::take_summary;
+use crate::summary_reading::{take_listed, take_listed_cut, take_summary};
 use crate::total::{Cut, Total};
-use field_bounds::{
-    Escrow, FieldNo, Kind, MAX_CHANGE, MAX_EPOCH, MAX_ESCROWS, MAX_NUMBER, MAX_TOTAL, SiteNo, TxnId,
-};
+use field_bounds::{Escrow, FieldNo, Kind, MAX_CHANGE, MAX_EPOCH, MAX_ESCROWS, MAX_NUMBER, TxnId};
 use line_words::{Words, read_number, read_signed};
 use std::alloc::{AllocFailed, Global};
 use std::mem;
@@ -20,7 +18,7 @@ use std::mem;
 pub(crate) const MAX_PLACE: u64 = u16::MAX as u64;
 
 /// Why a line isn't read.
-#[derive(Clone, Copy, Debug, PartialEq, Eq)]
+#[derive(Clone, Copy)]
 pub(crate) enum LineFault {
     NoRecord,
     NoMemory,
@@ -78,29 +76,14 @@ pub(crate) fn take_number(words: &mut Words, least: u64, most: u64) -> Option<u6
     number(words.next()?, least, most)
 }
 
-#[tactic(auto, unfolding(line_words::specs::Reading::word_at))]
-fn take_kind(words: &mut Words) -> Option<Kind>
-    ensures { Gives result words.new (word_at kind_of words.old) }
-{
-    kind(words.next()?)
-}
-
-#[tactic(auto, unfolding(crate::specs::Reading::total_from))]
+#[tactic(auto, using(crate::proofs::Listed::total_laws))]
 fn take_total(mut words: Words) -> Option<Total>
     ensures { result ≡ total_from words.entry }
 {
-    let other = take_number(&mut words, 0, MAX_PLACE)?;
-    let field = take_number(&mut words, 0, MAX_PLACE)?;
-    let kind = take_kind(&mut words)?;
-    let total = take_number(&mut words, 1, MAX_TOTAL)?;
+    let told = take_listed(&mut words)?;
     match words.next() {
         Some(_) => None,
-        None => Some(Total {
-            site: SiteNo(other as u16),
-            field: FieldNo(field as u16),
-            kind,
-            total,
-        }),
+        None => Some(told),
     }
 }
 
@@ -130,20 +113,14 @@ fn take_accept(words: Words) -> Option<Record>
     })
 }
 
-#[tactic(auto, unfolding(crate::specs::Reading::cut_from))]
+#[tactic(auto, using(crate::proofs::Listed::cut_laws))]
 fn take_cut(mut words: Words) -> Option<Cut>
     ensures { result ≡ cut_from words.entry }
 {
-    let field = take_number(&mut words, 0, MAX_PLACE)?;
-    let kind = take_kind(&mut words)?;
-    let total = take_number(&mut words, 1, MAX_CHANGE)?;
+    let told = take_listed_cut(&mut words)?;
     match words.next() {
         Some(_) => None,
-        None => Some(Cut {
-            field: FieldNo(field as u16),
-            kind,
-            total,
-        }),
+        None => Some(told),
     }
 }
 
@@ -209,8 +186,12 @@ fn take_commit(
 ) -> Result<Record, LineFault>
     ensures { Tells result (commit_from words.entry) }
 {
-    let epoch = take_number(&mut words, 0, u64::from(MAX_EPOCH)).ok_or(LineFault::NoRecord)?;
-    let number = take_number(&mut words, 1, u64::from(MAX_NUMBER)).ok_or(LineFault::NoRecord)?;
+    let Some(epoch) = take_number(&mut words, 0, u64::from(MAX_EPOCH)) else {
+        return Err(LineFault::NoRecord);
+    };
+    let Some(number) = take_number(&mut words, 1, u64::from(MAX_NUMBER)) else {
+        return Err(LineFault::NoRecord);
+    };
     let escrows = take_escrows(alloc, spare, words)?;
     let count = escrows.as_slice().len();
     if 1 <= count && count <= MAX_ESCROWS {

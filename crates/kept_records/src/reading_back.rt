@@ -1,8 +1,7 @@
 //! Reading what a site needs of its log for a restart, from its end.
 
-ghost use Rattle.std.specs.Prelude.{◌≡◌, ◌≤◌, ◌<◌, ◌⊎◌, List, ℕ, IfOk, IfErr, IfSome, None, length, drop};
+ghost use Rattle.std.specs.Prelude.{◌≡◌, ◌≤◌, ◌<◌, ◌⊎◌, List, ℕ, IfOk, IfSome, None, length, drop};
 ghost use Rattle.std.specs.List.{flat_map};
-ghost use Rattle.kept_records.specs.declared.medium.MediumFault.TheVariants.{NoMemory};
 ghost use Rattle.kept_records.specs.Text.{text};
 ghost use Rattle.kept_records.specs.Logs.{AreAll};
 ghost use Rattle.kept_records.specs.Keeping.{IsKept};
@@ -17,7 +16,7 @@ use crate::medium::{End, Medium, MediumFault};
 use crate::record::Record;
 use crate::summary::Summary;
 use memchr::memrchr;
-use std::alloc::Global;
+use std::alloc::{AllocError, Global};
 use std::marker::Model;
 
 /// How many bytes are read at first. Where they don't tell all, twice as many are read.
@@ -66,16 +65,15 @@ pub struct ReadBack {
 }
 
 /// The records of bytes that are a log, and the length of their texts.
-fn read_log_bytes(alloc: Global, bytes: &[u8]) -> Result<(Vec<Record>, usize), MediumFault>
+fn read_log_bytes(alloc: Global, bytes: &[u8]) -> Result<(Vec<Record>, usize), AllocError>
     requires log { IsKept bytes.now }
     ensures only { IfOk result (λ read. AreAll bytes.now read.0.items read.1) }
     ensures whole { IfOk result (λ read. read.1 ≡ length (flat_map text read.0.items)) }
     ensures within { IfOk result (λ read. read.1 ≤ length bytes.now) }
-    ensures fault { IfErr result (λ fault. fault ≡ NoMemory) }
 {
     match read_records(alloc, bytes) {
         Ok(read) => Ok(read),
-        Err(RecordFault::NoMemory) => Err(MediumFault::NoMemory),
+        Err(RecordFault::NoMemory) => Err(AllocError),
         Err(RecordFault::Line(_)) => unreachable!(),
     }
 }
@@ -112,27 +110,23 @@ fn start_in(bytes: &[u8], from: usize) -> Option<usize>
 }
 
 /// The summary that the bytes of a log start with, where they do, and how long its line is.
-fn first_summary(alloc: Global, bytes: &[u8]) -> Result<(Option<Summary>, usize), MediumFault>
+fn first_summary(alloc: Global, bytes: &[u8]) -> Result<(Option<Summary>, usize), AllocError>
     requires log { IsKept bytes.now }
     ensures handed { IfOk result (λ read. HandsSummary bytes.now read.0 (drop read.1 bytes.now)) }
     ensures within { IfOk result (λ read. read.1 ≤ length bytes.now) }
-    ensures fault { IfErr result (λ fault. fault ≡ NoMemory) }
 {
     let mut cursor = Cursor::new(alloc, bytes);
-    match cursor.next_summary(alloc) {
-        Ok(summary) => Ok((summary, bytes.len() - cursor.left())),
-        Err(_) => Err(MediumFault::NoMemory),
-    }
+    let summary = cursor.next_summary(alloc)?;
+    Ok((summary, bytes.len() - cursor.left()))
 }
 
 /// What the end of a log tells, where it reaches back to the place and to a whole summary, or is
 /// all of the log.
-fn take_end(alloc: Global, end: End, place: usize) -> Result<Option<ReadBack>, MediumFault>
+fn take_end(alloc: Global, end: End, place: usize) -> Result<Option<ReadBack>, AllocError>
     requires ends { (bytes : List ℕ) × (most : ℕ) × EndsAt bytes most place end }
     ensures reads { IfOk result (λ read. IfSome read (λ told. (bytes : List ℕ) (most : ℕ)
         → EndsAt bytes most place end → ReadsEnd bytes place told)) }
     ensures more { IfOk result (λ read. read ≡ None → length end.bytes.items < end.length) }
-    ensures fault { IfErr result (λ fault. fault ≡ NoMemory) }
 {
     let from = end.length - end.bytes.len();
     if place < from {
@@ -143,14 +137,17 @@ fn take_end(alloc: Global, end: End, place: usize) -> Result<Option<ReadBack>, M
     };
     let (summary, size) = first_summary(alloc, &end.bytes[start..])?;
     let (behind, length) = read_log_bytes(alloc, &end.bytes[place - from..])?;
+    let whole = place + length;
+    let lines_start = start + size;
+    let lines = LastLines {
+        held: end.bytes,
+        start: lines_start,
+    };
     Ok(Some(ReadBack {
         summary,
-        lines: LastLines {
-            held: end.bytes,
-            start: start + size,
-        },
+        lines,
         behind,
-        whole: place + length,
+        whole,
         present: end.length,
     }))
 }
@@ -182,10 +179,11 @@ pub fn read_back<M: Medium>(
     let mut most = FIRST_READ;
     loop {
         let end = medium.read_end(alloc, most)?;
-        if let Some(read) = take_end(alloc, end, place)? {
-            return Ok(read);
+        match take_end(alloc, end, place) {
+            Ok(Some(read)) => return Ok(read),
+            Ok(None) => most = most.saturating_mul(2),
+            Err(AllocError) => return Err(MediumFault::NoMemory),
         }
-        most = most.saturating_mul(2);
     }
 }
 

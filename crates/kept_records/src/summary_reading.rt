@@ -1,6 +1,6 @@
 //! Reading a summary.
 
-ghost use Rattle.std.specs.Prelude.{◌≡◌, ◌∷◌, []};
+ghost use Rattle.std.specs.Prelude.{◌≡◌, ◌∷◌, ◌&&◌, []};
 ghost use Rattle.line_words.specs.Reading.{Gives};
 ghost use Rattle.kept_records.specs.Reading.{total_from, cut_from, cut_at, rights_from, listed_at, groups_from, summary_from, word_is, is_next_accept, is_next_gift, TellsPrefix, Tells};
 ghost use Rattle.kept_records.specs.Summary.{kind_number, is_before, is_cut_before, rises, cuts_rise};
@@ -90,7 +90,7 @@ fn total_listed(other: &[u8], field: &[u8], of_kind: &[u8], total: &[u8]) -> Opt
 
 // The next total of a group.
 #[tactic(auto, unfolding(crate::specs::Reading::listed_at))]
-fn take_listed(words: &mut Words) -> Option<Total>
+pub(crate) fn take_listed(words: &mut Words) -> Option<Total>
     ensures { Gives result words.new (listed_at words.old) }
 {
     let other = words.next()?;
@@ -126,7 +126,7 @@ fn listed_cut(field: &[u8], of_kind: &[u8], total: &[u8]) -> Option<Cut>
 
 // The next total given up.
 #[tactic(auto, unfolding(crate::specs::Reading::cut_at))]
-fn take_listed_cut(words: &mut Words) -> Option<Cut>
+pub(crate) fn take_listed_cut(words: &mut Words) -> Option<Cut>
     ensures { Gives result words.new (cut_at words.old) }
 {
     let field = words.next()?;
@@ -241,16 +241,26 @@ fn rise(totals: &[Total]) -> bool
     true
 }
 
+// Whether each group rises strictly.
+fn all_rise(groups: &Groups) -> bool
+    ensures { result ≡ (rises groups.now.0 && rises groups.now.1 && cuts_rise groups.now.2) }
+{
+    rise(&groups.gifts) && rise(&groups.accepts) && cuts_rise(&groups.tightenings)
+}
+
 #[tactic(auto, unfolding(crate::specs::Reading::summary_from))]
 pub(crate) fn take_summary(alloc: Global, mut words: Words) -> Result<Record, LineFault>
     ensures { Tells result (summary_from words.entry) }
 {
-    let epoch = take_number(&mut words, 0, u64::from(MAX_EPOCH)).ok_or(LineFault::NoRecord)?;
-    let count = take_number(&mut words, 1, MAX_ROWS).ok_or(LineFault::NoRecord)?;
+    let Some(epoch) = take_number(&mut words, 0, u64::from(MAX_EPOCH)) else {
+        return Err(LineFault::NoRecord);
+    };
+    let Some(count) = take_number(&mut words, 1, MAX_ROWS) else {
+        return Err(LineFault::NoRecord);
+    };
     let rights = take_rights(alloc, &mut words, count)?;
     let groups = take_groups(alloc, words)?;
-    let rise = rise(&groups.gifts) && rise(&groups.accepts) && cuts_rise(&groups.tightenings);
-    if !rise {
+    if !all_rise(&groups) {
         return Err(LineFault::NoRecord);
     }
     Ok(Record::Summary(Summary::new(

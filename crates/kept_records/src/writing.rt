@@ -75,9 +75,7 @@ fn push_total(
         ++ words_spaced (total_words other field kind total)) }
 {
     push_number(line, u64::from(other.0))?;
-    push_number(line, u64::from(field.0))?;
-    push_word(line, kind_letter(kind))?;
-    push_number(line, total)
+    push_cut(line, field, kind, total)
 }
 
 // Adds the rights of each field, a space before each.

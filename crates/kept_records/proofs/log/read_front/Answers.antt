@@ -14,7 +14,7 @@ pub returns-in-Err-NoRecord-clause-front : goal.returns-in-Err-NoRecord-clause-f
 returns-in-Err-NoRecord-clause-front c =
     let rest = c.loop-end.rest.now in
     let end = c.in-Some.end in
-    let cut = found 10 rest end (cc) in
+    let cut = found 10 rest end (sym c.in-Some.ensures) in
     let none : record_of (words (take end rest)) ≡ None = rw c.in-Err-NoRecord.field-0-is at c.in-Err-NoRecord.ensures in
     let bad : IsBadLine c.args.bytes.now (c.len.result + 1) = record {
       before = c.loop-end.records.items;
@@ -34,7 +34,7 @@ loop-end-preserved c =
     let end = c.in-Some.end in
     let rs = c.loop-end.records.items in
     let r = c.in-Ok.kept in
-    let cut = found 10 rest end (cc) in
+    let cut = found 10 rest end (sym c.in-Some.ensures) in
     let read = line_takes (take end rest) r c.in-Ok.ensures in
     let more : c.push.new.self.items ≡ rs ++ r ∷ [] = c.in_ok-push.ensures.items in
     record {

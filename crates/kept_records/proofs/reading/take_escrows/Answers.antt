@@ -8,7 +8,7 @@ use Rattle.kept_records.proofs.reading.take_escrows.Goals as goal
 
 pub returns-in_default-number : goal.returns-in_default-number
 returns-in_default-number c = ends_field c.loop-first.escrows.items c.loop-first.words c.next.new.self c.in-Some.first.now _
-    c.loop-first.invariant c.in-Some.ensures.first (cc)
+    c.loop-first.invariant c.in-Some.ensures.first (sym c.in_default-number.ensures.value)
 
 pub returns-in_default-next : goal.returns-in_default-next
 returns-in_default-next c = ends_word c.loop-first.escrows.items c.loop-first.words c.next.new.self c.in-Some.first.now _
@@ -17,7 +17,7 @@ returns-in_default-next c = ends_word c.loop-first.escrows.items c.loop-first.wo
 pub returns-in_default-change : goal.returns-in_default-change
 returns-in_default-change c = ends_change c.loop-first.escrows.items c.loop-first.words c.next.new.self c.in-Some.first.now
     c.in-Some-next.second.now c.next-in-Some.new.self c.in-Some-number.field _ c.loop-first.invariant c.in-Some.ensures.first
-    c.in-Some-next.ensures.first (cc) (cc)
+    c.in-Some-next.ensures.first (sym c.in-Some-number.ensures.value) (sym c.in_default-change.ensures)
 
 pub loop-first-preserved : goal.loop-first-preserved
 loop-first-preserved c =
@@ -29,7 +29,8 @@ loop-first-preserved c =
     ap (λ (l : List Escrow). with_front l (escrows_from rest)) c.in_ok-push.ensures.items
     ∙ ap (λ (y : ℤ). with_front (c.loop-first.escrows.items ++ pair field y ∷ []) (escrows_from rest)) back
     ∙ step c.loop-first.escrows.items c.loop-first.words c.next.new.self c.in-Some.first.now c.in-Some-next.second.now rest field z _
-    c.loop-first.invariant c.in-Some.ensures.first c.in-Some-next.ensures.first (cc) (cc)
+    c.loop-first.invariant c.in-Some.ensures.first c.in-Some-next.ensures.first (sym c.in-Some-number.ensures.value)
+    (sym c.in-Some-change.ensures)
 
 pub returns : goal.returns
 returns c = ends_all c.loop-first.escrows.items c.loop-first.words _ c.loop-first.invariant c.in_default.ensures.first

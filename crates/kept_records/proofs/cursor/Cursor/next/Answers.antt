@@ -17,7 +17,7 @@ pub unreachable-requires : goal.unreachable-requires
 unreachable-requires c =
     let bytes = c.self.inside.left.now in
     let end = c.in-Some.end in
-    let cut = found 10 bytes end (cc) in
+    let cut = found 10 bytes end (sym c.in-Some.ensures) in
     let none : record_of (words (take end bytes)) ≡ None = rw c.in-Err-NoRecord.field-0-is at c.in-Err-NoRecord.ensures in
     let bad : IsBadLine bytes 1 = record {
       before = [];
@@ -45,18 +45,18 @@ handed bytes left end kept same cut is =
 
 pub returns-in-Ok-clause-handed : goal.returns-in-Ok-clause-handed
 returns-in-Ok-clause-handed c = handed c.args.self.now c.self.inside.left.now c.in-Some.end c.in-Ok.kept c.self.view_is
-    (found 10 c.self.inside.left.now c.in-Some.end (cc)) c.in-Ok.ensures
+    (found 10 c.self.inside.left.now c.in-Some.end (sym c.in-Some.ensures)) c.in-Ok.ensures
 
 pub returns-in-Ok-clause-log : goal.returns-in-Ok-clause-log
 returns-in-Ok-clause-log c =
     let left = c.self.inside.left.now in
     let end = c.in-Some.end in
-    let out = handed c.args.self.now left end c.in-Ok.kept c.self.view_is (found 10 left end (cc)) c.in-Ok.ensures in
+    let out = handed c.args.self.now left end c.in-Ok.kept c.self.view_is (found 10 left end (sym c.in-Some.ensures)) c.in-Ok.ensures in
     kept_behind c.args.self.now (take (length left - (end + 1)) (drop (end + 1) left)) c.in-Ok.kept c.requires.log out.0 out.1
 
 pub returns-in-Ok-clause-shorter : goal.returns-in-Ok-clause-shorter
 returns-in-Ok-clause-shorter c =
     let left = c.self.inside.left.now in
     let end = c.in-Some.end in
-    let out = handed c.args.self.now left end c.in-Ok.kept c.self.view_is (found 10 left end (cc)) c.in-Ok.ensures in
+    let out = handed c.args.self.now left end c.in-Ok.kept c.self.view_is (found 10 left end (sym c.in-Some.ensures)) c.in-Ok.ensures in
     fewer c.args.self.now (take (length left - (end + 1)) (drop (end + 1) left)) c.in-Ok.kept out.0
