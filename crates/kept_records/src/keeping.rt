@@ -217,6 +217,7 @@ pub fn stands_behind(records: &[Record], place: usize) -> bool
     }
 }
 
+// Whether a record is that of a restart.
 fn is_restart(kept: &Record) -> bool
     ensures { result ≡ is_restart kept.now }
 {

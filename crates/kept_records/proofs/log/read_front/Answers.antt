@@ -1,5 +1,5 @@
 use Rattle.std.proofs.Common.{◌≡◌, ◌+◌, ◌-◌, ℕ, List, [], ◌∷◌, ◌++◌, length, take, drop, None, arith, sym, ap, ◌∙◌, subst, refl}
-use Rattle.std.proofs.lemmas.List.{take_rest, length-take}
+use Rattle.std.proofs.lemmas.List.{take_rest, length-take, length-append}
 use Rattle.std.specs.List.{flat_map, AllByRecursion}
 use Rattle.kept_records.specs.declared.record.Record.{Record}
 use Rattle.line_words.specs.Words.{words}
@@ -54,3 +54,38 @@ returns-clause-front c =
     are_read bytes now.records.items now.rest.now now.length now.invariant.parts now.invariant.size now.invariant.each
     (missing 10 now.rest.now (sym c.in_default.ensures)) in
     (reads, only_log bytes now.records.items now.length reads)
+
+pub returns-clause-length : goal.returns-clause-length
+returns-clause-length c = c.loop-end.invariant.size
+
+pub returns-in-Err-NoRecord-clause-length : goal.returns-in-Err-NoRecord-clause-length
+returns-in-Err-NoRecord-clause-length c = c.loop-end.invariant.size
+
+pub slice_bounds-rest-start : goal.slice_bounds-rest-start
+slice_bounds-rest-start c =
+    let cut = found 10 c.loop-end.rest.now c.in-Some.end (sym c.in-Some.ensures) in
+    omega (arith, cut.within)
+
+pub overflow_add-length : goal.overflow_add-length
+overflow_add-length c =
+    let rest = c.loop-end.rest.now in
+    let texts = flat_map text c.loop-end.records.items in
+    let cut = found 10 rest c.in-Some.end (sym c.in-Some.ensures) in
+    let whole : length c.args.bytes.now ≡ length texts + length rest = ap length c.loop-end.invariant.parts ∙ length-append texts rest in
+    omega (arith, whole, cut.within, c.loop-end.invariant.size)
+
+pub overflow_add-length-in-Some : goal.overflow_add-length-in-Some
+overflow_add-length-in-Some c =
+    let rest = c.loop-end.rest.now in
+    let texts = flat_map text c.loop-end.records.items in
+    let cut = found 10 rest c.in-Some.end (sym c.in-Some.ensures) in
+    let whole : length c.args.bytes.now ≡ length texts + length rest = ap length c.loop-end.invariant.parts ∙ length-append texts rest in
+    omega (arith, whole, cut.within, c.loop-end.invariant.size)
+
+pub overflow_add-rest : goal.overflow_add-rest
+overflow_add-rest c =
+    let rest = c.loop-end.rest.now in
+    let texts = flat_map text c.loop-end.records.items in
+    let cut = found 10 rest c.in-Some.end (sym c.in-Some.ensures) in
+    let whole : length c.args.bytes.now ≡ length texts + length rest = ap length c.loop-end.invariant.parts ∙ length-append texts rest in
+    omega (arith, whole, cut.within, c.loop-end.invariant.size)

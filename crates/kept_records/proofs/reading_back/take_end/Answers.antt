@@ -125,3 +125,20 @@ invariant_of-lines c =
     let in_window = inside window c.in-Some.start c.in_ok-summary.size (rw (sym same) at c.in-Some.ensures.within)
     c.in_ok-summary.ensures.within in
     omega (arith, in_window, long)
+
+pub overflow_sub-from : goal.overflow_sub-from
+overflow_sub-from c =
+    let held = c.requires.ends in
+    omega (
+      arith,
+      c.len.ensures,
+      c.args.end.bytes.ok,
+      ap length held.2.window,
+      length-drop (length held.0 - held.1) held.0,
+      held.2.size,
+    )
+
+pub slice_bounds-first_summary-start : goal.slice_bounds-first_summary-start
+slice_bounds-first_summary-start c =
+    let same : c.deref-2.result.now ≡ c.deref.result.now = c.deref-2.ensures.value ∙ sym c.deref.ensures.value in
+    rw (sym same) at c.in-Some.ensures.within

@@ -55,7 +55,7 @@ loop-letter-preserved-in-Continue-branch-2 c =
     let l = c.in-Some.letter.now in
     let rest = c.take_listed.new.words in
     let isnt : word_is 116 l ≡ false = sym c.is_letter.ensures ∙ c.if-is_letter.false in
-    let is : is_next_accept l b ≡ true = cc (c.is_next_accept.ensures, c.if-is_next_accept.true) in
+    let is : is_next_accept l b ≡ true = rw c.deref.ensures.value at (sym c.is_next_accept.ensures ∙ c.if-is_next_accept.true) in
     let so_far = ap (λ (ws : List (List ℕ)). groups_from g a b ws) (sym c.in-Some.ensures.first) ∙ c.loop-letter.invariant in
     ap (λ (x : List Total). groups_from g x b rest) c.in_ok-push-2.ensures.items
     ∙ then_accept g a b l c.next.new.self c.in-Some-take_listed.told rest _ isnt c.in-Some-take_listed.ensures so_far is
@@ -73,7 +73,7 @@ loop-letter-preserved c =
     let l = c.in-Some.letter.now in
     let rest = c.take_listed.new.words in
     let isnt : word_is 116 l ≡ false = sym c.is_letter.ensures ∙ c.if-is_letter.false in
-    let off : is_next_accept l b ≡ false = cc (c.is_next_accept.ensures, c.if-is_next_accept.false) in
+    let off : is_next_accept l b ≡ false = rw c.deref.ensures.value at (sym c.is_next_accept.ensures ∙ c.if-is_next_accept.false) in
     let is : is_next_gift l a b ≡ true = cc (c.is_next_gift.ensures, c.if-is_next_gift.true) in
     let so_far = ap (λ (ws : List (List ℕ)). groups_from g a b ws) (sym c.in-Some.ensures.first) ∙ c.loop-letter.invariant in
     ap (λ (x : List Total). groups_from x a b rest) c.in_ok-push-3.ensures.items
@@ -86,7 +86,7 @@ returns-else-is_next_gift c =
     let b = c.loop-letter.tightenings.items in
     let l = c.in-Some.letter.now in
     let isnt : word_is 116 l ≡ false = sym c.is_letter.ensures ∙ c.if-is_letter.false in
-    let off : is_next_accept l b ≡ false = cc (c.is_next_accept.ensures, c.if-is_next_accept.false) in
+    let off : is_next_accept l b ≡ false = rw c.deref.ensures.value at (sym c.is_next_accept.ensures ∙ c.if-is_next_accept.false) in
     let no_gift : is_next_gift l a b ≡ false = cc (c.is_next_gift.ensures, c.if-is_next_gift.false) in
     let so_far = ap (λ (ws : List (List ℕ)). groups_from g a b ws) (sym c.in-Some.ensures.first) ∙ c.loop-letter.invariant in
     then_neither g a b l c.next.new.self c.in-Some-take_listed.told c.take_listed.new.words _ isnt c.in-Some-take_listed.ensures so_far off
