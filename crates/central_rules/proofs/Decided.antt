@@ -1,6 +1,6 @@
 -- What each test of the judge decides.
-use Rattle.std.proofs.Common.{◌≡◌, ℕ, ◌+◌, ◌<◌, ◌≤◌, Bool, true, false, not, ◌&&◌, ◌||◌, cond, List, [], ◌∷◌, length, refl, ap, arith, eqb, ltb, leb, T, Option, Some, None}
-use Rattle.std.proofs.lemmas.Bool.{eqb-true, eq-eqb, leb-true, leb-false, le-leb, true≢false}
+use Rattle.std.proofs.Common.{◌≡◌, ℕ, ◌+◌, ◌<◌, ◌≤◌, Bool, true, false, not, ◌&&◌, ◌||◌, cond, List, [], ◌∷◌, length, refl, ap, subst, arith, eqb, ltb, leb, T, Option, Some, None}
+use Rattle.std.proofs.lemmas.Bool.{eqb-true, eq-eqb, leb-true, leb-false, le-leb, true≢false, false≢true}
 use Rattle.std.proofs.lemmas.Bool.Decides.{Decides-and, Decides-or, Decides-like, Decides-not, Decides-eqb, Decides-int_eq, Decides-ltb}
 use Rattle.std.specs.Bool.{Decides}
 use Rattle.std.specs.Int.Signed.{le_z}
@@ -46,23 +46,32 @@ t_to false h = absurd h
 pub le_z_is : (a b : ℤ) → Decides (le_z a b) (a ≤ℤ b)
 le_z_is a b = (λ h. record { le = t_from (le_z a b) h }, λ h. t_to (le_z a b) h.le)
 
+refusal_refl : (a : Refusal) → same_refusal a a ≡ true
+refusal_refl (Short n) = eq-eqb n n refl
+refusal_refl (LedgerFull n) = eq-eqb n n refl
+refusal_refl (Forged n) = eq-eqb n n refl
+refusal_refl a = refl
+
+refusal_same : (a b : Refusal) → same_refusal a b ≡ true → a ≡ b
+refusal_same Down Down h = refl
+refusal_same NoSite NoSite h = refl
+refusal_same NoField NoField h = refl
+refusal_same NoTransaction NoTransaction h = refl
+refusal_same Zero Zero h = refl
+refusal_same TooLarge TooLarge h = refl
+refusal_same (Short a) (Short b) h = ap Short (eqb-true a b h)
+refusal_same SelfGift SelfGift h = refl
+refusal_same (LedgerFull a) (LedgerFull b) h = ap LedgerFull (eqb-true a b h)
+refusal_same NotYours NotYours h = refl
+refusal_same (Forged a) (Forged b) h = ap Forged (eqb-true a b h)
+refusal_same TooManyOpen TooManyOpen h = refl
+refusal_same TooManyEscrows TooManyEscrows h = refl
+refusal_same NumbersFull NumbersFull h = refl
+refusal_same NothingGiven NothingGiven h = refl
+refusal_same a b h = absurd (false≢true h)
+
 pub refusal_Decides : (a b : Refusal) → Decides (same_refusal a b) (a ≡ b)
-refusal_Decides Down Down = always refl
-refusal_Decides NoSite NoSite = always refl
-refusal_Decides NoField NoField = always refl
-refusal_Decides NoTransaction NoTransaction = always refl
-refusal_Decides Zero Zero = always refl
-refusal_Decides TooLarge TooLarge = always refl
-refusal_Decides (Short a) (Short b) = Decides-like (eqb a b) (λ e. ap Short e) (λ e. cc) (Decides-eqb a b)
-refusal_Decides SelfGift SelfGift = always refl
-refusal_Decides (LedgerFull a) (LedgerFull b) = Decides-like (eqb a b) (λ e. ap LedgerFull e) (λ e. cc) (Decides-eqb a b)
-refusal_Decides NotYours NotYours = always refl
-refusal_Decides (Forged a) (Forged b) = Decides-like (eqb a b) (λ e. ap Forged e) (λ e. cc) (Decides-eqb a b)
-refusal_Decides TooManyOpen TooManyOpen = always refl
-refusal_Decides TooManyEscrows TooManyEscrows = always refl
-refusal_Decides NumbersFull NumbersFull = always refl
-refusal_Decides NothingGiven NothingGiven = always refl
-refusal_Decides a b = (λ h. cc, λ h. cc)
+refusal_Decides a b = (refusal_same a b, λ e. subst (λ (x : Refusal). same_refusal a x ≡ true) e (refusal_refl a))
 
 last_Decides : (a b : Last) → Decides (same_found a b) (a ≡ b)
 last_Decides Nothing Nothing = always refl
@@ -82,31 +91,48 @@ kind_Decides Lower Lower = always refl
 kind_Decides Raise Raise = always refl
 kind_Decides a b = (λ h. cc, λ h. cc)
 
+abbrev numbers_are : (a x b y : ℕ) → Decides (eqb a b && eqb x y) ((a ≡ b) × (x ≡ y))
+numbers_are a x b y = Decides-and (eqb a b) (eqb x y) (Decides-eqb a b) (Decides-eqb x y)
+
+ends_are : (a x b y : ℤ) → Decides (same_reply (Between a x) (Between b y)) ((a ≡ b) × (x ≡ y))
+ends_are a x b y = Decides-and _ _ (Decides-int_eq a b) (Decides-int_eq x y)
+
+restart_is_same : (a : ℕ) (x : Last) (b : ℕ) (y : Last) → Decides (eqb a b && same_found x y) ((a ≡ b) × (x ≡ y))
+restart_is_same a x b y = Decides-and (eqb a b) (same_found x y) (Decides-eqb a b) (last_Decides x y)
+
+reply_refl : (a : Reply) → same_reply a a ≡ true
+reply_refl (Begun a) = (txn_Decides a a).1 refl
+reply_refl (Given n) = eq-eqb n n refl
+reply_refl (Stated n) = eq-eqb n n refl
+reply_refl (Spared a x) = (numbers_are a x a x).1 (refl, refl)
+reply_refl (Tightened n) = eq-eqb n n refl
+reply_refl (Accepted n) = eq-eqb n n refl
+reply_refl (Between a x) = (ends_are a x a x).1 (refl, refl)
+reply_refl (Shares a x) = (numbers_are a x a x).1 (refl, refl)
+reply_refl (Restarted a x) = (restart_is_same a x a x).1 (refl, refl)
+reply_refl (Refused a) = refusal_refl a
+reply_refl a = refl
+
+reply_same : (a b : Reply) → same_reply a b ≡ true → a ≡ b
+reply_same (Begun a) (Begun b) h = ap Begun (same_txn-true a b h)
+reply_same Granted Granted h = refl
+reply_same Committed Committed h = refl
+reply_same Aborted Aborted h = refl
+reply_same (Given a) (Given b) h = ap Given (eqb-true a b h)
+reply_same (Stated a) (Stated b) h = ap Stated (eqb-true a b h)
+reply_same (Spared a x) (Spared b y) h = let p = (numbers_are a x b y).0 h in cc (p.0, p.1)
+reply_same (Tightened a) (Tightened b) h = ap Tightened (eqb-true a b h)
+reply_same (Accepted a) (Accepted b) h = ap Accepted (eqb-true a b h)
+reply_same (Between a x) (Between b y) h = let p = (ends_are a x b y).0 h in cc (p.0, p.1)
+reply_same (Shares a x) (Shares b y) h = let p = (numbers_are a x b y).0 h in cc (p.0, p.1)
+reply_same (Restarted a x) (Restarted b y) h = let p = (restart_is_same a x b y).0 h in cc (p.0, p.1)
+reply_same Unsure Unsure h = refl
+reply_same StillDown StillDown h = refl
+reply_same (Refused a) (Refused b) h = ap Refused (refusal_same a b h)
+reply_same a b h = absurd (false≢true h)
+
 pub reply_Decides : (a b : Reply) → Decides (same_reply a b) (a ≡ b)
-reply_Decides (Begun a) (Begun b) = Decides-like (same_txn a b) (λ e. ap Begun e) (λ e. cc) (txn_Decides a b)
-reply_Decides Granted Granted = always refl
-reply_Decides Committed Committed = always refl
-reply_Decides Aborted Aborted = always refl
-reply_Decides (Given a) (Given b) = Decides-like (eqb a b) (λ e. ap Given e) (λ e. cc) (Decides-eqb a b)
-reply_Decides (Stated a) (Stated b) = Decides-like (eqb a b) (λ e. ap Stated e) (λ e. cc) (Decides-eqb a b)
-reply_Decides (Spared a x) (Spared b y) =
-    Decides-like (eqb a b && eqb x y) (λ (h : (a ≡ b) × (x ≡ y)). cc (h.0, h.1)) (λ e. (cc, cc))
-    (Decides-and (eqb a b) (eqb x y) (Decides-eqb a b) (Decides-eqb x y))
-reply_Decides (Tightened a) (Tightened b) = Decides-like (eqb a b) (λ e. ap Tightened e) (λ e. cc) (Decides-eqb a b)
-reply_Decides (Accepted a) (Accepted b) = Decides-like (eqb a b) (λ e. ap Accepted e) (λ e. cc) (Decides-eqb a b)
-reply_Decides (Between a x) (Between b y) =
-    Decides-like (same_reply (Between a x) (Between b y)) (λ (h : (a ≡ b) × (x ≡ y)). cc (h.0, h.1)) (λ e. (cc, cc))
-    (Decides-and _ _ (Decides-int_eq a b) (Decides-int_eq x y))
-reply_Decides (Shares a x) (Shares b y) =
-    Decides-like (eqb a b && eqb x y) (λ (h : (a ≡ b) × (x ≡ y)). cc (h.0, h.1)) (λ e. (cc, cc))
-    (Decides-and (eqb a b) (eqb x y) (Decides-eqb a b) (Decides-eqb x y))
-reply_Decides (Restarted a x) (Restarted b y) =
-    Decides-like (eqb a b && same_found x y) (λ (h : (a ≡ b) × (x ≡ y)). cc (h.0, h.1)) (λ e. (cc, cc))
-    (Decides-and (eqb a b) (same_found x y) (Decides-eqb a b) (last_Decides x y))
-reply_Decides Unsure Unsure = always refl
-reply_Decides StillDown StillDown = always refl
-reply_Decides (Refused a) (Refused b) = Decides-like (same_refusal a b) (λ e. ap Refused e) (λ e. cc) (refusal_Decides a b)
-reply_Decides a b = (λ h. cc, λ h. cc)
+reply_Decides a b = (reply_same a b, λ e. subst (λ (x : Reply). same_reply a x ≡ true) e (reply_refl a))
 
 -- ---- the reply that is owed
 

@@ -3,3 +3,4 @@ pub mod Verdicts
 pub mod Fronts
 pub mod Across
 pub mod Counts
+pub mod Rungs

@@ -1,11 +1,13 @@
 //! The ladder of refusals over what is told of a site, and whether a reply is owed there.
 
-ghost use Rattle.std.specs.Prelude.{◌≡◌, ◌<◌, ◌≤◌, ◌&&◌, ◌==◌, nat_lt, length, is_some, IfSome};
+ghost use Rattle.std.specs.Prelude.{◌≡◌, ◌<◌, ◌≤◌, ◌&&◌, ◌==◌, ◌+◌, ◌∷◌, [], true, false, nat_lt, nat_le, length, is_some, IfSome};
+ghost use Rattle.field_bounds.specs.declared.entry.Reply.TheVariants.{Granted, Given, Stated, Spared, Tightened, Accepted};
+ghost use Rattle.field_bounds.specs.declared.entry.Refusal.TheVariants.{TooManyEscrows};
 ghost use Rattle.field_bounds.specs.declared.entry.Command.TheVariants.{Begin, Escrow, Commit, Abort, Give, Restate, Spare, Tighten, Accept, Read, Share, Restart};
 ghost use Rattle.field_bounds.specs.Parts.{field_at};
-ghost use Rattle.field_bounds.specs.Owed.{Place, is_up, epoch_of, count_since, is_begun_reply, is_still_down, is_unsure, count_open, count_escrows, free, own_rights_at, cut_so_far, guarded_rights, told_so_far, spare_of, gain_of, room};
+ghost use Rattle.field_bounds.specs.Owed.{Place, is_up, epoch_of, count_since, is_begun_reply, is_still_down, is_unsure, count_open, count_escrows, free, own_rights_at, cut_so_far, guarded_rights, told_so_far, spare_of, gain_of, room, first, when, max_escrows, test_down, test_no_site, test_no_field, test_zero, test_too_large, test_short, test_no_share, test_self_gift, test_ledger_full, test_not_yours, test_forged, test_nothing_given};
 ghost use Rattle.central_rules.specs.Ladder.{is_open_at};
-ghost use Rattle.central_rules.specs.Replies.{reply_test};
+ghost use Rattle.central_rules.specs.Replies.{answer_test, reply_test};
 
 use crate::front::{Bounds, bounds_of, spared_amount};
 use crate::same::{
@@ -16,7 +18,7 @@ use crate::same::{
 use crate::site_counts::SiteCounts;
 use field_bounds::{
     Command, FieldNo, Kind, Last, MAX_CHANGE, MAX_EPOCH, MAX_ESCROWS, MAX_NUMBER, MAX_OPEN,
-    MAX_TOTAL, Refusal, Reply, Schema, SiteNo, Statement, TxnId, by_command,
+    MAX_TOTAL, Refusal, Reply, Schema, SiteNo, Statement, TxnId, by_command, refuse_first,
 };
 
 /// What is told of one site, where it stands after some entries of its own: what the ladder of
@@ -150,6 +152,53 @@ fn room<P: AtPlace>(here: &P, field: FieldNo) -> u128
     u128::from(bounds.ceiling.abs_diff(bounds.floor)).saturating_sub(own)
 }
 
+/// The first refusal of a command on a field, before its amount is looked at.
+fn field_refusal<P: AtPlace>(here: &P, field: FieldNo) -> Option<Refusal>
+    ensures { (at : Place) → P.is_at here.now at →
+        result ≡ first (test_down at ∷ test_no_field at field ∷ []) }
+{
+    refuse_first! {
+        !is_up(here) => Refusal::Down,
+        !has(here, field) => Refusal::NoField,
+    }
+}
+
+/// The first refusal of a command that names a site and a field, before its amount is looked at.
+fn gift_refusal<P: AtPlace>(here: &P, to: SiteNo, field: FieldNo) -> Option<Refusal>
+    ensures { (at : Place) → P.is_at here.now at →
+        result ≡ first (test_down at ∷ test_no_site at to ∷ test_no_field at field ∷ []) }
+{
+    refuse_first! {
+        !is_up(here) => Refusal::Down,
+        !knows(here, to) => Refusal::NoSite,
+        !has(here, field) => Refusal::NoField,
+    }
+}
+
+/// The first refusal of a statement, before its total is looked at.
+fn statement_refusal<P: AtPlace>(here: &P, told: Statement) -> Option<Refusal>
+    ensures { (at : Place) → P.is_at here.now at →
+        result ≡ first (test_down at ∷ test_no_site at told.from ∷ test_no_site at told.to
+        ∷ test_no_field at told.field ∷ []) }
+{
+    refuse_first! {
+        !is_up(here) => Refusal::Down,
+        !knows(here, told.from) => Refusal::NoSite,
+        !knows(here, told.to) => Refusal::NoSite,
+        !has(here, told.field) => Refusal::NoField,
+    }
+}
+
+/// The refusal of an amount by its size, where it may be so large.
+fn amount_refusal(amount: u64, most: u64) -> Option<Refusal>
+    ensures { result ≡ first (test_zero amount ∷ test_too_large most amount ∷ []) }
+{
+    refuse_first! {
+        amount == 0 => Refusal::Zero,
+        amount > most => Refusal::TooLarge,
+    }
+}
+
 fn fits_begin<P: AtPlace>(here: &P, reply: Reply) -> bool
     ensures { (at : Place) → P.is_at here.now at → result ≡ reply_test at Begin reply }
 {
@@ -166,27 +215,20 @@ fn fits_begin<P: AtPlace>(here: &P, reply: Reply) -> bool
     is_begun(reply, site_counts.epoch, site_counts.begun + 1)
 }
 
-fn fits_escrow<P: AtPlace>(here: &P, txn: TxnId, field: FieldNo, change: i64, reply: Reply) -> bool
-    ensures { (at : Place) → P.is_at here.now at →
-        result ≡ reply_test at (Escrow txn field change) reply }
+/// Whether the reply is owed to an escrow of an open transaction with so many escrows, on a field
+/// of the schema, where the amount is neither zero nor too large.
+fn fits_grant<P: AtPlace>(
+    here: &P,
+    field: FieldNo,
+    kind: Kind,
+    amount: u64,
+    escrows: usize,
+    reply: Reply,
+) -> bool
+    ensures { (at : Place) → P.is_at here.now at → field.0 < length at.schema.fields → result
+        ≡ answer_test (first (test_short at field kind amount
+        ∷ when (nat_le max_escrows escrows) TooManyEscrows ∷ [])) Granted false reply }
 {
-    let kind = Kind::of(change);
-    let amount = change.unsigned_abs();
-    if !is_up(here) {
-        return is_refused(reply, Refusal::Down);
-    }
-    if !has(here, field) {
-        return is_refused(reply, Refusal::NoField);
-    }
-    let Some(escrows) = here.open_escrows(txn) else {
-        return is_refused(reply, Refusal::NoTransaction);
-    };
-    if amount == 0 {
-        return is_refused(reply, Refusal::Zero);
-    }
-    if amount > MAX_CHANGE {
-        return is_refused(reply, Refusal::TooLarge);
-    }
     let free = here.free(field, kind);
     if free < u128::from(amount) {
         return is_short(reply, free);
@@ -195,6 +237,23 @@ fn fits_escrow<P: AtPlace>(here: &P, txn: TxnId, field: FieldNo, change: i64, re
         return is_refused(reply, Refusal::TooManyEscrows);
     }
     is_granted(reply)
+}
+
+fn fits_escrow<P: AtPlace>(here: &P, txn: TxnId, field: FieldNo, change: i64, reply: Reply) -> bool
+    ensures { (at : Place) → P.is_at here.now at →
+        result ≡ reply_test at (Escrow txn field change) reply }
+{
+    let amount = change.unsigned_abs();
+    if let Some(refusal) = field_refusal(here, field) {
+        return is_refused(reply, refusal);
+    }
+    let Some(escrows) = here.open_escrows(txn) else {
+        return is_refused(reply, Refusal::NoTransaction);
+    };
+    if let Some(refusal) = amount_refusal(amount, MAX_CHANGE) {
+        return is_refused(reply, refusal);
+    }
+    fits_grant(here, field, Kind::of(change), amount, escrows, reply)
 }
 
 fn fits_commit<P: AtPlace>(here: &P, txn: TxnId, reply: Reply) -> bool
@@ -221,7 +280,9 @@ fn fits_abort<P: AtPlace>(here: &P, txn: TxnId, reply: Reply) -> bool
     is_aborted(reply)
 }
 
-fn fits_give<P: AtPlace>(
+/// Whether the reply is owed to a gift between sites of the schema, on a field of it, where the
+/// amount is neither zero nor too large.
+fn fits_gift<P: AtPlace>(
     here: &P,
     to: SiteNo,
     field: FieldNo,
@@ -229,24 +290,12 @@ fn fits_give<P: AtPlace>(
     amount: u64,
     reply: Reply,
 ) -> bool
-    ensures { (at : Place) → P.is_at here.now at →
-        result ≡ reply_test at (Give to field kind amount) reply }
+    ensures { (at : Place) → P.is_at here.now at → to.0 < at.schema.sites →
+        field.0 < length at.schema.fields → result
+        ≡ answer_test (first (test_short at field kind amount ∷ test_self_gift at to
+        ∷ test_ledger_full at to field kind amount ∷ []))
+        (Given (told_so_far at to field kind + amount)) true reply }
 {
-    if !is_up(here) {
-        return is_refused(reply, Refusal::Down);
-    }
-    if !knows(here, to) {
-        return is_refused(reply, Refusal::NoSite);
-    }
-    if !has(here, field) {
-        return is_refused(reply, Refusal::NoField);
-    }
-    if amount == 0 {
-        return is_refused(reply, Refusal::Zero);
-    }
-    if amount > MAX_CHANGE {
-        return is_refused(reply, Refusal::TooLarge);
-    }
     let free = here.free(field, kind);
     if free < u128::from(amount) {
         return is_short(reply, free);
@@ -262,19 +311,33 @@ fn fits_give<P: AtPlace>(
     is_given(reply, total) || is_unsure(reply)
 }
 
-fn fits_restate<P: AtPlace>(here: &P, to: SiteNo, field: FieldNo, kind: Kind, reply: Reply) -> bool
+fn fits_give<P: AtPlace>(
+    here: &P,
+    to: SiteNo,
+    field: FieldNo,
+    kind: Kind,
+    amount: u64,
+    reply: Reply,
+) -> bool
     ensures { (at : Place) → P.is_at here.now at →
-        result ≡ reply_test at (Restate to field kind) reply }
+        result ≡ reply_test at (Give to field kind amount) reply }
 {
-    if !is_up(here) {
-        return is_refused(reply, Refusal::Down);
+    if let Some(refusal) = gift_refusal(here, to, field) {
+        return is_refused(reply, refusal);
     }
-    if !knows(here, to) {
-        return is_refused(reply, Refusal::NoSite);
+    if let Some(refusal) = amount_refusal(amount, MAX_CHANGE) {
+        return is_refused(reply, refusal);
     }
-    if !has(here, field) {
-        return is_refused(reply, Refusal::NoField);
-    }
+    fits_gift(here, to, field, kind, amount, reply)
+}
+
+/// Whether the reply is owed to a restatement between sites of the schema, on a field of it.
+fn fits_total<P: AtPlace>(here: &P, to: SiteNo, field: FieldNo, kind: Kind, reply: Reply) -> bool
+    ensures { (at : Place) → P.is_at here.now at → to.0 < at.schema.sites →
+        field.0 < length at.schema.fields → result
+        ≡ answer_test (first (test_self_gift at to ∷ test_nothing_given at to field kind ∷ []))
+        (Stated (told_so_far at to field kind)) false reply }
+{
     if is_here(here, to) {
         return is_refused(reply, Refusal::SelfGift);
     }
@@ -285,7 +348,19 @@ fn fits_restate<P: AtPlace>(here: &P, to: SiteNo, field: FieldNo, kind: Kind, re
     is_stated(reply, so_far)
 }
 
-fn fits_spare<P: AtPlace>(
+fn fits_restate<P: AtPlace>(here: &P, to: SiteNo, field: FieldNo, kind: Kind, reply: Reply) -> bool
+    ensures { (at : Place) → P.is_at here.now at →
+        result ≡ reply_test at (Restate to field kind) reply }
+{
+    if let Some(refusal) = gift_refusal(here, to, field) {
+        return is_refused(reply, refusal);
+    }
+    fits_total(here, to, field, kind, reply)
+}
+
+/// Whether the reply is owed to a spare between sites of the schema, on a field of it, where what
+/// is wanted is neither zero nor too large.
+fn fits_spared<P: AtPlace>(
     here: &P,
     to: SiteNo,
     field: FieldNo,
@@ -293,24 +368,13 @@ fn fits_spare<P: AtPlace>(
     want: u64,
     reply: Reply,
 ) -> bool
-    ensures { (at : Place) → P.is_at here.now at →
-        result ≡ reply_test at (Spare to field kind want) reply }
+    ensures { (at : Place) → P.is_at here.now at → to.0 < at.schema.sites →
+        field.0 < length at.schema.fields → result
+        ≡ answer_test (first (test_no_share at field kind ∷ test_self_gift at to
+        ∷ test_ledger_full at to field kind (spare_of at field kind want) ∷ []))
+        (Spared (spare_of at field kind want)
+        (told_so_far at to field kind + spare_of at field kind want)) true reply }
 {
-    if !is_up(here) {
-        return is_refused(reply, Refusal::Down);
-    }
-    if !knows(here, to) {
-        return is_refused(reply, Refusal::NoSite);
-    }
-    if !has(here, field) {
-        return is_refused(reply, Refusal::NoField);
-    }
-    if want == 0 {
-        return is_refused(reply, Refusal::Zero);
-    }
-    if want > MAX_CHANGE {
-        return is_refused(reply, Refusal::TooLarge);
-    }
     let free = here.free(field, kind);
     if free == 0 {
         return is_short(reply, free);
@@ -327,22 +391,33 @@ fn fits_spare<P: AtPlace>(
     is_spared(reply, amount, total) || is_unsure(reply)
 }
 
-fn fits_tighten<P: AtPlace>(here: &P, field: FieldNo, kind: Kind, amount: u64, reply: Reply) -> bool
+fn fits_spare<P: AtPlace>(
+    here: &P,
+    to: SiteNo,
+    field: FieldNo,
+    kind: Kind,
+    want: u64,
+    reply: Reply,
+) -> bool
     ensures { (at : Place) → P.is_at here.now at →
-        result ≡ reply_test at (Tighten field kind amount) reply }
+        result ≡ reply_test at (Spare to field kind want) reply }
 {
-    if !is_up(here) {
-        return is_refused(reply, Refusal::Down);
+    if let Some(refusal) = gift_refusal(here, to, field) {
+        return is_refused(reply, refusal);
     }
-    if !has(here, field) {
-        return is_refused(reply, Refusal::NoField);
+    if let Some(refusal) = amount_refusal(want, MAX_CHANGE) {
+        return is_refused(reply, refusal);
     }
-    if amount == 0 {
-        return is_refused(reply, Refusal::Zero);
-    }
-    if amount > MAX_CHANGE {
-        return is_refused(reply, Refusal::TooLarge);
-    }
+    fits_spared(here, to, field, kind, want, reply)
+}
+
+/// Whether the reply is owed to a tightening on a field of the schema, where the amount is neither
+/// zero nor too large.
+fn fits_cut<P: AtPlace>(here: &P, field: FieldNo, kind: Kind, amount: u64, reply: Reply) -> bool
+    ensures { (at : Place) → P.is_at here.now at → field.0 < length at.schema.fields → result
+        ≡ answer_test (first (test_short at field kind amount ∷ []))
+        (Tightened (cut_so_far at field kind + amount)) true reply }
+{
     let free = here.free(field, kind);
     if free < u128::from(amount) {
         return is_short(reply, free);
@@ -350,27 +425,29 @@ fn fits_tighten<P: AtPlace>(here: &P, field: FieldNo, kind: Kind, amount: u64, r
     is_tightened(reply, here.cut(field, kind) + u128::from(amount)) || is_unsure(reply)
 }
 
-fn fits_accept<P: AtPlace>(here: &P, told: Statement, reply: Reply) -> bool
-    ensures { (at : Place) → P.is_at here.now at → result ≡ reply_test at (Accept told) reply }
+fn fits_tighten<P: AtPlace>(here: &P, field: FieldNo, kind: Kind, amount: u64, reply: Reply) -> bool
+    ensures { (at : Place) → P.is_at here.now at →
+        result ≡ reply_test at (Tighten field kind amount) reply }
 {
-    if !is_up(here) {
-        return is_refused(reply, Refusal::Down);
+    if let Some(refusal) = field_refusal(here, field) {
+        return is_refused(reply, refusal);
     }
-    if !knows(here, told.from) {
-        return is_refused(reply, Refusal::NoSite);
+    if let Some(refusal) = amount_refusal(amount, MAX_CHANGE) {
+        return is_refused(reply, refusal);
     }
-    if !knows(here, told.to) {
-        return is_refused(reply, Refusal::NoSite);
-    }
-    if !has(here, told.field) {
-        return is_refused(reply, Refusal::NoField);
-    }
-    if told.total == 0 {
-        return is_refused(reply, Refusal::Zero);
-    }
-    if told.total > MAX_TOTAL {
-        return is_refused(reply, Refusal::TooLarge);
-    }
+    fits_cut(here, field, kind, amount, reply)
+}
+
+/// Whether the reply is owed to a statement between sites of the schema, on a field of it, where
+/// the total is neither zero nor too large.
+fn fits_gain<P: AtPlace>(here: &P, told: Statement, reply: Reply) -> bool
+    ensures { (at : Place) → P.is_at here.now at → told.from.0 < at.schema.sites →
+        told.field.0 < length at.schema.fields → result
+        ≡ answer_test (first (test_self_gift at told.from ∷ test_not_yours at told.to
+        ∷ test_forged at told ∷ []))
+        (Accepted (gain_of at told.from told.field told.kind told.total))
+        (nat_lt 0 (gain_of at told.from told.field told.kind told.total)) reply }
+{
     if is_here(here, told.from) {
         return is_refused(reply, Refusal::SelfGift);
     }
@@ -383,6 +460,18 @@ fn fits_accept<P: AtPlace>(here: &P, told: Statement, reply: Reply) -> bool
         return is_forged(reply, room);
     }
     is_accepted(reply, gain) || is_unsure(reply) && gain > 0
+}
+
+fn fits_accept<P: AtPlace>(here: &P, told: Statement, reply: Reply) -> bool
+    ensures { (at : Place) → P.is_at here.now at → result ≡ reply_test at (Accept told) reply }
+{
+    if let Some(refusal) = statement_refusal(here, told) {
+        return is_refused(reply, refusal);
+    }
+    if let Some(refusal) = amount_refusal(told.total, MAX_TOTAL) {
+        return is_refused(reply, refusal);
+    }
+    fits_gain(here, told, reply)
 }
 
 fn fits_read<P: AtPlace>(here: &P, field: FieldNo, reply: Reply) -> bool
