@@ -84,24 +84,6 @@ module _ (schema : SchemaValue) (t : List Entry) (f : ℕ) (b : Bounds) (r l h q
       → int_le (((b.value +ℤ (pos r -ℤ pos l)) +ℤ pos h) +ℤ pos q) (b.ceiling -ℤ pos c) ≡ within_bound schema t f q Raise
   high_rule ceiling held cut = rw (value_is, held, ceiling, cut) refl
 
-near_is : (low V : ℤ) (r l : ℕ) → low ≤ℤ V → Decides (leb l (above low V + r)) (low ≤ℤ (V +ℤ (pos r -ℤ pos l)))
-near_is low V r l below = (
-  λ e. let n = leb-true l (above low V + r) e in omega (arith, ints),
-  λ le. le-leb l (above low V + r) (omega (arith, ints)),
-)
-
-far_is : (low V : ℤ) (r l : ℕ) → V ≤ℤ low → Decides (leb (l + above V low) r) (low ≤ℤ (V +ℤ (pos r -ℤ pos l)))
-far_is low V r l below = (
-  λ e. let n = leb-true (l + above V low) r e in omega (arith, ints),
-  λ le. le-leb (l + above V low) r (omega (arith, ints)),
-)
-
-pub near_test : (low V : ℤ) (r l : ℕ) → low ≤ℤ V → leb l (above low V + r) ≡ int_le low (V +ℤ (pos r -ℤ pos l))
-near_test low V r l below = same_from_decides _ _ (near_is low V r l below) (le_z_is low (V +ℤ (pos r -ℤ pos l)))
-
-pub far_test : (low V : ℤ) (r l : ℕ) → V ≤ℤ low → leb (l + above V low) r ≡ int_le low (V +ℤ (pos r -ℤ pos l))
-far_test low V r l below = same_from_decides _ _ (far_is low V r l below) (le_z_is low (V +ℤ (pos r -ℤ pos l)))
-
 -- a sum with one more term
 pub sum_more : (n : ℕ) (F : ℕ → ℕ) → sum_below (n + 1) F ≡ sum_below n F + F n
 sum_more n F = subst (λ (m : ℕ). sum_below m F ≡ sum_below n F + F n) (let e : suc n ≡ n + 1 = omega arith in e) refl

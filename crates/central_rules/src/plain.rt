@@ -154,45 +154,41 @@ fn shortage_holds(
     ensures { IfOk result (λ holds. holds
         ≡ shortage_test schema.now (reverse front.now) entry.site.0 entry.command entry.reply) }
 {
-    match (entry.command, entry.reply) {
-        (Command::Escrow { field, change, .. }, Reply::Refused(Refusal::Short { share })) => {
+    let Reply::Refused(Refusal::Short { share }) = entry.reply else {
+        return Ok(true);
+    };
+    let site = entry.site;
+    match entry.command {
+        Command::Escrow { field, change, .. } => {
+            let asked = change.unsigned_abs();
             true_share(
                 alloc,
                 schema,
                 front,
-                entry.site,
+                site,
                 field,
                 Kind::of(change),
-                change.unsigned_abs(),
+                asked,
                 share,
             )
         }
-        (
-            Command::Give {
-                field,
-                kind,
-                amount,
-                ..
-            },
-            Reply::Refused(Refusal::Short { share }),
-        ) => { true_share(alloc, schema, front, entry.site, field, kind, amount, share) }
-        (
-            Command::Spare {
-                field,
-                kind,
-                want,
-                ..
-            },
-            Reply::Refused(Refusal::Short { share }),
-        ) => { true_share(alloc, schema, front, entry.site, field, kind, want, share) }
-        (
-            Command::Tighten {
-                field,
-                kind,
-                amount,
-            },
-            Reply::Refused(Refusal::Short { share }),
-        ) => { true_share(alloc, schema, front, entry.site, field, kind, amount, share) }
+        Command::Give {
+            field,
+            kind,
+            amount,
+            ..
+        } => { true_share(alloc, schema, front, site, field, kind, amount, share) }
+        Command::Spare {
+            field,
+            kind,
+            want,
+            ..
+        } => { true_share(alloc, schema, front, site, field, kind, want, share) }
+        Command::Tighten {
+            field,
+            kind,
+            amount,
+        } => { true_share(alloc, schema, front, site, field, kind, amount, share) }
         _ => Ok(true),
     }
 }

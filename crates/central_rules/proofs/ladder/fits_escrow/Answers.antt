@@ -1,11 +1,10 @@
 use Rattle.std.proofs.Common.{◌∷◌, [], ◌++◌, List, refl, ap, ◌∙◌, w64}
 use Rattle.std.proofs.lemmas.Int.{to_z-of_z}
-use Rattle.std.specs.Prelude.{ℕ, nat_le, false, unsigned_abs, Some, None}
-use Rattle.field_bounds.specs.declared.entry.Refusal.TheVariants.{NoTransaction, TooManyEscrows}
+use Rattle.std.specs.Prelude.{ℕ, false, unsigned_abs, Some, None}
+use Rattle.field_bounds.specs.declared.entry.Refusal.TheVariants.{NoTransaction}
 use Rattle.field_bounds.specs.declared.entry.Reply.TheVariants.{Granted}
 use Rattle.field_bounds.specs.Kind.{kind_of}
-use Rattle.field_bounds.specs.Owed.{Test, first, when, max_change, max_escrows, test_no_transaction, test_short, test_too_many_escrows}
-use Rattle.central_rules.specs.Replies.{answer_test}
+use Rattle.field_bounds.specs.Owed.{Test, first, max_change, test_no_transaction, test_short, test_too_many_escrows}
 use Rattle.central_rules.proofs.Rungs.{field_tests, amount_tests, field_there, refused, passed, not_open, is_open}
 use Rattle.central_rules.proofs.ladder.fits_escrow.Goals as goal
 
