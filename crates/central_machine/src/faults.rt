@@ -1,10 +1,11 @@
 //! The parts of the judge's work: what each finds first.
 
-ghost use Rattle.std.specs.Prelude.{◌≡◌, ◌<◌, ◌+◌, ℕ, IfOk, OnOk, length, List, None};
+ghost use Rattle.std.specs.Prelude.{◌≡◌, ◌<◌, ◌+◌, ℕ, IfOk, OnOk, length, List, [], None};
 ghost use Rattle.std.specs.List.{AllZip};
 ghost use Rattle.rayon.specs.Numbers.{nat_range};
 ghost use Rattle.field_bounds.specs.declared.entry.Entry.{Entry};
 ghost use Rattle.central_machine.specs.Parts.{IsNoted, AreAllNumbers, AreNumbers, IsFault, part_at, part_test, earlier, earliest, first_is_at};
+ghost use Rattle.central_machine.specs.Running.{IsSite};
 ghost use Rattle.statement_set.specs.Issued.{HasIssued};
 ghost use Rattle.central_machine.specs.declared.faults.Part.TheVariants.{Statements, AtSite};
 
@@ -100,6 +101,34 @@ fn statements_fault(
     Ok(None)
 }
 
+/// The first of a site's entries, at these places, with a reply that the site doesn't owe. The totals
+/// are those of no entries, and take in each entry before it.
+fn first_unowed(
+    alloc: Global,
+    schema: &Schema,
+    entries: &[Entry],
+    site: SiteNo,
+    totals: &mut SiteTotals,
+    places: &[usize],
+) -> Result<Option<usize>, AllocError>
+    requires fresh { IsSite schema.now site.0 [] totals.now }
+    ensures { IfOk result (λ fault. AreNumbers site.0 entries.now (length entries.now) places.now →
+        IsFault schema.now entries.now (AtSite site.0) fault) }
+{
+    let _few = length_of(entries);
+    let _sites = schema.sites();
+    for place in places {
+        let Some(entry) = entries.get(*place) else {
+            return Ok(None);
+        };
+        if !reply_fits(schema, site, totals, *entry) {
+            return Ok(Some(*place));
+        }
+        totals.take_in(alloc, *entry)?;
+    }
+    Ok(None)
+}
+
 /// The first entry of a site with a reply that the site doesn't owe.
 fn site_fault(
     alloc: Global,
@@ -112,19 +141,8 @@ fn site_fault(
     ensures { IfOk result (λ fault. AreNumbers site.0 entries.now (length entries.now) places.now →
         IsFault schema.now entries.now (AtSite site.0) fault) }
 {
-    let _few = length_of(entries);
-    let _sites = schema.sites();
     let mut totals = SiteTotals::new(alloc, schema, site)?;
-    for place in places {
-        let Some(entry) = entries.get(*place) else {
-            return Ok(None);
-        };
-        if !reply_fits(schema, site, &totals, *entry) {
-            return Ok(Some(*place));
-        }
-        totals.take_in(alloc, *entry)?;
-    }
-    Ok(None)
+    first_unowed(alloc, schema, entries, site, &mut totals, places)
 }
 
 /// What a site of this number finds first, over its own entries.

@@ -287,43 +287,38 @@ impl Totals {
         ensures { (t : List Entry) → AreTotals schema.now t self.now →
             result ≡ test_of schema.now t entry Shortage }
     {
-        match (entry.command, entry.reply) {
-            (Command::Escrow { field, change, .. }, Reply::Refused(Refusal::Short { share })) => {
+        let Reply::Refused(Refusal::Short { share }) = entry.reply else {
+            return true;
+        };
+        let site = entry.site;
+        match entry.command {
+            Command::Escrow { field, change, .. } => {
                 self.is_share(
                     schema,
-                    entry.site,
+                    site,
                     field,
                     Kind::of(change),
                     change.unsigned_abs(),
                     share,
                 )
             }
-            (
-                Command::Give {
-                    field,
-                    kind,
-                    amount,
-                    ..
-                },
-                Reply::Refused(Refusal::Short { share }),
-            ) => { self.is_share(schema, entry.site, field, kind, amount, share) }
-            (
-                Command::Spare {
-                    field,
-                    kind,
-                    want,
-                    ..
-                },
-                Reply::Refused(Refusal::Short { share }),
-            ) => { self.is_share(schema, entry.site, field, kind, want, share) }
-            (
-                Command::Tighten {
-                    field,
-                    kind,
-                    amount,
-                },
-                Reply::Refused(Refusal::Short { share }),
-            ) => { self.is_share(schema, entry.site, field, kind, amount, share) }
+            Command::Give {
+                field,
+                kind,
+                amount,
+                ..
+            } => { self.is_share(schema, site, field, kind, amount, share) }
+            Command::Spare {
+                field,
+                kind,
+                want,
+                ..
+            } => { self.is_share(schema, site, field, kind, want, share) }
+            Command::Tighten {
+                field,
+                kind,
+                amount,
+            } => { self.is_share(schema, site, field, kind, amount, share) }
             _ => true,
         }
     }
