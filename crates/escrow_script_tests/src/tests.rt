@@ -13,16 +13,33 @@ use std::alloc::{AllocError, Global};
 use std::io;
 use std::io::{ErrorKind, Read, Write};
 use std::process::Abort;
-use std::test::Fail;
 
 const HEADER: &str =
     "{\"sites\":1,\"fields\":[{\"name\":\"stock\",\"floor\":0,\"ceiling\":100,\"value\":40}]}";
 
+/// How a run ends.
+type Ended = Result<(), ScriptFault>;
+
+const READ_FAULT: Ended = Err(ScriptFault::Read);
+
 /// How a run over a reader ended, and what it wrote.
-fn run<R: Read + Drop>(alloc: Global, reader: R) -> (Result<(), ScriptFault>, Vec<u8>) {
+fn run<R: Read + Drop>(alloc: Global, reader: R) -> (Ended, Vec<u8>) {
     let mut writer = Watched::new(Vec::new(alloc));
     let end = run_script(alloc, &mut Watched::new(reader), &mut writer);
     (end, writer.into_inner())
+}
+
+/// Runs over a reader, and tests how the run ends and what it writes.
+fn check_reader<R: Read + Drop>(
+    rt: &impl Abort,
+    alloc: Global,
+    reader: R,
+    wanted: Ended,
+    output: &str,
+) {
+    let (end, out) = run(alloc, reader);
+    assert_eq!(rt; end, wanted, "at {output}");
+    assert_eq!(rt; str::from_utf8(out.as_slice()), Ok(output));
 }
 
 /// Adds the parts, one behind the other.
@@ -55,6 +72,7 @@ impl Talk {
         })
     }
 
+    /// A line whose answer begins with it.
     fn row(&mut self, line: &str, reply: &str) -> Result<(), AllocError> {
         add(&mut self.input, &[line, "\n"])?;
         add(&mut self.wanted, &[line, " -> ", reply, "\n"])
@@ -73,14 +91,36 @@ impl Talk {
         add(&mut self.wanted, &[answer, "\n"])
     }
 
+    fn all_said(&mut self, rows: &[(&str, &str)]) -> Result<(), AllocError> {
+        for (line, answer) in rows {
+            self.said(*line, *answer)?;
+        }
+        Ok(())
+    }
+
+    /// A line whose record is torn behind so many bytes.
+    fn torn(&mut self, line: &str, bytes: u64) -> Result<(), AllocError> {
+        let mut number = Buffer::new();
+        add(
+            &mut self.input,
+            &[line, " torn ", number.format(bytes), "\n"],
+        )?;
+        add(&mut self.wanted, &[line, " -> unsure\n"])
+    }
+
     fn bad(&mut self, line: &str) -> Result<(), AllocError> {
         self.said(line, "bad line")
     }
 
+    /// Runs the script, and tests what it gives.
     fn check(&self, rt: &impl Abort, alloc: Global) {
-        let (end, out) = run(alloc, self.input.as_bytes());
-        assert_eq!(rt; end, Ok(()));
-        assert_eq!(rt; str::from_utf8(out.as_slice()), Ok(self.wanted.as_str()));
+        check_reader(
+            rt,
+            alloc,
+            self.input.as_bytes(),
+            Ok(()),
+            self.wanted.as_str(),
+        );
     }
 }
 
@@ -516,55 +556,71 @@ fn check_said(
     rows: &[(&str, &str)],
 ) -> Result<(), AllocError> {
     let mut talk = Talk::new(alloc, header)?;
-    for (line, answer) in rows {
-        talk.said(*line, *answer)?;
-    }
+    talk.all_said(rows)?;
     talk.check(rt, alloc);
     Ok(())
 }
 
 #[test]
-fn answers_deliveries_and_luck(rt: HostRuntime) -> Result<(), Fail> {
+fn answers_deliveries_and_luck(rt: HostRuntime) -> Result<(), AllocError> {
     for rows in &SAID {
         check_said(&rt, rt.alloc(), HALVED, *rows)?;
     }
     Ok(())
 }
 
+/// Lines over a field of that name, each beside what answers it.
+const OVER_TORN: [(&str, &str); 4] = [
+    ("0 begin", "0 begin -> begun 0.1"),
+    ("0 escrow 0.1 torn 5", "0 escrow 0.1 torn 5 -> granted"),
+    (
+        "0 escrow 0.1 torn -1 torn 5",
+        "0 escrow 0.1 torn -1 -> granted",
+    ),
+    ("0 commit 0.1 torn 5", "0 commit 0.1 -> unsure"),
+];
+
 #[test]
-fn reads_no_field_as_luck(rt: HostRuntime) -> Result<(), Fail> {
-    let rows: [(&str, &str); 4] = [
-        ("0 begin", "0 begin -> begun 0.1"),
-        ("0 escrow 0.1 torn 5", "0 escrow 0.1 torn 5 -> granted"),
-        (
-            "0 escrow 0.1 torn -1 torn 5",
-            "0 escrow 0.1 torn -1 -> granted",
-        ),
-        ("0 commit 0.1 torn 5", "0 commit 0.1 -> unsure"),
-    ];
-    check_said(&rt, rt.alloc(), TORN, &rows)?;
-    Ok(())
+fn reads_no_field_as_luck(rt: HostRuntime) -> Result<(), AllocError> {
+    check_said(&rt, rt.alloc(), TORN, &OVER_TORN)
+}
+
+const BEFORE_COMMIT: [(&str, &str); 2] = [
+    ("0 begin", "begun 0.1"),
+    ("0 escrow 0.1 stock -20", "granted"),
+];
+
+const COMMIT_LOST: [(&str, &str); 3] = [
+    ("0 read stock", "refused 1 down"),
+    ("0 restart", "restarted 1 lost"),
+    ("0 share stock", "share 20 30"),
+];
+
+const COMMIT_KEPT: [(&str, &str); 3] = [
+    ("0 read stock", "refused 1 down"),
+    ("0 restart", "restarted 1 kept"),
+    ("0 share stock", "share 0 50"),
+];
+
+/// A script in which a commit is torn behind so many bytes.
+fn torn_commit(alloc: Global, bytes: u64) -> Result<Talk, AllocError> {
+    let mut talk = Talk::new(alloc, HALVED)?;
+    talk.rows(&BEFORE_COMMIT)?;
+    talk.torn("0 commit 0.1", bytes)?;
+    talk.rows(if bytes < 12 {
+        &COMMIT_LOST
+    } else {
+        &COMMIT_KEPT
+    })?;
+    Ok(talk)
 }
 
 // The record of the commit has 12 bytes.
 #[test]
-fn keeps_a_commit_that_is_whole(rt: HostRuntime) -> Result<(), Fail> {
+fn keeps_a_commit_that_is_whole(rt: HostRuntime) -> Result<(), AllocError> {
     let alloc = rt.alloc();
     for bytes in 0..=13u64 {
-        let mut talk = Talk::new(alloc, HALVED)?;
-        talk.row("0 begin", "begun 0.1")?;
-        talk.row("0 escrow 0.1 stock -20", "granted")?;
-        let line = joined(alloc, &["0 commit 0.1 torn ", Buffer::new().format(bytes)])?;
-        talk.said(line.as_str(), "0 commit 0.1 -> unsure")?;
-        talk.row("0 read stock", "refused 1 down")?;
-        if bytes < 12 {
-            talk.row("0 restart", "restarted 1 lost")?;
-            talk.row("0 share stock", "share 20 30")?;
-        } else {
-            talk.row("0 restart", "restarted 1 kept")?;
-            talk.row("0 share stock", "share 0 50")?;
-        }
-        talk.check(&rt, alloc);
+        torn_commit(alloc, bytes)?.check(&rt, alloc);
     }
     Ok(())
 }
@@ -582,84 +638,112 @@ fn check_row(
 }
 
 #[test]
-fn answers_worked_rows(rt: HostRuntime) -> Result<(), Fail> {
+fn answers_worked_rows(rt: HostRuntime) -> Result<(), AllocError> {
     for (header, rows) in &WORKED {
         check_row(&rt, rt.alloc(), *header, *rows)?;
     }
     Ok(())
 }
 
+impl Talk {
+    /// As many escrows of one transaction as there may be, and one more.
+    fn escrow_past_the_limit(&mut self) -> Result<(), AllocError> {
+        for _ in 0..16 {
+            self.row("0 escrow 0.1 stock -1", "granted")?;
+        }
+        self.row("0 escrow 0.1 stock -1", "refused 13 too many escrows")?;
+        self.row("0 escrow 0.1 stock -5", "refused 7 short 4")
+    }
+
+    /// As many open transactions behind the first as there may be, and one more.
+    fn begin_past_the_limit(&mut self) -> Result<(), AllocError> {
+        for number in 2..=64u32 {
+            let mut digits = Buffer::new();
+            self.input.push_str("0 begin\n")?;
+            let begun = ["0 begin -> begun 0.", digits.format(number), "\n"];
+            add(&mut self.wanted, &begun)?;
+        }
+        self.row("0 begin", "refused 12 too many open")
+    }
+}
+
 #[test]
-fn refuses_past_the_limits(rt: HostRuntime) -> Result<(), Fail> {
+fn refuses_past_the_limits(rt: HostRuntime) -> Result<(), AllocError> {
     let alloc = rt.alloc();
     let mut talk = Talk::new(alloc, HALVED)?;
     talk.row("0 begin", "begun 0.1")?;
-    for _ in 0..16 {
-        talk.row("0 escrow 0.1 stock -1", "granted")?;
-    }
-    talk.row("0 escrow 0.1 stock -1", "refused 13 too many escrows")?;
-    talk.row("0 escrow 0.1 stock -5", "refused 7 short 4")?;
-    for number in 2..=64u32 {
-        let reply = joined(alloc, &["begun 0.", Buffer::new().format(number)])?;
-        talk.row("0 begin", reply.as_str())?;
-    }
-    talk.row("0 begin", "refused 12 too many open")?;
+    talk.escrow_past_the_limit()?;
+    talk.begin_past_the_limit()?;
     talk.check(&rt, alloc);
     Ok(())
 }
 
+/// Headers that are refused, and why.
+const BAD_HEADERS: [(&str, SchemaFault); 4] = [
+    ("", SchemaFault::NotJson),
+    ("\n0 begin\n", SchemaFault::NotJson),
+    ("{\"sites\":1}\n0 begin\n", SchemaFault::Shape),
+    (
+        "{\"sites\":0,\"fields\":[{\"name\":\"stock\",\"floor\":0,\"ceiling\":100,\"value\":40}]}",
+        SchemaFault::SiteCount,
+    ),
+];
+
 #[test]
-fn tells_bad_headers(rt: HostRuntime) -> Result<(), Fail> {
+fn tells_bad_headers(rt: HostRuntime) {
+    for (header, fault) in &BAD_HEADERS {
+        let wanted = Err(ScriptFault::Header(*fault));
+        check_reader(&rt, rt.alloc(), header.as_bytes(), wanted, "");
+    }
+}
+
+/// Runs over so many spaces, behind which every read fails.
+fn check_spaces(rt: &impl Abort, alloc: Global, spaces: u64, wanted: Ended) {
+    let reader = io::repeat(b' ')
+        .take(spaces)
+        .chain(Broken(ErrorKind::Other));
+    check_reader(rt, alloc, reader, wanted, "");
+}
+
+// The 65,537th byte of a header ends the run before the next read.
+#[test]
+fn ends_at_a_long_header(rt: HostRuntime) {
+    let long = Err(ScriptFault::Header(SchemaFault::TooLong));
+    check_spaces(&rt, rt.alloc(), 65_537, long);
+    check_spaces(&rt, rt.alloc(), 65_536, READ_FAULT);
+}
+
+// A header is echoed with its CR and, where its LF is missing, with LF.
+#[test]
+fn echoes_a_header(rt: HostRuntime) -> Result<(), AllocError> {
     let alloc = rt.alloc();
-    for (header, fault) in [
-        ("", SchemaFault::NotJson),
-        ("\n0 begin\n", SchemaFault::NotJson),
-        ("{\"sites\":1}\n0 begin\n", SchemaFault::Shape),
-        (
-            "{\"sites\":0,\"fields\":[{\"name\":\"stock\",\"floor\":0,\"ceiling\":100,\"value\":40}]}",
-            SchemaFault::SiteCount,
-        ),
-    ] {
-        let (end, out) = run(alloc, header.as_bytes());
-        assert_eq!(rt; end, Err(ScriptFault::Header(fault)), "at {header}");
-        assert_eq!(rt; out.len(), 0);
-    }
-    // The 65,537th byte of a header ends the run before the next read.
-    for (spaces, wanted) in [
-        (65_537, ScriptFault::Header(SchemaFault::TooLong)),
-        (65_536, ScriptFault::Read),
-    ] {
-        let reader = io::repeat(b' ')
-            .take(spaces)
-            .chain(Broken(ErrorKind::Other));
-        let (end, out) = run(alloc, reader);
-        assert_eq!(rt; end, Err(wanted));
-        assert_eq!(rt; out.len(), 0);
-    }
-    // A header is echoed with its CR and, where its LF is missing, with LF.
     let header = joined(alloc, &[HEADER, "\r"])?;
-    let (end, out) = run(alloc, header.as_bytes());
-    assert_eq!(rt; end, Ok(()));
     let wanted = joined(alloc, &[HEADER, "\r\n"])?;
-    assert_eq!(rt; str::from_utf8(out.as_slice()), Ok(wanted.as_str()));
+    check_reader(&rt, alloc, header.as_bytes(), Ok(()), wanted.as_str());
     Ok(())
 }
 
+/// Runs over a header, 999,999 bad lines and so many further bytes.
+fn check_lines(rt: &impl Abort, alloc: Global, header: &[u8], more: u64, wanted: Ended) {
+    let lines = io::repeat(b'\n').take(999_999);
+    let reader = header.chain(lines).chain(io::repeat(b'x').take(more));
+    let (end, out) = run(alloc, reader);
+    assert_eq!(rt; end, wanted);
+    // The text of a bad line has nine bytes.
+    assert_eq!(rt; out.len(), HEADER.len() + 1 + 9 * 999_999);
+}
+
 #[test]
-fn keeps_the_limit_of_lines(rt: HostRuntime) -> Result<(), Fail> {
-    let alloc = rt.alloc();
-    let header = joined(alloc, &[HEADER, "\n"])?;
-    // 999,999 lines behind the header, and a byte more.
-    for (more, wanted) in [(0, Ok(())), (1, Err(ScriptFault::TooLong))] {
-        let lines = io::repeat(b'\n').take(999_999);
-        let reader = header
-            .as_bytes()
-            .chain(lines)
-            .chain(io::repeat(b'x').take(more));
-        let (end, out) = run(alloc, reader);
-        assert_eq!(rt; end, wanted);
-        assert_eq!(rt; out.len(), header.len() + 9 * 999_999);
-    }
+fn keeps_the_limit_of_lines(rt: HostRuntime) -> Result<(), AllocError> {
+    let header = joined(rt.alloc(), &[HEADER, "\n"])?;
+    check_lines(&rt, rt.alloc(), header.as_bytes(), 0, Ok(()));
+    check_lines(
+        &rt,
+        rt.alloc(),
+        header.as_bytes(),
+        1,
+        Err(ScriptFault::TooLong),
+    );
     Ok(())
 }
 
@@ -699,46 +783,61 @@ fn row_output(alloc: Global, bytes: usize) -> Result<String, AllocError> {
     Ok(output)
 }
 
-#[test]
-fn ends_where_a_read_fails(rt: HostRuntime) -> Result<(), Fail> {
-    let alloc = rt.alloc();
-    let input = row_input(alloc)?;
-    for count in 0..=input.len() {
-        let kind = if count % 2 == 0 {
-            ErrorKind::Interrupted
-        } else {
-            ErrorKind::Other
-        };
-        let reader = Trickle(&input.as_bytes()[..count]).chain(Broken(kind));
-        let (end, out) = run(alloc, reader);
-        assert_eq!(rt; end, Err(ScriptFault::Read));
-        let wanted = row_output(alloc, count)?;
-        assert_eq!(rt; str::from_utf8(out.as_slice()), Ok(wanted.as_str()));
-    }
+/// Runs over the first so many bytes of the row, behind which every read fails.
+fn check_front(rt: &impl Abort, alloc: Global, front: &[u8]) -> Result<(), AllocError> {
+    let kind = if front.len() % 2 == 0 {
+        ErrorKind::Interrupted
+    } else {
+        ErrorKind::Other
+    };
+    let output = row_output(alloc, front.len())?;
+    let reader = Trickle(front).chain(Broken(kind));
+    check_reader(rt, alloc, reader, READ_FAULT, output.as_str());
     Ok(())
 }
 
 #[test]
-fn ends_where_a_write_fails(rt: HostRuntime) -> Result<(), Fail> {
+fn ends_where_a_read_fails(rt: HostRuntime) -> Result<(), AllocError> {
+    let alloc = rt.alloc();
+    let input = row_input(alloc)?;
+    let bytes = input.as_bytes();
+    for count in 0..=bytes.len() {
+        check_front(&rt, alloc, &bytes[..count])?;
+    }
+    Ok(())
+}
+
+/// How a run over a text ends whose writer takes so many bytes, and what was taken.
+fn run_narrow(rt: &impl Abort, alloc: Global, text: &[u8], room: usize) -> (Ended, Vec<u8>) {
+    let mut writer = Watched::new(Narrow {
+        taken: Vec::new(alloc),
+        room,
+        fails: room % 2 == 0,
+    });
+    let end = run_script(alloc, &mut Watched::new(text), &mut writer);
+    assert!(rt; writer.last() != End::NotCalled);
+    (end, writer.into_inner().taken)
+}
+
+/// Behind each byte of the wanted output a write fails.
+fn check_rooms(rt: &impl Abort, alloc: Global, input: &[u8], wanted: &[u8]) {
+    for room in 0..=wanted.len() {
+        let (end, taken) = run_narrow(rt, alloc, input, room);
+        let fault = if room < wanted.len() {
+            Err(ScriptFault::Write)
+        } else {
+            Ok(())
+        };
+        assert_eq!(rt; end, fault);
+        assert_eq!(rt; taken.as_slice(), &wanted[..room]);
+    }
+}
+
+#[test]
+fn ends_where_a_write_fails(rt: HostRuntime) -> Result<(), AllocError> {
     let alloc = rt.alloc();
     let input = row_input(alloc)?;
     let wanted = row_output(alloc, input.len())?;
-    for room in 0..=wanted.len() {
-        let mut writer = Watched::new(Narrow {
-            taken: Vec::new(alloc),
-            room,
-            fails: room % 2 == 0,
-        });
-        let end = run_script(alloc, &mut Watched::new(input.as_bytes()), &mut writer);
-        assert_eq!(rt; end.is_ok(), room == wanted.len());
-        assert!(rt; writer.last() != End::NotCalled);
-        assert_eq!(rt;
-            writer.into_inner().taken.as_slice(),
-            &wanted.as_bytes()[..room]
-        );
-        if room < wanted.len() {
-            assert_eq!(rt; end, Err(ScriptFault::Write));
-        }
-    }
+    check_rooms(&rt, alloc, input.as_bytes(), wanted.as_bytes());
     Ok(())
 }

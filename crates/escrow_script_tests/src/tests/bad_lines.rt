@@ -1,7 +1,7 @@
 //! Lines that ask nothing.
 
-use super::{HEADER, Talk, Trickle, run};
-use std::test::Fail;
+use super::{HEADER, Talk, Trickle, check_reader};
+use std::alloc::{AllocError, Global};
 
 /// Lines behind a header of one site, none of which is a command.
 const BAD: [&str; 82] = [
@@ -89,25 +89,29 @@ const BAD: [&str; 82] = [
     "Reach 0 stock 40",
 ];
 
+impl Talk {
+    /// Each bad line, and two that are too long.
+    fn all_bad(&mut self, alloc: Global) -> Result<(), AllocError> {
+        for line in &BAD {
+            self.bad(*line)?;
+        }
+        self.bad("x".repeat(alloc, 257)?.as_str())?;
+        self.bad(" ".repeat(alloc, 70_000)?.as_str())
+    }
+}
+
 #[test]
-fn answers_bad_lines(rt: HostRuntime) -> Result<(), Fail> {
+fn answers_bad_lines(rt: HostRuntime) -> Result<(), AllocError> {
     let alloc = rt.alloc();
     let mut talk = Talk::new(alloc, HEADER)?;
     talk.row("0 begin", "begun 0.1")?;
-    for line in &BAD {
-        talk.bad(*line)?;
-    }
-    let long = vec![in alloc; b'x'; 257]?;
-    talk.bad(str::from_utf8(long.as_slice())?)?;
-    let long = vec![in alloc; b' '; 70_000]?;
-    talk.bad(str::from_utf8(long.as_slice())?)?;
+    talk.all_bad(alloc)?;
     talk.row("0 begin", "begun 0.2")?;
     // The last line has no LF.
     talk.input.push_str("0 begin")?;
     talk.wanted.push_str("0 begin -> begun 0.3\n")?;
     talk.check(&rt, alloc);
-    let (end, out) = run(alloc, Trickle(talk.input.as_bytes()));
-    assert_eq!(rt; end, Ok(()));
-    assert_eq!(rt; str::from_utf8(out.as_slice()), Ok(talk.wanted.as_str()));
+    let reader = Trickle(talk.input.as_bytes());
+    check_reader(&rt, alloc, reader, Ok(()), talk.wanted.as_str());
     Ok(())
 }

@@ -4,11 +4,11 @@
 ghost use Rattle.std.specs.Prelude.{◌≡◌, ◌≤◌, ◌++◌, length, Some};
 ghost use Rattle.script_input.specs.Streams.{one_more};
 
-use super::{row_input, row_output};
+use super::{Ended, READ_FAULT, row_input, row_output};
 use escrow_script::{CallFailed, End, ScriptFault, Sink, Source, Watched, run_script};
-use std::alloc::Global;
+use std::alloc::{AllocError, Global};
 use std::io::Read;
-use std::test::Fail;
+use std::process::Abort;
 
 /// A source of the bytes before and behind a read that fails.
 #[derive(Drop)]
@@ -126,62 +126,79 @@ impl Sink for RefusingSink {
     }
 }
 
+/// How a run over a source ended, and what it wrote. No write failed.
+fn run_failing(rt: &impl Abort, alloc: Global, source: &mut FailingSource) -> (Ended, Vec<u8>) {
+    let mut sink = Watched::new(Vec::new(alloc));
+    let end = run_script(alloc, source, &mut sink);
+    assert_eq!(rt; sink.failures(), 0);
+    (end, sink.into_inner())
+}
+
+/// Runs over a source, and tests how the run ends, what it writes and that one read failed so far.
+fn check_failing(
+    rt: &impl Abort,
+    alloc: Global,
+    source: &mut FailingSource,
+    wanted: Ended,
+    bytes: usize,
+) -> Result<(), AllocError> {
+    let (end, out) = run_failing(rt, alloc, source);
+    assert_eq!(rt; end, wanted);
+    assert_eq!(rt; source.failures, 1);
+    let output = row_output(alloc, bytes)?;
+    assert_eq!(rt; str::from_utf8(out.as_slice()), Ok(output.as_str()));
+    Ok(())
+}
+
 // Behind each byte of the row a read fails once. It isn't tried again: nothing behind it is read.
 #[test]
-fn reads_no_more_once_a_source_failed(rt: HostRuntime) -> Result<(), Fail> {
+fn reads_no_more_once_a_source_failed(rt: HostRuntime) -> Result<(), AllocError> {
     let alloc = rt.alloc();
     let input = row_input(alloc)?;
-    for count in 0..=input.len() {
-        let mut source = FailingSource::new(input.as_bytes(), count);
-        let mut sink = Watched::new(Vec::new(alloc));
-        let end = run_script(alloc, &mut source, &mut sink);
-        assert_eq!(rt; end, Err(ScriptFault::Read));
-        assert_eq!(rt; source.failures, 1);
-        assert_eq!(rt; source.behind.len(), input.len() - count);
-        assert_eq!(rt; sink.failures(), 0);
-        let wanted = row_output(alloc, count)?;
-        assert_eq!(rt;
-            str::from_utf8(sink.into_inner().as_slice()),
-            Ok(wanted.as_str())
-        );
+    let bytes = input.as_bytes();
+    for count in 0..=bytes.len() {
+        let mut source = FailingSource::new(bytes, count);
+        check_failing(&rt, alloc, &mut source, READ_FAULT, count)?;
+        assert_eq!(rt; source.behind.len(), bytes.len() - count);
     }
     Ok(())
 }
 
+/// How a run over a text ended. No read failed.
+fn run_refused(rt: &impl Abort, alloc: Global, text: &[u8], sink: &mut RefusingSink) -> Ended {
+    let mut source = Watched::new(text);
+    let end = run_script(alloc, &mut source, sink);
+    assert_eq!(rt; source.failures(), 0);
+    end
+}
+
+/// Behind each byte of the wanted output a write is refused once.
+fn check_refusals(rt: &impl Abort, alloc: Global, input: &[u8], wanted: &[u8]) {
+    for room in 0..wanted.len() {
+        let mut sink = RefusingSink::new(alloc, room);
+        let end = run_refused(rt, alloc, input, &mut sink);
+        assert_eq!(rt; end, Err(ScriptFault::Write));
+        assert_eq!(rt; sink.refusals, 1);
+        assert_eq!(rt; sink.taken.as_slice(), &wanted[..room]);
+    }
+}
+
 // Behind each byte of the row's output a write is refused once. It isn't tried again.
 #[test]
-fn writes_no_more_once_a_sink_refused(rt: HostRuntime) -> Result<(), Fail> {
+fn writes_no_more_once_a_sink_refused(rt: HostRuntime) -> Result<(), AllocError> {
     let alloc = rt.alloc();
     let input = row_input(alloc)?;
     let wanted = row_output(alloc, input.len())?;
-    for room in 0..wanted.len() {
-        let mut source = Watched::new(input.as_bytes());
-        let mut sink = RefusingSink::new(alloc, room);
-        let end = run_script(alloc, &mut source, &mut sink);
-        assert_eq!(rt; end, Err(ScriptFault::Write));
-        assert_eq!(rt; sink.refusals, 1);
-        assert_eq!(rt; source.failures(), 0);
-        assert_eq!(rt; sink.taken.as_slice(), &wanted.as_bytes()[..room]);
-    }
+    check_refusals(&rt, alloc, input.as_bytes(), wanted.as_bytes());
     Ok(())
 }
 
 // The same source goes on in a next run, behind the read that failed.
 #[test]
-fn goes_on_in_the_next_run(rt: HostRuntime) -> Result<(), Fail> {
+fn goes_on_in_the_next_run(rt: HostRuntime) -> Result<(), AllocError> {
     let alloc = rt.alloc();
     let input = row_input(alloc)?;
     let mut source = FailingSource::new(input.as_bytes(), 0);
-    for (wanted, bytes) in [(Err(ScriptFault::Read), 0), (Ok(()), input.len())] {
-        let mut sink = Watched::new(Vec::new(alloc));
-        let end = run_script(alloc, &mut source, &mut sink);
-        assert_eq!(rt; end, wanted);
-        assert_eq!(rt; source.failures, 1);
-        let output = row_output(alloc, bytes)?;
-        assert_eq!(rt;
-            str::from_utf8(sink.into_inner().as_slice()),
-            Ok(output.as_str())
-        );
-    }
-    Ok(())
+    check_failing(&rt, alloc, &mut source, READ_FAULT, 0)?;
+    check_failing(&rt, alloc, &mut source, Ok(()), input.len())
 }

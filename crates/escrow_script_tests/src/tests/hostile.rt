@@ -1,74 +1,79 @@
 //! Appends torn at each byte, a header without end, and readers and writers that are interrupted
 //! once.
 
-use super::{HALVED, Talk, check_said, joined, row_input, row_output, run};
+use super::{Ended, HALVED, READ_FAULT, Talk, check_reader, check_said, row_input, row_output};
 use escrow_script::{ScriptFault, Watched, run_script};
 use field_bounds::SchemaFault;
-use itoa::Buffer;
+use std::alloc::{AllocError, Global};
 use std::io;
 use std::io::{ErrorKind, Read, Write};
-use std::test::Fail;
+use std::process::Abort;
+
+const GIFT_LOST: [(&str, &str); 3] = [
+    ("0 restart", "restarted 1 lost"),
+    ("0 restate 1 stock lower", "refused 15 nothing given"),
+    ("0 share stock", "share 20 30"),
+];
+
+const GIFT_KEPT: [(&str, &str); 3] = [
+    ("0 restart", "restarted 1 kept"),
+    ("0 restate 1 stock lower", "stated 5"),
+    ("0 share stock", "share 15 30"),
+];
+
+/// A script in which a gift is torn behind so many bytes.
+fn torn_gift(alloc: Global, bytes: u64) -> Result<Talk, AllocError> {
+    let mut talk = Talk::new(alloc, HALVED)?;
+    talk.torn("0 give 1 stock lower 5", bytes)?;
+    talk.row("deliver 1", "refused 16 no statement")?;
+    talk.rows(if bytes < 10 { &GIFT_LOST } else { &GIFT_KEPT })?;
+    Ok(talk)
+}
 
 // The record of the gift has 10 bytes.
 #[test]
-fn keeps_a_gift_that_is_whole(rt: HostRuntime) -> Result<(), Fail> {
+fn keeps_a_gift_that_is_whole(rt: HostRuntime) -> Result<(), AllocError> {
     let alloc = rt.alloc();
-    for bytes in [0u64, 1, 2, 3, 4, 5, 6, 7, 8, 9, 10, 1000] {
-        let mut talk = Talk::new(alloc, HALVED)?;
-        let line = joined(
-            alloc,
-            &["0 give 1 stock lower 5 torn ", Buffer::new().format(bytes)],
-        )?;
-        talk.said(line.as_str(), "0 give 1 stock lower 5 -> unsure")?;
-        talk.said("deliver 1", "deliver 1 -> refused 16 no statement")?;
-        if bytes < 10 {
-            talk.row("0 restart", "restarted 1 lost")?;
-            talk.row("0 restate 1 stock lower", "refused 15 nothing given")?;
-            talk.row("0 share stock", "share 20 30")?;
-        } else {
-            talk.row("0 restart", "restarted 1 kept")?;
-            talk.row("0 restate 1 stock lower", "stated 5")?;
-            talk.row("0 share stock", "share 15 30")?;
-        }
-        talk.check(&rt, alloc);
+    for bytes in 0..=10u64 {
+        torn_gift(alloc, bytes)?.check(&rt, alloc);
     }
+    torn_gift(alloc, 1000)?.check(&rt, alloc);
     Ok(())
 }
 
-#[test]
-fn keeps_a_commit_torn_far_behind_its_end(rt: HostRuntime) -> Result<(), Fail> {
-    let rows: [(&str, &str); 6] = [
-        ("0 begin", "0 begin -> begun 0.1"),
-        (
-            "0 escrow 0.1 stock -20",
-            "0 escrow 0.1 stock -20 -> granted",
-        ),
-        ("0 commit 0.1 torn 1000", "0 commit 0.1 -> unsure"),
-        ("0 read stock", "0 read stock -> refused 1 down"),
-        ("0 restart", "0 restart -> restarted 1 kept"),
-        ("0 share stock", "0 share stock -> share 0 50"),
-    ];
-    check_said(&rt, rt.alloc(), HALVED, &rows)?;
-    Ok(())
-}
+const COMMIT_TORN_FAR_BEHIND: [(&str, &str); 6] = [
+    ("0 begin", "0 begin -> begun 0.1"),
+    (
+        "0 escrow 0.1 stock -20",
+        "0 escrow 0.1 stock -20 -> granted",
+    ),
+    ("0 commit 0.1 torn 1000", "0 commit 0.1 -> unsure"),
+    ("0 read stock", "0 read stock -> refused 1 down"),
+    ("0 restart", "0 restart -> restarted 1 kept"),
+    ("0 share stock", "0 share stock -> share 0 50"),
+];
 
 #[test]
-fn restarts_behind_three_failed_restarts(rt: HostRuntime) -> Result<(), Fail> {
-    let rows: [(&str, &str); 4] = [
-        ("0 restart torn 4", "0 restart -> still down"),
-        ("0 restart torn 4", "0 restart -> still down"),
-        ("0 restart torn 4", "0 restart -> still down"),
-        ("0 restart", "0 restart -> restarted 4 nothing"),
-    ];
-    check_said(&rt, rt.alloc(), HALVED, &rows)?;
-    Ok(())
+fn keeps_a_commit_torn_far_behind_its_end(rt: HostRuntime) -> Result<(), AllocError> {
+    check_said(&rt, rt.alloc(), HALVED, &COMMIT_TORN_FAR_BEHIND)
+}
+
+const FAILED_RESTARTS: [(&str, &str); 4] = [
+    ("0 restart torn 4", "0 restart -> still down"),
+    ("0 restart torn 4", "0 restart -> still down"),
+    ("0 restart torn 4", "0 restart -> still down"),
+    ("0 restart", "0 restart -> restarted 4 nothing"),
+];
+
+#[test]
+fn restarts_behind_three_failed_restarts(rt: HostRuntime) -> Result<(), AllocError> {
+    check_said(&rt, rt.alloc(), HALVED, &FAILED_RESTARTS)
 }
 
 #[test]
 fn ends_a_header_without_end(rt: HostRuntime) {
-    let (end, out) = run(rt.alloc(), io::repeat(b'x'));
-    assert_eq!(rt; end, Err(ScriptFault::Header(SchemaFault::TooLong)));
-    assert_eq!(rt; out.len(), 0);
+    let wanted = Err(ScriptFault::Header(SchemaFault::TooLong));
+    check_reader(&rt, rt.alloc(), io::repeat(b'x'), wanted, "");
 }
 
 /// A reader that is interrupted once, between two parts, and would answer the next read.
@@ -92,20 +97,30 @@ impl Read for InterruptedReader<'_> {
     }
 }
 
+/// Runs over a text whose read is interrupted once, behind so many bytes.
+fn check_interrupted(
+    rt: &impl Abort,
+    alloc: Global,
+    before: &[u8],
+    behind: &[u8],
+) -> Result<(), AllocError> {
+    let output = row_output(alloc, before.len())?;
+    let reader = InterruptedReader {
+        before,
+        behind,
+        was_interrupted: false,
+    };
+    check_reader(rt, alloc, reader, READ_FAULT, output.as_str());
+    Ok(())
+}
+
 #[test]
-fn reads_no_more_once_interrupted(rt: HostRuntime) -> Result<(), Fail> {
+fn reads_no_more_once_interrupted(rt: HostRuntime) -> Result<(), AllocError> {
     let alloc = rt.alloc();
     let input = row_input(alloc)?;
-    for count in 0..=input.len() {
-        let reader = InterruptedReader {
-            before: &input.as_bytes()[..count],
-            behind: &input.as_bytes()[count..],
-            was_interrupted: false,
-        };
-        let (end, out) = run(alloc, reader);
-        assert_eq!(rt; end, Err(ScriptFault::Read));
-        let wanted = row_output(alloc, count)?;
-        assert_eq!(rt; str::from_utf8(out.as_slice()), Ok(wanted.as_str()));
+    let bytes = input.as_bytes();
+    for count in 0..=bytes.len() {
+        check_interrupted(&rt, alloc, &bytes[..count], &bytes[count..])?;
     }
     Ok(())
 }
@@ -139,23 +154,31 @@ impl Write for InterruptedWriter {
     }
 }
 
+/// How a run over a text ends whose write is interrupted once, and what was taken.
+fn run_interrupted(alloc: Global, text: &[u8], room: usize) -> (Ended, Vec<u8>) {
+    let mut writer = Watched::new(InterruptedWriter {
+        taken: Vec::new(alloc),
+        room,
+        was_interrupted: false,
+    });
+    let end = run_script(alloc, &mut Watched::new(text), &mut writer);
+    (end, writer.into_inner().taken)
+}
+
+/// Behind each byte of the wanted output a write is interrupted once.
+fn check_interruptions(rt: &impl Abort, alloc: Global, input: &[u8], wanted: &[u8]) {
+    for room in 0..wanted.len() {
+        let (end, taken) = run_interrupted(alloc, input, room);
+        assert_eq!(rt; end, Err(ScriptFault::Write));
+        assert_eq!(rt; taken.as_slice(), &wanted[..room]);
+    }
+}
+
 #[test]
-fn writes_no_more_once_interrupted(rt: HostRuntime) -> Result<(), Fail> {
+fn writes_no_more_once_interrupted(rt: HostRuntime) -> Result<(), AllocError> {
     let alloc = rt.alloc();
     let input = row_input(alloc)?;
     let wanted = row_output(alloc, input.len())?;
-    for room in 0..wanted.len() {
-        let mut writer = Watched::new(InterruptedWriter {
-            taken: Vec::new(alloc),
-            room,
-            was_interrupted: false,
-        });
-        let end = run_script(alloc, &mut Watched::new(input.as_bytes()), &mut writer);
-        assert_eq!(rt; end, Err(ScriptFault::Write));
-        assert_eq!(rt;
-            writer.into_inner().taken.as_slice(),
-            &wanted.as_bytes()[..room]
-        );
-    }
+    check_interruptions(&rt, alloc, input.as_bytes(), wanted.as_bytes());
     Ok(())
 }

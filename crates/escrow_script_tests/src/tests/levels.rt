@@ -3,67 +3,67 @@
 use super::{HALVED, Talk, add, check_said};
 use itoa::Buffer;
 use std::alloc::AllocError;
-use std::test::Fail;
 
 /// Three sites: lower 14, 13 and 13, raise 20 each.
 const THREE: &str =
     "{\"sites\":3,\"fields\":[{\"name\":\"stock\",\"floor\":0,\"ceiling\":100,\"value\":40}]}";
 
+const UNEVEN: [(&str, &str); 7] = [
+    (
+        "0 give 1 stock lower 5",
+        "0 give 1 stock lower 5 -> given 5",
+    ),
+    ("deliver 1", "1 accept 0 1 stock lower 5 -> accepted 5"),
+    (
+        "level stock lower",
+        "level stock lower -> moves 1\n1 give 0 stock lower 5 -> given 5",
+    ),
+    ("1 share stock", "1 share stock -> share 20 30"),
+    ("level stock raise", "level stock raise -> moves 0"),
+    ("deliver 2", "0 accept 1 0 stock lower 5 -> accepted 5"),
+    ("level stock lower", "level stock lower -> moves 0"),
+];
+
 // Two sites are levelled by one gift, which isn't delivered.
 #[test]
-fn levels_what_a_gift_made_uneven(rt: HostRuntime) -> Result<(), Fail> {
-    let rows: [(&str, &str); 7] = [
-        (
-            "0 give 1 stock lower 5",
-            "0 give 1 stock lower 5 -> given 5",
-        ),
-        ("deliver 1", "1 accept 0 1 stock lower 5 -> accepted 5"),
-        (
-            "level stock lower",
-            "level stock lower -> moves 1\n1 give 0 stock lower 5 -> given 5",
-        ),
-        ("1 share stock", "1 share stock -> share 20 30"),
-        ("level stock raise", "level stock raise -> moves 0"),
-        ("deliver 2", "0 accept 1 0 stock lower 5 -> accepted 5"),
-        ("level stock lower", "level stock lower -> moves 0"),
-    ];
-    check_said(&rt, rt.alloc(), HALVED, &rows)?;
-    Ok(())
+fn levels_what_a_gift_made_uneven(rt: HostRuntime) -> Result<(), AllocError> {
+    check_said(&rt, rt.alloc(), HALVED, &UNEVEN)
 }
+
+const ONE_DOWN: [(&str, &str); 5] = [
+    (
+        "0 give 1 stock lower 14",
+        "0 give 1 stock lower 14 -> given 14",
+    ),
+    ("deliver 1", "1 accept 0 1 stock lower 14 -> accepted 14"),
+    ("1 restart torn 0", "1 restart -> still down"),
+    (
+        "level stock lower",
+        "level stock lower -> moves 1\n2 give 0 stock lower 7 -> given 7",
+    ),
+    ("level stock raise", "level stock raise -> moves 0"),
+];
+
+const EVEN: [(&str, &str); 1] = [("level stock raise", "level stock raise -> moves 0")];
 
 // A site that is down neither gives nor gets.
 #[test]
-fn levels_the_sites_that_are_up(rt: HostRuntime) -> Result<(), Fail> {
-    let rows: [(&str, &str); 5] = [
-        (
-            "0 give 1 stock lower 14",
-            "0 give 1 stock lower 14 -> given 14",
-        ),
-        ("deliver 1", "1 accept 0 1 stock lower 14 -> accepted 14"),
-        ("1 restart torn 0", "1 restart -> still down"),
-        (
-            "level stock lower",
-            "level stock lower -> moves 1\n2 give 0 stock lower 7 -> given 7",
-        ),
-        ("level stock raise", "level stock raise -> moves 0"),
-    ];
-    check_said(&rt, rt.alloc(), THREE, &rows)?;
-    let even: [(&str, &str); 1] = [("level stock raise", "level stock raise -> moves 0")];
-    check_said(&rt, rt.alloc(), HALVED, &even)?;
-    Ok(())
+fn levels_the_sites_that_are_up(rt: HostRuntime) -> Result<(), AllocError> {
+    check_said(&rt, rt.alloc(), THREE, &ONE_DOWN)?;
+    check_said(&rt, rt.alloc(), HALVED, &EVEN)
 }
+
+const NONE_UP: [(&str, &str); 4] = [
+    ("0 restart torn 0", "0 restart -> still down"),
+    ("1 restart torn 0", "1 restart -> still down"),
+    ("level stock lower", "level stock lower -> moves 0"),
+    ("level stock raise", "level stock raise -> moves 0"),
+];
 
 // Where all sites are down there is nothing to move.
 #[test]
-fn levels_no_site(rt: HostRuntime) -> Result<(), Fail> {
-    let rows: [(&str, &str); 4] = [
-        ("0 restart torn 0", "0 restart -> still down"),
-        ("1 restart torn 0", "1 restart -> still down"),
-        ("level stock lower", "level stock lower -> moves 0"),
-        ("level stock raise", "level stock raise -> moves 0"),
-    ];
-    check_said(&rt, rt.alloc(), HALVED, &rows)?;
-    Ok(())
+fn levels_no_site(rt: HostRuntime) -> Result<(), AllocError> {
+    check_said(&rt, rt.alloc(), HALVED, &NONE_UP)
 }
 
 /// The widest field at its ceiling, among three sites: lower 666666666666667, the same, and one
@@ -106,28 +106,31 @@ impl Talk {
     }
 }
 
+/// The most that a gift may move.
+const ALL: u64 = 2_000_000_000_000_000;
+
+impl Talk {
+    /// Gifts of all rights to and fro, until site 0 has given site 1 as much as one may.
+    fn carry_to_the_limit(&mut self) -> Result<(), AllocError> {
+        for round in 1..500u64 {
+            let back = 666_666_666_666_667 + round * ALL;
+            self.carry(2 * round + 1, "0", "1", ALL, round * ALL)?;
+            self.carry(2 * round + 2, "1", "0", ALL, back)?;
+        }
+        self.carry(1_001, "0", "1", ALL, 500 * ALL)
+    }
+}
+
 // The total of gifts from site 0 to site 1 is as large as one may be, so a gift is refused; the one
 // after it is given.
 #[test]
-fn levels_past_a_refused_gift(rt: HostRuntime) -> Result<(), Fail> {
-    let all = 2_000_000_000_000_000u64;
+fn levels_past_a_refused_gift(rt: HostRuntime) -> Result<(), AllocError> {
     let mut talk = Talk::new(rt.alloc(), WIDEST_OF_THREE)?;
     talk.carry(1, "1", "0", 666_666_666_666_667, 666_666_666_666_667)?;
     talk.carry(2, "2", "0", 666_666_666_666_666, 666_666_666_666_666)?;
-    for round in 0..500u64 {
-        talk.carry(2 * round + 3, "0", "1", all, (round + 1) * all)?;
-        if round < 499 {
-            talk.carry(
-                2 * round + 4,
-                "1",
-                "0",
-                all,
-                666_666_666_666_667 + (round + 1) * all,
-            )?;
-        }
-    }
-    talk.carry(1_002, "1", "2", all, all)?;
-    talk.carry(1_003, "2", "0", all, 666_666_666_666_666 + all)?;
+    talk.carry_to_the_limit()?;
+    talk.carry(1_002, "1", "2", ALL, ALL)?;
+    talk.carry(1_003, "2", "0", ALL, 666_666_666_666_666 + ALL)?;
     talk.said(
         "level stock lower",
         "level stock lower -> moves 2\n0 give 1 stock lower 666666666666667 -> refused 9 ledger full 1000000000000000000\n0 give 2 stock lower 666666666666666 -> given 666666666666666",
