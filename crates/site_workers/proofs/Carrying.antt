@@ -1,5 +1,5 @@
 -- What a courier has done after one letter more.
-use Rattle.std.proofs.Common.{◌≡◌, ◌≢◌, ℕ, ◌+◌, ◌<◌, ◌≤◌, Bool, true, false, true≢false, List, [], ◌∷◌, ◌++◌, length, set, sym, refl, ap, ◌∙◌, subst, arith, slice_index_or, append-nil, append_assoc, get_or-set_other, take, ⊎_elim}
+use Rattle.std.proofs.Common.{◌≡◌, ◌≢◌, ℕ, zero, suc, ◌+◌, ◌<◌, ◌≤◌, Bool, true, false, true≢false, List, [], ◌∷◌, ◌++◌, length, set, sym, refl, ap, ◌∙◌, subst, arith, slice_index_or, replicate, append-nil, append_assoc, get_or-set_other, take, ⊎_elim}
 use Rattle.std.proofs.lemmas.List.{take_more, get_or-set_same, length-set}
 use Rattle.std.specs.List.{Contains}
 use Rattle.std.proofs.lemmas.List.Elements.{Contains-append_left, Contains-push, Contains-push_cases}
@@ -31,6 +31,11 @@ commands_more (q ∷ rs) r = ap (λ l. q.entry.command ∷ l) (commands_more rs 
 
 no_letter : (x : Letter) → Contains [] x → ⊥
 no_letter x has = omega (arith, has.1)
+
+none_marked : (sites n : ℕ) → slice_index_or (replicate sites false) n false ≡ false
+none_marked zero n = refl
+none_marked (suc k) zero = refl
+none_marked (suc k) (suc n) = none_marked k n
 
 pub begins : (taken : List Letter) (ended : List Bool) → ((n : ℕ) → slice_index_or ended n false ≡ false) → Progress taken taken ended []
 begins taken ended none = record {
@@ -128,9 +133,11 @@ stops_at sites start now after ended rs same len p lacking =
     subst (λ (l : List Letter). StopsShort sites start l rs) (sym same) (stops sites start now ended rs len p lacking)
 
 -- the same, as the loop of a courier has it: it took x, which it found to be a letter of that kind
-pub begins_at : (taken : List Letter) (ended : List Bool) (rs : List Receipt) → rs ≡ [] → ((n : ℕ) → slice_index_or ended n false ≡ false)
+pub begins_at : (taken : List Letter) (sites : ℕ) (ended : List Bool) (rs : List Receipt) → rs ≡ [] → ended ≡ replicate sites false
     → Progress taken taken ended rs
-begins_at taken ended rs none unmarked = subst (λ (q : List Receipt). Progress taken taken ended q) (sym none) (begins taken ended unmarked)
+begins_at taken sites ended rs none unmarked =
+    subst (λ (q : List Receipt). Progress taken taken ended q) (sym none)
+    (subst (λ (l : List Bool). Progress taken taken l []) (sym unmarked) (begins taken (replicate sites false) (none_marked sites)))
 
 pub accepts_at : (start now after : List Letter) (ended : List Bool) (rs rs' : List Receipt) (x : Letter) (s : Statement) (r : Receipt)
     → after ≡ now ++ x ∷ [] → x ≡ Stated s → rs' ≡ rs ++ r ∷ [] → r.entry.command ≡ Accept s

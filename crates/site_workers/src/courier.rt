@@ -3,12 +3,13 @@
 ghost use Rattle.std.specs.Prelude.{◌≡◌, ◌+◌, ◌<◌, ◌≤◌, ℕ, true, false, [], ◌∷◌, ◌++◌, length, IfOk, IfErr, OnErr, OnOk, IsTrue, slice_index_or, vec_len, ◌↔◌};
 ghost use Rattle.crossbeam_channel.specs.Claims.{view, IsSeatAt};
 ghost use Rattle.crossbeam_channel.specs.Ends.{receives_on};
+ghost use Rattle.field_bounds.specs.declared.entry.Command.TheVariants.{Accept};
 ghost use Rattle.site_workers.specs.Carried.{Carries, StopsShort, Progress};
 ghost use Rattle.site_workers.specs.Faults.{IsCourierFault, TellsShort};
 
 use crate::fault::{WorkFault, fault_of_call};
 use crate::inbox::{Inbox, Letter, Way, take};
-use field_bounds::{Command, Schema};
+use field_bounds::{Command, Schema, Statement};
 use kept_records::Medium;
 use site_desk::{Desk, Pass, Receipt};
 use std::alloc::Global;
@@ -38,6 +39,23 @@ pub(crate) struct Delivery {
     pub whole: bool,
 }
 
+/// Accepts a statement at the desk.
+fn accept<L: Ledger, M: Medium + Drop, R: Wait>(
+    rt: &R,
+    alloc: Global,
+    desk: &Desk<L, M>,
+    pass: &mut Pass<L>,
+    statement: Statement,
+) -> Result<Receipt, WorkFault>
+    ensures ok { IfOk result (λ receipt. receipt.entry.command ≡ Accept statement) }
+    ensures fault { IfErr result (IsCourierFault desk.now.site) }
+{
+    match desk.call(rt, alloc, pass, Command::Accept(statement)) {
+        Ok(receipt) => Ok(receipt),
+        Err(fault) => Err(fault_of_call(desk.site(), fault)),
+    }
+}
+
 /// Accepts each Stated letter that it takes, in order, until it has an End of every site or the
 /// inbox is closed.
 pub(crate) fn deliver<L: Ledger, M: Medium + Drop, R: Wait>(
@@ -59,11 +77,7 @@ pub(crate) fn deliver<L: Ledger, M: Medium + Drop, R: Wait>(
         (view way.new).taken done.receipts.items) }
     ensures fault { IfErr result (IsCourierFault desk.now.site) }
 {
-    let sites = usize::from(schema.sites());
-    let mut ended = Vec::new(alloc);
-    for _i in 0..sites {
-        ended.push(false)?;
-    }
+    let mut ended = vec![in alloc; false; usize::from(schema.sites())]?;
     let mut receipts = Vec::new(alloc);
     for _ in rt.forever() {
         let whole = all_marked(ended.as_slice());
@@ -75,11 +89,7 @@ pub(crate) fn deliver<L: Ledger, M: Medium + Drop, R: Wait>(
         };
         match letter {
             Letter::Stated(statement) => {
-                let command = Command::Accept(statement);
-                match desk.call(rt, alloc, pass, command) {
-                    Ok(receipt) => receipts.push(receipt)?,
-                    Err(fault) => return Err(fault_of_call(desk.site(), fault)),
-                }
+                receipts.push(accept(rt, alloc, desk, pass, statement)?)?;
             }
             Letter::End(site) => {
                 let place = usize::from(site.0);

@@ -12,7 +12,7 @@ use crate::fault::{WorkFault, fault_of_call, fault_of_receipts};
 use crate::post::{Mail, Post, end_all};
 use field_bounds::{Command, Entry, Schema, SiteNo, statement_of};
 use kept_records::MemoryMedium;
-use site_desk::{Blank, Desk, Gate, Pass, Receipt, check_receipts};
+use site_desk::{Blank, Closed, Desk, Gate, Pass, Receipt, check_receipts};
 use std::alloc::{AllocError, Global};
 use std::marker::Brand;
 use std::sync::Wait;
@@ -169,6 +169,28 @@ fn run_both<'x, L: Ledger + Send + Sync, R: Threads + Wait + Sync, G: Gate>(
     )
 }
 
+/// The history of a closed desk, where the receipts are exactly its entries.
+fn checked_history(
+    alloc: Global,
+    closed: &Closed<MemoryMedium>,
+    receipts: &[Receipt],
+) -> Result<Vec<Entry>, WorkFault>
+    ensures closed { IfOk result (λ history. IsClosed closed.now.schema closed.now.site
+        history.items receipts.now) }
+    ensures fault { IfErr result (IsFaultAt closed.now.schema closed.now.site) }
+{
+    if !closed.on_fresh_base() {
+        return Err(WorkFault::Passes {
+            site: closed.site(),
+        });
+    }
+    let history = closed.history();
+    if let Err(fault) = check_receipts(alloc, closed, receipts) {
+        return Err(fault_of_receipts(fault));
+    }
+    Ok(history.to_vec(alloc)?)
+}
+
 /// Closes the desk, and hands its history back where the receipts are exactly its entries.
 fn finish<L: Ledger>(
     alloc: Global,
@@ -185,21 +207,30 @@ fn finish<L: Ledger>(
     let mut passes = Vec::new(alloc);
     passes.push(first)?;
     passes.push(second)?;
-    let Ok(closed) = desk.close(passes) else {
-        return Err(WorkFault::Passes { site });
-    };
-    if !closed.on_fresh_base() {
-        return Err(WorkFault::Passes { site });
+    match desk.close(passes) {
+        Ok(closed) => checked_history(alloc, &closed, receipts),
+        Err(_) => Err(WorkFault::Passes { site }),
     }
-    let entries = closed.history();
-    if let Err(fault) = check_receipts(alloc, &closed, receipts) {
-        return Err(fault_of_receipts(fault));
-    }
-    let mut history = Vec::new(alloc);
-    for entry in entries {
-        history.push(*entry)?;
-    }
-    Ok(history)
+}
+
+/// The desk of a site, over an empty log, and the two passes to it.
+fn open<L: Ledger>(
+    alloc: Global,
+    blank: Blank,
+    schema: &Schema,
+    site: SiteNo,
+) -> Option<(Desk<L, MemoryMedium>, Pass<L>, Pass<L>)>
+    requires name { blank.name ≡ L.name }
+    requires parts { blank.parts ≡ L.parts }
+    requires some { 0 < blank.parts }
+    requires in_schema { site.0 < schema.now.sites }
+    ensures desk { IfSome result (λ made. (made.0.schema ≡ schema.now) × (made.0.site ≡ site)) }
+{
+    let medium = MemoryMedium::new(Vec::new(alloc));
+    let (desk, mut passes) = Desk::<L, MemoryMedium>::new(alloc, blank, schema, site, medium).ok()?;
+    let first = passes.pop()?;
+    let second = passes.pop()?;
+    Some((desk, first, second))
 }
 
 /// One site, over its own ledger: its desk is made, called and closed here.
@@ -226,14 +257,7 @@ fn run_over<'x, L: Ledger + Send + Sync, R: Threads + Wait + Sync, G: Gate>(
         mut posts,
         mail,
     } = seat;
-    let medium = MemoryMedium::new(Vec::new(alloc));
-    let made = Desk::<L, MemoryMedium>::new(alloc, blank, schema, site, medium);
-    let Ok((desk, mut passes)) = made else {
-        drop(mail);
-        end_all(rt, &mut posts);
-        return Err(WorkFault::NoMemory);
-    };
-    let (Some(first), Some(second)) = (passes.pop(), passes.pop()) else {
+    let Some((desk, first, second)) = open::<L>(alloc, blank, schema, site) else {
         drop(mail);
         end_all(rt, &mut posts);
         return Err(WorkFault::NoMemory);

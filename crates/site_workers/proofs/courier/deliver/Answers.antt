@@ -1,11 +1,16 @@
-use Rattle.std.proofs.Common.{◌≡◌, ℕ, ◌<◌, ◌≤◌, List, length, slice_index_or, Bool, true, false, true≢false, ap, sym, subst, ◌∙◌, arith}
+use Rattle.std.proofs.Common.{rules, ◌≡◌, ℕ, ◌<◌, ◌≤◌, List, length, slice_index_or, Bool, true, false, true≢false, ap, sym, subst, ◌∙◌, arith}
 use Rattle.site_workers.specs.declared.inbox.View.{View}
 use Rattle.site_workers.proofs.Carrying.{begins_at, accepts_at, ends_at, skips_at, finishes, stops_at}
-use Rattle.site_workers.proofs.Faults.{courier_call}
 use Rattle.site_workers.proofs.courier.deliver.Goals as goal
 
 pub loop-init : goal.loop-init
-loop-init g c = (tt, tt, c.requires.seat, omega arith, begins_at _ _ _ c.new-receipts.ensures.items c.loop-i.invariant.1)
+loop-init g c = (
+  tt,
+  tt,
+  c.requires.seat,
+  omega (arith, c.in_ok-ended.ensures.len, c.from.ensures, c.sites.ensures.value),
+  begins_at _ c.from.result _ _ c.new-receipts.ensures.items (search rules),
+)
 
 pub returns-then-whole-clause-whole : goal.returns-then-whole-clause-whole
 returns-then-whole-clause-whole g c = λ on.
@@ -26,17 +31,14 @@ returns-in_default-clause-short g c = λ off.
     (subst (λ (l : List Bool). (n : ℕ) × (n < length l)
     × (slice_index_or l n false ≡ false)) c.as_slice.ensures.value (c.all_marked-whole.ensures.not_all off))
 
-pub returns-in-Err-clause-fault : goal.returns-in-Err-clause-fault
-returns-in-Err-clause-fault g c = courier_call _ _ _ _ _ c.fault_of_call.ensures c.site.ensures.value c.in-Err.ensures.fault
-
-pub loop-preserved-in-Continue-branch-2 : goal.loop-preserved-in-Continue-branch-2
-loop-preserved-in-Continue-branch-2 g c = (
+pub loop-preserved-in_ok-push-in-Stated : goal.loop-preserved-in_ok-push-in-Stated
+loop-preserved-in_ok-push-in-Stated g c = (
   tt,
   tt,
   c.in-Some-take.ensures.seat,
   c.loop.invariant.3,
   accepts_at _ _ _ _ _ _ _ _ _ (ap (λ (v : View). v.taken) c.in-Some-take.ensures.some) c.in-Stated.is
-      c.in_ok-push-in-Ok.ensures.items c.in-Ok.ensures.ok.0 c.loop.invariant.4,
+      c.in_ok-push-in-Stated.ensures.items c.in_ok-accept-in-Stated.ensures.ok c.loop.invariant.4,
 )
 
 pub loop-preserved-then-place-len : goal.loop-preserved-then-place-len
