@@ -104,12 +104,9 @@ pub fn check_receipts<M: Medium>(
 {
     let own = closed.site();
     let history = closed.history();
-    let mut seen = Vec::new(alloc);
-    for _entry in history {
-        if seen.push(false).is_err() {
-            return Err(ReceiptFault::NoMemory);
-        }
-    }
+    let Ok(mut seen) = vec![in alloc; false; history.len()] else {
+        return Err(ReceiptFault::NoMemory);
+    };
     for receipt in receipts {
         let site = receipt.site();
         let number = receipt.number();

@@ -7,11 +7,11 @@ use Rattle.site_desk.proofs.receipts.check_receipts.Goals as goal
 oldest_first : (shown h : List Entry) → reverse shown ≡ h → shown ≡ reverse h
 oldest_first shown h e = sym (reverse-reverse shown) ∙ ap (λ (l : List Entry). reverse l) e
 
-pub returns-in_default-clause-fault : goal.returns-in_default-clause-fault
-returns-in_default-clause-fault g c =
+pub returns-in_default-place_of-clause-fault : goal.returns-in_default-place_of-clause-fault
+returns-in_default-place_of-clause-fault g c =
     differs_at _ _ _ _ c.args.receipts.now c.loop-receipt.receipt-index _ c.loop-receipt.seen.items _ _ c.site-own.ensures.value
     (oldest_first _ _ c.history-history.ensures.value) c.loop-receipt-test.true c.site-site.ensures.value c.number-number.ensures.value
-    c.in_default.ensures.none c.loop-receipt.invariant.checked
+    c.in_default-place_of.ensures.none c.loop-receipt.invariant.checked
 
 pub returns-then-index-clause-fault : goal.returns-then-index-clause-fault
 returns-then-index-clause-fault g c =

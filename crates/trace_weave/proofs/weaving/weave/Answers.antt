@@ -19,14 +19,14 @@ loop-site-preserved c =
       len = c.loop-site.invariant.len;
       reached =
           reaches (lists_of c.args.histories.now) c.loop-site.counts.items _ _ _ c.loop-site.trace.items _ c.in-Some.site _ _ _
-          c.as_slice.ensures.value c.in_ok-push-2.ensures.items turned c.loop-site.invariant.reached.knows
+          c.as_slice.ensures.value c.in_ok-push.ensures.items turned c.loop-site.invariant.reached.knows
           c.in_ok-insert_issued.ensures.ok
           c.next_look-from.ensures;
       woven =
           turns_at (lists_of c.args.histories.now) c.loop-site.counts.items _ c.loop-site.trace.items _ _ c.in-Some.site _ _
           (sym c.loop-site.counts.ok.0 ∙ (c.loop-site.invariant.len ∙ sym (length-map c.args.histories.now _))) c.as_slice.ensures.value
           refl
-          c.in_ok-push-2.ensures.items
+          c.in_ok-push.ensures.items
           c.index_mut.ensures.value
           turned
           c.loop-site.invariant.woven;
