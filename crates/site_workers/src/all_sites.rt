@@ -1,6 +1,8 @@
 //! All sites, each in a thread of its own.
 
 ghost use Rattle.std.specs.Prelude.{◌≡◌, ◌<◌, [], List, IfOk, IfErr, IfSome};
+ghost use Rattle.crossbeam_channel.specs.Claims.{view, IsSeatAt};
+ghost use Rattle.crossbeam_channel.specs.Ends.{sends_on};
 ghost use Rattle.field_bounds.specs.declared.entry.Command.{Command as CommandSeen};
 ghost use Rattle.field_bounds.specs.Schema.{SchemaValue};
 ghost use Rattle.site_workers.specs.Jobs.{AreJoined};
@@ -10,7 +12,7 @@ ghost use Rattle.site_workers.specs.Scripts.{scripts_of, histories_of, HasNoAcce
 
 use crate::crossing::{foreign, lost};
 use crate::fault::WorkFault;
-use crate::inbox::{admit, hire, open_inbox};
+use crate::inbox::{Slot, Way, admit, hire, open_inbox};
 use crate::one_site::{Seat, run_site};
 use crate::post::{Mail, Post, Spare};
 use crate::running::{Running, Task};
@@ -22,6 +24,43 @@ use std::sync::Wait;
 use std::thread;
 use std::thread::Threads;
 
+/// One empty row of posts for each worker.
+fn empty_rows(alloc: Global, sites: u16) -> Result<Vec<Vec<Post>>, WorkFault>
+    ensures { IfErr result (λ fault. fault ≡ NoMemory) }
+{
+    let mut rows = Vec::with_capacity(alloc, usize::from(sites))?;
+    for _site in 0..sites {
+        rows.push(Vec::new(alloc))?;
+    }
+    Ok(rows)
+}
+
+/// Hires each site's worker at a new inbox, and puts its end of it into its row.
+fn hire_all(
+    slot: &Slot,
+    maker: &mut Way,
+    sites: u16,
+    posts: &mut Vec<Vec<Post>>,
+) -> Result<(), WorkFault>
+    requires seat { IsSeatAt (sends_on slot.now) maker.old }
+    requires new { (view maker.old).made ≡ 0 }
+    ensures seat { IsSeatAt (sends_on slot.now) maker.new }
+    ensures fault { IfErr result (λ fault. fault ≡ NoMemory) }
+{
+    for site in 0..sites {
+        let end = slot.try_clone()?;
+        let way = hire(slot, maker);
+        if let Some(row) = posts.get_mut(usize::from(site)) {
+            row.push(Post {
+                slot: end,
+                way,
+                site: SiteNo(site),
+            })?;
+        }
+    }
+    Ok(())
+}
+
 /// The posts of each worker, the mail of each courier, and the caller's ends of the inboxes.
 pub(crate) fn open_all(
     alloc: Global,
@@ -29,33 +68,15 @@ pub(crate) fn open_all(
 ) -> Result<(Vec<Vec<Post>>, Vec<Mail>, Vec<Spare>), WorkFault>
     ensures { IfErr result (λ fault. fault ≡ NoMemory) }
 {
-    let mut posts = Vec::new(alloc);
-    for _i in 0..sites {
-        posts.push(Vec::new(alloc))?;
-    }
+    let mut posts = empty_rows(alloc, sites)?;
     let mut mails = Vec::new(alloc);
     let mut spares = Vec::new(alloc);
-    for _i in 0..sites {
-        let Ok((slot, inbox, way)) = open_inbox(alloc) else {
-            return Err(WorkFault::NoMemory);
-        };
-        let mut own = way;
-        for j in 0..sites {
-            let Ok(theirs) = slot.try_clone() else {
-                return Err(WorkFault::NoMemory);
-            };
-            let way = hire(&slot, &mut own);
-            if let Some(row) = posts.get_mut(usize::from(j)) {
-                row.push(Post {
-                    slot: theirs,
-                    way,
-                    site: SiteNo(j),
-                })?;
-            }
-        }
-        let way = admit(&slot, &mut own);
+    for _site in 0..sites {
+        let (slot, inbox, mut maker) = open_inbox(alloc)?;
+        hire_all(&slot, &mut maker, sites, &mut posts)?;
+        let way = admit(&slot, &mut maker);
         mails.push(Mail { inbox, way })?;
-        spares.push(Spare { slot, way: own })?;
+        spares.push(Spare { slot, way: maker })?;
     }
     Ok((posts, mails, spares))
 }
