@@ -14,7 +14,7 @@ use crate::crossing::{foreign, lost};
 use crate::fault::WorkFault;
 use crate::inbox::{Slot, Way, admit, hire, open_inbox};
 use crate::one_site::{Seat, run_site};
-use crate::post::{Mail, Post, Spare};
+use crate::post::{Mail, Post, Spare, end_for};
 use crate::running::{Running, Task};
 use field_bounds::{Command, Entry, Schema, SiteNo};
 use site_desk::Gate;
@@ -182,9 +182,7 @@ fn run_threads<'x, R: Threads + Wait + Sync, G: Gate>(
                     }
                 }
                 if started.is_none() {
-                    for spare in spares.iter_mut() {
-                        spare.put_end(rt, site);
-                    }
+                    end_for(rt, &mut spares, site);
                 }
                 handles.push(started)?;
             }

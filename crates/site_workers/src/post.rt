@@ -65,3 +65,10 @@ impl Spare {
         let _ = put(rt, slot, way, Letter::End(site));
     }
 }
+
+/// Tells all couriers that the worker of this site, which can't be made, puts no more.
+pub(crate) fn end_for<R: Wait>(rt: &R, spares: &mut Vec<Spare>, site: SiteNo) {
+    for spare in spares.iter_mut() {
+        spare.put_end(rt, site);
+    }
+}
