@@ -2,6 +2,7 @@
 
 ghost use Rattle.std.specs.Prelude.{◌≡◌, ◌+◌, ◌<◌, IfOk, IfErr, OnErr, length, vec_len};
 ghost use Rattle.site_desk.specs.Faults.{Fails, FailsAtGate};
+ghost use Rattle.site_desk.specs.declared.fault.DeskFault.TheVariants.{GateTurns};
 ghost use Rattle.site_desk.specs.Passes.{AreNew, Settles};
 ghost use Rattle.site_desk.specs.Receipts.{Counts};
 ghost use Rattle.site_step.specs.Opening.{TellsLine, SparesLogs, FailsUnder};
@@ -117,7 +118,8 @@ impl<L: Ledger, M: Medium + Drop> Desk<L, M> {
 
     /// The same, where the gate lets the call in: it is asked with the lock held, before the
     /// command is applied, and told once the call was served and the lock is let go. Where it
-    /// doesn't, `GateTurns`, and nothing has changed.
+    /// doesn't, `GateTurns`, and nothing has changed: so it never comes of a gate that turns no
+    /// call away.
     pub fn call_at<R: Wait, G: Gate>(
         &self,
         rt: &R,
@@ -129,6 +131,8 @@ impl<L: Ledger, M: Medium + Drop> Desk<L, M> {
         ensures ok { IfOk result (λ r. Counts pass.old command r pass.new) }
         ensures same { OnErr result (pass.new ≡ pass.old) }
         ensures fault { IfErr result (λ e. FailsAtGate pass.old.last e) }
+        ensures turned { IfErr result (λ e. e ≡ GateTurns
+            → G.turns gate.now self.now.site (pass.old.count + 1)) }
     {
         let mut kept = self.kept.lock(rt);
         let call = kept.next_call(pass);

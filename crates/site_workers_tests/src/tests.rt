@@ -170,6 +170,8 @@ fn comes(mark: &AtomicU64) -> bool {
 }
 
 impl Gate for Both {
+    ghost turns = { λ gate site call. Unit {0} };
+
     fn inside(&self, site: SiteNo, call: u64) -> bool {
         if call != 1 {
             return true;
@@ -206,6 +208,8 @@ struct After {
 }
 
 impl Gate for After {
+    ghost turns = { λ gate site call. Unit {0} };
+
     fn inside(&self, site: SiteNo, call: u64) -> bool {
         site != SiteNo(0) || call != 1 || comes(&self.answered)
     }
@@ -233,6 +237,8 @@ fn one_site_waits_for_another(rt: HostRuntime) -> Result<(), AllocError> {
 struct Third;
 
 impl Gate for Third {
+    ghost turns = { λ gate site call. Unit {0} };
+
     fn inside(&self, site: SiteNo, call: u64) -> bool {
         site != SiteNo(0) || call != 3
     }

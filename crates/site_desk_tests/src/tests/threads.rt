@@ -184,6 +184,8 @@ struct Both {
 }
 
 impl Gate for Both {
+    ghost turns = { λ gate site call. Unit {0} };
+
     fn inside(&self, site: SiteNo, call: u64) -> bool {
         if call != 1 {
             return true;
