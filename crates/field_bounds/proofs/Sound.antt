@@ -1,16 +1,10 @@
 -- A sound trace grows by one entry at a time: for a caller that keeps one site for each site of a schema.
-use Rattle.std.proofs.Common.{◌≡◌, ℕ, ◌<◌, Bool, true, false, List, [], ◌∷◌, refl, sym, subst, inl, inr}
+use Rattle.std.proofs.Common.{ℕ, ◌<◌, List, [], ◌∷◌, refl, sym, subst, inl, inr}
 use Rattle.std.proofs.lemmas.Bool.{cases_eq}
-use Rattle.field_bounds.specs.declared.entry.Statement.{Statement}
-use Rattle.field_bounds.specs.declared.entry.Command.{Command}
-use Rattle.field_bounds.specs.declared.entry.Command.TheVariants.{Accept}
-use Rattle.field_bounds.specs.declared.entry.Reply.{Reply}
-use Rattle.field_bounds.specs.declared.entry.Reply.TheVariants.{Accepted, Unsure}
 use Rattle.field_bounds.specs.declared.entry.Entry.{Entry}
 use Rattle.field_bounds.specs.Schema.{SchemaValue}
 use Rattle.field_bounds.specs.Effects.{fresh}
 use Rattle.field_bounds.specs.Owed.{place, Fits, IsRun}
-use Rattle.field_bounds.specs.Statements.{IsIssued}
 use Rattle.field_bounds.specs.Central.{own, StatementRule, IsSound}
 use Rattle.field_bounds.proofs.Traces.{own_here, own_there}
 
@@ -37,28 +31,3 @@ pub sound_more : (schema : SchemaValue) (e : Entry) (t : List Entry) → IsSound
     → IsSound schema (e ∷ t)
 sound_more schema e t sound inside rule fits =
     record { sites = (sound.sites, inside); statements = (sound.statements, rule); runs = run_more schema e t sound inside fits }
-
--- ---- which entries have a statement to answer for
-
--- the command takes in a statement
-abbrev pub is_accept : Command → Bool
-is_accept (Accept told) = true
-is_accept command = false
-
--- a command that takes none in answers for none
-pub rule_of_plain : (t : List Entry) (c : Command) (r : Reply) → is_accept c ≡ false → StatementRule t c r
-rule_of_plain t (Accept told) (Accepted gain) h = absurd cc
-rule_of_plain t (Accept told) Unsure h = absurd cc
-rule_of_plain t c r h = tt
-
--- a statement that was issued may be taken in
-pub rule_of_issued : (t : List Entry) (told : Statement) (r : Reply) → IsIssued told t → StatementRule t (Accept told) r
-rule_of_issued t told (Accepted gain) h = h
-rule_of_issued t told Unsure h = h
-rule_of_issued t told r h = tt
-
--- so an entry that takes none in leaves a sound trace sound
-pub sound_more_plain : (schema : SchemaValue) (e : Entry) (t : List Entry) → IsSound schema t → e.site.0 < schema.sites
-    → is_accept e.command ≡ false → Fits (place schema e.site.0 (fresh schema e.site.0) (own e.site.0 t)) e.command e.reply
-    → IsSound schema (e ∷ t)
-sound_more_plain schema e t sound inside plain fits = sound_more schema e t sound inside (rule_of_plain t e.command e.reply plain) fits

@@ -6,11 +6,10 @@ use Rattle.field_bounds.specs.declared.kind.Kind.{Kind}
 use Rattle.field_bounds.specs.declared.id.TxnId.{TxnId}
 use Rattle.field_bounds.specs.declared.effect.Effect.{Effect}
 use Rattle.field_bounds.specs.declared.effect.Effect.TheVariants.{Begins, Grants, Commits, Aborts, Gives, Accepts, Stops}
-use Rattle.field_bounds.specs.Kind.{kind_of, same_kind, other}
+use Rattle.field_bounds.specs.Kind.{kind_of, same_kind}
 use Rattle.field_bounds.specs.Schema.{SchemaValue}
-use Rattle.field_bounds.specs.Effects.{Base, same_txn, is_begun, is_committed, is_dropped, is_aborted, is_open, begun_txns, open_txns, granted_sizes, gifts, gains, share, held_rights, own_rights}
+use Rattle.field_bounds.specs.Effects.{Base, same_txn, is_begun, is_committed, is_dropped, is_aborted, is_open, begun_txns, open_txns, granted_sizes, share, held_rights}
 use Rattle.field_bounds.proofs.Lawful.{IsLawful, covered, open_parts}
-use Rattle.field_bounds.proofs.Shares.{balance}
 use Rattle.field_bounds.proofs.Steps.{granted-or, granted-same, weigh_none, of_txn, fate_here}
 
 -- ---- transactions
@@ -98,10 +97,6 @@ module _ (schema : SchemaValue) (base : Base) (es : List Effect) (lawful : IsLaw
         granted-none f k es,
       )
 
-  -- and the own rights stay
-  pub own_rights_stop : own_rights base f k (Stops ∷ es) ≡ own_rights base f k es
-  own_rights_stop = omega (arith, share_stop, held_stop)
-
 -- ---- what a log of commits would keep
 
 -- the sizes of the escrows that stand in the commits, each with those of its transaction
@@ -132,16 +127,3 @@ kept_is_committed schema base (Aborts txn ∷ es) lawful f k = kept_is_committed
 kept_is_committed schema base (Gives to field kind amount ∷ es) lawful f k = kept_is_committed schema base es lawful.0 f k
 kept_is_committed schema base (Accepts from field kind total ∷ es) lawful f k = kept_is_committed schema base es lawful.0 f k
 kept_is_committed schema base (Stops ∷ es) lawful f k = kept_is_committed schema base es lawful.0 f k
-
--- after a stop the share is what the commits, the gifts and the gains leave
-pub share_stands : (schema : SchemaValue) (base : Base) (es : List Effect) → IsLawful schema base es → (f : ℕ) (k : Kind)
-    → share base f k (Stops ∷ es) + kept_sizes f k es + gifts (λ _. true) f k es ≡ base.rights f k + kept_sizes f (other k) es
-    + gains base f k es
-share_stands schema base es lawful f k =
-    omega (
-      arith,
-      share_stop schema base es lawful f k,
-      balance schema base es lawful f k,
-      kept_is_committed schema base es lawful f k,
-      kept_is_committed schema base es lawful f (other k),
-    )

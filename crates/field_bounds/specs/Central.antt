@@ -1,14 +1,13 @@
 -- One trace of all sites, as a run of one central store.
 -- A trace has the newest entry first, so that the rest of a list is the front before its head.
-use Rattle.std.specs.Prelude.{◌≡◌, ℕ, ◌+◌, ◌-◌, ◌<◌, ◌≤◌, ◌==◌, ℤ, pos, ◌+ℤ◌, ◌-ℤ◌, ◌≤ℤ◌, unsigned_abs, Bool, false, ◌&&◌, ◌||◌, if◌then◌else◌, List, [], ◌∷◌, length, Option, Some, None}
+use Rattle.std.specs.Prelude.{◌≡◌, ℕ, ◌+◌, ◌-◌, ◌<◌, ◌≤◌, ◌==◌, ℤ, pos, ◌+ℤ◌, ◌-ℤ◌, ◌≤ℤ◌, unsigned_abs, Bool, false, ◌&&◌, ◌||◌, if◌then◌else◌, List, [], ◌∷◌, length}
 use Rattle.field_bounds.specs.declared.kind.Kind.{Kind}
 use Rattle.field_bounds.specs.declared.kind.Kind.TheVariants.{Lower, Raise}
-use Rattle.field_bounds.specs.declared.id.SiteNo.{SiteNo}
 use Rattle.field_bounds.specs.declared.id.TxnId.{TxnId}
 use Rattle.field_bounds.specs.declared.entry.Command.{Command}
 use Rattle.field_bounds.specs.declared.entry.Command.TheVariants.{Begin, Escrow, Commit, Abort, Give, Restate, Spare, Tighten, Accept, Read, Share, Restart}
 use Rattle.field_bounds.specs.declared.entry.Reply.{Reply}
-use Rattle.field_bounds.specs.declared.entry.Reply.TheVariants.{Begun, Granted, Committed, Aborted, Given, Stated, Spared, Tightened, Accepted, Between, Shares, Restarted, Unsure, StillDown, Refused}
+use Rattle.field_bounds.specs.declared.entry.Reply.TheVariants.{Granted, Tightened, Accepted, Between, Unsure, Refused}
 use Rattle.field_bounds.specs.declared.entry.Refusal.TheVariants.{Short}
 use Rattle.field_bounds.specs.declared.entry.Entry.{Entry}
 use Rattle.field_bounds.specs.declared.effect.Effect.{Effect}
@@ -30,47 +29,6 @@ own s (e ∷ t) = if e.site.0 == s then e ∷ own s t else own s t
 abbrev pub AreOf : ℕ → List Entry → Type 0
 AreOf s [] = Unit {0}
 AreOf s (e ∷ t) = (e.site.0 ≡ s) × AreOf s t
-
--- What an entry was asked, and at which site (this project).
-abbrev pub asked_of : Entry → SiteNo × Command
-asked_of e = (e.site, e.command)
-
--- The reply where it is in doubt (this project).
-abbrev pub doubtful : Reply → Option Reply
-doubtful (Begun txn) = None
-doubtful Granted = None
-doubtful Committed = None
-doubtful Aborted = None
-doubtful (Given total) = None
-doubtful (Stated total) = None
-doubtful (Spared amount total) = None
-doubtful (Tightened total) = None
-doubtful (Accepted gain) = None
-doubtful (Between lo hi) = None
-doubtful (Shares lower raise) = None
-doubtful (Restarted epoch found) = None
-doubtful Unsure = Some Unsure
-doubtful StillDown = None
-doubtful (Refused refusal) = None
-
--- The reply, where a site's entries alone don't tell it: one in doubt, or to a restart (this project).
-abbrev pub chosen_by : Command → Reply → Option Reply
-chosen_by Begin reply = doubtful reply
-chosen_by (Escrow txn field change) reply = doubtful reply
-chosen_by (Commit txn) reply = doubtful reply
-chosen_by (Abort txn) reply = doubtful reply
-chosen_by (Give to field kind amount) reply = doubtful reply
-chosen_by (Restate to field kind) reply = doubtful reply
-chosen_by (Spare to field kind want) reply = doubtful reply
-chosen_by (Tighten field kind amount) reply = doubtful reply
-chosen_by (Accept told) reply = doubtful reply
-chosen_by (Read field) reply = doubtful reply
-chosen_by (Share field) reply = doubtful reply
-chosen_by Restart reply = Some reply
-
--- What an entry was asked, and the reply where that isn't told by the entries before it (this project).
-abbrev pub decided_of : Entry → (SiteNo × Command) × Option Reply
-decided_of e = (asked_of e, chosen_by e.command e.reply)
 
 -- What took effect at a site over the whole trace, on its fresh base (this project).
 abbrev pub at_site : SchemaValue → List Entry → ℕ → List Effect

@@ -341,24 +341,6 @@ interval_of at field = if is_none (first (refusals at (Read field))) then Some (
 abbrev pub shares_of : Place → FieldNo → Option (ℕ × ℕ)
 shares_of at field = if is_none (first (refusals at (Share field))) then Some (shares_at at field) else None
 
--- A reply that touches neither rights nor transactions nor totals.
-abbrev pub is_quiet : Reply → Bool
-is_quiet (Begun txn) = false
-is_quiet Granted = false
-is_quiet Committed = false
-is_quiet Aborted = false
-is_quiet (Given total) = false
-is_quiet (Stated total) = true
-is_quiet (Spared amount total) = false
-is_quiet (Tightened total) = false
-is_quiet (Accepted gain) = false
-is_quiet (Between lo hi) = true
-is_quiet (Shares lower raise) = true
-is_quiet (Restarted epoch found) = false
-is_quiet Unsure = false
-is_quiet StillDown = false
-is_quiet (Refused refusal) = true
-
 -- Whether the command writes a record where it is answered, so that its answer may be in doubt (this project).
 abbrev pub writes : Place → Command → Bool
 writes at Begin = false

@@ -11,7 +11,7 @@ ghost use Rattle.field_bounds.specs.Schema.{SchemaValue};
 ghost use Rattle.field_bounds.specs.Limits.{IsSchema};
 ghost use Rattle.field_bounds.specs.Effects.{Base, open_txns, held_rights, share, own_rights, says_doubt_kept, effects, rights_in, rights_out};
 ghost use Rattle.field_bounds.specs.Owed.{Place, is_up, IsRestarted, Fits, IsRun};
-ghost use Rattle.field_bounds.specs.Central.{AreOf, chosen_by, decided_of, inf, sup, outcome, floor_in, ceiling_in, OutcomesAreBounded, IsCentral, IsSound, IsConservedThroughout};
+ghost use Rattle.field_bounds.specs.Central.{inf, sup, outcome, floor_in, ceiling_in, OutcomesAreBounded, IsCentral, IsSound, IsConservedThroughout};
 
 /// At a site whose replies are all owed, the rights that went out never exceed those that came in:
 /// the share, which is their difference, is never cut off at 0.
@@ -19,22 +19,6 @@ pub fn share_is_exact()
     ensures covered { (schema : SchemaValue) (s : ℕ) (base : Base) (o : List Entry) (kept : Bool) →
         IsRun schema s base o → (f : ℕ) (k : Kind) →
         rights_out f k (effects base kept o) ≤ rights_in base f k (effects base kept o) }
-{}
-
-/// What a site is asked leaves one list of owed replies, once it is told which replies were in
-/// doubt and how each restart ended: these two rest on what is kept across a stop too. With that
-/// told, a command is owed one reply where its site stands (`only`), a site's history is told by
-/// its commands alone (`history`), and a sound trace by its commands with their sites (`trace`).
-pub fn one_reply()
-    ensures only { (at : Place) (command : Command) (reply other : Reply) →
-        Fits at command reply → Fits at command other →
-        chosen_by command reply ≡ chosen_by command other → reply ≡ other }
-    ensures history { (schema : SchemaValue) (s : ℕ) (base : Base) (o p : List Entry) →
-        IsRun schema s base o → IsRun schema s base p → AreOf s o → AreOf s p →
-        map decided_of o ≡ map decided_of p → o ≡ p }
-    ensures trace { (schema : SchemaValue) (t u : List Entry) →
-        IsSound schema t → IsSound schema u →
-        map decided_of t ≡ map decided_of u → t ≡ u }
 {}
 
 /// A restart settles everything. While a site is up nothing is in doubt: what took effect doesn't

@@ -27,8 +27,7 @@ pub use gift_rows::{worked_flight, worked_gifts, wrong_gifts};
 pub use id::{FieldNo, SiteNo, TxnId};
 pub use kind::Kind;
 pub use laws::{
-    bounds_never_loosen, one_central_store, one_reply, outcomes_lie_between, restarts_settle,
-    share_is_exact,
+    bounds_never_loosen, one_central_store, outcomes_lie_between, restarts_settle, share_is_exact,
 };
 pub use limits::{MAX_CHANGE, MAX_EPOCH, MAX_ESCROWS, MAX_HEADER, MAX_NUMBER, MAX_OPEN, MAX_TOTAL};
 pub use restart_rows::{worked_doubt, worked_restarts, wrong_restarts};
