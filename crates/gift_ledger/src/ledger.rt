@@ -145,9 +145,8 @@ impl Ledger {
         gain
     }
 
-    /// Sets the total given so far to another site, whatever it was: at most
-    /// 1,000,000,000,000,000,000 rights. Nothing else changes.
-    pub fn set_total(&mut self, to: SiteNo, field: FieldNo, kind: Kind, total: u64)
+    /// Sets the total given to another site. Nothing else changes.
+    fn set_total(&mut self, to: SiteNo, field: FieldNo, kind: Kind, total: u64)
         requires place { IsSlot self.old to.0 field.0 }
         requires small { total ≤ max_total }
         ensures set { self.new ≡ with_total self.old to.0 field.0 kind total }
@@ -160,9 +159,8 @@ impl Ledger {
         self.put(to, field, kind, account);
     }
 
-    /// Sets the greatest total accepted so far from another site, whatever it was. Nothing else
-    /// changes.
-    pub fn set_accepted(&mut self, from: SiteNo, field: FieldNo, kind: Kind, total: u64)
+    /// Sets the greatest total accepted from another site. Nothing else changes.
+    fn set_accepted(&mut self, from: SiteNo, field: FieldNo, kind: Kind, total: u64)
         requires place { IsSlot self.old from.0 field.0 }
         ensures set { self.new ≡ with_accepted self.old from.0 field.0 kind total }
     {

@@ -1,5 +1,6 @@
 pub mod StandingLaws
 pub mod FromSummary
+pub mod Once
 pub mod Told
 pub mod Rising
 pub mod SummaryThen

@@ -2,16 +2,17 @@
 
 ghost use Rattle.std.specs.Prelude.{◌≡◌, ◌<◌, ◌≤◌, ◌&&◌, ◌++◌, ◌∷◌, [], ℕ, List, true, false, IfOk, IsTrue, ◌↔◌};
 ghost use Rattle.std.specs.List.{list_all, AllByRecursion};
+ghost use Rattle.field_bounds.specs.declared.kind.Kind.{Kind};
 ghost use Rattle.field_bounds.specs.Schema.{SchemaValue};
 ghost use Rattle.field_bounds.specs.Owed.{max_total};
 ghost use Rattle.kept_records.specs.declared.record.Record.{Record};
 ghost use Rattle.kept_records.specs.declared.record.Record.TheVariants.{Commit, Gift, Accept, Tighten, Restart};
 ghost use Rattle.kept_records.specs.Text.{IsRecord, IsSummary};
 ghost use Rattle.kept_records.specs.Stands.{is_field, is_other_site, is_summary, Lawful};
-ghost use Rattle.kept_records.specs.Summary.{cut_told_more, cut_told, rights_of};
+ghost use Rattle.kept_records.specs.Summary.{rises, cut_told_more, cut_told, rights_of};
 ghost use Rattle.kept_records.specs.Summaries.{TellsOf};
 ghost use Rattle.site_rights.specs.Rights.{AreInRange, by_escrows, after_take};
-ghost use Rattle.gift_ledger.specs.Ledger.{IsSlot};
+ghost use Rattle.gift_ledger.specs.Ledger.{IsSlot, total_at, accepted_at};
 ghost use Rattle.log_replay.specs.Standing.{HasSlots, IsStandingFor, AreFree, TakesIn, is_on_field};
 ghost use Rattle.log_replay.specs.Resuming.{NotesGifts, NotesAccepts};
 
@@ -221,24 +222,32 @@ impl Standing {
     }
 }
 
-/// Sets the totals that were given.
+/// Gives the totals that were given, each of which is told once, at a ledger that has given nothing.
 fn note_gifts(ledger: &mut Ledger, gifts: &[Total])
     requires places { AllByRecursion (λ t. IsSlot ledger.old t.site.0 t.field.0) gifts.now }
     requires small { AllByRecursion (λ t. t.total ≤ max_total) gifts.now }
+    requires rises { rises gifts.now ≡ true }
+    requires nothing { (r f : ℕ) (k : Kind) → total_at ledger.old r f k ≡ 0 }
     ensures noted { NotesGifts ledger.old gifts.now ledger.new }
 {
     for told in gifts {
-        ledger.set_total(told.site, told.field, told.kind, told.total);
+        let given = ledger
+            .give(told.site, told.field, told.kind, told.total)
+            .is_ok();
+        prove!(given);
     }
 }
 
-/// Sets the totals that were accepted.
+/// Accepts the totals that were accepted, each of which is told once, at a ledger that has accepted
+/// nothing.
 fn note_accepts(ledger: &mut Ledger, accepts: &[Total])
     requires places { AllByRecursion (λ t. IsSlot ledger.old t.site.0 t.field.0) accepts.now }
+    requires rises { rises accepts.now ≡ true }
+    requires nothing { (r f : ℕ) (k : Kind) → accepted_at ledger.old r f k ≡ 0 }
     ensures noted { NotesAccepts ledger.old accepts.now ledger.new }
 {
     for told in accepts {
-        ledger.set_accepted(told.site, told.field, told.kind, told.total);
+        let _gain = ledger.accept(told.site, told.field, told.kind, told.total);
     }
 }
 

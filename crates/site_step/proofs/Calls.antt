@@ -414,16 +414,12 @@ module _ {v w : SiteValue} {up : Bool} {extent : Extent} {a : Accounts} (was : I
   }
 
   pub fails : (turns : Option ℕ) (n : ℕ) {h : List Entry} {bytes : List ℕ} {failed : ℕ} {left : Option Mishap}
-      → FailsOver v.schema v.site.0 was.records turns was.rest v.bytes bytes v.foretold left v.failed failed → (turns ≡ Some n)
-      ⊎ (n ≡ v.replayed)
+      → FailsOver v.schema v.site.0 was.records turns was.rest v.bytes bytes v.foretold left v.failed failed
+      → n ≡ unwrap_or turns v.replayed
       → h ≡ entry_of v Restart StillDown ∷ v.history → Ends w Restart StillDown (ThenReplayed h bytes failed left v.doubt n) false extent a
-  fails turns n {h = h} {bytes = bytes} {failed = failed} {left = left} did which past =
+  fails turns n {h = h} {bytes = bytes} {failed = failed} {left = left} did told past =
       returned Restart StillDown (ThenReplayed h bytes failed left v.doubt n) false extent a
-      (ends_failed v up extent a was a turns n bytes failed left h past did (by which))
-    where
-      by : (turns ≡ Some n) ⊎ (n ≡ v.replayed) → (n ≡ since_summary was.records) ⊎ (n ≡ v.replayed)
-      by (inl read_) = inl (did.replayed n read_)
-      by (inr same) = inr same
+      (ends_failed v up extent a was a turns n bytes failed left h past did told)
 
   pub fills : {h : List Entry} {bytes : List ℕ} {failed : ℕ} {left : Option Mishap}
       → FullOver was.records v.bytes bytes v.foretold left v.failed failed
@@ -472,6 +468,3 @@ module _ {v w : SiteValue} {up : Bool} {extent : Extent} {a : Accounts} (was : I
       behinds_are past)
 
 -- what a failed restart replayed, where it did
-pub read_or_not : (turns : Option ℕ) (old n : ℕ) → n ≡ unwrap_or turns old → (turns ≡ Some n) ⊎ (n ≡ old)
-read_or_not None old n is = inr is
-read_or_not (Some m) old n is = inl (ap (λ (x : ℕ). Some x) (sym is))

@@ -1,5 +1,5 @@
 -- A site stays sound where an entry leaves its medium alone.
-use Rattle.std.proofs.Common.{◌≡◌, ℕ, ◌+◌, ◌≤◌, Bool, false, List, ◌∷◌, ◌++◌, length, refl, sym, ap, subst, ◌∙◌, arith, Option, Some, None}
+use Rattle.std.proofs.Common.{◌≡◌, ℕ, ◌+◌, ◌≤◌, Bool, false, List, [], ◌∷◌, ◌++◌, length, refl, sym, ap, subst, ◌∙◌, arith, Option, Some, None}
 use Rattle.std.proofs.lemmas.List.{append-nil}
 use Rattle.field_bounds.specs.declared.entry.Command.{Command}
 use Rattle.field_bounds.specs.declared.entry.Last.{Last}
@@ -11,6 +11,7 @@ use Rattle.field_bounds.specs.Effects.{Base}
 use Rattle.field_bounds.specs.Owed.{Place, first, refusals, answer, writes, is_up, is_unsure, count_since}
 use Rattle.field_bounds.proofs.Refused.{is_restart}
 use Rattle.kept_records.specs.declared.record.Record.{Record}
+use Rattle.kept_records.specs.declared.record.Record.TheVariants as records
 use Rattle.field_bounds.specs.declared.id.SiteNo.{SiteNo}
 use Rattle.field_bounds.specs.Schema.{SchemaValue}
 use Rattle.kept_records.specs.Stands.{greatest, plain, since_summary, max_behind}
@@ -139,6 +140,8 @@ module _ (v : SiteValue) (up : Bool) (extent : Extent) (a : Accounts) (was : IsS
             finds = finds_same v (record v { history = entry_of v c (Refused x) ∷ v.history }) epoch found refl refl refl refl finds;
           };
           replays = λ all rest log. refl;
+          stands = λ told rest log. tt;
+          closed = tt;
         };
       }
 
@@ -213,7 +216,10 @@ module _ (v : SiteValue) (up : Bool) (extent : Extent) (a : Accounts) (was : IsS
                     (subst (λ (l : Last). Finds w epoch l) (sym (settles.found luck (record_length at c) found))
                     (finds_same v w epoch found refl refl refl refl finds));
               };
-          replays = λ all rest log. settles.replays (since_summary all) v.replayed;
+          replays = λ all rest log. settles.replays v.foretold (since_summary all) v.replayed;
+          stands = λ told rest log. settles.stands (here (record v { history = After c })) (told
+              ++ records.Restart (greatest told + 1) ∷ []);
+          closed = settles.closed (here (record v { history = After c }));
         };
       }
 

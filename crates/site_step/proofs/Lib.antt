@@ -11,4 +11,5 @@ pub mod Restarts
 pub mod Opens
 mod Calls
 mod Lasting
+mod Lines
 mod Excluded

@@ -1,9 +1,11 @@
 -- A site stays sound over a restart, however it goes.
 use Rattle.std.proofs.Common.{◌≡◌, ◌≢◌, ℕ, ◌+◌, ◌<◌, ◌≤◌, Bool, true, false, cond, List, [], ◌∷◌, ◌++◌, length, refl, sym, ap, subst, ◌∙◌, inl, inr, arith, Option, Some, None}
 use Rattle.std.specs.List.{flat_map}
-use Rattle.std.specs.Prelude.{◌⊎◌, nat_le, if◌then◌else◌, map, reverse}
+use Rattle.std.specs.Prelude.{◌⊎◌, nat_le, unwrap_or, if◌then◌else◌, map, reverse}
 use Rattle.std.proofs.lemmas.Bool.{false≢true, lt-leb, le-leb}
 use Rattle.std.proofs.lemmas.List.{append-nil, length-append}
+use Rattle.std.proofs.lemmas.List.Concat.{flat_map-append}
+use Rattle.field_bounds.specs.declared.kind.Kind.{Kind}
 use Rattle.field_bounds.specs.declared.id.TxnId.{TxnId}
 use Rattle.field_bounds.specs.declared.entry.Command.TheVariants.{Restart}
 use Rattle.field_bounds.specs.declared.entry.Last.{Last}
@@ -15,7 +17,7 @@ use Rattle.field_bounds.specs.declared.entry.Entry.{Entry}
 use Rattle.field_bounds.specs.Schema.{SchemaValue}
 use Rattle.field_bounds.specs.declared.effect.Effect.{Effect}
 use Rattle.field_bounds.specs.declared.effect.Effect.TheVariants.{Stops}
-use Rattle.field_bounds.specs.Effects.{Base, effects, says_doubt_kept}
+use Rattle.field_bounds.specs.Effects.{Base, effects, share, held_rights, says_doubt_kept}
 use Rattle.field_bounds.specs.Owed.{Place, is_unsure, count_since, max_epoch, RestartFits}
 use Rattle.field_bounds.proofs.Runs.{run_is_lawful}
 use Rattle.field_bounds.proofs.Stops.{stop_closes_all, held_stop}
@@ -26,7 +28,7 @@ use Rattle.kept_records.specs.declared.record.Record.TheVariants as records
 use Rattle.kept_records.specs.Text.{text}
 use Rattle.kept_records.specs.Medium.{IsCutShort}
 use Rattle.kept_records.specs.Logs.{IsLog}
-use Rattle.kept_records.specs.Stands.{greatest, plain, since_summary, max_behind, Lawful}
+use Rattle.kept_records.specs.Stands.{greatest, own_in, plain, since_summary, max_behind, Lawful}
 use Rattle.kept_records.proofs.Lines.{same_log}
 use Rattle.kept_state.specs.declared.luck.Luck.{Luck}
 use Rattle.kept_state.specs.declared.luck.Luck.TheVariants.{Fine, Torn}
@@ -37,6 +39,7 @@ use Rattle.kept_state.specs.Doubt.{IsDoubt, found_of}
 use Rattle.kept_state.specs.Luck.{restart_length, owed_with}
 use Rattle.kept_records.proofs.Pushes.{greatest_push}
 use Rattle.kept_state.proofs.Lasting.{run_stays_lawful}
+use Rattle.kept_state.proofs.Keeping.{run_gives, run_cuts, run_accepts, run_restarts}
 use Rattle.kept_state.proofs.Epochs.{restart_fits, refused_fits}
 use Rattle.kept_state.proofs.Sure.{keeps_sure}
 use Rattle.kept_state.proofs.Doubt.{doubt_restart, found_is_kept}
@@ -46,9 +49,10 @@ use Rattle.site_step.specs.declared.accounts.Accounts.{Accounts}
 use Rattle.site_step.specs.declared.extent.Extent.{Extent}
 use Rattle.site_step.specs.Site.{SiteValue, base_of, here, entry_of, mishap_of, luck_under, owed_under, Holds, Finds, IsExact, Applies}
 use Rattle.site_step.specs.State.{row_of, StandsOn, IsSoundSite, ReachesAll}
-use Rattle.site_step.specs.Resuming.{next_restart, next_piece, found_by, Leaves, FailsOver, FullOver, StandsOver}
+use Rattle.site_step.specs.Resuming.{next_restart, next_piece, found_by, Leaves, HasRead, FailsOver, FullOver, StandsOver}
 use Rattle.site_step.proofs.Standing.{stands_refused}
-use Rattle.site_step.specs.Replaying.{downs_since, downs_before}
+use Rattle.site_step.specs.Replaying.{ReplaysFailed, downs_since, downs_before}
+use Rattle.site_step.specs.Anew.{IsStoodFor}
 use Rattle.site_step.proofs.Holding.{greatest_plain, holds_all, same_told, plain_piece, piece_same, all_lawful, left_plain, left_holds}
 use Rattle.site_step.proofs.Extents.{reach_all, reach_next, reach_more, behind_is, count_more, last_is}
 use Rattle.site_step.proofs.Resumes.{restart_may}
@@ -103,6 +107,24 @@ still_doubt : (kept : Bool) (o : List Entry) (e : Entry) (rs : List Record) (epo
     → IsDoubt kept (e ∷ o) (rs ++ records.Restart epoch ∷ []) doubt
 still_doubt kept o e rs epoch None same is = same ∙ is
 still_doubt kept o e rs epoch (Some n) same is = (omega (arith, same, is.0), is.1, is.2, is.3, doubt_restart kept is.1 is.2 rs epoch is.4)
+
+-- what a restart that failed tells of the records that it replayed
+replayed_by : (turns : Option ℕ) (behind before after : ℕ) → ((n : ℕ) → turns ≡ Some n → n ≡ behind) → after ≡ unwrap_or turns before
+    → (after ≡ behind) ⊎ (after ≡ before)
+replayed_by None behind before after read is = inr is
+replayed_by (Some n) behind before after read is = inl (is ∙ read n refl)
+
+failed_replays : (foretold : Option Mishap) (turns : Option ℕ) (behind before after : ℕ) → (foretold ≡ Some Never → ⊥)
+    → HasRead turns foretold → ((n : ℕ) → turns ≡ Some n → n ≡ behind) → after ≡ unwrap_or turns before
+    → ReplaysFailed foretold behind before after
+failed_replays None turns behind before after never has read is = replayed_by turns behind before after read is
+failed_replays (Some Never) turns behind before after never has read is = never refl
+failed_replays (Some Read) None behind before after never has read is = is
+failed_replays (Some Read) (Some n) behind before after never has read is = absurd (has refl)
+failed_replays (Some (Append m)) None behind before after never has read is = absurd (has.0 m refl)
+failed_replays (Some (Append m)) (Some n) behind before after never has read is = is ∙ read n refl
+failed_replays (Some Cut) None behind before after never has read is = absurd (has.1 refl)
+failed_replays (Some Cut) (Some n) behind before after never has read is = is ∙ read n refl
 
 -- a mishap for cuts, where there is something to cut
 luck_torn : (rest : List ℕ) → rest ≢ [] → luck_under Restart rest Cut ≡ Torn 0
@@ -163,7 +185,7 @@ module _ (v : SiteValue) (up : Bool) (extent : Extent) (a : Accounts) (was : IsS
 
   module _ (b : Accounts) (turns : Option ℕ) (replayed_ : ℕ) (bytes : List ℕ) (left : Option Mishap)
       (failing : FailsOver schema s all turns was.rest v.bytes bytes v.foretold left v.failed (v.failed + 1))
-      (which : (replayed_ ≡ since_summary all) ⊎ (replayed_ ≡ v.replayed)) where
+      (told_ : replayed_ ≡ unwrap_or turns v.replayed) where
     abbrev down : SiteValue
     down = record v { history = Failing; bytes = bytes; failed = v.failed + 1; foretold = left; replayed = replayed_ }
 
@@ -242,15 +264,15 @@ module _ (v : SiteValue) (up : Bool) (extent : Extent) (a : Accounts) (was : IsS
               subst (λ (x : List Record). StillDown ≡ owed_under v x more Restart m) same.0
               (subst (λ (x : List ℕ). StillDown ≡ owed_under v rs x Restart m) same.1 (under_down m known));
           exact = exact_down;
-          replays = λ other more log. replays_by (ap since_summary (same_all other more log)) which;
+          replays = λ other more log.
+              subst (λ (n : ℕ). ReplaysFailed v.foretold n v.replayed replayed_) (ap since_summary (same_all other more log))
+              (failed_replays v.foretold turns (since_summary all) v.replayed replayed_ failing.never failing.read failing.replayed told_);
+          stands = λ other more holds. tt;
+          closed = tt;
         }
-      where
-        replays_by : {n m : ℕ} → n ≡ m → (replayed_ ≡ n) ⊎ (replayed_ ≡ v.replayed) → (replayed_ ≡ m) ⊎ (replayed_ ≡ v.replayed)
-        replays_by same (inl is) = inl (is ∙ same)
-        replays_by same (inr is) = inr is
 
     few_replayed : since_summary v.based ≤ max_behind → replayed_ ≤ max_behind + downs_before Failing
-    few_replayed h = few_by which
+    few_replayed h = few_by (replayed_by turns (since_summary all) v.replayed replayed_ failing.replayed told_)
       where
         few_by : (replayed_ ≡ since_summary all) ⊎ (replayed_ ≡ v.replayed) → replayed_ ≤ max_behind + downs_before Failing
         few_by (inl is) = omega (arith, is, was.few h)
@@ -292,11 +314,11 @@ module _ (v : SiteValue) (up : Bool) (extent : Extent) (a : Accounts) (was : IsS
 
   pub ends_failed : (b : Accounts) (turns : Option ℕ) (replayed_ : ℕ) (bytes : List ℕ) (failed : ℕ) (left : Option Mishap) (h : List Entry)
       → h ≡ Failing
-      → FailsOver schema s all turns was.rest v.bytes bytes v.foretold left v.failed failed → (replayed_ ≡ since_summary all)
-      ⊎ (replayed_ ≡ v.replayed)
+      → FailsOver schema s all turns was.rest v.bytes bytes v.foretold left v.failed failed
+      → replayed_ ≡ unwrap_or turns v.replayed
       → Ends v Restart StillDown (record v { history = h; bytes = bytes; failed = failed; foretold = left; replayed = replayed_ }) false
       extent b
-  ends_failed b turns replayed_ bytes failed left h past failing which =
+  ends_failed b turns replayed_ bytes failed left h past failing told_ =
       subst (λ (o : List Entry). Ends v Restart StillDown
       (record v { history = o; bytes = bytes; failed = failed; foretold = left; replayed = replayed_ }) false extent b) (sym past)
       (subst (λ (n : ℕ). Ends v Restart StillDown (record v {
@@ -308,7 +330,7 @@ module _ (v : SiteValue) (up : Bool) (extent : Extent) (a : Accounts) (was : IsS
             replayed_;
       }) false extent b) (sym failing.counts)
       (ends_down b turns replayed_ bytes left (subst
-      (λ (n : ℕ). FailsOver schema s all turns was.rest v.bytes bytes v.foretold left v.failed n) failing.counts failing) which))
+      (λ (n : ℕ). FailsOver schema s all turns was.rest v.bytes bytes v.foretold left v.failed n) failing.counts failing) told_))
 
   -- ---- no epoch is left
 
@@ -368,6 +390,8 @@ module _ (v : SiteValue) (up : Bool) (extent : Extent) (a : Accounts) (was : IsS
               let over : nat_le max_epoch epoch ≡ true = le-leb max_epoch epoch (omega (arith, old.0, most)) in
               record { reply_is = rw over refl; finds = finds_same v w epoch last refl refl refl refl finds };
           replays = λ other more log. refl;
+          stands = λ other rest is. tt;
+          closed = tt;
         };
       }
 
@@ -441,6 +465,27 @@ module _ (v : SiteValue) (up : Bool) (extent : Extent) (a : Accounts) (was : IsS
       held_anew : Holds schema s bytes (rs ++ next_restart rs ∷ []) []
       held_anew = record { all = all ++ lines; log = log; lawful = lawful_anew; told = plain_is }
 
+      keeps_anew : Keeps schema s base bs false (Anew epoch) (rs ++ next_restart rs ∷ [])
+      keeps_anew = (rs, true, found.keeps, refl, refl)
+
+      settled : (f : ℕ) (k : Kind) → (share base f k (effects base false (Anew epoch)) ≡ own_in schema s (rs ++ next_restart rs ∷ []) f k)
+          × (held_rights f k (effects base false (Anew epoch)) ≡ 0)
+      settled f k = run_restarts schema s base bs false (entry_of v Restart (Restarted epoch last)) v.history (rs ++ next_restart rs ∷ [])
+          was.ground.is_base (was.run, fits_anew) keeps_anew epoch last refl refl f k
+
+      stood_for : IsStoodFor (here anew) (rs ++ next_restart rs ∷ [])
+      stood_for =
+          record {
+            free = λ f k. (settled f k).0;
+            given = λ to f k. run_gives schema s base bs false (Anew epoch) (rs ++ next_restart rs ∷ []) was.ground.is_base
+                (was.run, fits_anew) keeps_anew to f k;
+            accepted = λ from f k. run_accepts schema s base bs false (Anew epoch) (rs ++ next_restart rs ∷ []) was.ground.is_base
+                (was.run, fits_anew) keeps_anew from f k;
+            given_up = λ f k. run_cuts schema s base bs false (Anew epoch) (rs ++ next_restart rs ∷ []) was.ground.is_base
+                (was.run, fits_anew) keeps_anew f k;
+            epoch = sym (greatest_next rs);
+          }
+
       exact_anew : (luck : Luck) (kept : ℕ) (found_ : Last) → v.foretold ≡ Some (mishap_of luck) → Finds v kept found_
           → IsExact v Restart (Restarted epoch last) anew luck kept found_
       exact_anew Fine kept found_ known finds =
@@ -498,7 +543,9 @@ module _ (v : SiteValue) (up : Bool) (extent : Extent) (a : Accounts) (was : IsS
                     restarts = (ap (λ (x : List Record). greatest x + 1) same, ap (found_of v.doubt) same, refl, omega (arith, some_));
                     refuses = tt;
                   };
-              writes_ = tt;
+              writes_ = λ other more is.
+                  subst (λ (x : List Record). bytes ≡ flat_map text x ++ flat_map text (next_piece schema s x)) (same_all other more is)
+                  (log.parts ∙ append-nil (flat_map text (all ++ lines)) ∙ flat_map-append text all lines);
               foretold = stays;
               under = λ other more m is known.
                   let same = same_as other more is in
@@ -506,6 +553,9 @@ module _ (v : SiteValue) (up : Bool) (extent : Extent) (a : Accounts) (was : IsS
                   (subst (λ (x : List ℕ). Restarted epoch last ≡ owed_under v rs x Restart m) same.1 (under_anew m known));
               exact = exact_anew;
               replays = λ other more is. turns_are ∙ ap since_summary (same_all other more is);
+              stands = λ other more is. subst (λ (x : List Record). IsStoodFor (here anew) (x ++ next_restart x ∷ []))
+                  (same_as other more is).0 stood_for;
+              closed = record { none_open = stop_closes_all kept_effects; none_held = λ f k. (settled f k).1 };
             };
           }
 

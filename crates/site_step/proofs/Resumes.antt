@@ -146,6 +146,7 @@ unread_fails schema s old new rest foretold left before after rs log lawful same
       torn = λ n known. absurd (subst MayBeRead known fate.1);
       cut = λ known. absurd (subst MayBeRead known fate.1);
       struck_ = fate.0;
+      read = (λ n known. absurd (subst MayBeRead known fate.1), λ known. absurd (subst MayBeRead known fate.1));
       replayed = λ n is. let e : ◌≡◌ {A = Option ℕ} None (Some n) = is in absurd cc;
     }
 
@@ -281,6 +282,9 @@ module _ (old new : List ℕ) (foretold left : Option Mishap) (before after whol
         stays = mishap_stays foretold unread fate;
       }
 
+  some_same : (m n : ℕ) → ◌≡◌ {A = Option ℕ} (Some m) (Some n) → n ≡ m
+  some_same m n is = cc
+
   left_of : ((new ≡ old) ⊎ IsCutShort (take whole old) lines new) → (new ≡ old)
       ⊎ IsCutShort (flat_map text rs) (flat_map text (next_piece schema s rs)) new
   left_of (inl unchanged) = inl unchanged
@@ -302,11 +306,11 @@ module _ (old new : List ℕ) (foretold left : Option Mishap) (before after whol
   )
   leaves_of (inr cut) = (nat_le (length (text (next_restart rs))) cut.0, front_left cut.0 cut.1)
 
-  pub fails_over : (device : Device) (told : Option ℕ) → ((n : ℕ) → told ≡ Some n → n ≡ turns)
+  pub fails_over : (device : Device)
       → CutsAndAppends {T = Unit {0}} (Err device) whole old lines new before after
       → CutAndAppendFate foretold whole old lines (Err device) new left
-      → FailsOver schema s rs told rest old new foretold left before after
-  fails_over device told telling added fate =
+      → FailsOver schema s rs (Some turns) rest old new foretold left before after
+  fails_over device added fate =
       record {
         counts = added.1;
         leaves = leaves_of added.0;
@@ -315,5 +319,6 @@ module _ (old new : List ℕ) (foretold left : Option Mishap) (before after whol
         torn = λ n known. (some, front_left n (goes_under (Append n) (Err device) known fate).1);
         cut = λ known. (some, not_clean device (goes_under Cut (Err device) known fate));
         struck_ = mishap_struck foretold device unread fate;
-        replayed = λ n is. telling n is ∙ is_replayed.turns_are;
+        read = unread;
+        replayed = λ n is. some_same turns n is ∙ is_replayed.turns_are;
       }

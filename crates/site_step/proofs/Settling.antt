@@ -12,6 +12,7 @@ use Rattle.field_bounds.specs.Owed.{Place, first, refusals, answer, writes, up_a
 use Rattle.field_bounds.proofs.Refused.{is_restart}
 use Rattle.kept_records.specs.declared.record.Record.{Record}
 use Rattle.site_step.specs.Replaying.{Replays, downs_after, downs_at}
+use Rattle.site_step.specs.Anew.{StandsAnew, ClosesAll}
 use Rattle.kept_state.specs.declared.luck.Luck.{Luck}
 use Rattle.kept_state.specs.declared.luck.Luck.TheVariants.{Fine, Torn}
 use Rattle.kept_state.specs.Keeps.{record_at, record_left, Tells}
@@ -51,7 +52,9 @@ pub record Settles (r : Reply) : Type 0 where
   pub found : (luck : Luck) (size : ℕ) (last : Last) → doubt_after r luck size last ≡ last
   pub downs : (n : ℕ) → downs_after r n ≡ n
   pub before : (n m : ℕ) → downs_at r n m ≡ m
-  pub replays : (behind n : ℕ) → Replays r behind n n
+  pub replays : (foretold : Option Mishap) (behind n : ℕ) → Replays r foretold behind n n
+  pub stands : (there : Place) (rs : List Record) → StandsAnew r there rs
+  pub closed : (there : Place) → ClosesAll r there
 
 pub answer_settles : (at : Place) (c : Command) → is_restart c ≡ false → Settles (answer at c)
 answer_settles at Restart n = cc
@@ -68,7 +71,9 @@ answer_settles at c n = record {
   found = λ luck size last. refl;
   downs = λ n. refl;
   before = λ n m. refl;
-  replays = λ behind n. refl;
+  replays = λ foretold behind n. refl;
+  stands = λ there rs. tt;
+  closed = λ there. tt;
 }
 
 -- ---- a command that is no restart

@@ -18,6 +18,7 @@ use Rattle.kept_records.specs.declared.medium.Device.{Device}
 use Rattle.kept_records.specs.declared.medium.Mishap.{Mishap}
 use Rattle.kept_records.specs.declared.medium.Mishap.TheVariants.{Never, Append, Cut, Read}
 use Rattle.kept_records.specs.declared.record.Record.{Record}
+use Rattle.kept_records.specs.declared.record.Record.TheVariants as records
 use Rattle.kept_records.specs.Text.{text, IsRecord}
 use Rattle.kept_records.specs.Medium.{IsCutShort, AppendFate}
 use Rattle.kept_records.specs.Logs.{IsLog}
@@ -283,7 +284,9 @@ module _ (v : SiteValue) (up : Bool) (extent : Extent) (a : Accounts) (was : IsS
             foretold = fate_stays v.foretold v.bytes (flat_map text lines) bytes left fate ∙ sym (settles.foretold v.foretold);
             under = λ other rest m log known. whole_under v other rest c m no_restart none (not_append m known);
             exact = exact;
-            replays = λ other rest is. settles.replays (since_summary other) v.replayed;
+            replays = λ other rest is. settles.replays v.foretold (since_summary other) v.replayed;
+            stands = λ other rest is. settles.stands (here then_) (other ++ records.Restart (greatest other + 1) ∷ []);
+            closed = settles.closed (here then_);
           };
         }
 
@@ -410,6 +413,8 @@ module _ (v : SiteValue) (up : Bool) (extent : Extent) (a : Accounts) (was : IsS
             under = λ other rest m log known. under_torn other rest m known;
             exact = exact_torn;
             replays = λ other rest log. refl;
+            stands = λ other rest log. tt;
+            closed = tt;
           };
         }
 

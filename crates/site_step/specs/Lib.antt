@@ -1,4 +1,5 @@
 pub mod Replaying
+pub mod Anew
 pub mod Site
 pub mod State
 pub mod Resuming

@@ -1,27 +1,39 @@
 -- How many records a restart replays (this project). A history has the newest entry first.
-use Rattle.std.specs.Prelude.{◌≡◌, ◌⊎◌, ℕ, ◌+◌, max, List, [], ◌∷◌}
+use Rattle.std.specs.Prelude.{◌≡◌, ◌⊎◌, ℕ, ◌+◌, max, List, [], ◌∷◌, Option, Some, None}
 use Rattle.field_bounds.specs.declared.entry.Reply.{Reply}
 use Rattle.field_bounds.specs.declared.entry.Reply.TheVariants.{Begun, Granted, Committed as SaysCommitted, Aborted as SaysAborted, Given, Stated, Spared, Tightened, Accepted, Between, Shares, Restarted, Unsure, StillDown, Refused}
 use Rattle.field_bounds.specs.declared.entry.Entry.{Entry}
+use Rattle.kept_records.specs.declared.medium.Mishap.{Mishap}
+use Rattle.kept_records.specs.declared.medium.Mishap.TheVariants.{Never, Append, Cut, Read}
 
--- A restart that read the medium replayed the records behind the last whole summary. One that failed may not have read
--- it. Nothing else changes how many were replayed last.
-abbrev pub Replays : Reply → ℕ → ℕ → ℕ → Type 0
-Replays (Restarted epoch found) behind before after = after ≡ behind
-Replays StillDown behind before after = (after ≡ behind) ⊎ (after ≡ before)
-Replays Unsure behind before after = after ≡ before
-Replays (Refused refusal) behind before after = after ≡ before
-Replays (Begun txn) behind before after = after ≡ before
-Replays Granted behind before after = after ≡ before
-Replays SaysCommitted behind before after = after ≡ before
-Replays SaysAborted behind before after = after ≡ before
-Replays (Given total) behind before after = after ≡ before
-Replays (Stated total) behind before after = after ≡ before
-Replays (Spared amount total) behind before after = after ≡ before
-Replays (Tightened total) behind before after = after ≡ before
-Replays (Accepted gain) behind before after = after ≡ before
-Replays (Between lo hi) behind before after = after ≡ before
-Replays (Shares lower raise) behind before after = after ≡ before
+-- What a restart that failed replayed: under a mishap for appends or for cuts it had read the medium, and replayed the
+-- records behind the last whole summary; under one for reads it replayed none, and what was told before stays. Where no
+-- mishap strikes it doesn't fail. Where none is known, it did one or the other.
+abbrev pub ReplaysFailed : Option Mishap → ℕ → ℕ → ℕ → Type 0
+ReplaysFailed None behind before after = (after ≡ behind) ⊎ (after ≡ before)
+ReplaysFailed (Some Never) behind before after = ⊥
+ReplaysFailed (Some (Append bytes)) behind before after = after ≡ behind
+ReplaysFailed (Some Cut) behind before after = after ≡ behind
+ReplaysFailed (Some Read) behind before after = after ≡ before
+
+-- A restart that went well replayed the records behind the last whole summary. Nothing but a restart changes how many were
+-- replayed last.
+abbrev pub Replays : Reply → Option Mishap → ℕ → ℕ → ℕ → Type 0
+Replays (Restarted epoch found) foretold behind before after = after ≡ behind
+Replays StillDown foretold behind before after = ReplaysFailed foretold behind before after
+Replays Unsure foretold behind before after = after ≡ before
+Replays (Refused refusal) foretold behind before after = after ≡ before
+Replays (Begun txn) foretold behind before after = after ≡ before
+Replays Granted foretold behind before after = after ≡ before
+Replays SaysCommitted foretold behind before after = after ≡ before
+Replays SaysAborted foretold behind before after = after ≡ before
+Replays (Given total) foretold behind before after = after ≡ before
+Replays (Stated total) foretold behind before after = after ≡ before
+Replays (Spared amount total) foretold behind before after = after ≡ before
+Replays (Tightened total) foretold behind before after = after ≡ before
+Replays (Accepted gain) foretold behind before after = after ≡ before
+Replays (Between lo hi) foretold behind before after = after ≡ before
+Replays (Shares lower raise) foretold behind before after = after ≡ before
 
 -- How many restarts failed since the last one that went well.
 abbrev pub downs_after : Reply → ℕ → ℕ

@@ -47,6 +47,12 @@ next_restart rs = Restart (greatest rs + 1)
 abbrev pub next_piece : SchemaValue → ℕ → List Record → List Record
 next_piece schema s rs = piece schema s rs (next_restart rs)
 
+-- Whether a restart that failed had read the medium, as far as the mishap tells: one for appends or for cuts strikes behind
+-- the read, and one for reads in it.
+abbrev pub HasRead : Option ℕ → Option Mishap → Type 0
+HasRead None foretold = ((n : ℕ) → foretold ≡ Some (Append n) → ⊥) × (foretold ≡ Some Cut → ⊥)
+HasRead (Some turns) foretold = foretold ≡ Some Read → ⊥
+
 -- A restart failed: its record stands or doesn't, as the mishap says where it is known. Where it read the medium, it
 -- replayed the records behind the last summary.
 pub record FailsOver (schema : SchemaValue) (s : ℕ) (rs : List Record) (turns : Option ℕ) (rest old bytes : List ℕ)
@@ -59,6 +65,7 @@ pub record FailsOver (schema : SchemaValue) (s : ℕ) (rs : List Record) (turns 
       × Leaves schema s rs (next_restart rs) (nat_le (length (text (next_restart rs))) n) bytes
   pub cut : foretold ≡ Some Cut → (greatest rs < max_epoch) × (rest ≢ [])
   pub struck_ : left ≡ mishap_left foretold
+  pub read : HasRead turns foretold
   pub replayed : (n : ℕ) → turns ≡ Some n → n ≡ since_summary rs
 
 -- A restart found no epoch left.

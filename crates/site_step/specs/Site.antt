@@ -28,6 +28,7 @@ use Rattle.kept_state.specs.Keeps.{Keeps, base_of_records, record_at, adds}
 use Rattle.kept_state.specs.Doubt.{found_of}
 use Rattle.kept_state.specs.Luck.{owed_with, epoch_kept, doubt_after, record_length}
 use Rattle.site_step.specs.Replaying.{Replays, downs_since}
+use Rattle.site_step.specs.Anew.{StandsAnew, ClosesAll}
 
 -- The schema and the site's number; whether the medium was empty when the site was opened, and the records that it held
 -- then; the history, the newest entry first; what the medium holds now, how often it has failed, and the mishap that
@@ -212,13 +213,19 @@ LeavesFailed at old new =
     (rs : List Record) (rest : List ℕ) → IsLog old rs rest → (new ≡ old)
     ⊎ IsCutShort (flat_map text rs) (lines_behind at rs (records.Restart (greatest rs + 1))) new
 
+-- What a restart that went well leaves: all whole lines, its record's lines behind them, and no torn end.
+abbrev pub LeavesAnew : Place → List ℕ → List ℕ → Type 0
+LeavesAnew at old new =
+    (rs : List Record) (rest : List ℕ) → IsLog old rs rest
+    → new ≡ flat_map text rs ++ lines_behind at rs (records.Restart (greatest rs + 1))
+
 -- What an entry does to the bytes of the medium: a refusal leaves them, an answer adds its record's lines, if any, and of an
--- answer in doubt some front of these lines stands. What a good restart leaves is told by the records.
+-- answer in doubt some front of these lines stands.
 abbrev pub Writes : Place → Command → Reply → List ℕ → List ℕ → Type 0
 Writes at command (Refused refusal) old new = new ≡ old
 Writes at command Unsure old new = LeavesUnsure at command old new
 Writes at command StillDown old new = LeavesFailed at old new
-Writes at command (Restarted epoch found) old new = Unit {0}
+Writes at command (Restarted epoch found) old new = LeavesAnew at old new
 Writes at command (Begun txn) old new = AddsLines at command old new
 Writes at command Granted old new = AddsLines at command old new
 Writes at command SaysCommitted old new = AddsLines at command old new
@@ -327,7 +334,8 @@ pub record IsSame (before later : SiteValue) : Type 0 where
 
 -- A site answered a command: the reply is owed after the history as it was, and the history has grown by exactly that
 -- command with that reply; the device failed exactly where the reply says so; the medium has grown by the entry's record
--- alone; and under a known luck the reply is the one that is owed.
+-- alone; and under a known luck the reply is the one that is owed. After a restart that went well the site is what the
+-- records stand for that its medium held, and the restart's own; and nothing is open.
 pub record Applies (before : SiteValue) (command : Command) (reply : Reply) (later : SiteValue) : Type 0 where
   pub fits : Fits (here before) command reply
   pub entry : later.history ≡ entry_of before command reply ∷ before.history
@@ -342,7 +350,10 @@ pub record Applies (before : SiteValue) (command : Command) (reply : Reply) (lat
   pub exact : (luck : Luck) (epoch : ℕ) (found : Last) → before.foretold ≡ Some (mishap_of luck) → Finds before epoch found
       → IsExact before command reply later luck epoch found
   pub replays : (rs : List Record) (rest : List ℕ) → IsLog before.bytes rs rest
-      → Replays reply (since_summary rs) before.replayed later.replayed
+      → Replays reply before.foretold (since_summary rs) before.replayed later.replayed
+  pub stands : (rs : List Record) (rest : List ℕ) → Holds before.schema before.site.0 before.bytes rs rest
+      → StandsAnew reply (here later) (rs ++ records.Restart (greatest rs + 1) ∷ [])
+  pub closed : ClosesAll reply (here later)
 
 -- The medium holds the texts of lawful records that the history keeps, and then bytes in which no line ends. Behind the last
 -- summary stand at most 1,000 records and one for each restart that failed since the last that went well, where at most

@@ -1,6 +1,7 @@
 //! Laws of what the calls of a site do, each as the contract of a function that does nothing.
 
-ghost use Rattle.std.specs.Prelude.{◌≡◌, ◌≢◌, ◌≤◌, ◌⊎◌, ℕ, List, [], Some};
+ghost use Rattle.std.specs.Prelude.{◌≡◌, ◌≢◌, ◌≤◌, ◌⊎◌, ◌++◌, ℕ, List, [], Some};
+ghost use Rattle.std.specs.List.{flat_map};
 ghost use Rattle.field_bounds.specs.declared.entry.Command.{Command};
 ghost use Rattle.field_bounds.specs.declared.entry.Command.TheVariants.{Restart};
 ghost use Rattle.field_bounds.specs.declared.entry.Reply.{Reply};
@@ -10,6 +11,8 @@ ghost use Rattle.field_bounds.specs.Owed.{max_epoch};
 ghost use Rattle.kept_records.specs.declared.medium.Mishap.{Mishap};
 ghost use Rattle.kept_records.specs.declared.medium.Mishap.TheVariants.{Never, Cut, Read};
 ghost use Rattle.kept_records.specs.declared.record.Record.{Record};
+ghost use Rattle.kept_records.specs.Logs.{IsLog};
+ghost use Rattle.kept_records.specs.Text.{text};
 ghost use Rattle.kept_records.specs.Stands.{greatest};
 ghost use Rattle.site_step.specs.Site.{SiteValue, Holds, owed_under, Applies, HoldsLog};
 ghost use Rattle.site_step.specs.Calls.{Call, Leads, IsSure, AreSure};
@@ -29,6 +32,20 @@ pub fn nothing_in_doubt()
         before.foretold ≡ Some Never → Leads before calls later → AreSure calls }
     ensures lasts { (before later : SiteValue) (calls : List Call) →
         before.foretold ≡ Some Never → Leads before calls later → later.foretold ≡ Some Never }
+{}
+
+/// No call drops a whole line. What a call leaves on the medium begins with the lines that stood
+/// there (`lines`), whatever the command, its reply and the mishap; and over a log with no torn end
+/// it begins with all that stood there, so that a call only appends (`all`). That the site's medium
+/// holds such lines is what `Site::history` tells.
+pub fn no_line_is_dropped()
+    ensures lines { (before later : SiteValue) (rs : List Record) (rest : List ℕ)
+        (command : Command) (reply : Reply) → IsLog before.bytes rs rest →
+        Applies before command reply later →
+        (added : List ℕ) × (later.bytes ≡ flat_map text rs ++ added) }
+    ensures all { (before later : SiteValue) (rs : List Record) (command : Command)
+        (reply : Reply) → IsLog before.bytes rs [] → Applies before command reply later →
+        (added : List ℕ) × (later.bytes ≡ before.bytes ++ added) }
 {}
 
 /// What the contract of a call leaves no room for, whatever the body, which can't see what mishap

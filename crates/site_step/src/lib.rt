@@ -7,5 +7,5 @@ mod extent;
 mod laws;
 mod site;
 
-pub use laws::{no_needless_cut_or_failure, nothing_in_doubt};
+pub use laws::{no_line_is_dropped, no_needless_cut_or_failure, nothing_in_doubt};
 pub use site::{OpenFault, Site};

@@ -4,9 +4,11 @@ use Rattle.kept_records.specs.declared.total.Total.{Total}
 use Rattle.field_bounds.specs.Owed.{max_total}
 use Rattle.site_rights.specs.Rights.{AreTold, AreWithin}
 use Rattle.gift_ledger.specs.Ledger.{LedgerValue, IsSlot, fresh_ledger}
+use Rattle.kept_records.specs.Summary.{rises}
 use Rattle.log_replay.specs.Standing.{StandsFor}
 use Rattle.log_replay.specs.Resuming.{NotesGifts, NotesAccepts}
 use Rattle.log_replay.proofs.FromSummary.{placed_fresh, placed_still, listed_small, cuts_told, cuts_count, cuts_read, rights_within, stands_told, none_held}
+use Rattle.log_replay.proofs.Once.{fresh_given, fresh_accepted}
 use Rattle.log_replay.proofs.standing.Standing.of_summary.Goals as goal
 
 pub note_gifts-requires : goal.note_gifts-requires
@@ -22,6 +24,8 @@ note_gifts-requires c =
           (placed_fresh schema s v.gifts tells.gifts_placed));
       small = subst (λ (ts : List Total). AllByRecursion (λ t. t.total ≤ max_total) ts) (sym c.gifts.ensures.all)
           (listed_small v.gifts c.requires.in_range.gifts);
+      rises = ap rises c.gifts.ensures.all ∙ c.requires.in_range.gifts_rise;
+      nothing = fresh_given schema s c.in_ok-ledger.ledger c.in_ok-ledger.ensures.fresh;
     }
 
 pub note_accepts-requires : goal.note_accepts-requires
@@ -36,6 +40,9 @@ note_accepts-requires c =
       places = subst (λ (ts : List Total). AllByRecursion (λ t. IsSlot c.note_gifts.new.ledger t.site.0 t.field.0) ts)
           (sym c.accepts.ensures.all)
           (placed_still c.in_ok-ledger.ledger c.note_gifts.new.ledger c.note_gifts.ensures.noted.place v.accepts fresh);
+      rises = ap rises c.accepts.ensures.all ∙ c.requires.in_range.accepts_rise;
+      nothing = λ r f k. c.note_gifts.ensures.noted.accepted r f k
+          ∙ fresh_accepted schema s c.in_ok-ledger.ledger c.in_ok-ledger.ensures.fresh r f k;
     }
 
 pub of-requires-clause-cut_count : goal.of-requires-clause-cut_count

@@ -4,7 +4,7 @@ use Rattle.std.proofs.Common.{◌≡◌, ◌+◌, List, length, ap, ◌∙◌, a
 use Rattle.std.specs.Prelude.{nat_le, if◌then◌else◌}
 use Rattle.std.proofs.lemmas.List.{length-reverse}
 use Rattle.site_step.specs.Resuming.{found_by}
-use Rattle.site_step.proofs.Calls.{grew, lawful_log, limits, seam, fails, fills, can_restart, read_or_not, few_more, restarts}
+use Rattle.site_step.proofs.Calls.{grew, lawful_log, limits, seam, fails, fills, can_restart, few_more, restarts}
 use Rattle.site_step.proofs.site.Site.restart.Goals as goal
 
 pub resume-requires-clause-log : goal.resume-requires-clause-log
@@ -40,7 +40,7 @@ invariant_of-self-in-Failed g c =
     let s = c.self.invariant in
     (fails s c.self.view_is c.in-Failed.turns c.unwrap_or-self-inside.result
     (rw c.in-Failed.is at c.in_ok-turns.ensures.resumes s.records s.rest s.log)
-    (read_or_not c.in-Failed.turns c.self.inside.replayed c.unwrap_or-self-inside.result c.unwrap_or-self-inside.ensures)
+    c.unwrap_or-self-inside.ensures
     (grew c.tell.ensures.told c.in_ok-reserve.ensures.items)).sound
 
 pub returns-in-Failed-clause-ok : goal.returns-in-Failed-clause-ok
@@ -48,7 +48,7 @@ returns-in-Failed-clause-ok g c =
     let s = c.self.invariant in
     (fails s c.self.view_is c.in-Failed.turns c.unwrap_or-self-inside.result
     (rw c.in-Failed.is at c.in_ok-turns.ensures.resumes s.records s.rest s.log)
-    (read_or_not c.in-Failed.turns c.self.inside.replayed c.unwrap_or-self-inside.result c.unwrap_or-self-inside.ensures)
+    c.unwrap_or-self-inside.ensures
     (grew c.tell.ensures.told c.in_ok-reserve.ensures.items)).applies
 
 pub reach-requires : goal.reach-requires

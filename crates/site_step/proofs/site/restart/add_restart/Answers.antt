@@ -57,5 +57,4 @@ returns-in-Err-clause-resumes g c =
     fails_over (g.M.Medium.bytes was) (g.M.Medium.bytes left) (g.M.Medium.foretold was) (g.M.Medium.foretold left) (g.M.Medium.failed was)
     (g.M.Medium.failed left) log.whole standing c.args.replay.turns
     c.in_ok-due.due c.requires.whole c.requires.below c.requires.read c.args.schema.now s rs rest is dues c.in-Err.field-0
-    (Some c.args.replay.turns) (λ n same. cc)
     (rw c.in-Err.is at c.in_ok-append_restart_piece.ensures.added) (rw c.in-Err.is at c.in_ok-append_restart_piece.ensures.fate)
