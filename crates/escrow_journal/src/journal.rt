@@ -5,7 +5,7 @@ ghost use Rattle.field_bounds.specs.Owed.{max_open, max_escrows};
 ghost use Rattle.escrow_journal.specs.Journal.{is_listed, escrows_at, rows_with, without};
 ghost use Rattle.escrow_journal.specs.Kept.{rows_of, index_of};
 
-use field_bounds::{Escrow, TxnId};
+use field_bounds::{Escrow, FieldNo, TxnId};
 use std::alloc::{AllocError, Global};
 use std::marker::Model;
 
@@ -54,7 +54,7 @@ fn place(rows: &[OpenTransaction], txn: TxnId) -> Option<usize>
 }
 
 impl Journal {
-    /// No open transactions. Takes no memory.
+    /// No open transactions. Takes no memory; what `begin` and `add` take is of this allocator.
     pub fn new(alloc: Global) -> Journal
         ensures empty { result ≡ [] }
     {
@@ -92,28 +92,30 @@ impl Journal {
     /// Opens a transaction, with no escrow, behind those that are open. It may not be open yet, and
     /// fewer than 64 may be: `is_open` and `count` tell both. The error is want of memory, and
     /// changes nothing. Costs one row.
-    pub fn begin(&mut self, alloc: Global, txn: TxnId) -> Result<(), AllocError>
+    pub fn begin(&mut self, txn: TxnId) -> Result<(), AllocError>
         requires closed { is_listed txn self.old ≡ false }
         requires room { length self.old < max_open }
         ensures ok { OnOk result (self.new ≡ self.old ++ (txn, []) ∷ []) }
         ensures err { OnErr result (self.new ≡ self.old) }
     {
-        let escrows = Vec::new(alloc);
+        let escrows = Vec::new(*self.rows.allocator());
         self.rows.push(OpenTransaction { txn, escrows })?;
         Ok(())
     }
 
-    /// Adds an escrow behind those of an open transaction, and changes nothing else. The
-    /// transaction has to be open with fewer than 16 escrows: `is_open` and `escrows` tell both.
-    /// The error is want of memory, and changes nothing. Costs a look through at most 64 rows.
-    pub fn add(&mut self, txn: TxnId, escrow: Escrow) -> Result<(), AllocError>
+    /// Adds an escrow of a change of the field behind those of an open transaction, and changes
+    /// nothing else. The transaction has to be open with fewer than 16 escrows: `is_open` and
+    /// `escrows` tell both. The error is want of memory, and changes nothing. Costs a look through
+    /// at most 64 rows.
+    pub fn add(&mut self, txn: TxnId, field: FieldNo, change: i64) -> Result<(), AllocError>
         requires open { is_listed txn self.old ≡ true }
         requires room { length (escrows_at txn self.old) < max_escrows }
-        ensures ok { OnOk result (self.new ≡ rows_with txn escrow self.old) }
+        ensures ok { OnOk result (self.new ≡ rows_with txn
+            (record { field = field; change = change }) self.old) }
         ensures err { OnErr result (self.new ≡ self.old) }
     {
         let at = place(&self.rows, txn).unwrap();
-        self.rows[at].escrows.push(escrow)?;
+        self.rows[at].escrows.push(Escrow { field, change })?;
         Ok(())
     }
 

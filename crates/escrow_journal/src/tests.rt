@@ -1,6 +1,5 @@
 use super::*;
 use field_bounds::{Escrow, FieldNo, MAX_ESCROWS, MAX_OPEN, TxnId};
-use std::alloc::Global;
 
 const FIRST: TxnId = TxnId {
     epoch: 0,
@@ -23,11 +22,11 @@ const RAISE: Escrow = Escrow {
 };
 
 /// The transaction begun, or None where memory was refused or it can't be.
-fn begun(alloc: Global, journal: &mut Journal, txn: TxnId) -> Option<()> {
+fn begun(journal: &mut Journal, txn: TxnId) -> Option<()> {
     if journal.is_open(txn) || journal.count() >= MAX_OPEN {
         return None;
     }
-    journal.begin(alloc, txn).ok()
+    journal.begin(txn).ok()
 }
 
 /// The escrow added, or None where memory was refused or it can't be.
@@ -35,13 +34,13 @@ fn added(journal: &mut Journal, txn: TxnId, escrow: Escrow) -> Option<()> {
     if journal.escrows(txn)?.len() >= MAX_ESCROWS {
         return None;
     }
-    journal.add(txn, escrow).ok()
+    journal.add(txn, escrow.field, escrow.change).ok()
 }
 
 /// Two transactions opened, the first with an escrow that lowers and one that raises.
-fn two_open(alloc: Global, journal: &mut Journal) -> Option<()> {
-    begun(alloc, journal, FIRST)?;
-    begun(alloc, journal, SECOND)?;
+fn two_open(journal: &mut Journal) -> Option<()> {
+    begun(journal, FIRST)?;
+    begun(journal, SECOND)?;
     added(journal, FIRST, LOWER)?;
     added(journal, FIRST, RAISE)
 }
@@ -59,7 +58,7 @@ fn newest_taken(journal: &mut Journal, txn: TxnId) -> Option<Escrow> {
 #[test]
 fn each_call(rt: HostRuntime) {
     let mut journal = Journal::new(rt.alloc());
-    assert_eq!(rt; two_open(rt.alloc(), &mut journal), Some(()));
+    assert_eq!(rt; two_open(&mut journal), Some(()));
     assert_eq!(rt; journal.count(), 2);
     assert_eq!(rt; escrow_at(&journal, FIRST, 0), Some(LOWER));
     assert_eq!(rt; escrow_at(&journal, FIRST, 1), Some(RAISE));

@@ -153,9 +153,10 @@ impl Standing {
             return false;
         }
         let amount = total - before;
-        if self.rights.drop_free(field, kind, amount).is_err() {
+        if self.rights.free(field, kind) < amount {
             return false;
         }
+        self.rights.drop_free(field, kind, amount);
         self.ledger.give(to, field, kind, amount).is_ok()
     }
 

@@ -173,21 +173,17 @@ impl Rights {
         });
     }
 
-    /// Lets free rights leave the site, as those that it gives away do, or answers the share and
-    /// changes nothing where fewer are free than are asked.
-    pub fn drop_free(&mut self, field: FieldNo, kind: Kind, amount: u64) -> Result<(), Short>
+    /// Lets free rights leave the site, as those that it gives away do. So many have to be free,
+    /// which `free` tells.
+    pub fn drop_free(&mut self, field: FieldNo, kind: Kind, amount: u64)
         requires in_schema { field.0 < length self.old }
-        ensures enough { IsOk result ↔ (amount ≤ free_at self.old field.0 kind) }
-        ensures ok { OnOk result (self.new ≡ at_field after_drop self.old field.0 kind amount) }
-        ensures short { IfErr result (λ short. short.share ≡ free_at self.old field.0 kind) }
-        ensures err { OnErr result (self.new ≡ self.old) }
+        requires there { amount ≤ free_at self.old field.0 kind }
+        ensures dropped { self.new ≡ at_field after_drop self.old field.0 kind amount }
     {
-        self.check_free(field, kind, amount)?;
         let row = &mut self.rows[usize::from(field.0)];
         both_kinds!(kind, row, |giving| {
             giving.free -= amount;
         });
-        Ok(())
     }
 
     /// Gives free rights up for good, and answers all that was given up so far of the kind on the

@@ -69,14 +69,14 @@ fn second_of_two_sites(rt: HostRuntime) -> Result<(), Fail> {
     Ok(())
 }
 
-/// What is answered where 21 of 20 free lowering rights are to leave, and then 20.
-fn given_away(rights: &mut Rights) -> (Result<(), Short>, Result<(), Short>)
+/// All free lowering rights leave; how many they were.
+fn given_away(rights: &mut Rights) -> u64
     requires in_schema { 0 < length rights.old }
     ensures in_schema { 0 < length rights.new }
 {
-    let many = rights.drop_free(STOCK, Kind::Lower, 21);
-    let all = rights.drop_free(STOCK, Kind::Lower, 20);
-    (many, all)
+    let all = rights.free(STOCK, Kind::Lower);
+    rights.drop_free(STOCK, Kind::Lower, all);
+    all
 }
 
 /// The room, and the raising rights once that many more came to them.
@@ -91,8 +91,7 @@ fn filled_up(rights: &mut Rights) -> (u64, u64)
 #[test]
 fn rights_leave_and_come(rt: HostRuntime) -> Result<(), Fail> {
     let mut rights = half(&rt, rt.alloc(), EVEN)?;
-    let short = Short { share: 20 };
-    assert_eq!(rt; given_away(&mut rights), (Err(short), Ok(())));
+    assert_eq!(rt; given_away(&mut rights), 20);
     assert_eq!(rt; filled_up(&mut rights), (70, 100));
     Ok(())
 }

@@ -224,7 +224,7 @@ impl<M: Medium> Site<M> {
             return self.refuse(command, refusal);
         }
         by_command! { command;
-            Begin => self.begin(alloc),
+            Begin => self.begin(),
             Escrow { txn, field, change } => self.grant(txn, field, change),
             Commit { txn } => self.commit(alloc, txn),
             Abort { txn } => self.answer(Command::Abort { txn }, Reply::Aborted),

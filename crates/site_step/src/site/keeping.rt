@@ -120,7 +120,7 @@ impl<M: Medium> Site<M> {
         }
     }
 
-    pub(super) fn begin(&mut self, alloc: Global) -> Result<Reply, AllocError>
+    pub(super) fn begin(&mut self) -> Result<Reply, AllocError>
         requires unrefused { first (refusals (here self.old) Command.Begin) ≡ None }
         ensures ok { IfOk result (λ reply. Applies self.old Command.Begin reply self.new) }
         ensures err { OnErr result (self.new ≡ self.old) }
@@ -130,7 +130,7 @@ impl<M: Medium> Site<M> {
             epoch: self.accounts.standing.epoch,
             number: self.accounts.last + 1,
         };
-        self.accounts.journal.begin(alloc, txn)?;
+        self.accounts.journal.begin(txn)?;
         self.accounts.last += 1;
         let reply = Reply::Begun(txn);
         self.history.push_reserved(Entry {
@@ -154,7 +154,7 @@ impl<M: Medium> Site<M> {
         ensures err { OnErr result (self.new ≡ self.old) }
     {
         self.history.reserve(1)?;
-        self.accounts.journal.add(txn, Escrow { field, change })?;
+        self.accounts.journal.add(txn, field, change)?;
         self.accounts
             .standing
             .rights

@@ -22,6 +22,9 @@ give-requires c =
           (is_other c.args.schema.now c.args.self.now.ledger.site c.args.to.0 c.args.field.0 here);
     }
 
+pub drop_free-requires-clause-there : goal.drop_free-requires-clause-there
+drop_free-requires-clause-there c = omega (arith, c.free.ensures.value, c.if-free-amount.false)
+
 pub returns : goal.returns
 returns c =
     let schema = c.args.schema.now in
@@ -34,15 +37,13 @@ returns c =
     let here = sym c.has_place.ensures ∙ c.if-not-has_place.false in
     let before = c.total-before.ensures.value in
     let is : amount ≡ total - total_at old.ledger to.0 field.0 kind = ap (λ n. total - n) before in
-    let took : is_ok c.drop_free.result ≡ true = c.if-is_err.ensures.negation in
     let gave : is_ok c.give.result ≡ true = no_err c.give.result
     (λ full. absurd (omega (arith, c.give.ensures.full.0 full, before, c.if-total-before.false, c.requires.small))) in
     record {
       takes_in = takes_as schema old (Gift to field kind total) c.is_ok.result c.drop_free.new.self
           (at_field after_drop old.rights field.0 kind amount)
           c.give.new.self (with_total old.ledger to.0 field.0 kind (total_at old.ledger to.0 field.0 kind + amount)) old.epoch
-          (c.is_ok.ensures.value ∙ gave) (ok_gives c.drop_free.result took c.drop_free.ensures.ok)
-          (ok_gives c.give.result gave c.give.ensures.ok)
+          (c.is_ok.ensures.value ∙ gave) c.drop_free.ensures.dropped (ok_gives c.give.result gave c.give.ensures.ok)
           (gift_taken schema old to field kind total amount c.requires.places here (omega (arith, before, c.if-total-before.false)) is
-          (c.drop_free.ensures.enough.0 took));
+          (omega (arith, c.free.ensures.value, c.if-free-amount.false)));
     }
