@@ -16,7 +16,7 @@ use crate::fault::ReachFault;
 use crate::readers::number_told;
 use crate::shares::{accepted_at, given_at, guarded_at, has_cut};
 use crate::trial::Trial;
-use field_bounds::{FieldNo, Kind, SiteNo};
+use field_bounds::{FieldNo, Kind, MAX_NUMBER, SiteNo};
 use std::alloc::{AllocError, Global};
 
 /// Whether a site is down.
@@ -146,7 +146,7 @@ fn has_no_number(trial: &Trial, named: SiteNo, site: SiteNo) -> bool
     ensures value { result ≡ has_no_number trial.now.schema (trace_of trial.now) named.0 site.0 }
 {
     let (_, count) = numbers_at(trial.world().trace(), site);
-    site.0 != named.0 && count >= 1_000_000_000
+    site.0 != named.0 && count >= u64::from(MAX_NUMBER)
 }
 
 /// The first such site.
