@@ -157,6 +157,15 @@ bytes-line read done rest piece line after most split parts bytes =
       length-append line (10 ∷ []),
     )
 
+-- a line without its LF
+pub bytes-part : (read line : List ℕ) (most : ℕ) → length (read ++ (line ++ 10 ∷ [])) ≤ most → length (read ++ line) ≤ most
+bytes-part read line most bytes =
+    omega (arith, bytes, length-append read (line ++ 10 ∷ []), length-append line (10 ∷ []), length-append read line)
+
+-- and with it
+pub bytes-ended : (read line : List ℕ) (most : ℕ) → length (read ++ (line ++ 10 ∷ [])) ≤ most → length ((read ++ line) ++ 10 ∷ []) ≤ most
+bytes-ended read line most bytes = omega (arith, bytes, ap length (append_assoc read line (10 ∷ [])))
+
 -- the first bytes of a read
 pub bytes-read : (read piece buf : List ℕ) (k count most : ℕ) → piece ≡ take k buf → count ≡ length read → count + k ≤ most
     → length (read ++ piece) ≤ most
