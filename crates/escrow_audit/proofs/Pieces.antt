@@ -7,7 +7,7 @@ use Rattle.script_input.specs.declared.fault.ScriptFault.TheVariants.{TooLong, N
 use Rattle.script_input.specs.declared.streams.End.{End}
 use Rattle.script_input.specs.declared.streams.End.TheVariants.{Nothing}
 use Rattle.script_input.specs.Faults.{HasEndedAt}
-use Rattle.script_input.proofs.LineLemmas.{split_piece, rest_some}
+use Rattle.script_input.proofs.LineLemmas.{split_piece, rest_some, bytes-read}
 use Rattle.escrow_audit.specs.declared.reading.Stop.{Stop}
 use Rattle.escrow_audit.specs.declared.reading.Stop.TheVariants.{Fault}
 use Rattle.escrow_audit.specs.declared.reading.Reading.{Reading}
@@ -53,15 +53,17 @@ module _ (from middle to : Option (List ℕ)) (old new : Reading) where
 
   -- the reading stopped in the piece
   pub Stops-more : (stop : Stop) (n k : ℕ) (buf piece : List ℕ) (last : End) → piece ≡ take k buf → k ≤ n → Consumes middle to (take n buf)
-      → StopsIn old new piece stop → {bytes : ℕ} → HasRead from middle old bytes → StopsAfter from to last new stop
-  Stops-more stop n k buf piece last e h consumed stops {bytes} stands =
+      → StopsIn old new piece stop → {bytes : ℕ} → bytes + k ≤ 268435456 → HasRead from middle old bytes
+      → StopsAfter from to last new stop
+  Stops-more stop n k buf piece last e h consumed stops {bytes} within stands =
       let rest = drop k (take n buf) in (
         stands.read ++ take n buf,
         (
           Consumes-trans from middle to stands.read (take n buf) stands.consumed consumed,
           Stops-along stop (stands.read ++ (piece ++ rest)) (stands.read ++ take n buf) new.lines (HasEndedAt to last)
               (ap (λ l. stands.read ++ l) (split_piece n k buf piece e h))
-              (Stops-weaker stop _ new.lines ⊥ (HasEndedAt to last) (λ x. absurd x) (stops stands.read rest stands.at)),
+              (Stops-weaker stop _ new.lines ⊥ (HasEndedAt to last) (λ x. absurd x)
+              (stops stands.read rest stands.at (bytes-read stands.read piece buf k bytes _ e stands.count within))),
         ),
       )
 
@@ -80,7 +82,7 @@ module _ (from middle to : Option (List ℕ)) (old new : Reading) where
               (ap (λ l. stands.read ++ l) (split_piece n k buf piece e (omega arith)))
               (Stops-past stands.read piece rest new new.lines (HasEndedAt to last) (omega (arith, size, full, stands.count))
               (rest_some n k buf h fits)
-              (goes stands.read stands.at)),
+              (goes stands.read stands.at) (omega (arith, size, full, stands.count))),
         ),
       )
 

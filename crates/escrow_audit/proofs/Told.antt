@@ -78,10 +78,10 @@ pub Fails-write : (from to before after : Option (List ℕ)) (last : End) (end :
     → bytes ≡ text
     → AppendsPrefix before after bytes → Fails from to before after last Write
 Fails-write from to before after last end text bytes tells same front =
-    let (read, (consumed, (_, audit))) = tells in record {
+    let (read, (consumed, (within, audit))) = tells in record {
       front = read;
       back = [];
       consumed = subst (Consumes from to) (sym (append-nil read)) consumed;
       why = tt;
-      written = (end, (text, (refl, (audit, subst (AppendsPrefix before after) same front))));
+      written = (end, (text, (refl, (within, (audit, subst (AppendsPrefix before after) same front)))));
     }

@@ -16,7 +16,7 @@ use Rattle.central_rules.specs.Verdict.{verdict_of}
 use Rattle.script_input.specs.declared.fault.ScriptFault.{ScriptFault}
 use Rattle.script_input.specs.declared.fault.ScriptFault.TheVariants as faults
 use Rattle.script_input.specs.declared.streams.End.{End}
-use Rattle.script_input.specs.Lines.{whole_lines, last_part, script_lines}
+use Rattle.script_input.specs.Lines.{whole_lines, last_part, lines_of, script_lines}
 use Rattle.script_input.specs.Faults.{Explains, HasEndedAt, IsWithin}
 use Rattle.script_input.specs.Streams.{AppendsPrefix}
 use Rattle.escrow_audit.specs.declared.answer.AuditEnd.{AuditEnd}
@@ -96,12 +96,16 @@ pub record IsJudged (lines : List (List ℕ)) (end : AuditEnd) (text : List ℕ)
   pub ended : end ≡ end_of (verdict_of schema entries)
   pub told : text ≡ verdict_text (verdict_of schema entries) (length entries)
 
--- The bytes have a bad entry, and this is the first. Of its line was read: its LF, or more than 256 bytes, or all up to the
--- end of the input. It is within the limit on lines.
+-- The bytes have a bad entry, and this is the first. It stands in a front of them that is within the limits on lines and
+-- bytes. Of its line that front has its LF, or more than 256 bytes, or all up to the end of the input.
 pub record FindsBad (read : List ℕ) (number : ℕ) (ended : Type 0) : Type 0 where
   pub first : IsFirstBad (script_lines read) number
-  pub reached : (number ≤ length (whole_lines read)) ⊎ ((max_line < length (last_part read)) ⊎ ended)
-  pub within : number ≤ 1000000
+  pub front : List ℕ
+  pub back : List ℕ
+  pub parts : front ++ back ≡ read
+  pub within : IsWithin front
+  pub there : number ≤ length (lines_of front)
+  pub reached : (number ≤ length (whole_lines front)) ⊎ ((max_line < length (last_part front)) ⊎ ((back ≡ []) × ended))
 
 -- What an audit answers of the bytes that it read, with what says that the input has ended: the first bad entry, or at the
 -- end of the input the verdict.
@@ -115,7 +119,8 @@ Answers end read text = IsAudit end read (Unit {0}) text
 
 -- ---- what an audit reads and writes
 
--- A verdict is on an input within the limits on lines and bytes. At a bad entry nothing is said of what stands behind it.
+-- A verdict is on an input within the limits on lines and bytes. A bad entry is within them itself, and nothing is said of
+-- what stands behind it.
 abbrev pub IsWithinAt : AuditEnd → List ℕ → Type 0
 IsWithinAt ends.Legal read = IsWithin read
 IsWithinAt ends.Illegal read = IsWithin read
@@ -134,11 +139,12 @@ pub record Audits (from to before after : Option (List ℕ)) (last : End) (end :
 abbrev pub IsGood : List (List ℕ) → Type 0
 IsGood lines = (lines ≡ []) ⊎ ((schema : SchemaValue) × ((entries : List Entry) × HasEntries schema entries lines))
 
--- At a write fault a front of the answer is written. At every other fault nothing is, and the lines in front of it have no
--- bad entry.
+-- At a write fault a front of the answer is written, which keeps the limits as it does where all of it is. At every other
+-- fault nothing is, and the lines in front of it have no bad entry.
 abbrev pub LeavesFor : ScriptFault → Option (List ℕ) → Option (List ℕ) → List ℕ → List ℕ → Type 0 → Type 0
 LeavesFor faults.Write before after front back ended =
-    (end : AuditEnd) × ((text : List ℕ) × ((back ≡ []) × (IsAudit end front ended text × AppendsPrefix before after text)))
+    (end : AuditEnd) × ((text : List ℕ) × ((back ≡ []) × (IsWithinAt end front × (IsAudit end front ended text
+    × AppendsPrefix before after text))))
 LeavesFor fault before after front back ended = IsGood (whole_lines front) × Appends before after []
 
 -- What was read is the front and the back, where the fault came.

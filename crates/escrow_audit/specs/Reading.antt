@@ -107,9 +107,10 @@ Stops read lines ended BadEntry = FindsBad read (lines + 1) ended
 abbrev pub GoesOn : Reading → Reading → List ℕ → Type 0
 GoesOn old new bytes = (read : List ℕ) → At read old → At (read ++ bytes) new
 
--- The reading stopped in the bytes, whatever was read before and comes after them.
+-- The reading stopped in the bytes, whatever was read before and comes after them, where they end within the limit on bytes.
 abbrev pub StopsIn : Reading → Reading → List ℕ → Stop → Type 0
-StopsIn old new bytes stop = (read more : List ℕ) → At read old → Stops (read ++ (bytes ++ more)) new.lines ⊥ stop
+StopsIn old new bytes stop = (read more : List ℕ) → At read old → length (read ++ bytes) ≤ 268435456
+    → Stops (read ++ (bytes ++ more)) new.lines ⊥ stop
 
 -- At the end of the input the entries are those of all lines.
 abbrev pub Holds : Reading → List (List ℕ) → Type 0
@@ -118,9 +119,9 @@ Holds r lines = IsSome r.schema × IsAfterLines r.schema r.entries.items lines
 abbrev pub Finishes : Reading → Reading → Type 0
 Finishes old new = (read : List ℕ) → At read old → Holds new (script_lines read)
 
--- The reading stopped at the end of the input.
+-- The reading stopped at the end of an input within the limit on bytes.
 abbrev pub StopsAtEnd : Reading → Reading → Stop → Type 0
-StopsAtEnd old new stop = (read : List ℕ) → At read old → Stops read new.lines (Unit {0}) stop
+StopsAtEnd old new stop = (read : List ℕ) → At read old → length read ≤ 268435456 → Stops read new.lines (Unit {0}) stop
 
 -- The known bytes of a reader lose what was read, and the state is that after it.
 pub record HasRead (from to : Option (List ℕ)) (r : Reading) (bytes : ℕ) : Type 0 where

@@ -12,34 +12,21 @@ use Rattle.script_input.specs.declared.streams.End.TheVariants.{Nothing}
 use Rattle.script_input.specs.Lines.{whole_lines}
 use Rattle.script_input.specs.Faults.{HasEndedAt}
 use Rattle.script_input.specs.Streams.{AppendsPrefix}
-use Rattle.script_input.proofs.LineLemmas.{split_piece, rest_some}
-use Rattle.escrow_script.specs.Run.{At, HasWritten, Stops, HasRead, StopsAfter, IsFresh, RunsThrough, Answers, Fails, Leaves, LeavesAll, WritesText, WritesFor}
-use Rattle.escrow_script.proofs.RunLemmas.{At-written, Stops-along, kept-nil, IsTextOf-stands}
+use Rattle.script_input.proofs.LineLemmas.{split_piece, rest_some, within-nothing, bytes-read}
+use Rattle.script_input.proofs.FaultLemmas.{explains_weaker, explains_within}
+use Rattle.escrow_script.specs.Run.{At, HasWritten, Stops, StopsIn, HasRead, StopsAfter, IsFresh, RunsThrough, Answers, Fails, Leaves, LeavesAll, WritesText, WritesFor}
+use Rattle.escrow_script.proofs.RunLemmas.{At-written, At-within, Stops-along, kept-nil, IsTextOf-stands}
 
 -- a fault that tells less of the end
 pub Stops-weaker : (fault : ScriptFault) (read : List ℕ) (s : Script) (before after : Option (List ℕ)) (P Q : Type 0)
     → (P → Q) → Stops fault read s before after P → Stops fault read s before after Q
-Stops-weaker (Header e) read s before after P Q f stops = record {
+Stops-weaker fault read s before after P Q f stops = record {
   front = stops.front;
   back = stops.back;
   parts = stops.parts;
-  why = (
-    stops.why.0,
-    elim stops.why.1 [
-      | inl h ↦ inl (h.0, elim h.1 [ inl k ↦ inl k | inr k ↦ inr (k.0, f k.1) ])
-      | inr h ↦ inr h
-    ],
-  );
+  why = explains_weaker fault stops.front stops.back P Q f stops.why;
   text = stops.text;
 }
-Stops-weaker Read read s before after P Q f stops =
-    record { front = stops.front; back = stops.back; parts = stops.parts; why = stops.why; text = stops.text }
-Stops-weaker TooLong read s before after P Q f stops =
-    record { front = stops.front; back = stops.back; parts = stops.parts; why = stops.why; text = stops.text }
-Stops-weaker Write read s before after P Q f stops =
-    record { front = stops.front; back = stops.back; parts = stops.parts; why = stops.why; text = stops.text }
-Stops-weaker NoMemory read s before after P Q f stops =
-    record { front = stops.front; back = stops.back; parts = stops.parts; why = stops.why; text = stops.text }
 
 leaves : (read : List ℕ) (s : Script) (before after : Option (List ℕ)) → At read s before after
     → Leaves before after s.out.items (whole_lines read)
@@ -50,24 +37,24 @@ leaves read s before after at = (
 )
 
 pub Stops-read : (read : List ℕ) (s : Script) (before after : Option (List ℕ)) (ended : Type 0)
-    → At read s before after → Stops Read read s before after ended
-Stops-read read s before after ended at = record {
+    → At read s before after → length read ≤ 268435456 → Stops Read read s before after ended
+Stops-read read s before after ended at bytes = record {
   front = read;
   back = [];
   parts = append-nil read;
-  why = refl;
+  why = (At-within read s before after at bytes, refl);
   text = leaves read s before after at;
 }
 
 -- more bytes than the limit
 pub Stops-past : (read piece more : List ℕ) (s : Script) (before after : Option (List ℕ)) (ended : Type 0)
-    → 268435456 ≤ length (read ++ piece) → more ≢ [] → At (read ++ piece) s before after
+    → 268435456 ≤ length (read ++ piece) → more ≢ [] → At (read ++ piece) s before after → length (read ++ piece) ≤ 268435456
     → Stops TooLong (read ++ (piece ++ more)) s before after ended
-Stops-past read piece more s before after ended long some at = record {
+Stops-past read piece more s before after ended long some at bytes = record {
   front = read ++ piece;
   back = more;
   parts = append_assoc read piece more;
-  why = (some, inr long);
+  why = (At-within (read ++ piece) s before after at bytes, (some, inr long));
   text = leaves (read ++ piece) s before after at;
 }
 
@@ -109,17 +96,18 @@ module _ (from middle to before written after : Option (List ℕ)) (old new : Sc
   pub Stops-more : (wrote : Script) (wrote_to : Option (List ℕ)) (fault : ScriptFault) (n k : ℕ) (buf piece : List ℕ) (ended : End)
       → piece ≡ take k buf → k ≤ n → Consumes middle to (take n buf)
       → HasWritten old wrote → Appends written wrote_to old.out.items
-      → ((read more : List ℕ) (b : Option (List ℕ)) → At read wrote b wrote_to → Stops fault (read ++ (piece ++ more)) new b after ⊥)
-      → HasRead from middle before written old bytes
+      → StopsIn wrote new wrote_to after piece fault
+      → bytes + k ≤ 268435456 → HasRead from middle before written old bytes
       → StopsAfter from to before after new ended fault
-  Stops-more wrote wrote_to fault n k buf piece ended e h consumed step appended stops stands =
+  Stops-more wrote wrote_to fault n k buf piece ended e h consumed step appended stops within stands =
       let rest = drop k (take n buf) in (
         stands.read ++ take n buf,
         Consumes-trans from middle to stands.read (take n buf) stands.consumed consumed,
         Stops-along fault (stands.read ++ (piece ++ rest)) (stands.read ++ take n buf) new before after (HasEndedAt to ended)
             (ap (λ l. stands.read ++ l) (split_piece n k buf piece e h))
             (Stops-weaker fault _ new before after ⊥ (HasEndedAt to ended) (λ x. absurd x)
-            (stops stands.read rest before (At-written stands.read old wrote before written wrote_to stands.at step appended))),
+            (stops stands.read rest before (At-written stands.read old wrote before written wrote_to stands.at step appended)
+            (bytes-read stands.read piece buf k bytes _ e stands.count within))),
       )
 
   -- the piece went past the limit
@@ -139,7 +127,8 @@ module _ (from middle to before written after : Option (List ℕ)) (old new : Sc
             (ap (λ l. stands.read ++ l) (split_piece n k buf piece e (omega arith)))
             (Stops-past stands.read piece rest new before after (HasEndedAt to ended) (omega (arith, size, full, stands.count))
             (rest_some n k buf h fits)
-            (goes stands.read before (At-written stands.read old wrote before written wrote_to stands.at step appended))),
+            (goes stands.read before (At-written stands.read old wrote before written wrote_to stands.at step appended))
+            (omega (arith, size, full, stands.count))),
       )
 
 -- ---- the whole run
@@ -172,7 +161,7 @@ Stops-memory from before s ended fresh = (
     front = [];
     back = [];
     parts = refl;
-    why = tt;
+    why = within-nothing;
     text = leaves [] s before before (At-start s before fresh);
   },
 )
@@ -201,7 +190,7 @@ Fails-write from to before after s ended stops =
       back = st.back;
       consumed = subst (Consumes from to) (sym st.parts) consumed;
       why = tt;
-      written = inl st.text;
+      written = (st.text.0, inl st.text.1);
     }
 
 -- a front of what is known and of what is written after it
@@ -233,36 +222,42 @@ Fails-last from to before middle after s ended runs front =
       back = [];
       consumed = subst (Consumes from to) (sym (append-nil read)) consumed;
       why = tt;
-      written = inr (
-        refl,
-        (
-          written ++ s.out.items,
-          inr (schema, (steps, has)),
-          AppendsFront-after before middle after written s.out.items wrote front,
+      written = (
+        within,
+        inr (
+          refl,
+          (
+            written ++ s.out.items,
+            inr (schema, (steps, has)),
+            AppendsFront-after before middle after written s.out.items wrote front,
+          ),
         ),
       );
     }
 
 -- what is written, with the buffer, at a fault that is no write's
-Leaves-other : (fault : ScriptFault) (out : List ℕ) (lines : List (List ℕ)) (before after : Option (List ℕ)) → fault ≢ Write
-    → WritesText fault out before after lines → Leaves before after out lines
-Leaves-other Write out lines before after other = absurd (other refl)
-Leaves-other Read out lines before after other = λ h. h
-Leaves-other TooLong out lines before after other = λ h. h
-Leaves-other (Header e) out lines before after other = λ h. h
-Leaves-other NoMemory out lines before after other = λ h. h
+Leaves-other : (fault : ScriptFault) (out front : List ℕ) (before after : Option (List ℕ)) → fault ≢ Write
+    → WritesText fault out before after front → Leaves before after out (whole_lines front)
+Leaves-other Write out front before after other = absurd (other refl)
+Leaves-other Read out front before after other = λ h. h
+Leaves-other TooLong out front before after other = λ h. h
+Leaves-other (Header e) out front before after other = λ h. h
+Leaves-other NoMemory out front before after other = λ h. h
 
 -- the last write failed after a fault
 pub Fails-again : (fault : ScriptFault) (from to before middle after : Option (List ℕ)) (s : Script) (ended : End) → fault ≢ Write
     → StopsAfter from to before middle s ended fault → AppendsPrefix middle after s.out.items → Fails from to before after ended Write
 Fails-again fault from to before middle after s ended other stops front =
     let (read, consumed, st) = stops in
-    let (written, wrote, text) = Leaves-other fault s.out.items (whole_lines st.front) before middle other st.text in record {
+    let (written, wrote, text) = Leaves-other fault s.out.items st.front before middle other st.text in record {
       front = st.front;
       back = st.back;
       consumed = subst (Consumes from to) (sym st.parts) consumed;
       why = tt;
-      written = inl (written ++ s.out.items, text, AppendsFront-after before middle after written s.out.items wrote front);
+      written = (
+        explains_within fault st.front st.back (HasEndedAt to ended) other st.why,
+        inl (written ++ s.out.items, text, AppendsFront-after before middle after written s.out.items wrote front),
+      );
     }
 
 WritesFor-other : (fault : ScriptFault) (front back : List ℕ) (before after : Option (List ℕ)) → fault ≢ Write
@@ -278,7 +273,7 @@ pub Fails-other : (fault : ScriptFault) (from to before middle after : Option (L
     → StopsAfter from to before middle s ended fault → Appends middle after s.out.items → Fails from to before after ended fault
 Fails-other fault from to before middle after s ended other stops appended =
     let (read, consumed, st) = stops in
-    let (written, wrote, text) = Leaves-other fault s.out.items (whole_lines st.front) before middle other st.text in record {
+    let (written, wrote, text) = Leaves-other fault s.out.items st.front before middle other st.text in record {
       front = st.front;
       back = st.back;
       consumed = subst (Consumes from to) (sym st.parts) consumed;

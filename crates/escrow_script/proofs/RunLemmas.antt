@@ -14,10 +14,10 @@ use Rattle.field_bounds.specs.declared.fault.SchemaFault.TheVariants as schema_f
 use Rattle.field_bounds.specs.Header.{schema_of}
 use Rattle.script_input.specs.Lines.{whole_lines, last_part, last_line, with_header, script_lines}
 use Rattle.escrow_script.specs.Text.{IsTextOf}
-use Rattle.script_input.specs.Faults.{BeginsWithBreak}
+use Rattle.script_input.specs.Faults.{BeginsWithBreak, IsWithin}
 use Rattle.script_input.specs.Streams.{AppendsPrefix}
 use Rattle.escrow_script.specs.Run.{At, HasKept, CannotKeep, HasEnded, CannotEnd, HasAnswered, HasWritten, Stops, line_held, with_piece, Leaves, LeavesPrefix, IsAfterLines, Moves, Completes}
-use Rattle.script_input.proofs.LineLemmas.{whole_lines-unbroken, last_part-unbroken, whole_lines-broken, last_part-broken, last_part_after-none, last_line-some, with_header-last, with_header-some, within-unbroken, within-broken}
+use Rattle.script_input.proofs.LineLemmas.{whole_lines-unbroken, last_part-unbroken, whole_lines-broken, last_part-broken, last_part_after-none, last_line-some, with_header-last, with_header-some, within-unbroken, within-broken, within-header, bytes-before}
 use Rattle.escrow_script.proofs.TextLemmas.{StandsFor-next, StandsFor-more, with_piece-kept}
 
 StandsFor-along : (m n : Option Machine) (ks ls : List (List ℕ)) (s t : List ℕ) → m ≡ n → ks ≡ ls → s ≡ t → IsAfterLines m ks s
@@ -92,6 +92,11 @@ At-written read old new before middle after at step appended = record {
   within = at.within;
 }
 
+-- what was taken in is within the limits
+pub At-within : (read : List ℕ) (s : Script) (before after : Option (List ℕ)) → At read s before after → length read ≤ 268435456
+    → IsWithin read
+At-within read s before after at bytes = record { lines = at.within; bytes = bytes }
+
 -- with a front of the output written
 pub At-front : (read : List ℕ) (old : Script) (before middle after : Option (List ℕ))
     → At read old before middle → AppendsPrefix middle after old.out.items → LeavesPrefix before after (whole_lines read)
@@ -117,9 +122,9 @@ At-leaves read old new before after at same = (
 
 -- a piece that can't be kept
 pub Stops-keep : (fault : ScriptFault) (read piece more : List ℕ) (old new : Script) (before after : Option (List ℕ)) (ended : Type 0)
-    → All (λ b. b ≢ 10) piece → At read old before after → CannotKeep old new piece fault
+    → All (λ b. b ≢ 10) piece → At read old before after → CannotKeep old new piece fault → length (read ++ piece) ≤ 268435456
     → Stops fault (read ++ (piece ++ more)) new before after ended
-Stops-keep (Header e) read piece more old new before after ended unbroken at step =
+Stops-keep (Header e) read piece more old new before after ended unbroken at step bytes =
     let same = whole_lines-unbroken read piece unbroken in
     let why : (e ≡ schema_faults.TooLong) × IsNone old.machine × (65536 < length old.line.items + length piece) = step.why in
     let none = none_lines old.machine (whole_lines read) (at.written ++ old.out.items) why.1 at.stands in
@@ -129,25 +134,28 @@ Stops-keep (Header e) read piece more old new before after ended unbroken at ste
       front = read ++ piece;
       back = more;
       parts = append_assoc read piece more;
-      why = (same ∙ none, inr (why.0, rw (length-append read piece) (subst (λ l. 65536 < length l + length piece) all why.2)));
+      why = (
+        within-header (read ++ piece) (same ∙ none) bytes,
+        (same ∙ none, inr (why.0, rw (length-append read piece) (subst (λ l. 65536 < length l + length piece) all why.2))),
+      );
       text = subst (Leaves before after new.out.items) (sym same) (At-leaves read old new before after at step.out);
     }
-Stops-keep NoMemory read piece more old new before after ended unbroken at step = record {
+Stops-keep NoMemory read piece more old new before after ended unbroken at step bytes = record {
   front = read;
   back = piece ++ more;
   parts = refl;
-  why = tt;
+  why = At-within read old before after at (bytes-before read piece _ bytes);
   text = At-leaves read old new before after at step.out;
 }
-Stops-keep Read read piece more old new before after ended unbroken at step = absurd step.why
-Stops-keep TooLong read piece more old new before after ended unbroken at step = absurd step.why
-Stops-keep Write read piece more old new before after ended unbroken at step = absurd step.why
+Stops-keep Read read piece more old new before after ended unbroken at step bytes = absurd step.why
+Stops-keep TooLong read piece more old new before after ended unbroken at step bytes = absurd step.why
+Stops-keep Write read piece more old new before after ended unbroken at step bytes = absurd step.why
 
 -- a line that can't be ended
 pub Stops-end : (fault : ScriptFault) (read back : List ℕ) (old new : Script) (before after : Option (List ℕ)) (ended : Type 0)
     → (BeginsWithBreak back ⊎ ((back ≡ []) × ended)) → At read old before after → CannotEnd old new fault
-    → Stops fault (read ++ back) new before after ended
-Stops-end (Header e) read back old new before after ended breaks at step =
+    → length read ≤ 268435456 → Stops fault (read ++ back) new before after ended
+Stops-end (Header e) read back old new before after ended breaks at step bytes =
     let why : IsNone old.machine × (schema_of old.line.items ≡ Err e) = step.why in
     let none = none_lines old.machine (whole_lines read) (at.written ++ old.out.items) why.0 at.stands in
     let all : old.line.items ≡ read = at.line ∙ kept_of_none old.machine (last_part read) why.0 ∙ last_part_after-none [] read none in
@@ -155,27 +163,33 @@ Stops-end (Header e) read back old new before after ended breaks at step =
       front = read;
       back = back;
       parts = refl;
-      why = (none, inl (ap schema_of (sym all) ∙ why.1, breaks));
+      why = (within-header read none bytes, (none, inl (ap schema_of (sym all) ∙ why.1, breaks)));
       text = At-leaves read old new before after at step.out;
     }
-Stops-end NoMemory read back old new before after ended breaks at step = record {
+Stops-end NoMemory read back old new before after ended breaks at step bytes = record {
   front = read;
   back = back;
   parts = refl;
-  why = tt;
+  why = At-within read old before after at bytes;
   text = At-leaves read old new before after at step.out;
 }
-Stops-end Read read back old new before after ended breaks at step = absurd step.why
-Stops-end TooLong read back old new before after ended breaks at step = absurd step.why
-Stops-end Write read back old new before after ended breaks at step = absurd step.why
+Stops-end Read read back old new before after ended breaks at step bytes = absurd step.why
+Stops-end TooLong read back old new before after ended breaks at step bytes = absurd step.why
+Stops-end Write read back old new before after ended breaks at step bytes = absurd step.why
 
 -- output that can't be written
 pub Stops-write : (fault : ScriptFault) (read back : List ℕ) (old new : Script) (before middle after : Option (List ℕ)) (ended : Type 0)
-    → fault ≡ Write → At read old before middle → AppendsPrefix middle after old.out.items
+    → fault ≡ Write → At read old before middle → AppendsPrefix middle after old.out.items → length read ≤ 268435456
     → Stops fault (read ++ back) new before after ended
-Stops-write fault read back old new before middle after ended is at front =
+Stops-write fault read back old new before middle after ended is at front bytes =
     subst (λ f. Stops f (read ++ back) new before after ended) (sym is)
-    (record { front = read; back = back; parts = refl; why = tt; text = At-front read old before middle after at front })
+    (record {
+      front = read;
+      back = back;
+      parts = refl;
+      why = tt;
+      text = (At-within read old before middle at bytes, At-front read old before middle after at front);
+    })
 
 pub Stops-along : (fault : ScriptFault) (read read' : List ℕ) (new : Script) (before after : Option (List ℕ)) (ended : Type 0)
     → read ≡ read' → Stops fault read new before after ended → Stops fault read' new before after ended
@@ -187,12 +201,13 @@ At-along read read' new before after e at = subst (λ r. At r new before after) 
 
 -- more lines than the limit
 pub Stops-full : (read back : List ℕ) (new : Script) (before after : Option (List ℕ)) (ended : Type 0)
-    → 1000000 ≤ new.lines → back ≢ [] → At read new before after → Stops TooLong (read ++ back) new before after ended
-Stops-full read back new before after ended full some at = record {
+    → 1000000 ≤ new.lines → back ≢ [] → At read new before after → length read ≤ 268435456
+    → Stops TooLong (read ++ back) new before after ended
+Stops-full read back new before after ended full some at bytes = record {
   front = read;
   back = back;
   parts = refl;
-  why = (some, inl (subst (λ n. 1000000 ≤ n) at.lines full));
+  why = (At-within read new before after at bytes, (some, inl (subst (λ n. 1000000 ≤ n) at.lines full)));
   text = At-leaves read new new before after at refl;
 }
 
@@ -245,12 +260,13 @@ At-whole read line old new before after unbroken empty room at step =
 
 -- memory ran out before anything changed what is to be written
 pub Stops-unchanged : (read back : List ℕ) (old new : Script) (before after : Option (List ℕ)) (ended : Type 0)
-    → new.out.items ≡ old.out.items → At read old before after → Stops NoMemory (read ++ back) new before after ended
-Stops-unchanged read back old new before after ended same at = record {
+    → new.out.items ≡ old.out.items → At read old before after → length read ≤ 268435456
+    → Stops NoMemory (read ++ back) new before after ended
+Stops-unchanged read back old new before after ended same at bytes = record {
   front = read;
   back = back;
   parts = refl;
-  why = tt;
+  why = At-within read old before after at bytes;
   text = At-leaves read old new before after at same;
 }
 

@@ -133,10 +133,11 @@ LeavesPrefix before after lines = (text : List ℕ) × IsTextOf lines text × Ap
 abbrev pub LeavesAll : Option (List ℕ) → Option (List ℕ) → List (List ℕ) → Type 0
 LeavesAll before after lines = (text : List ℕ) × IsTextOf lines text × Appends before after text
 
--- At a write fault a front of the text is written, and else all of it but what is in the buffer.
-abbrev pub WritesText : ScriptFault → List ℕ → Option (List ℕ) → Option (List ℕ) → List (List ℕ) → Type 0
-WritesText Write out before after lines = LeavesPrefix before after lines
-WritesText _ out before after lines = Leaves before after out lines
+-- At a write fault a front of the text of the whole lines is written, of bytes within the limits, and else all of it but what
+-- is in the buffer.
+abbrev pub WritesText : ScriptFault → List ℕ → Option (List ℕ) → Option (List ℕ) → List ℕ → Type 0
+WritesText Write out before after front = IsWithin front × LeavesPrefix before after (whole_lines front)
+WritesText _ out before after front = Leaves before after out (whole_lines front)
 
 -- The fault came in these bytes, and what is written, with the buffer, is the text of the whole lines in
 -- front of it.
@@ -145,17 +146,17 @@ pub record Stops (fault : ScriptFault) (read : List ℕ) (s : Script) (before af
   pub back : List ℕ
   pub parts : front ++ back ≡ read
   pub why : Explains fault front back ended
-  pub text : WritesText fault s.out.items before after (whole_lines front)
+  pub text : WritesText fault s.out.items before after front
 
 -- The bytes are taken in: this holds wherever the run stands, for all that was read before.
 abbrev pub GoesOn : Script → Script → Option (List ℕ) → Option (List ℕ) → List ℕ → Type 0
 GoesOn old new middle after bytes =
     (read : List ℕ) (before : Option (List ℕ)) → At read old before middle → At (read ++ bytes) new before after
 
--- The fault came in the bytes, whatever is read after them.
+-- The fault came in the bytes, whatever is read after them, where they end within the limit on bytes.
 abbrev pub StopsIn : Script → Script → Option (List ℕ) → Option (List ℕ) → List ℕ → ScriptFault → Type 0
 StopsIn old new middle after bytes fault =
-    (read more : List ℕ) (before : Option (List ℕ)) → At read old before middle
+    (read more : List ℕ) (before : Option (List ℕ)) → At read old before middle → length (read ++ bytes) ≤ 268435456
     → Stops fault (read ++ (bytes ++ more)) new before after ⊥
 
 -- The line and its LF are taken in, and nothing is written.
@@ -177,10 +178,11 @@ Finishes old new =
     (read : List ℕ) (before after : Option (List ℕ)) → At read old before after
     → Completes before after new.out.items (script_lines read)
 
--- The fault came at the end of the input.
+-- The fault came at the end of an input within the limit on bytes.
 abbrev pub StopsAtEnd : Script → Script → ScriptFault → Type 0
 StopsAtEnd old new fault =
-    (read : List ℕ) (before after : Option (List ℕ)) → At read old before after → Stops fault read new before after (Unit {0})
+    (read : List ℕ) (before after : Option (List ℕ)) → At read old before after → length read ≤ 268435456
+    → Stops fault read new before after (Unit {0})
 
 -- The known bytes of a reader lose what was read, and the state is that after it.
 pub record HasRead (from to before after : Option (List ℕ)) (s : Script) (bytes : ℕ) : Type 0 where
@@ -234,10 +236,10 @@ pub record Answers (from to before after : Option (List ℕ)) : Type 0 where
   pub written : Appends before after text
 
 -- At a write fault a front of the text is written, of the whole lines in front of the fault or of the whole
--- input, and else the text of the whole lines in front of the fault.
+-- input, which are within the limits, and else the text of the whole lines in front of the fault.
 abbrev pub WritesFor : ScriptFault → Option (List ℕ) → Option (List ℕ) → List ℕ → List ℕ → Type 0
 WritesFor Write before after front back =
-    LeavesPrefix before after (whole_lines front) ⊎ ((back ≡ []) × LeavesPrefix before after (script_lines front))
+    IsWithin front × (LeavesPrefix before after (whole_lines front) ⊎ ((back ≡ []) × LeavesPrefix before after (script_lines front)))
 WritesFor _ before after front back = LeavesAll before after (whole_lines front)
 
 -- What was read is the front, with the whole lines that are answered, and the back, where the fault came.

@@ -71,6 +71,7 @@ faults_through from to last r w fault through is none =
             header = w.header.items;
             good = subst (λ
                 (x : Option Scripts). IsAfterLines x (script_lines through.0)) is through.1.1.1.1.1;
+            within = through.1.1.1.0;
             at = through.1.1.0;
           },
         ),
@@ -85,6 +86,7 @@ faults_through from to last r w fault through is none =
             header = w.header.items;
             good = subst (λ
                 (x : Option Scripts). IsAfterLines x (script_lines through.0)) is through.1.1.1.1.1;
+            within = through.1.1.1.0;
             at = through.1.1.0;
           },
           none,

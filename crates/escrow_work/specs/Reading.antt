@@ -120,9 +120,10 @@ Stops read lines ended BadLine = FindsBad read (lines + 1) ended
 abbrev pub GoesOn : Reading → Reading → List ℕ → Type 0
 GoesOn old new bytes = (read : List ℕ) → At read old → At (read ++ bytes) new
 
--- The reading stopped in the bytes, whatever was read before and comes after them.
+-- The reading stopped in the bytes, whatever was read before and comes after them, where they end within the limit on bytes.
 abbrev pub StopsIn : Reading → Reading → List ℕ → Stop → Type 0
-StopsIn old new bytes stop = (read more : List ℕ) → At read old → Stops (read ++ (bytes ++ more)) new.lines ⊥ stop
+StopsIn old new bytes stop = (read more : List ℕ) → At read old → length (read ++ bytes) ≤ 268435456
+    → Stops (read ++ (bytes ++ more)) new.lines ⊥ stop
 
 -- At the end of the input the scripts are those of all lines.
 abbrev pub Holds : Reading → List (List ℕ) → Type 0
@@ -131,9 +132,9 @@ Holds r lines = IsSome r.scripts × IsAfterLines r.scripts lines
 abbrev pub Finishes : Reading → Reading → Type 0
 Finishes old new = (read : List ℕ) → At read old → Holds new (script_lines read)
 
--- The reading stopped at the end of the input.
+-- The reading stopped at the end of an input within the limit on bytes.
 abbrev pub StopsAtEnd : Reading → Reading → Stop → Type 0
-StopsAtEnd old new stop = (read : List ℕ) → At read old → Stops read new.lines (Unit {0}) stop
+StopsAtEnd old new stop = (read : List ℕ) → At read old → length read ≤ 268435456 → Stops read new.lines (Unit {0}) stop
 
 -- The known bytes of a reader lose what was read, and the state is that after it.
 pub record HasRead (from to : Option (List ℕ)) (r : Reading) (bytes : ℕ) : Type 0 where

@@ -16,7 +16,7 @@ use Rattle.trace_weave.specs.Weave.{WeavesLowest, NoneWeaves}
 use Rattle.script_input.specs.declared.fault.ScriptFault.{ScriptFault}
 use Rattle.script_input.specs.declared.fault.ScriptFault.TheVariants as faults
 use Rattle.script_input.specs.declared.streams.End.{End}
-use Rattle.script_input.specs.Lines.{whole_lines, last_part, script_lines}
+use Rattle.script_input.specs.Lines.{whole_lines, last_part, lines_of, script_lines}
 use Rattle.script_input.specs.Faults.{Explains, HasEndedAt, IsWithin, CountsRead, CountsWrite}
 use Rattle.script_input.specs.Streams.{AppendsPrefix}
 use Rattle.escrow_work.specs.declared.fault.WorkTextFault.{WorkTextFault}
@@ -78,11 +78,16 @@ pub record WritesWork (from to before after : Option (List ℕ)) (last : End) : 
 
 -- ---- faults
 
--- The bytes have a bad line, and this is the first. Of it was read: its LF, or more than 256 bytes, or all up to the end of
--- the input.
+-- The bytes have a bad line, and this is the first. It stands in a front of them that is within the limits on lines and
+-- bytes. Of it that front has its LF, or more than 256 bytes, or all up to the end of the input.
 pub record FindsBad (read : List ℕ) (number : ℕ) (ended : Type 0) : Type 0 where
   pub first : IsFirstBad (script_lines read) number
-  pub reached : (number ≤ length (whole_lines read)) ⊎ ((max_line < length (last_part read)) ⊎ ended)
+  pub front : List ℕ
+  pub back : List ℕ
+  pub parts : front ++ back ≡ read
+  pub within : IsWithin front
+  pub there : number ≤ length (lines_of front)
+  pub reached : (number ≤ length (whole_lines front)) ⊎ ((max_line < length (last_part front)) ⊎ ((back ≡ []) × ended))
 
 -- No line, or a header with plain commands behind it.
 abbrev pub IsGood : List (List ℕ) → Type 0
@@ -98,10 +103,11 @@ pub record FaultIn (fault : ScriptFault) (read : List ℕ) (ended : Type 0) : Ty
   pub good : IsGood (whole_lines front)
   pub other : fault ≢ faults.Write
 
--- All lines are good, and the input has ended.
+-- All lines are good, and the input has ended within the limits on lines and bytes.
 pub record IsAsked (schema : SchemaValue) (scripts : List (List Command)) (read : List ℕ) (ended : Type 0) : Type 0 where
   pub header : List ℕ
   pub good : HasScripts schema header scripts (script_lines read)
+  pub within : IsWithin read
   pub at : ended
 
 -- Want of memory in the work is told as such.
@@ -136,10 +142,11 @@ Tells from to last text =
 abbrev pub FaultsIn : Option (List ℕ) → Option (List ℕ) → End → WorkTextFault → Type 0
 FaultsIn from to last fault = (read : List ℕ) × (Consumes from to read × TellsOf fault read (HasEndedAt to last))
 
--- At a write fault a front of a text that Ok allows is written. At every other fault nothing is.
+-- At a write fault a front of a text that Ok allows is written, of an input within the limits. At every other fault nothing
+-- is.
 abbrev pub FailsIn : WorkTextFault → List ℕ → Type 0 → Option (List ℕ) → Option (List ℕ) → Type 0
-FailsIn (ends.Script faults.Write) read ended before after = ended × ((text : List ℕ) × (IsWorkOf (script_lines read) text
-    × AppendsPrefix before after text))
+FailsIn (ends.Script faults.Write) read ended before after = ended × (IsWithin read × ((text : List ℕ)
+    × (IsWorkOf (script_lines read) text × AppendsPrefix before after text)))
 FailsIn fault read ended before after = TellsOf fault read ended × Appends before after []
 
 -- A fault comes for a reason in what was read, and nothing but a front of a text that Ok allows is written.

@@ -1,10 +1,11 @@
 -- The lines of a text that goes on.
-use Rattle.std.proofs.Common.{◌≡◌, ◌≢◌, ℕ, suc, ◌+◌, ◌-◌, ◌<◌, ◌≤◌, List, [], ◌∷◌, ◌++◌, Bool, true, false, cond, eqb, length, take, drop, refl, sym, ap, ◌∙◌, append_assoc, append-nil, take-append-drop, arith}
+use Rattle.std.proofs.Common.{◌≡◌, ◌≢◌, ℕ, ◌+◌, ◌-◌, ◌<◌, ◌≤◌, List, [], ◌∷◌, ◌++◌, Bool, true, false, cond, eqb, length, take, drop, refl, sym, ap, ◌∙◌, append_assoc, append-nil, take-append-drop, arith}
 use Rattle.std.specs.List.{All}
-use Rattle.std.proofs.lemmas.List.{length-take-le, length-drop, take-take, length-append, length_push}
+use Rattle.std.proofs.lemmas.List.{length-take, length-take-le, length-drop, take-take, length-append, length_push}
 use Rattle.std.proofs.lemmas.Bool.{ne_eqb}
 use Rattle.std.proofs.lemmas.List.Elements.{All-tail}
 use Rattle.script_input.specs.Lines.{whole_lines_after, last_part_after, whole_lines, last_part, last_line, lines_of, with_header}
+use Rattle.script_input.specs.Faults.{IsWithin}
 
 pub whole_lines_after-append : (front bs cs : List ℕ)
     → whole_lines_after front (bs ++ cs) ≡ whole_lines_after front bs ++ whole_lines_after (last_part_after front bs) cs
@@ -107,6 +108,69 @@ within-broken read room =
     ap (λ l. length (whole_lines (read ++ 10 ∷ []) ++ last_line l)) (last_part-broken read)
     ∙ ap length (append-nil (whole_lines (read ++ 10 ∷ []))) in
     omega (arith, lines, ap length (whole_lines-broken read), length_push (whole_lines read) (last_part read), room)
+
+-- bytes in which no line ended are one line at most
+pub within-header : (read : List ℕ) → whole_lines read ≡ [] → length read ≤ 268435456 → IsWithin read
+within-header read none bytes = record { lines = omega (arith, lines_of-most read, ap length none); bytes = bytes }
+
+pub within-nothing : IsWithin []
+within-nothing = record { lines = omega arith; bytes = omega arith }
+
+-- ---- fronts that are within the limit on bytes
+
+-- what was read before a piece
+pub bytes-before : (read piece : List ℕ) (most : ℕ) → length (read ++ piece) ≤ most → length read ≤ most
+bytes-before read piece most bytes = omega (arith, bytes, length-append read piece)
+
+-- the part of a piece that was taken
+pub bytes-done : (read done rest piece : List ℕ) (most : ℕ) → piece ≡ done ++ rest → length (read ++ piece) ≤ most
+    → length (read ++ done) ≤ most
+bytes-done read done rest piece most split bytes =
+    omega (arith, bytes, length-append read piece, length-append read done, ap length split, length-append done rest)
+
+-- and all of it
+pub bytes-all : (read done rest piece : List ℕ) (most : ℕ) → piece ≡ done ++ rest → length (read ++ piece) ≤ most
+    → length ((read ++ done) ++ rest) ≤ most
+bytes-all read done rest piece most split bytes =
+    omega (
+      arith,
+      bytes,
+      length-append read piece,
+      length-append read done,
+      length-append (read ++ done) rest,
+      ap length split,
+      length-append done rest,
+    )
+
+-- and a line more of it, with its LF
+pub bytes-line : (read done rest piece line after : List ℕ) (most : ℕ) → piece ≡ done ++ rest → rest ≡ line ++ 10 ∷ after
+    → length (read ++ piece) ≤ most → length ((read ++ done) ++ (line ++ 10 ∷ [])) ≤ most
+bytes-line read done rest piece line after most split parts bytes =
+    omega (
+      arith,
+      bytes,
+      bytes-all read done rest piece most split bytes,
+      length-append (read ++ done) rest,
+      ap length parts,
+      length-append line (10 ∷ after),
+      length-append (read ++ done) (line ++ 10 ∷ []),
+      length-append line (10 ∷ []),
+    )
+
+-- a line without its LF
+pub bytes-part : (read line : List ℕ) (most : ℕ) → length (read ++ (line ++ 10 ∷ [])) ≤ most → length (read ++ line) ≤ most
+bytes-part read line most bytes =
+    omega (arith, bytes, length-append read (line ++ 10 ∷ []), length-append line (10 ∷ []), length-append read line)
+
+-- and with it
+pub bytes-ended : (read line : List ℕ) (most : ℕ) → length (read ++ (line ++ 10 ∷ [])) ≤ most → length ((read ++ line) ++ 10 ∷ []) ≤ most
+bytes-ended read line most bytes = omega (arith, bytes, ap length (append_assoc read line (10 ∷ [])))
+
+-- the first bytes of a read
+pub bytes-read : (read piece buf : List ℕ) (k count most : ℕ) → piece ≡ take k buf → count ≡ length read → count + k ≤ most
+    → length (read ++ piece) ≤ most
+bytes-read read piece buf k count most e known room =
+    omega (arith, length-append read piece, ap length e, length-take k buf, known, room)
 
 -- ---- bytes that are some
 

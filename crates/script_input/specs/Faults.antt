@@ -35,15 +35,18 @@ pub record IsWithin (read : List ℕ) : Type 0 where
   pub lines : length (lines_of read) ≤ 1000000
   pub bytes : length read ≤ 268435456
 
--- What a fault says of the bytes in front of it and of those that were read after them.
+-- What a fault says of the bytes in front of it, which are within the limits, and of those that were read after them. So
+-- too long an input is told just where a byte follows the 1,000,000th line or the 268,435,456th byte. What may be written at a
+-- write fault, and of which input, is told by each call.
 abbrev pub Explains : ScriptFault → List ℕ → List ℕ → Type 0 → Type 0
-Explains faults.Read front back ended = back ≡ []
-Explains faults.TooLong front back ended = (back ≢ []) × ((1000000 ≤ length (whole_lines front)) ⊎ (268435456 ≤ length front))
+Explains faults.Read front back ended = IsWithin front × (back ≡ [])
+Explains faults.TooLong front back ended = IsWithin front
+    × ((back ≢ []) × ((1000000 ≤ length (whole_lines front)) ⊎ (268435456 ≤ length front)))
 Explains faults.Write front back ended = Unit {0}
-Explains (faults.Header fault) front back ended = (whole_lines front ≡ [])
+Explains (faults.Header fault) front back ended = IsWithin front × ((whole_lines front ≡ [])
     × (((schema_of front ≡ Err fault) × (BeginsWithBreak back ⊎ ((back ≡ []) × ended)))
-    ⊎ ((fault ≡ schema_faults.TooLong) × (65536 < length front)))
-Explains faults.NoMemory front back ended = Unit {0}
+    ⊎ ((fault ≡ schema_faults.TooLong) × (65536 < length front))))
+Explains faults.NoMemory front back ended = IsWithin front
 
 -- The input has ended: no known byte is left, and the last read gave nothing.
 abbrev pub HasEndedAt : Option (List ℕ) → End → Type 0

@@ -7,7 +7,7 @@ use Rattle.escrow_audit.proofs.reading.Reading.take_next.Goals as goal
 
 pub returns-in-Err-clause-err : goal.returns-in-Err-clause-err
 returns-in-Err-clause-err g c = rw c.in-Err.ensures.fault (λ from stands.
-    (stands.read, (Consumes-kept _ _ _ _ stands.consumed c.in-Err.ensures.bytes, Stops-read stands.read _ 0 _ stands.at)))
+    (stands.read, (Consumes-kept _ _ _ _ stands.consumed c.in-Err.ensures.bytes, Stops-read stands.read _ 0 _ stands.at (omega (arith, stands.count, c.requires.bytes)))))
 
 pub returns-then-count-eq0-clause-ok : goal.returns-then-count-eq0-clause-ok
 returns-then-count-eq0-clause-ok g c = λ from stands.
@@ -20,7 +20,7 @@ returns-in_err-take_piece-clause-err g c =
     rw (p.1, p.2) (λ from stands.
     Stops-more from _ _ _ c.take_piece.new.self _ c.in-Ok.count _ c.read_piece.new.buffer _ _ c.front.ensures.bytes
     (omega arith) c.in-Ok.ensures.bytes.0
-    c.in_err-take_piece.ensures.err stands)
+    c.in_err-take_piece.ensures.err (omega arith) stands)
 
 pub returns-then-count-room-clause-err : goal.returns-then-count-room-clause-err
 returns-then-count-room-clause-err g c = λ from stands.
@@ -34,7 +34,7 @@ returns-in_err-take_piece-2-clause-err g c =
     rw (p.1, p.2) (λ from stands.
     Stops-more from _ _ _ c.take_piece-2.new.self _ c.in-Ok.count _ c.read_piece.new.buffer _ _ c.front-2.ensures.bytes
     (omega arith) c.in-Ok.ensures.bytes.0
-    c.in_err-take_piece-2.ensures.err stands)
+    c.in_err-take_piece-2.ensures.err (omega arith) stands)
 
 pub returns-clause-ok : goal.returns-clause-ok
 returns-clause-ok g c = λ from stands. (

@@ -6,8 +6,8 @@ use Rattle.escrow_script.proofs.script.Script.end_input.Goals as goal
 
 pub returns-clause-err : goal.returns-clause-err
 returns-clause-err c =
-    IfErr-weaker c.end_line.result _ _ (λ fault cannot read before after at.
-    Stops-along _ _ _ _ _ _ _ (append-nil read) (Stops-end fault read [] _ _ _ _ _ (inr (refl, tt)) at cannot)) c.end_line.ensures.err
+    IfErr-weaker c.end_line.result _ _ (λ fault cannot read before after at bytes.
+    Stops-along _ _ _ _ _ _ _ (append-nil read) (Stops-end fault read [] _ _ _ _ _ (inr (refl, tt)) at cannot bytes)) c.end_line.ensures.err
 
 pub returns-clause-ok : goal.returns-clause-ok
 returns-clause-ok c =

@@ -40,7 +40,8 @@ returns-clause-err g c =
     (λ fault stops. (
       next.0.read,
       next.0.consumed,
-      Stops-weaker fault _ _ _ _ _ _ (λ _. next.1 c.if-count-eq0.true) (stops next.0.read _ _ next.0.at),
+      Stops-weaker fault _ _ _ _ _ _ (λ _. next.1 c.if-count-eq0.true) (stops next.0.read _ _ next.0.at
+          (omega (arith, next.0.count, next.0.within))),
     ))
     c.end_input.ensures.err
 

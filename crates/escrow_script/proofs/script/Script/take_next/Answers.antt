@@ -12,7 +12,8 @@ returns-in_err-write_out-clause-err g c =
       stands.read,
       stands.consumed,
       Stops-along _ _ _ _ _ _ _ (append-nil stands.read)
-          (Stops-write _ stands.read [] _ _ _ _ _ _ c.in_err-write_out.ensures.fault stands.at c.in_err-write_out.ensures.front),
+          (Stops-write _ stands.read [] _ _ _ _ _ _ c.in_err-write_out.ensures.fault stands.at c.in_err-write_out.ensures.front
+          (omega (arith, stands.count, stands.within))),
     ))
 
 pub returns-in_err-count-clause-err : goal.returns-in_err-count-clause-err
@@ -21,7 +22,8 @@ returns-in_err-count-clause-err g c =
     rw (p.1, p.2, c.in_err-count.ensures.fault) (λ from before stands. (
       stands.read,
       Consumes-kept _ _ _ _ stands.consumed c.in_err-count.ensures.bytes,
-      Stops-read stands.read _ _ _ _ (At-written _ _ _ _ _ _ stands.at c.in_ok-write_out.ensures.ok.0 c.in_ok-write_out.ensures.ok.1),
+      Stops-read stands.read _ _ _ _ (At-written _ _ _ _ _ _ stands.at c.in_ok-write_out.ensures.ok.0 c.in_ok-write_out.ensures.ok.1)
+          (omega (arith, stands.count, stands.within)),
     ))
 
 pub returns-then-count-eq0-clause-ok : goal.returns-then-count-eq0-clause-ok
@@ -36,7 +38,7 @@ returns-in_err-take_piece-clause-err g c =
     rw (p.1, p.2) (λ from before stands.
     Stops-more from _ _ before _ _ _ _ _ _ _ _ c.in_ok-count.count _ c.read_piece.new.buffer _ _ c.front.ensures.bytes
     (omega arith) c.in_ok-count.ensures.bytes.0
-    c.in_ok-write_out.ensures.ok.0 c.in_ok-write_out.ensures.ok.1 c.in_err-take_piece.ensures.err stands)
+    c.in_ok-write_out.ensures.ok.0 c.in_ok-write_out.ensures.ok.1 c.in_err-take_piece.ensures.err (omega arith) stands)
 
 pub returns-then-count-room-clause-err : goal.returns-then-count-room-clause-err
 returns-then-count-room-clause-err g c = λ from before stands.
@@ -50,7 +52,7 @@ returns-in_err-take_piece-2-clause-err g c =
     rw (p.1, p.2) (λ from before stands.
     Stops-more from _ _ before _ _ _ _ _ _ _ _ c.in_ok-count.count _ c.read_piece.new.buffer _ _ c.front-2.ensures.bytes
     (omega arith) c.in_ok-count.ensures.bytes.0
-    c.in_ok-write_out.ensures.ok.0 c.in_ok-write_out.ensures.ok.1 c.in_err-take_piece-2.ensures.err stands)
+    c.in_ok-write_out.ensures.ok.0 c.in_ok-write_out.ensures.ok.1 c.in_err-take_piece-2.ensures.err (omega arith) stands)
 
 pub returns-clause-ok : goal.returns-clause-ok
 returns-clause-ok g c = λ from before stands. (

@@ -41,7 +41,8 @@ returns-clause-err g c =
       (
         next.0.consumed,
         Stops-weaker stop _ _ _ _ (λ _. next.1 c.if-count-eq0.true)
-            (stops next.0.read next.0.at),
+            (stops next.0.read next.0.at
+            (omega (arith, next.0.count, c.in_ok-count.ensures.within))),
       ),
     ))
     c.end_input.ensures.err
