@@ -6,7 +6,6 @@ ghost use Rattle.site_desk.specs.declared.fault.DeskFault.TheVariants.{GateTurns
 ghost use Rattle.site_desk.specs.Passes.{AreNew, Settles};
 ghost use Rattle.site_desk.specs.Receipts.{Counts};
 ghost use Rattle.site_step.specs.Opening.{TellsLine, SparesLogs, FailsUnder};
-ghost use Rattle.site_step.specs.Site.{SiteValue};
 
 use crate::locked::{Blank, Closed, Kept, Pass, Receipt};
 use crate::{DeskFault, Gate, locked};
@@ -15,6 +14,7 @@ use kept_records::Medium;
 use site_step::{OpenFault, Site};
 use std::alloc::Global;
 use std::marker::Model;
+use std::snapshot::Snapshot;
 use std::sync::ledger::Ledger;
 use std::sync::{Mutex, Wait};
 
@@ -39,12 +39,14 @@ impl<L: Ledger, M: Medium> Model for Desk<L, M> {
 }
 
 /// A desk that wasn't closed, with the passes that were handed in and the length of the history
-/// that was found, in entries.
+/// that was found, in entries. What was found under the lock is for contracts alone: it takes no
+/// bytes.
 #[derive(Drop)]
 pub struct CloseError<L: Ledger, M: Medium> {
     pub desk: Desk<L, M>,
     pub passes: Vec<Pass<L>>,
     pub length: u64,
+    pub found: Snapshot<Kept<L, M>>,
 }
 
 impl<L: Ledger, M: Medium + Drop> Desk<L, M> {
@@ -147,14 +149,18 @@ impl<L: Ledger, M: Medium + Drop> Desk<L, M> {
 
     /// Closes the site: exactly where the calls of the passes handed in add up to the length of its
     /// history, and it has the schema and the number that the desk was made with. Else the desk and
-    /// the passes come back, with the length found. Costs a look at each pass and each field, and
-    /// no memory.
+    /// the passes come back, with the length found under the lock. Costs a look at each pass and
+    /// each field, and no memory.
     pub fn close(self, passes: Vec<Pass<L>>) -> Result<Closed<M>, CloseError<L, M>>
         ensures ok { IfOk result (λ closed. Settles self.schema self.site passes.items closed) }
         ensures passes { IfErr result (λ e. e.passes ≡ passes) }
         ensures desk { IfErr result (λ e. e.desk ≡ self) }
-        ensures found { IfErr result (λ e. (found : SiteValue) × (e.length ≡ length found.history)
-            × ¬ Settles self.schema self.site passes.items found) }
+        ensures length { IfErr result (λ e. e.length ≡ length e.found.value.history) }
+
+        // Either the passes' calls aren't as many as the entries found, or the site found under the
+        // lock has another schema or number.
+        ensures refused { IfErr result (λ e.
+            ¬ Settles self.schema self.site passes.items e.found.value) }
     {
         let Desk {
             schema,
@@ -163,15 +169,19 @@ impl<L: Ledger, M: Medium + Drop> Desk<L, M> {
         } = self;
         match kept.into_inner().settle(&schema, number, passes.as_slice()) {
             Ok(closed) => Ok(closed),
-            Err((kept, length)) => Err(CloseError {
-                desk: Desk {
-                    schema,
-                    number,
-                    kept: Mutex::new(kept),
-                },
-                passes,
-                length,
-            }),
+            Err((kept, length)) => {
+                let found = Snapshot::of(&kept);
+                Err(CloseError {
+                    desk: Desk {
+                        schema,
+                        number,
+                        kept: Mutex::new(kept),
+                    },
+                    passes,
+                    length,
+                    found,
+                })
+            }
         }
     }
 }

@@ -7,8 +7,8 @@ use field_bounds::SiteNo;
 
 /// A gate that a call passes under the desk's lock.
 pub trait Gate: Sync {
-    /// Whether it may turn a call of this number away at this site.
-    ghost turns: { Self → SiteNo → ℕ → Type 0 };
+    /// Whether it may turn a call of this number away at this site: any, where a gate doesn't tell.
+    ghost turns: { Self → SiteNo → ℕ → Type 0 } = { λ _ _ _. Unit {0} };
 
     /// Whether the call, counted from 1 for each pass, may be served at this site. Asked with the
     /// lock held, before the command is applied.

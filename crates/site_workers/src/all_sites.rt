@@ -126,6 +126,24 @@ fn join_all<'x, R: Threads>(
     Ok(histories)
 }
 
+/// Tells all couriers that the workers which couldn't be made put no more. The threads are in order
+/// of site, the last of which is the lowest site's.
+///
+/// A put waits while an inbox is full, so call it once each site's thread was made, or refused and
+/// its receiver let go: then no put waits for a courier that isn't there.
+fn end_for_missing<'x, R: Wait>(
+    rt: &R,
+    sites: u16,
+    handles: &[Option<Running<'x>>],
+    spares: &mut Vec<Spare>,
+) {
+    for (site, handle) in (0..sites).zip(handles.iter().rev()) {
+        if handle.is_none() {
+            end_for(rt, spares, SiteNo(site));
+        }
+    }
+}
+
 /// One thread for each site; their histories, in order of site.
 fn run_threads<'x, R: Threads + Wait + Sync, G: Gate>(
     rt: &'x R,
@@ -178,14 +196,13 @@ fn run_threads<'x, R: Threads + Wait + Sync, G: Gate>(
                         Ok(handle) => {
                             started = Some(Running::new(handle));
                         }
-                        Err(_refused) => {}
+                        Err(refused) => drop(refused),
                     }
-                }
-                if started.is_none() {
-                    end_for(rt, &mut spares, site);
                 }
                 handles.push(started)?;
             }
+            end_for_missing(rt, schema.sites(), handles.as_slice(), &mut spares);
+            drop(spares);
             join_all(rt, alloc, handles)
         },
     )

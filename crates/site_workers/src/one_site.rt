@@ -156,12 +156,12 @@ fn run_both<'x, L: Ledger + Send + Sync, R: Threads + Wait + Sync, G: Gate>(
                         &mut posts,
                         gate,
                     );
-                    end_all(rt, &mut posts);
+                    end_all(rt, posts);
                     (worked, first, Some(handle.join(rt)))
                 }
                 Err(refused) => {
                     drop(refused);
-                    end_all(rt, &mut posts);
+                    end_all(rt, posts);
                     (Err(WorkFault::NoMemory), first, None)
                 }
             }
@@ -254,12 +254,12 @@ fn run_over<'x, L: Ledger + Send + Sync, R: Threads + Wait + Sync, G: Gate>(
     let Seat {
         site,
         script,
-        mut posts,
+        posts,
         mail,
     } = seat;
     let Some((desk, first, second)) = open::<L>(alloc, blank, schema, site) else {
         drop(mail);
-        end_all(rt, &mut posts);
+        end_all(rt, posts);
         return Err(WorkFault::NoMemory);
     };
     let (worked, first, carried) = run_both(

@@ -35,8 +35,10 @@ impl Post {
     }
 }
 
-/// Tells all couriers that this worker puts no more.
-pub(crate) fn end_all<R: Wait>(rt: &R, posts: &mut Vec<Post>) {
+/// Tells all couriers that this worker puts no more, and lets go of its ends of their inboxes: an
+/// inbox that nobody puts into any more is closed, so no courier waits for ever.
+pub(crate) fn end_all<R: Wait>(rt: &R, posts: Vec<Post>) {
+    let mut posts = posts;
     for post in posts.iter_mut() {
         post.put_end(rt);
     }
