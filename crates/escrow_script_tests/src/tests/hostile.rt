@@ -1,7 +1,9 @@
 //! Appends torn at each byte, a header without end, and readers and writers that are interrupted
 //! once.
 
-use super::{Ended, HALVED, READ_FAULT, Talk, check_reader, check_said, row_input, row_output};
+use super::{
+    Ended, HALVED, READ_FAULT, Talk, check_reader, check_said, joined, row_input, row_output,
+};
 use escrow_script::{ScriptFault, Watched, run_script};
 use field_bounds::SchemaFault;
 use std::alloc::{AllocError, Global};
@@ -74,6 +76,44 @@ fn restarts_behind_three_failed_restarts(rt: HostRuntime) -> Result<(), AllocErr
 fn ends_a_header_without_end(rt: HostRuntime) {
     let wanted = Err(ScriptFault::Header(SchemaFault::TooLong));
     check_reader(&rt, rt.alloc(), io::repeat(b'x'), wanted, "");
+}
+
+/// A reader of spaces without end that gives a byte a read, and counts its reads.
+#[derive(Drop)]
+struct CountedSpaces {
+    reads: u64,
+}
+
+impl Read for CountedSpaces {
+    fn read(&mut self, buf: &mut [u8]) -> io::Result<usize> {
+        self.reads = self.reads.saturating_add(1);
+        let count = buf.len().min(1);
+        io::repeat(b' ').read(&mut buf[..count])
+    }
+}
+
+// A header line ends the run at the very read that gives its 65,537th byte.
+#[test]
+fn reads_no_more_once_a_header_is_too_long(rt: HostRuntime) {
+    let mut reader = Watched::new(CountedSpaces { reads: 0 });
+    let mut writer = Watched::new(Vec::new(rt.alloc()));
+    let end = run_script(rt.alloc(), &mut reader, &mut writer);
+    assert_eq!(rt; end, Err(ScriptFault::Header(SchemaFault::TooLong)));
+    assert_eq!(rt; reader.into_inner().reads, 65_537);
+}
+
+// Where that byte is its LF, the header has 65,536 bytes and is read, and so is what follows.
+#[test]
+fn reads_a_header_of_the_greatest_length(rt: HostRuntime) -> Result<(), AllocError> {
+    let alloc = rt.alloc();
+    let spaces = " ".repeat(alloc, 65_536usize.saturating_sub(HALVED.len()))?;
+    let input = joined(alloc, &[spaces.as_str(), HALVED, "\n0 begin\n"])?;
+    let wanted = joined(
+        alloc,
+        &[spaces.as_str(), HALVED, "\n0 begin -> begun 0.1\n"],
+    )?;
+    check_reader(&rt, alloc, input.as_bytes(), Ok(()), wanted.as_str());
+    Ok(())
 }
 
 /// A reader that is interrupted once, between two parts, and would answer the next read.
