@@ -269,8 +269,6 @@ fn a_desk_over_a_record_has_no_fresh_base(rt: HostRuntime) {
 struct Shut;
 
 impl Gate for Shut {
-    ghost turns = { λ gate site call. Unit {0} };
-
     fn inside(&self, _site: SiteNo, _call: u64) -> bool {
         false
     }

@@ -77,6 +77,7 @@ fn closed_after_all<L: Ledger>(
         desk,
         mut passes,
         length,
+        found: _,
     } = refused;
     let handed_back = passes.len();
     passes.push(second).ok()?;
@@ -175,6 +176,16 @@ fn two_threads_call_one_desk(rt: HostRuntime) {
     }
 }
 
+/// Whether the mark is set while turning so many times.
+fn comes(mark: &AtomicU64, turns: u64) -> bool {
+    for _turn in 0..turns {
+        if mark.load(Ordering::SeqCst) == 1 {
+            return true;
+        }
+    }
+    false
+}
+
 /// A gate whose first call at each of two sites waits, as long as it takes to turn so many times,
 /// until the other site's first call is there too.
 #[derive(Drop)]
@@ -184,8 +195,6 @@ struct Both {
 }
 
 impl Gate for Both {
-    ghost turns = { λ gate site call. Unit {0} };
-
     fn inside(&self, site: SiteNo, call: u64) -> bool {
         if call != 1 {
             return true;
@@ -196,15 +205,122 @@ impl Gate for Both {
             (&self.one, &self.zero)
         };
         own.store(1, Ordering::SeqCst);
-        for _turn in 0..100_000_000u64 {
-            if other.load(Ordering::SeqCst) == 1 {
-                return true;
-            }
-        }
-        false
+        comes(other, 100_000_000)
     }
 
     fn answered(&self, _site: SiteNo, _call: u64) {}
+}
+
+/// A gate that lets another thread call the desk while a call is inside it, and looks for a while
+/// whether that thread is served by then. Once its own call was answered it waits until it is.
+#[derive(Drop)]
+struct Order {
+    inside: AtomicU64,
+    other: AtomicU64,
+    early: AtomicU64,
+    late: AtomicU64,
+}
+
+impl Gate for Order {
+    fn inside(&self, _site: SiteNo, _call: u64) -> bool {
+        self.inside.store(1, Ordering::SeqCst);
+        if comes(&self.other, 10_000_000) {
+            self.early.store(1, Ordering::SeqCst);
+        }
+        true
+    }
+
+    fn answered(&self, _site: SiteNo, _call: u64) {
+        if comes(&self.other, 100_000_000) {
+            self.late.store(1, Ordering::SeqCst);
+        }
+    }
+}
+
+/// The number of a begin's entry at the gate.
+fn begin_at<L: Ledger, R: Wait>(
+    rt: &R,
+    alloc: Global,
+    desk: &Desk<L, MemoryMedium>,
+    pass: &mut Pass<L>,
+    gate: &Order,
+) -> Option<u64> {
+    let receipt = desk.call_at(rt, alloc, pass, Command::Begin, gate).ok()?;
+    Some(receipt.number())
+}
+
+/// The number of a begin's entry without the gate, asked for once a call is inside it.
+fn begin_beside<L: Ledger, R: Wait>(
+    rt: &R,
+    alloc: Global,
+    desk: &Desk<L, MemoryMedium>,
+    pass: &mut Pass<L>,
+    gate: &Order,
+) -> Option<u64> {
+    if !comes(&gate.inside, 100_000_000) {
+        return None;
+    }
+    let receipt = desk.call(rt, alloc, pass, Command::Begin).ok()?;
+    gate.other.store(1, Ordering::SeqCst);
+    Some(receipt.number())
+}
+
+/// The numbers of two begins, the first of them at the gate.
+fn both_begin<L: Ledger + Send + Sync, R: Threads + Wait + Sync>(
+    rt: &R,
+    alloc: Global,
+    desk: &Desk<L, MemoryMedium>,
+    passes: &mut [Pass<L>],
+    gate: &Order,
+) -> Option<(Option<u64>, Option<u64>)> {
+    let (first, rest) = passes.split_first_mut()?;
+    let second = rest.first_mut()?;
+    Some(thread::join(
+        rt,
+        move || begin_at(rt, alloc, desk, first, gate),
+        move || begin_beside(rt, alloc, desk, second, gate),
+    ))
+}
+
+/// The same of a desk that is opened for it.
+fn both_begin_there<L: Ledger + Send + Sync, R: Threads + Wait + Sync>(
+    rt: &R,
+    alloc: Global,
+    blank: Blank,
+    gate: &Order,
+) -> Option<(Option<u64>, Option<u64>)>
+    requires name { blank.name ≡ L.name }
+    requires parts { blank.parts ≡ L.parts }
+    requires some { 0 < blank.parts }
+{
+    let (desk, mut passes) = desk_over::<L>(alloc, blank, 0, &[])?;
+    both_begin(rt, alloc, &desk, &mut passes, gate)
+}
+
+/// The same of a desk of two passes.
+fn both_begin_of(
+    rt: &(impl Threads + Wait + Sync),
+    alloc: Global,
+    gate: &Order,
+) -> Option<(Option<u64>, Option<u64>)> {
+    both_begin_there::<Brand, _>(rt, alloc, Blank::new(2), gate)
+}
+
+#[test]
+fn a_gate_is_passed_under_the_lock_and_told_after_it(rt: HostRuntime) {
+    let gate = Order {
+        inside: AtomicU64::new(0),
+        other: AtomicU64::new(0),
+        early: AtomicU64::new(0),
+        late: AtomicU64::new(0),
+    };
+    let numbers = both_begin_of(&rt, rt.alloc(), &gate);
+    assert_eq!(rt; numbers, Some((Some(1), Some(2))));
+    let told = (
+        gate.early.load(Ordering::SeqCst),
+        gate.late.load(Ordering::SeqCst),
+    );
+    assert_eq!(rt; told, (0, 1));
 }
 
 /// The receipt of a read at the gate with the first pass.
