@@ -21,8 +21,8 @@ module _ {C P : Type 0} (answer : C → Result (Vec Receipt) WorkFault) (pass : 
       → IfOk x (λ (rs : Vec Receipt). Carries sites before (after c) rs.items)
       → IfOk r (λ (t : Vec Receipt × P). AreAccepts (commands_of t.0.items))
   by_answer c (Ok rs) r went failed carries =
-      subst (λ (x : Result (Vec Receipt × P) WorkFault). IfOk x (λ (t : Vec Receipt × P). AreAccepts (commands_of t.0.items))) (sym went)
-      (carried_accepts sites before (after c) rs.items carries)
+      subst (λ (x : Result (Vec Receipt × P) WorkFault). IfOk x (λ (t : Vec Receipt × P). AreAccepts (commands_of t.0.items)))
+      (sym went) (carried_accepts sites before (after c) rs.items carries)
   by_answer c (Err e) r went failed carries =
       subst (λ (x : Result (Vec Receipt × P) WorkFault). IfOk x (λ (t : Vec Receipt × P). AreAccepts (commands_of t.0.items))) (sym failed) tt
 

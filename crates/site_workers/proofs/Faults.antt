@@ -112,7 +112,8 @@ no_lost_told schema scripts Turns (Foreign named) c = tt
 no_lost_told schema scripts Turns (Lost named) c = absurd c
 no_lost_told schema scripts Turns NoMemory c = tt
 
-pub differs_shown : (schema : SchemaValue) (Turns : SiteNo → ℕ → Type 0) (w : WorkFault) → IsSiteFault schema Turns w → TellsDiffers schema w
+pub differs_shown : (schema : SchemaValue) (Turns : SiteNo → ℕ → Type 0) (w : WorkFault) → IsSiteFault schema Turns w
+    → TellsDiffers schema w
 differs_shown schema Turns GateTurns c = tt
 differs_shown schema Turns (WentBack named n) c = tt
 differs_shown schema Turns (Passes named) c = tt

@@ -31,7 +31,8 @@ starts_more {G} schema gate all old new v jobs jobs' o popped pushed fits st =
     let more : length (scripts_of old) ≡ length (scripts_of new) + 1 =
     ap (λ (l : List (List Command)). length l) scripts ∙ length-append (scripts_of new) (v.items ∷ []) in
     let turned : reverse jobs' ≡ o ∷ reverse jobs = ap (λ (l : List (Option (Job G))). reverse l) pushed ∙ reverse-append jobs (o ∷ []) in
-    let here : FitsJob schema gate (length (scripts_of new)) v.items o = subst (λ (n : ℕ). FitsJob schema gate n v.items o) (sym count) fits in
+    let here : FitsJob schema gate (length (scripts_of new)) v.items o =
+    subst (λ (n : ℕ). FitsJob schema gate n v.items o) (sym count) fits in
     let others : AreJobs schema gate (length (scripts_of new) + 1) st.done (reverse jobs) =
     subst (λ (n : ℕ). AreJobs schema gate n st.done (reverse jobs)) more st.running in record {
       done = v.items ∷ st.done;
@@ -94,7 +95,8 @@ module _ {G : Type 0} (T : G → SiteNo → ℕ → Type 0) (schema : SchemaValu
       → IsAnswer schema (T gate) (site_no n) s a
   job_answer n s None a fits made refused = refused_answer schema (T gate) (site_no n) s a refused
   job_answer n s (Some j) a fits made refused =
-      let at : IsAnswer schema (T j.gate) j.site j.script a = subst (λ (x : SchemaValue). IsAnswer x (T j.gate) j.site j.script a) fits.0 made in
+      let at : IsAnswer schema (T j.gate) j.site j.script a =
+      subst (λ (x : SchemaValue). IsAnswer x (T j.gate) j.site j.script a) fits.0 made in
       let here : IsAnswer schema (T j.gate) (site_no n) j.script a =
       subst (λ (x : SiteNo). IsAnswer schema (T j.gate) x j.script a) fits.1 at in
       let whole : IsAnswer schema (T j.gate) (site_no n) s a =

@@ -52,7 +52,8 @@ TellsShort sites site before after (Lost named) = (named ≡ site) × (receipts 
 TellsShort sites site before after fault = IsCourierFault site fault
 
 -- What a courier answers that began with this way and these calls, and ends with those.
-pub record IsCarried (sites : ℕ) (site : SiteNo) (before after : List Letter) (calls made : ℕ) (answer : Result (Vec Receipt) WorkFault) : Type 0 where
+pub record IsCarried (sites : ℕ) (site : SiteNo) (before after : List Letter) (calls made : ℕ)
+    (answer : Result (Vec Receipt) WorkFault) : Type 0 where
   pub ok : IfOk answer (λ rs. Carries sites before after rs.items)
   pub asked : IfOk answer (λ rs. made ≡ calls + length rs.items)
   pub fault : IfErr answer (TellsShort sites site before after)

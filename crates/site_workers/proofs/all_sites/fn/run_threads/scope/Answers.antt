@@ -13,7 +13,8 @@ use Rattle.site_workers.proofs.all_sites.fn.run_threads.scope.Goals as goal
 pub spawn_with-spawned-requires-clause-runs : goal.spawn_with-spawned-requires-clause-runs
 spawn_with-spawned-requires-clause-runs g c κs within =
     let fits : (length c.pop.new.self.items < c.captures.schema.now.sites) × HasNoAccept c.in-Some.script.items =
-    seat_fits c.captures.schema.now c.captures.gate.now (scripts_of c.captures.scripts.items) c.loop-script.left.items c.pop.new.self.items c.in-Some.script
+    seat_fits c.captures.schema.now c.captures.gate.now (scripts_of c.captures.scripts.items) c.loop-script.left.items
+    c.pop.new.self.items c.in-Some.script
     c.loop-script.handles.items c.in-Some.ensures.items c.requires.fit c.loop-script.invariant.started
     in
     let shorter : vec_len c.pop.new.self + 1 ≡ vec_len c.loop-script.left = c.in-Some.ensures.cases in
@@ -30,7 +31,8 @@ loop-script-preserved g c =
     let count : vec_len c.pop.new.self ≡ length c.pop.new.self.items = c.pop.new.self.ok.0 in
     let number : c.loop-script.next ≡ vec_len c.loop-script.left = c.loop-script.invariant.number in
     let same : c.loop-script.next - 1 ≡ length c.pop.new.self.items = omega arith in
-    let fits : FitsJob c.captures.schema.now c.captures.gate.now (length c.pop.new.self.items) c.in-Some.script.items c.match-seat_of.started =
+    let fits : FitsJob c.captures.schema.now c.captures.gate.now (length c.pop.new.self.items) c.in-Some.script.items
+    c.match-seat_of.started =
     elim c.match-seat_of.branch [
       | in-Some-seat_of+in-Ok w ↦
           fits_job _ _ _ _ _ w.new.result w.started-is (w.new.ensures.schema ∙ ap (λ t. t.schema.now) w.in-Ok.ensures.ok)
@@ -42,7 +44,8 @@ loop-script-preserved g c =
       | in_default-seat_of w ↦ fits_none _ _ _ _ _ w.started-is
     ]
     in record {
-      started = starts_more c.captures.schema.now c.captures.gate.now (scripts_of c.captures.scripts.items) c.loop-script.left.items c.pop.new.self.items
+      started = starts_more c.captures.schema.now c.captures.gate.now (scripts_of c.captures.scripts.items)
+          c.loop-script.left.items c.pop.new.self.items
           c.in-Some.script c.loop-script.handles.items c.push.new.self.items c.match-seat_of.started c.in-Some.ensures.items
           c.in_ok-push.ensures.items fits c.loop-script.invariant.started;
       number = omega arith;
@@ -53,7 +56,8 @@ returns g c =
     let Turns = g.G.Gate.turns c.captures.gate.now in
     let joined = joins c.captures.schema.now c.captures.gate.now Turns (scripts_of c.captures.scripts.items) c.loop-script.left.items
     c.loop-script.handles.items (sym c.loop-script.left.ok.0 ∙ c.in_default.ensures.cases.0) c.loop-script.invariant.started in
-    let all = c.in_ok-join_all.ensures.answers c.captures.schema.now c.captures.gate.now (scripts_of c.captures.scripts.items) joined in record {
+    let all = c.in_ok-join_all.ensures.answers c.captures.schema.now c.captures.gate.now (scripts_of
+    c.captures.scripts.items) joined in record {
       worked = run_worked c.captures.schema.now Turns (scripts_of c.captures.scripts.items) _ c.gather.result all c.gather.ensures.ok;
       fault = run_fault c.captures.schema.now Turns (scripts_of c.captures.scripts.items) _ c.gather.result all c.gather.ensures.lowest
           c.gather.ensures.memory;
