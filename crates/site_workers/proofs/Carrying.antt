@@ -1,5 +1,5 @@
 -- What a courier has done after one letter more.
-use Rattle.std.proofs.Common.{◌≡◌, ◌≢◌, ℕ, zero, suc, ◌+◌, ◌<◌, ◌≤◌, Bool, true, false, true≢false, List, [], ◌∷◌, ◌++◌, length, set, sym, refl, ap, ◌∙◌, subst, arith, slice_index_or, replicate, append-nil, append_assoc, get_or-set_other, take, ⊎_elim}
+use Rattle.std.proofs.Common.{◌≡◌, ◌≢◌, ℕ, zero, suc, ◌+◌, ◌<◌, ◌≤◌, Bool, true, false, true≢false, List, [], ◌∷◌, ◌++◌, length, set, sym, refl, ap, ◌∙◌, subst, arith, slice_index_or, replicate, append-nil, append_assoc, get_or-set_other, take, ⊎_elim, length-append}
 use Rattle.std.proofs.lemmas.List.{take_more, get_or-set_same, length-set}
 use Rattle.std.specs.List.{Contains}
 use Rattle.std.proofs.lemmas.List.Elements.{Contains-append_left, Contains-push, Contains-push_cases}
@@ -171,3 +171,10 @@ pub commands_step : (rs rs' : List Receipt) (r : Receipt) (script : List Command
 commands_step rs rs' r script i d grown is so_far below =
     commands_more_at rs rs' r (slice_index_or script i d) grown is
     ∙ (ap (λ (l : List Command). l ++ slice_index_or script i d ∷ []) so_far ∙ sym (take_more script i d below))
+
+-- one call more, whose receipt is kept
+pub counts_more : (start before after : ℕ) (rs rs' : List Receipt) (r : Receipt) → rs' ≡ rs ++ r ∷ [] → after ≡ before + 1
+    → before ≡ start + length rs → after ≡ start + length rs'
+counts_more start before after rs rs' r grown one so_far =
+    let more : length rs' ≡ length rs + 1 = ap (λ (l : List Receipt). length l) grown ∙ length-append rs (r ∷ []) in
+    omega arith

@@ -1,5 +1,5 @@
 -- What faults say, from what was found.
-use Rattle.std.proofs.Common.{◌≡◌, ◌≢◌, ℕ, ◌+◌, ◌<◌, ◌≤◌, List, [], ◌∷◌, length, get_or, reverse, refl, sym, ap, subst, ◌∙◌, inl, inr, ⊎_elim, arith, zero, suc, true, Some}
+use Rattle.std.proofs.Common.{◌≡◌, ◌≢◌, ℕ, ◌+◌, ◌<◌, ◌≤◌, ◌⊎◌, List, [], ◌∷◌, length, get_or, reverse, refl, sym, ap, subst, ◌∙◌, inl, inr, ⊎_elim, arith, zero, suc, true, Some}
 use Rattle.std.specs.Prelude.{Result, Ok, Err, IfErr, IfSome}
 use Rattle.std.proofs.lemmas.Bool.{cases_lt}
 use Rattle.std.proofs.lemmas.List.{get_or_past, reverse-reverse}
@@ -31,21 +31,25 @@ use Rattle.site_workers.specs.declared.fault.WorkFault.{WorkFault}
 use Rattle.site_workers.specs.declared.fault.WorkFault.TheVariants.{GateTurns, WentBack, Passes, Receipts, Foreign, Lost, NoMemory}
 use Rattle.site_workers.specs.Scripts.{histories_of, history_at, HasAccept, AreWorked, NoneForeign, ScriptsFit}
 use Rattle.site_workers.specs.Crossing.{IsLowestForeign, IsLowestLost, Lacks}
-use Rattle.site_workers.specs.Faults.{fault_of_call, fault_of_receipts, IsCourierFault, TellsShort, Differs, IsFaultAt, IsSiteFault, ShowsForeign, ShowsLost, TellsForeign, TellsLost, TellsDiffers, site_named}
+use Rattle.site_workers.specs.Faults.{fault_of_call, fault_of_courier, fault_of_receipts, IsCourierFault, TellsShort, Differs, IsFaultAt, IsSiteFault, ShowsForeign, ShowsLost, TellsForeign, TellsLost, TellsDiffers, TellsTurned, TurnsNone, site_named}
 use Rattle.site_workers.proofs.Scripts.{of_reversed, on_fresh}
 use Rattle.site_workers.proofs.Teams.{worked_count}
 
 -- ---- one site
 
-call_told : (schema : SchemaValue) (site : SiteNo) (e : DeskFault) → IsFaultAt schema site (fault_of_call site e)
-call_told schema site desk_faults.NoMemory = tt
-call_told schema site (desk_faults.WentBack n) = refl
-call_told schema site desk_faults.GateTurns = tt
+call_told : (schema : SchemaValue) (site : SiteNo) (Turns : SiteNo → ℕ → Type 0) (e : DeskFault)
+    → (e ≡ desk_faults.GateTurns → (call : ℕ) × Turns site call)
+    → IsFaultAt schema site Turns (fault_of_call site e)
+call_told schema site Turns desk_faults.NoMemory turned = tt
+call_told schema site Turns (desk_faults.WentBack n) turned = refl
+call_told schema site Turns desk_faults.GateTurns turned = turned refl
 
-pub call_fault : (schema : SchemaValue) (site named : SiteNo) (e : DeskFault) (w : WorkFault) → w ≡ fault_of_call named e → named ≡ site
-    → IsFaultAt schema site w
-call_fault schema site named e w is at =
-    subst (λ (x : WorkFault). IsFaultAt schema site x) (sym (is ∙ ap (λ (n : SiteNo). fault_of_call n e) at)) (call_told schema site e)
+pub call_fault : (schema : SchemaValue) (site named : SiteNo) (Turns : SiteNo → ℕ → Type 0) (call : ℕ) (e : DeskFault) (w : WorkFault)
+    → w ≡ fault_of_call named e → named ≡ site → (e ≡ desk_faults.GateTurns → Turns site call)
+    → IsFaultAt schema site Turns w
+call_fault schema site named Turns call e w is at turned =
+    subst (λ (x : WorkFault). IsFaultAt schema site Turns x) (sym (is ∙ ap (λ (n : SiteNo). fault_of_call n e) at))
+    (call_told schema site Turns e (λ gate. (call, turned gate)))
 
 courier_told : (site : SiteNo) (last : ℕ) (e : DeskFault) → Fails last e → IsCourierFault site (fault_of_call site e)
 courier_told site last desk_faults.NoMemory fails = tt
@@ -57,43 +61,25 @@ pub courier_call : (site named : SiteNo) (last : ℕ) (e : DeskFault) (w : WorkF
 courier_call site named last e w is at fails =
     subst (λ (x : WorkFault). IsCourierFault site x) (sym (is ∙ ap (λ (n : SiteNo). fault_of_call n e) at)) (courier_told site last e fails)
 
-pub courier_short : (sites : ℕ) (site : SiteNo) (before after : List Letter) (w : WorkFault) → IsCourierFault site w
-    → TellsShort sites site before after w
-courier_short sites site before after GateTurns c = c
-courier_short sites site before after (WentBack named n) c = c
-courier_short sites site before after (Passes named) c = c
-courier_short sites site before after (Receipts fault) c = c
-courier_short sites site before after (Foreign named) c = c
-courier_short sites site before after (Lost named) c = absurd c
-courier_short sites site before after NoMemory c = c
-
-pub courier_fault : (schema : SchemaValue) (site : SiteNo) (w : WorkFault) → IsCourierFault site w → IsFaultAt schema site w
-courier_fault schema site GateTurns c = absurd c
-courier_fault schema site (WentBack named n) c = c
-courier_fault schema site (Passes named) c = absurd c
-courier_fault schema site (Receipts fault) c = absurd c
-courier_fault schema site (Foreign named) c = absurd c
-courier_fault schema site (Lost named) c = absurd c
-courier_fault schema site NoMemory c = c
-
 -- ---- receipts that differ
 
-differs_told : (schema : SchemaValue) (site : SiteNo) (fault : ReceiptFault) → (fault ≢ receipt_faults.NoMemory → Differs schema site fault)
-    → IsFaultAt schema site (fault_of_receipts fault)
-differs_told schema site (receipt_faults.Differs at number) differs = differs (λ e. cc)
-differs_told schema site (receipt_faults.Twice at number) differs = differs (λ e. cc)
-differs_told schema site (receipt_faults.Missing at number) differs = differs (λ e. cc)
-differs_told schema site receipt_faults.NoMemory differs = tt
+differs_told : (schema : SchemaValue) (site : SiteNo) (Turns : SiteNo → ℕ → Type 0) (fault : ReceiptFault)
+    → (fault ≢ receipt_faults.NoMemory → Differs schema site fault) → IsFaultAt schema site Turns (fault_of_receipts fault)
+differs_told schema site Turns (receipt_faults.Differs at number) differs = differs (λ e. cc)
+differs_told schema site Turns (receipt_faults.Twice at number) differs = differs (λ e. cc)
+differs_told schema site Turns (receipt_faults.Missing at number) differs = differs (λ e. cc)
+differs_told schema site Turns receipt_faults.NoMemory differs = tt
 
-pub differs_fault : (v : SiteValue) (schema : SchemaValue) (site : SiteNo) (rs : List Receipt) (fault : ReceiptFault) (w : WorkFault)
+pub differs_fault : (v : SiteValue) (schema : SchemaValue) (site : SiteNo) (Turns : SiteNo → ℕ → Type 0) (rs : List Receipt)
+    (fault : ReceiptFault) (w : WorkFault)
     → w ≡ fault_of_receipts fault → v.schema ≡ schema → v.site ≡ site → v.fresh ≡ true
     → IsRun v.schema v.site.0 (base_of v) v.history → AreOf v.site.0 v.history → TellsReceipts v.site (reverse v.history) rs fault
-    → IsFaultAt schema site w
-differs_fault v schema site rs fault w is of number freshly run own told =
+    → IsFaultAt schema site Turns w
+differs_fault v schema site Turns rs fault w is of number freshly run own told =
     let turned : v.history ≡ reverse (reverse v.history) = sym (reverse-reverse v.history) in
     let mine : AreOf site.0 v.history = subst (λ (n : SiteNo). AreOf n.0 v.history) number own in
-    subst (λ (x : WorkFault). IsFaultAt schema site x) (sym is)
-    (differs_told schema site fault (λ known. record {
+    subst (λ (x : WorkFault). IsFaultAt schema site Turns x) (sym is)
+    (differs_told schema site Turns fault (λ known. record {
       history = reverse v.history;
       receipts = rs;
       run = subst (λ (l : List Entry). IsRun schema site.0 (fresh schema site.0) l) turned (on_fresh v schema site of number freshly run);
@@ -104,80 +90,57 @@ differs_fault v schema site rs fault w is of number freshly run own told =
 
 -- ---- of some site
 
-told_of_site : (schema : SchemaValue) (site : SiteNo) (w : WorkFault) → site.0 < schema.sites → IsFaultAt schema site w
-    → IsSiteFault schema w
-told_of_site schema site GateTurns below c = tt
-told_of_site schema site (WentBack named n) below c = subst (λ (x : SiteNo). x.0 < schema.sites) (sym c) below
-told_of_site schema site (Passes named) below c = subst (λ (x : SiteNo). x.0 < schema.sites) (sym c) below
-told_of_site schema site (Receipts fault) below c = record { site = site; known = below; differs = c }
-told_of_site schema site (Foreign named) below c = absurd c
-told_of_site schema site (Lost named) below c = absurd c
-told_of_site schema site NoMemory below c = tt
-
-pub site_fault : (schema schema' : SchemaValue) (site number : SiteNo) (w : WorkFault) → schema' ≡ schema → number ≡ site
-    → site.0 < schema.sites → IsFaultAt schema' number w → IsSiteFault schema w
-site_fault schema schema' site number w of is below c =
-    told_of_site schema site w below (subst (λ (s : SchemaValue). IsFaultAt s site w) of
-    (subst (λ (n : SiteNo). IsFaultAt schema' n w) is c))
-
-module _ {A : Type 0} (schema schema' : SchemaValue) (site number : SiteNo) (of : schema' ≡ schema) (is : number ≡ site)
-    (below : site.0 < schema.sites) where
-  pub if_site_fault : (r : Result A WorkFault) → IfErr r (IsFaultAt schema' number) → IfErr r (IsSiteFault schema)
-  if_site_fault (Ok a) c = tt
-  if_site_fault (Err w) c = site_fault schema schema' site number w of is below c
-
-  pub if_courier_fault : (r : Result A WorkFault) → IfErr r (IsCourierFault number) → IfErr r (IsSiteFault schema)
-  if_courier_fault (Ok a) c = tt
-  if_courier_fault (Err w) c = site_fault schema schema' site number w of is below (courier_fault schema' number w c)
-
-pub at_err : {A : Type 0} (schema : SchemaValue) (r : Result A WorkFault) (w : WorkFault) → r ≡ Err w → IfErr r (IsSiteFault schema)
-    → IsSiteFault schema w
-at_err {A} schema r w is c = subst (λ (x : Result A WorkFault). IfErr x (IsSiteFault schema)) is c
-
-pub of_schema : (schema schema' : SchemaValue) (w : WorkFault) → schema' ≡ schema → IsSiteFault schema' w → IsSiteFault schema w
-of_schema schema schema' w of c = subst (λ (s : SchemaValue). IsSiteFault s w) of c
-
-pub wants_memory : (schema : SchemaValue) (w : WorkFault) → w ≡ NoMemory → IsSiteFault schema w
-wants_memory schema w is = subst (λ (x : WorkFault). IsSiteFault schema x) (sym is) tt
-
-pub no_foreign_told : (schema : SchemaValue) (scripts : List (List Command)) (w : WorkFault) → IsSiteFault schema w
+pub no_foreign_told : (schema : SchemaValue) (scripts : List (List Command)) (Turns : SiteNo → ℕ → Type 0) (w : WorkFault)
+    → IsSiteFault schema Turns w
     → TellsForeign schema scripts w
-no_foreign_told schema scripts GateTurns c = tt
-no_foreign_told schema scripts (WentBack named n) c = tt
-no_foreign_told schema scripts (Passes named) c = tt
-no_foreign_told schema scripts (Receipts fault) c = tt
-no_foreign_told schema scripts (Foreign named) c = absurd c
-no_foreign_told schema scripts (Lost named) c = tt
-no_foreign_told schema scripts NoMemory c = tt
+no_foreign_told schema scripts Turns GateTurns c = tt
+no_foreign_told schema scripts Turns (WentBack named n) c = tt
+no_foreign_told schema scripts Turns (Passes named) c = tt
+no_foreign_told schema scripts Turns (Receipts fault) c = tt
+no_foreign_told schema scripts Turns (Foreign named) c = absurd c
+no_foreign_told schema scripts Turns (Lost named) c = tt
+no_foreign_told schema scripts Turns NoMemory c = tt
 
-pub no_lost_told : (schema : SchemaValue) (scripts : List (List Command)) (w : WorkFault) → IsSiteFault schema w
+pub no_lost_told : (schema : SchemaValue) (scripts : List (List Command)) (Turns : SiteNo → ℕ → Type 0) (w : WorkFault)
+    → IsSiteFault schema Turns w
     → TellsLost schema scripts w
-no_lost_told schema scripts GateTurns c = tt
-no_lost_told schema scripts (WentBack named n) c = tt
-no_lost_told schema scripts (Passes named) c = tt
-no_lost_told schema scripts (Receipts fault) c = tt
-no_lost_told schema scripts (Foreign named) c = tt
-no_lost_told schema scripts (Lost named) c = absurd c
-no_lost_told schema scripts NoMemory c = tt
+no_lost_told schema scripts Turns GateTurns c = tt
+no_lost_told schema scripts Turns (WentBack named n) c = tt
+no_lost_told schema scripts Turns (Passes named) c = tt
+no_lost_told schema scripts Turns (Receipts fault) c = tt
+no_lost_told schema scripts Turns (Foreign named) c = tt
+no_lost_told schema scripts Turns (Lost named) c = absurd c
+no_lost_told schema scripts Turns NoMemory c = tt
 
-pub differs_shown : (schema : SchemaValue) (w : WorkFault) → IsSiteFault schema w → TellsDiffers schema w
-differs_shown schema GateTurns c = tt
-differs_shown schema (WentBack named n) c = tt
-differs_shown schema (Passes named) c = tt
-differs_shown schema (Receipts fault) c = c
-differs_shown schema (Foreign named) c = tt
-differs_shown schema (Lost named) c = tt
-differs_shown schema NoMemory c = tt
+pub differs_shown : (schema : SchemaValue) (Turns : SiteNo → ℕ → Type 0) (w : WorkFault) → IsSiteFault schema Turns w
+    → TellsDiffers schema w
+differs_shown schema Turns GateTurns c = tt
+differs_shown schema Turns (WentBack named n) c = tt
+differs_shown schema Turns (Passes named) c = tt
+differs_shown schema Turns (Receipts fault) c = c
+differs_shown schema Turns (Foreign named) c = tt
+differs_shown schema Turns (Lost named) c = tt
+differs_shown schema Turns NoMemory c = tt
 
-pub site_known : (schema : SchemaValue) (w : WorkFault) → IsSiteFault schema w
+pub turned_told : (schema : SchemaValue) (Turns : SiteNo → ℕ → Type 0) (w : WorkFault) → IsSiteFault schema Turns w
+    → TellsTurned schema Turns w
+turned_told schema Turns GateTurns c = c
+turned_told schema Turns (WentBack named n) c = tt
+turned_told schema Turns (Passes named) c = tt
+turned_told schema Turns (Receipts fault) c = tt
+turned_told schema Turns (Foreign named) c = tt
+turned_told schema Turns (Lost named) c = tt
+turned_told schema Turns NoMemory c = tt
+
+pub site_known : (schema : SchemaValue) (Turns : SiteNo → ℕ → Type 0) (w : WorkFault) → IsSiteFault schema Turns w
     → IfSome (site_named w) (λ (site : SiteNo). site.0 < schema.sites)
-site_known schema GateTurns c = tt
-site_known schema (WentBack named n) c = c
-site_known schema (Passes named) c = c
-site_known schema (Receipts fault) c = tt
-site_known schema (Foreign named) c = absurd c
-site_known schema (Lost named) c = absurd c
-site_known schema NoMemory c = tt
+site_known schema Turns GateTurns c = tt
+site_known schema Turns (WentBack named n) c = c
+site_known schema Turns (Passes named) c = c
+site_known schema Turns (Receipts fault) c = tt
+site_known schema Turns (Foreign named) c = absurd c
+site_known schema Turns (Lost named) c = absurd c
+site_known schema Turns NoMemory c = tt
 
 -- ---- what goes from site to site
 

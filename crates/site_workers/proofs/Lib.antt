@@ -5,5 +5,7 @@ pub mod Sets
 pub mod Traffic
 pub mod Lowest
 pub mod Teams
+pub mod Answered
 pub mod Fits
 pub mod Faults
+pub mod Couriers

@@ -22,7 +22,7 @@ use Rattle.site_step.specs.Site.{SiteValue, base_of}
 use Rattle.site_workers.specs.declared.fault.WorkFault.{WorkFault}
 use Rattle.site_workers.specs.declared.inbox.Letter.{Letter}
 use Rattle.site_workers.specs.declared.inbox.Letter.TheVariants.{Stated, End}
-use Rattle.site_workers.specs.Carried.{commands_of, accepts_of, Carries, StopsShort}
+use Rattle.site_workers.specs.Carried.{commands_of, accepts_of, Carries}
 use Rattle.site_workers.specs.Scripts.{is_accept, without_accepts, HasNoAccept, AreAccepts, IsRising, IsClosed, IsWorked}
 
 -- the receipts' numbers rise from above n
@@ -193,12 +193,9 @@ accepts_only [] = tt
 accepts_only (Stated s ∷ xs) = (refl, accepts_only xs)
 accepts_only (End site ∷ xs) = accepts_only xs
 
-pub delivered_accepts : (sites : ℕ) (before after : List Letter) (whole : Bool) (rs : List Receipt)
-    → (whole ≡ true → Carries sites before after rs) → (whole ≡ false → StopsShort sites before after rs) → AreAccepts (commands_of rs)
-delivered_accepts sites before after true rs carries stops = let c = carries refl in
-    subst (λ (l : List Command). AreAccepts l) (sym c.2) (accepts_only c.0)
-delivered_accepts sites before after false rs carries stops = let c = stops refl in
-    subst (λ (l : List Command). AreAccepts l) (sym c.2) (accepts_only c.0)
+pub carried_accepts : (sites : ℕ) (before after : List Letter) (rs : List Receipt) → Carries sites before after rs
+    → AreAccepts (commands_of rs)
+carried_accepts sites before after rs c = subst (λ (l : List Command). AreAccepts l) (sym c.2) (accepts_only c.0)
 
 -- ---- a closed site
 
@@ -242,22 +239,20 @@ is_closed v schema site shown h rs showing of number freshly run own checked cop
       checked = subst (λ (l : List Entry). AreReceiptsOf site l rs) back held;
     }
 
-pub if_worked : (schema schema' : SchemaValue) (site number : SiteNo) (script : List Command)
-    (worked carried : Result (Vec Receipt) WorkFault) (own others : Vec Receipt) (from to : ℕ) (all shown : List Receipt)
-    (r : Result (Vec Entry) WorkFault)
-    → schema' ≡ schema → number ≡ site → worked ≡ Ok own → carried ≡ Ok others → all ≡ own.items ++ others.items → shown ≡ all
+pub if_worked : (schema schema' : SchemaValue) (site number : SiteNo) (script : List Command) (worked : Result (Vec Receipt) WorkFault)
+    (own others : Vec Receipt) (from to : ℕ) (all shown : List Receipt) (r : Result (Vec Entry) WorkFault)
+    → schema' ≡ schema → number ≡ site → worked ≡ Ok own → all ≡ own.items ++ others.items → shown ≡ all
     → IfOk worked (λ (rs : Vec Receipt). commands_of rs.items ≡ script) → IfOk worked (λ (rs : Vec Receipt). IsRising from rs.items to)
-    → IfOk carried (λ (rs : Vec Receipt). AreAccepts (commands_of rs.items)) → HasNoAccept script
+    → AreAccepts (commands_of others.items) → HasNoAccept script
     → IfOk r (λ (h : Vec Entry). IsClosed schema' number h.items shown) → IfOk r (λ (h : Vec Entry). IsWorked schema site script h.items)
-if_worked schema schema' site number script worked carried own others from to all shown
-    (Err e) of is told_own told_others both seen calls rising accepts plain closed = tt
-if_worked schema schema' site number script worked carried own others from to all shown
-    (Ok h) of is told_own told_others both seen calls rising accepts plain closed =
+if_worked schema schema' site number script worked own others from to all shown
+    (Err e) of is told_own both seen calls rising accepts plain closed = tt
+if_worked schema schema' site number script worked own others from to all shown
+    (Ok h) of is told_own both seen calls rising accepts plain closed =
     let here : IsClosed schema site h.items shown =
     subst (λ (s : SchemaValue). IsClosed s site h.items shown) of
     (subst (λ (n : SiteNo). IsClosed schema' n h.items shown) is closed) in
     is_worked schema site script h.items shown own.items others.items from to (seen ∙ both) here
     (subst (λ (w : Result (Vec Receipt) WorkFault). IfOk w (λ (rs : Vec Receipt). commands_of rs.items ≡ script)) told_own calls)
     (subst (λ (w : Result (Vec Receipt) WorkFault). IfOk w (λ (rs : Vec Receipt). IsRising from rs.items to)) told_own rising)
-    plain
-    (subst (λ (w : Result (Vec Receipt) WorkFault). IfOk w (λ (rs : Vec Receipt). AreAccepts (commands_of rs.items))) told_others accepts)
+    plain accepts

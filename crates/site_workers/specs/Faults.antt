@@ -1,5 +1,6 @@
 -- What a fault of workers says (this project). A history has the oldest entry first.
-use Rattle.std.specs.Prelude.{◌≡◌, ◌≢◌, ℕ, ◌<◌, List, length, reverse, Option, Some, None}
+use Rattle.std.specs.Prelude.{◌≡◌, ◌≢◌, ℕ, ◌+◌, ◌<◌, List, length, reverse, Option, Some, None, Result, IfOk, IfErr}
+use Rattle.std.specs.Global.{Vec}
 use Rattle.field_bounds.specs.declared.id.SiteNo.{SiteNo}
 use Rattle.field_bounds.specs.declared.entry.Command.{Command}
 use Rattle.field_bounds.specs.declared.entry.Entry.{Entry}
@@ -16,7 +17,7 @@ use Rattle.site_desk.specs.ReceiptFaults.{TellsReceipts}
 use Rattle.site_workers.specs.declared.fault.WorkFault.{WorkFault}
 use Rattle.site_workers.specs.declared.fault.WorkFault.TheVariants.{GateTurns, WentBack, Passes, Receipts, Foreign, Lost, NoMemory}
 use Rattle.site_workers.specs.declared.inbox.Letter.{Letter}
-use Rattle.site_workers.specs.Carried.{StopsShort}
+use Rattle.site_workers.specs.Carried.{Carries, StopsShort}
 use Rattle.site_workers.specs.Scripts.{AreWorked, NoneForeign}
 use Rattle.site_workers.specs.Crossing.{IsLowestForeign, IsLowestLost}
 
@@ -33,6 +34,12 @@ abbrev pub fault_of_receipts : ReceiptFault → WorkFault
 fault_of_receipts receipt_faults.NoMemory = NoMemory
 fault_of_receipts fault = Receipts fault
 
+-- How a courier's fault is told of its site: its inbox is closed early only where a thread that couldn't be made has left
+-- an End out, so that is told as the same.
+abbrev pub fault_of_courier : WorkFault → WorkFault
+fault_of_courier (Lost site) = NoMemory
+fault_of_courier fault = fault
+
 -- A courier's call of its desk failed: the fault names the desk's site, and there is no gate.
 abbrev pub IsCourierFault : SiteNo → WorkFault → Type 0
 IsCourierFault site NoMemory = Unit {0}
@@ -44,6 +51,13 @@ abbrev pub TellsShort : ℕ → SiteNo → List Letter → List Letter → WorkF
 TellsShort sites site before after (Lost named) = (named ≡ site) × (receipts : List Receipt) × StopsShort sites before after receipts
 TellsShort sites site before after fault = IsCourierFault site fault
 
+-- What a courier answers that began with this way and these calls, and ends with those.
+pub record IsCarried (sites : ℕ) (site : SiteNo) (before after : List Letter) (calls made : ℕ)
+    (answer : Result (Vec Receipt) WorkFault) : Type 0 where
+  pub ok : IfOk answer (λ rs. Carries sites before after rs.items)
+  pub asked : IfOk answer (λ rs. made ≡ calls + length rs.items)
+  pub fault : IfErr answer (TellsShort sites site before after)
+
 -- A run of owed replies on the site's fresh base, and receipts that aren't its entries for this reason.
 pub record Differs (schema : SchemaValue) (site : SiteNo) (fault : ReceiptFault) : Type 0 where
   pub history : List Entry
@@ -53,15 +67,20 @@ pub record Differs (schema : SchemaValue) (site : SiteNo) (fault : ReceiptFault)
   pub told : TellsReceipts site history receipts fault
   pub known : fault ≢ receipt_faults.NoMemory
 
--- A fault of one site's worker or courier, or of its close: it names that site. What goes from site to site isn't asked.
-abbrev pub IsFaultAt : SchemaValue → SiteNo → WorkFault → Type 0
-IsFaultAt schema site GateTurns = Unit {0}
-IsFaultAt schema site (WentBack named length) = named ≡ site
-IsFaultAt schema site (Passes named) = named ≡ site
-IsFaultAt schema site (Receipts fault) = Differs schema site fault
-IsFaultAt schema site (Foreign named) = ⊥
-IsFaultAt schema site (Lost named) = ⊥
-IsFaultAt schema site NoMemory = Unit {0}
+-- No call is turned away.
+abbrev pub TurnsNone : SiteNo → ℕ → Type 0
+TurnsNone site call = ⊥
+
+-- A fault of one site's worker or courier, or of its close: it names that site, and the gate turns away only what it may.
+-- What goes from site to site isn't asked.
+abbrev pub IsFaultAt : SchemaValue → SiteNo → (SiteNo → ℕ → Type 0) → WorkFault → Type 0
+IsFaultAt schema site Turns GateTurns = (call : ℕ) × Turns site call
+IsFaultAt schema site Turns (WentBack named length) = named ≡ site
+IsFaultAt schema site Turns (Passes named) = named ≡ site
+IsFaultAt schema site Turns (Receipts fault) = Differs schema site fault
+IsFaultAt schema site Turns (Foreign named) = ⊥
+IsFaultAt schema site Turns (Lost named) = ⊥
+IsFaultAt schema site Turns NoMemory = Unit {0}
 
 -- ---- all sites
 
@@ -71,15 +90,19 @@ pub record ShowsDiffers (schema : SchemaValue) (fault : ReceiptFault) : Type 0 w
   pub known : site.0 < schema.sites
   pub differs : Differs schema site fault
 
+-- Some call of a site of the schema may be turned away.
+abbrev pub TurnsSome : SchemaValue → (SiteNo → ℕ → Type 0) → Type 0
+TurnsSome schema Turns = (site : SiteNo) × (site.0 < schema.sites) × (call : ℕ) × Turns site call
+
 -- A fault of some site's threads: one that names a site names one of the schema.
-abbrev pub IsSiteFault : SchemaValue → WorkFault → Type 0
-IsSiteFault schema GateTurns = Unit {0}
-IsSiteFault schema (WentBack named length) = named.0 < schema.sites
-IsSiteFault schema (Passes named) = named.0 < schema.sites
-IsSiteFault schema (Receipts fault) = ShowsDiffers schema fault
-IsSiteFault schema (Foreign named) = ⊥
-IsSiteFault schema (Lost named) = ⊥
-IsSiteFault schema NoMemory = Unit {0}
+abbrev pub IsSiteFault : SchemaValue → (SiteNo → ℕ → Type 0) → WorkFault → Type 0
+IsSiteFault schema Turns GateTurns = TurnsSome schema Turns
+IsSiteFault schema Turns (WentBack named length) = named.0 < schema.sites
+IsSiteFault schema Turns (Passes named) = named.0 < schema.sites
+IsSiteFault schema Turns (Receipts fault) = ShowsDiffers schema fault
+IsSiteFault schema Turns (Foreign named) = ⊥
+IsSiteFault schema Turns (Lost named) = ⊥
+IsSiteFault schema Turns NoMemory = Unit {0}
 
 -- Workers of these scripts may make histories of which this site's, and no lower one's, accepts a statement that wasn't
 -- issued.
@@ -106,6 +129,11 @@ TellsForeign schema scripts fault = Unit {0}
 abbrev pub TellsLost : SchemaValue → List (List Command) → WorkFault → Type 0
 TellsLost schema scripts (Lost site) = ShowsLost schema scripts site.0
 TellsLost schema scripts fault = Unit {0}
+
+-- GateTurns comes only where the gate may turn a call away.
+abbrev pub TellsTurned : SchemaValue → (SiteNo → ℕ → Type 0) → WorkFault → Type 0
+TellsTurned schema Turns GateTurns = TurnsSome schema Turns
+TellsTurned schema Turns fault = Unit {0}
 
 abbrev pub TellsDiffers : SchemaValue → WorkFault → Type 0
 TellsDiffers schema (Receipts fault) = ShowsDiffers schema fault

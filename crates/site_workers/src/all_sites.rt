@@ -1,12 +1,12 @@
 //! All sites, each in a thread of its own.
 
-ghost use Rattle.std.specs.Prelude.{◌≡◌, ◌<◌, [], List, IfOk, IfErr, IfSome};
+ghost use Rattle.std.specs.Prelude.{◌≡◌, ◌<◌, [], List, Err, IfOk, IfErr, IfSome, IfNone};
 ghost use Rattle.crossbeam_channel.specs.Claims.{view, IsSeatAt};
 ghost use Rattle.crossbeam_channel.specs.Ends.{sends_on};
 ghost use Rattle.field_bounds.specs.declared.entry.Command.{Command as CommandSeen};
 ghost use Rattle.field_bounds.specs.Schema.{SchemaValue};
-ghost use Rattle.site_workers.specs.Jobs.{AreJoined};
-ghost use Rattle.site_workers.specs.Faults.{IsSiteFault, site_named, TellsForeign, TellsLost, TellsDiffers};
+ghost use Rattle.site_workers.specs.Jobs.{AreJoined, AreAnswers, IsAnswer, lowest_fault, answers_of};
+ghost use Rattle.site_workers.specs.Faults.{IsSiteFault, site_named, TellsForeign, TellsLost, TellsDiffers, TellsTurned};
 ghost use Rattle.site_workers.specs.declared.fault.WorkFault.TheVariants.{NoMemory};
 ghost use Rattle.site_workers.specs.Scripts.{scripts_of, histories_of, HasNoAccept, ScriptsFit, AreWorked, AllWorked};
 
@@ -15,7 +15,7 @@ use crate::fault::WorkFault;
 use crate::inbox::{Slot, Way, admit, hire, open_inbox};
 use crate::one_site::{Seat, run_site};
 use crate::post::{Mail, Post, Spare, end_for};
-use crate::running::{Running, Task};
+use crate::running::{Answer, Running, Task};
 use field_bounds::{Command, Entry, Schema, SiteNo};
 use site_desk::Gate;
 use std::alloc::{AllocError, Global};
@@ -101,28 +101,66 @@ fn seat_of(
     })
 }
 
-/// The histories of threads that run, the last of which is the lowest site's, in order of site.
-fn join_all<'x, R: Threads>(
+/// What a site's thread answers; one that couldn't be made is want of memory.
+fn answer_of<'x, R: Threads, G: Gate>(rt: &'x R, handle: Option<Running<'x, G>>) -> Answer
+    ensures made { IfSome handle.entry (λ job.
+        IsAnswer job.schema (G.turns job.gate) job.site job.script result) }
+    ensures refused { IfNone handle.entry (result ≡ Err NoMemory) }
+{
+    match handle {
+        Some(handle) => handle.join(rt),
+        None => Err(WorkFault::NoMemory),
+    }
+}
+
+/// What each site's thread answers, in order of site. The threads are in that order from the last.
+fn join_all<'x, R: Threads, G: Gate>(
     rt: &'x R,
     alloc: Global,
-    handles: Vec<Option<Running<'x>>>,
-) -> Result<Vec<Vec<Entry>>, WorkFault>
-    ensures worked { (schema : SchemaValue) (all : List (List CommandSeen))
-        → AreJoined schema all handles.entry.items [] →
-        IfOk result (λ hs. AreWorked schema 0 all (histories_of hs.items)) }
-    ensures fault { (schema : SchemaValue) (all : List (List CommandSeen))
-        → AreJoined schema all handles.entry.items [] →
-        IfErr result (IsSiteFault schema) }
+    handles: Vec<Option<Running<'x, G>>>,
+) -> Result<Vec<Answer>, WorkFault>
+    ensures answers { (schema : SchemaValue) (gate : G) (all : List (List CommandSeen))
+        → AreJoined schema gate (G.turns gate) all handles.entry.items [] →
+        IfOk result (λ answers. AreAnswers schema (G.turns gate) 0 all answers.items) }
+    ensures fault { IfErr result (λ fault. fault ≡ NoMemory) }
 {
     let mut handles = handles;
-    let mut histories = Vec::new(alloc);
+    let mut answers = Vec::with_capacity(alloc, handles.len())?;
     while let Some(handle) = handles.pop() {
-        let Some(handle) = handle else {
-            return Err(WorkFault::NoMemory);
-        };
-        let history = handle.join(rt)?;
-        histories.push(history)?;
+        answers.push(answer_of(rt, handle))?;
     }
+    Ok(answers)
+}
+
+/// The fault of the lowest site that has one. The answers are in order of site.
+fn lowest_fault(answers: &[Answer]) -> Option<WorkFault>
+    ensures value { result ≡ lowest_fault answers.now }
+{
+    for answer in answers {
+        match answer {
+            Ok(_) => {}
+            Err(fault) => return Some(*fault),
+        }
+    }
+    None
+}
+
+/// The histories of all sites. Of several faults the one of the lowest site is answered.
+fn gather(alloc: Global, answers: Vec<Answer>) -> Result<Vec<Vec<Entry>>, WorkFault>
+    ensures lowest { IfSome (lowest_fault answers.items) (λ fault. result ≡ Err fault) }
+    ensures memory { IfNone (lowest_fault answers.items)
+        (IfErr result (λ fault. fault ≡ NoMemory)) }
+    ensures ok { IfOk result (λ histories. answers.items ≡ answers_of histories.items) }
+{
+    if let Some(fault) = lowest_fault(answers.as_slice()) {
+        return Err(fault);
+    }
+    let mut answers = answers;
+    let mut histories = Vec::with_capacity(alloc, answers.len())?;
+    while let Some(answer) = answers.pop() {
+        histories.push(answer?)?;
+    }
+    histories.reverse();
     Ok(histories)
 }
 
@@ -131,10 +169,10 @@ fn join_all<'x, R: Threads>(
 ///
 /// A put waits while an inbox is full, so call it once each site's thread was made, or refused and
 /// its receiver let go: then no put waits for a courier that isn't there.
-fn end_for_missing<'x, R: Wait>(
+fn end_for_missing<'x, R: Wait, G: Gate>(
     rt: &R,
     sites: u16,
-    handles: &[Option<Running<'x>>],
+    handles: &[Option<Running<'x, G>>],
     spares: &mut Vec<Spare>,
 ) {
     for (site, handle) in (0..sites).zip(handles.iter().rev()) {
@@ -158,7 +196,7 @@ fn run_threads<'x, R: Threads + Wait + Sync, G: Gate>(
     requires fit { ScriptsFit schema.now (scripts_of scripts.items) }
     ensures worked { IfOk result (λ hs. AreWorked schema.now 0 (scripts_of scripts.items)
         (histories_of hs.items)) }
-    ensures fault { IfErr result (IsSiteFault schema.now) }
+    ensures fault { IfErr result (IsSiteFault schema.now (G.turns gate.now)) }
 {
     thread::scope(
         thread::scope_env(),
@@ -167,14 +205,15 @@ fn run_threads<'x, R: Threads + Wait + Sync, G: Gate>(
             requires fit { ScriptsFit schema.now (scripts_of scripts.items) }
             ensures worked { IfOk result (λ hs. AreWorked schema.entry.now 0
                 (scripts_of scripts.items) (histories_of hs.items)) }
-            ensures fault { IfErr result (IsSiteFault schema.entry.now) }
+            ensures fault { IfErr result (IsSiteFault schema.entry.now
+                (G.turns gate.entry.now)) }
         {
             let mut left = scripts;
             let mut posts = posts;
             let mut mails = mails;
             let mut spares = spares;
             let mut next = schema.sites();
-            let mut handles: Vec<Option<Running>> = Vec::with_capacity(alloc, left.len())?;
+            let mut handles: Vec<Option<Running<G>>> = Vec::with_capacity(alloc, left.len())?;
             while let Some(script) = left.pop() {
                 next -= 1;
                 let site = SiteNo(next);
@@ -184,6 +223,7 @@ fn run_threads<'x, R: Threads + Wait + Sync, G: Gate>(
                         schema,
                         site,
                         script: Snapshot::of(&seat.script),
+                        gate,
                     };
                     let spawned = scope.spawn_with(
                         task,
@@ -203,7 +243,7 @@ fn run_threads<'x, R: Threads + Wait + Sync, G: Gate>(
             }
             end_for_missing(rt, schema.sites(), handles.as_slice(), &mut spares);
             drop(spares);
-            join_all(rt, alloc, handles)
+            gather(alloc, join_all(rt, alloc, handles)?)
         },
     )
 }
@@ -249,6 +289,10 @@ pub fn run_workers<'x, R: Threads + Wait + Sync, G: Gate>(
     // Receipts tells how receipts can differ from a history of a site of the schema, and no want
     // of memory.
     ensures receipts { IfErr result (TellsDiffers schema.now) }
+
+    // GateTurns comes only where the gate may turn a call of a site of the schema away: never of a
+    // gate that turns none.
+    ensures turned { IfErr result (TellsTurned schema.now (G.turns gate.now)) }
 
     // A fault that names a site names one of the schema.
     ensures site { IfErr result (λ fault. IfSome (site_named fault)

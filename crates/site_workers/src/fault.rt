@@ -2,7 +2,7 @@
 
 ghost use Rattle.std.specs.Prelude.{◌≡◌, IfErr};
 ghost use Rattle.site_workers.specs.declared.fault.WorkFault.TheVariants.{NoMemory};
-ghost use Rattle.site_workers.specs.Faults.{fault_of_call, fault_of_receipts};
+ghost use Rattle.site_workers.specs.Faults.{fault_of_call, fault_of_courier, fault_of_receipts};
 
 use field_bounds::SiteNo;
 use site_desk::{DeskFault, ReceiptFault};
@@ -66,6 +66,22 @@ pub(crate) fn fault_of_call(site: SiteNo, fault: DeskFault) -> WorkFault
         DeskFault::NoMemory => WorkFault::NoMemory,
         DeskFault::WentBack { length } => WorkFault::WentBack { site, length },
         DeskFault::GateTurns => WorkFault::GateTurns,
+    }
+}
+
+/// How a courier's fault is told of its site. Its inbox is closed early only where a thread that
+/// couldn't be made has left an End out, so that is told as the same.
+pub(crate) fn fault_of_courier(fault: WorkFault) -> WorkFault
+    ensures { result ≡ fault_of_courier fault }
+{
+    match fault {
+        WorkFault::Lost { .. } => WorkFault::NoMemory,
+        WorkFault::GateTurns
+        | WorkFault::WentBack { .. }
+        | WorkFault::Passes { .. }
+        | WorkFault::Receipts(_)
+        | WorkFault::Foreign { .. }
+        | WorkFault::NoMemory => fault,
     }
 }
 

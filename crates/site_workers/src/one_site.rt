@@ -1,20 +1,23 @@
 //! One site: its desk, its worker and its courier.
 
-ghost use Rattle.std.specs.Prelude.{◌≡◌, ◌<◌, ◌++◌, ◌∷◌, [], Some, IfOk, IfErr, IfSome, length, vec_len, map, reverse};
+ghost use Rattle.std.specs.Prelude.{◌≡◌, ◌<◌, ◌++◌, ◌∷◌, ◌⊎◌, [], Ok, Err, Some, IfOk, IfErr, IfNone, IfSome, length, vec_len, map, reverse};
 ghost use Rattle.crossbeam_channel.specs.Claims.{view, IsSeatAt};
 ghost use Rattle.crossbeam_channel.specs.Ends.{sends_on, receives_on};
+ghost use Rattle.site_workers.specs.declared.fault.WorkFault.TheVariants.{NoMemory};
 ghost use Rattle.site_workers.specs.Carried.{commands_of};
-ghost use Rattle.site_workers.specs.Faults.{IsCourierFault, IsFaultAt, IsSiteFault};
-ghost use Rattle.site_workers.specs.Scripts.{HasNoAccept, AreAccepts, IsRising, IsClosed, IsWorked};
+ghost use Rattle.site_workers.specs.Faults.{fault_of_courier, IsCarried, IsFaultAt, IsSiteFault, TurnsNone};
+ghost use Rattle.site_workers.specs.Scripts.{HasNoAccept, IsRising, IsClosed, IsWorked};
 
-use crate::courier::{Delivery, deliver};
-use crate::fault::{WorkFault, fault_of_call, fault_of_receipts};
+use crate::courier::carry;
+use crate::fault::{WorkFault, fault_of_call, fault_of_courier, fault_of_receipts};
+use crate::inbox::Way;
 use crate::post::{Mail, Post, end_all};
 use field_bounds::{Command, Entry, Schema, SiteNo, statement_of};
 use kept_records::MemoryMedium;
 use site_desk::{Blank, Closed, Desk, Gate, Pass, Receipt, check_receipts};
 use std::alloc::{AllocError, Global};
 use std::marker::Brand;
+use std::snapshot::Snapshot;
 use std::sync::Wait;
 use std::sync::ledger::Ledger;
 use std::thread;
@@ -43,7 +46,7 @@ fn work<L: Ledger, R: Wait, G: Gate>(
 ) -> Result<Vec<Receipt>, WorkFault>
     ensures calls { IfOk result (λ receipts. commands_of receipts.items ≡ script.now) }
     ensures rising { IfOk result (λ receipts. IsRising pass.old.last receipts.items pass.new.last) }
-    ensures fault { IfErr result (IsFaultAt desk.now.schema desk.now.site) }
+    ensures fault { IfErr result (IsFaultAt desk.now.schema desk.now.site (G.turns gate.now)) }
 {
     let mut receipts = Vec::new(alloc);
     for command in script {
@@ -63,35 +66,48 @@ fn work<L: Ledger, R: Wait, G: Gate>(
     Ok(receipts)
 }
 
-/// Carries the mail, and lets go of the inbox. The caller keeps an end of each inbox until the
-/// threads are joined, so none is closed while its courier runs; and were it, what is lost by it is
-/// seen in the histories.
+/// What a courier's thread hands back: what `carry` answered, its pass, and its way of the inbox.
+#[derive(Drop)]
+struct Carried<L: Ledger> {
+    answer: Result<Vec<Receipt>, WorkFault>,
+    pass: Pass<L>,
+    way: Way,
+}
+
+/// Carries the mail, and lets go of the inbox: what is put later is handed back.
 fn carry_mail<L: Ledger, R: Wait>(
     rt: &R,
     alloc: Global,
     mail: Mail,
     schema: &Schema,
     desk: &Desk<L, MemoryMedium>,
-    pass: &mut Pass<L>,
-) -> Result<Vec<Receipt>, WorkFault>
-    ensures accepts { IfOk result (λ receipts. AreAccepts (commands_of receipts.items)) }
-    ensures fault { IfErr result (IsCourierFault desk.now.site) }
+    pass: Pass<L>,
+) -> Carried<L>
+    ensures seat { IsSeatAt (receives_on mail.inbox) result.way }
+    ensures carried { IsCarried schema.now.sites desk.now.site (view mail.way).taken
+        (view result.way).taken pass.count result.pass.count result.answer }
 {
     let Mail { inbox, way } = mail;
     let mut way = way;
-    let Delivery { receipts, whole: _ } = deliver(rt, alloc, &inbox, &mut way, schema, desk, pass)?;
-    Ok(receipts)
+    let mut pass = pass;
+    let answer = carry(rt, alloc, &inbox, &mut way, schema, desk, &mut pass);
+    Carried { answer, pass, way }
 }
 
-/// What the courier's thread of a site promises of its receipts, or of its fault.
-#[derive(Clone, Copy)]
+/// What the courier's thread of a site promises: what `carry` does, from the mail and the calls
+/// that it began with.
+#[derive(Drop)]
 struct Courier {
     site: SiteNo,
+    sites: u16,
+    calls: u64,
+    mail: Snapshot<Mail>,
 }
 
-impl<L: Ledger> Promise<(Result<Vec<Receipt>, WorkFault>, Pass<L>)> for Courier {
-    ghost kept_by = { λ p r. IfOk r.0 (λ receipts. AreAccepts (commands_of receipts.items))
-        × IfErr r.0 (IsCourierFault p.site) };
+impl<L: Ledger> Promise<Carried<L>> for Courier {
+    ghost kept_by = { λ p c. IsSeatAt (receives_on p.mail.value.inbox) c.way
+        × IsCarried p.sites p.site (view p.mail.value.way).taken (view c.way).taken p.calls
+        c.pass.count c.answer };
 }
 
 /// The worker on this thread and the courier on one of its own.
@@ -106,44 +122,38 @@ fn run_both<'x, L: Ledger + Send + Sync, R: Threads + Wait + Sync, G: Gate>(
     first: Pass<L>,
     second: Pass<L>,
     posts: Vec<Post>,
-) -> (
-    Result<Vec<Receipt>, WorkFault>,
-    Pass<L>,
-    Option<(Result<Vec<Receipt>, WorkFault>, Pass<L>)>,
-)
+) -> (Result<Vec<Receipt>, WorkFault>, Pass<L>, Option<Carried<L>>)
     ensures calls { IfOk result.0 (λ receipts. commands_of receipts.items ≡ script.items) }
     ensures rising { IfOk result.0 (λ receipts. IsRising first.last receipts.items result.1.last) }
-    ensures accepts { IfSome result.2 (λ carried. IfOk carried.0
-        (λ receipts. AreAccepts (commands_of receipts.items))) }
-    ensures worker_fault { IfErr result.0 (IsFaultAt desk.now.schema desk.now.site) }
-    ensures courier_fault { IfSome result.2 (λ carried.
-        IfErr carried.0 (IsCourierFault desk.now.site)) }
+    ensures fault { IfErr result.0 (IsFaultAt desk.now.schema desk.now.site (G.turns gate.now)) }
+    ensures seat { IfSome result.2 (λ c. IsSeatAt (receives_on mail.inbox) c.way) }
+    ensures carried { IfSome result.2 (λ c. IsCarried schema.now.sites desk.now.site
+        (view mail.way).taken (view c.way).taken second.count c.pass.count c.answer) }
 {
     thread::scope(
         thread::scope_env(),
         rt,
-        move |scope| -> (
-            Result<Vec<Receipt>, WorkFault>,
-            Pass<L>,
-            Option<(Result<Vec<Receipt>, WorkFault>, Pass<L>)>,
-        )
+        move |scope| -> (Result<Vec<Receipt>, WorkFault>, Pass<L>, Option<Carried<L>>)
             ensures calls { IfOk result.0 (λ receipts. commands_of receipts.items ≡ script.items) }
             ensures rising { IfOk result.0 (λ receipts.
                 IsRising first.last receipts.items result.1.last) }
-            ensures accepts { IfSome result.2 (λ carried.
-                IfOk carried.0 (λ receipts. AreAccepts (commands_of receipts.items))) }
-            ensures worker_fault { IfErr result.0 (IsFaultAt desk.entry.now.schema
-                desk.entry.now.site) }
-            ensures courier_fault { IfSome result.2
-                (λ carried. IfErr carried.0 (IsCourierFault desk.entry.now.site)) }
+            ensures fault { IfErr result.0 (IsFaultAt desk.entry.now.schema desk.entry.now.site
+                (G.turns gate.entry.now)) }
+            ensures seat { IfSome result.2 (λ c. IsSeatAt (receives_on mail.inbox) c.way) }
+            ensures carried { IfSome result.2 (λ c. IsCarried schema.entry.now.sites
+                desk.entry.now.site (view mail.way).taken (view c.way).taken second.count
+                c.pass.count c.answer) }
         {
             let mut first = first;
             let mut posts = posts;
-            let site = desk.site();
-            let spawned = scope.spawn_with(Courier { site }, move || {
-                let mut pass = second;
-                let carried = carry_mail(rt, alloc, mail, schema, desk, &mut pass);
-                (carried, pass)
+            let courier = Courier {
+                site: desk.site(),
+                sites: schema.sites(),
+                calls: second.count(),
+                mail: Snapshot::of(&mail),
+            };
+            let spawned = scope.spawn_with(courier, move || {
+                carry_mail(rt, alloc, mail, schema, desk, second)
             });
             match spawned {
                 Ok(handle) => {
@@ -169,6 +179,46 @@ fn run_both<'x, L: Ledger + Send + Sync, R: Threads + Wait + Sync, G: Gate>(
     )
 }
 
+/// What a site is told of its courier: its receipts and its pass. A courier that couldn't be made is
+/// want of memory.
+fn told_of_courier<L: Ledger>(
+    carried: Option<Carried<L>>,
+) -> Result<(Vec<Receipt>, Pass<L>), WorkFault>
+    ensures none { IfNone carried (result ≡ Err NoMemory) }
+    ensures ok { IfSome carried (λ c. IfOk c.answer (λ receipts. result ≡ Ok (receipts, c.pass))) }
+    ensures fault { IfSome carried (λ c. IfErr c.answer
+        (λ fault. result ≡ Err (fault_of_courier fault))) }
+{
+    let Some(
+        Carried {
+            answer,
+            pass,
+            way: _,
+        },
+    ) = carried
+    else {
+        return Err(WorkFault::NoMemory);
+    };
+    match answer {
+        Ok(receipts) => Ok((receipts, pass)),
+        Err(fault) => Err(fault_of_courier(fault)),
+    }
+}
+
+/// What a worker and its courier answered. Of two faults the worker's is told.
+fn worker_first<T: Drop>(
+    worked: Result<Vec<Receipt>, WorkFault>,
+    carried: Result<T, WorkFault>,
+) -> Result<(Vec<Receipt>, T), WorkFault>
+    ensures worker { IfErr worked (λ fault. result ≡ Err fault) }
+    ensures fault { IfErr result (λ fault. (worked ≡ Err fault) ⊎ (carried ≡ Err fault)) }
+    ensures ok { IfOk result (λ r. (worked ≡ Ok r.0) × (carried ≡ Ok r.1)) }
+{
+    let own = worked?;
+    let theirs = carried?;
+    Ok((own, theirs))
+}
+
 /// The history of a closed desk, where the receipts are exactly its entries.
 fn checked_history(
     alloc: Global,
@@ -177,7 +227,7 @@ fn checked_history(
 ) -> Result<Vec<Entry>, WorkFault>
     ensures closed { IfOk result (λ history. IsClosed closed.now.schema closed.now.site
         history.items receipts.now) }
-    ensures fault { IfErr result (IsFaultAt closed.now.schema closed.now.site) }
+    ensures fault { IfErr result (IsFaultAt closed.now.schema closed.now.site TurnsNone) }
 {
     if !closed.on_fresh_base() {
         return Err(WorkFault::Passes {
@@ -201,7 +251,7 @@ fn finish<L: Ledger>(
 ) -> Result<Vec<Entry>, WorkFault>
     ensures closed { IfOk result (λ history. IsClosed desk.schema desk.site history.items
         receipts.now) }
-    ensures fault { IfErr result (IsFaultAt desk.schema desk.site) }
+    ensures fault { IfErr result (IsFaultAt desk.schema desk.site TurnsNone) }
 {
     let site = desk.site();
     let mut passes = Vec::new(alloc);
@@ -249,7 +299,7 @@ fn run_over<'x, L: Ledger + Send + Sync, R: Threads + Wait + Sync, G: Gate>(
     requires plain { HasNoAccept seat.script.items }
     ensures worked { IfOk result (λ history. IsWorked schema.now seat.site seat.script.items
         history.items) }
-    ensures fault { IfErr result (IsSiteFault schema.now) }
+    ensures fault { IfErr result (IsSiteFault schema.now (G.turns gate.now)) }
 {
     let Seat {
         site,
@@ -265,11 +315,9 @@ fn run_over<'x, L: Ledger + Send + Sync, R: Threads + Wait + Sync, G: Gate>(
     let (worked, first, carried) = run_both(
         rt, alloc, &desk, schema, gate, script, mail, first, second, posts,
     );
-    let mut receipts = worked?;
-    let Some((carried, second)) = carried else {
-        return Err(WorkFault::NoMemory);
-    };
-    let mut theirs = carried?;
+    let (own, (theirs, second)) = worker_first(worked, told_of_courier(carried))?;
+    let mut receipts = own;
+    let mut theirs = theirs;
     receipts.append(&mut theirs)?;
     finish(alloc, desk, first, second, receipts.as_slice())
 }
@@ -286,7 +334,7 @@ pub(crate) fn run_site<'x, R: Threads + Wait + Sync, G: Gate>(
     requires plain { HasNoAccept seat.script.items }
     ensures worked { IfOk result (λ history. IsWorked schema.now seat.site seat.script.items
         history.items) }
-    ensures fault { IfErr result (IsSiteFault schema.now) }
+    ensures fault { IfErr result (IsSiteFault schema.now (G.turns gate.now)) }
 {
     run_over::<Brand, R, G>(rt, alloc, Blank::new(2), schema, seat, gate)
 }

@@ -6,54 +6,61 @@ ghost use Rattle.site_workers.specs.Scripts.{IsWorked};
 
 use crate::fault::WorkFault;
 use field_bounds::{Command, Entry, Schema, SiteNo};
+use site_desk::Gate;
 use std::marker::Model;
 use std::snapshot::Snapshot;
 use std::thread::{Promise, PromisedHandle, Threads};
 
+/// What a site's thread hands back: its history, or its fault.
+pub(crate) type Answer = Result<Vec<Entry>, WorkFault>;
+
 /// What a site's thread promises of the history that it hands back, or of its fault.
 #[derive(Drop)]
-pub(crate) struct Task<'x> {
+pub(crate) struct Task<'x, G: Gate> {
     pub schema: &'x Schema,
     pub site: SiteNo,
     pub script: Snapshot<Vec<Command>>,
+    pub gate: &'x G,
 }
 
-impl<'x> Promise<Result<Vec<Entry>, WorkFault>> for Task<'x> {
+impl<'x, G: Gate> Promise<Answer> for Task<'x, G> {
     ghost kept_by = { λ p r. IfOk r (λ history. IsWorked p.schema.now p.site p.script.value.items
-        history.items) × IfErr r (IsSiteFault p.schema.now) };
+        history.items) × IfErr r (IsSiteFault p.schema.now (G.turns p.gate.now)) };
 }
 
 /// A site's thread. Contracts see what it was given.
 #[derive(Drop)]
-pub(crate) struct Running<'x> {
-    handle: PromisedHandle<Result<Vec<Entry>, WorkFault>, Task<'x>>,
+pub(crate) struct Running<'x, G: Gate> {
+    handle: PromisedHandle<Answer, Task<'x, G>>,
 }
 
-impl<'x> Model for Running<'x> {
+impl<'x, G: Gate> Model for Running<'x, G> {
     ghost use Rattle.site_workers.specs.Jobs.{Job};
 
-    ghost Value = { Job };
+    ghost Value = { Job G };
 
     ghost view = { λ r. record {
       schema = r.handle.promise.schema.now;
       site = r.handle.promise.site;
       script = r.handle.promise.script.value.items;
+      gate = r.handle.promise.gate.now;
     } };
 }
 
-impl<'x> Running<'x> {
-    pub fn new(handle: PromisedHandle<Result<Vec<Entry>, WorkFault>, Task<'x>>) -> Running<'x>
+impl<'x, G: Gate> Running<'x, G> {
+    pub fn new(handle: PromisedHandle<Answer, Task<'x, G>>) -> Running<'x, G>
         ensures schema { result.schema ≡ handle.entry.promise.schema.now }
         ensures site { result.site ≡ handle.entry.promise.site }
         ensures script { result.script ≡ handle.entry.promise.script.value.items }
+        ensures gate { result.gate ≡ handle.entry.promise.gate.now }
     {
         Running { handle }
     }
 
-    pub fn join<R: Threads>(self, rt: &R) -> Result<Vec<Entry>, WorkFault>
+    pub fn join<R: Threads>(self, rt: &R) -> Answer
         ensures worked { IfOk result (λ history. IsWorked self.entry.schema self.entry.site
             self.entry.script history.items) }
-        ensures fault { IfErr result (IsSiteFault self.entry.schema) }
+        ensures fault { IfErr result (IsSiteFault self.entry.schema (G.turns self.entry.gate)) }
     {
         let Running { handle } = self;
         handle.join(rt)

@@ -4,7 +4,7 @@ use Rattle.std.specs.Global.{Vec}
 use Rattle.field_bounds.specs.declared.entry.Entry.{Entry}
 use Rattle.site_workers.specs.Scripts.{scripts_of, histories_of, NoneForeign, NoneLost}
 use Rattle.site_workers.specs.Crossing.{IsLowestForeign, IsLowestLost}
-use Rattle.site_workers.proofs.Faults.{no_foreign_told, no_lost_told, differs_shown, site_known, shows_foreign, foreign_known, shows_lost, lost_known}
+use Rattle.site_workers.proofs.Faults.{no_foreign_told, no_lost_told, differs_shown, turned_told, site_known, shows_foreign, foreign_known, shows_lost, lost_known}
 use Rattle.site_workers.proofs.Teams.{all_worked, few_histories}
 use Rattle.site_workers.proofs.all_sites.run_workers.Goals as goal
 
@@ -20,6 +20,7 @@ returns g c =
       foreign = tt;
       lost = tt;
       receipts = tt;
+      turned = tt;
       site = tt;
     }
 
@@ -33,22 +34,27 @@ foreign-requires g c = record {
 pub returns-in_err-histories-clause-foreign : goal.returns-in_err-histories-clause-foreign
 returns-in_err-histories-clause-foreign g c =
     let p = err_from_is_err_and c.from_residual-in_err-histories.result c.from_residual-in_err-histories.ensures.1 in
-    rw (p.1, p.2) (no_foreign_told _ _ _ c.in_err-histories.ensures.fault)
+    rw (p.1, p.2) (no_foreign_told _ _ _ _ c.in_err-histories.ensures.fault)
 
 pub returns-in_err-histories-clause-lost : goal.returns-in_err-histories-clause-lost
 returns-in_err-histories-clause-lost g c =
     let p = err_from_is_err_and c.from_residual-in_err-histories.result c.from_residual-in_err-histories.ensures.1 in
-    rw (p.1, p.2) (no_lost_told _ _ _ c.in_err-histories.ensures.fault)
+    rw (p.1, p.2) (no_lost_told _ _ _ _ c.in_err-histories.ensures.fault)
 
 pub returns-in_err-histories-clause-receipts : goal.returns-in_err-histories-clause-receipts
 returns-in_err-histories-clause-receipts g c =
     let p = err_from_is_err_and c.from_residual-in_err-histories.result c.from_residual-in_err-histories.ensures.1 in
-    rw (p.1, p.2) (differs_shown _ _ c.in_err-histories.ensures.fault)
+    rw (p.1, p.2) (differs_shown _ _ _ c.in_err-histories.ensures.fault)
+
+pub returns-in_err-histories-clause-turned : goal.returns-in_err-histories-clause-turned
+returns-in_err-histories-clause-turned g c =
+    let p = err_from_is_err_and c.from_residual-in_err-histories.result c.from_residual-in_err-histories.ensures.1 in
+    rw (p.1, p.2) (turned_told _ _ _ c.in_err-histories.ensures.fault)
 
 pub returns-in_err-histories-clause-site : goal.returns-in_err-histories-clause-site
 returns-in_err-histories-clause-site g c =
     let p = err_from_is_err_and c.from_residual-in_err-histories.result c.from_residual-in_err-histories.ensures.1 in
-    rw (p.1, p.2) (site_known _ _ c.in_err-histories.ensures.fault)
+    rw (p.1, p.2) (site_known _ _ _ c.in_err-histories.ensures.fault)
 
 pub returns-in-Some : goal.returns-in-Some
 returns-in-Some g c =
@@ -60,6 +66,7 @@ returns-in-Some g c =
           c.as_slice.ensures.value lowest;
       lost = tt;
       receipts = tt;
+      turned = tt;
       site = foreign_known c.args.schema.now (scripts_of c.args.scripts.items) vs _ c.in-Some.site c.requires.fit worked
           c.as_slice.ensures.value lowest;
     }
@@ -75,6 +82,7 @@ returns-in-Some-lacking g c =
       lost = shows_lost c.args.schema.now (scripts_of c.args.scripts.items) vs _ c.in-Some-lacking.site c.requires.fit worked
           c.as_slice-2.ensures.value _ c.as_slice.ensures.value none lowest;
       receipts = tt;
+      turned = tt;
       site = lost_known c.args.schema.now (scripts_of c.args.scripts.items) vs _ c.in-Some-lacking.site c.requires.fit worked
           c.as_slice-2.ensures.value lowest;
     }

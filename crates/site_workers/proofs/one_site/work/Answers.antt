@@ -12,4 +12,6 @@ loop-command-preserved g c = record {
 }
 
 pub returns-in-Err-clause-fault : goal.returns-in-Err-clause-fault
-returns-in-Err-clause-fault g c = call_fault _ _ _ _ _ c.fault_of_call.ensures c.site.ensures.value
+returns-in-Err-clause-fault g c =
+    call_fault c.args.desk.now.schema c.args.desk.now.site _ (g.G.Gate.turns c.args.gate.now) _ _ _ c.fault_of_call.ensures
+    c.site.ensures.value c.in-Err.ensures.turned

@@ -2,10 +2,10 @@ use Rattle.std.proofs.Common.{◌≡◌, ◌+◌, ◌-◌, ◌<◌, vec_len, len
 use Rattle.std.specs.Global.{Vec}
 use Rattle.field_bounds.specs.declared.id.SiteNo.{SiteNo}
 use Rattle.field_bounds.specs.declared.entry.Command.{Command}
-use Rattle.site_workers.specs.declared.running.Task.{Task}
 use Rattle.site_workers.specs.Inboxes.{site_no}
 use Rattle.site_workers.specs.Scripts.{scripts_of, HasNoAccept}
 use Rattle.site_workers.specs.Jobs.{FitsJob}
+use Rattle.site_workers.proofs.Answered.{run_worked, run_fault}
 use Rattle.site_workers.proofs.Teams.{starts_more, seat_fits, joins, fits_job, fits_none}
 use Rattle.site_workers.proofs.all_sites.fn.run_threads.scope.Goals.{in-Some-seat_of+in-Ok, in-Some-1, in-None-1, in-Some-seat_of+in-Err, in_default-seat_of}
 use Rattle.site_workers.proofs.all_sites.fn.run_threads.scope.Goals as goal
@@ -13,7 +13,8 @@ use Rattle.site_workers.proofs.all_sites.fn.run_threads.scope.Goals as goal
 pub spawn_with-spawned-requires-clause-runs : goal.spawn_with-spawned-requires-clause-runs
 spawn_with-spawned-requires-clause-runs g c κs within =
     let fits : (length c.pop.new.self.items < c.captures.schema.now.sites) × HasNoAccept c.in-Some.script.items =
-    seat_fits c.captures.schema.now (scripts_of c.captures.scripts.items) c.loop-script.left.items c.pop.new.self.items c.in-Some.script
+    seat_fits c.captures.schema.now c.captures.gate.now (scripts_of c.captures.scripts.items) c.loop-script.left.items
+    c.pop.new.self.items c.in-Some.script
     c.loop-script.handles.items c.in-Some.ensures.items c.requires.fit c.loop-script.invariant.started
     in
     let shorter : vec_len c.pop.new.self + 1 ≡ vec_len c.loop-script.left = c.in-Some.ensures.cases in
@@ -30,18 +31,21 @@ loop-script-preserved g c =
     let count : vec_len c.pop.new.self ≡ length c.pop.new.self.items = c.pop.new.self.ok.0 in
     let number : c.loop-script.next ≡ vec_len c.loop-script.left = c.loop-script.invariant.number in
     let same : c.loop-script.next - 1 ≡ length c.pop.new.self.items = omega arith in
-    let fits : FitsJob c.captures.schema.now (length c.pop.new.self.items) c.in-Some.script.items c.match-seat_of.started =
+    let fits : FitsJob c.captures.schema.now c.captures.gate.now (length c.pop.new.self.items) c.in-Some.script.items
+    c.match-seat_of.started =
     elim c.match-seat_of.branch [
       | in-Some-seat_of+in-Ok w ↦
-          fits_job _ _ _ _ w.new.result w.started-is (w.new.ensures.schema ∙ ap (λ (t : Task). t.schema.now) w.in-Ok.ensures.ok)
-          (w.new.ensures.site ∙ (ap (λ (t : Task). t.site) w.in-Ok.ensures.ok ∙ ap site_no same))
-          (w.new.ensures.script ∙ (ap (λ (t : Task). t.script.value.items) w.in-Ok.ensures.ok
+          fits_job _ _ _ _ _ w.new.result w.started-is (w.new.ensures.schema ∙ ap (λ t. t.schema.now) w.in-Ok.ensures.ok)
+          (w.new.ensures.site ∙ (ap (λ t. t.site) w.in-Ok.ensures.ok ∙ ap site_no same))
+          (w.new.ensures.script ∙ (ap (λ t. t.script.value.items) w.in-Ok.ensures.ok
           ∙ ap (λ (v : Vec Command). v.items) (w.of.ensures ∙ w.in-Some-seat_of.ensures.script)))
-      | in-Some-seat_of+in-Err w ↦ fits_none _ _ _ _ w.started-is
-      | in_default-seat_of w ↦ fits_none _ _ _ _ w.started-is
+          (w.new.ensures.gate ∙ ap (λ t. t.gate.now) w.in-Ok.ensures.ok)
+      | in-Some-seat_of+in-Err w ↦ fits_none _ _ _ _ _ w.started-is
+      | in_default-seat_of w ↦ fits_none _ _ _ _ _ w.started-is
     ]
     in record {
-      started = starts_more c.captures.schema.now (scripts_of c.captures.scripts.items) c.loop-script.left.items c.pop.new.self.items
+      started = starts_more c.captures.schema.now c.captures.gate.now (scripts_of c.captures.scripts.items)
+          c.loop-script.left.items c.pop.new.self.items
           c.in-Some.script c.loop-script.handles.items c.push.new.self.items c.match-seat_of.started c.in-Some.ensures.items
           c.in_ok-push.ensures.items fits c.loop-script.invariant.started;
       number = omega arith;
@@ -49,8 +53,12 @@ loop-script-preserved g c =
 
 pub returns : goal.returns
 returns g c =
-    let all = joins c.captures.schema.now (scripts_of c.captures.scripts.items) c.loop-script.left.items c.loop-script.handles.items
-    (sym c.loop-script.left.ok.0 ∙ c.in_default.ensures.cases.0) c.loop-script.invariant.started in record {
-      worked = c.join_all.ensures.worked c.captures.schema.now (scripts_of c.captures.scripts.items) all;
-      fault = c.join_all.ensures.fault c.captures.schema.now (scripts_of c.captures.scripts.items) all;
+    let Turns = g.G.Gate.turns c.captures.gate.now in
+    let joined = joins c.captures.schema.now c.captures.gate.now Turns (scripts_of c.captures.scripts.items) c.loop-script.left.items
+    c.loop-script.handles.items (sym c.loop-script.left.ok.0 ∙ c.in_default.ensures.cases.0) c.loop-script.invariant.started in
+    let all = c.in_ok-join_all.ensures.answers c.captures.schema.now c.captures.gate.now (scripts_of
+    c.captures.scripts.items) joined in record {
+      worked = run_worked c.captures.schema.now Turns (scripts_of c.captures.scripts.items) _ c.gather.result all c.gather.ensures.ok;
+      fault = run_fault c.captures.schema.now Turns (scripts_of c.captures.scripts.items) _ c.gather.result all c.gather.ensures.lowest
+          c.gather.ensures.memory;
     }

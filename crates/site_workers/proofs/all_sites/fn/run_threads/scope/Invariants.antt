@@ -5,7 +5,7 @@ use Rattle.site_workers.proofs.all_sites.fn.run_threads.scope.Given as goal
 
 abbrev pub invariant-loop-script : goal.invariant-loop-script
 invariant-loop-script g l = record {
-  started : AreStarted l.schema (scripts_of l.initial.left.items) (scripts_of l.left.items) l.handles.items;
+  started : AreStarted l.schema l.gate (scripts_of l.initial.left.items) (scripts_of l.left.items) l.handles.items;
   number : l.next ≡ vec_len l.left;
 }
 
