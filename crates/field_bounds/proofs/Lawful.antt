@@ -1,54 +1,17 @@
--- Effects that each were allowed: what they are, and that they leave no rights below zero.
-use Rattle.std.proofs.Common.{◌≡◌, ℕ, ◌<◌, ◌≤◌, Bool, true, false, not, ◌&&◌, ◌||◌, cond, Option, Some, None, List, [], ◌∷◌, length, refl, sym, ◌∙◌, ap, inl, inr, arith, eqb}
+-- Effects that each were allowed leave no rights below zero.
+use Rattle.std.proofs.Common.{◌≡◌, ℕ, ◌≤◌, Bool, true, false, not, ◌&&◌, ◌||◌, cond, List, [], ◌∷◌, refl, sym, ◌∙◌, ap, inl, inr, arith, eqb}
 use Rattle.std.proofs.lemmas.Bool.{and_parts, eqb-true, cases_Bool, or_right}
 use Rattle.std.specs.Prelude.{unsigned_abs}
 use Rattle.field_bounds.specs.declared.kind.Kind.{Kind}
 use Rattle.field_bounds.specs.declared.kind.Kind.TheVariants.{Lower, Raise}
-use Rattle.field_bounds.specs.declared.id.SiteNo.{SiteNo}
 use Rattle.field_bounds.specs.declared.id.TxnId.{TxnId}
 use Rattle.field_bounds.specs.declared.effect.Effect.{Effect}
 use Rattle.field_bounds.specs.declared.effect.Effect.TheVariants.{Begins, Grants, Commits, Aborts, Gives, Accepts, Stops}
 use Rattle.field_bounds.specs.Kind.{kind_of, same_kind, other}
 use Rattle.field_bounds.specs.Schema.{SchemaValue}
-use Rattle.field_bounds.specs.Effects.{Base, same_txn, is_begun, is_committed, is_dropped, is_aborted, is_open, granted_sizes, rights_in, rights_out, share}
-
--- what an escrow that is granted keeps to
-pub record MayGrant (schema : SchemaValue) (base : Base) (es : List Effect) (txn : TxnId) (f : ℕ) (change : ℕ) (k : Kind) : Type 0 where
-  pub in_schema : f < length schema.fields
-  pub enough : change ≤ share base f k es
-  pub begun : is_begun txn es ≡ true
-  pub opened : is_open txn es ≡ true
-
--- what left went to a site of the schema, or was given up for good
-abbrev pub IsReceiver : SchemaValue → Option SiteNo → Type 0
-IsReceiver schema None = Unit {0}
-IsReceiver schema (Some site) = site.0 < schema.sites
-
--- what leaves keeps to
-pub record MayGive (schema : SchemaValue) (base : Base) (es : List Effect) (to : Option SiteNo) (f : ℕ) (k : Kind)
-    (amount : ℕ) : Type 0 where
-  pub to_site : IsReceiver schema to
-  pub in_schema : f < length schema.fields
-  pub enough : amount ≤ share base f k es
-
--- what an acceptance keeps to
-pub record MayAccept (schema : SchemaValue) (from f : ℕ) : Type 0 where
-  pub from_site : from < schema.sites
-  pub in_schema : f < length schema.fields
-
--- what may take effect after these effects
-abbrev pub MayFollow : SchemaValue → Base → List Effect → Effect → Type 0
-MayFollow schema base es (Begins txn) = is_begun txn es ≡ false
-MayFollow schema base es (Grants txn field change) = MayGrant schema base es txn field.0 (unsigned_abs change) (kind_of change)
-MayFollow schema base es (Commits txn) = (is_begun txn es ≡ true) × (is_open txn es ≡ true)
-MayFollow schema base es (Aborts txn) = (is_begun txn es ≡ true) × (is_open txn es ≡ true)
-MayFollow schema base es (Gives to field k amount) = MayGive schema base es to field.0 k amount
-MayFollow schema base es (Accepts from field k total) = MayAccept schema from.0 field.0
-MayFollow schema base es Stops = Unit {0}
-
-abbrev pub IsLawful : SchemaValue → Base → List Effect → Type 0
-IsLawful schema base [] = Unit {0}
-IsLawful schema base (e ∷ es) = IsLawful schema base es × MayFollow schema base es e
+use Rattle.field_bounds.specs.Effects.{Base, same_txn, is_begun, is_committed, is_dropped, is_aborted, granted_sizes, rights_in, rights_out, share}
+-- the definitions stand in specs/, and are passed on from here
+pub use Rattle.field_bounds.specs.Lawful.{MayGrant, IsReceiver, MayGive, MayAccept, MayFollow, IsLawful}
 
 pub same_txn-true : (a b : TxnId) → same_txn a b ≡ true → a ≡ b
 same_txn-true a b h =

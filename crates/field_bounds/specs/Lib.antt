@@ -6,6 +6,7 @@ pub mod Header
 pub mod Parts
 pub mod Kept
 pub mod Effects
+pub mod Lawful
 pub mod Owed
 pub mod Statements
 pub mod Central
