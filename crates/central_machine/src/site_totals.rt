@@ -12,9 +12,9 @@ ghost use Rattle.central_machine.specs.Running.{NumbersAfter, effect_by, doubt_a
 use crate::amounts::Amounts;
 use crate::journal::Journal;
 use crate::numbers::Numbers;
-use central_rules::{SiteCounts, spared_amount};
+use central_rules::SiteCounts;
 use field_bounds::{
-    Command, Effect, Entry, FieldNo, Kind, Last, Reply, Schema, SiteNo, by_command,
+    Command, Effect, Entry, FieldNo, Kind, Last, Reply, Schema, SiteNo, by_command, spared_amount,
 };
 use std::alloc::{AllocError, Global};
 

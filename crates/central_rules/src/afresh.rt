@@ -3,7 +3,7 @@
 ghost use Rattle.std.specs.Prelude.{◌≡◌, ◌≤◌, ◌*◌, ℕ, ◌<◌, reverse, length, List, ◌∷◌, ◌+◌, filter, Option};
 ghost use Rattle.field_bounds.specs.Schema.{SchemaValue};
 ghost use Rattle.field_bounds.specs.Parts.{part_of};
-ghost use Rattle.field_bounds.specs.Kind.{kind_of, same_kind, other};
+ghost use Rattle.field_bounds.specs.Kind.{kind_of, other};
 ghost use Rattle.field_bounds.specs.Effects.{same_txn, is_begun, is_committed, is_dropped, granted_sizes, gifts, gains, total_accepted, cut, share, fresh, Base, escrows_of, begun_txns, is_open};
 ghost use Rattle.field_bounds.specs.Owed.{count_open, count_escrows};
 ghost use Rattle.field_bounds.specs.declared.effect.Effect.{Effect};
@@ -41,15 +41,6 @@ pub fn same_txn(a: TxnId, b: TxnId) -> bool
     ensures value { result ≡ same_txn a b }
 {
     a.epoch == b.epoch && a.number == b.number
-}
-
-pub fn same_kind(a: Kind, b: Kind) -> bool
-    ensures { result ≡ same_kind a b }
-{
-    match a {
-        Kind::Lower => matches!(b, Kind::Lower),
-        Kind::Raise => matches!(b, Kind::Raise),
-    }
 }
 
 /// The fate after one more effect.
@@ -114,7 +105,7 @@ fn size(effects: &[Effect], which: Which, field: FieldNo, kind: Kind, effect: Ef
             field: on,
             change,
         } => {
-            if on.0 == field.0 && same_kind(Kind::of(change), kind) && passes(which, effects, txn) {
+            if on.0 == field.0 && Kind::of(change).is(kind) && passes(which, effects, txn) {
                 change.unsigned_abs()
             } else {
                 0
@@ -159,7 +150,7 @@ fn gift(whom: Whom, field: FieldNo, kind: Kind, effect: Effect) -> u64
             kind: of,
             amount,
         } => {
-            if on.0 == field.0 && same_kind(of, kind) && goes_to(whom, to) {
+            if on.0 == field.0 && of.is(kind) && goes_to(whom, to) {
                 amount
             } else {
                 0
@@ -193,7 +184,7 @@ fn accepted_after(before: u64, from: SiteNo, field: FieldNo, kind: Kind, effect:
             kind: of,
             total,
         } => {
-            if on.0 == field.0 && same_kind(of, kind) && site.0 == from.0 && total > before {
+            if on.0 == field.0 && of.is(kind) && site.0 == from.0 && total > before {
                 total
             } else {
                 before
@@ -228,7 +219,7 @@ fn gain(before: &[Effect], field: FieldNo, kind: Kind, effect: Effect) -> u64
             kind: of,
             total,
         } => {
-            if on.0 == field.0 && same_kind(of, kind) {
+            if on.0 == field.0 && of.is(kind) {
                 total.saturating_sub(total_accepted(before, from, field, kind))
             } else {
                 0

@@ -1,7 +1,7 @@
 //! What the entries of a front make of one site, made afresh.
 
 ghost use Rattle.std.specs.Prelude.{◌≡◌, ◌≤◌, ◌<◌, reverse, length, IfOk, false, List, ◌∷◌, ◌+◌, int_le, nat_lt, nat_le, ◌-◌, ◌&&◌, if◌then◌else◌, Some, None, ◌≤ℤ◌, pos, ◌+ℤ◌, ◌-ℤ◌};
-ghost use Rattle.field_bounds.specs.Effects.{effects, effect_of, counts, spare_amount, fresh};
+ghost use Rattle.field_bounds.specs.Effects.{effects, effect_of, counts, fresh};
 ghost use Rattle.field_bounds.specs.declared.effect.Effect.{Effect};
 ghost use Rattle.field_bounds.specs.declared.effect.Effect.TheVariants.{Gives};
 ghost use Rattle.field_bounds.specs.declared.entry.Command.TheVariants.{Spare};
@@ -15,7 +15,7 @@ ghost use Rattle.central_rules.specs.Kept.{doubt_kept_next};
 use crate::afresh::{Which, cut, granted_sizes, share};
 use crate::site_counts::SiteCounts;
 use field_bounds::{
-    Command, Effect, Entry, FieldNo, Kind, Last, Reply, Schema, SiteNo, by_command,
+    Command, Effect, Entry, FieldNo, Kind, Last, Reply, Schema, SiteNo, by_command, spared_amount,
 };
 use std::alloc::{AllocError, Global};
 
@@ -72,19 +72,6 @@ fn counts(kept: bool, reply: Reply) -> bool
     match reply {
         Reply::Unsure => kept,
         _ => true,
-    }
-}
-
-/// What a site spares of its share where so much is wanted.
-pub fn spared_amount(share: u128, want: u64) -> u64
-    requires small { share < 42535295865117307932921825928971026432 }
-    ensures { result ≡ spare_amount share want }
-{
-    let half = (share + 1) / 2;
-    if u128::from(want) <= half {
-        want
-    } else {
-        half as u64
     }
 }
 

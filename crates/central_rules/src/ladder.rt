@@ -9,7 +9,7 @@ ghost use Rattle.field_bounds.specs.Owed.{Place, is_up, epoch_of, count_since, i
 ghost use Rattle.central_rules.specs.Ladder.{is_open_at};
 ghost use Rattle.central_rules.specs.Replies.{answer_test, reply_test};
 
-use crate::front::{Bounds, bounds_of, spared_amount};
+use crate::front::{Bounds, bounds_of};
 use crate::same::{
     is_aborted, is_accepted, is_begun, is_between, is_committed, is_forged, is_full, is_given,
     is_granted, is_refused, is_shares, is_short, is_spared, is_stated, is_tightened, is_unsure,
@@ -19,6 +19,7 @@ use crate::site_counts::SiteCounts;
 use field_bounds::{
     Command, FieldNo, Kind, Last, MAX_CHANGE, MAX_EPOCH, MAX_ESCROWS, MAX_NUMBER, MAX_OPEN,
     MAX_TOTAL, Refusal, Reply, Schema, SiteNo, Statement, TxnId, by_command, refuse_first,
+    spared_amount,
 };
 
 /// What is told of one site, where it stands after some entries of its own: what the ladder of

@@ -17,7 +17,7 @@ mod site_counts;
 mod verdict;
 
 pub use afresh::same_txn;
-pub use front::{Bounds, bounds_of, has, lies_between, spared_amount};
+pub use front::{Bounds, bounds_of, has, lies_between};
 pub use ladder::{AtPlace, fits};
 pub use laws::verdict_is_exact;
 pub use plain::judge_plain;

@@ -6,7 +6,6 @@ ghost use Rattle.field_bounds.specs.Statements.{statement_of};
 ghost use Rattle.field_bounds.specs.Central.{IsSound};
 ghost use Rattle.central_rules.specs.declared.verdict.Rule.TheVariants.{Reply as Owed};
 
-use crate::afresh::same_kind;
 use crate::front::{between, has, true_share, within_bound};
 use crate::here::Here;
 use crate::ladder::fits;
@@ -47,11 +46,7 @@ fn length_of(entries: &[Entry]) -> usize
 fn is_same(a: Statement, b: Statement) -> bool
     ensures { result ≡ same_statement a b }
 {
-    a.from.0 == b.from.0
-        && a.to.0 == b.to.0
-        && a.field.0 == b.field.0
-        && same_kind(a.kind, b.kind)
-        && a.total == b.total
+    a == b
 }
 
 /// Whether an entry of the front issues the statement.

@@ -1,7 +1,7 @@
 //! The two kinds of right.
 
 ghost use Rattle.std.specs.Prelude.{◌≡◌};
-ghost use Rattle.field_bounds.specs.Kind.{other, kind_of};
+ghost use Rattle.field_bounds.specs.Kind.{other, kind_of, same_kind};
 
 /// Which way a right lets a field move: a lowering right is spent to lower the field by one, a
 /// raising right to raise it by one.
@@ -23,6 +23,13 @@ impl Kind {
             Kind::Lower => Kind::Raise,
             Kind::Raise => Kind::Lower,
         }
+    }
+
+    /// Whether it is this kind. Costs no memory.
+    pub fn is(self, kind: Kind) -> bool
+        ensures value { result ≡ same_kind self kind }
+    {
+        self == kind
     }
 
     /// The kind of right that a change of a field takes: a change below 0 takes lowering rights,

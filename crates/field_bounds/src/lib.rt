@@ -16,6 +16,7 @@ mod macros;
 mod restart_rows;
 mod schema;
 mod site_rows;
+mod spare;
 mod statements;
 mod tighten_rows;
 
@@ -33,5 +34,6 @@ pub use limits::{MAX_CHANGE, MAX_EPOCH, MAX_ESCROWS, MAX_HEADER, MAX_NUMBER, MAX
 pub use restart_rows::{worked_doubt, worked_restarts, wrong_restarts};
 pub use schema::Schema;
 pub use site_rows::{worked_runs, worked_sites, worked_values, wrong_replies, wrong_shares};
+pub use spare::spared_amount;
 pub use statements::statement_of;
 pub use tighten_rows::{worked_bounds, worked_tightenings, wrong_tightenings, wrong_traces};
