@@ -5,7 +5,7 @@ use Rattle.field_bounds.specs.declared.id.TxnId.{TxnId}
 use Rattle.field_bounds.specs.Schema.{SchemaValue}
 use Rattle.field_bounds.specs.declared.effect.Effect.{Effect}
 use Rattle.field_bounds.specs.Effects.{Base, same_txn, is_begun, is_committed, is_open, begun_txns, open_txns, granted_sizes, held_rights}
-use Rattle.field_bounds.proofs.Lawful.{IsLawful}
+use Rattle.field_bounds.specs.Lawful.{IsLawful}
 
 -- Transactions, with one more where there is one.
 abbrev pub with_txn : Option TxnId → List TxnId → List TxnId

@@ -5,11 +5,10 @@ ghost use Rattle.std.specs.Prelude.{◌≡◌, ◌≤◌, ◌<◌, [], ◌∷◌
 ghost use Rattle.field_bounds.specs.Schema.{SchemaValue};
 ghost use Rattle.field_bounds.specs.declared.effect.Effect.{Effect};
 ghost use Rattle.field_bounds.specs.Effects.{Base, same_txn, granted_sizes, held_rights, begun_txns, is_committed, open_txns};
-ghost use Rattle.field_bounds.specs.Kind.{kind_of, same_kind};
-ghost use Rattle.field_bounds.proofs.Lawful.{IsLawful};
+ghost use Rattle.field_bounds.specs.Kind.{kind_of};
+ghost use Rattle.field_bounds.specs.Lawful.{IsLawful};
 ghost use Rattle.reaching_steps.specs.Later.{with_txn, has, settles, stays, Passes, weight, IsStill, Weighs, Walked, Opens, OpenWalked};
 
-use crate::totals::same_kind;
 use field_bounds::{Effect, FieldNo, Kind, TxnId};
 use std::alloc::{AllocError, Global};
 
@@ -101,7 +100,7 @@ fn grants_on(effect: &Effect, field: FieldNo, kind: Kind) -> Option<(TxnId, u64)
             field: at,
             change,
         } => {
-            if at.0 == field.0 && same_kind(Kind::of(change), kind) {
+            if at.0 == field.0 && Kind::of(change).is(kind) {
                 Some((txn, change.unsigned_abs()))
             } else {
                 None

@@ -3,18 +3,13 @@
 ghost use Rattle.std.specs.Prelude.{◌≡◌, reverse};
 ghost use Rattle.reaching_steps.specs.Reach.{same_statement, number_of};
 
-use crate::totals::same_kind;
 use field_bounds::Statement;
 
 /// Whether two statements are the same.
 fn same_statement(one: &Statement, other: &Statement) -> bool
     ensures value { result ≡ same_statement one.now other.now }
 {
-    one.from.0 == other.from.0
-        && one.to.0 == other.to.0
-        && one.field.0 == other.field.0
-        && same_kind(one.kind, other.kind)
-        && one.total == other.total
+    *one == *other
 }
 
 /// The number of the first such statement, counted from 1 over statements that have the oldest

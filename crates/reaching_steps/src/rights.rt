@@ -3,7 +3,7 @@
 ghost use Rattle.std.specs.Prelude.{◌≡◌, ◌<◌, IfOk};
 ghost use Rattle.field_bounds.specs.Parts.{part_of};
 ghost use Rattle.field_bounds.specs.Effects.{fresh, own_rights, share};
-ghost use Rattle.field_bounds.proofs.Lawful.{IsLawful};
+ghost use Rattle.field_bounds.specs.Lawful.{IsLawful};
 
 use crate::later::sums_of;
 use crate::totals::{Receivers, gained_in, gifts_in};

@@ -4,15 +4,17 @@ ghost use Rattle.std.specs.Prelude.{◌≡◌, ◌<◌, ◌∷◌, IfOk, OnOk, L
 ghost use Rattle.std.specs.Option.{unwrap_or};
 ghost use Rattle.field_bounds.specs.declared.effect.Effect.{Effect};
 ghost use Rattle.field_bounds.specs.declared.entry.Entry.{Entry};
-ghost use Rattle.field_bounds.specs.Effects.{Base, fresh, spare_amount, counts, effect_of, after};
+ghost use Rattle.field_bounds.specs.Effects.{Base, fresh, counts, effect_of, after};
 ghost use Rattle.field_bounds.specs.Owed.{is_unsure};
 ghost use Rattle.field_bounds.specs.Central.{at_site};
-ghost use Rattle.field_bounds.proofs.Lawful.{IsLawful};
+ghost use Rattle.field_bounds.specs.Lawful.{IsLawful};
 ghost use Rattle.world_steps.specs.View.{trace_of};
 ghost use Rattle.reaching_steps.specs.Told.{doubt_kept_in, wanted_by, spared_for, Reads};
 
 use crate::rights::rights_of;
-use field_bounds::{Command, Effect, Entry, FieldNo, Kind, Last, Reply, Schema, SiteNo};
+use field_bounds::{
+    Command, Effect, Entry, FieldNo, Kind, Last, Reply, Schema, SiteNo, spared_amount,
+};
 use std::alloc::{AllocError, Global};
 use world_steps::World;
 
@@ -64,18 +66,6 @@ fn wanted_by(command: Command) -> Option<(FieldNo, Kind, u64)>
             want,
         } => Some((field, kind, want)),
         _ => None,
-    }
-}
-
-/// What a site with a share spares: what is wanted, and at most half of the share, rounded up.
-fn spared_amount(share: u128, want: u64) -> u64
-    ensures value { result ≡ spare_amount share want }
-{
-    let half = share / 2 + share % 2;
-    if u128::from(want) < half {
-        want
-    } else {
-        half as u64
     }
 }
 

@@ -2,7 +2,6 @@
 
 ghost use Rattle.std.specs.Prelude.{◌≡◌, ◌≤◌, ◌<◌, ◌∷◌, ◌+◌, ℕ, Bool, Option, max, List};
 ghost use Rattle.field_bounds.specs.declared.effect.Effect.{Effect};
-ghost use Rattle.field_bounds.specs.Kind.{same_kind};
 ghost use Rattle.field_bounds.specs.Schema.{SchemaValue};
 ghost use Rattle.field_bounds.specs.Parts.{sum_below};
 ghost use Rattle.field_bounds.specs.Effects.{Base, fresh, gifts, total_accepted};
@@ -19,22 +18,6 @@ pub(crate) enum Receivers {
     ForGood,
     /// To any site, or for good.
     Everyone,
-}
-
-/// Whether two kinds are the same.
-pub(crate) fn same_kind(one: Kind, other: Kind) -> bool
-    ensures value { result ≡ same_kind one other }
-{
-    match one {
-        Kind::Lower => match other {
-            Kind::Lower => true,
-            Kind::Raise => false,
-        },
-        Kind::Raise => match other {
-            Kind::Lower => false,
-            Kind::Raise => true,
-        },
-    }
 }
 
 /// Whether what left counts.
@@ -67,7 +50,7 @@ fn gift_in(effect: &Effect, receivers: Receivers, field: FieldNo, kind: Kind) ->
             kind: of,
             amount,
         } => {
-            if at.0 == field.0 && same_kind(of, kind) && passes(receivers, to) {
+            if at.0 == field.0 && of.is(kind) && passes(receivers, to) {
                 amount
             } else {
                 0
@@ -101,7 +84,7 @@ fn total_in(effect: &Effect, from: SiteNo, field: FieldNo, kind: Kind) -> u64
             kind: of,
             total,
         } => {
-            if at.0 == field.0 && same_kind(of, kind) && giver.0 == from.0 {
+            if at.0 == field.0 && of.is(kind) && giver.0 == from.0 {
                 total
             } else {
                 0
