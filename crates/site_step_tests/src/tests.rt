@@ -1,3 +1,4 @@
+mod replays;
 mod stops;
 mod summaries;
 mod tears;

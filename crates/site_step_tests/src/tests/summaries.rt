@@ -29,7 +29,7 @@ const ITS_OWN_THOUSANDTH: Tear = Tear {
 };
 
 /// A restart behind 999, of which the site itself made the last.
-const THOUSANDTH: Tear = Tear {
+pub const THOUSANDTH: Tear = Tear {
     first: 999,
     end: 1000,
     before: &[],
@@ -38,7 +38,7 @@ const THOUSANDTH: Tear = Tear {
 };
 
 /// A commit of 20 rights to lower behind 999 restarts.
-const COMMIT_BEHIND_999: Tear = Tear {
+pub const COMMIT_BEHIND_999: Tear = Tear {
     first: 999,
     end: 1000,
     before: &[Command::Begin, TAKE_TWENTY_IN_999],

@@ -19,7 +19,7 @@ pub struct Tear {
 pub type After = (Reply, u64, Option<(u64, u64)>);
 
 /// Whether the records of the restarts into the epochs below this one, at most 998, were appended.
-fn appends_restarts(medium: &mut TornMedium, line: &mut Vec<u8>, below: u32) -> bool {
+fn appends_restarts<M: Medium>(medium: &mut M, line: &mut Vec<u8>, below: u32) -> bool {
     for epoch in 1..999 {
         if epoch >= below {
             return true;
@@ -31,10 +31,10 @@ fn appends_restarts(medium: &mut TornMedium, line: &mut Vec<u8>, below: u32) -> 
     true
 }
 
-/// Site 0 over the records of the restarts into the epochs below this one.
-fn site_behind(alloc: Global, below: u32) -> Option<Site<TornMedium>> {
+/// Site 0 over a medium, behind the records of the restarts into the epochs below this one.
+pub fn site_behind<M: Medium + Drop>(alloc: Global, medium: M, below: u32) -> Option<Site<M>> {
     let mut line = Vec::new(alloc);
-    let mut medium = TornMedium::new(Vec::new(alloc));
+    let mut medium = medium;
     if !appends_restarts(&mut medium, &mut line, below) {
         return None;
     }
@@ -43,7 +43,7 @@ fn site_behind(alloc: Global, below: u32) -> Option<Site<TornMedium>> {
 
 /// Whether each restart into the epochs from the first on and below the end says that nothing was
 /// in doubt.
-fn restarts(alloc: Global, site: &mut Site<TornMedium>, first: u32, end: u32) -> bool {
+pub fn restarts<M: Medium>(alloc: Global, site: &mut Site<M>, first: u32, end: u32) -> bool {
     for epoch in first..end {
         let told = Reply::Restarted {
             epoch,
@@ -57,7 +57,7 @@ fn restarts(alloc: Global, site: &mut Site<TornMedium>, first: u32, end: u32) ->
 }
 
 /// Whether the site answers these commands, whatever it says.
-fn answers_all(alloc: Global, site: &mut Site<TornMedium>, commands: &[Command]) -> bool {
+pub fn answers_all(alloc: Global, site: &mut Site<TornMedium>, commands: &[Command]) -> bool {
     for command in commands {
         if answer(alloc, site, *command).is_none() {
             return false;
@@ -68,7 +68,7 @@ fn answers_all(alloc: Global, site: &mut Site<TornMedium>, commands: &[Command])
 
 /// Whether the command is answered as told where its append is torn after so many bytes, and the
 /// site is down then.
-fn tears(alloc: Global, site: &mut Site<TornMedium>, tear: &Tear, bytes: u64) -> bool {
+pub fn tears(alloc: Global, site: &mut Site<TornMedium>, tear: &Tear, bytes: u64) -> bool {
     site.arm(Mishap::Append(bytes));
     answer(alloc, site, tear.torn) == Some(tear.reply) && !site.is_up()
 }
@@ -92,7 +92,8 @@ fn restart_behind(
 
 /// The same of a site that is opened for it.
 fn torn(alloc: Global, tear: &Tear, bytes: u64) -> Option<After> {
-    let mut site = site_behind(alloc, tear.first)?;
+    let medium = TornMedium::new(Vec::new(alloc));
+    let mut site = site_behind(alloc, medium, tear.first)?;
     restart_behind(alloc, &mut site, tear, bytes)
 }
 
