@@ -5,7 +5,7 @@ ghost use Rattle.std.specs.List.{flat_map, AllByRecursion};
 ghost use Rattle.kept_records.specs.declared.record.Record.TheVariants.{Restart};
 ghost use Rattle.kept_records.specs.Text.{text, IsRecord};
 ghost use Rattle.kept_records.specs.Medium.{AppendFate};
-ghost use Rattle.kept_records.specs.Keeping.{with_due, Appends, CutsAndAppends, CutAndAppendFate, is_restart, is_record_behind};
+ghost use Rattle.kept_records.specs.Keeping.{with_due, Appends, CutsAndAppends, CutAndAppendFate, is_restart, starts_with_no_restart};
 
 use crate::medium::{Device, Medium};
 use crate::record::Record;
@@ -107,12 +107,12 @@ fn put_restart(line: &mut Vec<u8>, epoch: u32, due: Option<Summary>) -> Result<(
     put_piece(line, &Record::Restart { epoch }, due)
 }
 
-/// Whether a record stands behind so many, and it is no restart: whether the record is there that
-/// was added behind them, since a restart adds only its own.
-pub fn stands_behind(records: &[Record], place: usize) -> bool
-    ensures { result ≡ is_record_behind place records.now }
+/// Whether there is a first of these records, and it is no restart's: behind the place of a record
+/// in doubt, whether that record stands there, since a restart adds only its own.
+pub fn starts_with_no_restart(records: &[Record]) -> bool
+    ensures { result ≡ starts_with_no_restart records.now }
 {
-    match records.get(place) {
+    match records.first() {
         None => false,
         Some(kept) => !is_restart(kept),
     }

@@ -421,27 +421,28 @@ fn fronts(rt: HostRuntime) {
     }
 }
 
-/// Whether a record that is no restart stands behind none, one, two and three records of a log.
-fn standing(alloc: Global, text: &str) -> Option<[bool; 4]> {
+/// Whether a log starts with a record that is no restart's.
+fn starts_plain(alloc: Global, text: &str) -> Option<bool> {
     let (records, _) = read_records(alloc, text.as_bytes()).ok()?;
-    Some([
-        stands_behind(&records, 0),
-        stands_behind(&records, 1),
-        stands_behind(&records, 2),
-        stands_behind(&records, 3),
-    ])
+    Some(starts_with_no_restart(&records))
 }
 
+/// Logs, and whether they start with a record that is no restart's.
+const STARTS: [(&str, bool); 6] = [
+    ("C 0 1 0 -20\nR 1\nG 1 0 l 5\n", true),
+    ("R 1\nG 1 0 l 5\n", false),
+    ("G 1 0 l 5\n", true),
+    ("T 0 l 5\nR 1\n", true),
+    ("R 1\n", false),
+    ("", false),
+];
+
 #[test]
-fn records_behind_others(rt: HostRuntime) {
-    assert_eq!(rt;
-        standing(rt.alloc(), "C 0 1 0 -20\nR 1\nG 1 0 l 5\n"),
-        Some([true, false, true, false])
-    );
-    assert_eq!(rt;
-        standing(rt.alloc(), "T 0 l 5\nR 1\n"),
-        Some([true, false, false, false])
-    );
+fn logs_that_start_with_no_restart(rt: HostRuntime) {
+    for (text, plain) in &STARTS {
+        let found = (*text, starts_plain(rt.alloc(), *text));
+        assert_eq!(rt; found, (*text, Some(*plain)));
+    }
 }
 
 /// The text's bytes, or None where they are no log.
