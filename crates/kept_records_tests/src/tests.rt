@@ -421,27 +421,28 @@ fn fronts(rt: HostRuntime) {
     }
 }
 
-/// Whether a record that is no restart stands behind none, one, two and three records of a log.
-fn standing(alloc: Global, text: &str) -> Option<[bool; 4]> {
+/// Whether a log starts with a record that is no restart's.
+fn starts_plain(alloc: Global, text: &str) -> Option<bool> {
     let (records, _) = read_records(alloc, text.as_bytes()).ok()?;
-    Some([
-        stands_behind(&records, 0),
-        stands_behind(&records, 1),
-        stands_behind(&records, 2),
-        stands_behind(&records, 3),
-    ])
+    Some(starts_with_no_restart(&records))
 }
 
+/// Logs, and whether they start with a record that is no restart's.
+const STARTS: [(&str, bool); 6] = [
+    ("C 0 1 0 -20\nR 1\nG 1 0 l 5\n", true),
+    ("R 1\nG 1 0 l 5\n", false),
+    ("G 1 0 l 5\n", true),
+    ("T 0 l 5\nR 1\n", true),
+    ("R 1\n", false),
+    ("", false),
+];
+
 #[test]
-fn records_behind_others(rt: HostRuntime) {
-    assert_eq!(rt;
-        standing(rt.alloc(), "C 0 1 0 -20\nR 1\nG 1 0 l 5\n"),
-        Some([true, false, true, false])
-    );
-    assert_eq!(rt;
-        standing(rt.alloc(), "T 0 l 5\nR 1\n"),
-        Some([true, false, false, false])
-    );
+fn logs_that_start_with_no_restart(rt: HostRuntime) {
+    for (text, plain) in &STARTS {
+        let found = (*text, starts_plain(rt.alloc(), *text));
+        assert_eq!(rt; found, (*text, Some(*plain)));
+    }
 }
 
 /// The text's bytes, or None where they are no log.
@@ -456,11 +457,15 @@ pub(crate) fn log_of(alloc: Global, text: &str) -> Option<Vec<u8>>
 }
 
 /// How many records the medium holds, how many bytes they take up, and how many there are.
-fn log_lengths<M: Medium>(alloc: Global, medium: &mut M) -> Option<(usize, usize, usize)>
-    requires { IsKept (M.bytes medium.old) }
+fn log_lengths<M: Medium>(
+    alloc: Global,
+    medium: &mut M,
+) -> Result<(usize, usize, usize), MediumFault>
+    requires log { IsKept (M.bytes medium.old) }
+    ensures bytes { M.bytes medium.new ≡ M.bytes medium.old }
 {
-    let read = read_log(alloc, medium).ok()?;
-    Some((read.records.len(), read.whole, read.present))
+    let read = read_back(alloc, medium, 0)?;
+    Ok((read.behind.len(), read.whole, read.present))
 }
 
 #[test]
@@ -472,7 +477,7 @@ fn a_log_is_read(rt: HostRuntime) {
         log_lengths(alloc, &mut medium),
         holds(alloc, &mut medium, "C 0 1 0 -20\nG 1 0"),
     );
-    assert_eq!(rt; found, (Some((1, 12, 17)), true));
+    assert_eq!(rt; found, (Ok((1, 12, 17)), true));
 }
 
 #[test]
@@ -481,10 +486,10 @@ fn a_log_whose_device_fails_is_not_read(rt: HostRuntime) {
     let bytes = log_of(alloc, "R 1\n").expect(&rt, "a log");
     let mut medium = TornMedium::new(bytes);
     medium.arm(Mishap::Read);
-    let fails = matches!(read_log(alloc, &mut medium), Err(MediumFault::Device));
-    let lengths = log_lengths(alloc, &mut medium);
-    let found = (fails, lengths, medium.failures());
-    assert_eq!(rt; found, (true, Some((1, 4, 4)), 1));
+    let first = log_lengths(alloc, &mut medium);
+    let second = log_lengths(alloc, &mut medium);
+    let found = (first, second, medium.failures());
+    assert_eq!(rt; found, (Err(MediumFault::Device), Ok((1, 4, 4)), 1));
 }
 
 /// Whether the record stands whole, or None where memory was refused.
@@ -492,7 +497,7 @@ fn appended<M: Medium>(alloc: Global, medium: &mut M, kept: &Record) -> Option<b
     requires { IsRecord kept.now }
 {
     Some(
-        append_record(&mut Vec::new(alloc), medium, kept)
+        append_piece(&mut Vec::new(alloc), medium, kept, None)
             .ok()?
             .is_ok(),
     )
@@ -541,7 +546,7 @@ fn restarted<M: Medium>(alloc: Global, medium: &mut M, whole: usize, epoch: u32)
         return None;
     }
     Some(
-        append_restart(&mut Vec::new(alloc), medium, whole, present, epoch)
+        append_restart_piece(&mut Vec::new(alloc), medium, whole, present, epoch, None)
             .ok()?
             .is_ok(),
     )

@@ -19,4 +19,3 @@ pub use log::{Replayed, replay};
 pub use ranges::{summary_may_be_written, totals_rise};
 pub use resuming::{Resumed, resume};
 pub use standing::Standing;
-pub use telling::summary;

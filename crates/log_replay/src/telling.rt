@@ -263,7 +263,7 @@ pub(crate) fn given_up(
 /// The summary of what was taken in: own rights, held ones included, the totals above 0 and the
 /// epoch. It tells what any records stand for that the standing is for. The error is want of
 /// memory. Costs a pass over the rights and the ledger, and memory for the summary.
-pub fn summary(alloc: Global, schema: &Schema, standing: &Standing) -> Result<Summary, AllocError>
+fn summary(alloc: Global, schema: &Schema, standing: &Standing) -> Result<Summary, AllocError>
     requires places { HasSlots schema.now standing.now.rights standing.now.ledger }
     ensures now { IfOk result (λ summary. summary ≡ summary_now schema.now standing.now) }
     ensures told { IfOk result (λ summary. (s : ℕ) (rs : List Record)

@@ -16,7 +16,7 @@ use crate::extent::due_behind;
 use field_bounds::{Command, Entry, Last, MAX_EPOCH, Refusal, Reply, Schema, SiteNo};
 use kept_records::{
     Medium, MediumFault, ReadBack, Record, append_restart_piece, count_plain, read_back,
-    stands_behind,
+    starts_with_no_restart,
 };
 use log_replay::{Resumed as Replay, Standing, resume as replay_end};
 use std::alloc::{AllocError, Global};
@@ -150,7 +150,7 @@ fn last_of(doubt: Option<usize>, behind: &[Record]) -> Last
     match doubt {
         None => Last::Nothing,
         Some(_) => {
-            if stands_behind(behind, 0) {
+            if starts_with_no_restart(behind) {
                 Last::Kept
             } else {
                 Last::Lost

@@ -2,7 +2,7 @@
 
 use super::*;
 use field_bounds::Last;
-use kept_records::{Mishap, Record, TornMedium, append_record};
+use kept_records::{Mishap, Record, TornMedium, append_piece};
 
 /// A command whose record is torn, with what it is answered, and what comes before: the medium
 /// holds the records of the restarts into the epochs below the first, and the site restarts into
@@ -24,7 +24,7 @@ fn appends_restarts<M: Medium>(medium: &mut M, line: &mut Vec<u8>, below: u32) -
         if epoch >= below {
             return true;
         }
-        if append_record(line, medium, &Record::Restart { epoch }) != Ok(Ok(())) {
+        if append_piece(line, medium, &Record::Restart { epoch }, None) != Ok(Ok(())) {
             return false;
         }
     }
