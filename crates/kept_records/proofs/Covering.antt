@@ -24,7 +24,7 @@ use Rattle.field_bounds.proofs.Parts.{shares_add_up}
 use Rattle.field_bounds.proofs.Sums.{sum_below-same, sum_below-zero, sum_below_bump, term_below}
 use Rattle.kept_records.specs.declared.record.Record.{Record}
 use Rattle.kept_records.specs.declared.record.Record.TheVariants.{Commit, Gift, Accept, Tighten, Restart, Summary}
-use Rattle.kept_records.specs.Summary.{SummaryValue}
+use Rattle.kept_records.specs.Summary.{SummaryValue, summary_told, summary_record}
 use Rattle.kept_records.specs.Stands.{greatest, given_in, accepted_in, cut_in, gained_in, spent_in, own_in, guarded_in, is_field, may_commit, room_in, may_follow, LawfulBehind, Lawful}
 use Rattle.kept_records.proofs.Pushes.{given_none, accepted_none, cut_none, committed_none, given_push, accepted_push, cut_push, committed_push, lawful_push}
 
@@ -206,12 +206,12 @@ module _ (schema : SchemaValue) (s : ℕ) (rs : List Record) where
   gained_restart epoch f k = let r : Record = Restart epoch in
       omega (arith, committed_push f (other k) rs r, accepted_still r f k (λ from. accepted_push from f k rs r))
 
-  pub spent_summary : (v : SummaryValue) (f : ℕ) (k : Kind) → spent_in schema (rs ++ Summary v ∷ []) f k ≡ spent_in schema rs f k
-  spent_summary v f k = let r : Record = Summary v in
+  pub spent_summary : (v : SummaryValue) (f : ℕ) (k : Kind) → spent_in schema (rs ++ summary_record v ∷ []) f k ≡ spent_in schema rs f k
+  spent_summary v f k = let r : Record = summary_record v in
       omega (arith, committed_push f k rs r, cut_push f k rs r, given_still r f k (λ to. given_push to f k rs r))
 
-  pub gained_summary : (v : SummaryValue) (f : ℕ) (k : Kind) → gained_in schema s (rs ++ Summary v ∷ []) f k ≡ gained_in schema s rs f k
-  gained_summary v f k = let r : Record = Summary v in
+  pub gained_summary : (v : SummaryValue) (f : ℕ) (k : Kind) → gained_in schema s (rs ++ summary_record v ∷ []) f k ≡ gained_in schema s rs f k
+  gained_summary v f k = let r : Record = summary_record v in
       omega (arith, committed_push f (other k) rs r, accepted_still r f k (λ from. accepted_push from f k rs r))
 
   -- ---- what a commit spends
@@ -312,7 +312,8 @@ module _ (schema : SchemaValue) (s : ℕ) (rs : List Record) (before : IsCovered
     spent_restart schema s rs epoch f k,
     gained_restart schema s rs epoch f k,
   )
-  covered_push (Summary v) may f k = omega (arith, before f k, spent_summary schema s rs v f k, gained_summary schema s rs v f k)
+  covered_push (Summary epoch rights gifts accepts tightenings) may f k =
+      let v = summary_told epoch rights gifts accepts tightenings in omega (arith, before f k, spent_summary schema s rs v f k, gained_summary schema s rs v f k)
 
 covered_behind : (schema : SchemaValue) (s : ℕ) (front rs : List Record) → IsCovered schema s front → LawfulBehind schema s front rs
     → IsCovered schema s (front ++ rs)
@@ -444,12 +445,12 @@ module _ (schema : SchemaValue) (s : ℕ) (rs : List Record) (lawful : Lawful sc
   )
 
   -- and a summary changes none
-  pub own_summary : (v : SummaryValue) → may_follow schema s rs (Summary v) ≡ true → (f : ℕ) (k : Kind)
-      → own_in schema s (rs ++ Summary v ∷ []) f k ≡ own_in schema s rs f k
+  pub own_summary : (v : SummaryValue) → may_follow schema s rs (summary_record v) ≡ true → (f : ℕ) (k : Kind)
+      → own_in schema s (rs ++ summary_record v ∷ []) f k ≡ own_in schema s rs f k
   own_summary v may f k = omega (
     arith,
     own_whole f k,
-    pushed (Summary v) may f k,
+    pushed (summary_record v) may f k,
     spent_summary schema s rs v f k,
     gained_summary schema s rs v f k,
   )
@@ -537,8 +538,9 @@ within_push schema s rs lawful before (Restart epoch) may f =
       cut_push f Lower rs r,
       cut_push f Raise rs r,
     )
-within_push schema s rs lawful before (Summary v) may f =
-    let r : Record = Summary v in
+within_push schema s rs lawful before (Summary epoch rights gifts accepts tightenings) may f =
+    let v = summary_told epoch rights gifts accepts tightenings in
+    let r : Record = summary_record v in
     omega (
       arith,
       before f,

@@ -8,7 +8,7 @@ use Rattle.std.proofs.lemmas.Option.{same_Some}
 use Rattle.line_words.specs.Words.{words}
 use Rattle.kept_records.specs.declared.record.Record.{Record}
 use Rattle.kept_records.specs.declared.record.Record.TheVariants.{Commit, Gift, Accept, Tighten, Restart, Summary}
-use Rattle.kept_records.specs.Summary.{SummaryValue}
+use Rattle.kept_records.specs.Summary.{SummaryValue, summary_told, summary_record}
 use Rattle.kept_records.specs.Text.{text, IsRecord}
 use Rattle.kept_records.specs.Reading.{record_of}
 use Rattle.kept_records.specs.Logs.{HasNoLf, IsLog}
@@ -62,23 +62,23 @@ fewer bytes new r is = omega (arith, ap length is, length-append (text r) new, l
 
 -- ---- bytes that start with a summary
 
-summary_starts : (v : SummaryValue) (more : List ℕ) → get_or (text (Summary v) ++ more) 0 0 ≡ 83
+summary_starts : (v : SummaryValue) (more : List ℕ) → get_or (text (summary_record v) ++ more) 0 0 ≡ 83
 summary_starts v more = refl
 
 -- bytes that start with another letter don't
-pub other_letter : (bytes : List ℕ) → get_or bytes 0 0 ≢ 83 → (v : SummaryValue) (more : List ℕ) → bytes ≡ text (Summary v) ++ more → ⊥
+pub other_letter : (bytes : List ℕ) → get_or bytes 0 0 ≢ 83 → (v : SummaryValue) (more : List ℕ) → bytes ≡ text (summary_record v) ++ more → ⊥
 other_letter bytes apart v more is = apart (ap (λ (l : List ℕ). get_or l 0 0) is ∙ summary_starts v more)
 
 -- nor do bytes in which no line ends
-pub no_line : (bytes : List ℕ) → HasNoLf bytes → (v : SummaryValue) (more : List ℕ) → bytes ≡ text (Summary v) ++ more → ⊥
+pub no_line : (bytes : List ℕ) → HasNoLf bytes → (v : SummaryValue) (more : List ℕ) → bytes ≡ text (summary_record v) ++ more → ⊥
 no_line bytes none v more is =
-    let t : list_any (λ x. eqb x 10) bytes ≡ true = ap (list_any (λ x. eqb x 10)) is ∙ has_lf (Summary v) more in
+    let t : list_any (λ x. eqb x 10) bytes ≡ true = ap (list_any (λ x. eqb x 10)) is ∙ has_lf (summary_record v) more in
     let no : list_any (λ x. eqb x 10) bytes ≡ false = none in
     cc
 
 -- a record with a summary's letter is one
 pub is_one : (r : Record) (more : List ℕ) → get_or (text r ++ more) 0 0 ≡ 83 → is_summary r ≡ true
-is_one (Summary v) more is = refl
+is_one (Summary epoch rights gifts accepts tightenings) more is = refl
 is_one (Commit txn es) more is = let e : 67 ≡ 83 = is in absurd (omega (arith, e))
 is_one (Gift to f k t) more is = let e : 71 ≡ 83 = is in absurd (omega (arith, e))
 is_one (Accept from f k t) more is = let e : 65 ≡ 83 = is in absurd (omega (arith, e))
@@ -106,9 +106,9 @@ shifted front bytes j line =
     }
 
 -- a summary behind a record starts such a line
-summary_line : (r : Record) (v : SummaryValue) (more : List ℕ) → IsSummaryLine (text r ++ (text (Summary v) ++ more)) (length (text r))
+summary_line : (r : Record) (v : SummaryValue) (more : List ℕ) → IsSummaryLine (text r ++ (text (summary_record v) ++ more)) (length (text r))
 summary_line r v more =
-    let next = text (Summary v) ++ more in
+    let next = text (summary_record v) ++ more in
     let size : length (text r) ≡ length (body r) + 1 = length-append (body r) (10 ∷ []) in
     let before : length (text r) - 1 ≡ length (body r) = omega (arith, size) in
     let here : length (text r) + 0 ≡ length (text r) = omega arith in
@@ -117,18 +117,19 @@ summary_line r v more =
       within = omega (
         arith,
         length-append (text r) next,
-        length-append (text (Summary v)) more,
-        length-append (body (Summary v)) (10 ∷ []),
+        length-append (text (summary_record v)) more,
+        length-append (body (summary_record v)) (10 ∷ []),
       );
       behind =
           ap (λ (i : ℕ). get_or (text r ++ next) i 0) before ∙ ap (λ (l : List ℕ). get_or l (length (body r)) 0) (regrouped r next)
           ∙ get_or-append_seam (body r) 10 next 0;
       letter = ap (λ (i : ℕ). get_or (text r ++ next) i 0) (sym here) ∙ get_or-append-add (text r) next 0 0 ∙ summary_starts v more;
-      ends = ap (list_any (λ x. eqb x 10)) (drop_at (text r) next (length (text r)) refl) ∙ has_lf (Summary v) more;
+      ends = ap (list_any (λ x. eqb x 10)) (drop_at (text r) next (length (text r)) refl) ∙ has_lf (summary_record v) more;
     }
 
 plain_next : (r q : Record) (more : List ℕ) → NoSummaryLine (text r ++ (text q ++ more)) → is_summary q ≡ false
-plain_next r (Summary v) more none = absurd (none (length (text r)) (summary_line r v more))
+plain_next r (Summary epoch rights gifts accepts tightenings) more none =
+    absurd (none (length (text r)) (summary_line r (summary_told epoch rights gifts accepts tightenings) more))
 plain_next r (Commit txn es) more none = refl
 plain_next r (Gift to f k t) more none = refl
 plain_next r (Accept from f k t) more none = refl
@@ -173,8 +174,8 @@ handed_left bytes left None n handed size =
     let none : n ≡ 0 = omega (arith, size, ap length handed.1) in
     (handed.0, ap (λ (i : ℕ). drop i bytes) none)
 handed_left bytes left (Some v) n handed size =
-    (handed.0 ∙ ap (λ (l : List ℕ). text (Summary v) ++ l) (sym (left_behind bytes (text (Summary v)) left n handed.0 size)), handed.1)
+    (handed.0 ∙ ap (λ (l : List ℕ). text (summary_record v) ++ l) (sym (left_behind bytes (text (summary_record v)) left n handed.0 size)), handed.1)
 
 pub left_within : (bytes left : List ℕ) (summary : Option SummaryValue) → HandsSummary bytes summary left → length left ≤ length bytes
 left_within bytes left None handed = omega (arith, ap length handed.1)
-left_within bytes left (Some v) handed = omega (arith, fewer bytes left (Summary v) handed.0)
+left_within bytes left (Some v) handed = omega (arith, fewer bytes left (summary_record v) handed.0)

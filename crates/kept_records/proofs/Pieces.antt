@@ -5,8 +5,7 @@ use Rattle.std.proofs.lemmas.Bool.{cases_lt}
 use Rattle.std.proofs.lemmas.List.{take-append-le, append-nil}
 use Rattle.std.proofs.Math.Seq.{take-append-add}
 use Rattle.kept_records.specs.declared.record.Record.{Record}
-use Rattle.kept_records.specs.declared.record.Record.TheVariants.{Summary}
-use Rattle.kept_records.specs.Summary.{SummaryValue}
+use Rattle.kept_records.specs.Summary.{SummaryValue, summary_record}
 use Rattle.kept_records.specs.Text.{text, IsRecord}
 use Rattle.kept_records.specs.Logs.{IsLog}
 use Rattle.kept_records.specs.Keeping.{with_due}
@@ -90,5 +89,5 @@ leaves_front bytes rs (r ∷ ps) k log fits = elim (cases_lt k (length (text r))
 pub one_text : (r : Record) → flat_map text (with_due r None) ≡ text r
 one_text r = append-nil (text r)
 
-pub two_texts : (r : Record) (v : SummaryValue) → flat_map text (with_due r (Some v)) ≡ text r ++ text (Summary v)
-two_texts r v = ap (λ (x : List ℕ). text r ++ x) (append-nil (text (Summary v)))
+pub two_texts : (r : Record) (v : SummaryValue) → flat_map text (with_due r (Some v)) ≡ text r ++ text (summary_record v)
+two_texts r v = ap (λ (x : List ℕ). text r ++ x) (append-nil (text (summary_record v)))

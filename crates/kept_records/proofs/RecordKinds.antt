@@ -19,7 +19,7 @@ use Rattle.kept_records.specs.declared.record.Record.TheVariants.{Commit, Gift, 
 use Rattle.kept_records.specs.declared.total.Total.{Total}
 use Rattle.kept_records.specs.declared.total.Cut.{Cut}
 use Rattle.kept_records.specs.Text.{letter_of, words_of, kind_word, escrow_words, total_words, cut_words, rights_words, group_words, cuts_words, summary_words, max_place, IsChange, IsEscrow, IsTotal, AreRights, IsListed, IsListedCut, IsSummary, IsRecord}
-use Rattle.kept_records.specs.Summary.{SummaryValue, rises, cuts_rise}
+use Rattle.kept_records.specs.Summary.{SummaryValue, summary_told, summary_record, rises, cuts_rise}
 use Rattle.kept_records.specs.Reading.{number_within, change_of, kind_of, total_from, gift_from, accept_from, cut_from, tighten_from, restart_from, escrows_from, commit_from, rights_from, groups_from, summary_from, word_is, is_none_of, is_next_accept, is_next_gift, letter_at, record_from, record_of}
 use Rattle.kept_records.proofs.OneWord.{number_law, change_law, kind_law, letter_word}
 
@@ -498,7 +498,7 @@ all_rise groups = rises groups.0 && rises groups.1 && cuts_rise groups.2
 abbrev summary_then : ℕ → List (ℕ × ℕ) → Groups → Option Record
 summary_then epoch rights groups =
     cond (all_rise groups)
-    (Some (Summary (record { epoch = epoch; rights = rights; gifts = groups.0; accepts = groups.1; tightenings = groups.2 }))) None
+    (Some (Summary epoch rights groups.0 groups.1 groups.2)) None
 
 summary_takes : (ws : List (List ℕ)) (r : Record) → summary_from ws ≡ Some r → Spells 83 ws r
 unfolding summary_from
@@ -515,7 +515,7 @@ summary_takes ws r e =
     let rows = rights_take count [] bs c.0.0 c.0.1 c.1 in
     let told = groups_take [] [] [] c.0.1 d.0 d.1 in
     let v : SummaryValue = record { epoch = epoch; rights = c.0.0; gifts = d.0.0; accepts = d.0.1; tightenings = d.0.2 } in
-    let all : Record = Summary v in
+    let all : Record = summary_record v in
     let h = cond_some (all_rise d.0) all r d.2 in
     let rise = three_parts (rises d.0.0) (rises d.0.1) (cuts_rise d.0.2) h.0 in
     let rights-are : c.0.0 ≡ rows.more = rows.parts in
@@ -547,7 +547,7 @@ summary_takes ws r e =
     } in
     subst (Spells 83 ws) h.1 (refl, sym is, fits)))
 
-summary_again : (v : SummaryValue) → IsSummary v → summary_from (summary_words v) ≡ Some (Summary v)
+summary_again : (v : SummaryValue) → IsSummary v → summary_from (summary_words v) ≡ Some (summary_record v)
 unfolding summary_from
 summary_again v fits =
     let behind = groups_words v.gifts v.accepts v.tightenings in
@@ -606,7 +606,7 @@ record_again (Gift to f k n) fits = gift_again (record { site = to; field = f; k
 record_again (Accept from f k n) fits = accept_again (record { site = from; field = f; kind = k; total = n }) fits
 record_again (Tighten f k n) fits = tighten_again (record { field = f; kind = k; total = n }) fits
 record_again (Restart epoch) fits = restart_again epoch fits
-record_again (Summary v) fits = summary_again v fits
+record_again (Summary epoch rights gifts accepts tightenings) fits = summary_again (summary_told epoch rights gifts accepts tightenings) fits
 
 -- ---- the words of a record can be seen
 
@@ -657,6 +657,22 @@ cuts_plain (t ∷ ts) fits = (
   words_append (words_of_cut t) (cuts_words ts) (cut_plain t fits.0) (cuts_plain ts fits.1),
 )
 
+summary_plain : (v : SummaryValue) → IsSummary v → AllByRecursion IsWord ((83 ∷ []) ∷ summary_words v)
+summary_plain v fits = (
+  letter_word 83 (omega arith) (omega arith),
+  (
+    (number_law 0 max_epoch (omega arith)).plain v.epoch (omega arith, fits.epoch),
+    (
+      (number_law 1 max_fields (omega arith)).plain (length v.rights) (omega (arith, fits.some), fits.few),
+      words_append (rights_words v.rights) (groups_words v.gifts v.accepts v.tightenings) (rights_plain v.rights fits.rights)
+          (words_append (group_words 103 v.gifts) (group_words 97 v.accepts ++ cuts_words v.tightenings)
+          (group_plain 103 v.gifts (omega arith) (omega arith) fits.gifts)
+          (words_append (group_words 97 v.accepts) (cuts_words v.tightenings)
+          (group_plain 97 v.accepts (omega arith) (omega arith) fits.accepts) (cuts_plain v.tightenings fits.tightenings))),
+    ),
+  ),
+)
+
 pub words_plain : (r : Record) → IsRecord r → AllByRecursion IsWord ((letter_of r ∷ []) ∷ words_of r)
 words_plain (Commit txn es) fits = (
   letter_word 67 (omega arith) (omega arith),
@@ -678,17 +694,4 @@ words_plain (Restart epoch) fits = (
   letter_word 82 (omega arith) (omega arith),
   ((number_law 1 max_epoch (omega arith)).plain epoch (omega (arith, fits.0), fits.1), tt),
 )
-words_plain (Summary v) fits = (
-  letter_word 83 (omega arith) (omega arith),
-  (
-    (number_law 0 max_epoch (omega arith)).plain v.epoch (omega arith, fits.epoch),
-    (
-      (number_law 1 max_fields (omega arith)).plain (length v.rights) (omega (arith, fits.some), fits.few),
-      words_append (rights_words v.rights) (groups_words v.gifts v.accepts v.tightenings) (rights_plain v.rights fits.rights)
-          (words_append (group_words 103 v.gifts) (group_words 97 v.accepts ++ cuts_words v.tightenings)
-          (group_plain 103 v.gifts (omega arith) (omega arith) fits.gifts)
-          (words_append (group_words 97 v.accepts) (cuts_words v.tightenings)
-          (group_plain 97 v.accepts (omega arith) (omega arith) fits.accepts) (cuts_plain v.tightenings fits.tightenings))),
-    ),
-  ),
-)
+words_plain (Summary epoch rights gifts accepts tightenings) fits = summary_plain (summary_told epoch rights gifts accepts tightenings) fits

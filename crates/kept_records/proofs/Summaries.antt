@@ -15,7 +15,7 @@ use Rattle.kept_records.specs.declared.record.Record.{Record}
 use Rattle.kept_records.specs.declared.record.Record.TheVariants.{Commit, Gift, Accept, Tighten, Restart, Summary}
 use Rattle.kept_records.specs.declared.total.Total.{Total}
 use Rattle.kept_records.specs.declared.total.Cut.{Cut}
-use Rattle.kept_records.specs.Summary.{SummaryValue, one_total, totals_of_site, totals_of, one_cut, cuts_of, rights_of, same_rights, same_totals, same_cuts, same_summary}
+use Rattle.kept_records.specs.Summary.{SummaryValue, summary_told, summary_record, one_total, totals_of_site, totals_of, one_cut, cuts_of, rights_of, same_rights, same_totals, same_cuts, same_summary}
 use Rattle.kept_records.specs.Stands.{later, greatest, given_more, given_in, accepted_more, accepted_in, cut_more, cut_in, commits, committed_in, own_in, may_commit, may_follow, is_summary, plain, count_behind, since_summary, summary_of, piece, max_behind, LawfulBehind, Lawful}
 use Rattle.kept_records.specs.Summaries.{SameSums}
 use Rattle.kept_records.proofs.Pushes.{lawful_push}
@@ -41,10 +41,10 @@ same_push as1 bs r h =
     }
 
 -- a summary more on one side
-pub same_summary_push : (as1 bs : List Record) (v : SummaryValue) → SameSums as1 bs → SameSums (as1 ++ Summary v ∷ []) bs
+pub same_summary_push : (as1 bs : List Record) (v : SummaryValue) → SameSums as1 bs → SameSums (as1 ++ summary_record v ∷ []) bs
 unfolding greatest given_in accepted_in cut_in committed_in
 same_summary_push as1 bs v h =
-    let r : Record = Summary v in
+    let r : Record = summary_record v in
     record {
       epoch = fold_push later 0 as1 r ∙ h.epoch;
       given = λ to f k. fold_push (given_more to f k) 0 as1 r ∙ h.given to f k;
@@ -133,7 +133,8 @@ may_same schema s as1 bs h (Accept from field kind total) =
     ) refl
 may_same schema s as1 bs h (Tighten field kind total) = rw (h.cut field.0 kind, own_same schema s as1 bs h field.0 kind) refl
 may_same schema s as1 bs h (Restart epoch) = rw h.epoch refl
-may_same schema s as1 bs h (Summary v) = ap (λ (x : SummaryValue). same_summary v x) (summary_same schema s as1 bs h)
+may_same schema s as1 bs h (Summary epoch rights gifts accepts tightenings) =
+    ap (λ (x : SummaryValue). same_summary (summary_told epoch rights gifts accepts tightenings) x) (summary_same schema s as1 bs h)
 
 -- ---- records without their summaries
 
@@ -143,10 +144,13 @@ plain_keeps front rs r is = rw is (sym (append_assoc front (r ∷ []) (plain rs)
 plain_sums : (as1 bs rs : List Record) → SameSums as1 bs → SameSums (as1 ++ plain rs) (bs ++ rs)
 plain_sums as1 bs [] h = subst (λ (x : List Record). SameSums x (bs ++ [])) (sym (append-nil as1))
     (subst (λ (x : List Record). SameSums as1 x) (sym (append-nil bs)) h)
-plain_sums as1 bs (Summary v ∷ rs) h =
-    subst (λ (x : List Record). SameSums (as1 ++ plain rs) x) (append_assoc bs (Summary v ∷ []) rs)
-    (plain_sums as1 (bs ++ Summary v ∷ []) rs (turned (same_summary_push bs as1 v (turned h))))
+plain_sums as1 bs (Summary epoch rights gifts accepts tightenings ∷ rs) h =
+    subst (λ (x : List Record). SameSums (as1 ++ plain rs) x) (append_assoc bs (summary_record v ∷ []) rs)
+    (plain_sums as1 (bs ++ summary_record v ∷ []) rs (turned (same_summary_push bs as1 v (turned h))))
   where
+    v : SummaryValue
+    v = summary_told epoch rights gifts accepts tightenings
+
     turned : {x y : List Record} → SameSums x y → SameSums y x
     turned h = record {
       epoch = sym h.epoch;
@@ -168,9 +172,12 @@ plain_same rs = plain_sums [] [] rs (same_sums [])
 plain_behind : (schema : SchemaValue) (s : ℕ) (as1 bs rs : List Record) → SameSums as1 bs → LawfulBehind schema s bs rs
     → LawfulBehind schema s as1 (plain rs)
 plain_behind schema s as1 bs [] h lawful = tt
-plain_behind schema s as1 bs (Summary v ∷ rs) h lawful =
-    plain_behind schema s as1 (bs ++ Summary v ∷ []) rs (turned (same_summary_push bs as1 v (turned h))) lawful.1
+plain_behind schema s as1 bs (Summary epoch rights gifts accepts tightenings ∷ rs) h lawful =
+    plain_behind schema s as1 (bs ++ summary_record v ∷ []) rs (turned (same_summary_push bs as1 v (turned h))) lawful.1
   where
+    v : SummaryValue
+    v = summary_told epoch rights gifts accepts tightenings
+
     turned : {x y : List Record} → SameSums x y → SameSums y x
     turned h = record {
       epoch = sym h.epoch;
@@ -226,7 +233,7 @@ pub piece_lawful : (schema : SchemaValue) (s : ℕ) (rs : List Record) (r : Reco
 piece_lawful schema s rs r lawful may = by (nat_le max_behind (since_summary rs + 1))
   where
     all : Record
-    all = Summary (summary_of schema s (rs ++ r ∷ []))
+    all = summary_record (summary_of schema s (rs ++ r ∷ []))
 
     one : Lawful schema s (rs ++ r ∷ [])
     one = lawful_push schema s rs r lawful may
@@ -244,7 +251,7 @@ unfolding since_summary
 since_push rs r = fold_push count_behind 0 rs r
 
 count_more : (n : ℕ) (r : Record) → count_behind n r ≤ n + 1
-count_more n (Summary v) = omega arith
+count_more n (Summary epoch rights gifts accepts tightenings) = omega arith
 count_more n (Commit txn es) = omega arith
 count_more n (Gift to f k t) = omega arith
 count_more n (Accept from f k t) = omega arith
@@ -259,7 +266,7 @@ pub piece_bounds : (schema : SchemaValue) (s : ℕ) (rs : List Record) (r : Reco
 piece_bounds schema s rs r = by (nat_le max_behind (since_summary rs + 1)) refl
   where
     all : Record
-    all = Summary (summary_of schema s (rs ++ r ∷ []))
+    all = summary_record (summary_of schema s (rs ++ r ∷ []))
 
     by : (due : Bool) → nat_le max_behind (since_summary rs + 1) ≡ due → since_summary (rs ++ r ∷ (cond due (all ∷ []) [])) < max_behind
     by false is = omega (arith, since_one rs r, leb-false _ _ is)

@@ -13,10 +13,9 @@ use Rattle.field_bounds.specs.Kind.{same_kind}
 use Rattle.field_bounds.specs.Schema.{SchemaValue}
 use Rattle.field_bounds.proofs.Lawful.{same_kind-true}
 use Rattle.kept_records.specs.declared.record.Record.{Record}
-use Rattle.kept_records.specs.declared.record.Record.TheVariants.{Summary}
 use Rattle.kept_records.specs.declared.total.Total.{Total}
 use Rattle.kept_records.specs.declared.total.Cut.{Cut}
-use Rattle.kept_records.specs.Summary.{SummaryValue, one_total, totals_of_site, totals_of, rights_of, one_cut, cuts_of, same_rights, same_totals, same_cuts, same_summary, rights_told, told_more, total_told, cut_told_more, cut_told}
+use Rattle.kept_records.specs.Summary.{SummaryValue, summary_record, one_total, totals_of_site, totals_of, rights_of, one_cut, cuts_of, same_rights, same_totals, same_cuts, same_summary, rights_told, told_more, total_told, cut_told_more, cut_told}
 use Rattle.kept_records.specs.Text.{IsSummary, IsRecord}
 use Rattle.kept_records.specs.Stands.{given_in, accepted_in, cut_in, own_in, may_follow, summary_of}
 use Rattle.kept_records.specs.Summaries.{SameSums, IsWhereDue, TellsOf}
@@ -369,16 +368,16 @@ summary_tells schema s rs =
     }
 
 -- a summary that may stand behind records tells what they stand for, and so what they and itself stand for
-pub lawful_tells : (schema : SchemaValue) (s : ℕ) (rs : List Record) (v : SummaryValue) → may_follow schema s rs (Summary v) ≡ true
-    → TellsOf schema s v (rs ++ Summary v ∷ [])
+pub lawful_tells : (schema : SchemaValue) (s : ℕ) (rs : List Record) (v : SummaryValue) → may_follow schema s rs (summary_record v) ≡ true
+    → TellsOf schema s v (rs ++ summary_record v ∷ [])
 lawful_tells schema s rs v may =
     let before : TellsOf schema s v rs = subst (λ (x : SummaryValue). TellsOf schema s x rs)
     (sym (summary_equal v (summary_of schema s rs) may)) (summary_tells schema s rs) in
-    let same : SameSums (rs ++ Summary v ∷ []) rs = same_summary_push rs rs v (same_sums rs) in
+    let same : SameSums (rs ++ summary_record v ∷ []) rs = same_summary_push rs rs v (same_sums rs) in
     record {
       epoch = before.epoch ∙ sym same.epoch;
       count = before.count;
-      rights = λ f k below. before.rights f k below ∙ sym (own_same schema s (rs ++ Summary v ∷ []) rs same f k);
+      rights = λ f k below. before.rights f k below ∙ sym (own_same schema s (rs ++ summary_record v ∷ []) rs same f k);
       given = λ r f k site_in other field_in. before.given r f k site_in other field_in ∙ sym (same.given r f k);
       accepted = λ r f k site_in other field_in. before.accepted r f k site_in other field_in ∙ sym (same.accepted r f k);
       cut = λ f k below. before.cut f k below ∙ sym (same.cut f k);
@@ -387,5 +386,5 @@ lawful_tells schema s rs v may =
     }
 
 -- a summary that is a record is in its ranges (with the text of summaries this is the identity)
-pub summary_fits : (v : SummaryValue) → IsRecord (Summary v) → IsSummary v
+pub summary_fits : (v : SummaryValue) → IsRecord (summary_record v) → IsSummary v
 summary_fits v fits = fits

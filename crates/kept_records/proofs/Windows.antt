@@ -16,7 +16,7 @@ use Rattle.std.proofs.lemmas.List.Concat.{flat_map-append}
 use Rattle.kept_records.specs.Medium.{last_bytes}
 use Rattle.kept_records.specs.Stands.{is_summary}
 use Rattle.kept_records.specs.Cursor.{HandsSummary}
-use Rattle.kept_records.specs.Summary.{SummaryValue}
+use Rattle.kept_records.specs.Summary.{SummaryValue, summary_told, summary_record}
 use Rattle.kept_records.specs.ReadingBack.{told_length, PartsAt, AreBehind, HoldsLast, AreLast, IsWhole, IsSummaryLine, IsLastLine}
 use Rattle.kept_records.proofs.Bytes.{Without, one_cut, has_it}
 use Rattle.kept_records.proofs.Lines.{body, body_without, first_text, same_log}
@@ -180,14 +180,15 @@ slice_all start window = take_all (length window - start) (drop start window) (o
 -- ---- the last summary, and what stands behind it
 
 starts_none : (records : List Record) (bytes rest : List ℕ) → IsLog bytes records rest
-    → ((v : SummaryValue) (more : List ℕ) → bytes ≡ text (Summary v) ++ more → ⊥) → StartsWithSummary records → ⊥
+    → ((v : SummaryValue) (more : List ℕ) → bytes ≡ text (summary_record v) ++ more → ⊥) → StartsWithSummary records → ⊥
 starts_none [] bytes rest log none is = is
 starts_none (r ∷ rs) bytes rest log none is = plain_first r rs bytes rest
     (log.parts ∙ append_assoc (text r) (flat_map text rs) rest) none is
   where
     plain_first : (r : Record) (rs : List Record) (bytes rest : List ℕ) → bytes ≡ text r ++ (flat_map text rs ++ rest)
-        → ((v : SummaryValue) (more : List ℕ) → bytes ≡ text (Summary v) ++ more → ⊥) → is_summary r ≡ true → ⊥
-    plain_first (Summary v) rs bytes rest is none on = none v (flat_map text rs ++ rest) is
+        → ((v : SummaryValue) (more : List ℕ) → bytes ≡ text (summary_record v) ++ more → ⊥) → is_summary r ≡ true → ⊥
+    plain_first (Summary epoch rights gifts accepts tightenings) rs bytes rest is none on =
+        none (summary_told epoch rights gifts accepts tightenings) (flat_map text rs ++ rest) is
     plain_first (Commit txn es) rs bytes rest is none on = cc
     plain_first (Gift to f k t) rs bytes rest is none on = cc
     plain_first (Accept from f k t) rs bytes rest is none on = cc
@@ -222,14 +223,14 @@ holds rs rest bytes lines None from none handed =
       log = subst (λ (l : List ℕ). IsLog l from.records rest) (sym handed.1) from.log;
     }
 holds rs rest bytes lines (Some v) from none handed =
-    let next = next_in bytes from.records rest (Summary v) lines from.log handed.0 handed.1 in
+    let next = next_in bytes from.records rest (summary_record v) lines from.log handed.0 handed.1 in
     record {
       found = next.more;
       last = record {
         before = from.before;
         parts = from.parts ∙ ap (λ (x : List Record). from.before ++ x) next.parts;
         all = λ same. cc;
-        plain = plain_after bytes (Summary v) next.more rest (subst (λ (x : List Record). IsLog bytes x rest) next.parts from.log) none;
+        plain = plain_after bytes (summary_record v) next.more rest (subst (λ (x : List Record). IsLog bytes x rest) next.parts from.log) none;
       };
       log = next.log;
     }

@@ -4,7 +4,7 @@ use Rattle.kept_records.specs.declared.medium.Mishap.{Mishap}
 use Rattle.kept_records.specs.declared.medium.Mishap.TheVariants.{Never, Append, Cut, Read}
 use Rattle.kept_records.specs.declared.record.Record.{Record}
 use Rattle.kept_records.specs.declared.record.Record.TheVariants.{Commit, Gift, Accept, Tighten, Restart, Summary}
-use Rattle.kept_records.specs.Summary.{SummaryValue}
+use Rattle.kept_records.specs.Summary.{SummaryValue, summary_record}
 use Rattle.kept_records.specs.Medium.{IsCutShort}
 use Rattle.kept_records.specs.Logs.{IsLog}
 
@@ -17,7 +17,7 @@ IsKept bytes = (rs : List Record) × (rest : List ℕ) × IsLog bytes rs rest
 -- A record, and the summary behind it where one is due: they are added in one piece.
 abbrev pub with_due : Record → Option SummaryValue → List Record
 with_due r None = r ∷ []
-with_due r (Some v) = r ∷ Summary v ∷ []
+with_due r (Some v) = r ∷ summary_record v ∷ []
 
 -- A line was added whole, or the device failed and left some front of it.
 abbrev pub Appends : {T E : Type 0} → Result T E → List ℕ → List ℕ → List ℕ → ℕ → ℕ → Type 0
@@ -56,7 +56,7 @@ is_restart (Gift to field kind total) = false
 is_restart (Accept from field kind total) = false
 is_restart (Tighten field kind total) = false
 is_restart (Restart epoch) = true
-is_restart (Summary v) = false
+is_restart (Summary epoch rights gifts accepts tightenings) = false
 
 abbrev pub starts_with_no_restart : List Record → Bool
 starts_with_no_restart [] = false

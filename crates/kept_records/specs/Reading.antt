@@ -163,7 +163,7 @@ summary_from ws = do
   rights ← rights_from count.0 [] count.1
   groups ← groups_from [] [] [] rights.1
   if rises groups.0 && rises groups.1 && cuts_rise groups.2
-      then Some (Summary (record { epoch = epoch.0; rights = rights.0; gifts = groups.0; accepts = groups.1; tightenings = groups.2 }))
+      then Some (Summary epoch.0 rights.0 groups.0 groups.1 groups.2)
       else None
 
 -- ---- a line

@@ -3,9 +3,8 @@ use Rattle.std.specs.Prelude.{◌≡◌, ℕ, ◌-◌, ◌^◌, ◌<◌, ◌≤�
 use Rattle.std.specs.List.{flat_map, list_any, AllByRecursion}
 use Rattle.kept_records.specs.declared.medium.End.{End}
 use Rattle.kept_records.specs.declared.record.Record.{Record}
-use Rattle.kept_records.specs.declared.record.Record.TheVariants.{Summary}
 use Rattle.kept_records.specs.declared.reading_back.ReadBack.{ReadBack}
-use Rattle.kept_records.specs.Summary.{SummaryValue}
+use Rattle.kept_records.specs.Summary.{SummaryValue, summary_record}
 use Rattle.kept_records.specs.Text.{text}
 use Rattle.kept_records.specs.Logs.{IsLog}
 use Rattle.kept_records.specs.Medium.{last_bytes}
@@ -32,7 +31,7 @@ AreBehind bytes place found =
 -- These records, behind the summary where there is one.
 abbrev pub with_summary : Option SummaryValue → List Record → List Record
 with_summary None rs = rs
-with_summary (Some v) rs = Summary v ∷ rs
+with_summary (Some v) rs = summary_record v ∷ rs
 
 -- This is the last summary among the records, and these stand behind it; or they are all, and there is none.
 pub record IsLast (rs : List Record) (summary : Option SummaryValue) (found : List Record) : Type 0 where

@@ -10,7 +10,7 @@ use Rattle.field_bounds.specs.Parts.{field_at, width_of, part_of, sum_below}
 use Rattle.field_bounds.specs.Effects.{Base, takes}
 use Rattle.kept_records.specs.declared.record.Record.{Record}
 use Rattle.kept_records.specs.declared.record.Record.TheVariants.{Commit, Gift, Accept, Tighten, Restart, Summary}
-use Rattle.kept_records.specs.Summary.{SummaryValue, totals_of, cuts_of, rights_of, same_summary}
+use Rattle.kept_records.specs.Summary.{SummaryValue, summary_told, summary_record, totals_of, cuts_of, rights_of, same_summary}
 
 -- ---- what records stand for
 
@@ -21,7 +21,7 @@ later epoch (Gift to field kind total) = epoch
 later epoch (Accept from field kind total) = epoch
 later epoch (Tighten field kind total) = epoch
 later epoch (Restart new) = max epoch new
-later epoch (Summary v) = epoch
+later epoch (Summary told rights gifts accepts tightenings) = epoch
 
 unfoldable pub greatest : List Record → ℕ
 greatest rs = fold later 0 rs
@@ -34,7 +34,7 @@ given_more to f k n (Gift site field kind total) =
 given_more to f k n (Accept site field kind total) = n
 given_more to f k n (Tighten field kind total) = n
 given_more to f k n (Restart epoch) = n
-given_more to f k n (Summary v) = n
+given_more to f k n (Summary epoch rights gifts accepts tightenings) = n
 
 unfoldable pub given_in : List Record → ℕ → ℕ → Kind → ℕ
 given_in rs to f k = fold (given_more to f k) 0 rs
@@ -47,7 +47,7 @@ accepted_more from f k n (Accept site field kind total) =
     if (field.0 == f) && same_kind kind k && (site.0 == from) then max total n else n
 accepted_more from f k n (Tighten field kind total) = n
 accepted_more from f k n (Restart epoch) = n
-accepted_more from f k n (Summary v) = n
+accepted_more from f k n (Summary epoch rights gifts accepts tightenings) = n
 
 unfoldable pub accepted_in : List Record → ℕ → ℕ → Kind → ℕ
 accepted_in rs from f k = fold (accepted_more from f k) 0 rs
@@ -59,7 +59,7 @@ cut_more f k n (Gift to field kind total) = n
 cut_more f k n (Accept from field kind total) = n
 cut_more f k n (Tighten field kind total) = if (field.0 == f) && same_kind kind k then max total n else n
 cut_more f k n (Restart epoch) = n
-cut_more f k n (Summary v) = n
+cut_more f k n (Summary epoch rights gifts accepts tightenings) = n
 
 unfoldable pub cut_in : List Record → ℕ → Kind → ℕ
 cut_in rs f k = fold (cut_more f k) 0 rs
@@ -71,7 +71,7 @@ commits f k (Gift to field kind total) = 0
 commits f k (Accept from field kind total) = 0
 commits f k (Tighten field kind total) = 0
 commits f k (Restart epoch) = 0
-commits f k (Summary v) = 0
+commits f k (Summary epoch rights gifts accepts tightenings) = 0
 
 unfoldable pub committed_in : ℕ → Kind → List Record → ℕ
 committed_in f k rs = sum_by (commits f k) rs
@@ -154,7 +154,8 @@ may_follow schema s rs (Tighten field kind total) =
     && nat_lt (cut_in rs field.0 kind) total
     && nat_le (total - cut_in rs field.0 kind) (own_in schema s rs field.0 kind)
 may_follow schema s rs (Restart epoch) = nat_lt (greatest rs) epoch
-may_follow schema s rs (Summary v) = same_summary v (summary_of schema s rs)
+may_follow schema s rs (Summary epoch rights gifts accepts tightenings) =
+    same_summary (summary_told epoch rights gifts accepts tightenings) (summary_of schema s rs)
 
 -- Each of these records may stand behind those before it.
 abbrev pub LawfulBehind : SchemaValue → ℕ → List Record → List Record → Type 0
@@ -182,7 +183,7 @@ is_summary (Gift to field kind total) = false
 is_summary (Accept from field kind total) = false
 is_summary (Tighten field kind total) = false
 is_summary (Restart epoch) = false
-is_summary (Summary v) = true
+is_summary (Summary epoch rights gifts accepts tightenings) = true
 
 -- The records that are no summaries.
 abbrev pub plain : List Record → List Record
@@ -202,4 +203,4 @@ max_behind = 1000
 -- What is appended for a record: itself, and the summary behind it where one is due.
 abbrev pub piece : SchemaValue → ℕ → List Record → Record → List Record
 piece schema s rs r =
-    r ∷ (if nat_le max_behind (since_summary rs + 1) then Summary (summary_of schema s (rs ++ r ∷ [])) ∷ [] else [])
+    r ∷ (if nat_le max_behind (since_summary rs + 1) then summary_record (summary_of schema s (rs ++ r ∷ [])) ∷ [] else [])

@@ -5,6 +5,8 @@ use Rattle.field_bounds.specs.declared.kind.Kind.TheVariants.{Lower, Raise}
 use Rattle.field_bounds.specs.Kind.{same_kind}
 use Rattle.kept_records.specs.declared.total.Total.{Total}
 use Rattle.kept_records.specs.declared.total.Cut.{Cut}
+use Rattle.kept_records.specs.declared.record.Record.{Record}
+use Rattle.kept_records.specs.declared.record.Record.TheVariants.{Summary}
 
 -- An epoch, the own rights field by field, and the totals given, accepted and given up for good.
 pub record SummaryValue : Type 0 where
@@ -13,6 +15,15 @@ pub record SummaryValue : Type 0 where
   pub gifts : List Total
   pub accepts : List Total
   pub tightenings : List Cut
+
+-- The same of these numbers.
+abbrev pub summary_told : ℕ → List (ℕ × ℕ) → List Total → List Total → List Cut → SummaryValue
+summary_told epoch rights gifts accepts tightenings =
+    record { epoch = epoch; rights = rights; gifts = gifts; accepts = accepts; tightenings = tightenings }
+
+-- The record that tells it.
+abbrev pub summary_record : SummaryValue → Record
+summary_record v = Summary v.epoch v.rights v.gifts v.accepts v.tightenings
 
 -- ---- totals in order
 

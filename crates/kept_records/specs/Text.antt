@@ -13,7 +13,7 @@ use Rattle.kept_records.specs.declared.record.Record.{Record}
 use Rattle.kept_records.specs.declared.record.Record.TheVariants.{Commit, Gift, Accept, Tighten, Restart, Summary}
 use Rattle.kept_records.specs.declared.total.Total.{Total}
 use Rattle.kept_records.specs.declared.total.Cut.{Cut}
-use Rattle.kept_records.specs.Summary.{SummaryValue, rises, cuts_rise}
+use Rattle.kept_records.specs.Summary.{SummaryValue, summary_told, rises, cuts_rise}
 use Rattle.line_words.specs.Words.{line}
 
 -- ---- the words of a record
@@ -65,7 +65,7 @@ letter_of (Gift to field kind total) = 71
 letter_of (Accept from field kind total) = 65
 letter_of (Tighten field kind total) = 84
 letter_of (Restart epoch) = 82
-letter_of (Summary v) = 83
+letter_of (Summary epoch rights gifts accepts tightenings) = 83
 
 -- The words behind the letter.
 abbrev pub words_of : Record → List (List ℕ)
@@ -74,7 +74,7 @@ words_of (Gift to field kind total) = total_words to field kind total
 words_of (Accept from field kind total) = total_words from field kind total
 words_of (Tighten field kind total) = cut_words field kind total
 words_of (Restart epoch) = decimal epoch ∷ []
-words_of (Summary v) = summary_words v
+words_of (Summary epoch rights gifts accepts tightenings) = summary_words (summary_told epoch rights gifts accepts tightenings)
 
 -- A record's line: its letter and its words, one space between them, and a line feed (10).
 abbrev pub text : Record → List ℕ
@@ -139,4 +139,4 @@ IsRecord (Gift to field kind total) = (to.0 ≤ max_place) × (field.0 ≤ max_p
 IsRecord (Accept from field kind total) = (from.0 ≤ max_place) × (field.0 ≤ max_place) × IsTotal total
 IsRecord (Tighten field kind total) = (field.0 ≤ max_place) × IsCut total
 IsRecord (Restart epoch) = (0 < epoch) × (epoch ≤ max_epoch)
-IsRecord (Summary v) = IsSummary v
+IsRecord (Summary epoch rights gifts accepts tightenings) = IsSummary (summary_told epoch rights gifts accepts tightenings)

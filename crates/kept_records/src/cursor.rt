@@ -84,7 +84,15 @@ impl<'a> Cursor<'a> {
             return Ok(None);
         }
         match self.next(alloc)? {
-            Some(Record::Summary(summary)) => Ok(Some(summary)),
+            Some(
+                Record::Summary {
+                    epoch,
+                    rights,
+                    gifts,
+                    accepts,
+                    tightenings,
+                },
+            ) => Ok(Some(Summary::new(epoch, rights, gifts, accepts, tightenings))),
             Some(_) => unreachable!(),
             None => Ok(None),
         }

@@ -128,6 +128,6 @@ fn is_restart(kept: &Record) -> bool
         | Record::Gift { .. }
         | Record::Accept { .. }
         | Record::Tighten { .. }
-        | Record::Summary(_) => false,
+        | Record::Summary { .. } => false,
     }
 }

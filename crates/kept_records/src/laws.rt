@@ -8,8 +8,7 @@ ghost use Rattle.field_bounds.specs.Schema.{SchemaValue};
 ghost use Rattle.kept_records.specs.Logs.{IsLog, Reads};
 ghost use Rattle.kept_records.specs.Stands.{may_follow, Lawful, plain, piece, since_summary, max_behind, own_in};
 ghost use Rattle.kept_records.specs.Summaries.{SameSums, LeavesPrefix, TellsOf};
-ghost use Rattle.kept_records.specs.Summary.{SummaryValue};
-ghost use Rattle.kept_records.specs.declared.record.Record.TheVariants.{Summary};
+ghost use Rattle.kept_records.specs.Summary.{SummaryValue, summary_record};
 ghost use Rattle.field_bounds.specs.declared.kind.Kind.{Kind};
 
 /// No record's text begins another record's text: where one does, the two records are the same one
@@ -87,5 +86,6 @@ pub fn torn_piece_leaves_a_front()
 /// to be read.
 pub fn summary_tells_what_stands()
     ensures tells { (schema : SchemaValue) (s : ℕ) (rs : List Record) (v : SummaryValue) →
-        may_follow schema s rs (Summary v) ≡ true → TellsOf schema s v (rs ++ Summary v ∷ []) }
+        may_follow schema s rs (summary_record v) ≡ true
+        → TellsOf schema s v (rs ++ summary_record v ∷ []) }
 {}

@@ -30,5 +30,5 @@ pub use reading_back::{LastLines, ReadBack, count_plain, read_back};
 pub use record::{Escrows, Record};
 pub use summary::Summary;
 pub use torn::TornMedium;
-pub use total::{Cut, Total};
+pub use total::{Cut, Cuts, OwnRights, Total, Totals};
 pub use writing::write_record;

@@ -204,7 +204,7 @@ fn is_summary(kept: &Record) -> bool
     ensures value { result ≡ is_summary kept.now }
 {
     match kept {
-        Record::Summary(_) => true,
+        Record::Summary { .. } => true,
         Record::Commit { .. }
         | Record::Gift { .. }
         | Record::Accept { .. }

@@ -2,7 +2,7 @@
 
 ghost use Rattle.std.specs.Prelude.{◌≡◌};
 
-use crate::summary::Summary;
+use crate::total::{Cuts, OwnRights, Totals};
 use field_bounds::{Escrow, FieldNo, Kind, SiteNo, TxnId};
 use std::marker::Model;
 
@@ -88,7 +88,16 @@ pub enum Record {
     Restart {
         epoch: u32,
     },
-    /// What the records before it stand for. It tells nothing new: a log stands for the same with
-    /// it and without it, and what it tells needn't be read again.
-    Summary(Summary),
+    /// What the records before it stand for: the epoch, 0 to 1,000,000,000, and the own rights of
+    /// each field, 1 to 256 of them, which together are at most 2,000,000,000,000,000 a field; the
+    /// totals given and accepted, which rise strictly by site, field and kind, and those given up
+    /// for good, which rise strictly by field and kind. It tells nothing new: a log stands for the
+    /// same with it and without it, and what it tells needn't be read again.
+    Summary {
+        epoch: u32,
+        rights: OwnRights,
+        gifts: Totals,
+        accepts: Totals,
+        tightenings: Cuts,
+    },
 }

@@ -1,21 +1,23 @@
-//! What the records before a place stand for, told in one record.
+//! What the records before a place stand for, as one value.
 
 ghost use Rattle.std.specs.Prelude.{◌≡◌};
+ghost use Rattle.kept_records.specs.Summary.{summary_told, summary_record};
 
-use crate::total::{Cut, Total};
+use crate::record::Record;
+use crate::total::{Cut, Cuts, OwnRights, Total, Totals};
 use std::marker::Model;
 
 /// What records stand for: the epoch, the own rights of each field, to lower and to raise it, and
 /// the totals given to and accepted from other sites that are above 0, each group rising strictly
 /// by site, field and kind, and the totals given up for good, rising strictly by field and kind.
-/// Contracts see lists.
+/// It is what a record tells that is a summary (`Record::Summary`). Contracts see lists.
 #[derive(Drop)]
 pub struct Summary {
     epoch: u32,
-    rights: Vec<(u64, u64)>,
-    gifts: Vec<Total>,
-    accepts: Vec<Total>,
-    tightenings: Vec<Cut>,
+    rights: OwnRights,
+    gifts: Totals,
+    accepts: Totals,
+    tightenings: Cuts,
 }
 
 impl Model for Summary {
@@ -25,29 +27,23 @@ impl Model for Summary {
 
     ghost view = { λ s. record {
       epoch = s.epoch;
-      rights = s.rights.items;
-      gifts = s.gifts.items;
-      accepts = s.accepts.items;
-      tightenings = s.tightenings.items;
+      rights = s.rights;
+      gifts = s.gifts;
+      accepts = s.accepts;
+      tightenings = s.tightenings;
     } };
 }
 
 impl Summary {
-    /// A summary of these numbers. Takes no memory.
+    /// A summary of these numbers, those of its record say. Takes no memory.
     pub fn new(
         epoch: u32,
-        rights: Vec<(u64, u64)>,
-        gifts: Vec<Total>,
-        accepts: Vec<Total>,
-        tightenings: Vec<Cut>,
+        rights: OwnRights,
+        gifts: Totals,
+        accepts: Totals,
+        tightenings: Cuts,
     ) -> Summary
-        ensures all { result ≡ record {
-          epoch = epoch;
-          rights = rights.items;
-          gifts = gifts.items;
-          accepts = accepts.items;
-          tightenings = tightenings.items;
-        } }
+        ensures all { result ≡ summary_told epoch rights gifts accepts tightenings }
     {
         Summary {
             epoch,
@@ -55,6 +51,19 @@ impl Summary {
             gifts,
             accepts,
             tightenings,
+        }
+    }
+
+    /// The record of the summary. Takes no memory.
+    pub fn into_record(self) -> Record
+        ensures all { result ≡ summary_record self }
+    {
+        Record::Summary {
+            epoch: self.epoch,
+            rights: self.rights,
+            gifts: self.gifts,
+            accepts: self.accepts,
+            tightenings: self.tightenings,
         }
     }
 
@@ -69,27 +78,27 @@ impl Summary {
     pub fn rights(&self) -> &[(u64, u64)]
         ensures all { result.now ≡ self.now.rights }
     {
-        &self.rights
+        self.rights.as_slice()
     }
 
     /// The totals that were given.
     pub fn gifts(&self) -> &[Total]
         ensures all { result.now ≡ self.now.gifts }
     {
-        &self.gifts
+        self.gifts.as_slice()
     }
 
     /// The totals that were accepted.
     pub fn accepts(&self) -> &[Total]
         ensures all { result.now ≡ self.now.accepts }
     {
-        &self.accepts
+        self.accepts.as_slice()
     }
 
     /// The totals that were given up for good.
     pub fn tightenings(&self) -> &[Cut]
         ensures all { result.now ≡ self.now.tightenings }
     {
-        &self.tightenings
+        self.tightenings.as_slice()
     }
 }

@@ -7,8 +7,7 @@ ghost use Rattle.kept_records.specs.Summary.{kind_number, is_before, is_cut_befo
 
 use crate::reading::{LineFault, MAX_PLACE, kind, number, take_number};
 use crate::record::Record;
-use crate::summary::Summary;
-use crate::total::{Cut, Total};
+use crate::total::{Cut, Cuts, OwnRights, Total, Totals};
 use field_bounds::{FieldNo, Kind, MAX_CHANGE, MAX_EPOCH, MAX_TOTAL, SiteNo};
 use line_words::Words;
 use std::alloc::Global;
@@ -17,26 +16,12 @@ use std::marker::Model;
 // The most fields of a summary, which is the most of a schema.
 const MAX_ROWS: u64 = 256;
 
-// Own rights, field by field. Contracts see the list.
-#[derive(Drop)]
-struct Rows {
-    held: Vec<(u64, u64)>,
-}
-
-impl Model for Rows {
-    ghost use Rattle.std.specs.Prelude.{List, ℕ};
-
-    ghost Value = { List (ℕ × ℕ) };
-
-    ghost view = { λ r. r.held.items };
-}
-
 // Totals given, accepted and given up. Contracts see the three lists.
 #[derive(Drop)]
 struct Groups {
-    gifts: Vec<Total>,
-    accepts: Vec<Total>,
-    tightenings: Vec<Cut>,
+    gifts: Totals,
+    accepts: Totals,
+    tightenings: Cuts,
 }
 
 impl Model for Groups {
@@ -46,11 +31,11 @@ impl Model for Groups {
 
     ghost Value = { List Total × List Total × List Cut };
 
-    ghost view = { λ g. (g.gifts.items, g.accepts.items, g.tightenings.items) };
+    ghost view = { λ g. (g.gifts, g.accepts, g.tightenings) };
 }
 
 // So many pairs of rights.
-fn take_rights(alloc: Global, words: &mut Words, count: u64) -> Result<Rows, LineFault>
+fn take_rights(alloc: Global, words: &mut Words, count: u64) -> Result<OwnRights, LineFault>
     ensures { TellsPrefix result words.new (rights_from count [] words.old) }
 {
     let mut held = Vec::new(alloc);
@@ -68,7 +53,7 @@ fn take_rights(alloc: Global, words: &mut Words, count: u64) -> Result<Rows, Lin
         held.push((lower, raise))?;
         left -= 1;
     }
-    Ok(Rows { held })
+    Ok(OwnRights::new(held))
 }
 
 // A total of a group, of the words behind its letter.
@@ -183,9 +168,9 @@ fn take_groups(alloc: Global, mut words: Words) -> Result<Groups, LineFault>
         }
     }
     Ok(Groups {
-        gifts,
-        accepts,
-        tightenings,
+        gifts: Totals::new(gifts),
+        accepts: Totals::new(accepts),
+        tightenings: Cuts::new(tightenings),
     })
 }
 
@@ -245,7 +230,9 @@ fn rise(totals: &[Total]) -> bool
 fn all_rise(groups: &Groups) -> bool
     ensures { result ≡ (rises groups.now.0 && rises groups.now.1 && cuts_rise groups.now.2) }
 {
-    rise(&groups.gifts) && rise(&groups.accepts) && cuts_rise(&groups.tightenings)
+    rise(groups.gifts.as_slice())
+        && rise(groups.accepts.as_slice())
+        && cuts_rise(groups.tightenings.as_slice())
 }
 
 #[tactic(auto, unfolding(crate::specs::Reading::summary_from))]
@@ -263,11 +250,11 @@ pub(crate) fn take_summary(alloc: Global, mut words: Words) -> Result<Record, Li
     if !all_rise(&groups) {
         return Err(LineFault::NoRecord);
     }
-    Ok(Record::Summary(Summary::new(
-        epoch as u32,
-        rights.held,
-        groups.gifts,
-        groups.accepts,
-        groups.tightenings,
-    )))
+    Ok(Record::Summary {
+        epoch: epoch as u32,
+        rights,
+        gifts: groups.gifts,
+        accepts: groups.accepts,
+        tightenings: groups.tightenings,
+    })
 }

@@ -6,6 +6,7 @@ ghost use Rattle.std.specs.List.{flat_map};
 ghost use Rattle.kept_records.specs.Keeping.{with_due};
 ghost use Rattle.kept_records.specs.Text.{text, letter_of, words_of, words_spaced, kind_word, escrow_words, total_words, cut_words, rights_words, group_words, cuts_words, summary_words, IsRecord};
 ghost use Rattle.kept_records.specs.Logs.{TearsClean};
+ghost use Rattle.kept_records.specs.Summary.{summary_told};
 
 use crate::record::Record;
 use crate::summary::Summary;
@@ -125,25 +126,38 @@ fn push_cuts(line: &mut Vec<u8>, totals: &[Cut]) -> Result<(), AllocError>
 }
 
 // Adds the totals of a summary, a space before each word.
-fn push_groups(line: &mut Vec<u8>, summary: &Summary) -> Result<(), AllocError>
+fn push_groups(
+    line: &mut Vec<u8>,
+    gifts: &[Total],
+    accepts: &[Total],
+    tightenings: &[Cut],
+) -> Result<(), AllocError>
     ensures { OnOk result (line.new.items ≡ line.old.items
-        ++ words_spaced (group_words 103 summary.now.gifts
-        ++ (group_words 97 summary.now.accepts ++ cuts_words summary.now.tightenings))) }
+        ++ words_spaced (group_words 103 gifts.now
+        ++ (group_words 97 accepts.now ++ cuts_words tightenings.now))) }
 {
-    push_group(line, b'g', summary.gifts())?;
-    push_group(line, b'a', summary.accepts())?;
-    push_cuts(line, summary.tightenings())
+    push_group(line, b'g', gifts)?;
+    push_group(line, b'a', accepts)?;
+    push_cuts(line, tightenings)
 }
 
 // Adds the words of a summary, a space before each.
-fn push_summary(line: &mut Vec<u8>, summary: &Summary) -> Result<(), AllocError>
+fn push_summary(
+    line: &mut Vec<u8>,
+    epoch: u32,
+    rights: &[(u64, u64)],
+    gifts: &[Total],
+    accepts: &[Total],
+    tightenings: &[Cut],
+) -> Result<(), AllocError>
     ensures { OnOk result (line.new.items ≡ line.old.items
-        ++ words_spaced (summary_words summary.now)) }
+        ++ words_spaced (summary_words (summary_told epoch rights.now gifts.now accepts.now
+        tightenings.now))) }
 {
-    push_number(line, u64::from(summary.epoch()))?;
-    push_number(line, summary.rights().len() as u64)?;
-    push_rights(line, summary.rights())?;
-    push_groups(line, summary)
+    push_number(line, u64::from(epoch))?;
+    push_number(line, rights.len() as u64)?;
+    push_rights(line, rights)?;
+    push_groups(line, gifts, accepts, tightenings)
 }
 
 fn letter(kept: &Record) -> u8
@@ -155,7 +169,7 @@ fn letter(kept: &Record) -> u8
         Record::Accept { .. } => b'A',
         Record::Tighten { .. } => b'T',
         Record::Restart { .. } => b'R',
-        Record::Summary(_) => b'S',
+        Record::Summary { .. } => b'S',
     }
 }
 
@@ -183,7 +197,20 @@ fn push_words(line: &mut Vec<u8>, kept: &Record) -> Result<(), AllocError>
         } => push_total(line, *from, *field, *kind, *total),
         Record::Tighten { field, kind, total } => push_cut(line, *field, *kind, *total),
         Record::Restart { epoch } => push_number(line, u64::from(*epoch)),
-        Record::Summary(summary) => push_summary(line, summary),
+        Record::Summary {
+            epoch,
+            rights,
+            gifts,
+            accepts,
+            tightenings,
+        } => push_summary(
+            line,
+            *epoch,
+            rights.as_slice(),
+            gifts.as_slice(),
+            accepts.as_slice(),
+            tightenings.as_slice(),
+        ),
     }
 }
 
@@ -218,7 +245,7 @@ pub(crate) fn put_piece(
     put_record(line, kept)?;
     match due {
         None => Ok(()),
-        Some(summary) => push_record(line, &Record::Summary(summary)),
+        Some(summary) => push_record(line, &summary.into_record()),
     }
 }
 

@@ -17,7 +17,7 @@ use Rattle.kept_records.specs.Text.{text, IsRecord, IsListed, IsSummary}
 use Rattle.kept_records.specs.Logs.{HasNoLf, IsLog}
 use Rattle.kept_records.specs.ReadingBack.{with_summary}
 use Rattle.kept_records.specs.declared.reading_back.ReadBack.{ReadBack}
-use Rattle.kept_records.specs.Summary.{SummaryValue, rights_told, told_more, total_told, cut_told, rights_of}
+use Rattle.kept_records.specs.Summary.{SummaryValue, summary_record, rights_told, told_more, total_told, cut_told, rights_of}
 use Rattle.kept_records.specs.Stands.{is_summary, since_summary, count_behind, may_follow, Lawful}
 use Rattle.kept_records.specs.Summaries.{TellsOf, IsWhereDue}
 use Rattle.kept_records.proofs.Summaries.{since_push, same_sums, same_summary_push, own_same}
@@ -176,18 +176,18 @@ none_held schema free cuts rows total_told f k l = (total_told.each f l).held k
 -- ---- the last summary, and the records up to it
 
 count_plain : (n : ℕ) (r : Record) → is_summary r ≡ false → count_behind n r ≡ n + 1
-count_plain n (Summary v) h = cc
+count_plain n (Summary epoch rights gifts accepts tightenings) h = cc
 count_plain n (Commit txn es) h = refl
 count_plain n (Gift to f k t) h = refl
 count_plain n (Accept from f k t) h = refl
 count_plain n (Tighten f k t) h = refl
 count_plain n (Restart epoch) h = refl
 
-in_front : (schema : SchemaValue) (s : ℕ) (before found : List Record) (v : SummaryValue) → Lawful schema s (before ++ Summary v ∷ found)
-    → Lawful schema s (before ++ Summary v ∷ []) × TellsOf schema s v (before ++ Summary v ∷ [])
+in_front : (schema : SchemaValue) (s : ℕ) (before found : List Record) (v : SummaryValue) → Lawful schema s (before ++ summary_record v ∷ found)
+    → Lawful schema s (before ++ summary_record v ∷ []) × TellsOf schema s v (before ++ summary_record v ∷ [])
 in_front schema s before found v lawful =
-    let parted = lawful_at schema s before (Summary v) found lawful in
-    (lawful_push schema s before (Summary v) parted.0 parted.1, lawful_tells schema s before v parted.1)
+    let parted = lawful_at schema s before (summary_record v) found lawful in
+    (lawful_push schema s before (summary_record v) parted.0 parted.1, lawful_tells schema s before v parted.1)
 
 one_of : (before found : List Record) (r : Record) → AllByRecursion IsRecord (before ++ r ∷ found) → IsRecord r
 one_of [] found r all = all.0
@@ -205,15 +205,15 @@ pub begun_some : (schema : SchemaValue) (s : ℕ) (all : List Record) (read : Re
 begun_some schema s all read end_ v is =
     let before = end_.holds.last.before in
     let found = end_.holds.found in
-    let parts : all ≡ before ++ Summary v ∷ found =
+    let parts : all ≡ before ++ summary_record v ∷ found =
     end_.holds.last.parts ∙ ap (λ (o : Option SummaryValue). before ++ with_summary o found) is in
     let both = in_front schema s before found v (subst (λ (x : List Record). Lawful schema s x) parts end_.lawful) in
-    let front : before ++ Summary v ∷ [] ≡ up_to before read.summary =
+    let front : before ++ summary_record v ∷ [] ≡ up_to before read.summary =
     ap (λ (o : Option SummaryValue). before ++ with_summary o []) (sym is) in
     record {
       lawful = subst (λ (x : List Record). Lawful schema s x) front both.0;
       tells = subst (λ (x : List Record). TellsOf schema s v x) front both.1;
-      ranges = summary_fits v (one_of before found (Summary v) (subst (λ (x : List Record). AllByRecursion IsRecord x) parts end_.each));
+      ranges = summary_fits v (one_of before found (summary_record v) (subst (λ (x : List Record). AllByRecursion IsRecord x) parts end_.each));
     }
 
 pub begun_none : (schema : SchemaValue) (s : ℕ) (all : List Record) (read : ReadBack) (end_ : IsEnd schema s all read) → read.summary ≡ None
@@ -224,13 +224,13 @@ begun_none schema s all read end_ is =
 
 -- a standing is for a summary more where it is for the records before it
 pub stands_summary : (schema : SchemaValue) (s : ℕ) (rs : List Record) (v : SummaryValue) (rows : List FieldRights) (ledger : LedgerValue)
-    (epoch : ℕ) → StandsFor schema s rs rows ledger epoch → StandsFor schema s (rs ++ Summary v ∷ []) rows ledger epoch
+    (epoch : ℕ) → StandsFor schema s rs rows ledger epoch → StandsFor schema s (rs ++ summary_record v ∷ []) rows ledger epoch
 stands_summary schema s rs v rows ledger epoch was =
     let same = same_summary_push rs rs v (same_sums rs) in
     record {
       count = was.count;
       width = was.width;
-      own = λ f k l. was.own f k l ∙ sym (own_same schema s (rs ++ Summary v ∷ []) rs same f k);
+      own = λ f k l. was.own f k l ∙ sym (own_same schema s (rs ++ summary_record v ∷ []) rs same f k);
       cut = λ f k l. was.cut f k l ∙ sym (same.cut f k);
       place = was.place;
       given = λ r f k o. was.given r f k o ∙ sym (same.given r f k);
@@ -267,7 +267,7 @@ since_none = refl
 since_up_to : (before : List Record) (summary : Option SummaryValue) → (summary ≡ None → before ≡ [])
     → since_summary (up_to before summary) ≡ 0
 since_up_to before None all = ap (λ (x : List Record). since_summary (x ++ [])) (all refl) ∙ since_none
-since_up_to before (Some v) all = since_push before (Summary v)
+since_up_to before (Some v) all = since_push before (summary_record v)
 
 -- a record that is taken in next
 pub record Turn (schema : SchemaValue) (s : ℕ) (rs : List Record) (r : Record) : Type 0 where

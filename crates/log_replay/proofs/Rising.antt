@@ -190,7 +190,7 @@ given_small to f k n (Commit txn es ∷ rs) small fits = given_small to f k n rs
 given_small to f k n (Accept site field kind total ∷ rs) small fits = given_small to f k n rs small fits.1
 given_small to f k n (Tighten field kind total ∷ rs) small fits = given_small to f k n rs small fits.1
 given_small to f k n (Restart epoch ∷ rs) small fits = given_small to f k n rs small fits.1
-given_small to f k n (Summary v ∷ rs) small fits = given_small to f k n rs small fits.1
+given_small to f k n (Summary epoch rights gifts accepts tightenings ∷ rs) small fits = given_small to f k n rs small fits.1
 
 accepted_small : (from f : ℕ) (k : Kind) (n : ℕ) (rs : List Record) → n ≤ max_total → AllByRecursion IsRecord rs
     → fold (accepted_more from f k) n rs ≤ max_total
@@ -206,7 +206,7 @@ accepted_small from f k n (Commit txn es ∷ rs) small fits = accepted_small fro
 accepted_small from f k n (Gift site field kind total ∷ rs) small fits = accepted_small from f k n rs small fits.1
 accepted_small from f k n (Tighten field kind total ∷ rs) small fits = accepted_small from f k n rs small fits.1
 accepted_small from f k n (Restart epoch ∷ rs) small fits = accepted_small from f k n rs small fits.1
-accepted_small from f k n (Summary v ∷ rs) small fits = accepted_small from f k n rs small fits.1
+accepted_small from f k n (Summary epoch rights gifts accepts tightenings ∷ rs) small fits = accepted_small from f k n rs small fits.1
 
 later_small : (n : ℕ) (rs : List Record) → n ≤ max_epoch → AllByRecursion IsRecord rs → fold later n rs ≤ max_epoch
 later_small n [] small fits = small
@@ -215,7 +215,7 @@ later_small n (Commit txn es ∷ rs) small fits = later_small n rs small fits.1
 later_small n (Gift site field kind total ∷ rs) small fits = later_small n rs small fits.1
 later_small n (Accept site field kind total ∷ rs) small fits = later_small n rs small fits.1
 later_small n (Tighten field kind total ∷ rs) small fits = later_small n rs small fits.1
-later_small n (Summary v ∷ rs) small fits = later_small n rs small fits.1
+later_small n (Summary epoch rights gifts accepts tightenings ∷ rs) small fits = later_small n rs small fits.1
 
 given_few : (rs : List Record) → AllByRecursion IsRecord rs → (to f : ℕ) (k : Kind) → given_in rs to f k ≤ max_total
 unfolding given_in

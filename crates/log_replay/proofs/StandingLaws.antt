@@ -39,7 +39,7 @@ can_plain schema old (Gift to field kind total) can = refl
 can_plain schema old (Accept from field kind total) can = refl
 can_plain schema old (Tighten field kind total) can = refl
 can_plain schema old (Restart epoch) can = refl
-can_plain schema old (Summary v) can = absurd can
+can_plain schema old (Summary epoch rights gifts accepts tightenings) can = absurd can
 
 -- a record that may not stand is refused
 pub takes_none : (schema : SchemaValue) (old : Standing) (r : Record) (new : Standing)

@@ -75,7 +75,7 @@ module _ (schema : SchemaValue) (old : Standing) (rs : List Record) where
   place_for (Accept from field kind total) next = next.stands.place from.0 field.0 (accept_other from field kind total next)
   place_for (Tighten field kind total) next = cut_in_rows field kind total next
   place_for (Restart epoch) next = tt
-  place_for (Summary v) next = tt
+  place_for (Summary epoch rights gifts accepts tightenings) next = tt
 
   -- ---- totals
 
@@ -95,7 +95,8 @@ module _ (schema : SchemaValue) (old : Standing) (rs : List Record) where
       next.stands.given r f k o ∙ sym (given_push r f k rs (Accept from field kind total))
   gifts_then (Tighten field kind total) next r f k o = next.stands.given r f k o ∙ sym (given_push r f k rs (Tighten field kind total))
   gifts_then (Restart epoch) next r f k o = next.stands.given r f k o ∙ sym (given_push r f k rs (Restart epoch))
-  gifts_then (Summary v) next r f k o = next.stands.given r f k o ∙ sym (given_push r f k rs (Summary v))
+  gifts_then (Summary epoch rights gifts accepts tightenings) next r f k o =
+      next.stands.given r f k o ∙ sym (given_push r f k rs (Summary epoch rights gifts accepts tightenings))
 
   accepts_then : (r0 : Record) → Next r0 → (r f : ℕ) (k : Kind) → IsOther schema site r f
       → side_with (accept_told r0) false old.ledger r f k ≡ accepted_in (rs ++ r0 ∷ []) r f k
@@ -114,7 +115,8 @@ module _ (schema : SchemaValue) (old : Standing) (rs : List Record) where
   accepts_then (Tighten field kind total) next r f k o =
       next.stands.accepted r f k o ∙ sym (accepted_push r f k rs (Tighten field kind total))
   accepts_then (Restart epoch) next r f k o = next.stands.accepted r f k o ∙ sym (accepted_push r f k rs (Restart epoch))
-  accepts_then (Summary v) next r f k o = next.stands.accepted r f k o ∙ sym (accepted_push r f k rs (Summary v))
+  accepts_then (Summary epoch rights gifts accepts tightenings) next r f k o =
+      next.stands.accepted r f k o ∙ sym (accepted_push r f k rs (Summary epoch rights gifts accepts tightenings))
 
   cuts_then : (r0 : Record) → Next r0 → (f : ℕ) (k : Kind) → f < length old.rights
       → cut_with (tightening_told r0) old.rights f k ≡ cut_in (rs ++ r0 ∷ []) f k
@@ -129,7 +131,8 @@ module _ (schema : SchemaValue) (old : Standing) (rs : List Record) where
       omega (arith, parts.0, same))
       ∙ sym (cut_push f k rs (Tighten field kind total))
   cuts_then (Restart epoch) next f k l = next.stands.cut f k l ∙ sym (cut_push f k rs (Restart epoch))
-  cuts_then (Summary v) next f k l = next.stands.cut f k l ∙ sym (cut_push f k rs (Summary v))
+  cuts_then (Summary epoch rights gifts accepts tightenings) next f k l =
+      next.stands.cut f k l ∙ sym (cut_push f k rs (Summary epoch rights gifts accepts tightenings))
 
   -- ---- rights
 
@@ -175,7 +178,7 @@ module _ (schema : SchemaValue) (old : Standing) (rs : List Record) where
       )
   rights_then (Restart epoch) plain next f k l =
       omega (arith, next.stands.own f k l, own_restart schema site rs next.lawful epoch next.may f k)
-  rights_then (Summary v) plain next f k l = absurd cc
+  rights_then (Summary epoch rights gifts accepts tightenings) plain next f k l = absurd cc
 
   -- what the record takes is owned, and what it adds is within the greatest change
   module _ (good : IsSchema schema) where
@@ -208,7 +211,7 @@ module _ (schema : SchemaValue) (old : Standing) (rs : List Record) where
         let within = here_only (λ x y. own_in schema site rs x y) field.0 f kind k amount (omega (arith, parts.1, before)) in
         (omega (arith, next.stands.own f k l, within), omega arith)
     can_move (Restart epoch) next f k l = (omega arith, omega arith)
-    can_move (Summary v) next f k l = (omega arith, omega arith)
+    can_move (Summary epoch rights gifts accepts tightenings) next f k l = (omega arith, omega arith)
 
   -- ---- all of it
 

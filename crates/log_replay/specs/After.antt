@@ -24,7 +24,7 @@ gift_told (Gift to field kind total) = Some (record { site = to; field = field; 
 gift_told (Accept from field kind total) = None
 gift_told (Tighten field kind total) = None
 gift_told (Restart epoch) = None
-gift_told (Summary v) = None
+gift_told (Summary epoch rights gifts accepts tightenings) = None
 
 -- The total accepted that a record tells, where it tells one.
 abbrev pub accept_told : Record → Option Total
@@ -33,7 +33,7 @@ accept_told (Gift to field kind total) = None
 accept_told (Accept from field kind total) = Some (record { site = from; field = field; kind = kind; total = total })
 accept_told (Tighten field kind total) = None
 accept_told (Restart epoch) = None
-accept_told (Summary v) = None
+accept_told (Summary epoch rights gifts accepts tightenings) = None
 
 -- The total given up that a record tells, where it tells one.
 abbrev pub tightening_told : Record → Option Cut
@@ -42,7 +42,7 @@ tightening_told (Gift to field kind total) = None
 tightening_told (Accept from field kind total) = None
 tightening_told (Tighten field kind total) = Some (record { field = field; kind = kind; total = total })
 tightening_told (Restart epoch) = None
-tightening_told (Summary v) = None
+tightening_told (Summary epoch rights gifts accepts tightenings) = None
 
 -- The site and the field of the total that a record tells are in the standing.
 abbrev pub HasSlotFor : Standing → Record → Type 0
@@ -51,7 +51,7 @@ HasSlotFor old (Gift to field kind total) = IsSlot old.ledger to.0 field.0
 HasSlotFor old (Accept from field kind total) = IsSlot old.ledger from.0 field.0
 HasSlotFor old (Tighten field kind total) = field.0 < length old.rights
 HasSlotFor old (Restart epoch) = Unit {0}
-HasSlotFor old (Summary v) = Unit {0}
+HasSlotFor old (Summary epoch rights gifts accepts tightenings) = Unit {0}
 
 -- How far the total that a record tells is above the one before.
 abbrev pub rise_of : Standing → Record → ℕ
@@ -60,7 +60,7 @@ rise_of old (Gift to field kind total) = total - total_at old.ledger to.0 field.
 rise_of old (Accept from field kind total) = total - accepted_at old.ledger from.0 field.0 kind
 rise_of old (Tighten field kind total) = total - cut_at old.rights field.0 kind
 rise_of old (Restart epoch) = 0
-rise_of old (Summary v) = 0
+rise_of old (Summary epoch rights gifts accepts tightenings) = 0
 
 -- The rights of a kind on a field that a record adds, where its total rises by so much: what was spent of the other kind,
 -- and what was accepted.
@@ -70,7 +70,7 @@ gained_by (Gift to field kind total) rise f k = 0
 gained_by (Accept from field kind total) rise f k = if (field.0 == f) && same_kind kind k then rise else 0
 gained_by (Tighten field kind total) rise f k = 0
 gained_by (Restart epoch) rise f k = 0
-gained_by (Summary v) rise f k = 0
+gained_by (Summary epoch rights gifts accepts tightenings) rise f k = 0
 
 -- Those that it takes: what was spent of the kind, what was given, and what was given up.
 abbrev pub spent_by : Record → ℕ → ℕ → Kind → ℕ
@@ -79,7 +79,7 @@ spent_by (Gift to field kind total) rise f k = if (field.0 == f) && same_kind ki
 spent_by (Accept from field kind total) rise f k = 0
 spent_by (Tighten field kind total) rise f k = if (field.0 == f) && same_kind kind k then rise else 0
 spent_by (Restart epoch) rise f k = 0
-spent_by (Summary v) rise f k = 0
+spent_by (Summary epoch rights gifts accepts tightenings) rise f k = 0
 
 -- What a record takes of a kind on a field is owned, and what it adds is within the greatest change.
 abbrev pub CanMove : List FieldRights → Record → ℕ → ℕ → Kind → Type 0

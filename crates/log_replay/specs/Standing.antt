@@ -75,7 +75,7 @@ CanTakeIn schema old (Tighten field kind total) =
     (is_field schema field.0 ≡ true) × (cut_at old.rights field.0 kind < total)
     × (total - cut_at old.rights field.0 kind ≤ free_at old.rights field.0 kind)
 CanTakeIn schema old (Restart epoch) = old.epoch < epoch
-CanTakeIn schema old (Summary v) = ⊥
+CanTakeIn schema old (Summary epoch rights gifts accepts tightenings) = ⊥
 
 -- Whether a record is taken in, and what that leaves. Where nothing is held, it is taken in exactly where it may stand
 -- behind those before it (answered). Where it is, the new standing is for the old records and for it, whichever lawful

@@ -5,19 +5,24 @@ use Rattle.field_bounds.specs.declared.id.SiteNo.{SiteNo}
 use Rattle.field_bounds.specs.declared.id.FieldNo.{FieldNo}
 use Rattle.field_bounds.specs.Schema.{SchemaValue}
 use Rattle.kept_records.specs.declared.record.Record.{Record}
-use Rattle.kept_records.specs.declared.record.Record.TheVariants.{Summary}
+use Rattle.kept_records.specs.declared.record.Record.TheVariants.{Commit, Gift, Accept, Tighten, Restart, Summary}
 use Rattle.kept_records.specs.declared.total.Total.{Total}
 use Rattle.kept_records.specs.declared.total.Cut.{Cut}
-use Rattle.kept_records.specs.Summary.{SummaryValue, rights_of, totals_of, cuts_of, told_more, cut_told_more}
+use Rattle.kept_records.specs.Summary.{SummaryValue, summary_told, same_summary, rights_of, totals_of, cuts_of, told_more, cut_told_more}
 use Rattle.site_rights.specs.declared.field_rights.FieldRights.{FieldRights}
 use Rattle.site_rights.specs.Rights.{own_at, cut_at}
 use Rattle.gift_ledger.specs.declared.account.FieldAccounts.{FieldAccounts}
 use Rattle.gift_ledger.specs.Ledger.{account_in, LedgerValue, total_at, accepted_at}
 use Rattle.log_replay.specs.declared.standing.Standing.{Standing}
 
--- The record of a summary.
-abbrev pub record_of : SummaryValue → Record
-record_of v = Summary v
+-- Whether a record is this summary's.
+abbrev pub tells_same : Record → SummaryValue → Bool
+tells_same (Commit txn es) own = false
+tells_same (Gift to field kind total) own = false
+tells_same (Accept from field kind total) own = false
+tells_same (Tighten field kind total) own = false
+tells_same (Restart epoch) own = false
+tells_same (Summary epoch rights gifts accepts tightenings) own = same_summary (summary_told epoch rights gifts accepts tightenings) own
 
 -- The totals given, or those accepted.
 abbrev pub side : Bool → LedgerValue → ℕ → ℕ → Kind → ℕ

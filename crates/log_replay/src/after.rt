@@ -14,7 +14,7 @@ ghost use Rattle.log_replay.specs.After.{gift_told, accept_told, tightening_told
 use crate::standing::Standing;
 use crate::telling::{given_up, totals_on_side};
 use field_bounds::{Escrow, FieldNo, Kind, Schema};
-use kept_records::{Cut, Record, Summary, Total};
+use kept_records::{Cut, Cuts, OwnRights, Record, Summary, Total, Totals};
 use site_rights::Rights;
 use std::alloc::{AllocError, Global};
 
@@ -38,7 +38,7 @@ fn gift_told(next: &Record) -> Option<Total>
         | Record::Accept { .. }
         | Record::Tighten { .. }
         | Record::Restart { .. }
-        | Record::Summary(_) => None,
+        | Record::Summary { .. } => None,
     }
 }
 
@@ -62,7 +62,7 @@ fn accept_told(next: &Record) -> Option<Total>
         | Record::Gift { .. }
         | Record::Tighten { .. }
         | Record::Restart { .. }
-        | Record::Summary(_) => None,
+        | Record::Summary { .. } => None,
     }
 }
 
@@ -80,7 +80,7 @@ fn tightening_told(next: &Record) -> Option<Cut>
         | Record::Gift { .. }
         | Record::Accept { .. }
         | Record::Restart { .. }
-        | Record::Summary(_) => None,
+        | Record::Summary { .. } => None,
     }
 }
 
@@ -105,7 +105,7 @@ fn rise_of(standing: &Standing, next: &Record) -> u64
         Record::Tighten { field, kind, total } => {
             total.saturating_sub(standing.rights.tightened(*field, *kind))
         }
-        Record::Commit { .. } | Record::Restart { .. } | Record::Summary(_) => 0,
+        Record::Commit { .. } | Record::Restart { .. } | Record::Summary { .. } => 0,
     }
 }
 
@@ -158,7 +158,7 @@ fn gained_by(next: &Record, rise: u64, field: FieldNo, kind: Kind) -> u64
         Record::Gift { .. }
         | Record::Tighten { .. }
         | Record::Restart { .. }
-        | Record::Summary(_) => 0,
+        | Record::Summary { .. } => 0,
     }
 }
 
@@ -179,7 +179,7 @@ fn spent_by(next: &Record, rise: u64, field: FieldNo, kind: Kind) -> u64
             kind: of,
             ..
         } => amount_on((*on, *of), rise, field, kind),
-        Record::Accept { .. } | Record::Restart { .. } | Record::Summary(_) => 0,
+        Record::Accept { .. } | Record::Restart { .. } | Record::Summary { .. } => 0,
     }
 }
 
@@ -229,7 +229,7 @@ fn epoch_after(epoch: u32, next: &Record) -> u32
         | Record::Gift { .. }
         | Record::Accept { .. }
         | Record::Tighten { .. }
-        | Record::Summary(_) => epoch,
+        | Record::Summary { .. } => epoch,
     }
 }
 
@@ -263,5 +263,11 @@ pub fn summary_after(
         schema.fields(),
     )?;
     let epoch = epoch_after(standing.epoch, next);
-    Ok(Summary::new(epoch, rights, gifts, accepts, tightenings))
+    Ok(Summary::new(
+        epoch,
+        OwnRights::new(rights),
+        Totals::new(gifts),
+        Totals::new(accepts),
+        Cuts::new(tightenings),
+    ))
 }

@@ -37,7 +37,7 @@ fn take_next(
         standing.new) }
 {
     match next {
-        Record::Summary(told) => tells(alloc, schema, standing, told),
+        Record::Summary { .. } => tells(alloc, schema, standing, next),
         Record::Commit { .. }
         | Record::Gift { .. }
         | Record::Accept { .. }

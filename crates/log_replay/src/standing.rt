@@ -120,7 +120,7 @@ impl Standing {
             } => self.accept(schema, *from, *field, *kind, *total),
             Record::Tighten { field, kind, total } => self.tighten(schema, *field, *kind, *total),
             Record::Restart { epoch } => self.restart(*epoch),
-            Record::Summary(_) => unreachable!(),
+            Record::Summary { .. } => unreachable!(),
         }
     }
 

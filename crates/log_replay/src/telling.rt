@@ -3,17 +3,17 @@
 ghost use Rattle.std.specs.Prelude.{◌≡◌, ◌++◌, ◌≤◌, ◌<◌, ◌≢◌, ℕ, IfOk, OnOk, List, length};
 ghost use Rattle.kept_records.specs.declared.record.Record.{Record};
 ghost use Rattle.kept_records.specs.Stands.{summary_of, may_follow};
-ghost use Rattle.kept_records.specs.Summary.{rights_of, totals_of, totals_of_site, cuts_of, told_more, same_rights, same_totals, same_total, same_cuts, same_cut, same_summary};
+ghost use Rattle.kept_records.specs.Summary.{rights_of, totals_of, totals_of_site, cuts_of, told_more, same_rights, same_totals, same_total, same_cuts, same_cut};
 ghost use Rattle.field_bounds.specs.Kind.{same_kind};
 ghost use Rattle.site_rights.specs.Rights.{own_at};
 ghost use Rattle.gift_ledger.specs.Ledger.{IsSlot};
 ghost use Rattle.log_replay.specs.Standing.{HasSlots, Stands};
-ghost use Rattle.log_replay.specs.Telling.{record_of, side, side_in, side_with, is_of_site, cut_with, told_if, cut_if, summary_now};
+ghost use Rattle.log_replay.specs.Telling.{tells_same, side, side_in, side_with, is_of_site, cut_with, told_if, cut_if, summary_now};
 
 use crate::standing::{Standing, cut_or};
 use field_bounds::{FieldNo, Kind, Schema, SiteNo};
 use gift_ledger::{FieldAccounts, Ledger};
-use kept_records::{Cut, Summary, Total};
+use kept_records::{Cut, Cuts, OwnRights, Record, Summary, Total, Totals};
 use site_rights::Rights;
 use std::alloc::{AllocError, Global};
 
@@ -273,7 +273,13 @@ fn summary(alloc: Global, schema: &Schema, standing: &Standing) -> Result<Summar
     let gifts = totals_on_side(alloc, schema, &standing.ledger, true, None)?;
     let accepts = totals_on_side(alloc, schema, &standing.ledger, false, None)?;
     let tightenings = given_up(alloc, &standing.rights, None, schema.fields())?;
-    Ok(Summary::new(standing.epoch, rights, gifts, accepts, tightenings))
+    Ok(Summary::new(
+        standing.epoch,
+        OwnRights::new(rights),
+        Totals::new(gifts),
+        Totals::new(accepts),
+        Cuts::new(tightenings),
+    ))
 }
 
 /// Whether two lists of rights are the same.
@@ -348,27 +354,44 @@ fn same_cuts(a: &[Cut], b: &[Cut]) -> bool
     left.is_empty() && right.is_empty()
 }
 
-fn same_summary(a: &Summary, b: &Summary) -> bool
-    ensures { result ≡ same_summary a.now b.now }
+/// Whether a record is this summary's.
+fn tells_same(told: &Record, own: &Summary) -> bool
+    ensures { result ≡ tells_same told.now own.now }
 {
-    a.epoch() == b.epoch()
-        && same_rights(a.rights(), b.rights())
-        && same_totals(a.gifts(), b.gifts())
-        && same_totals(a.accepts(), b.accepts())
-        && same_cuts(a.tightenings(), b.tightenings())
+    match told {
+        Record::Summary {
+            epoch,
+            rights,
+            gifts,
+            accepts,
+            tightenings,
+        } => {
+            *epoch == own.epoch()
+                && same_rights(rights.as_slice(), own.rights())
+                && same_totals(gifts.as_slice(), own.gifts())
+                && same_totals(accepts.as_slice(), own.accepts())
+                && same_cuts(tightenings.as_slice(), own.tightenings())
+        }
+        Record::Commit { .. }
+        | Record::Gift { .. }
+        | Record::Accept { .. }
+        | Record::Tighten { .. }
+        | Record::Restart { .. } => false,
+    }
 }
 
-/// Whether a summary is that of the records that a standing is for. The error is want of memory.
+/// Whether a record is the summary of the records that a standing is for. The error is want of
+/// memory.
 pub(crate) fn tells(
     alloc: Global,
     schema: &Schema,
     standing: &Standing,
-    told: &Summary,
+    told: &Record,
 ) -> Result<bool, AllocError>
     requires places { HasSlots schema.now standing.now.rights standing.now.ledger }
     ensures { IfOk result (λ may. (s : ℕ) (rs : List Record) → Stands schema.now s rs standing.now
-        → may ≡ may_follow schema.now s rs (record_of told.now)) }
+        → may ≡ tells_same told.now (summary_of schema.now s rs)) }
 {
     let own = summary(alloc, schema, standing)?;
-    Ok(same_summary(told, &own))
+    Ok(tells_same(told, &own))
 }

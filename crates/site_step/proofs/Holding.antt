@@ -10,7 +10,7 @@ use Rattle.field_bounds.specs.Schema.{SchemaValue}
 use Rattle.field_bounds.specs.Limits.{IsSchema}
 use Rattle.kept_records.specs.declared.record.Record.{Record}
 use Rattle.kept_records.specs.declared.record.Record.TheVariants.{Commit, Gift, Accept, Tighten, Restart, Summary}
-use Rattle.kept_records.specs.Summary.{SummaryValue}
+use Rattle.kept_records.specs.Summary.{SummaryValue, summary_record}
 use Rattle.kept_records.specs.Text.{text, IsRecord}
 use Rattle.kept_records.specs.Logs.{IsLog}
 use Rattle.kept_records.specs.Stands.{greatest, is_summary, plain, count_behind, since_summary, max_behind, piece, summary_of, may_follow, LawfulBehind, Lawful}
@@ -37,7 +37,7 @@ plain_push rs r h = plain_append rs (r ∷ []) ∙ ap (λ (x : List Record). pla
 
 pub plain_fewer : (rs : List Record) → length (plain rs) ≤ length rs
 plain_fewer [] = omega arith
-plain_fewer (Summary v ∷ rs) = omega (arith, plain_fewer rs)
+plain_fewer (Summary epoch rights gifts accepts tightenings ∷ rs) = omega (arith, plain_fewer rs)
 plain_fewer (Commit txn es ∷ rs) = omega (arith, plain_fewer rs)
 plain_fewer (Gift to f k t ∷ rs) = omega (arith, plain_fewer rs)
 plain_fewer (Accept from f k t ∷ rs) = omega (arith, plain_fewer rs)
@@ -87,9 +87,9 @@ module _ (schema : SchemaValue) (s : ℕ) (rs : List Record) (r : Record) (one :
 
   -- what stands behind the record
   abbrev tail : List Record
-  tail = cond due (Summary told ∷ []) []
+  tail = cond due (summary_record told ∷ []) []
 
-  tail_plain : (b : Bool) → plain (cond b (Summary told ∷ []) []) ≡ []
+  tail_plain : (b : Bool) → plain (cond b (summary_record told ∷ []) []) ≡ []
   tail_plain true = refl
   tail_plain false = refl
 
@@ -99,18 +99,18 @@ module _ (schema : SchemaValue) (s : ℕ) (rs : List Record) (r : Record) (one :
   pub plain_piece : plain (rs ++ piece schema s rs r) ≡ plain rs ++ r ∷ []
   plain_piece = plain_append rs (piece schema s rs r) ∙ ap (λ (x : List Record). plain rs ++ x) piece_plain
 
-  since_by : (b : Bool) → since_summary (rs ++ r ∷ cond b (Summary told ∷ []) []) ≡ (if b then 0 else since_summary rs + 1)
+  since_by : (b : Bool) → since_summary (rs ++ r ∷ cond b (summary_record told ∷ []) []) ≡ (if b then 0 else since_summary rs + 1)
   since_by false = since_push rs r ∙ rw one refl
-  since_by true = ap since_summary (sym (append_assoc rs (r ∷ []) (Summary told ∷ []))) ∙ since_push (rs ++ r ∷ []) (Summary told)
+  since_by true = ap since_summary (sym (append_assoc rs (r ∷ []) (summary_record told ∷ []))) ∙ since_push (rs ++ r ∷ []) (summary_record told)
 
   pub piece_since : since_summary (rs ++ piece schema s rs r)
       ≡ (if nat_le max_behind (since_summary rs + 1) then 0 else since_summary rs + 1)
   piece_since = since_by due
 
-  same_by : (b : Bool) → SameSums (rs ++ r ∷ cond b (Summary told ∷ []) []) (rs ++ r ∷ [])
+  same_by : (b : Bool) → SameSums (rs ++ r ∷ cond b (summary_record told ∷ []) []) (rs ++ r ∷ [])
   same_by false = same_sums (rs ++ r ∷ [])
   same_by true =
-      subst (λ (x : List Record). SameSums x (rs ++ r ∷ [])) (append_assoc rs (r ∷ []) (Summary told ∷ []))
+      subst (λ (x : List Record). SameSums x (rs ++ r ∷ [])) (append_assoc rs (r ∷ []) (summary_record told ∷ []))
       (same_summary_push (rs ++ r ∷ []) (rs ++ r ∷ []) told (same_sums (rs ++ r ∷ [])))
 
   -- the summary changes nothing of what they stand for
@@ -122,7 +122,7 @@ module _ (schema : SchemaValue) (s : ℕ) (rs : List Record) (r : Record) (one :
     all_lawful = piece_lawful schema s rs r lawful may
 
     module _ (limits : IsSchema schema) (site_in : s < schema.sites) (each : AllByRecursion IsRecord rs) (fits : IsRecord r) where
-      fits_by : (b : Bool) → AllByRecursion IsRecord (r ∷ cond b (Summary told ∷ []) [])
+      fits_by : (b : Bool) → AllByRecursion IsRecord (r ∷ cond b (summary_record told ∷ []) [])
       fits_by false = (fits, tt)
       fits_by true =
           (fits, (summary_fits schema s (rs ++ r ∷ []) limits site_in (lawful_push schema s rs r lawful may) (all_push rs r each fits), tt))
@@ -148,17 +148,17 @@ module _ (schema : SchemaValue) (s : ℕ) (rs : List Record) (r : Record) (one :
     since_front [] behind parts = since_one rs r
     since_front (x ∷ front) behind parts = by due parts
       where
-        by : (b : Bool) → r ∷ cond b (Summary told ∷ []) [] ≡ r ∷ ((x ∷ front) ++ behind)
+        by : (b : Bool) → r ∷ cond b (summary_record told ∷ []) [] ≡ r ∷ ((x ∷ front) ++ behind)
             → since_summary (rs ++ r ∷ (x ∷ front)) ≤ since_summary rs + 1
         by false is = absurd cc
         by true is =
-            let same : Summary told ∷ [] ≡ x ∷ (front ++ behind) = cc in
+            let same : summary_record told ∷ [] ≡ x ∷ (front ++ behind) = cc in
             let none : front ≡ [] = none_first front behind (let e : [] ≡ front ++ behind = cc in sym e) in
-            let is_it : x ≡ Summary told = cc in
-            let whole : rs ++ r ∷ (x ∷ front) ≡ (rs ++ r ∷ []) ++ Summary told ∷ [] =
+            let is_it : x ≡ summary_record told = cc in
+            let whole : rs ++ r ∷ (x ∷ front) ≡ (rs ++ r ∷ []) ++ summary_record told ∷ [] =
             ap (λ (l : List Record). rs ++ r ∷ (x ∷ l)) none ∙ ap (λ (y : Record). rs ++ r ∷ (y ∷ [])) is_it
-            ∙ sym (append_assoc rs (r ∷ []) (Summary told ∷ [])) in
-            omega (arith, ap since_summary whole, since_push (rs ++ r ∷ []) (Summary told))
+            ∙ sym (append_assoc rs (r ∷ []) (summary_record told ∷ [])) in
+            omega (arith, ap since_summary whole, since_push (rs ++ r ∷ []) (summary_record told))
 
     -- a front of the lines
     module _ (k : ℕ) (bytes new : List ℕ) (log : IsLog bytes rs []) (each : AllByRecursion IsRecord (piece schema s rs r))

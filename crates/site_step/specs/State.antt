@@ -85,7 +85,7 @@ before_taking_in a (records.Gift to field kind total) = a
 before_taking_in a (records.Accept from field kind total) = a
 before_taking_in a (records.Tighten field kind total) = a
 before_taking_in a (records.Restart epoch) = a
-before_taking_in a (records.Summary v) = a
+before_taking_in a (records.Summary epoch rights gifts accepts tightenings) = a
 
 -- The transaction is open, and its escrows are held.
 pub record CanClose (a : Accounts) (txn : TxnId) : Type 0 where
@@ -113,7 +113,7 @@ CanReady a (records.Gift to field kind total) = Unit {0}
 CanReady a (records.Accept from field kind total) = Unit {0}
 CanReady a (records.Tighten field kind total) = Unit {0}
 CanReady a (records.Restart epoch) = Unit {0}
-CanReady a (records.Summary v) = Unit {0}
+CanReady a (records.Summary epoch rights gifts accepts tightenings) = Unit {0}
 
 -- The record can be taken in, once its transaction is released.
 pub record CanCarry (schema : SchemaValue) (a : Accounts) (kept : Record) : Type 0 where

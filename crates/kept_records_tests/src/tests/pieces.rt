@@ -12,10 +12,10 @@ fn due(alloc: Global) -> Option<Summary>
 {
     Some(Summary::new(
         1_000,
-        vec![in alloc; (20, 30)].ok()?,
-        Vec::new(alloc),
-        Vec::new(alloc),
-        Vec::new(alloc),
+        OwnRights::new(vec![in alloc; (20, 30)].ok()?),
+        Totals::new(Vec::new(alloc)),
+        Totals::new(Vec::new(alloc)),
+        Cuts::new(Vec::new(alloc)),
     ))
 }
 
@@ -107,13 +107,19 @@ fn a_restart_takes_its_summary_along(rt: HostRuntime) {
 fn told(alloc: Global, text: &str) -> Option<(u32, (u64, u64), (usize, usize, usize))> {
     let (records, _) = read_records(alloc, text.as_bytes()).ok()?;
     match records.get(0)? {
-        Record::Summary(summary) => Some((
-            summary.epoch(),
-            *summary.rights().get(0)?,
+        Record::Summary {
+            epoch,
+            rights,
+            gifts,
+            accepts,
+            tightenings,
+        } => Some((
+            *epoch,
+            *rights.as_slice().get(0)?,
             (
-                summary.gifts().len(),
-                summary.accepts().len(),
-                summary.tightenings().len(),
+                gifts.as_slice().len(),
+                accepts.as_slice().len(),
+                tightenings.as_slice().len(),
             ),
         )),
         _ => None,

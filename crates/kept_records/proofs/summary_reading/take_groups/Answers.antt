@@ -1,4 +1,4 @@
-use Rattle.std.proofs.Common.{◌≡◌, ◌∙◌, ◌<◌, ◌≤◌, ap, sym, ℕ, ◌∷◌, List, length, true, false, arith}
+use Rattle.std.proofs.Common.{◌≡◌, ◌∙◌, ◌<◌, ◌≤◌, ap, sym, ℕ, ◌∷◌, List, length, Some, true, false, arith}
 use Rattle.kept_records.specs.declared.total.Total.{Total}
 use Rattle.kept_records.specs.declared.total.Cut.{Cut}
 use Rattle.kept_records.specs.Reading.{groups_from, word_is, is_next_accept, is_next_gift}
@@ -97,3 +97,6 @@ returns c =
     groups_end c.loop-letter.gifts.items c.loop-letter.accepts.items c.loop-letter.tightenings.items _
     (ap (λ (ws : List (List ℕ)). groups_from c.loop-letter.gifts.items c.loop-letter.accepts.items c.loop-letter.tightenings.items ws)
     (sym c.in_default.ensures.first) ∙ c.loop-letter.invariant)
+    ∙ ap (λ (x : List Total). Some (x, c.loop-letter.accepts.items, c.loop-letter.tightenings.items)) (sym c.new.ensures.all)
+    ∙ ap (λ (x : List Total). Some (c.new.result, x, c.loop-letter.tightenings.items)) (sym c.new-2.ensures.all)
+    ∙ ap (λ (x : List Cut). Some (c.new.result, c.new-2.result, x)) (sym c.new-3.ensures.all)

@@ -1,4 +1,4 @@
-use Rattle.std.proofs.Common.{◌≡◌, ◌∙◌, ap, ℕ, ◌<◌, ◌≤◌, ◌+◌, ◌-◌, List, arith}
+use Rattle.std.proofs.Common.{◌≡◌, ◌∙◌, ap, sym, Some, ℕ, ◌<◌, ◌≤◌, ◌+◌, ◌-◌, List, arith}
 use Rattle.kept_records.specs.Reading.{rights_from}
 use Rattle.kept_records.proofs.SummaryLoops.{rights_step, rights_none_lower, rights_none_raise, rights_none_sum, rights_end}
 use Rattle.kept_records.proofs.summary_reading.take_rights.Goals as goal
@@ -35,3 +35,4 @@ pub returns : goal.returns
 returns c =
     let none : c.loop-left.left ≡ 0 = omega arith in
     rights_end c.loop-left.left c.loop-left.held.items c.loop-left.words _ none c.loop-left.invariant
+    ∙ ap (λ (l : List (ℕ × ℕ)). Some (l, c.loop-left.words)) (sym c.new.ensures.all)

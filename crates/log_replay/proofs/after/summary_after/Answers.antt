@@ -38,5 +38,5 @@ pub returns : goal.returns
 returns c =
     let schema = c.args.schema.now in
     let old = c.args.standing.now in
-    let now : c.new.result ≡ summary_then schema old c.args.next.now = search rules in
+    let now : c.new-5.result ≡ summary_then schema old c.args.next.now = search rules in
     record { after = λ rs next. now ∙ after_is schema old rs c.args.next.now c.requires.plain next }

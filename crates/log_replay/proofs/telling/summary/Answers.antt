@@ -17,5 +17,5 @@ totals_on_side-requires-2 c = record {
 
 pub returns-clause-told : goal.returns-clause-told
 returns-clause-told c =
-    let now : c.new.result ≡ summary_now c.args.schema.now c.args.standing.now = search rules in
+    let now : c.new-5.result ≡ summary_now c.args.schema.now c.args.standing.now = search rules in
     λ s rs was. now ∙ summary_is c.args.schema.now c.args.standing.now s rs was
