@@ -9,8 +9,8 @@ use Rattle.entry_text.specs.Spelling.{entry_text}
 use Rattle.entry_text.specs.Lines.{max_line}
 use Rattle.central_rules.specs.declared.verdict.Verdict.TheVariants.{Legal}
 use Rattle.central_rules.specs.Verdict.{verdict_of}
-use Rattle.site_workers.specs.declared.fault.WorkFault.{WorkFault}
-use Rattle.site_workers.specs.declared.fault.WorkFault.TheVariants as work_faults
+use Rattle.work_faults.specs.declared.workers.WorkFault.{WorkFault}
+use Rattle.work_faults.specs.declared.workers.WorkFault.TheVariants as work_faults
 use Rattle.site_workers.specs.Scripts.{AllWorked}
 use Rattle.trace_weave.specs.Weave.{WeavesLowest, NoneWeaves}
 use Rattle.script_input.specs.declared.fault.ScriptFault.{ScriptFault}
