@@ -174,7 +174,8 @@ fn read_task(rt: &(impl Env + AllocGlobal)) -> Result<Task, Error> {
 fn status_of(fault: ScriptFault) -> u8 {
     match fault {
         ScriptFault::Read | ScriptFault::TooLong | ScriptFault::Write => 1,
-        ScriptFault::Header(_) => 2,
+        ScriptFault::Header(_) | ScriptFault::BadLine(_) => 2,
+        ScriptFault::Work(_) | ScriptFault::Stuck | ScriptFault::Illegal => 3,
         ScriptFault::NoMemory => 4,
     }
 }

@@ -6,7 +6,7 @@ use Rattle.std.specs.Io.KnownBytes.{Appends, Consumes, IsAtEnd}
 use Rattle.std.proofs.KnownBytes.{Appends-trans, Appends-nil, Consumes-trans, Consumes-nil}
 use Rattle.escrow_script.specs.declared.script.Script.{Script}
 use Rattle.script_input.specs.declared.fault.ScriptFault.{ScriptFault}
-use Rattle.script_input.specs.declared.fault.ScriptFault.TheVariants.{Read, TooLong, Write, Header, NoMemory}
+use Rattle.script_input.specs.declared.fault.ScriptFault.TheVariants.{Read, TooLong, Write, Header, BadLine, Work, Stuck, Illegal, NoMemory}
 use Rattle.script_input.specs.declared.streams.End.{End}
 use Rattle.script_input.specs.declared.streams.End.TheVariants.{Nothing}
 use Rattle.script_input.specs.Lines.{whole_lines}
@@ -242,6 +242,10 @@ Leaves-other Write out front before after other = absurd (other refl)
 Leaves-other Read out front before after other = λ h. h
 Leaves-other TooLong out front before after other = λ h. h
 Leaves-other (Header e) out front before after other = λ h. h
+Leaves-other (BadLine n) out front before after other = λ h. h
+Leaves-other (Work e) out front before after other = λ h. h
+Leaves-other Stuck out front before after other = λ h. h
+Leaves-other Illegal out front before after other = λ h. h
 Leaves-other NoMemory out front before after other = λ h. h
 
 -- the last write failed after a fault
@@ -266,6 +270,10 @@ WritesFor-other Write front back before after other = absurd (other refl)
 WritesFor-other Read front back before after other = λ h. h
 WritesFor-other TooLong front back before after other = λ h. h
 WritesFor-other (Header e) front back before after other = λ h. h
+WritesFor-other (BadLine n) front back before after other = λ h. h
+WritesFor-other (Work e) front back before after other = λ h. h
+WritesFor-other Stuck front back before after other = λ h. h
+WritesFor-other Illegal front back before after other = λ h. h
 WritesFor-other NoMemory front back before after other = λ h. h
 
 -- a fault after which the buffer was written

@@ -9,7 +9,7 @@ use Rattle.std.proofs.KnownBytes.{Appends-trans}
 use Rattle.escrow_script.specs.declared.machine.Machine.{Machine}
 use Rattle.escrow_script.specs.declared.script.Script.{Script}
 use Rattle.script_input.specs.declared.fault.ScriptFault.{ScriptFault}
-use Rattle.script_input.specs.declared.fault.ScriptFault.TheVariants.{Read, TooLong, Write, Header, NoMemory}
+use Rattle.script_input.specs.declared.fault.ScriptFault.TheVariants.{Read, TooLong, Write, Header, BadLine, Work, Stuck, Illegal, NoMemory}
 use Rattle.field_bounds.specs.declared.fault.SchemaFault.TheVariants as schema_faults
 use Rattle.field_bounds.specs.Header.{schema_of}
 use Rattle.script_input.specs.Lines.{whole_lines, last_part, last_line, with_header, script_lines}
@@ -150,6 +150,10 @@ Stops-keep NoMemory read piece more old new before after ended unbroken at step 
 Stops-keep Read read piece more old new before after ended unbroken at step bytes = absurd step.why
 Stops-keep TooLong read piece more old new before after ended unbroken at step bytes = absurd step.why
 Stops-keep Write read piece more old new before after ended unbroken at step bytes = absurd step.why
+Stops-keep (BadLine n) read piece more old new before after ended unbroken at step bytes = absurd step.why
+Stops-keep (Work e) read piece more old new before after ended unbroken at step bytes = absurd step.why
+Stops-keep Stuck read piece more old new before after ended unbroken at step bytes = absurd step.why
+Stops-keep Illegal read piece more old new before after ended unbroken at step bytes = absurd step.why
 
 -- a line that can't be ended
 pub Stops-end : (fault : ScriptFault) (read back : List ℕ) (old new : Script) (before after : Option (List ℕ)) (ended : Type 0)
@@ -176,6 +180,10 @@ Stops-end NoMemory read back old new before after ended breaks at step bytes = r
 Stops-end Read read back old new before after ended breaks at step bytes = absurd step.why
 Stops-end TooLong read back old new before after ended breaks at step bytes = absurd step.why
 Stops-end Write read back old new before after ended breaks at step bytes = absurd step.why
+Stops-end (BadLine n) read back old new before after ended breaks at step bytes = absurd step.why
+Stops-end (Work e) read back old new before after ended breaks at step bytes = absurd step.why
+Stops-end Stuck read back old new before after ended breaks at step bytes = absurd step.why
+Stops-end Illegal read back old new before after ended breaks at step bytes = absurd step.why
 
 -- output that can't be written
 pub Stops-write : (fault : ScriptFault) (read back : List ℕ) (old new : Script) (before middle after : Option (List ℕ)) (ended : Type 0)

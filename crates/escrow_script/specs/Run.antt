@@ -7,7 +7,7 @@ use Rattle.field_bounds.specs.declared.fault.SchemaFault.TheVariants as schema_f
 use Rattle.escrow_script.specs.declared.machine.Machine.{Machine}
 use Rattle.escrow_script.specs.declared.script.Script.{Script}
 use Rattle.script_input.specs.declared.fault.ScriptFault.{ScriptFault}
-use Rattle.script_input.specs.declared.fault.ScriptFault.TheVariants.{Write, Header, NoMemory}
+use Rattle.script_input.specs.declared.fault.ScriptFault.TheVariants.{Read, TooLong, Write, Header, BadLine, Work, Stuck, Illegal, NoMemory}
 use Rattle.script_input.specs.declared.streams.End.{End}
 use Rattle.entry_text.specs.Lines.{max_line}
 use Rattle.escrow_script.specs.Text.{line_text, AreReplies, IsAnswer, HasText, IsTextOf}
@@ -36,7 +36,13 @@ abbrev pub KeepFault : ScriptFault → Script → List ℕ → Type 0
 KeepFault (Header fault) old piece =
     (fault ≡ schema_faults.TooLong) × IsNone old.machine × (65536 < length old.line.items + length piece)
 KeepFault NoMemory old piece = Unit {0}
-KeepFault _ old piece = ⊥
+KeepFault Read old piece = ⊥
+KeepFault TooLong old piece = ⊥
+KeepFault Write old piece = ⊥
+KeepFault (BadLine number) old piece = ⊥
+KeepFault (Work fault) old piece = ⊥
+KeepFault Stuck old piece = ⊥
+KeepFault Illegal old piece = ⊥
 
 -- A piece wasn't kept, and what is to be written is as before.
 pub record CannotKeep (old new : Script) (piece : List ℕ) (fault : ScriptFault) : Type 0 where
@@ -82,7 +88,13 @@ pub record HasEnded (old new : Script) : Type 0 where
 abbrev pub EndFault : ScriptFault → Script → Type 0
 EndFault (Header fault) old = IsNone old.machine × (schema_of old.line.items ≡ Err fault)
 EndFault NoMemory old = Unit {0}
-EndFault _ old = ⊥
+EndFault Read old = ⊥
+EndFault TooLong old = ⊥
+EndFault Write old = ⊥
+EndFault (BadLine number) old = ⊥
+EndFault (Work fault) old = ⊥
+EndFault Stuck old = ⊥
+EndFault Illegal old = ⊥
 
 -- A line wasn't ended, and what is to be written is as before.
 pub record CannotEnd (old new : Script) (fault : ScriptFault) : Type 0 where
@@ -137,7 +149,14 @@ LeavesAll before after lines = (text : List ℕ) × IsTextOf lines text × Appen
 -- is in the buffer.
 abbrev pub WritesText : ScriptFault → List ℕ → Option (List ℕ) → Option (List ℕ) → List ℕ → Type 0
 WritesText Write out before after front = IsWithin front × LeavesPrefix before after (whole_lines front)
-WritesText _ out before after front = Leaves before after out (whole_lines front)
+WritesText Read out before after front = Leaves before after out (whole_lines front)
+WritesText TooLong out before after front = Leaves before after out (whole_lines front)
+WritesText (Header fault) out before after front = Leaves before after out (whole_lines front)
+WritesText (BadLine number) out before after front = Leaves before after out (whole_lines front)
+WritesText (Work fault) out before after front = Leaves before after out (whole_lines front)
+WritesText Stuck out before after front = Leaves before after out (whole_lines front)
+WritesText Illegal out before after front = Leaves before after out (whole_lines front)
+WritesText NoMemory out before after front = Leaves before after out (whole_lines front)
 
 -- The fault came in these bytes, and what is written, with the buffer, is the text of the whole lines in
 -- front of it.
@@ -240,7 +259,14 @@ pub record Answers (from to before after : Option (List ℕ)) : Type 0 where
 abbrev pub WritesFor : ScriptFault → Option (List ℕ) → Option (List ℕ) → List ℕ → List ℕ → Type 0
 WritesFor Write before after front back =
     IsWithin front × (LeavesPrefix before after (whole_lines front) ⊎ ((back ≡ []) × LeavesPrefix before after (script_lines front)))
-WritesFor _ before after front back = LeavesAll before after (whole_lines front)
+WritesFor Read before after front back = LeavesAll before after (whole_lines front)
+WritesFor TooLong before after front back = LeavesAll before after (whole_lines front)
+WritesFor (Header fault) before after front back = LeavesAll before after (whole_lines front)
+WritesFor (BadLine number) before after front back = LeavesAll before after (whole_lines front)
+WritesFor (Work fault) before after front back = LeavesAll before after (whole_lines front)
+WritesFor Stuck before after front back = LeavesAll before after (whole_lines front)
+WritesFor Illegal before after front back = LeavesAll before after (whole_lines front)
+WritesFor NoMemory before after front back = LeavesAll before after (whole_lines front)
 
 -- What was read is the front, with the whole lines that are answered, and the back, where the fault came.
 pub record Fails (from to before after : Option (List ℕ)) (last : End) (fault : ScriptFault) : Type 0 where

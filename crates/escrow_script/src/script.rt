@@ -309,7 +309,8 @@ impl Script {
 /// follows the 1,000,000th line or the 268,435,456th byte; `Read` where a read answers an error of
 /// any kind, which isn't tried again. At each of them the text of the whole lines before it was
 /// written, and at `Header` nothing. `Write` comes where a write answers an error of any kind or
-/// takes no byte; then a front of the text was written.
+/// takes no byte; then a front of the text was written. The others, which are a work's alone, never
+/// come.
 ///
 /// Reader and writer tell the contract how their calls end, and how many failed; `Watched::new`
 /// makes such ones of std's. No call is made again after one that failed.
