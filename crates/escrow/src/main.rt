@@ -4,9 +4,7 @@
 
 use clap::error::ErrorKind;
 use clap::{Arg, ArgAction, Command, Error};
-use escrow_audit::{AuditEnd, audit_text};
-use escrow_script::{ScriptFault, Watched, run_script};
-use escrow_work::work_text;
+use escrow_script::{AuditEnd, ScriptFault, Watched, audit_text, run_script, work_text};
 use std::alloc::{AllocError, Global};
 use std::process::ExitCode;
 use std::rt::Env;
