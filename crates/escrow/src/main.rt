@@ -4,9 +4,7 @@
 
 use clap::error::ErrorKind;
 use clap::{Arg, ArgAction, Command, Error};
-use escrow_audit::{AuditEnd, audit_text};
-use escrow_script::{ScriptFault, Watched, run_script};
-use escrow_work::{WorkTextFault, work_text};
+use escrow_script::{AuditEnd, ScriptFault, Watched, audit_text, run_script, work_text};
 use std::alloc::{AllocError, Global};
 use std::process::ExitCode;
 use std::rt::Env;
@@ -174,32 +172,25 @@ fn read_task(rt: &(impl Env + AllocGlobal)) -> Result<Task, Error> {
 fn status_of(fault: ScriptFault) -> u8 {
     match fault {
         ScriptFault::Read | ScriptFault::TooLong | ScriptFault::Write => 1,
-        ScriptFault::Header(_) => 2,
+        ScriptFault::Header(_) | ScriptFault::BadLine(_) => 2,
+        ScriptFault::Work(_) | ScriptFault::Stuck | ScriptFault::Illegal => 3,
         ScriptFault::NoMemory => 4,
     }
 }
 
-fn status_of_work(fault: WorkTextFault) -> u8 {
-    match fault {
-        WorkTextFault::Script(fault) => status_of(fault),
-        WorkTextFault::BadLine(_) => 2,
-        WorkTextFault::Work(_) | WorkTextFault::Stuck | WorkTextFault::Illegal => 3,
-    }
-}
-
 /// Tells a fault on standard error. A write that fails there changes nothing.
-fn tell(rt: &impl Eprint, fault: WorkTextFault) -> u8 {
+fn tell(rt: &impl Eprint, fault: ScriptFault) -> u8 {
     let _ = eprintln!(rt; "escrow: {fault}");
-    status_of_work(fault)
+    status_of(fault)
 }
 
 /// Tells why the command line asks for no task, and gives help where it asks for that.
 fn tell_refused(rt: &(impl Print + Eprint), error: &Error) -> u8 {
     if error.kind() == ErrorKind::OutOfMemory {
-        return tell(rt, WorkTextFault::Script(ScriptFault::NoMemory));
+        return tell(rt, ScriptFault::NoMemory);
     }
     if error.print(rt).is_err() && !error.use_stderr() {
-        return tell(rt, WorkTextFault::Script(ScriptFault::Write));
+        return tell(rt, ScriptFault::Write);
     }
     if error.use_stderr() { 2 } else { 0 }
 }
@@ -221,13 +212,11 @@ fn main(rt: HostRuntime) -> ExitCode {
     let mut reader = Watched::new(rt.stdin());
     let mut writer = Watched::new(rt.stdout());
     let ended = match task {
-        Task::Run => run_script(alloc, &mut reader, &mut writer)
-            .map(|()| 0)
-            .map_err(WorkTextFault::Script),
+        Task::Run => run_script(alloc, &mut reader, &mut writer).map(|()| 0),
         Task::Work => work_text(&rt, alloc, &mut reader, &mut writer).map(|()| 0),
-        Task::Audit { fields } => audit_text(&rt, alloc, fields, &mut reader, &mut writer)
-            .map(status_of_end)
-            .map_err(WorkTextFault::Script),
+        Task::Audit { fields } => {
+            audit_text(&rt, alloc, fields, &mut reader, &mut writer).map(status_of_end)
+        }
     };
     match ended {
         Ok(status) => ExitCode::from(status),

@@ -9,6 +9,7 @@ use Rattle.field_bounds.specs.Header.{schema_of}
 use Rattle.field_bounds.specs.declared.entry.Entry.{Entry}
 use Rattle.field_bounds.specs.declared.fault.SchemaFault.{SchemaFault}
 use Rattle.entry_text.specs.Lines.{max_line}
+use Rattle.script_input.specs.declared.fault.ScriptFault.TheVariants as faults
 use Rattle.script_input.specs.declared.fault.ScriptFault.TheVariants.{Read, TooLong, Write, Header, NoMemory}
 use Rattle.script_input.specs.Lines.{whole_lines_after, last_part_after, whole_lines, last_part, last_line, with_header, lines_of, script_lines}
 use Rattle.script_input.specs.Faults.{BeginsWithBreak, IsWithin}
@@ -241,6 +242,10 @@ Stops-keep (Fault NoMemory) read piece more old new ended unbroken at why same r
 Stops-keep (Fault Read) read piece more old new ended unbroken at why same room bytes = absurd why
 Stops-keep (Fault TooLong) read piece more old new ended unbroken at why same room bytes = absurd why
 Stops-keep (Fault Write) read piece more old new ended unbroken at why same room bytes = absurd why
+Stops-keep (Fault (faults.BadLine n)) read piece more old new ended unbroken at why same room bytes = absurd why
+Stops-keep (Fault (faults.Work e)) read piece more old new ended unbroken at why same room bytes = absurd why
+Stops-keep (Fault faults.Stuck) read piece more old new ended unbroken at why same room bytes = absurd why
+Stops-keep (Fault faults.Illegal) read piece more old new ended unbroken at why same room bytes = absurd why
 Stops-keep BadEntry read piece more old new ended unbroken at why same room bytes =
     let a = read ++ piece in
     let keeps : whole_lines a ≡ whole_lines read = whole_lines-unbroken read piece unbroken in
@@ -283,6 +288,10 @@ Stops-broken (Fault NoMemory) read more s entries lines ended stands at room why
 Stops-broken (Fault Read) read more s entries lines ended stands at room why bytes = absurd why
 Stops-broken (Fault TooLong) read more s entries lines ended stands at room why bytes = absurd why
 Stops-broken (Fault Write) read more s entries lines ended stands at room why bytes = absurd why
+Stops-broken (Fault (faults.BadLine n)) read more s entries lines ended stands at room why bytes = absurd why
+Stops-broken (Fault (faults.Work e)) read more s entries lines ended stands at room why bytes = absurd why
+Stops-broken (Fault faults.Stuck) read more s entries lines ended stands at room why bytes = absurd why
+Stops-broken (Fault faults.Illegal) read more s entries lines ended stands at room why bytes = absurd why
 Stops-broken BadEntry read more s entries lines ended stands at room why bytes =
     let bad = line_is_bad s (last_part read) why in bad_ended lines read more s entries ended stands bad.0 at
     (record { lines = within-broken read (omega (arith, at, room)); bytes = bytes }) bad.1
@@ -299,6 +308,10 @@ Stops-last (Fault NoMemory) read s entries lines ended stands at within some why
 Stops-last (Fault Read) read s entries lines ended stands at within some why is = absurd why
 Stops-last (Fault TooLong) read s entries lines ended stands at within some why is = absurd why
 Stops-last (Fault Write) read s entries lines ended stands at within some why is = absurd why
+Stops-last (Fault (faults.BadLine n)) read s entries lines ended stands at within some why is = absurd why
+Stops-last (Fault (faults.Work e)) read s entries lines ended stands at within some why is = absurd why
+Stops-last (Fault faults.Stuck) read s entries lines ended stands at within some why is = absurd why
+Stops-last (Fault faults.Illegal) read s entries lines ended stands at within some why is = absurd why
 Stops-last BadEntry read s entries lines ended stands at within some why is =
     let bad = line_is_bad s (last_part read) why in bad_last lines read s entries ended stands bad.0 at within (some bad.0) bad.1 is
 

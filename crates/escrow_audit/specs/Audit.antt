@@ -145,7 +145,14 @@ abbrev pub LeavesFor : ScriptFault → Option (List ℕ) → Option (List ℕ) �
 LeavesFor faults.Write before after front back ended =
     (end : AuditEnd) × ((text : List ℕ) × ((back ≡ []) × (IsWithinAt end front × (IsAudit end front ended text
     × AppendsPrefix before after text))))
-LeavesFor fault before after front back ended = IsGood (whole_lines front) × Appends before after []
+LeavesFor faults.Read before after front back ended = IsGood (whole_lines front) × Appends before after []
+LeavesFor faults.TooLong before after front back ended = IsGood (whole_lines front) × Appends before after []
+LeavesFor (faults.Header fault) before after front back ended = IsGood (whole_lines front) × Appends before after []
+LeavesFor (faults.BadLine number) before after front back ended = IsGood (whole_lines front) × Appends before after []
+LeavesFor (faults.Work fault) before after front back ended = IsGood (whole_lines front) × Appends before after []
+LeavesFor faults.Stuck before after front back ended = IsGood (whole_lines front) × Appends before after []
+LeavesFor faults.Illegal before after front back ended = IsGood (whole_lines front) × Appends before after []
+LeavesFor faults.NoMemory before after front back ended = IsGood (whole_lines front) × Appends before after []
 
 -- What was read is the front and the back, where the fault came.
 pub record Fails (from to before after : Option (List ℕ)) (last : End) (fault : ScriptFault) : Type 0 where

@@ -40,7 +40,13 @@ abbrev pub HeaderKeepFault : ScriptFault → Reading → List ℕ → Type 0
 HeaderKeepFault (faults.Header fault) old piece =
     (fault ≡ schema_faults.TooLong) × IsNone old.schema × (65536 < length old.line.items + length piece)
 HeaderKeepFault faults.NoMemory old piece = Unit {0}
-HeaderKeepFault fault old piece = ⊥
+HeaderKeepFault faults.Read old piece = ⊥
+HeaderKeepFault faults.TooLong old piece = ⊥
+HeaderKeepFault faults.Write old piece = ⊥
+HeaderKeepFault (faults.BadLine number) old piece = ⊥
+HeaderKeepFault (faults.Work fault) old piece = ⊥
+HeaderKeepFault faults.Stuck old piece = ⊥
+HeaderKeepFault faults.Illegal old piece = ⊥
 
 -- Why a piece isn't kept.
 abbrev pub KeepStop : Reading → List ℕ → Stop → Type 0
@@ -58,7 +64,13 @@ Moves (Some schema) line (Some after) old new = (after ≡ schema) × Notes sche
 abbrev pub LineFault : ScriptFault → Option SchemaValue → List ℕ → Type 0
 LineFault (faults.Header fault) schema line = IsNone schema × (schema_of line ≡ Err fault)
 LineFault faults.NoMemory schema line = Unit {0}
-LineFault fault schema line = ⊥
+LineFault faults.Read schema line = ⊥
+LineFault faults.TooLong schema line = ⊥
+LineFault faults.Write schema line = ⊥
+LineFault (faults.BadLine number) schema line = ⊥
+LineFault (faults.Work fault) schema line = ⊥
+LineFault faults.Stuck schema line = ⊥
+LineFault faults.Illegal schema line = ⊥
 
 abbrev pub LineStop : Option SchemaValue → List ℕ → Stop → Type 0
 LineStop schema line (Fault fault) = LineFault fault schema line

@@ -178,7 +178,8 @@ fn write_out<W: Sink>(writer: &mut W, bytes: &[u8]) -> Result<(), ScriptFault>
 /// The faults are those of the input, line by line: `Header` and `NoMemory`; `TooLong` where a byte
 /// follows the 1,000,000th line or the 268,435,456th byte; `Read` where a read answers an error of
 /// any kind, which isn't tried again. At each of them nothing is written. `Write` comes where a
-/// write answers an error of any kind or takes no byte; then a front of the answer was written.
+/// write answers an error of any kind or takes no byte; then a front of the answer was written. The
+/// others, which are a work's alone, never come.
 ///
 /// Reader and writer tell the contract how their calls end, and how many failed; `Watched::new`
 /// makes such ones of std's. No call is made again after one that failed.

@@ -7,6 +7,7 @@ use Rattle.std.specs.Option.{IsNone, IsSome}
 use Rattle.field_bounds.specs.Header.{schema_of}
 use Rattle.field_bounds.specs.declared.fault.SchemaFault.{SchemaFault}
 use Rattle.entry_text.specs.Lines.{max_line}
+use Rattle.script_input.specs.declared.fault.ScriptFault.TheVariants as faults
 use Rattle.script_input.specs.declared.fault.ScriptFault.TheVariants.{Read, TooLong, Write, Header, NoMemory}
 use Rattle.script_input.specs.Lines.{whole_lines_after, last_part_after, whole_lines, last_part, last_line, with_header, lines_of, script_lines}
 use Rattle.script_input.specs.Faults.{BeginsWithBreak, IsWithin}
@@ -240,6 +241,10 @@ Stops-keep (Fault NoMemory) read piece more old new ended unbroken at why same r
 Stops-keep (Fault Read) read piece more old new ended unbroken at why same room bytes = absurd why
 Stops-keep (Fault TooLong) read piece more old new ended unbroken at why same room bytes = absurd why
 Stops-keep (Fault Write) read piece more old new ended unbroken at why same room bytes = absurd why
+Stops-keep (Fault (faults.BadLine n)) read piece more old new ended unbroken at why same room bytes = absurd why
+Stops-keep (Fault (faults.Work e)) read piece more old new ended unbroken at why same room bytes = absurd why
+Stops-keep (Fault faults.Stuck) read piece more old new ended unbroken at why same room bytes = absurd why
+Stops-keep (Fault faults.Illegal) read piece more old new ended unbroken at why same room bytes = absurd why
 Stops-keep BadLine read piece more old new ended unbroken at why same room bytes =
     let a = read ++ piece in
     let keeps : whole_lines a ≡ whole_lines read = whole_lines-unbroken read piece unbroken in
@@ -281,6 +286,10 @@ Stops-broken (Fault NoMemory) read more s lines ended stands at room why bytes =
 Stops-broken (Fault Read) read more s lines ended stands at room why bytes = absurd why
 Stops-broken (Fault TooLong) read more s lines ended stands at room why bytes = absurd why
 Stops-broken (Fault Write) read more s lines ended stands at room why bytes = absurd why
+Stops-broken (Fault (faults.BadLine n)) read more s lines ended stands at room why bytes = absurd why
+Stops-broken (Fault (faults.Work e)) read more s lines ended stands at room why bytes = absurd why
+Stops-broken (Fault faults.Stuck) read more s lines ended stands at room why bytes = absurd why
+Stops-broken (Fault faults.Illegal) read more s lines ended stands at room why bytes = absurd why
 Stops-broken BadLine read more s lines ended stands at room why bytes =
     let bad = line_is_bad s (last_part read) why in bad_ended lines read more s ended stands bad.0 at
     (record { lines = within-broken read (omega (arith, at, room)); bytes = bytes }) bad.1
@@ -296,6 +305,10 @@ Stops-last (Fault NoMemory) read s lines ended stands at within some why is = st
 Stops-last (Fault Read) read s lines ended stands at within some why is = absurd why
 Stops-last (Fault TooLong) read s lines ended stands at within some why is = absurd why
 Stops-last (Fault Write) read s lines ended stands at within some why is = absurd why
+Stops-last (Fault (faults.BadLine n)) read s lines ended stands at within some why is = absurd why
+Stops-last (Fault (faults.Work e)) read s lines ended stands at within some why is = absurd why
+Stops-last (Fault faults.Stuck) read s lines ended stands at within some why is = absurd why
+Stops-last (Fault faults.Illegal) read s lines ended stands at within some why is = absurd why
 Stops-last BadLine read s lines ended stands at within some why is =
     let bad = line_is_bad s (last_part read) why in bad_last lines read s ended stands bad.0 at within (some bad.0) bad.1 is
 

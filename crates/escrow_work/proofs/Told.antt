@@ -6,15 +6,14 @@ use Rattle.field_bounds.specs.declared.entry.Command.{Command}
 use Rattle.field_bounds.specs.declared.entry.Entry.{Entry}
 use Rattle.entry_text.specs.Spelling.{entry_text}
 use Rattle.script_input.specs.declared.fault.ScriptFault.{ScriptFault}
+use Rattle.script_input.specs.declared.fault.ScriptFault.TheVariants as faults
 use Rattle.script_input.specs.declared.streams.End.{End}
 use Rattle.script_input.specs.Lines.{script_lines}
 use Rattle.script_input.specs.Faults.{HasEndedAt}
 use Rattle.site_workers.specs.Scripts.{scripts_of, ScriptsFit}
-use Rattle.escrow_work.specs.declared.fault.WorkTextFault.{WorkTextFault}
-use Rattle.escrow_work.specs.declared.fault.WorkTextFault.TheVariants as ends
 use Rattle.escrow_work.specs.declared.reading.Reading.{Reading}
 use Rattle.escrow_work.specs.declared.scripts.Scripts.{Scripts}
-use Rattle.escrow_work.specs.Work.{entries_text, work_text, TellsOf, MakesNone, FaultsIn}
+use Rattle.escrow_work.specs.Work.{entries_text, work_text, IsAsked, TellsOf, MakesNone, FaultsIn}
 use Rattle.escrow_work.specs.Reading.{IsAfterLines, ReadsThrough}
 use Rattle.escrow_work.proofs.Dealt.{dealt_fit}
 use Rattle.escrow_work.proofs.States.{Stops-memory}
@@ -51,46 +50,31 @@ fit_through from to last r w through is =
     subst (λ (l : List (List Command)). ScriptsFit w.schema l) (sym stands.dealt)
     (dealt_fit w.schema stands.behind stands.asked stands.each)
 
-pub faults_through : (from to : Option (List ℕ)) (last : End) (r : Reading) (w : Scripts) (fault : WorkTextFault)
+asked_through : (from to : Option (List ℕ)) (last : End) (r : Reading) (w : Scripts) (through : ReadsThrough from to last r)
+    → r.scripts ≡ Some w → IsAsked w.schema (scripts_of w.rows.items) through.0 (HasEndedAt to last)
+asked_through from to last r w through is = record {
+  header = w.header.items;
+  good = subst (λ (x : Option Scripts). IsAfterLines x (script_lines through.0)) is through.1.1.1.1.1;
+  within = through.1.1.1.0;
+  at = through.1.1.0;
+}
+
+pub faults_through : (from to : Option (List ℕ)) (last : End) (r : Reading) (w : Scripts) (fault : ScriptFault)
     → ReadsThrough from to last r → r.scripts ≡ Some w
     → MakesNone w.schema (scripts_of w.rows.items) fault → FaultsIn from to last fault
 faults_through from to last r w fault through is none =
     (through.0, (through.1.0, told fault none))
   where
-    told : (fault : WorkTextFault) → MakesNone w.schema (scripts_of w.rows.items) fault → TellsOf fault through.0 (HasEndedAt to last)
-    told (ends.Script fault) none = subst (λ (f : ScriptFault). TellsOf (ends.Script f) through.0 (HasEndedAt to last)) (sym none)
-        (Stops-memory through.0 0 (HasEndedAt to last))
-    told (ends.BadLine number) none = absurd none
-    told (ends.Work fault) none = (
-      none,
-      (
-        w.schema,
-        (
-          scripts_of w.rows.items,
-          record {
-            header = w.header.items;
-            good = subst (λ
-                (x : Option Scripts). IsAfterLines x (script_lines through.0)) is through.1.1.1.1.1;
-            within = through.1.1.1.0;
-            at = through.1.1.0;
-          },
-        ),
-      ),
-    )
-    told ends.Stuck none = (
-      w.schema,
-      (
-        scripts_of w.rows.items,
-        (
-          record {
-            header = w.header.items;
-            good = subst (λ
-                (x : Option Scripts). IsAfterLines x (script_lines through.0)) is through.1.1.1.1.1;
-            within = through.1.1.1.0;
-            at = through.1.1.0;
-          },
-          none,
-        ),
-      ),
-    )
-    told ends.Illegal none = absurd none
+    asked : IsAsked w.schema (scripts_of w.rows.items) through.0 (HasEndedAt to last)
+    asked = asked_through from to last r w through is
+
+    told : (fault : ScriptFault) → MakesNone w.schema (scripts_of w.rows.items) fault → TellsOf fault through.0 (HasEndedAt to last)
+    told faults.Read none = absurd none
+    told faults.TooLong none = absurd none
+    told faults.Write none = absurd none
+    told (faults.Header e) none = absurd none
+    told (faults.BadLine number) none = absurd none
+    told (faults.Work fault) none = (none, (w.schema, (scripts_of w.rows.items, asked)))
+    told faults.Stuck none = (w.schema, (scripts_of w.rows.items, (asked, none)))
+    told faults.Illegal none = absurd none
+    told faults.NoMemory none = Stops-memory through.0 0 (HasEndedAt to last)

@@ -32,6 +32,10 @@ StartFault faults.NoMemory line = Unit {0}
 StartFault faults.Read line = ⊥
 StartFault faults.TooLong line = ⊥
 StartFault faults.Write line = ⊥
+StartFault (faults.BadLine number) line = ⊥
+StartFault (faults.Work fault) line = ⊥
+StartFault faults.Stuck line = ⊥
+StartFault faults.Illegal line = ⊥
 
 abbrev pub StartStop : List ℕ → Stop → Type 0
 StartStop line (Fault fault) = StartFault fault line
@@ -62,7 +66,13 @@ abbrev pub HeaderKeepFault : ScriptFault → Reading → List ℕ → Type 0
 HeaderKeepFault (faults.Header fault) old piece =
     (fault ≡ schema_faults.TooLong) × IsNone old.scripts × (65536 < length old.line.items + length piece)
 HeaderKeepFault faults.NoMemory old piece = Unit {0}
-HeaderKeepFault fault old piece = ⊥
+HeaderKeepFault faults.Read old piece = ⊥
+HeaderKeepFault faults.TooLong old piece = ⊥
+HeaderKeepFault faults.Write old piece = ⊥
+HeaderKeepFault (faults.BadLine number) old piece = ⊥
+HeaderKeepFault (faults.Work fault) old piece = ⊥
+HeaderKeepFault faults.Stuck old piece = ⊥
+HeaderKeepFault faults.Illegal old piece = ⊥
 
 -- Why a piece isn't kept.
 abbrev pub KeepStop : Reading → List ℕ → Stop → Type 0
@@ -80,7 +90,13 @@ Moves (Some old) line (Some new) = TakesIn old line new
 abbrev pub LineFault : ScriptFault → Option Scripts → List ℕ → Type 0
 LineFault (faults.Header fault) scripts line = IsNone scripts × (schema_of line ≡ Err fault)
 LineFault faults.NoMemory scripts line = Unit {0}
-LineFault fault scripts line = ⊥
+LineFault faults.Read scripts line = ⊥
+LineFault faults.TooLong scripts line = ⊥
+LineFault faults.Write scripts line = ⊥
+LineFault (faults.BadLine number) scripts line = ⊥
+LineFault (faults.Work fault) scripts line = ⊥
+LineFault faults.Stuck scripts line = ⊥
+LineFault faults.Illegal scripts line = ⊥
 
 abbrev pub LineStop : Option Scripts → List ℕ → Stop → Type 0
 LineStop scripts line (Fault fault) = LineFault fault scripts line

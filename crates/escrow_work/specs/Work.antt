@@ -1,5 +1,5 @@
 -- What workers are asked, what they make of it, and what is written (this project).
-use Rattle.std.specs.Prelude.{◌≡◌, ◌≢◌, ℕ, ◌<◌, ◌≤◌, ◌⊎◌, List, [], ◌∷◌, ◌++◌, length, reverse, Option, Result, Ok, Err}
+use Rattle.std.specs.Prelude.{◌≡◌, ◌≢◌, ℕ, ◌<◌, ◌≤◌, ◌⊎◌, List, [], ◌∷◌, ◌++◌, length, reverse, Option}
 use Rattle.std.specs.Io.KnownBytes.{Appends, Consumes}
 use Rattle.field_bounds.specs.Schema.{SchemaValue}
 use Rattle.field_bounds.specs.Central.{IsCentral}
@@ -9,18 +9,16 @@ use Rattle.entry_text.specs.Spelling.{entry_text}
 use Rattle.entry_text.specs.Lines.{max_line}
 use Rattle.central_rules.specs.declared.verdict.Verdict.TheVariants.{Legal}
 use Rattle.central_rules.specs.Verdict.{verdict_of}
-use Rattle.site_workers.specs.declared.fault.WorkFault.{WorkFault}
-use Rattle.site_workers.specs.declared.fault.WorkFault.TheVariants as work_faults
+use Rattle.work_faults.specs.declared.workers.WorkFault.{WorkFault}
+use Rattle.work_faults.specs.declared.workers.WorkFault.TheVariants as work_faults
 use Rattle.site_workers.specs.Scripts.{AllWorked}
 use Rattle.trace_weave.specs.Weave.{WeavesLowest, NoneWeaves}
 use Rattle.script_input.specs.declared.fault.ScriptFault.{ScriptFault}
 use Rattle.script_input.specs.declared.fault.ScriptFault.TheVariants as faults
 use Rattle.script_input.specs.declared.streams.End.{End}
 use Rattle.script_input.specs.Lines.{whole_lines, last_part, lines_of, script_lines}
-use Rattle.script_input.specs.Faults.{Explains, HasEndedAt, IsWithin, CountsRead, CountsWrite}
+use Rattle.script_input.specs.Faults.{Explains, HasEndedAt, IsWithin}
 use Rattle.script_input.specs.Streams.{AppendsPrefix}
-use Rattle.escrow_work.specs.declared.fault.WorkTextFault.{WorkTextFault}
-use Rattle.escrow_work.specs.declared.fault.WorkTextFault.TheVariants as ends
 use Rattle.escrow_work.specs.Scripts.{HasScripts, IsFirstBad}
 
 -- ---- what workers make
@@ -94,7 +92,7 @@ abbrev pub IsGood : List (List ℕ) → Type 0
 IsGood lines = (lines ≡ []) ⊎ ((schema : SchemaValue) × ((header : List ℕ) × ((scripts : List (List Command))
     × HasScripts schema header scripts lines)))
 
--- A fault of the script: what was read is the front and the back, where it came, and the whole lines of the front are good.
+-- A fault of the input: what was read is the front and the back, where it came, and the whole lines of the front are good.
 pub record FaultIn (fault : ScriptFault) (read : List ℕ) (ended : Type 0) : Type 0 where
   pub front : List ℕ
   pub back : List ℕ
@@ -112,26 +110,40 @@ pub record IsAsked (schema : SchemaValue) (scripts : List (List Command)) (read 
 
 -- Want of memory in the work is told as such.
 abbrev pub IsWorkFault : WorkFault → Type 0
+IsWorkFault work_faults.GateTurns = Unit {0}
+IsWorkFault (work_faults.WentBack site len) = Unit {0}
+IsWorkFault (work_faults.Passes site) = Unit {0}
+IsWorkFault (work_faults.Receipts fault) = Unit {0}
+IsWorkFault (work_faults.Foreign site) = Unit {0}
+IsWorkFault (work_faults.Lost site) = Unit {0}
 IsWorkFault work_faults.NoMemory = ⊥
-IsWorkFault fault = Unit {0}
 
--- What a fault says of the bytes that were read. That a verdict is other than Legal never comes.
-abbrev pub TellsOf : WorkTextFault → List ℕ → Type 0 → Type 0
-TellsOf (ends.Script fault) read ended = FaultIn fault read ended
-TellsOf (ends.BadLine number) read ended = FindsBad read number ended
-TellsOf (ends.Work fault) read ended = IsWorkFault fault × ((schema : SchemaValue) × ((scripts : List (List Command))
+-- What a fault says of the bytes that were read. A write fault says it by what is written, and that a verdict is other than
+-- Legal never comes.
+abbrev pub TellsOf : ScriptFault → List ℕ → Type 0 → Type 0
+TellsOf faults.Read read ended = FaultIn faults.Read read ended
+TellsOf faults.TooLong read ended = FaultIn faults.TooLong read ended
+TellsOf faults.Write read ended = ⊥
+TellsOf (faults.Header fault) read ended = FaultIn (faults.Header fault) read ended
+TellsOf (faults.BadLine number) read ended = FindsBad read number ended
+TellsOf (faults.Work fault) read ended = IsWorkFault fault × ((schema : SchemaValue) × ((scripts : List (List Command))
     × IsAsked schema scripts read ended))
-TellsOf ends.Stuck read ended = (schema : SchemaValue) × ((scripts : List (List Command)) × (IsAsked schema scripts read ended
+TellsOf faults.Stuck read ended = (schema : SchemaValue) × ((scripts : List (List Command)) × (IsAsked schema scripts read ended
     × Sticks schema scripts))
-TellsOf ends.Illegal read ended = ⊥
+TellsOf faults.Illegal read ended = ⊥
+TellsOf faults.NoMemory read ended = FaultIn faults.NoMemory read ended
 
 -- Why workers of these scripts make no trace.
-abbrev pub MakesNone : SchemaValue → List (List Command) → WorkTextFault → Type 0
-MakesNone schema scripts (ends.Script fault) = fault ≡ faults.NoMemory
-MakesNone schema scripts (ends.BadLine number) = ⊥
-MakesNone schema scripts (ends.Work fault) = IsWorkFault fault
-MakesNone schema scripts ends.Stuck = Sticks schema scripts
-MakesNone schema scripts ends.Illegal = ⊥
+abbrev pub MakesNone : SchemaValue → List (List Command) → ScriptFault → Type 0
+MakesNone schema scripts faults.Read = ⊥
+MakesNone schema scripts faults.TooLong = ⊥
+MakesNone schema scripts faults.Write = ⊥
+MakesNone schema scripts (faults.Header fault) = ⊥
+MakesNone schema scripts (faults.BadLine number) = ⊥
+MakesNone schema scripts (faults.Work fault) = IsWorkFault fault
+MakesNone schema scripts faults.Stuck = Sticks schema scripts
+MakesNone schema scripts faults.Illegal = ⊥
+MakesNone schema scripts faults.NoMemory = Unit {0}
 
 -- The text of the work of all that was read, at whose end the input has ended, and which is within the limits.
 abbrev pub Tells : Option (List ℕ) → Option (List ℕ) → End → List ℕ → Type 0
@@ -139,36 +151,25 @@ Tells from to last text =
     (read : List ℕ) × (Consumes from to read × (HasEndedAt to last × (IsWithin read × IsWorkOf (script_lines read) text)))
 
 -- The fault came in what was read.
-abbrev pub FaultsIn : Option (List ℕ) → Option (List ℕ) → End → WorkTextFault → Type 0
+abbrev pub FaultsIn : Option (List ℕ) → Option (List ℕ) → End → ScriptFault → Type 0
 FaultsIn from to last fault = (read : List ℕ) × (Consumes from to read × TellsOf fault read (HasEndedAt to last))
 
 -- At a write fault a front of a text that Ok allows is written, of an input within the limits. At every other fault nothing
 -- is.
-abbrev pub FailsIn : WorkTextFault → List ℕ → Type 0 → Option (List ℕ) → Option (List ℕ) → Type 0
-FailsIn (ends.Script faults.Write) read ended before after = ended × (IsWithin read × ((text : List ℕ)
+abbrev pub FailsIn : ScriptFault → List ℕ → Type 0 → Option (List ℕ) → Option (List ℕ) → Type 0
+FailsIn faults.Read read ended before after = TellsOf faults.Read read ended × Appends before after []
+FailsIn faults.TooLong read ended before after = TellsOf faults.TooLong read ended × Appends before after []
+FailsIn faults.Write read ended before after = ended × (IsWithin read × ((text : List ℕ)
     × (IsWorkOf (script_lines read) text × AppendsPrefix before after text)))
-FailsIn fault read ended before after = TellsOf fault read ended × Appends before after []
+FailsIn (faults.Header fault) read ended before after = TellsOf (faults.Header fault) read ended × Appends before after []
+FailsIn (faults.BadLine number) read ended before after = TellsOf (faults.BadLine number) read ended × Appends before after []
+FailsIn (faults.Work fault) read ended before after = TellsOf (faults.Work fault) read ended × Appends before after []
+FailsIn faults.Stuck read ended before after = TellsOf faults.Stuck read ended × Appends before after []
+FailsIn faults.Illegal read ended before after = TellsOf faults.Illegal read ended × Appends before after []
+FailsIn faults.NoMemory read ended before after = TellsOf faults.NoMemory read ended × Appends before after []
 
 -- A fault comes for a reason in what was read, and nothing but a front of a text that Ok allows is written.
-pub record Fails (from to before after : Option (List ℕ)) (last : End) (fault : WorkTextFault) : Type 0 where
+pub record Fails (from to before after : Option (List ℕ)) (last : End) (fault : ScriptFault) : Type 0 where
   pub read : List ℕ
   pub consumed : Consumes from to read
   pub told : FailsIn fault read (HasEndedAt to last) before after
-
--- How many reads failed, before and after a work that ends so: one more at a read fault, and else as many.
-abbrev pub CountsWorkReads : {T : Type 0} → Result T WorkTextFault → ℕ → ℕ → Type 0
-CountsWorkReads (Ok x) before after = after ≡ before
-CountsWorkReads (Err (ends.Script fault)) before after = CountsRead fault before after
-CountsWorkReads (Err (ends.BadLine number)) before after = after ≡ before
-CountsWorkReads (Err (ends.Work fault)) before after = after ≡ before
-CountsWorkReads (Err ends.Stuck) before after = after ≡ before
-CountsWorkReads (Err ends.Illegal) before after = after ≡ before
-
--- How many writes were refused: one more at a write fault, and else as many.
-abbrev pub CountsWorkWrites : {T : Type 0} → Result T WorkTextFault → ℕ → ℕ → Type 0
-CountsWorkWrites (Ok x) before after = after ≡ before
-CountsWorkWrites (Err (ends.Script fault)) before after = CountsWrite fault before after
-CountsWorkWrites (Err (ends.BadLine number)) before after = after ≡ before
-CountsWorkWrites (Err (ends.Work fault)) before after = after ≡ before
-CountsWorkWrites (Err ends.Stuck) before after = after ≡ before
-CountsWorkWrites (Err ends.Illegal) before after = after ≡ before

@@ -3,13 +3,10 @@
 #![tactic(auto)]
 
 mod dealing;
-mod fault;
 mod reading;
 mod scripts;
 mod text;
 mod woven;
 
-pub use fault::WorkTextFault;
-pub use script_input::{CallFailed, End, ScriptFault, Sink, Source, Watched};
-pub use site_workers::WorkFault;
+pub use script_input::{CallFailed, End, ScriptFault, Sink, Source, Watched, WorkFault};
 pub use text::work_text;

@@ -3,12 +3,11 @@
 ghost use Rattle.std.specs.Prelude.{◌≡◌, ◌≢◌, ℕ, ◌++◌, ◌∷◌, [], List, IfOk, IfErr, OnOk, OnErr};
 ghost use Rattle.std.specs.Io.KnownBytes.{Appends};
 ghost use Rattle.site_workers.specs.Scripts.{scripts_of, ScriptsFit};
+ghost use Rattle.script_input.specs.Faults.{CountsReads, CountsWrites};
 ghost use Rattle.script_input.specs.Streams.{HasFailed, GaveNothing, HasRefused, AppendsPrefix};
 ghost use Rattle.escrow_work.specs.Scripts.{HasScripts};
-ghost use Rattle.escrow_work.specs.Work.{work_text, MakesNone, IsWorkOf, WritesWork, Fails, Tells, FaultsIn, CountsWorkReads, CountsWorkWrites};
-ghost use Rattle.escrow_work.specs.declared.fault.WorkTextFault.TheVariants.{Script};
+ghost use Rattle.escrow_work.specs.Work.{work_text, MakesNone, IsWorkOf, WritesWork, Fails, Tells, FaultsIn};
 
-use crate::fault::WorkTextFault;
 use crate::reading::{Reading, Stop};
 use crate::scripts::Scripts;
 use crate::woven::work_woven;
@@ -44,7 +43,7 @@ fn made(
     rt: &(impl Threads + Wait + Sync),
     alloc: Global,
     scripts: Scripts,
-) -> Result<Vec<u8>, WorkTextFault>
+) -> Result<Vec<u8>, ScriptFault>
     requires fit { ScriptsFit scripts.schema (scripts_of scripts.rows.items) }
     ensures ok { IfOk result (λ text. (lines : List (List ℕ)) →
         HasScripts scripts.schema scripts.header.items (scripts_of scripts.rows.items) lines →
@@ -65,36 +64,36 @@ fn answer<R: Source>(
     rt: &(impl Threads + Wait + Sync),
     alloc: Global,
     reader: &mut R,
-) -> Result<Vec<u8>, WorkTextFault>
+) -> Result<Vec<u8>, ScriptFault>
     ensures ok { IfOk result (λ text.
         Tells (R.bytes reader.old) (R.bytes reader.new) (R.last reader.new) text.items) }
     ensures fault { IfErr result
         (FaultsIn (R.bytes reader.old) (R.bytes reader.new) (R.last reader.new)) }
-    ensures read { IfErr result (λ fault. fault ≡ Script ScriptFault.Read
+    ensures read { IfErr result (λ fault. fault ≡ ScriptFault.Read
         → HasFailed (R.last reader.new)) }
-    ensures reads { CountsWorkReads result (R.failures reader.old) (R.failures reader.new) }
-    ensures not_written { IfErr result (λ fault. fault ≢ Script ScriptFault.Write) }
+    ensures reads { CountsReads result (R.failures reader.old) (R.failures reader.new) }
+    ensures not_written { IfErr result (λ fault. fault ≢ ScriptFault.Write) }
 {
     let mut reading = Reading::new(alloc);
     match reading.read_all(reader) {
         Ok(()) => made(rt, alloc, reading.into_scripts()),
-        Err(Stop::BadLine) => Err(WorkTextFault::BadLine(reading.next_line())),
-        Err(Stop::Fault(fault)) => Err(WorkTextFault::Script(fault)),
+        Err(Stop::BadLine) => Err(ScriptFault::BadLine(reading.next_line())),
+        Err(Stop::Fault(fault)) => Err(fault),
     }
 }
 
 // Writes the text.
-fn write_out<W: Sink>(writer: &mut W, bytes: &[u8]) -> Result<(), WorkTextFault>
+fn write_out<W: Sink>(writer: &mut W, bytes: &[u8]) -> Result<(), ScriptFault>
     ensures ok { OnOk result
         (Appends (W.bytes writer.old) (W.bytes writer.new) bytes.now) }
     ensures front { OnErr result
         (AppendsPrefix (W.bytes writer.old) (W.bytes writer.new) bytes.now) }
-    ensures fault { IfErr result (λ fault. fault ≡ Script ScriptFault.Write) }
+    ensures fault { IfErr result (λ fault. fault ≡ ScriptFault.Write) }
     ensures refused { OnErr result (HasRefused (W.last writer.new)) }
-    ensures writes { CountsWorkWrites result (W.refusals writer.old) (W.refusals writer.new) }
+    ensures writes { CountsWrites result (W.refusals writer.old) (W.refusals writer.new) }
 {
     if writer.write_all(bytes).is_err() {
-        return Err(WorkTextFault::Script(ScriptFault::Write));
+        return Err(ScriptFault::Write);
     }
     Ok(())
 }
@@ -134,7 +133,7 @@ pub fn work_text<R: Source, W: Sink>(
     alloc: Global,
     reader: &mut R,
     writer: &mut W,
-) -> Result<(), WorkTextFault>
+) -> Result<(), ScriptFault>
     // The work of what was read is written, up to the input's end, and within the limits.
     ensures ok { OnOk result (WritesWork
         (R.bytes reader.old) (R.bytes reader.new)
@@ -149,18 +148,18 @@ pub fn work_text<R: Source, W: Sink>(
         (W.bytes writer.old) (W.bytes writer.new) (R.last reader.new)) }
 
     // A read fault comes only where a read failed.
-    ensures read { IfErr result (λ fault. fault ≡ Script ScriptFault.Read
+    ensures read { IfErr result (λ fault. fault ≡ ScriptFault.Read
         → HasFailed (R.last reader.new)) }
 
     // A write fault comes only where a write failed, or took none of its bytes.
-    ensures write { IfErr result (λ fault.
-        fault ≡ Script ScriptFault.Write → HasRefused (W.last writer.new)) }
+    ensures write { IfErr result (λ fault. fault ≡ ScriptFault.Write
+        → HasRefused (W.last writer.new)) }
 
     // One read failed in this call at a read fault, and else none.
-    ensures reads { CountsWorkReads result (R.failures reader.old) (R.failures reader.new) }
+    ensures reads { CountsReads result (R.failures reader.old) (R.failures reader.new) }
 
     // One write was refused in this call at a write fault, and else none.
-    ensures writes { CountsWorkWrites result (W.refusals writer.old) (W.refusals writer.new) }
+    ensures writes { CountsWrites result (W.refusals writer.old) (W.refusals writer.new) }
 {
     let text = answer(rt, alloc, reader)?;
     write_out(writer, text.as_slice())

@@ -4,17 +4,17 @@ ghost use Rattle.std.specs.Prelude.{◌≡◌, IfOk, IfErr};
 ghost use Rattle.site_workers.specs.Scripts.{scripts_of, ScriptsFit};
 ghost use Rattle.escrow_work.specs.Work.{WorksLegally, MakesNone};
 
-use crate::fault::WorkTextFault;
 use central_machine::judge;
 use central_rules::Verdict;
 use field_bounds::{Command, Entry, Schema};
 use script_input::ScriptFault;
 use site_desk::FreeGate;
-use site_workers::{WorkFault, run_workers};
+use site_workers::run_workers;
 use std::alloc::Global;
 use std::sync::Wait;
 use std::thread::Threads;
 use trace_weave::{WeaveFault, weave};
+use work_faults::WorkFault;
 
 /// The entries, the oldest first, that are woven of the histories which workers make of these
 /// scripts. They are judged legal before they are handed out.
@@ -24,7 +24,7 @@ pub(crate) fn work_woven<'x, R: Threads + Wait + Sync>(
     schema: &'x Schema,
     scripts: Vec<Vec<Command>>,
     gate: &'x FreeGate,
-) -> Result<Vec<Entry>, WorkTextFault>
+) -> Result<Vec<Entry>, ScriptFault>
     requires fit { ScriptsFit schema.now (scripts_of scripts.items) }
     ensures ok { IfOk result (λ entries.
         WorksLegally schema.now (scripts_of scripts.items) entries.items) }
@@ -33,16 +33,16 @@ pub(crate) fn work_woven<'x, R: Threads + Wait + Sync>(
     let _sites = schema.sites();
     let histories = match run_workers(rt, alloc, schema, scripts, gate) {
         Ok(histories) => histories,
-        Err(WorkFault::NoMemory) => return Err(WorkTextFault::Script(ScriptFault::NoMemory)),
-        Err(fault) => return Err(WorkTextFault::Work(fault)),
+        Err(WorkFault::NoMemory) => return Err(ScriptFault::NoMemory),
+        Err(fault) => return Err(ScriptFault::Work(fault)),
     };
     let entries = match weave(alloc, histories.as_slice()) {
         Ok(entries) => entries,
-        Err(WeaveFault::NoMemory) => return Err(WorkTextFault::Script(ScriptFault::NoMemory)),
-        Err(WeaveFault::Stuck { .. }) => return Err(WorkTextFault::Stuck),
+        Err(WeaveFault::NoMemory) => return Err(ScriptFault::NoMemory),
+        Err(WeaveFault::Stuck { .. }) => return Err(ScriptFault::Stuck),
     };
     match judge(alloc, schema, entries.as_slice())? {
         Verdict::Legal => Ok(entries),
-        Verdict::Illegal { .. } => Err(WorkTextFault::Illegal),
+        Verdict::Illegal { .. } => Err(ScriptFault::Illegal),
     }
 }

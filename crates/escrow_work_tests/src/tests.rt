@@ -1,6 +1,6 @@
 //! What no clause says: the texts, honest works, and readers and writers that fail.
 
-use escrow_work::{ScriptFault, Watched, WorkTextFault, work_text};
+use escrow_work::{ScriptFault, Watched, WorkFault, work_text};
 use field_bounds::SchemaFault;
 use std::alloc::{AllocError, Global};
 use std::io;
@@ -19,7 +19,7 @@ fn work<R: Read + Drop>(
     rt: &(impl Threads + Wait + Sync),
     alloc: Global,
     reader: R,
-) -> (Result<(), WorkTextFault>, Vec<u8>) {
+) -> (Result<(), ScriptFault>, Vec<u8>) {
     let mut writer = Watched::new(Vec::new(alloc));
     let end = work_text(rt, alloc, &mut Watched::new(reader), &mut writer);
     (end, writer.into_inner())
@@ -141,7 +141,7 @@ fn tells_the_first_bad_line(rt: HostRuntime) -> Result<(), Fail> {
     for line in &BAD {
         for (lines, number) in [([*line, "0 begin"], 2), (["0 begin", *line], 3)] {
             let (end, out) = work(&rt, alloc, text_of(alloc, &lines)?.as_bytes());
-            assert_eq!(rt; end, Err(WorkTextFault::BadLine(number)));
+            assert_eq!(rt; end, Err(ScriptFault::BadLine(number)));
             assert_eq!(rt; out.len(), 0);
         }
     }
@@ -153,10 +153,7 @@ fn tells_the_first_bad_line(rt: HostRuntime) -> Result<(), Fail> {
 fn ends_at_a_long_line(rt: HostRuntime) -> Result<(), Fail> {
     let alloc = rt.alloc();
     let header = joined(alloc, &[HALVED, "\n0 begin\n"])?;
-    for (bytes, fault) in [
-        (256, WorkTextFault::Script(ScriptFault::Read)),
-        (257, WorkTextFault::BadLine(3)),
-    ] {
+    for (bytes, fault) in [(256, ScriptFault::Read), (257, ScriptFault::BadLine(3))] {
         let reader = header
             .as_bytes()
             .chain(io::repeat(b'x').take(bytes))
@@ -177,7 +174,7 @@ fn tells_bad_headers(rt: HostRuntime) -> Result<(), Fail> {
         ("{\"sites\":1}\nhello\n", SchemaFault::Shape),
     ] {
         let (end, out) = work(&rt, alloc, header.as_bytes());
-        let wanted = WorkTextFault::Script(ScriptFault::Header(fault));
+        let wanted = ScriptFault::Header(fault);
         assert_eq!(rt; end, Err(wanted), "at {header}");
         assert_eq!(rt; out.len(), 0);
     }
@@ -241,7 +238,7 @@ fn ends_where_a_read_fails(rt: HostRuntime) -> Result<(), Fail> {
         };
         let reader = Trickle(&text.as_bytes()[..count]).chain(Broken(kind));
         let (end, out) = work(&rt, alloc, reader);
-        assert_eq!(rt; end, Err(WorkTextFault::Script(ScriptFault::Read)));
+        assert_eq!(rt; end, Err(ScriptFault::Read));
         assert_eq!(rt; out.len(), 0);
     }
     Ok(())
@@ -260,7 +257,7 @@ fn ends_where_a_write_fails(rt: HostRuntime) -> Result<(), Fail> {
         });
         let end = work_text(&rt, alloc, &mut Watched::new(text.as_bytes()), &mut writer);
         if room < wanted.len() {
-            assert_eq!(rt; end, Err(WorkTextFault::Script(ScriptFault::Write)));
+            assert_eq!(rt; end, Err(ScriptFault::Write));
         } else {
             assert_eq!(rt; end, Ok(()));
         }
@@ -277,18 +274,15 @@ fn ends_where_a_write_fails(rt: HostRuntime) -> Result<(), Fail> {
 fn tells_faults(rt: HostRuntime) -> Result<(), Fail> {
     let alloc = rt.alloc();
     for (fault, text) in [
-        (WorkTextFault::Script(ScriptFault::Read), "read fault"),
-        (
-            WorkTextFault::Script(ScriptFault::NoMemory),
-            "out of memory",
-        ),
-        (WorkTextFault::BadLine(2), "bad line 2"),
-        (
-            WorkTextFault::Work(escrow_work::WorkFault::GateTurns),
-            "work fault",
-        ),
-        (WorkTextFault::Stuck, "stuck"),
-        (WorkTextFault::Illegal, "illegal"),
+        (ScriptFault::Read, "read fault"),
+        (ScriptFault::TooLong, "input too long"),
+        (ScriptFault::Write, "write fault"),
+        (ScriptFault::Header(SchemaFault::NotJson), "header S1"),
+        (ScriptFault::BadLine(2), "bad line 2"),
+        (ScriptFault::Work(WorkFault::GateTurns), "work fault"),
+        (ScriptFault::Stuck, "stuck"),
+        (ScriptFault::Illegal, "illegal"),
+        (ScriptFault::NoMemory, "out of memory"),
     ] {
         assert_eq!(rt; format!(in alloc; "{fault}")?.as_str(), text);
     }

@@ -1,4 +1,5 @@
--- The faults of a script (this project).
+-- The faults of a call that reads a text: a run of a script, an audit, or a work of all sites (this project). BadLine, Work,
+-- Stuck and Illegal are a work's alone: what they say is told where it answers them.
 use Rattle.std.specs.Prelude.{◌≡◌, ◌≢◌, ◌<◌, ◌≤◌, ◌⊎◌, ℕ, List, [], ◌∷◌, length, Option, Result, Ok, Err}
 use Rattle.std.specs.Io.KnownBytes.{IsAtEnd}
 use Rattle.field_bounds.specs.Schema.{SchemaValue}
@@ -17,12 +18,16 @@ abbrev pub header_fault : SchemaFault → ScriptFault
 header_fault schema_faults.NoMemory = faults.NoMemory
 header_fault fault = faults.Header fault
 
--- A fault of the script is that of the header, unless memory ran out, of which nothing can be said.
+-- A fault is that of the header, unless memory ran out, of which nothing can be said.
 abbrev pub TellsHeader : ScriptFault → Result SchemaValue SchemaFault → Type 0
 TellsHeader faults.Read told = ⊥
 TellsHeader faults.TooLong told = ⊥
 TellsHeader faults.Write told = ⊥
 TellsHeader (faults.Header fault) told = told ≡ Err fault
+TellsHeader (faults.BadLine number) told = ⊥
+TellsHeader (faults.Work fault) told = ⊥
+TellsHeader faults.Stuck told = ⊥
+TellsHeader faults.Illegal told = ⊥
 TellsHeader faults.NoMemory told = Unit {0}
 
 -- The bytes begin with LF (10).
@@ -37,7 +42,8 @@ pub record IsWithin (read : List ℕ) : Type 0 where
 
 -- What a fault says of the bytes in front of it, which are within the limits, and of those that were read after them. So
 -- too long an input is told just where a byte follows the 1,000,000th line or the 268,435,456th byte. What may be written at a
--- write fault, and of which input, is told by each call.
+-- write fault, and of which input, is told by each call. The faults that are a work's alone
+-- have no such reason: a call each of whose faults is explained so answers none of them.
 abbrev pub Explains : ScriptFault → List ℕ → List ℕ → Type 0 → Type 0
 Explains faults.Read front back ended = IsWithin front × (back ≡ [])
 Explains faults.TooLong front back ended = IsWithin front
@@ -46,6 +52,10 @@ Explains faults.Write front back ended = Unit {0}
 Explains (faults.Header fault) front back ended = IsWithin front × ((whole_lines front ≡ [])
     × (((schema_of front ≡ Err fault) × (BeginsWithBreak back ⊎ ((back ≡ []) × ended)))
     ⊎ ((fault ≡ schema_faults.TooLong) × (65536 < length front))))
+Explains (faults.BadLine number) front back ended = ⊥
+Explains (faults.Work fault) front back ended = ⊥
+Explains faults.Stuck front back ended = ⊥
+Explains faults.Illegal front back ended = ⊥
 Explains faults.NoMemory front back ended = IsWithin front
 
 -- The input has ended: no known byte is left, and the last read gave nothing.
@@ -58,6 +68,10 @@ CountsRead faults.Read before after = after ≡ one_more before
 CountsRead faults.TooLong before after = after ≡ before
 CountsRead faults.Write before after = after ≡ before
 CountsRead (faults.Header fault) before after = after ≡ before
+CountsRead (faults.BadLine number) before after = after ≡ before
+CountsRead (faults.Work fault) before after = after ≡ before
+CountsRead faults.Stuck before after = after ≡ before
+CountsRead faults.Illegal before after = after ≡ before
 CountsRead faults.NoMemory before after = after ≡ before
 
 -- How many reads failed, before and after a call that ends so.
@@ -71,6 +85,10 @@ CountsWrite faults.Read before after = after ≡ before
 CountsWrite faults.TooLong before after = after ≡ before
 CountsWrite faults.Write before after = after ≡ one_more before
 CountsWrite (faults.Header fault) before after = after ≡ before
+CountsWrite (faults.BadLine number) before after = after ≡ before
+CountsWrite (faults.Work fault) before after = after ≡ before
+CountsWrite faults.Stuck before after = after ≡ before
+CountsWrite faults.Illegal before after = after ≡ before
 CountsWrite faults.NoMemory before after = after ≡ before
 
 -- How many writes were refused, before and after a call that ends so.

@@ -1,12 +1,15 @@
-//! Why a script ended before its input did.
+//! Why a call on a text ended without its answer.
 
 ghost use Rattle.std.specs.Prelude.{◌≡◌};
 
 use field_bounds::SchemaFault;
 use std::alloc::AllocError;
 use thiserror::Error;
+use work_faults::WorkFault;
 
-/// Why a script ended before its input did. Each displays as the text that a program tells it by.
+/// Why a call that reads a text ended without its answer: a run of a script, an audit, or a work of
+/// all sites. Each displays as the text that a program tells it by. `BadLine`, `Work`, `Stuck` and
+/// `Illegal` are a work's alone.
 #[derive(Clone, Copy, Debug, Drop, PartialEq, Eq, Error)]
 pub enum ScriptFault {
     /// The reader answered an error.
@@ -21,6 +24,19 @@ pub enum ScriptFault {
     /// The header line tells no schema that can be run. Want of memory is never told so.
     #[error("header {0}")]
     Header(SchemaFault),
+    /// This line, counted from 1 with the header, is the first that is no plain command: a command
+    /// other than an accept, at a site of the schema, without a luck.
+    #[error("bad line {0}")]
+    BadLine(u64),
+    /// The workers didn't come to an end. Want of memory is never told so.
+    #[error("work fault")]
+    Work(WorkFault),
+    /// No trace weaves the histories that the workers made.
+    #[error("stuck")]
+    Stuck,
+    /// The trace isn't legal. It never comes.
+    #[error("illegal")]
+    Illegal,
     /// Memory was refused.
     #[error("out of memory")]
     NoMemory,

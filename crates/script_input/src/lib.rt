@@ -11,3 +11,4 @@ pub use fault::ScriptFault;
 pub use pieces::{MOST_BYTES, MOST_LINES, PIECE, front, new_buffer, read_piece, split_line};
 pub use streams::{CallFailed, End, Sink, Source};
 pub use watched::Watched;
+pub use work_faults::WorkFault;

@@ -4,8 +4,8 @@ use Rattle.std.specs.List.{slice_get}
 use Rattle.field_bounds.specs.declared.id.SiteNo.{SiteNo}
 use Rattle.field_bounds.specs.declared.entry.Entry.{Entry}
 use Rattle.site_desk.specs.declared.locked.Receipt.{Receipt}
-use Rattle.site_desk.specs.declared.receipts.ReceiptFault.{ReceiptFault}
-use Rattle.site_desk.specs.declared.receipts.ReceiptFault.TheVariants.{Differs, Twice, Missing, NoMemory}
+use Rattle.work_faults.specs.declared.receipts.ReceiptFault.{ReceiptFault}
+use Rattle.work_faults.specs.declared.receipts.ReceiptFault.TheVariants.{Differs, Twice, Missing, NoMemory}
 use Rattle.site_desk.specs.Receipts.{IsAt, AreAllAt, HasNumber, AreDistinct}
 
 -- The receipt at place i, before which all stand, each once.

@@ -12,4 +12,5 @@ pub use desk::{CloseError, Desk};
 pub use fault::DeskFault;
 pub use gate::{FreeGate, Gate};
 pub use locked::{Blank, Closed, Kept, Pass, Receipt};
-pub use receipts::{ReceiptFault, check_receipts};
+pub use receipts::check_receipts;
+pub use work_faults::ReceiptFault;

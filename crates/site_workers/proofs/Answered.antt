@@ -7,8 +7,8 @@ use Rattle.field_bounds.specs.declared.id.SiteNo.{SiteNo}
 use Rattle.field_bounds.specs.declared.entry.Command.{Command}
 use Rattle.field_bounds.specs.declared.entry.Entry.{Entry}
 use Rattle.field_bounds.specs.Schema.{SchemaValue}
-use Rattle.site_workers.specs.declared.fault.WorkFault.{WorkFault}
-use Rattle.site_workers.specs.declared.fault.WorkFault.TheVariants.{NoMemory}
+use Rattle.work_faults.specs.declared.workers.WorkFault.{WorkFault}
+use Rattle.work_faults.specs.declared.workers.WorkFault.TheVariants.{NoMemory}
 use Rattle.site_workers.specs.Faults.{IsSiteFault}
 use Rattle.site_workers.specs.Jobs.{IsAnswer, AreAnswers, lowest_fault, answers_of}
 use Rattle.site_workers.specs.Scripts.{histories_of, AreWorked}

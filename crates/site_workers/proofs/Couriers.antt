@@ -5,8 +5,8 @@ use Rattle.std.specs.Global.{Vec}
 use Rattle.field_bounds.specs.declared.id.SiteNo.{SiteNo}
 use Rattle.site_desk.specs.declared.locked.Receipt.{Receipt}
 use Rattle.site_workers.specs.declared.inbox.Letter.{Letter}
-use Rattle.site_workers.specs.declared.fault.WorkFault.{WorkFault}
-use Rattle.site_workers.specs.declared.fault.WorkFault.TheVariants.{NoMemory}
+use Rattle.work_faults.specs.declared.workers.WorkFault.{WorkFault}
+use Rattle.work_faults.specs.declared.workers.WorkFault.TheVariants.{NoMemory}
 use Rattle.site_workers.specs.Carried.{commands_of, Carries}
 use Rattle.site_workers.specs.Faults.{fault_of_courier, IsCarried}
 use Rattle.site_workers.specs.Scripts.{AreAccepts}

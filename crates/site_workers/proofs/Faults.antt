@@ -23,12 +23,12 @@ use Rattle.site_desk.specs.declared.fault.DeskFault.{DeskFault}
 use Rattle.site_desk.specs.declared.fault.DeskFault.TheVariants as desk_faults
 use Rattle.site_desk.specs.Faults.{Fails}
 use Rattle.site_desk.specs.declared.locked.Receipt.{Receipt}
-use Rattle.site_desk.specs.declared.receipts.ReceiptFault.{ReceiptFault}
-use Rattle.site_desk.specs.declared.receipts.ReceiptFault.TheVariants as receipt_faults
+use Rattle.work_faults.specs.declared.receipts.ReceiptFault.{ReceiptFault}
+use Rattle.work_faults.specs.declared.receipts.ReceiptFault.TheVariants as receipt_faults
 use Rattle.site_desk.specs.ReceiptFaults.{TellsReceipts}
 use Rattle.site_workers.specs.declared.inbox.Letter.{Letter}
-use Rattle.site_workers.specs.declared.fault.WorkFault.{WorkFault}
-use Rattle.site_workers.specs.declared.fault.WorkFault.TheVariants.{GateTurns, WentBack, Passes, Receipts, Foreign, Lost, NoMemory}
+use Rattle.work_faults.specs.declared.workers.WorkFault.{WorkFault}
+use Rattle.work_faults.specs.declared.workers.WorkFault.TheVariants.{GateTurns, WentBack, Passes, Receipts, Foreign, Lost, NoMemory}
 use Rattle.site_workers.specs.Scripts.{histories_of, history_at, HasAccept, AreWorked, NoneForeign, ScriptsFit}
 use Rattle.site_workers.specs.Crossing.{IsLowestForeign, IsLowestLost, Lacks}
 use Rattle.site_workers.specs.Faults.{fault_of_call, fault_of_courier, fault_of_receipts, IsCourierFault, TellsShort, Differs, IsFaultAt, IsSiteFault, ShowsForeign, ShowsLost, TellsForeign, TellsLost, TellsDiffers, TellsTurned, TurnsNone, site_named}

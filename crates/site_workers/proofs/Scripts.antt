@@ -19,7 +19,7 @@ use Rattle.field_bounds.specs.Effects.{fresh}
 use Rattle.field_bounds.specs.Owed.{IsRun}
 use Rattle.field_bounds.specs.Central.{AreOf}
 use Rattle.site_step.specs.Site.{SiteValue, base_of}
-use Rattle.site_workers.specs.declared.fault.WorkFault.{WorkFault}
+use Rattle.work_faults.specs.declared.workers.WorkFault.{WorkFault}
 use Rattle.site_workers.specs.declared.inbox.Letter.{Letter}
 use Rattle.site_workers.specs.declared.inbox.Letter.TheVariants.{Stated, End}
 use Rattle.site_workers.specs.Carried.{commands_of, accepts_of, Carries}

@@ -8,8 +8,8 @@ use Rattle.field_bounds.specs.declared.entry.Entry.{Entry}
 use Rattle.field_bounds.specs.Schema.{SchemaValue}
 use Rattle.field_bounds.specs.Limits.{IsSchema, max_sites}
 use Rattle.std.specs.Prelude.{Result, Ok, Err, IfSome, IfNone}
-use Rattle.site_workers.specs.declared.fault.WorkFault.{WorkFault}
-use Rattle.site_workers.specs.declared.fault.WorkFault.TheVariants.{NoMemory}
+use Rattle.work_faults.specs.declared.workers.WorkFault.{WorkFault}
+use Rattle.work_faults.specs.declared.workers.WorkFault.TheVariants.{NoMemory}
 use Rattle.site_workers.specs.Inboxes.{site_no}
 use Rattle.site_workers.specs.Scripts.{scripts_of, histories_of, HasNoAccept, AreSpared, ScriptsFit, AreWorked, NoneForeign, NoneLost, AllWorked}
 use Rattle.site_workers.specs.Jobs.{Job, FitsJob, AreJobs, AreStarted, AreJoined, IsAnswer, AreAnswers}

@@ -11,11 +11,11 @@ use Rattle.field_bounds.specs.Central.{AreOf}
 use Rattle.site_desk.specs.declared.fault.DeskFault.{DeskFault}
 use Rattle.site_desk.specs.declared.fault.DeskFault.TheVariants as desk_faults
 use Rattle.site_desk.specs.declared.locked.Receipt.{Receipt}
-use Rattle.site_desk.specs.declared.receipts.ReceiptFault.{ReceiptFault}
-use Rattle.site_desk.specs.declared.receipts.ReceiptFault.TheVariants as receipt_faults
+use Rattle.work_faults.specs.declared.receipts.ReceiptFault.{ReceiptFault}
+use Rattle.work_faults.specs.declared.receipts.ReceiptFault.TheVariants as receipt_faults
 use Rattle.site_desk.specs.ReceiptFaults.{TellsReceipts}
-use Rattle.site_workers.specs.declared.fault.WorkFault.{WorkFault}
-use Rattle.site_workers.specs.declared.fault.WorkFault.TheVariants.{GateTurns, WentBack, Passes, Receipts, Foreign, Lost, NoMemory}
+use Rattle.work_faults.specs.declared.workers.WorkFault.{WorkFault}
+use Rattle.work_faults.specs.declared.workers.WorkFault.TheVariants.{GateTurns, WentBack, Passes, Receipts, Foreign, Lost, NoMemory}
 use Rattle.site_workers.specs.declared.inbox.Letter.{Letter}
 use Rattle.site_workers.specs.Carried.{Carries, StopsShort}
 use Rattle.site_workers.specs.Scripts.{AreWorked, NoneForeign}

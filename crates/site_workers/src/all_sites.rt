@@ -7,11 +7,10 @@ ghost use Rattle.field_bounds.specs.declared.entry.Command.{Command as CommandSe
 ghost use Rattle.field_bounds.specs.Schema.{SchemaValue};
 ghost use Rattle.site_workers.specs.Jobs.{AreJoined, AreAnswers, IsAnswer, lowest_fault, answers_of};
 ghost use Rattle.site_workers.specs.Faults.{IsSiteFault, site_named, TellsForeign, TellsLost, TellsDiffers, TellsTurned};
-ghost use Rattle.site_workers.specs.declared.fault.WorkFault.TheVariants.{NoMemory};
+ghost use Rattle.work_faults.specs.declared.workers.WorkFault.TheVariants.{NoMemory};
 ghost use Rattle.site_workers.specs.Scripts.{scripts_of, histories_of, HasNoAccept, ScriptsFit, AreWorked, AllWorked};
 
 use crate::crossing::{foreign, lost};
-use crate::fault::WorkFault;
 use crate::inbox::{Slot, Way, admit, hire, open_inbox};
 use crate::one_site::{Seat, run_site};
 use crate::post::{Mail, Post, Spare, end_for};
@@ -23,6 +22,7 @@ use std::snapshot::Snapshot;
 use std::sync::Wait;
 use std::thread;
 use std::thread::Threads;
+use work_faults::WorkFault;
 
 /// One empty row of posts for each worker.
 fn empty_rows(alloc: Global, sites: u16) -> Result<Vec<Vec<Post>>, WorkFault>

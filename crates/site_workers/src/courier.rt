@@ -7,7 +7,7 @@ ghost use Rattle.field_bounds.specs.declared.entry.Command.TheVariants.{Accept};
 ghost use Rattle.site_workers.specs.Carried.{Carries};
 ghost use Rattle.site_workers.specs.Faults.{IsCourierFault, TellsShort};
 
-use crate::fault::{WorkFault, fault_of_call};
+use crate::fault::fault_of_call;
 use crate::inbox::{Inbox, Letter, Way, take};
 use field_bounds::{Command, Schema, Statement};
 use kept_records::Medium;
@@ -15,6 +15,7 @@ use site_desk::{Desk, Pass, Receipt};
 use std::alloc::Global;
 use std::sync::Wait;
 use std::sync::ledger::Ledger;
+use work_faults::WorkFault;
 
 /// Whether all are marked.
 fn all_marked(marks: &[bool]) -> bool

@@ -18,6 +18,6 @@ mod statement_sets;
 
 pub use all_sites::run_workers;
 pub use courier::carry;
-pub use fault::WorkFault;
 pub use fitting::scripts_fit;
 pub use inbox::{Inbox, Letter, Way};
+pub use work_faults::WorkFault;

@@ -3,13 +3,13 @@
 ghost use Rattle.std.specs.Prelude.{◌≡◌, ◌<◌, ◌++◌, ◌∷◌, ◌⊎◌, [], Ok, Err, Some, IfOk, IfErr, IfNone, IfSome, length, vec_len, map, reverse};
 ghost use Rattle.crossbeam_channel.specs.Claims.{view, IsSeatAt};
 ghost use Rattle.crossbeam_channel.specs.Ends.{sends_on, receives_on};
-ghost use Rattle.site_workers.specs.declared.fault.WorkFault.TheVariants.{NoMemory};
+ghost use Rattle.work_faults.specs.declared.workers.WorkFault.TheVariants.{NoMemory};
 ghost use Rattle.site_workers.specs.Carried.{commands_of};
 ghost use Rattle.site_workers.specs.Faults.{fault_of_courier, IsCarried, IsFaultAt, IsSiteFault, TurnsNone};
 ghost use Rattle.site_workers.specs.Scripts.{HasNoAccept, IsRising, IsClosed, IsWorked};
 
 use crate::courier::carry;
-use crate::fault::{WorkFault, fault_of_call, fault_of_courier, fault_of_receipts};
+use crate::fault::{fault_of_call, fault_of_courier, fault_of_receipts};
 use crate::inbox::Way;
 use crate::post::{Mail, Post, end_all};
 use field_bounds::{Command, Entry, Schema, SiteNo, statement_of};
@@ -22,6 +22,7 @@ use std::sync::Wait;
 use std::sync::ledger::Ledger;
 use std::thread;
 use std::thread::{Promise, Threads};
+use work_faults::WorkFault;
 
 /// What a site's thread is given: its number, its worker's script and ends of all inboxes, and its
 /// courier's end of its own.

@@ -4,12 +4,12 @@ ghost use Rattle.std.specs.Prelude.{◌≡◌, IfOk, IfErr};
 ghost use Rattle.site_workers.specs.Faults.{IsSiteFault};
 ghost use Rattle.site_workers.specs.Scripts.{IsWorked};
 
-use crate::fault::WorkFault;
 use field_bounds::{Command, Entry, Schema, SiteNo};
 use site_desk::Gate;
 use std::marker::Model;
 use std::snapshot::Snapshot;
 use std::thread::{Promise, PromisedHandle, Threads};
+use work_faults::WorkFault;
 
 /// What a site's thread hands back: its history, or its fault.
 pub(crate) type Answer = Result<Vec<Entry>, WorkFault>;

@@ -1,0 +1,4 @@
+pub mod Level
+pub mod Reach
+pub mod Text
+pub mod Run

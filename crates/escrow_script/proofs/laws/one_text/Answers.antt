@@ -1,8 +1,0 @@
-use Rattle.escrow_script.proofs.OneText.{only_text}
-use Rattle.escrow_script.proofs.laws.one_text.Goals as goal
-
-pub returns : goal.returns
-returns c = record {
-  only = λ schema other steps others lines text again has had.
-      only_text schema other steps others lines text again has had;
-}
