@@ -1,5 +1,6 @@
 pub mod Carrying
 pub mod Standings
+pub mod Posts
 pub mod Scripts
 pub mod Sets
 pub mod Traffic

@@ -1,17 +1,18 @@
 //! All sites, each in a thread of its own.
 
-ghost use Rattle.std.specs.Prelude.{◌≡◌, ◌<◌, [], List, Err, IfOk, IfErr, IfSome, IfNone};
-ghost use Rattle.crossbeam_channel.specs.Claims.{view, IsSeatAt};
+ghost use Rattle.std.specs.Prelude.{◌≡◌, ◌<◌, [], List, length, Err, IfOk, IfErr, OnOk, IfSome, IfNone};
+ghost use Rattle.crossbeam_channel.specs.Claims.{view};
 ghost use Rattle.crossbeam_channel.specs.Ends.{sends_on};
 ghost use Rattle.field_bounds.specs.declared.entry.Command.{Command as CommandSeen};
 ghost use Rattle.field_bounds.specs.Schema.{SchemaValue};
 ghost use Rattle.site_workers.specs.Jobs.{AreJoined, AreAnswers, IsAnswer, lowest_fault, answers_of};
 ghost use Rattle.site_workers.specs.Faults.{IsSiteFault, site_named, TellsForeign, TellsLost, TellsDiffers, TellsTurned};
 ghost use Rattle.work_faults.specs.declared.workers.WorkFault.TheVariants.{NoMemory};
+ghost use Rattle.site_workers.specs.Posts.{AreHired, AreOpened, HavePosts};
 ghost use Rattle.site_workers.specs.Scripts.{scripts_of, histories_of, HasNoAccept, ScriptsFit, AreWorked, AllWorked};
 
 use crate::crossing::{foreign, lost};
-use crate::inbox::{Slot, Way, admit, hire, open_inbox};
+use crate::inbox::open_inbox;
 use crate::one_site::{Seat, run_site};
 use crate::post::{Mail, Post, Spare, end_for};
 use crate::running::{Answer, Running, Task};
@@ -26,7 +27,9 @@ use work_faults::WorkFault;
 
 /// One empty row of posts for each worker.
 fn empty_rows(alloc: Global, sites: u16) -> Result<Vec<Vec<Post>>, WorkFault>
-    ensures { IfErr result (λ fault. fault ≡ NoMemory) }
+    ensures rows { IfOk result (λ rows. (length rows.items ≡ sites)
+        × HavePosts 0 rows.items []) }
+    ensures fault { IfErr result (λ fault. fault ≡ NoMemory) }
 {
     let mut rows = Vec::with_capacity(alloc, usize::from(sites))?;
     for _site in 0..sites {
@@ -36,47 +39,41 @@ fn empty_rows(alloc: Global, sites: u16) -> Result<Vec<Vec<Post>>, WorkFault>
 }
 
 /// Hires each site's worker at a new inbox, and puts its end of it into its row.
-fn hire_all(
-    slot: &Slot,
-    maker: &mut Way,
-    sites: u16,
-    posts: &mut Vec<Vec<Post>>,
-) -> Result<(), WorkFault>
-    requires seat { IsSeatAt (sends_on slot.now) maker.old }
-    requires new { (view maker.old).made ≡ 0 }
-    ensures seat { IsSeatAt (sends_on slot.now) maker.new }
+fn hire_all(spare: &mut Spare, sites: u16, posts: &mut Vec<Vec<Post>>) -> Result<(), WorkFault>
+    requires new { (view spare.old.way).made ≡ 0 }
+    requires rows { length posts.old.items ≡ sites }
+    ensures inbox { OnOk result (sends_on spare.new.slot ≡ sends_on spare.old.slot) }
+    ensures hired { OnOk result (AreHired spare.new 0 posts.old.items posts.new.items) }
+    ensures made { OnOk result ((view spare.new.way).made ≡ sites) }
     ensures fault { IfErr result (λ fault. fault ≡ NoMemory) }
 {
     for site in 0..sites {
-        let end = slot.try_clone()?;
-        let way = hire(slot, maker);
-        if let Some(row) = posts.get_mut(usize::from(site)) {
-            row.push(Post {
-                slot: end,
-                way,
-                site: SiteNo(site),
-            })?;
-        }
+        let post = spare.hire(SiteNo(site))?;
+        posts[usize::from(site)].push(post)?;
     }
     Ok(())
 }
 
-/// The posts of each worker, the mail of each courier, and the caller's ends of the inboxes.
+/// The posts of each worker, the mail of each courier, and the caller's ends of the inboxes. At
+/// each inbox a way was cut for each site's worker, once, and stands in that worker's row; the
+/// caller keeps the maker's, which has made as many workers as there are sites, so whoever it makes
+/// later has the name of no site.
 pub(crate) fn open_all(
     alloc: Global,
     sites: u16,
 ) -> Result<(Vec<Vec<Post>>, Vec<Mail>, Vec<Spare>), WorkFault>
-    ensures { IfErr result (λ fault. fault ≡ NoMemory) }
+    ensures opened { IfOk result (λ r. AreOpened sites r.0.items r.2.items) }
+    ensures fault { IfErr result (λ fault. fault ≡ NoMemory) }
 {
     let mut posts = empty_rows(alloc, sites)?;
     let mut mails = Vec::new(alloc);
     let mut spares = Vec::new(alloc);
     for _site in 0..sites {
-        let (slot, inbox, mut maker) = open_inbox(alloc)?;
-        hire_all(&slot, &mut maker, sites, &mut posts)?;
-        let way = admit(&slot, &mut maker);
-        mails.push(Mail { inbox, way })?;
-        spares.push(Spare { slot, way: maker })?;
+        let (slot, inbox, way) = open_inbox(alloc)?;
+        let mut spare = Spare { slot, way };
+        hire_all(&mut spare, sites, &mut posts)?;
+        mails.push(spare.admit(inbox))?;
+        spares.push(spare)?;
     }
     Ok((posts, mails, spares))
 }

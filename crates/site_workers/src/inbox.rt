@@ -1,11 +1,13 @@
 //! A courier's inbox: a bounded channel under a rule. Each Stated letter in the queue or among
-//! those taken was put by the worker of the site that it names as its giver. Four kinds of step
-//! keep the rule: a worker's way is made, another way is made, a letter is put, a letter is taken.
+//! those taken was put by the worker of the site that it names as its giver, and each site's name
+//! belongs to one way at most. Four kinds of step keep the rule: a worker's way is cut from the
+//! maker's, a courier's way is, a letter is put, a letter is taken.
 
 ghost use Rattle.std.specs.Prelude.{◌≡◌, ◌+◌, ◌<◌, ℕ, [], ◌∷◌, ◌++◌, IfOk, IfErr, OnOk, OnErr, MatchResult, None, Some, IfSome, IfNone};
 ghost use Rattle.crossbeam_channel.specs.Claims.{view, IsSeatAt};
 ghost use Rattle.crossbeam_channel.specs.Ends.{sends_on, receives_on};
-ghost use Rattle.site_workers.specs.Inboxes.{after_put, after_take, AllPut, maker_after, MayPut, newcomer, next_worker};
+ghost use Rattle.site_workers.specs.Inboxes.{after_put, after_take, first_maker, maker_after, MayPut, new_courier, next_worker};
+ghost use Rattle.site_workers.specs.declared.inbox.Role.TheVariants.{Maker};
 
 use crossbeam_channel::protocol::{Lesson, Outcome, Protocol, Split};
 use crossbeam_channel::{Pass, RuledReceiver, RuledSender, bounded_with};
@@ -28,10 +30,20 @@ pub enum Letter {
 /// The most letters that wait in an inbox.
 pub const INBOX_LETTERS: usize = 1_024;
 
-/// What a way knows: whose it is, how many workers' ways were made from it, and what was put and
+/// Whose a way is. No value of it is made.
+pub enum Role {
+    /// The maker of the inbox, from whose way all others are cut.
+    Maker,
+    /// The worker of this site, which may put what it states.
+    Worker(SiteNo),
+    /// The courier, or anyone else: no statement may be put on such a way.
+    Courier,
+}
+
+/// What a way knows: whose it is, how many workers' ways were cut from it, and what was put and
 /// taken on it, in order. No value of it is made.
 pub struct View {
-    pub worker: Option<SiteNo>,
+    pub role: Role,
     pub made: u64,
     pub put: LinkedList<Letter>,
     pub taken: LinkedList<Letter>,
@@ -41,33 +53,33 @@ pub struct View {
 pub struct Standing;
 
 impl Protocol<Letter, View> for Standing {
-    ghost use Rattle.site_workers.specs.Inboxes.{AllPut, newcomer};
+    ghost use Rattle.site_workers.specs.Inboxes.{IsKept, first_maker};
 
-    ghost holds = { AllPut };
+    ghost holds = { IsKept };
 
-    ghost first = { newcomer };
+    ghost first = { first_maker };
 }
 
-/// How a worker's way is made.
+/// How a worker's way is cut. From any way but the maker's it cuts one that is nobody's.
 pub struct Hires;
 
 impl Split<View> for Hires {
-    ghost use Rattle.site_workers.specs.Inboxes.{maker_after, next_worker};
+    ghost use Rattle.site_workers.specs.Inboxes.{hire_leaves, hire_cuts};
 
-    ghost left = { maker_after };
+    ghost left = { hire_leaves };
 
-    ghost right = { next_worker };
+    ghost right = { hire_cuts };
 }
 
-/// How a way that is no worker's is made.
+/// How a courier's way is cut.
 pub struct Admits;
 
 impl Split<View> for Admits {
-    ghost use Rattle.site_workers.specs.Inboxes.{newcomer};
+    ghost use Rattle.site_workers.specs.Inboxes.{new_courier};
 
     ghost left = { λ v. v };
 
-    ghost right = { λ v. newcomer };
+    ghost right = { λ v. new_courier };
 }
 
 /// What putting a letter tells its way.
@@ -109,11 +121,12 @@ pub type Slot = RuledSender<Letter, View, Standing>;
 pub type Inbox = RuledReceiver<Letter, View, Standing>;
 
 /// Makes an inbox for at most 1,024 letters that wait, with the way of its maker, who is no worker.
+/// No other way of its maker's is ever there, so no site's name is given twice.
 /// The error is want of memory, which it takes for all letters at once.
 pub fn open_inbox(alloc: Global) -> Result<(Slot, Inbox, Way), AllocError>
     ensures ends { IfOk result (λ r. receives_on r.1 ≡ sends_on r.0) }
     ensures seat { IfOk result (λ r. IsSeatAt (sends_on r.0) r.2) }
-    ensures view { IfOk result (λ r. view r.2 ≡ newcomer) }
+    ensures view { IfOk result (λ r. view r.2 ≡ first_maker) }
 {
     bounded_with::<Letter, View, Standing, Global>(alloc, INBOX_LETTERS)
 }
@@ -122,6 +135,7 @@ pub fn open_inbox(alloc: Global) -> Result<(Slot, Inbox, Way), AllocError>
 /// memory.
 pub fn hire(slot: &Slot, way: &mut Way) -> Way
     requires seat { IsSeatAt (sends_on slot.now) way.old }
+    requires role { (view way.old).role ≡ Maker }
     ensures seat { IsSeatAt (sends_on slot.now) way.new }
     ensures own { IsSeatAt (sends_on slot.now) result }
     ensures maker { view way.new ≡ maker_after (view way.old) }
@@ -130,13 +144,14 @@ pub fn hire(slot: &Slot, way: &mut Way) -> Way
     slot.another::<Hires>(way)
 }
 
-/// Cuts a way that is no worker's, as the courier's, from another. Costs no memory.
+/// Cuts a courier's way from the maker's: no statement may be put on it. Costs no memory.
 pub fn admit(slot: &Slot, way: &mut Way) -> Way
     requires seat { IsSeatAt (sends_on slot.now) way.old }
+    requires role { (view way.old).role ≡ Maker }
     ensures seat { IsSeatAt (sends_on slot.now) way.new }
     ensures own { IsSeatAt (sends_on slot.now) result }
     ensures same { view way.new ≡ view way.old }
-    ensures view { view result ≡ newcomer }
+    ensures view { view result ≡ new_courier }
 {
     slot.another::<Admits>(way)
 }

@@ -1,11 +1,13 @@
 //! What a worker, a courier and the caller hold of an inbox.
 
-ghost use Rattle.std.specs.Prelude.{◌≡◌, Some};
+ghost use Rattle.std.specs.Prelude.{◌≡◌, ◌+◌, IfOk, OnOk};
 ghost use Rattle.crossbeam_channel.specs.Claims.{view, IsSeatAt};
 ghost use Rattle.crossbeam_channel.specs.Ends.{sends_on, receives_on};
+ghost use Rattle.site_workers.specs.declared.inbox.Role.TheVariants.{Maker, Worker, Courier};
 
-use crate::inbox::{Inbox, Letter, Slot, Way, put};
+use crate::inbox::{Inbox, Letter, Slot, Way, admit, hire, put};
 use field_bounds::{SiteNo, Statement};
+use std::alloc::AllocError;
 use std::sync::Wait;
 
 /// A worker's end of an inbox, its own or another site's, with the worker's site.
@@ -15,7 +17,7 @@ pub(crate) struct Post {
     pub way: Way,
     pub site: SiteNo,
     ghost seated: { IsSeatAt (sends_on slot) way },
-    ghost named: { (view way).worker ≡ Some site },
+    ghost named: { (view way).role ≡ Worker site },
 }
 
 impl Post {
@@ -50,17 +52,49 @@ pub(crate) struct Mail {
     pub inbox: Inbox,
     pub way: Way,
     ghost seated: { IsSeatAt (receives_on inbox) way },
+    ghost courier: { (view way).role ≡ Courier },
 }
 
-/// The caller's end of an inbox, for the Ends of workers that can't be made.
+/// The caller's end of an inbox, whose maker it is: from its way all others are cut, and on it the
+/// Ends of workers are put that can't be made.
 #[derive(Drop)]
 pub(crate) struct Spare {
     pub slot: Slot,
     pub way: Way,
     ghost seated: { IsSeatAt (sends_on slot) way },
+    ghost maker: { (view way).role ≡ Maker },
 }
 
 impl Spare {
+    /// Hires the next site's worker: its end of the inbox.
+    pub fn hire(&mut self, site: SiteNo) -> Result<Post, AllocError>
+        requires next { (view self.old.way).made ≡ site.0 }
+        ensures inbox { sends_on self.new.slot ≡ sends_on self.old.slot }
+        ensures end { IfOk result (λ post. sends_on post.slot ≡ sends_on self.old.slot) }
+        ensures worker { IfOk result (λ post. (view post.way).role ≡ Worker site) }
+        ensures made { OnOk result ((view self.new.way).made ≡ (view self.old.way).made + 1) }
+    {
+        let Spare { slot, way } = self;
+        let end = slot.try_clone()?;
+        let own = hire(slot, way);
+        Ok(Post {
+            slot: end,
+            way: own,
+            site,
+        })
+    }
+
+    /// The courier's end of the inbox, from which it takes.
+    pub fn admit(&mut self, inbox: Inbox) -> Mail
+        requires same { receives_on inbox ≡ sends_on self.old.slot }
+        ensures inbox { sends_on self.new.slot ≡ sends_on self.old.slot }
+        ensures made { (view self.new.way).made ≡ (view self.old.way).made }
+    {
+        let Spare { slot, way } = self;
+        let own = admit(slot, way);
+        Mail { inbox, way: own }
+    }
+
     /// Tells the courier that the worker of this site puts no more.
     pub fn put_end<R: Wait>(&mut self, rt: &R, site: SiteNo) {
         let Spare { slot, way } = self;
