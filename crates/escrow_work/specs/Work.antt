@@ -108,10 +108,10 @@ pub record IsAsked (schema : SchemaValue) (scripts : List (List Command)) (read 
   pub within : IsWithin read
   pub at : ended
 
--- Want of memory in the work is told as such.
+-- Want of memory in the work is told as such, and its gate, which is free, turns no call away.
 abbrev pub IsWorkFault : WorkFault → Type 0
-IsWorkFault work_faults.GateTurns = Unit {0}
-IsWorkFault (work_faults.WentBack site len) = Unit {0}
+IsWorkFault work_faults.GateTurns = ⊥
+IsWorkFault (work_faults.WentBack site length) = Unit {0}
 IsWorkFault (work_faults.Passes site) = Unit {0}
 IsWorkFault (work_faults.Receipts fault) = Unit {0}
 IsWorkFault (work_faults.Foreign site) = Unit {0}
