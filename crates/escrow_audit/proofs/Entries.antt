@@ -1,11 +1,18 @@
--- The entries of lines, one more line at a time.
-use Rattle.std.proofs.Common.{◌≡◌, ℕ, List, [], ◌∷◌, ◌++◌, Option, None, Some, Ok, inl, inr, refl, sym, ap, subst, ◌∙◌}
-use Rattle.std.specs.Option.{IsNone, IsSome}
+-- The entries of lines, one more line at a time, and what the reading finds.
+use Rattle.std.proofs.Common.{◌≡◌, ℕ, ◌+◌, ◌<◌, List, [], ◌∷◌, ◌++◌, Option, length, inl, inr, refl, sym, ap, subst, ◌∙◌, arith}
+use Rattle.std.specs.Io.KnownBytes.{Consumes}
 use Rattle.field_bounds.specs.Schema.{SchemaValue}
-use Rattle.field_bounds.specs.Header.{schema_of}
 use Rattle.field_bounds.specs.declared.entry.Entry.{Entry}
-use Rattle.escrow_audit.specs.Audit.{AreEntries, HasEntries, IsGood}
-use Rattle.escrow_audit.specs.Reading.{Notes, Moves, IsAfterLines}
+use Rattle.entry_text.specs.Lines.{max_line}
+use Rattle.script_input.specs.declared.fault.ScriptFault.TheVariants.{NoMemory}
+use Rattle.script_input.specs.declared.streams.End.{End}
+use Rattle.script_input.specs.declared.reader.LineReader.{LineReader}
+use Rattle.script_input.specs.Faults.{HasEndedAt}
+use Rattle.script_input.specs.Reader.{Reads}
+use Rattle.script_input.proofs.NextLemmas.{HasNext, next_given, next_long, stops_no_memory}
+use Rattle.escrow_audit.specs.Audit.{AreEntries, HasEntries, IsBadEntry, FindsBad}
+use Rattle.escrow_audit.specs.Reading.{Notes, FindsIn, FaultsIn}
+use Rattle.escrow_audit.specs.declared.reading.Found.TheVariants.{BadEntry}
 
 -- a line behind entries that begin with one
 notes_behind : (schema : SchemaValue) (line : List ℕ) (entry : Entry) (later old new : List Entry) → old ≡ entry ∷ later
@@ -16,7 +23,7 @@ notes_behind schema line entry later old new e notes = elim notes [
   | inr more ↦ (later ++ more.0 ∷ [], (inr (more.0, (more.1.0, refl)), more.1.1 ∙ ap (λ (l : List Entry). l ++ more.0 ∷ []) e))
 ]
 
-pub AreEntries-more : (schema : SchemaValue) (lines : List (List ℕ)) (line : List ℕ) (old new : List Entry)
+AreEntries-more : (schema : SchemaValue) (lines : List (List ℕ)) (line : List ℕ) (old new : List Entry)
     → AreEntries schema lines old → Notes schema line old new → AreEntries schema (lines ++ line ∷ []) new
 AreEntries-more schema [] line old new none notes = elim notes [
   | inl remark ↦ inl (remark.0, remark.1 ∙ none)
@@ -40,44 +47,45 @@ HasEntries-more schema lines line old new has notes = record {
   each = AreEntries-more schema has.behind line old new has.each notes;
 }
 
-HasEntries-start : (schema : SchemaValue) (line : List ℕ) → schema_of line ≡ Ok schema → HasEntries schema [] (line ∷ [])
-HasEntries-start schema line start = record { header = line; behind = []; parts = refl; start = start; each = refl }
+-- ---- the first bad entry
 
--- the schema and the entries after one more line
-pub StandsFor-next : (before after : Option SchemaValue) (lines : List (List ℕ)) (line : List ℕ) (old new : List Entry)
-    → IsAfterLines before old lines → Moves before line after old new → IsAfterLines after new (lines ++ line ∷ [])
-StandsFor-next None None lines line old new stands moves = absurd moves
-StandsFor-next None (Some schema) lines line old new stands moves =
-    let first : lines ++ line ∷ [] ≡ line ∷ [] = ap (λ l. l ++ line ∷ []) stands.0 in
-    subst (λ (es : List Entry). HasEntries schema es (lines ++ line ∷ [])) (sym (moves.1 ∙ stands.1))
-    (subst (HasEntries schema []) (sym first) (HasEntries-start schema line moves.0))
-StandsFor-next (Some schema) None lines line old new stands moves = absurd moves
-StandsFor-next (Some schema) (Some same) lines line old new stands moves =
-    subst (λ (s : SchemaValue). HasEntries s new (lines ++ line ∷ [])) (sym moves.0)
-    (HasEntries-more schema lines line old new stands moves.1)
+module _ (from to : Option (List ℕ)) (last : End) (r : LineReader) (schema : SchemaValue) (entries : List Entry)
+    (given : List (List ℕ)) (has : HasEntries schema entries given) where
+  bad_next : (line : List ℕ) (number : ℕ) → number ≡ length given + 1 → IsBadEntry schema line → HasNext from to last given line max_line
+      → FindsIn from to last (BadEntry number)
+  bad_next line number place bad next = (
+    next.read,
+    (
+      next.consumed,
+      subst (λ n. FindsBad next.read n (HasEndedAt to last)) (sym place) (record {
+        first = record {
+          schema = schema;
+          entries = entries;
+          front = given;
+          line = line;
+          back = next.later;
+          parts = next.parts;
+          good = has;
+          bad = bad;
+          place = refl;
+        };
+        reached = next.reached;
+      }),
+    ),
+  )
 
-pub StandsFor-along : (s t : Option SchemaValue) (a b : List Entry) (ks ls : List (List ℕ)) → s ≡ t → a ≡ b → ks ≡ ls → IsAfterLines s a ks
-    → IsAfterLines t b ls
-StandsFor-along s t a b ks ls es ee el stands =
-    subst (λ x. IsAfterLines x b ls) es (subst (λ x. IsAfterLines s x ls) ee (subst (λ x. IsAfterLines s a x) el stands))
+  pub finds_bad : (line : List ℕ) (number : ℕ) → number ≡ length given + 1 → IsBadEntry schema line → r.passed ≡ 0
+      → Reads from to last r (given ++ line ∷ []) → FindsIn from to last (BadEntry number)
+  finds_bad line number place bad none reads =
+      bad_next line number place bad (next_given from to last r has.header has.behind given has.parts line max_line none reads)
 
-pub good_stands : (s : Option SchemaValue) (entries : List Entry) (lines : List (List ℕ)) → IsAfterLines s entries lines → IsGood lines
-good_stands None entries lines stands = inl stands.0
-good_stands (Some schema) entries lines stands = inr (schema, (entries, stands))
+  -- a line that is too long is bad, whatever it says
+  pub finds_long : (number : ℕ) → number ≡ length given + 1 → max_line < r.passed → Reads from to last r given
+      → FindsIn from to last (BadEntry number)
+  finds_long number place long reads =
+      let (line, (size, next)) = next_long from to last r has.header has.behind given has.parts max_line long reads in
+      bad_next line number place
+      (record { no_entry = λ entry is. omega (arith, is.short, size); no_remark = λ is. omega (arith, is.short, size) }) next
 
-pub none_lines : (s : Option SchemaValue) (entries : List Entry) (lines : List (List ℕ)) → IsNone s → IsAfterLines s entries lines
-    → lines ≡ []
-none_lines None entries lines none stands = stands.0
-none_lines (Some schema) entries lines none stands = cc
-
--- a header line came, so there are lines
-pub first_line : (s : Option SchemaValue) (entries : List Entry) (lines : List (List ℕ)) → IsSome s → IsAfterLines s entries lines
-    → (header : List ℕ) × ((behind : List (List ℕ)) × (lines ≡ header ∷ behind))
-first_line None entries lines some stands = cc
-first_line (Some schema) entries lines some stands = (stands.header, (stands.behind, stands.parts))
-
-pub moved_some : (s t : Option SchemaValue) (line : List ℕ) (old new : List Entry) → Moves s line t old new → IsSome t
-moved_some None None line old new moves = absurd moves
-moved_some None (Some schema) line old new moves = refl
-moved_some (Some schema) None line old new moves = absurd moves
-moved_some (Some schema) (Some same) line old new moves = refl
+pub faults_no_memory : (from to : Option (List ℕ)) (last : End) (read : List ℕ) → Consumes from to read → FaultsIn from to last NoMemory
+faults_no_memory from to last read consumed = ([], (inl refl, stops_no_memory from to last read consumed))

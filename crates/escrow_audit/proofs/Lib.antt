@@ -1,6 +1,4 @@
 pub mod Remarks
 pub mod Entries
-pub mod States
-pub mod Pieces
 pub mod Told
 pub mod OneAnswer

@@ -1,5 +1,5 @@
 -- What an audit answers of the lines that it reads (this project).
-use Rattle.std.specs.Prelude.{◌≡◌, ℕ, ◌+◌, ◌<◌, ◌≤◌, ◌⊎◌, List, [], ◌∷◌, ◌++◌, length, Ok, Option, codes}
+use Rattle.std.specs.Prelude.{◌≡◌, ℕ, ◌+◌, ◌≤◌, ◌⊎◌, List, [], ◌∷◌, ◌++◌, length, Ok, Option, codes}
 use Rattle.std.specs.Fmt.{decimal}
 use Rattle.std.specs.Io.KnownBytes.{Appends, Consumes}
 use Rattle.field_bounds.specs.Schema.{SchemaValue}
@@ -16,8 +16,8 @@ use Rattle.central_rules.specs.Verdict.{verdict_of}
 use Rattle.script_input.specs.declared.fault.ScriptFault.{ScriptFault}
 use Rattle.script_input.specs.declared.fault.ScriptFault.TheVariants as faults
 use Rattle.script_input.specs.declared.streams.End.{End}
-use Rattle.script_input.specs.Lines.{whole_lines, last_part, lines_of, script_lines}
-use Rattle.script_input.specs.Faults.{Explains, HasEndedAt, IsWithin}
+use Rattle.script_input.specs.Lines.{whole_lines, script_lines}
+use Rattle.script_input.specs.Faults.{Explains, HasEndedAt, IsWithin, IsLineReached}
 use Rattle.script_input.specs.Streams.{AppendsPrefix}
 use Rattle.escrow_audit.specs.declared.answer.AuditEnd.{AuditEnd}
 use Rattle.escrow_audit.specs.declared.answer.AuditEnd.TheVariants as ends
@@ -96,16 +96,11 @@ pub record IsJudged (lines : List (List ℕ)) (end : AuditEnd) (text : List ℕ)
   pub ended : end ≡ end_of (verdict_of schema entries)
   pub told : text ≡ verdict_text (verdict_of schema entries) (length entries)
 
--- The bytes have a bad entry, and this is the first. It stands in a front of them that is within the limits on lines and
--- bytes. Of its line that front has its LF, or more than 256 bytes, or all up to the end of the input.
+-- The bytes have a bad entry, and this is the first. It was reached within the limits: as a line, or as one of more than 256
+-- bytes.
 pub record FindsBad (read : List ℕ) (number : ℕ) (ended : Type 0) : Type 0 where
   pub first : IsFirstBad (script_lines read) number
-  pub front : List ℕ
-  pub back : List ℕ
-  pub parts : front ++ back ≡ read
-  pub within : IsWithin front
-  pub there : number ≤ length (lines_of front)
-  pub reached : (number ≤ length (whole_lines front)) ⊎ ((max_line < length (last_part front)) ⊎ ((back ≡ []) × ended))
+  pub reached : IsLineReached read number max_line ended
 
 -- What an audit answers of the bytes that it read, with what says that the input has ended: the first bad entry, or at the
 -- end of the input the verdict.

@@ -1,16 +1,15 @@
 //! What an audit answers, and its text.
 
-ghost use Rattle.std.specs.Prelude.{◌≡◌, ◌≢◌, ◌++◌, ◌∷◌, [], codes, string_bytes, length, IfOk, IfErr, OnOk, OnErr, Some, IsSome};
+ghost use Rattle.std.specs.Prelude.{◌≡◌, ◌≢◌, ◌++◌, ◌∷◌, [], codes, string_bytes, length, IfOk, IfErr, OnOk, OnErr};
 ghost use Rattle.std.specs.Io.KnownBytes.{Appends};
 ghost use Rattle.std.specs.Fmt.{decimal};
-ghost use Rattle.field_bounds.specs.Schema.{SchemaValue};
 ghost use Rattle.central_rules.specs.Verdict.{verdict_of};
 ghost use Rattle.script_input.specs.Streams.{HasFailed, GaveNothing, HasRefused, AppendsPrefix};
 ghost use Rattle.script_input.specs.Faults.{CountsReads, CountsWrites};
 ghost use Rattle.escrow_audit.specs.Reading.{Tells, FaultsIn};
 ghost use Rattle.escrow_audit.specs.Audit.{rule_text, verdict_text, end_of, bad_entry_text, Audits, Fails};
 
-use crate::reading::{Reading, Stop};
+use crate::reading::{Found, read_entries};
 use central_machine::{judge, judge_fields};
 use central_rules::{Rule, Verdict};
 use field_bounds::{Entry, Schema};
@@ -100,20 +99,15 @@ fn judge_all(
     rt: &(impl Threads + Sync),
     alloc: Global,
     fields: bool,
-    reading: &Reading,
+    schema: &Schema,
+    entries: &[Entry],
 ) -> Result<(AuditEnd, String), AllocError>
-    requires { IsSome reading.now.schema }
-    ensures end { IfOk result (λ told. (schema : SchemaValue) → reading.now.schema ≡ Some schema
-        → told.0 ≡ end_of (verdict_of schema reading.now.entries.items)) }
-    ensures text { IfOk result (λ told. (schema : SchemaValue) → reading.now.schema ≡ Some schema
-        → string_bytes told.1 ≡ verdict_text (verdict_of schema reading.now.entries.items)
-        (length reading.now.entries.items)) }
+    ensures end { IfOk result (λ told. told.0 ≡ end_of (verdict_of schema.now entries.now)) }
+    ensures text { IfOk result (λ told. string_bytes told.1
+        ≡ verdict_text (verdict_of schema.now entries.now) (length entries.now)) }
 {
-    let Some(schema) = &reading.schema else {
-        unreachable!()
-    };
-    let verdict = verdict(rt, alloc, fields, schema, reading.entries.as_slice())?;
-    let text = verdict_line(alloc, verdict, reading.entries.len())?;
+    let verdict = verdict(rt, alloc, fields, schema, entries)?;
+    let text = verdict_line(alloc, verdict, entries.len())?;
     Ok((end_of(verdict), text))
 }
 
@@ -131,15 +125,13 @@ fn answer<R: Source>(
     ensures read { IfErr result (λ fault. fault ≡ ScriptFault.Read
         → HasFailed (R.last reader.new)) }
     ensures reads { CountsReads result (R.failures reader.old) (R.failures reader.new) }
+    ensures other { IfErr result (λ fault. fault ≢ ScriptFault.Write) }
 {
-    let mut reading = Reading::new(alloc);
-    match reading.read_all(reader) {
-        Ok(()) => Ok(judge_all(rt, alloc, fields, &reading)?),
-        Err(Stop::BadEntry) => {
-            let line = bad_entry_line(alloc, reading.next_line())?;
-            Ok((AuditEnd::BadEntry, line))
+    match read_entries(alloc, reader)? {
+        Found::Entries(schema, entries) => {
+            Ok(judge_all(rt, alloc, fields, &schema, entries.as_slice())?)
         }
-        Err(Stop::Fault(fault)) => Err(fault),
+        Found::BadEntry(number) => Ok((AuditEnd::BadEntry, bad_entry_line(alloc, number)?)),
     }
 }
 
@@ -187,7 +179,7 @@ fn write_out<W: Sink>(writer: &mut W, bytes: &[u8]) -> Result<(), ScriptFault>
 /// With `fields` the entries are judged field by field, by threads, and else in one pass: the
 /// answer is the same.
 ///
-/// Costs 64 KiB for input and memory for the entries and for the judge, and time in proportion to
+/// Costs 128 KiB for input and memory for the entries and for the judge, and time in proportion to
 /// the input.
 ///
 /// Source: O'Neil 1986 for the central store, Balegas and others 2015 for rights that are divided

@@ -2,7 +2,7 @@
 use Rattle.std.proofs.Common.{◌≡◌, ℕ, List, [], ◌∷◌, ◌++◌, Option, Some, None, length, reverse, refl, sym, ap, subst, ◌∙◌, All, codes, inr}
 use Rattle.std.specs.Fmt.{decimal}
 use Rattle.std.proofs.lemmas.List.{reverse-append, reverse-reverse}
-use Rattle.std.proofs.lemmas.List.Elements.{All-nil, All-push, All-head, All-tail}
+use Rattle.std.proofs.lemmas.List.Elements.{All-nil, All-push}
 use Rattle.field_bounds.specs.declared.entry.Entry.{Entry}
 use Rattle.field_bounds.specs.Schema.{SchemaValue}
 use Rattle.field_bounds.specs.Limits.{IsSchema}
@@ -12,26 +12,16 @@ use Rattle.world_steps.specs.View.{WorldValue, trace_of}
 use Rattle.world_steps.proofs.Sound.{StepsFit}
 use Rattle.kept_state.specs.Luck.{entries}
 use Rattle.reaching_steps.specs.declared.fault.ReachFault.{ReachFault}
-use Rattle.reaching_steps.specs.declared.fault.ReachFault.TheVariants.{NoSite, NoField, NotUp, InFlight, Unstated, Tightened, Numbers, Outside, NoMemory}
+use Rattle.reaching_steps.specs.declared.fault.ReachFault.TheVariants.{NoMemory}
 use Rattle.reaching_steps.specs.Reach.{reach_steps, reach_fault}
-use Rattle.reaching_steps.specs.Body.{Explains}
 use Rattle.reaching_steps.proofs.Reaching.{all_reached}
 use Rattle.escrow_run.specs.declared.aim.Aim.{Aim}
-use Rattle.escrow_run.specs.Reach.{reach_text, Aims, IsReason}
-use Rattle.escrow_run.specs.Text.{trace, IsReached, AsksReach, AsksSteps}
-use Rattle.escrow_run.proofs.LevelLemmas.{fit_both}
+use Rattle.escrow_run.specs.Reach.{reach_text, IsReason}
+use Rattle.escrow_run.specs.Text.{trace, Aims, IsReached, AsksReach, AsksSteps}
+use Rattle.escrow_run.proofs.LevelLemmas.{all_fit, fit_both}
 use Rattle.escrow_run.proofs.AimLines.{one_aim}
 
 -- ---- a world takes them
-
-all_fit : (schema : SchemaValue) (steps : List WorldStep) → All (StepFits schema) steps → StepsFit schema (reverse steps)
-all_fit schema [] h = tt
-all_fit schema (x ∷ steps) h =
-    subst (λ (l : List WorldStep). StepsFit schema l) (sym (reverse-append (x ∷ []) steps))
-    (fit_both schema (reverse steps) (x ∷ []) (all_fit schema steps (All-tail (StepFits schema) x steps h)) (
-      tt,
-      All-head (StepFits schema) x steps h,
-    ))
 
 fit_all : (schema : SchemaValue) (steps : List WorldStep) → StepsFit schema steps → All (StepFits schema) (reverse steps)
 fit_all schema [] h = All-nil (StepFits schema)
@@ -66,15 +56,8 @@ reach_fits schema good line old steps head fit asks =
 -- ---- they are the only ones
 
 one_reason : (fault : ReachFault) (word other : List ℕ) → IsReason fault word → IsReason fault other → word ≡ other
-one_reason NoSite word other a b = a ∙ sym b
-one_reason NoField word other a b = a ∙ sym b
-one_reason (NotUp site) word other a b = a ∙ sym b
-one_reason (InFlight from) word other a b = a ∙ sym b
-one_reason (Unstated to) word other a b = a ∙ sym b
-one_reason Tightened word other a b = a ∙ sym b
-one_reason (Numbers site) word other a b = a ∙ sym b
-one_reason (Outside lo hi) word other a b = a ∙ sym b
 one_reason NoMemory word other a b = absurd a
+one_reason fault word other a b = a ∙ sym b
 
 one_reached : (schema : SchemaValue) (aim : Aim) (old : List WorldStep) (first : Option ReachFault) (steps others : List WorldStep)
     (head other : List ℕ)
@@ -96,18 +79,6 @@ one_reach schema good line old steps others head other a b =
 
 -- ---- they are those that a call answers
 
-pub explained : (fault : ReachFault) (first : Option ReachFault) (word : List ℕ) → Explains fault first → IsReason fault word
-    → first ≡ Some fault
-explained NoSite first word is reason = is
-explained NoField first word is reason = is
-explained (NotUp site) first word is reason = is
-explained (InFlight from) first word is reason = is
-explained (Unstated to) first word is reason = is
-explained Tightened first word is reason = is
-explained (Numbers site) first word is reason = is
-explained (Outside lo hi) first word is reason = is
-explained NoMemory first word is reason = absurd reason
-
 pub asks_reach : (w : WorldValue) (line : List ℕ) (aim : Aim) (steps : List WorldStep) (head : List ℕ) → Aims w.schema line aim
     → reach_fault w.schema (trace_of w) aim.site aim.field aim.target ≡ None
     → steps ≡ reach_steps w.schema w.steps aim.site aim.field aim.target
@@ -122,14 +93,13 @@ asks_reach w line aim steps head aims clear are is = inr (record {
 })
 
 pub asks_in_vain : (w : WorldValue) (line : List ℕ) (aim : Aim) (fault : ReachFault) (word : List ℕ) → Aims w.schema line aim
-    → Explains fault (reach_fault w.schema (trace_of w) aim.site aim.field aim.target) → IsReason fault word
+    → reach_fault w.schema (trace_of w) aim.site aim.field aim.target ≡ Some fault → IsReason fault word
     → AsksSteps w.schema line (reverse w.steps) [] (line ++ codes " -> no " ++ word)
-asks_in_vain w line aim fault word aims is reason = inr (record {
+asks_in_vain w line aim fault word aims first reason = inr (record {
   aim = aim;
   aims = aims;
-  reached = subst (λ (o : Option ReachFault). IsReached w.schema aim (reverse w.steps) o [] (line ++ codes " -> no " ++ word))
-      (sym (explained fault (reach_fault w.schema (trace_of w) aim.site aim.field aim.target) word is reason)) (
-        refl,
-        (word, reason, ap (λ (l : List ℕ). l ++ codes " -> no " ++ word) aims.text),
-      );
+  reached = subst (λ (o : Option ReachFault). IsReached w.schema aim (reverse w.steps) o [] (line ++ codes " -> no " ++ word)) (sym first) (
+    refl,
+    (word, reason, ap (λ (l : List ℕ). l ++ codes " -> no " ++ word) aims.text),
+  );
 })

@@ -1,49 +1,15 @@
 -- What answers a line, by the steps that a world takes for it.
-use Rattle.std.proofs.Common.{◌≡◌, ℕ, zero, suc, ◌+◌, ◌<◌, ◌≤◌, List, [], ◌∷◌, ◌++◌, length, map, take, get_or, reverse, refl, sym, ap, subst, ◌∙◌, append_assoc, append-nil, arith, inl, inr, codes}
-use Rattle.std.proofs.lemmas.List.{length-append, map-append, reverse-append, take_more}
-use Rattle.std.proofs.Math.Seq.{take-append_seam}
-use Rattle.rebalance.specs.declared.even_plan.Move.{Move}
-use Rattle.field_bounds.specs.declared.entry.Entry.{Entry}
+use Rattle.std.proofs.Common.{◌≡◌, ℕ, ◌+◌, ◌<◌, List, [], ◌∷◌, ◌++◌, length, take, get_or, reverse, refl, sym, ap, subst, ◌∙◌, append_assoc, append-nil, inl, inr}
+use Rattle.std.proofs.lemmas.List.{reverse-append, take_more}
 use Rattle.field_bounds.specs.Schema.{SchemaValue}
-use Rattle.entry_text.specs.Spelling.{entry_text}
-use Rattle.kept_state.specs.Luck.{entries}
 use Rattle.world_steps.specs.declared.step.WorldStep.{WorldStep}
-use Rattle.world_steps.specs.declared.step.StepReply.TheVariants.{Made, NoStatement}
-use Rattle.world_steps.specs.View.{WorldValue, lucky_trace, Answers}
-use Rattle.escrow_run.specs.Text.{line_text, trace, remark_text, Asks, AsksSteps, IsBad, IsReply, AreReplies}
+use Rattle.world_steps.specs.View.{WorldValue}
+use Rattle.escrow_run.specs.Text.{line_text, Asks, AsksSteps, IsReply, AreReplies}
 use Rattle.escrow_run.specs.Run.{Answered, HasTaken}
-
--- ---- one step
 
 -- a world that has taken steps
 abbrev with_steps : WorldValue → List WorldStep → WorldValue
 with_steps world steps = record world { steps = world.steps ++ steps }
-
--- the entry that a step made answers it
-pub made_reply : (old new : WorldValue) (step : WorldStep) (entry : Entry) → new ≡ with_steps old (step ∷ [])
-    → Answers (Made entry) old step new
-    → IsReply old.schema (reverse old.steps) step (line_text (entry_text old.schema entry))
-made_reply old new step entry taken grows = inl (
-  entry,
-  ap (λ (l : List WorldStep). trace old.schema l) (sym (reverse-append old.steps (step ∷ [])))
-      ∙ ap (λ (w : WorldValue). entries (lucky_trace w)) (sym taken) ∙ ap entries grows,
-  refl,
-)
-
--- and so does the remark on a step that made none
-pub missed_reply : (old new : WorldValue) (step : WorldStep) → Answers NoStatement old step new
-    → IsReply old.schema (reverse old.steps) step (line_text (remark_text old.schema step))
-missed_reply old new step missed = inr (missed.0, refl)
-
-pub took_one : (old new : WorldValue) (step : WorldStep) (out grown reply : List ℕ) → new ≡ with_steps old (step ∷ [])
-    → IsReply old.schema (reverse old.steps) step reply
-    → grown ≡ out ++ reply → HasTaken (step ∷ []) old new out grown
-took_one old new step out grown reply taken is written = record {
-  replies = reply;
-  taken = taken;
-  answered = ([], reply, refl, is, refl);
-  written = written;
-}
 
 -- ---- many steps
 
@@ -100,43 +66,7 @@ took_next steps i d step old middle new out between grown below is before last =
     subst (λ (l : List WorldStep). HasTaken l old new out grown) (sym all)
     (took_more (take i steps) step old middle new out between grown before last)
 
--- the gift of the next move of a plan
-pub took_gift : (gift : Move → WorldStep) (plan : List Move) (i : ℕ) (d : Move) (step : WorldStep) (old middle new : WorldValue)
-    (out between grown : List ℕ)
-    → i < length plan → step ≡ gift (get_or plan i d) → HasTaken (map gift (take i plan)) old middle out between
-    → HasTaken (step ∷ []) middle new between grown
-    → HasTaken (map gift (take (i + 1) plan)) old new out grown
-took_gift gift plan i d step old middle new out between grown below is before last =
-    let all : map gift (take (i + 1) plan) ≡ map gift (take i plan) ++ step ∷ [] =
-    ap (map gift) (take_more plan i d below) ∙ map-append gift (take i plan) (get_or plan i d ∷ [])
-    ∙ ap (λ (s : WorldStep). map gift (take i plan) ++ s ∷ []) (sym is) in
-    subst (λ (l : List WorldStep). HasTaken l old new out grown) (sym all)
-    (took_more (map gift (take i plan)) step old middle new out between grown before last)
-
 -- ---- a line
-
-take_twice : (n m : ℕ) (xs : List ℕ) → n ≤ m → take n (take m xs) ≡ take n xs
-take_twice zero m xs h = refl
-take_twice (suc n) zero xs h = absurd (omega arith)
-take_twice (suc n) (suc m) [] h = refl
-take_twice (suc n) (suc m) (x ∷ xs) h = ap (λ (l : List ℕ). x ∷ l) (take_twice n m xs (omega arith))
-
--- what is cut back to a front is cut back to a front of that
-pub front_stays : (out more between grown : List ℕ) → between ≡ out ++ more → take (length between) grown ≡ between
-    → take (length out) grown ≡ out
-front_stays out more between grown is front =
-    let longer : length out + length more ≡ length between = sym (length-append out more) ∙ ap (λ (l : List ℕ). length l) (sym is) in
-    sym (take_twice (length out) (length between) grown (omega (arith, longer))) ∙ ap (take (length out)) (front ∙ is)
-    ∙ take-append_seam out more
-
-pub answered_bad : (line : List ℕ) (old : WorldValue) (out grown : List ℕ) → IsBad old.schema line
-    → grown ≡ out ++ line_text (codes "bad line") → Answered line old old out grown
-answered_bad line old out grown bad written = record {
-  text = line_text (codes "bad line");
-  schema = refl;
-  answer = inl (bad, refl, refl);
-  written = written;
-}
 
 pub answered_step : (line : List ℕ) (step : WorldStep) (old new : WorldValue) (out grown : List ℕ) → Asks old.schema line step
     → HasTaken (step ∷ []) old new out grown → Answered line old new out grown

@@ -1,7 +1,7 @@
 -- How many reads failed, and how many writes were refused, in a run that writes once more at its end.
 use Rattle.std.proofs.Common.{◌≡◌, ◌≢◌, ℕ, ◌<◌, List, [], length, Result, Ok, Err, IfErr, refl, sym, ap, ◌∙◌, subst, arith}
 use Rattle.script_input.specs.declared.fault.ScriptFault.{ScriptFault}
-use Rattle.script_input.specs.declared.fault.ScriptFault.TheVariants.{Read, TooLong, Write, Header, BadLine, Work, Stuck, Illegal, NoMemory}
+use Rattle.script_input.specs.declared.fault.ScriptFault.TheVariants.{Read, Write}
 use Rattle.script_input.specs.Streams.{one_more}
 use Rattle.script_input.specs.Faults.{CountsRead, CountsReads, CountsWrite}
 
@@ -18,25 +18,11 @@ reads_written {T} (Err fault) before after is same = subst (λ f. CountsReads {T
 pub reads_again : (fault : ScriptFault) (out : List ℕ) (before after : ℕ) → (fault ≡ Read → out ≡ []) → 0 < length out
     → CountsRead fault before after → after ≡ before
 reads_again Read out before after empty some = absurd (none_long out (empty refl) some)
-reads_again TooLong out before after empty some = λ same. same
-reads_again Write out before after empty some = λ same. same
-reads_again (Header fault) out before after empty some = λ same. same
-reads_again (BadLine n) out before after empty some = λ same. same
-reads_again (Work e) out before after empty some = λ same. same
-reads_again Stuck out before after empty some = λ same. same
-reads_again Illegal out before after empty some = λ same. same
-reads_again NoMemory out before after empty some = λ same. same
+reads_again fault out before after empty some = λ same. same
 
 none_refused : (fault : ScriptFault) (before after : ℕ) → fault ≢ Write → CountsWrite fault before after → after ≡ before
 none_refused Write before after other = absurd (other refl)
-none_refused Read before after other = λ same. same
-none_refused TooLong before after other = λ same. same
-none_refused (Header fault) before after other = λ same. same
-none_refused (BadLine n) before after other = λ same. same
-none_refused (Work e) before after other = λ same. same
-none_refused Stuck before after other = λ same. same
-none_refused Illegal before after other = λ same. same
-none_refused NoMemory before after other = λ same. same
+none_refused fault before after other = λ same. same
 
 pub writes_again : (first last : ScriptFault) (before middle after : ℕ) → first ≢ Write → CountsWrite first before middle → last ≡ Write
     → CountsWrite last middle after → after ≡ one_more before

@@ -8,5 +8,4 @@ pub mod AnswerLemmas
 pub mod TextLemmas
 pub mod RunLemmas
 pub mod CountLemmas
-pub mod PieceLemmas
 pub mod OneText

@@ -3,9 +3,6 @@ use Rattle.std.proofs.Common.{◌≡◌, ◌≢◌, ℕ, ◌^◌, ◌<◌, List,
 use Rattle.std.specs.Prelude.{codes, IfNone}
 use Rattle.std.specs.List.{All, AllByRecursion}
 use Rattle.std.specs.Fmt.{decimal}
-use Rattle.std.specs.Str.Parse.{AllDigits}
-use Rattle.std.proofs.lemmas.Fmt.{decimal_is_IsNumeral, decimal_nonempty}
-use Rattle.std.proofs.lemmas.Str.Parse.{digit_from_value}
 use Rattle.std.proofs.lemmas.List.{length-append, append_cancel_right}
 use Rattle.std.proofs.lemmas.List.Elements.{All-from_recursion}
 use Rattle.std.proofs.lemmas.Option.{same_Some}
@@ -13,17 +10,16 @@ use Rattle.std.proofs.Math.Seq.{get_or-append_seam}
 use Rattle.field_bounds.specs.Schema.{SchemaValue}
 use Rattle.field_bounds.specs.declared.id.SiteNo.{SiteNo}
 use Rattle.field_bounds.specs.declared.entry.Command.{Command}
-use Rattle.line_words.specs.Words.{line}
+use Rattle.line_words.specs.Reading.{number_of}
+use Rattle.line_words.proofs.Numbers.{number_again}
 use Rattle.line_words.proofs.WordLemmas.{IsWord, decimal_word}
-use Rattle.entry_text.specs.Spelling.{site_text, command_words, command_text}
+use Rattle.entry_text.specs.Spelling.{command_text}
 use Rattle.entry_text.specs.Ranges.{SiteFits, CommandFits}
 use Rattle.kept_state.specs.declared.luck.Luck.{Luck}
 use Rattle.kept_state.specs.declared.luck.Luck.TheVariants.{Fine, Torn}
-use Rattle.world_steps.specs.declared.step.WorldStep.{WorldStep}
-use Rattle.world_steps.specs.declared.step.WorldStep.TheVariants.{Do, Deliver}
-use Rattle.world_steps.specs.World.{luck_of}
-use Rattle.escrow_run.specs.Text.{plain_text, luck_text, step_text, LuckFits, NumbersFit}
-use Rattle.escrow_run.proofs.StepLemmas.{head_is, tail_is, decimal_one}
+use Rattle.world_steps.specs.declared.step.WorldStep.TheVariants.{Do}
+use Rattle.escrow_run.specs.Text.{luck_text, step_text, NumbersFit}
+use Rattle.escrow_run.proofs.StepLemmas.{head_is, tail_is}
 
 -- ---- the last space of a line
 
@@ -70,7 +66,12 @@ luck_cut bytes front word plain n small unspaced cut torn =
 pub luck_spaced : (bytes plain : List ℕ) (n : ℕ) → IsUnspaced bytes → bytes ≡ plain ++ luck_text (Torn n) → ⊥
 luck_spaced bytes plain n unspaced torn = has_space bytes plain (codes "torn " ++ decimal n) unspaced torn
 
-luck_one : (plain other : List ℕ) (n m : ℕ) → n < 2 ^ 64 → m < 2 ^ 64 → plain ++ luck_text (Torn n) ≡ other ++ luck_text (Torn m)
+decimal_one : (n m : ℕ) → n < 2 ^ 64 → m < 2 ^ 64 → decimal n ≡ decimal m → n ≡ m
+decimal_one n m small below e =
+    same_Some n m (sym (number_again (2 ^ 64) n (omega arith) small) ∙ ap (number_of (2 ^ 64)) e
+    ∙ number_again (2 ^ 64) m (omega arith) below)
+
+pub luck_one : (plain other : List ℕ) (n m : ℕ) → n < 2 ^ 64 → m < 2 ^ 64 → plain ++ luck_text (Torn n) ≡ other ++ luck_text (Torn m)
     → (plain ≡ other) × (n ≡ m)
 luck_one plain other n m small below e =
     let cut = luck_cut (plain ++ luck_text (Torn n)) (plain ++ codes " torn") (decimal n) other m below (decimal_unspaced n small)
@@ -81,55 +82,13 @@ pub if_none : {A : Type 0} (o : Option A) (P : Type 0) → P → IfNone o P
 if_none None P h = h
 if_none (Some x) P h = tt
 
--- ---- what a line without luck asks
+-- ---- a line that asks no command
 
-pub no_digit : (letter : ℕ) → 57 < letter → (w : List ℕ) (ws : List (List ℕ)) (rest : List ℕ) → AllDigits 10 w → 0 < length w
-    → line (w ∷ ws) ≡ letter ∷ rest → ⊥
-no_digit letter high [] ws rest all some e = omega arith
-no_digit letter high (b ∷ w) [] rest all some e = omega (arith, (digit_from_value b all.0).1, head_is b letter w rest e)
-no_digit letter high (b ∷ w) (v ∷ ws) rest all some e =
-    omega (arith, (digit_from_value b all.0).1, head_is b letter (w ++ (32 ∷ line (v ∷ ws))) rest e)
-
--- a command's line is no delivery's
-no_delivery : (schema : SchemaValue) (site : SiteNo) (command : Command) (rest : List ℕ) → SiteFits site
-    → command_text schema site command ≡ 100 ∷ rest → ⊥
-no_delivery schema site command rest fits e =
-    let small : site.0 < 2 ^ 64 = omega (arith, fits) in
-    no_digit 100 (omega arith) (site_text site) (command_words schema command) rest (decimal_is_IsNumeral site.0 small).0.1
-    (decimal_nonempty site.0 small) e
-
--- the step of a line that is a command's
-pub only_command : (schema : SchemaValue) (bytes : List ℕ) (site : SiteNo) (command : Command) (luck : Luck) → SiteFits site
-    → bytes ≡ command_text schema site command
-    → ((t : SiteNo) (d : Command) → SiteFits t → CommandFits d → bytes ≡ command_text schema t d
-    → ◌≡◌ {A = Option (SiteNo × Command)} (Some (site, command)) (Some (t, d)))
-    → (step : WorldStep) → NumbersFit step → bytes ≡ plain_text schema step → luck_of step ≡ luck → Some (Do site command luck) ≡ Some step
-only_command schema bytes site command luck small spelled only (Do t d other) fits e lucks =
-    let both : (site, command) ≡ (t, d) = same_Some (site, command) (t, d) (only t d fits.0 fits.1 e) in
-    ap Some (ap (λ (x : SiteNo × Command). Do x.0 x.1 luck) both ∙ ap (Do t d) (sym lucks))
-only_command schema bytes site command luck small spelled only (Deliver k other) fits e lucks =
-    absurd (no_delivery schema site command (codes "eliver " ++ decimal k) small (sym spelled ∙ e))
-
--- ---- a line that asks no step
-
-luck_fits : (step : WorldStep) → NumbersFit step → LuckFits (luck_of step)
-luck_fits (Do site command luck) fits = fits.2
-luck_fits (Deliver k luck) fits = fits.1
-
-no_luck : (schema : SchemaValue) (bytes plain : List ℕ) (n : ℕ) → n < 2 ^ 64 → bytes ≡ plain ++ luck_text (Torn n)
-    → ((step : WorldStep) → NumbersFit step → bytes ≡ plain_text schema step → luck_of step ≡ Fine → ⊥)
-    → ((step : WorldStep) → NumbersFit step → plain ≡ plain_text schema step → luck_of step ≡ Torn n → ⊥)
-    → (step : WorldStep) → NumbersFit step → (luck : Luck) → luck_of step ≡ luck → LuckFits luck
-    → bytes ≡ plain_text schema step ++ luck_text luck → ⊥
-no_luck schema bytes plain n small torn first second step fits Fine is lucks e =
-    first step fits (e ∙ append-nil (plain_text schema step)) is
-no_luck schema bytes plain n small torn first second step fits (Torn m) is lucks e =
-    let one = luck_one plain (plain_text schema step) n m small lucks (sym torn ∙ e) in
-    second step fits one.0 (is ∙ ap Torn (sym one.1))
-
-pub no_step : (schema : SchemaValue) (bytes plain : List ℕ) (n : ℕ) → n < 2 ^ 64 → bytes ≡ plain ++ luck_text (Torn n)
-    → ((step : WorldStep) → NumbersFit step → bytes ≡ plain_text schema step → luck_of step ≡ Fine → ⊥)
-    → ((step : WorldStep) → NumbersFit step → plain ≡ plain_text schema step → luck_of step ≡ Torn n → ⊥)
-    → (step : WorldStep) → NumbersFit step → bytes ≡ step_text schema step → ⊥
-no_step schema bytes plain n small torn first second step fits e =
-    no_luck schema bytes plain n small torn first second step fits (luck_of step) refl (luck_fits step fits) e
+pub no_command : (schema : SchemaValue) (bytes : List ℕ)
+    → ((site : SiteNo) (command : Command) → SiteFits site → CommandFits command → bytes ≢ command_text schema site command)
+    → ((site : SiteNo) (command : Command) (n : ℕ) → SiteFits site → CommandFits command → n < 2 ^ 64
+    → bytes ≢ command_text schema site command ++ luck_text (Torn n))
+    → (site : SiteNo) (command : Command) (luck : Luck) → NumbersFit (Do site command luck) → bytes ≢ step_text schema (Do site command luck)
+no_command schema bytes whole torn site command Fine f e =
+    whole site command f.0 f.1 (e ∙ append-nil (command_text schema site command))
+no_command schema bytes whole torn site command (Torn n) f e = torn site command n f.0 f.1 f.2 e

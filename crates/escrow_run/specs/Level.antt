@@ -1,6 +1,6 @@
 -- The levelling of a field: its free rights of a kind, evened out among the sites that are up (Balegas and others 2015 for
 -- moving rights to where they are wanted, this project for the plan). Traces have the newest entry first.
-use Rattle.std.specs.Prelude.{ℕ, zero, suc, ◌<◌, ◌≤◌, ◌≡◌, if◌then◌else◌, List, [], ◌∷◌, ◌++◌, map, length, get_or, codes}
+use Rattle.std.specs.Prelude.{ℕ, zero, suc, if◌then◌else◌, List, [], ◌∷◌, ◌++◌, map, get_or, codes}
 use Rattle.field_bounds.specs.declared.kind.Kind.{Kind}
 use Rattle.field_bounds.specs.declared.id.SiteNo.{SiteNo}
 use Rattle.field_bounds.specs.declared.id.FieldNo.{FieldNo}
@@ -14,7 +14,6 @@ use Rattle.rebalance.specs.declared.even_plan.Move.{Move}
 use Rattle.rebalance.specs.EvenPlan.{even_plan}
 use Rattle.line_words.specs.Words.{line}
 use Rattle.entry_text.specs.Spelling.{field_text, kind_text}
-use Rattle.entry_text.specs.Lines.{max_line}
 use Rattle.kept_state.specs.declared.luck.Luck.TheVariants.{Fine}
 use Rattle.world_steps.specs.declared.step.WorldStep.{WorldStep}
 use Rattle.world_steps.specs.declared.step.WorldStep.TheVariants.{Do}
@@ -24,12 +23,6 @@ use Rattle.world_steps.specs.declared.step.WorldStep.TheVariants.{Do}
 -- The line that levels the rights of a kind on a field.
 abbrev pub level_text : SchemaValue → FieldNo → Kind → List ℕ
 level_text schema field kind = line (codes "level" ∷ field_text schema field ∷ kind_text kind ∷ [])
-
--- A line behind the header levels a field of the schema: it is that line, and isn't too long.
-pub record Levels (schema : SchemaValue) (line : List ℕ) (field : FieldNo) (kind : Kind) : Type 0 where
-  pub text : line ≡ level_text schema field kind
-  pub named : field.0 < length schema.fields
-  pub short : length line ≤ max_line
 
 -- ---- the sites that take part
 

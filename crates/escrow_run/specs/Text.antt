@@ -1,14 +1,17 @@
 -- What a script writes for the lines that it reads (this project). Lists of lines, of steps and of entries here have the
 -- newest first.
-use Rattle.std.specs.Prelude.{◌≡◌, ℕ, ◌^◌, ◌<◌, ◌≤◌, ◌⊎◌, List, [], ◌∷◌, ◌++◌, length, reverse, Option, Some, None, Ok, codes}
+use Rattle.std.specs.Prelude.{◌≡◌, ℕ, ℤ, ◌^◌, ◌<◌, ◌≤◌, ◌⊎◌, List, [], ◌∷◌, ◌++◌, length, reverse, Option, Some, None, Ok, codes}
 use Rattle.std.specs.Fmt.{decimal}
 use Rattle.field_bounds.specs.Schema.{SchemaValue}
 use Rattle.field_bounds.specs.Header.{schema_of}
 use Rattle.field_bounds.specs.declared.entry.Entry.{Entry}
 use Rattle.field_bounds.specs.declared.kind.Kind.{Kind}
 use Rattle.field_bounds.specs.declared.id.FieldNo.{FieldNo}
+use Rattle.field_bounds.specs.declared.id.SiteNo.{SiteNo}
+use Rattle.line_words.specs.Reading.{◌>>=◌, number_of, signed_of, word_at}
 use Rattle.entry_text.specs.Spelling.{command_text, entry_text}
 use Rattle.entry_text.specs.Ranges.{SiteFits, CommandFits}
+use Rattle.entry_text.specs.Reading.{site_of, kind_of, field_of, Reader, one_word, two_words, three_words, read_beside}
 use Rattle.entry_text.specs.Lines.{max_line}
 use Rattle.kept_state.specs.declared.luck.Luck.{Luck}
 use Rattle.kept_state.specs.declared.luck.Luck.TheVariants.{Fine, Torn}
@@ -20,8 +23,10 @@ use Rattle.world_steps.specs.Promises.{IsOneStore}
 use Rattle.reaching_steps.specs.declared.fault.ReachFault.{ReachFault}
 use Rattle.reaching_steps.specs.Reach.{reach_steps, reach_fault}
 use Rattle.escrow_run.specs.declared.aim.Aim.{Aim}
-use Rattle.escrow_run.specs.Level.{level_text, Levels, level_gifts}
-use Rattle.escrow_run.specs.Reach.{reach_text, Aims, IsReason}
+use Rattle.escrow_run.specs.declared.line.Line.{Line}
+use Rattle.escrow_run.specs.declared.line.Line.TheVariants.{Step, Level, Reach}
+use Rattle.escrow_run.specs.Level.{level_text, level_gifts}
+use Rattle.escrow_run.specs.Reach.{reach_text, AimFits, IsReason}
 
 -- A line and its LF (10).
 abbrev pub line_text : List ℕ → List ℕ
@@ -53,13 +58,53 @@ abbrev pub NumbersFit : WorldStep → Type 0
 NumbersFit (Do site command luck) = SiteFits site × CommandFits command × LuckFits luck
 NumbersFit (Deliver k luck) = (k < 2 ^ 64) × LuckFits luck
 
--- A line behind the header asks this step: it is the step's line, which isn't too long, and a world of the schema takes the
--- step: its site is in the schema, and it is no acceptance, for a statement reaches a site only as it was issued.
-pub record Asks (schema : SchemaValue) (line : List ℕ) (step : WorldStep) : Type 0 where
-  pub text : line ≡ step_text schema step
-  pub numbers : NumbersFit step
+-- ---- the line of each kind
+
+-- The levelling of a field.
+abbrev pub levelling : FieldNo → Kind → Line
+levelling field kind = Level (record { field = field; kind = kind })
+
+-- The reaching for a value.
+abbrev pub reaching : SiteNo → FieldNo → ℤ → Line
+reaching site field target = Reach (record { site = site; field = field; target = target })
+
+-- The line that asks it.
+abbrev pub asked_text : SchemaValue → Line → List ℕ
+asked_text schema (Step step) = step_text schema step
+asked_text schema (Level level) = level_text schema level.field level.kind
+asked_text schema (Reach aim) = reach_text schema aim
+
+-- What it names fits.
+abbrev pub AskedFits : Line → Type 0
+AskedFits (Step step) = NumbersFit step
+AskedFits (Level level) = Unit {0}
+AskedFits (Reach aim) = AimFits aim
+
+-- A world of the schema takes it: the site of a step is in the schema, and it is no acceptance, for a statement reaches a
+-- site only as it was issued; and so are the field that is levelled, and the site and the field of what is reached for.
+abbrev pub IsTaken : SchemaValue → Line → Type 0
+IsTaken schema (Step step) = StepFits schema step
+IsTaken schema (Level level) = level.field.0 < length schema.fields
+IsTaken schema (Reach aim) = (aim.site.0 < schema.sites) × (aim.field.0 < length schema.fields)
+
+-- A line behind the header asks it: it is its line, which isn't too long, and a world of the schema takes it.
+pub record IsAsked (schema : SchemaValue) (line : List ℕ) (asked : Line) : Type 0 where
+  pub text : line ≡ asked_text schema asked
+  pub numbers : AskedFits asked
   pub short : length line ≤ max_line
-  pub fits : StepFits schema step
+  pub fits : IsTaken schema asked
+
+-- A line asks a step.
+abbrev pub Asks : SchemaValue → List ℕ → WorldStep → Type 0
+Asks schema line step = IsAsked schema line (Step step)
+
+-- A line levels the rights of a kind on a field.
+abbrev pub Levels : SchemaValue → List ℕ → FieldNo → Kind → Type 0
+Levels schema line field kind = IsAsked schema line (levelling field kind)
+
+-- A line reaches for a value.
+abbrev pub Aims : SchemaValue → List ℕ → Aim → Type 0
+Aims schema line aim = IsAsked schema line (Reach aim)
 
 -- A line asks no step.
 abbrev pub AsksNone : SchemaValue → List ℕ → Type 0
@@ -76,6 +121,32 @@ AimsNone schema line = (aim : Aim) → Aims schema line aim → ⊥
 -- A bad line does none of these.
 abbrev pub IsBad : SchemaValue → List ℕ → Type 0
 IsBad schema line = AsksNone schema line × LevelsNone schema line × AimsNone schema line
+
+-- ---- a line that begins with a name, read word by word
+
+-- The word of luck, and how many bytes are kept.
+abbrev pub luck_table : List (List ℕ × Reader Luck)
+luck_table = (codes "torn", one_word (number_of (2 ^ 64)) Torn) ∷ []
+
+-- How an append goes, by the words that are left: it is whole where none is.
+abbrev pub luck_at : Reader Luck
+luck_at [] = Some (Fine, [])
+luck_at (w ∷ ws) = read_beside luck_table w ws
+
+-- A delivery.
+abbrev pub delivery_at : Reader Line
+delivery_at ws = do
+  k ← word_at (number_of (2 ^ 64)) ws
+  luck ← luck_at k.1
+  Some (Step (Deliver k.0 luck.0), luck.1)
+
+-- The names, each with what is read behind it.
+abbrev pub line_table : SchemaValue → List (List ℕ × Reader Line)
+line_table schema =
+    (codes "deliver", delivery_at)
+    ∷ (codes "level", two_words (field_of schema) kind_of levelling)
+    ∷ (codes "reach", three_words site_of (field_of schema) signed_of reaching)
+    ∷ []
 
 -- ---- what answers it
 

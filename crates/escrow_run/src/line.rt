@@ -1,25 +1,41 @@
 //! What a line behind the header asks.
 
-ghost use Rattle.std.specs.Prelude.{◌≡◌, ◌≢◌, ◌^◌, ◌<◌, ◌++◌, ◌∷◌, All, IfNone, IfSome, MatchOption, Some, ℕ, List, codes};
-ghost use Rattle.std.specs.Fmt.{decimal};
-ghost use Rattle.field_bounds.specs.declared.kind.Kind.{Kind as KindType};
-ghost use Rattle.field_bounds.specs.declared.id.FieldNo.{FieldNo as FieldNumber};
+ghost use Rattle.std.specs.Prelude.{◌≡◌, ◌≢◌, ◌<◌, ◌≤◌, ◌++◌, ◌∷◌, ◌↔◌, ℕ, List, All, IfNone, IfSome, IsTrue, MatchBool, MatchOption, Some, bytes_eq, codes, slice_index};
+ghost use Rattle.field_bounds.specs.Schema.{SchemaValue};
+ghost use Rattle.field_bounds.specs.Limits.{IsSchema};
+ghost use Rattle.field_bounds.specs.declared.id.SiteNo.{SiteNo as Site};
+ghost use Rattle.field_bounds.specs.declared.entry.Command.{Command as CommandType};
+ghost use Rattle.kept_state.specs.declared.luck.Luck.{Luck as LuckType};
 ghost use Rattle.kept_state.specs.declared.luck.Luck.TheVariants.{Torn};
-ghost use Rattle.world_steps.specs.declared.step.WorldStep.{WorldStep as StepType};
-ghost use Rattle.world_steps.specs.World.{luck_of};
-ghost use Rattle.escrow_run.specs.Text.{plain_text, luck_text, step_text, LuckFits, NumbersFit, Asks, AsksNone, LevelsNone};
-ghost use Rattle.escrow_run.specs.Level.{level_text, Levels};
+ghost use Rattle.world_steps.specs.declared.step.WorldStep.TheVariants.{Do};
+ghost use Rattle.line_words.specs.Reading.{Gives};
+ghost use Rattle.entry_text.specs.Reading.{table_at};
+ghost use Rattle.escrow_run.specs.declared.line.Line.{Line as LineType};
+ghost use Rattle.escrow_run.specs.Text.{luck_text, step_text, asked_text, LuckFits, NumbersFit, AskedFits, IsTaken, IsAsked, IsBad, luck_at, line_table};
+ghost use Rattle.escrow_run.specs.Run.{IsSpelled};
 
-use entry_text::{MAX_LINE, read_command, read_field, read_kind, read_number};
-use field_bounds::{FieldNo, Kind, Schema};
+use crate::aim::Aim;
+use crate::level::Level;
+use entry_text::{
+    Fields, MAX_LINE, expect, field_at, kind_at, number_at, read_command, read_number, signed_at,
+    site_at,
+};
+use field_bounds::Schema;
+use line_words::Words;
 use world_steps::{Luck, World, WorldStep, step_fits};
 
-/// The step that a line asks, and the line without its luck.
-#[derive(Drop)]
-pub(crate) struct Asked<'a> {
-    pub(crate) step: WorldStep,
-    pub(crate) plain: &'a [u8],
+/// What a line asks.
+#[derive(Clone, Copy, Debug)]
+pub(crate) enum Line {
+    /// A step.
+    Step(WorldStep),
+    /// The gifts that level a field.
+    Level(Level),
+    /// The steps that reach a value.
+    Reach(Aim),
 }
+
+// ---- a line that begins with a number
 
 // The bytes before the last space, and those after it.
 fn split_last_word(line: &[u8]) -> Option<(&[u8], &[u8])>
@@ -53,117 +69,160 @@ fn split_luck(line: &[u8]) -> Option<(&[u8], u64)>
     Some((plain, bytes))
 }
 
-// The number of the statement that a line without luck delivers.
-fn delivery(line: &[u8]) -> Option<u64>
-    ensures found { IfSome result (λ k. (line.now ≡ codes "deliver " ++ decimal k) × (k < 2 ^ 64)) }
-    ensures only { (k : ℕ) → k < 2 ^ 64 → line.now ≡ codes "deliver " ++ decimal k
-        → result ≡ Some k }
+// The command that a line asks of a site. It is read whole before luck is looked for, since a
+// field's name may be the word of luck.
+fn command_step(schema: &Schema, line: &[u8]) -> Option<WorldStep>
+    ensures found { IfSome result (λ step. (line.now ≡ step_text schema.now step)
+        × NumbersFit step) }
+    ensures none { IfNone result ((site : Site) (command : CommandType) (luck : LuckType)
+        → NumbersFit (Do site command luck)
+        → line.now ≢ step_text schema.now (Do site command luck)) }
 {
-    read_number(line.strip_prefix(b"deliver ")?)
-}
-
-// The step of this luck that a line without luck asks.
-fn plain_step(schema: &Schema, line: &[u8], luck: Luck) -> Option<WorldStep>
-    requires luck { LuckFits luck }
-    ensures found { IfSome result (λ step. (line.now ≡ plain_text schema.now step) × NumbersFit step
-        × (luck_of step ≡ luck)) }
-    ensures only { (step : StepType) → NumbersFit step → line.now ≡ plain_text schema.now step
-        → luck_of step ≡ luck → result ≡ Some step }
-{
-    match read_command(schema, line) {
-        Some((site, command)) => Some(WorldStep::Do {
+    if let Some((site, command)) = read_command(schema, line) {
+        let luck = Luck::Fine;
+        return Some(WorldStep::Do {
             site,
             command,
             luck,
-        }),
-        None => {
-            let k = delivery(line)?;
-            Some(WorldStep::Deliver { k, luck })
-        }
-    }
-}
-
-// The step whose line this is, whether or not a world takes it.
-fn any_step<'a>(schema: &Schema, line: &'a [u8]) -> Option<Asked<'a>>
-    ensures found { IfSome result (λ asked. (line.now ≡ step_text schema.now asked.step)
-        × NumbersFit asked.step
-        × (asked.plain.now ≡ plain_text schema.now asked.step)) }
-    ensures none { IfNone result ((step : StepType) → NumbersFit step
-        → line.now ≢ step_text schema.now step) }
-{
-    if let Some(step) = plain_step(schema, line, Luck::Fine) {
-        return Some(Asked { step, plain: line });
+        });
     }
     let (plain, bytes) = split_luck(line)?;
-    let step = plain_step(schema, plain, Luck::Torn(bytes))?;
-    Some(Asked { step, plain })
+    let (site, command) = read_command(schema, plain)?;
+    let luck = Luck::Torn(bytes);
+    Some(WorldStep::Do {
+        site,
+        command,
+        luck,
+    })
 }
 
-/// The step that a line behind the header, without its LF, asks of a world, or None where it asks
-/// none. Costs no memory.
-pub(crate) fn line_step<'a>(world: &World, line: &'a [u8]) -> Option<Asked<'a>>
-    ensures asks { IfSome result (λ asked. Asks world.now.schema line.now asked.step) }
-    ensures plain { IfSome result (λ asked. asked.plain.now
-        ≡ plain_text world.now.schema asked.step) }
-    ensures none { IfNone result (AsksNone world.now.schema line.now) }
+// ---- a line that begins with a name
+
+// The word is this text.
+fn is_text(word: &[u8], text: &str) -> bool
+    ensures { result ≡ bytes_eq word.now text.now }
+{
+    word == text.as_bytes()
+}
+
+// Takes how an append goes, by the words that are left.
+fn take_luck(words: &mut Words<'_>) -> Option<Luck>
+    ensures { Gives result words.new (luck_at words.old) }
+{
+    if words.is_empty() {
+        return Some(Luck::Fine);
+    }
+    if !is_text(words.next()?, "torn") {
+        return None;
+    }
+    Some(Luck::Torn(number_at(words)?))
+}
+
+// Takes a name, and what is asked by it.
+#[tactic(auto, unfolding(entry_text::specs::Reading::table_at))]
+fn take_named(words: &mut Words<'_>, fields: &Fields<'_>) -> Option<Line>
+    ensures { Gives result words.new (table_at (line_table fields.now) words.old) }
+{
+    let name = words.next()?;
+    if is_text(name, "deliver") {
+        let k = number_at(words)?;
+        let luck = take_luck(words)?;
+        Some(Line::Step(WorldStep::Deliver { k, luck }))
+    } else if is_text(name, "level") {
+        let field = field_at(words, fields)?;
+        let kind = kind_at(words)?;
+        Some(Line::Level(Level { field, kind }))
+    } else if is_text(name, "reach") {
+        let site = site_at(words)?;
+        let field = field_at(words, fields)?;
+        let target = signed_at(words)?;
+        Some(Line::Reach(Aim {
+            site,
+            field,
+            target,
+        }))
+    } else {
+        None
+    }
+}
+
+// What a line asks by a name.
+fn named_line(schema: &Schema, line: &[u8]) -> Option<Line>
+    ensures found { IfSome result (λ asked. (line.now ≡ asked_text schema.now asked)
+        × AskedFits asked) }
+    ensures only { (asked : LineType) → IsAsked schema.now line.now asked
+        → 57 < slice_index line.now 0 → result ≡ Some asked }
+{
+    let mut words = Words::new(line);
+    let asked = take_named(&mut words, &Fields::new(schema))?;
+    if words.is_empty() { Some(asked) } else { None }
+}
+
+// ---- either
+
+// Whether a line begins with no digit.
+fn begins_with_name(line: &[u8]) -> bool
+    ensures { MatchBool result (57 < slice_index line.now 0) (slice_index line.now 0 ≤ 57) }
+{
+    match line {
+        [first, ..] => *first > b'9',
+        [] => false,
+    }
+}
+
+// What a line asks, whether or not a world of the schema takes it.
+fn any_line(schema: &Schema, line: &[u8]) -> Option<Line>
+    ensures found { IfSome result (λ asked. (line.now ≡ asked_text schema.now asked)
+        × AskedFits asked) }
+    ensures only { IsSchema schema.now → (asked : LineType) → IsAsked schema.now line.now asked
+        → result ≡ Some asked }
+{
+    if begins_with_name(line) {
+        named_line(schema, line)
+    } else {
+        Some(Line::Step(command_step(schema, line)?))
+    }
+}
+
+// Whether a world of the schema takes what a line asks.
+fn is_taken(schema: &Schema, asked: Line) -> bool
+    ensures { IsTrue result ↔ IsTaken schema.now asked }
+{
+    match asked {
+        Line::Step(step) => step_fits(schema, &step),
+        Line::Level(level) => level.field.0 < schema.fields(),
+        Line::Reach(aim) => aim.site.0 < schema.sites() && aim.field.0 < schema.fields(),
+    }
+}
+
+/// What a line behind the header, without its LF, asks of a world, or None where it asks nothing.
+/// Costs a pass over the line, and two more over a command that is torn, and no memory.
+pub(crate) fn read_line(world: &World, line: &[u8]) -> Option<Line>
+    ensures found { IfSome result (IsAsked world.now.schema line.now) }
+    ensures none { IfNone result (IsBad world.now.schema line.now) }
 {
     if line.len() > MAX_LINE {
         return None;
     }
     let schema = world.schema();
-    let asked = any_step(schema, line)?;
-    if step_fits(schema, &asked.step) {
+    let asked = any_line(schema, line)?;
+    if is_taken(schema, asked) {
         Some(asked)
     } else {
         None
     }
 }
 
-/// The field that a line levels, and the kind of its rights.
-#[derive(Clone, Copy, Debug)]
-pub(crate) struct Level {
-    pub(crate) field: FieldNo,
-    pub(crate) kind: Kind,
-}
-
-// The bytes behind the word of a levelling, where they begin with it.
-fn after_level(bytes: &[u8]) -> Option<&[u8]>
-    ensures { MatchOption result ((rest : List ℕ) → bytes.now ≢ codes "level " ++ rest)
-        (λ rest. bytes.now ≡ codes "level " ++ rest.now) }
+/// What the line of a step asks of a site, where it says that and no more.
+pub(crate) fn spelled<'a>(line: &'a [u8], step: &WorldStep) -> Option<&'a [u8]>
+    ensures { (schema : SchemaValue) → line.now ≡ step_text schema step.now
+        → IfSome result (λ words. IsSpelled schema step.now words.now) }
 {
-    bytes.strip_prefix(b"level ")
-}
-
-// The field and the kind whose line this is, whatever field it names.
-fn any_level(schema: &Schema, line: &[u8]) -> Option<Level>
-    ensures found { IfSome result (λ level. line.now
-        ≡ level_text schema.now level.field level.kind) }
-    ensures only { (field : FieldNumber) (kind : KindType) → field.0 < 2 ^ 16
-        → line.now ≡ level_text schema.now field kind
-        → result ≡ Some (record { field = field; kind = kind }) }
-{
-    let rest = after_level(line)?;
-    let (name, word) = split_last_word(rest)?;
-    let kind = read_kind(word)?;
-    let field = read_field(schema, name)?;
-    Some(Level { field, kind })
-}
-
-/// The field that a line behind the header, without its LF, levels in a world, and the kind, or
-/// None where it levels none. Costs no memory.
-pub(crate) fn line_level(world: &World, line: &[u8]) -> Option<Level>
-    ensures levels { IfSome result (λ level. Levels world.now.schema line.now level.field
-        level.kind) }
-    ensures none { IfNone result (LevelsNone world.now.schema line.now) }
-{
-    if MAX_LINE < line.len() {
-        return None;
-    }
-    let schema = world.schema();
-    let level = any_level(schema, line)?;
-    if level.field.0 < schema.fields() {
-        Some(level)
-    } else {
-        None
+    match *step {
+        WorldStep::Do {
+            luck: Luck::Fine,
+            ..
+        } => Some(line),
+        _ => None,
     }
 }

@@ -1,88 +1,53 @@
-//! The loop of a script: pieces of input in, whole lines to the machine, pieces of output out.
+//! The loop of a script: lines in, each answered by a world, pieces of output out.
 
-ghost use Rattle.std.specs.Prelude.{◌≡◌, ◌≢◌, ℕ, ◌+◌, ◌-◌, ◌^◌, ◌<◌, ◌≤◌, [], ◌∷◌, ◌++◌, length, take, All, OnOk, OnErr, IfOk, IfErr, MatchOption, vec_len, ◌↔◌, IsTrue, IsSome};
+ghost use Rattle.std.specs.Prelude.{◌≡◌, ◌≢◌, ℕ, Option, List, ◌<◌, [], true, length, OnOk, OnErr, IfOk, IfErr};
 ghost use Rattle.escrow_run.specs.Run.{Answers, Fails};
 ghost use Rattle.script_input.specs.Faults.{CountsReads, CountsWrites};
 ghost use Rattle.script_input.specs.Streams.{HasFailed, GaveNothing, HasRefused};
 
 use crate::machine::{Machine, add_line};
 use entry_text::MAX_LINE;
-use field_bounds::{MAX_HEADER, SchemaFault};
-use script_input::{
-    MOST_BYTES, MOST_LINES, PIECE, ScriptFault, Sink, Source, front, new_buffer, read_piece,
-    split_line,
-};
-use std::alloc::{AllocError, Global};
+use script_input::{LineReader, NextLine, PIECE, ScriptFault, Sink, Source};
+use std::alloc::Global;
 
-// The machine once the header line came, the bytes of the line that is being read, the whole lines
-// so far, and what is to be written.
+// The reader of lines, the world, and what is to be written.
 #[derive(Drop)]
 struct Script {
     alloc: Global,
-    machine: Option<Machine>,
-    line: Vec<u8>,
-    lines: u32,
+    lines: LineReader,
+    machine: Machine,
     out: Vec<u8>,
 }
 
 impl Script {
     ghost use Rattle.std.specs.Io.KnownBytes.{Appends};
-    ghost use Rattle.escrow_run.specs.Run.{HasKept, CannotKeep, HasEnded, CannotEnd, HasAnswered, EndsWith, CannotEndWith, HasWritten, GoesOn, StopsIn, Finishes, StopsAtEnd, IsFresh, RunsThrough, StopsAfter, ReadsNext, StopsNext};
     ghost use Rattle.script_input.specs.Streams.{AppendsPrefix};
+    ghost use Rattle.script_input.specs.Reader.{StopsAt, ahead_of};
+    ghost use Rattle.escrow_run.specs.Run.{Runs, RunsOn, RunsThrough, StopsAfter, HasWritten};
 
-    fn new(alloc: Global) -> Script
-        ensures { IsFresh result }
+    // Reads the header line, which is to be written.
+    fn start<R: Source>(alloc: Global, reader: &mut R) -> Result<Script, ScriptFault>
+        ensures ok { IfOk result (λ script. (before : Option (List ℕ))
+            → Runs (R.bytes reader.old) (R.bytes reader.new) before before (R.last reader.new)
+            script) }
+        ensures err { IfErr result (StopsAt (R.bytes reader.old) (R.bytes reader.new)
+            (R.last reader.new) []) }
+        ensures failed { IfErr result (λ fault. fault ≡ ScriptFault.Read
+            → HasFailed (R.last reader.new)) }
+        ensures reads { CountsReads result (R.failures reader.old) (R.failures reader.new) }
+        ensures other { IfErr result (λ fault. fault ≢ ScriptFault.Write) }
     {
-        Script {
+        let mut lines = LineReader::new(alloc)?;
+        let schema = lines.header(alloc, reader)?;
+        let machine = Machine::new(alloc, schema)?;
+        let mut out = Vec::new(alloc);
+        add_line(&mut out, lines.line())?;
+        Ok(Script {
             alloc,
-            machine: None,
-            line: Vec::new(alloc),
-            lines: 0,
-            out: Vec::new(alloc),
-        }
-    }
-
-    // Adds the next bytes of a line. Of a line behind the header it keeps as much as tells that the
-    // line is too long.
-    fn keep(&mut self, piece: &[u8]) -> Result<(), ScriptFault>
-        ensures ok { OnOk result (HasKept self.old self.new piece.now) }
-        ensures err { IfErr result (CannotKeep self.old self.new piece.now) }
-        ensures not_read { IfErr result (λ fault. fault ≢ ScriptFault.Read) }
-        ensures not_write { IfErr result (λ fault. fault ≢ ScriptFault.Write) }
-    {
-        if self.machine.is_some() {
-            let room = (MAX_LINE + 1)
-                .saturating_sub(self.line.len())
-                .min(piece.len());
-            self.line.extend_from_slice(front(piece, room))?;
-            return Ok(());
-        }
-        if piece.len() > MAX_HEADER.saturating_sub(self.line.len()) {
-            return Err(ScriptFault::Header(SchemaFault::TooLong));
-        }
-        self.line.extend_from_slice(piece)?;
-        Ok(())
-    }
-
-    // Gives the line to the machine.
-    fn end_line(&mut self) -> Result<(), ScriptFault>
-        requires { self.old.lines < 2 ^ 32 - 1 }
-        ensures ok { OnOk result (HasEnded self.old self.new) }
-        ensures err { IfErr result (CannotEnd self.old self.new) }
-        ensures not_read { IfErr result (λ fault. fault ≢ ScriptFault.Read) }
-        ensures not_write { IfErr result (λ fault. fault ≢ ScriptFault.Write) }
-    {
-        match &mut self.machine {
-            Some(machine) => machine.answer(self.alloc, self.line.as_slice(), &mut self.out)?,
-            None => {
-                let machine = Machine::from_header(self.alloc, self.line.as_slice())?;
-                add_line(&mut self.out, self.line.as_slice())?;
-                self.machine = Some(machine);
-            }
-        }
-        self.line.clear();
-        self.lines += 1;
-        Ok(())
+            lines,
+            machine,
+            out,
+        })
     }
 
     // Writes what is to be written.
@@ -103,131 +68,21 @@ impl Script {
         Ok(())
     }
 
-    // Answers a line of which no byte was kept.
-    fn answer_whole(&mut self, line: &[u8]) -> Result<(), AllocError>
-        requires started { IsSome self.old.machine }
-        requires room { self.old.lines < 2 ^ 32 - 1 }
-        ensures ok { OnOk result (HasAnswered self.old self.new line.now) }
-        ensures err { OnErr result (self.new.out.items ≡ self.old.out.items) }
-    {
-        let Some(machine) = &mut self.machine else {
-            unreachable!()
-        };
-        machine.answer(self.alloc, line, &mut self.out)?;
-        self.lines += 1;
-        Ok(())
-    }
-
-    // Takes the rest of a line, whose LF was read. A line that lies whole in the piece isn't
-    // copied.
-    fn end_with(&mut self, line: &[u8]) -> Result<(), ScriptFault>
-        requires room { self.old.lines < 1000000 }
-        requires unbroken { All (λ b. b ≢ 10) line.now }
-        ensures ok { OnOk result (EndsWith self.old self.new line.now) }
-        ensures err { IfErr result (CannotEndWith self.old self.new line.now) }
-        ensures lines { OnOk result (self.new.lines ≡ self.old.lines + 1) }
-        ensures not_read { IfErr result (λ fault. fault ≢ ScriptFault.Read) }
-        ensures not_write { IfErr result (λ fault. fault ≢ ScriptFault.Write) }
-    {
-        let whole = self.is_between_lines();
-        if whole {
-            self.answer_whole(line)?;
-            return Ok(());
-        }
-        self.keep(line)?;
-        self.end_line()
-    }
-
-    // Takes a whole line, whose LF was read.
-    fn take_line<W: Sink>(&mut self, line: &[u8], writer: &mut W) -> Result<(), ScriptFault>
-        requires room { self.old.lines < 1000000 }
-        requires unbroken { All (λ b. b ≢ 10) line.now }
-        ensures ok { OnOk result (GoesOn self.old self.new
-            (W.bytes writer.old) (W.bytes writer.new) (line.now ++ 10 ∷ [])) }
-        ensures err { IfErr result (StopsIn self.old self.new
-            (W.bytes writer.old) (W.bytes writer.new) (line.now ++ 10 ∷ [])) }
-        ensures lines { OnOk result (self.new.lines ≡ self.old.lines + 1) }
-        ensures refused { IfErr result (λ fault. fault ≡ ScriptFault.Write
-            → HasRefused (W.last writer.new)) }
-        ensures writes { CountsWrites result (W.refusals writer.old) (W.refusals writer.new) }
-        ensures not_read { IfErr result (λ fault. fault ≢ ScriptFault.Read) }
-    {
-        self.end_with(line)?;
-        if self.out.len() >= PIECE {
-            self.write_out(writer)?;
-        }
-        Ok(())
-    }
-
-    // Takes the next bytes of the input.
-    fn take_piece<W: Sink>(&mut self, piece: &[u8], writer: &mut W) -> Result<(), ScriptFault>
-        requires { self.old.lines ≤ 1000000 }
-        ensures ok { OnOk result (GoesOn self.old self.new
-            (W.bytes writer.old) (W.bytes writer.new) piece.now) }
-        ensures err { IfErr result (StopsIn self.old self.new
-            (W.bytes writer.old) (W.bytes writer.new) piece.now) }
-        ensures lines { OnOk result (self.new.lines ≤ 1000000) }
-        ensures refused { IfErr result (λ fault. fault ≡ ScriptFault.Write
-            → HasRefused (W.last writer.new)) }
-        ensures writes { CountsWrites result (W.refusals writer.old) (W.refusals writer.new) }
-        ensures not_read { IfErr result (λ fault. fault ≢ ScriptFault.Read) }
-    {
-        let mut rest = piece;
-        'lines: while let Some((line, after)) = split_line(rest) {
-            if self.lines >= MOST_LINES {
-                return Err(ScriptFault::TooLong);
-            }
-            self.take_line(line, writer)?;
-            rest = after;
-        }
-        if rest.is_empty() {
-            return Ok(());
-        }
-        if self.lines >= MOST_LINES {
-            return Err(ScriptFault::TooLong);
-        }
-        self.keep(rest)
-    }
-
-    // Whether a header line came, and the line that is being read has no byte.
-    fn is_between_lines(&self) -> bool
-        ensures { IsTrue result ↔ (IsSome self.now.machine × (self.now.line.items ≡ [])) }
-    {
-        self.machine.is_some() && self.line.is_empty()
-    }
-
-    // Takes the end of the input: a last line without LF, and a header line of no bytes.
-    fn end_input(&mut self) -> Result<(), ScriptFault>
-        requires { self.old.lines ≤ 1000000 }
-        ensures ok { OnOk result (Finishes self.old self.new) }
-        ensures err { IfErr result (StopsAtEnd self.old self.new) }
-        ensures not_read { IfErr result (λ fault. fault ≢ ScriptFault.Read) }
-        ensures not_write { IfErr result (λ fault. fault ≢ ScriptFault.Write) }
-    {
-        if self.is_between_lines() {
-            return Ok(());
-        }
-        self.end_line()
-    }
-
-    // Writes what is to be written, then reads the next piece and takes it. The answer is the
-    // piece's length, and 0 at the end of the input.
+    // Answers the next line, or writes what is to be written and reads more, and tells whether
+    // there may be more.
     fn take_next<R: Source, W: Sink>(
         &mut self,
-        buffer: &mut [u8],
-        bytes: u64,
         reader: &mut R,
         writer: &mut W,
-    ) -> Result<u64, ScriptFault>
-        requires some { 0 < length buffer.old }
-        requires bytes { bytes ≤ 268435456 }
-        requires lines { self.old.lines ≤ 1000000 }
-        ensures ok { IfOk result (ReadsNext (R.bytes reader.old) (R.bytes reader.new)
-            (W.bytes writer.old) (W.bytes writer.new) self.old self.new (R.last reader.new) bytes) }
-        ensures err { IfErr result (StopsNext (R.bytes reader.old) (R.bytes reader.new)
-            (W.bytes writer.old) (W.bytes writer.new) self.old self.new (R.last reader.new) bytes) }
-        ensures lines { OnOk result (self.new.lines ≤ 1000000) }
-        ensures within { IfOk result (λ count. bytes + count ≤ 268435456) }
+    ) -> Result<bool, ScriptFault>
+        ensures ok { (from before : Option (List ℕ))
+            → Runs from (R.bytes reader.old) before (W.bytes writer.old) (R.last reader.old) self.old
+            → IfOk result (RunsOn from (R.bytes reader.new) before (W.bytes writer.new)
+            (R.last reader.new) self.new) }
+        ensures err { (from before : Option (List ℕ))
+            → Runs from (R.bytes reader.old) before (W.bytes writer.old) (R.last reader.old) self.old
+            → IfErr result (StopsAfter from (R.bytes reader.new) before (W.bytes writer.new)
+            (R.last reader.new) self.new.out.items) }
         ensures refused { IfErr result (λ fault. fault ≡ ScriptFault.Write
             → HasRefused (W.last writer.new)) }
         ensures failed { IfErr result (λ fault. fault ≡ ScriptFault.Read
@@ -235,33 +90,39 @@ impl Script {
         ensures reads { CountsReads result (R.failures reader.old) (R.failures reader.new) }
         ensures writes { CountsWrites result (W.refusals writer.old) (W.refusals writer.new) }
         ensures empty { IfErr result (λ fault. fault ≡ ScriptFault.Read → self.new.out.items ≡ []) }
+        ensures ahead { IfOk result (λ more. more ≡ true
+            → ahead_of self.new.lines < ahead_of self.old.lines) }
     {
-        self.write_out(writer)?;
-        let count = read_piece(reader, buffer)?;
-        if count == 0 {
-            return Ok(0);
+        match self.lines.find(MAX_LINE)? {
+            Some(NextLine::Line) => {
+                self.machine
+                    .answer(self.alloc, self.lines.line(), &mut self.out)?;
+            }
+            Some(NextLine::Long) => {}
+            Some(NextLine::Passed) => add_line(&mut self.out, b"bad line")?,
+            Some(NextLine::End) => return Ok(false),
+            None => {
+                self.write_out(writer)?;
+                self.lines.read(reader)?;
+            }
         }
-        let room = MOST_BYTES - bytes;
-        if count as u64 > room {
-            self.take_piece(front(buffer, room as usize), writer)?;
-            return Err(ScriptFault::TooLong);
-        }
-        self.take_piece(front(buffer, count), writer)?;
-        Ok(count as u64)
+        Ok(true)
     }
 
-    // Takes the whole input. Some of the output may stay in the buffer.
-    fn run_to_end<R: Source, W: Sink>(
+    // Answers all lines behind the header. Some of the output may stay in the buffer.
+    fn answer_all<R: Source, W: Sink>(
         &mut self,
         reader: &mut R,
         writer: &mut W,
     ) -> Result<(), ScriptFault>
-        requires { IsFresh self.old }
-        ensures ok { OnOk result (RunsThrough (R.bytes reader.old) (R.bytes reader.new)
-            (W.bytes writer.old) (W.bytes writer.new) self.new) }
-        ensures err { IfErr result (StopsAfter (R.bytes reader.old) (R.bytes reader.new)
-            (W.bytes writer.old) (W.bytes writer.new) self.new (R.last reader.new)) }
-        ensures end { OnOk result (GaveNothing (R.last reader.new)) }
+        ensures ok { (from before : Option (List ℕ))
+            → Runs from (R.bytes reader.old) before (W.bytes writer.old) (R.last reader.old) self.old
+            → OnOk result (RunsThrough from (R.bytes reader.new) before (W.bytes writer.new)
+            (R.last reader.new) self.new) }
+        ensures err { (from before : Option (List ℕ))
+            → Runs from (R.bytes reader.old) before (W.bytes writer.old) (R.last reader.old) self.old
+            → IfErr result (StopsAfter from (R.bytes reader.new) before (W.bytes writer.new)
+            (R.last reader.new) self.new.out.items) }
         ensures refused { IfErr result (λ fault. fault ≡ ScriptFault.Write
             → HasRefused (W.last writer.new)) }
         ensures failed { IfErr result (λ fault. fault ≡ ScriptFault.Read
@@ -270,16 +131,12 @@ impl Script {
         ensures writes { CountsWrites result (W.refusals writer.old) (W.refusals writer.new) }
         ensures empty { IfErr result (λ fault. fault ≡ ScriptFault.Read → self.new.out.items ≡ []) }
     {
-        let mut buffer = new_buffer(self.alloc)?;
-        let mut bytes = 0u64;
-        'pieces: loop {
-            let count = self.take_next(buffer.as_mut_slice(), bytes, reader, writer)?;
-            if count == 0 {
-                break;
+        'lines: while self.take_next(reader, writer)? {
+            if self.out.len() >= PIECE {
+                self.write_out(writer)?;
             }
-            bytes += count;
         }
-        self.end_input()
+        Ok(())
     }
 }
 
@@ -316,7 +173,7 @@ impl Script {
 /// makes such ones of std's. No call is made again after one that failed.
 ///
 /// Output is written before each read, once 64 KiB of it have gathered behind a line, and at the
-/// end. Costs 64 KiB for input and somewhat more for output, and memory for the world, which keeps
+/// end. Costs 128 KiB for input and somewhat more than 64 KiB for output, and memory for the world, which keeps
 /// each entry in its trace and in its site's history. A line that reaches for a value costs what
 /// `reach` does, so time and memory for all steps so far once more.
 ///
@@ -352,8 +209,8 @@ pub fn run_script<R: Source, W: Sink>(
     // One write was refused in this call at a write fault, and else none.
     ensures writes { CountsWrites result (W.refusals writer.old) (W.refusals writer.new) }
 {
-    let mut script = Script::new(alloc);
-    let Err(fault) = script.run_to_end(reader, writer) else {
+    let mut script = Script::start(alloc, reader)?;
+    let Err(fault) = script.answer_all(reader, writer) else {
         return script.write_out(writer);
     };
     if let ScriptFault::Write = fault {

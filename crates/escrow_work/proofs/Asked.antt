@@ -1,15 +1,22 @@
--- What lines ask, one more line at a time.
-use Rattle.std.proofs.Common.{◌≡◌, ℕ, List, [], ◌∷◌, ◌++◌, Option, None, Some, Ok, inl, inr, refl, sym, ap, subst, ◌∙◌}
-use Rattle.std.specs.Option.{IsNone, IsSome}
+-- What lines ask, one more line at a time, and the first bad one.
+use Rattle.std.proofs.Common.{◌≡◌, ◌≢◌, ℕ, ◌+◌, ◌<◌, List, [], ◌∷◌, ◌++◌, Option, length, inl, refl, sym, ap, subst, ◌∙◌, arith}
+use Rattle.std.specs.Io.KnownBytes.{Consumes}
 use Rattle.field_bounds.specs.Schema.{SchemaValue}
-use Rattle.field_bounds.specs.Header.{schema_of}
 use Rattle.field_bounds.specs.declared.id.SiteNo.{SiteNo}
 use Rattle.field_bounds.specs.declared.entry.Command.{Command}
+use Rattle.entry_text.specs.Lines.{max_line}
 use Rattle.site_workers.specs.Scripts.{scripts_of}
+use Rattle.script_input.specs.declared.fault.ScriptFault.{ScriptFault}
+use Rattle.script_input.specs.declared.fault.ScriptFault.TheVariants as faults
+use Rattle.script_input.specs.declared.streams.End.{End}
+use Rattle.script_input.specs.declared.reader.LineReader.{LineReader}
+use Rattle.script_input.specs.Faults.{Explains, HasEndedAt}
+use Rattle.script_input.specs.Reader.{Reads, StopsAt}
+use Rattle.script_input.proofs.NextLemmas.{HasNext, next_given, next_long, stops_no_memory}
 use Rattle.escrow_work.specs.declared.scripts.Scripts.{Scripts}
-use Rattle.escrow_work.specs.Scripts.{IsPlain, AreAsked, HasScripts, scripts_from, with_command}
-use Rattle.escrow_work.specs.Work.{IsGood}
-use Rattle.escrow_work.specs.Reading.{Moves, IsAfterLines}
+use Rattle.escrow_work.specs.Scripts.{IsPlain, IsBadLine, AreAsked, HasScripts, with_command}
+use Rattle.escrow_work.specs.Work.{IsGood, FindsBad, FaultIn, TellsOf, FaultsIn}
+use Rattle.escrow_work.specs.Reading.{Holds}
 use Rattle.escrow_work.proofs.Dealt.{dealt_more}
 
 asked_more : (schema : SchemaValue) (lines : List (List ℕ)) (line : List ℕ) (asked : List (SiteNo × Command))
@@ -24,7 +31,7 @@ asked_more schema (first ∷ lines) line (a ∷ asked) site command each plain =
       each.1 plain,
 )
 
-has_more : (schema : SchemaValue) (header : List ℕ) (old : List (List Command)) (lines : List (List ℕ)) (line : List ℕ) (site : SiteNo)
+pub has_more : (schema : SchemaValue) (header : List ℕ) (old : List (List Command)) (lines : List (List ℕ)) (line : List ℕ) (site : SiteNo)
     (command : Command)
     → HasScripts schema header old lines → IsPlain schema line site command → HasScripts schema header (with_command old site.0 command)
     (lines ++ line ∷ [])
@@ -38,53 +45,75 @@ has_more schema header old lines line site command has plain = record {
       ∙ sym (dealt_more schema.sites has.asked site command plain.known);
 }
 
-has_start : (schema : SchemaValue) (line : List ℕ) → schema_of line ≡ Ok schema → HasScripts schema line (scripts_from schema.sites [])
-    (line ∷ [])
-has_start schema line start = record { behind = []; asked = []; parts = refl; start = start; each = tt; dealt = refl }
+-- ---- where the reading stops
 
-has_along : (schema schema' : SchemaValue) (header header' : List ℕ) (rows rows' : List (List Command)) (lines : List (List ℕ))
-    → schema ≡ schema' → header ≡ header' → rows ≡ rows'
-    → HasScripts schema header rows lines → HasScripts schema' header' rows' lines
-has_along schema schema' header header' rows rows' lines es eh er has =
-    subst (λ (x : SchemaValue). HasScripts x header' rows' lines) es
-    (subst (λ (x : List ℕ). HasScripts schema x rows' lines) eh
-    (subst (λ (x : List (List Command)). HasScripts schema header x lines) er has))
+-- a fault behind good lines
+pub stops_good : (from to : Option (List ℕ)) (last : End) (given : List (List ℕ)) (fault : ScriptFault) → IsGood given → fault ≢ faults.Write
+    → StopsAt from to last given fault → FaultsIn from to last fault
+stops_good from to last given fault good other stops = (stops.front ++ stops.back, (stops.consumed, told fault other stops.why))
+  where
+    in_front : (fault : ScriptFault) → fault ≢ faults.Write → Explains fault stops.front stops.back (HasEndedAt to last)
+        → FaultIn fault (stops.front ++ stops.back) (HasEndedAt to last)
+    in_front fault other why = record {
+      front = stops.front;
+      back = stops.back;
+      parts = refl;
+      why = why;
+      good = subst IsGood (sym stops.whole) good;
+      other = other;
+    }
 
--- the scripts after one more line
-pub StandsFor-next : (before after : Option Scripts) (lines : List (List ℕ)) (line : List ℕ) → IsAfterLines before lines
-    → Moves before line after → IsAfterLines after (lines ++ line ∷ [])
-StandsFor-next None None lines line stands moves = absurd moves
-StandsFor-next None (Some new) lines line stands moves =
-    let first : lines ++ line ∷ [] ≡ line ∷ [] = ap (λ (l : List (List ℕ)). l ++ line ∷ []) stands in
-    subst (λ (l : List (List ℕ)). HasScripts new.schema new.header.items (scripts_of new.rows.items) l) (sym first)
-    (has_along new.schema new.schema line new.header.items _ _ (line ∷ []) refl (sym moves.header) (sym moves.rows)
-    (has_start new.schema line moves.schema))
-StandsFor-next (Some old) None lines line stands moves = absurd moves
-StandsFor-next (Some old) (Some new) lines line stands moves =
-    has_along old.schema new.schema old.header.items new.header.items _ _ (lines ++ line ∷ []) (sym moves.schema) (sym moves.header)
-    (sym moves.rows)
-    (has_more old.schema old.header.items (scripts_of old.rows.items) lines line moves.site moves.command stands moves.plain)
+    told : (fault : ScriptFault) → fault ≢ faults.Write → Explains fault stops.front stops.back (HasEndedAt to last)
+        → TellsOf fault (stops.front ++ stops.back) (HasEndedAt to last)
+    told faults.Read other why = in_front faults.Read other why
+    told faults.TooLong other why = in_front faults.TooLong other why
+    told faults.Write other why = absurd (other refl)
+    told (faults.Header e) other why = in_front (faults.Header e) other why
+    told (faults.BadLine n) other why = absurd why
+    told (faults.Work e) other why = absurd why
+    told faults.Stuck other why = absurd why
+    told faults.Illegal other why = absurd why
+    told faults.NoMemory other why = in_front faults.NoMemory other why
 
-pub StandsFor-along : (s t : Option Scripts) (ks ls : List (List ℕ)) → s ≡ t → ks ≡ ls → IsAfterLines s ks → IsAfterLines t ls
-StandsFor-along s t ks ls es el stands = subst (λ (x : Option Scripts). IsAfterLines x ls) es
-    (subst (λ (x : List (List ℕ)). IsAfterLines s x) el stands)
+pub stops_memory : (from to : Option (List ℕ)) (last : End) (read : List ℕ) → Consumes from to read → FaultsIn from to last faults.NoMemory
+stops_memory from to last read consumed =
+    stops_good from to last [] faults.NoMemory (inl refl) (λ h. cc) (stops_no_memory from to last read consumed)
 
-pub good_stands : (s : Option Scripts) (lines : List (List ℕ)) → IsAfterLines s lines → IsGood lines
-good_stands None lines stands = inl stands
-good_stands (Some w) lines stands = inr (w.schema, (w.header.items, (scripts_of w.rows.items, stands)))
+module _ (from to : Option (List ℕ)) (last : End) (r : LineReader) (scripts : Scripts) (given : List (List ℕ))
+    (holds : Holds scripts given) where
+  bad_next : (line : List ℕ) (number : ℕ) → number ≡ length given + 1 → IsBadLine scripts.schema line → HasNext from to last given line max_line
+      → FaultsIn from to last (faults.BadLine number)
+  bad_next line number place bad next = (
+    next.read,
+    (
+      next.consumed,
+      subst (λ n. FindsBad next.read n (HasEndedAt to last)) (sym place) (record {
+        first = record {
+          schema = scripts.schema;
+          header = scripts.header.items;
+          scripts = scripts_of scripts.rows.items;
+          front = given;
+          line = line;
+          back = next.later;
+          parts = next.parts;
+          good = holds;
+          bad = bad;
+          place = refl;
+        };
+        reached = next.reached;
+      }),
+    ),
+  )
 
-pub none_lines : (s : Option Scripts) (lines : List (List ℕ)) → IsNone s → IsAfterLines s lines → lines ≡ []
-none_lines None lines none stands = stands
-none_lines (Some w) lines none stands = cc
+  pub finds_bad : (line : List ℕ) (number : ℕ) → number ≡ length given + 1 → IsBadLine scripts.schema line → r.passed ≡ 0
+      → Reads from to last r (given ++ line ∷ []) → FaultsIn from to last (faults.BadLine number)
+  finds_bad line number place bad none reads =
+      bad_next line number place bad
+      (next_given from to last r scripts.header.items holds.behind given holds.parts line max_line none reads)
 
--- a header line came, so there are lines
-pub first_line : (s : Option Scripts) (lines : List (List ℕ)) → IsSome s → IsAfterLines s lines
-    → (header : List ℕ) × ((behind : List (List ℕ)) × (lines ≡ header ∷ behind))
-first_line None lines some stands = cc
-first_line (Some w) lines some stands = (w.header.items, (stands.behind, stands.parts))
-
-pub moved_some : (s t : Option Scripts) (line : List ℕ) → Moves s line t → IsSome t
-moved_some None None line moves = absurd moves
-moved_some None (Some new) line moves = refl
-moved_some (Some old) None line moves = absurd moves
-moved_some (Some old) (Some new) line moves = refl
+  -- a line that is too long is bad, whatever it says
+  pub finds_long : (number : ℕ) → number ≡ length given + 1 → max_line < r.passed → Reads from to last r given
+      → FaultsIn from to last (faults.BadLine number)
+  finds_long number place long reads =
+      let (line, (size, next)) = next_long from to last r scripts.header.items holds.behind given holds.parts max_line long reads in
+      bad_next line number place (λ site command plain. omega (arith, plain.short, size)) next

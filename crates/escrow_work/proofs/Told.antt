@@ -1,5 +1,5 @@
 -- What is told of a reading.
-use Rattle.std.proofs.Common.{◌≡◌, ℕ, ◌+◌, List, [], ◌∷◌, ◌++◌, Option, Some, length, take, get_or, ◌<◌, refl, sym, ap, ◌∙◌, subst, append_assoc}
+use Rattle.std.proofs.Common.{◌≡◌, ℕ, ◌+◌, List, [], ◌∷◌, ◌++◌, Option, length, take, get_or, ◌<◌, refl, sym, ap, ◌∙◌, subst, append_assoc}
 use Rattle.std.proofs.lemmas.List.{take_more}
 use Rattle.field_bounds.specs.Schema.{SchemaValue}
 use Rattle.field_bounds.specs.declared.entry.Command.{Command}
@@ -11,12 +11,11 @@ use Rattle.script_input.specs.declared.streams.End.{End}
 use Rattle.script_input.specs.Lines.{script_lines}
 use Rattle.script_input.specs.Faults.{HasEndedAt}
 use Rattle.site_workers.specs.Scripts.{scripts_of, ScriptsFit}
-use Rattle.escrow_work.specs.declared.reading.Reading.{Reading}
 use Rattle.escrow_work.specs.declared.scripts.Scripts.{Scripts}
-use Rattle.escrow_work.specs.Work.{entries_text, work_text, IsAsked, TellsOf, MakesNone, FaultsIn}
-use Rattle.escrow_work.specs.Reading.{IsAfterLines, ReadsThrough}
+use Rattle.escrow_work.specs.Work.{entries_text, work_text, IsAsked, MakesNone, FaultsIn}
+use Rattle.escrow_work.specs.Reading.{Holds, ReadsThrough}
 use Rattle.escrow_work.proofs.Dealt.{dealt_fit}
-use Rattle.escrow_work.proofs.States.{Stops-memory}
+use Rattle.escrow_work.proofs.Asked.{stops_memory}
 
 -- ---- the text
 
@@ -42,39 +41,27 @@ text_more schema header es i d out mid next below so_far line ended =
 
 -- ---- what is made
 
-pub fit_through : (from to : Option (List ℕ)) (last : End) (r : Reading) (w : Scripts) → ReadsThrough from to last r
-    → r.scripts ≡ Some w → ScriptsFit w.schema (scripts_of w.rows.items)
-fit_through from to last r w through is =
-    let stands : IsAfterLines (Some w) (script_lines through.0) = subst (λ (x : Option Scripts). IsAfterLines x
-    (script_lines through.0)) is through.1.1.1.1.1 in
-    subst (λ (l : List (List Command)). ScriptsFit w.schema l) (sym stands.dealt)
-    (dealt_fit w.schema stands.behind stands.asked stands.each)
+pub fit_through : (from to : Option (List ℕ)) (last : End) (w : Scripts) → ReadsThrough from to last w
+    → ScriptsFit w.schema (scripts_of w.rows.items)
+fit_through from to last w through =
+    let holds : Holds w (script_lines through.0) = through.1.1.1.1 in
+    subst (λ (l : List (List Command)). ScriptsFit w.schema l) (sym holds.dealt)
+    (dealt_fit w.schema holds.behind holds.asked holds.each)
 
-asked_through : (from to : Option (List ℕ)) (last : End) (r : Reading) (w : Scripts) (through : ReadsThrough from to last r)
-    → r.scripts ≡ Some w → IsAsked w.schema (scripts_of w.rows.items) through.0 (HasEndedAt to last)
-asked_through from to last r w through is = record {
-  header = w.header.items;
-  good = subst (λ (x : Option Scripts). IsAfterLines x (script_lines through.0)) is through.1.1.1.1.1;
-  within = through.1.1.1.0;
-  at = through.1.1.0;
-}
-
-pub faults_through : (from to : Option (List ℕ)) (last : End) (r : Reading) (w : Scripts) (fault : ScriptFault)
-    → ReadsThrough from to last r → r.scripts ≡ Some w
+pub faults_through : (from to : Option (List ℕ)) (last : End) (w : Scripts) (fault : ScriptFault) → ReadsThrough from to last w
     → MakesNone w.schema (scripts_of w.rows.items) fault → FaultsIn from to last fault
-faults_through from to last r w fault through is none =
-    (through.0, (through.1.0, told fault none))
+faults_through from to last w fault through none = told fault none
   where
     asked : IsAsked w.schema (scripts_of w.rows.items) through.0 (HasEndedAt to last)
-    asked = asked_through from to last r w through is
+    asked = record { header = w.header.items; good = through.1.1.1.1; within = through.1.1.1.0; at = through.1.1.0 }
 
-    told : (fault : ScriptFault) → MakesNone w.schema (scripts_of w.rows.items) fault → TellsOf fault through.0 (HasEndedAt to last)
+    told : (fault : ScriptFault) → MakesNone w.schema (scripts_of w.rows.items) fault → FaultsIn from to last fault
     told faults.Read none = absurd none
     told faults.TooLong none = absurd none
     told faults.Write none = absurd none
     told (faults.Header e) none = absurd none
     told (faults.BadLine number) none = absurd none
-    told (faults.Work fault) none = (none, (w.schema, (scripts_of w.rows.items, asked)))
-    told faults.Stuck none = (w.schema, (scripts_of w.rows.items, (asked, none)))
+    told (faults.Work fault) none = (through.0, (through.1.0, (none, (w.schema, (scripts_of w.rows.items, asked)))))
+    told faults.Stuck none = (through.0, (through.1.0, (w.schema, (scripts_of w.rows.items, (asked, none)))))
     told faults.Illegal none = absurd none
-    told faults.NoMemory none = Stops-memory through.0 0 (HasEndedAt to last)
+    told faults.NoMemory none = stops_memory from to last through.0 through.1.0

@@ -1,5 +1,5 @@
 -- What workers are asked, what they make of it, and what is written (this project).
-use Rattle.std.specs.Prelude.{◌≡◌, ◌≢◌, ℕ, ◌<◌, ◌≤◌, ◌⊎◌, List, [], ◌∷◌, ◌++◌, length, reverse, Option}
+use Rattle.std.specs.Prelude.{◌≡◌, ◌≢◌, ℕ, ◌⊎◌, List, [], ◌∷◌, ◌++◌, reverse, Option}
 use Rattle.std.specs.Io.KnownBytes.{Appends, Consumes}
 use Rattle.field_bounds.specs.Schema.{SchemaValue}
 use Rattle.field_bounds.specs.Central.{IsCentral}
@@ -16,8 +16,8 @@ use Rattle.trace_weave.specs.Weave.{WeavesLowest, NoneWeaves}
 use Rattle.script_input.specs.declared.fault.ScriptFault.{ScriptFault}
 use Rattle.script_input.specs.declared.fault.ScriptFault.TheVariants as faults
 use Rattle.script_input.specs.declared.streams.End.{End}
-use Rattle.script_input.specs.Lines.{whole_lines, last_part, lines_of, script_lines}
-use Rattle.script_input.specs.Faults.{Explains, HasEndedAt, IsWithin}
+use Rattle.script_input.specs.Lines.{whole_lines, script_lines}
+use Rattle.script_input.specs.Faults.{Explains, HasEndedAt, IsWithin, IsLineReached}
 use Rattle.script_input.specs.Streams.{AppendsPrefix}
 use Rattle.escrow_work.specs.Scripts.{HasScripts, IsFirstBad}
 
@@ -76,16 +76,11 @@ pub record WritesWork (from to before after : Option (List ℕ)) (last : End) : 
 
 -- ---- faults
 
--- The bytes have a bad line, and this is the first. It stands in a front of them that is within the limits on lines and
--- bytes. Of it that front has its LF, or more than 256 bytes, or all up to the end of the input.
+-- The bytes have a bad line, and this is the first. It was reached within the limits: as a line, or as one of more than 256
+-- bytes.
 pub record FindsBad (read : List ℕ) (number : ℕ) (ended : Type 0) : Type 0 where
   pub first : IsFirstBad (script_lines read) number
-  pub front : List ℕ
-  pub back : List ℕ
-  pub parts : front ++ back ≡ read
-  pub within : IsWithin front
-  pub there : number ≤ length (lines_of front)
-  pub reached : (number ≤ length (whole_lines front)) ⊎ ((max_line < length (last_part front)) ⊎ ((back ≡ []) × ended))
+  pub reached : IsLineReached read number max_line ended
 
 -- No line, or a header with plain commands behind it.
 abbrev pub IsGood : List (List ℕ) → Type 0

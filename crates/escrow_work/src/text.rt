@@ -8,7 +8,7 @@ ghost use Rattle.script_input.specs.Streams.{HasFailed, GaveNothing, HasRefused,
 ghost use Rattle.escrow_work.specs.Scripts.{HasScripts};
 ghost use Rattle.escrow_work.specs.Work.{work_text, MakesNone, IsWorkOf, WritesWork, Fails, Tells, FaultsIn};
 
-use crate::reading::{Reading, Stop};
+use crate::reading::read_scripts;
 use crate::scripts::Scripts;
 use crate::woven::work_woven;
 use entry_text::append_entry;
@@ -74,12 +74,8 @@ fn answer<R: Source>(
     ensures reads { CountsReads result (R.failures reader.old) (R.failures reader.new) }
     ensures not_written { IfErr result (λ fault. fault ≢ ScriptFault.Write) }
 {
-    let mut reading = Reading::new(alloc);
-    match reading.read_all(reader) {
-        Ok(()) => made(rt, alloc, reading.into_scripts()),
-        Err(Stop::BadLine) => Err(ScriptFault::BadLine(reading.next_line())),
-        Err(Stop::Fault(fault)) => Err(fault),
-    }
+    let scripts = read_scripts(alloc, reader)?;
+    made(rt, alloc, scripts)
 }
 
 // Writes the text.
@@ -122,7 +118,7 @@ fn write_out<W: Sink>(writer: &mut W, bytes: &[u8]) -> Result<(), ScriptFault>
 /// Reader and writer tell the contract how their calls end, and how many failed; `Watched::new`
 /// makes such ones of std's. No call is made again after one that failed.
 ///
-/// Costs 64 KiB for input, two threads and an inbox of 1,024 letters for each site, memory for the
+/// Costs 128 KiB for input, two threads and an inbox of 1,024 letters for each site, memory for the
 /// scripts, for the histories and their receipts and for the text, and time in proportion to the
 /// input.
 ///

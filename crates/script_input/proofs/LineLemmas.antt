@@ -1,7 +1,7 @@
 -- The lines of a text that goes on.
-use Rattle.std.proofs.Common.{◌≡◌, ◌≢◌, ℕ, ◌+◌, ◌-◌, ◌<◌, ◌≤◌, List, [], ◌∷◌, ◌++◌, Bool, true, false, cond, eqb, length, take, drop, refl, sym, ap, ◌∙◌, append_assoc, append-nil, take-append-drop, arith}
+use Rattle.std.proofs.Common.{◌≡◌, ◌≢◌, ℕ, ◌+◌, ◌<◌, ◌≤◌, List, [], ◌∷◌, ◌++◌, true, false, cond, eqb, length, refl, sym, ap, ◌∙◌, append_assoc, append-nil, arith}
 use Rattle.std.specs.List.{All}
-use Rattle.std.proofs.lemmas.List.{length-take, length-take-le, length-drop, take-take, length-append, length_push}
+use Rattle.std.proofs.lemmas.List.{length-append}
 use Rattle.std.proofs.lemmas.Bool.{ne_eqb}
 use Rattle.std.proofs.lemmas.List.Elements.{All-tail}
 use Rattle.script_input.specs.Lines.{whole_lines_after, last_part_after, whole_lines, last_part, last_line, lines_of, with_header}
@@ -101,76 +101,8 @@ pub within-unbroken : (read piece : List ℕ) → All (λ b. b ≢ 10) piece →
 within-unbroken read piece h room =
     omega (arith, lines_of-most (read ++ piece), ap length (whole_lines-unbroken read piece h), room)
 
--- and so is the LF behind it
-pub within-broken : (read : List ℕ) → length (whole_lines read) < 1000000 → length (lines_of (read ++ 10 ∷ [])) ≤ 1000000
-within-broken read room =
-    let lines : length (lines_of (read ++ 10 ∷ [])) ≡ length (whole_lines (read ++ 10 ∷ [])) =
-    ap (λ l. length (whole_lines (read ++ 10 ∷ []) ++ last_line l)) (last_part-broken read)
-    ∙ ap length (append-nil (whole_lines (read ++ 10 ∷ []))) in
-    omega (arith, lines, ap length (whole_lines-broken read), length_push (whole_lines read) (last_part read), room)
-
--- bytes in which no line ended are one line at most
-pub within-header : (read : List ℕ) → whole_lines read ≡ [] → length read ≤ 268435456 → IsWithin read
-within-header read none bytes = record { lines = omega (arith, lines_of-most read, ap length none); bytes = bytes }
-
 pub within-nothing : IsWithin []
 within-nothing = record { lines = omega arith; bytes = omega arith }
-
--- ---- fronts that are within the limit on bytes
-
--- what was read before a piece
-pub bytes-before : (read piece : List ℕ) (most : ℕ) → length (read ++ piece) ≤ most → length read ≤ most
-bytes-before read piece most bytes = omega (arith, bytes, length-append read piece)
-
--- the part of a piece that was taken
-pub bytes-done : (read done rest piece : List ℕ) (most : ℕ) → piece ≡ done ++ rest → length (read ++ piece) ≤ most
-    → length (read ++ done) ≤ most
-bytes-done read done rest piece most split bytes =
-    omega (arith, bytes, length-append read piece, length-append read done, ap length split, length-append done rest)
-
--- and all of it
-pub bytes-all : (read done rest piece : List ℕ) (most : ℕ) → piece ≡ done ++ rest → length (read ++ piece) ≤ most
-    → length ((read ++ done) ++ rest) ≤ most
-bytes-all read done rest piece most split bytes =
-    omega (
-      arith,
-      bytes,
-      length-append read piece,
-      length-append read done,
-      length-append (read ++ done) rest,
-      ap length split,
-      length-append done rest,
-    )
-
--- and a line more of it, with its LF
-pub bytes-line : (read done rest piece line after : List ℕ) (most : ℕ) → piece ≡ done ++ rest → rest ≡ line ++ 10 ∷ after
-    → length (read ++ piece) ≤ most → length ((read ++ done) ++ (line ++ 10 ∷ [])) ≤ most
-bytes-line read done rest piece line after most split parts bytes =
-    omega (
-      arith,
-      bytes,
-      bytes-all read done rest piece most split bytes,
-      length-append (read ++ done) rest,
-      ap length parts,
-      length-append line (10 ∷ after),
-      length-append (read ++ done) (line ++ 10 ∷ []),
-      length-append line (10 ∷ []),
-    )
-
--- a line without its LF
-pub bytes-part : (read line : List ℕ) (most : ℕ) → length (read ++ (line ++ 10 ∷ [])) ≤ most → length (read ++ line) ≤ most
-bytes-part read line most bytes =
-    omega (arith, bytes, length-append read (line ++ 10 ∷ []), length-append line (10 ∷ []), length-append read line)
-
--- and with it
-pub bytes-ended : (read line : List ℕ) (most : ℕ) → length (read ++ (line ++ 10 ∷ [])) ≤ most → length ((read ++ line) ++ 10 ∷ []) ≤ most
-bytes-ended read line most bytes = omega (arith, bytes, ap length (append_assoc read line (10 ∷ [])))
-
--- the first bytes of a read
-pub bytes-read : (read piece buf : List ℕ) (k count most : ℕ) → piece ≡ take k buf → count ≡ length read → count + k ≤ most
-    → length (read ++ piece) ≤ most
-bytes-read read piece buf k count most e known room =
-    omega (arith, length-append read piece, ap length e, length-take k buf, known, room)
 
 -- ---- bytes that are some
 
@@ -178,31 +110,3 @@ pub some_after_line : (rest line after more : List ℕ) → rest ≡ line ++ 10 
 some_after_line rest [] after more e = λ h. let none : (10 ∷ after) ++ more ≡ [] = ap (λ l. l ++ more) (sym e) ∙ h in cc
 some_after_line rest (b ∷ line) after more e =
     λ h. let none : (b ∷ (line ++ 10 ∷ after)) ++ more ≡ [] = ap (λ l. l ++ more) (sym e) ∙ h in cc
-
-pub some_after_some : (rest more : List ℕ) → rest ≢ [] → rest ++ more ≢ []
-some_after_some [] more some = absurd (some refl)
-some_after_some (b ∷ rest) more some = λ h. cc
-
-pub not_empty_some : (rest : List ℕ) (is_empty : Bool) → is_empty ≡ eqb (length rest) 0 → is_empty ≡ false → rest ≢ []
-not_empty_some [] is_empty e none = λ h. cc
-not_empty_some (b ∷ rest) is_empty e none = λ h. cc
-
--- ---- parts of a piece
-
-pub split_piece : (n k : ℕ) (buf piece : List ℕ) → piece ≡ take k buf → k ≤ n → piece ++ drop k (take n buf) ≡ take n buf
-split_piece n k buf piece e h =
-    ap (λ l. l ++ drop k (take n buf)) (e ∙ sym (take-take k n buf h)) ∙ take-append-drop k (take n buf)
-
-pub rest_some : (n k : ℕ) (buf : List ℕ) → k < n → n ≤ length buf → drop k (take n buf) ≢ []
-rest_some n k buf h fits = λ none.
-    let l : length (drop k (take n buf)) ≡ n - k = length-drop k (take n buf) ∙ ap (λ m. m - k) (length-take-le n buf fits) in
-    let z : length (drop k (take n buf)) ≡ 0 = ap length none in
-    absurd (omega arith)
-
-pub piece_parts : (read done rest piece more : List ℕ) → piece ≡ done ++ rest → (read ++ done) ++ (rest ++ more) ≡ read ++ (piece ++ more)
-piece_parts read done rest piece more e =
-    append_assoc read done (rest ++ more) ∙ ap (λ l. read ++ l) (sym (append_assoc done rest more) ∙ ap (λ l. l ++ more) (sym e))
-
-pub line_parts : (line after more rest : List ℕ) → rest ≡ line ++ 10 ∷ after → (line ++ 10 ∷ []) ++ (after ++ more) ≡ rest ++ more
-line_parts line after more rest e =
-    append_assoc line (10 ∷ []) (after ++ more) ∙ sym (append_assoc line (10 ∷ after) more) ∙ ap (λ l. l ++ more) (sym e)

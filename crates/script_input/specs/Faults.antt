@@ -1,6 +1,6 @@
 -- The faults of a call that reads a text: a run of a script, an audit, or a work of all sites (this project). BadLine, Work,
 -- Stuck and Illegal are a work's alone: what they say is told where it answers them.
-use Rattle.std.specs.Prelude.{◌≡◌, ◌≢◌, ◌<◌, ◌≤◌, ◌⊎◌, ℕ, List, [], ◌∷◌, length, Option, Result, Ok, Err}
+use Rattle.std.specs.Prelude.{◌≡◌, ◌≢◌, ◌<◌, ◌≤◌, ◌⊎◌, ℕ, List, [], ◌∷◌, ◌++◌, length, Option, Result, Ok, Err}
 use Rattle.std.specs.Io.KnownBytes.{IsAtEnd}
 use Rattle.field_bounds.specs.Schema.{SchemaValue}
 use Rattle.field_bounds.specs.Header.{schema_of}
@@ -10,7 +10,7 @@ use Rattle.script_input.specs.declared.fault.ScriptFault.{ScriptFault}
 use Rattle.script_input.specs.declared.fault.ScriptFault.TheVariants as faults
 use Rattle.script_input.specs.declared.streams.End.{End}
 use Rattle.script_input.specs.declared.streams.End.TheVariants.{Nothing}
-use Rattle.script_input.specs.Lines.{whole_lines, lines_of}
+use Rattle.script_input.specs.Lines.{whole_lines, last_part, lines_of}
 use Rattle.script_input.specs.Streams.{one_more}
 
 -- How a fault of the schema is told: want of memory as such, any other as the header's fault.
@@ -39,6 +39,16 @@ BeginsWithBreak bs = (rest : List ℕ) × (bs ≡ 10 ∷ rest)
 pub record IsWithin (read : List ℕ) : Type 0 where
   pub lines : length (lines_of read) ≤ 1000000
   pub bytes : length read ≤ 268435456
+
+-- A line of the bytes, by its number from 1 with the header, is reached: it stands in a front of them that is within the
+-- limits. Of it that front has its LF, or more than so many bytes, or all up to the end of the input.
+pub record IsLineReached (read : List ℕ) (number most : ℕ) (ended : Type 0) : Type 0 where
+  pub front : List ℕ
+  pub back : List ℕ
+  pub parts : front ++ back ≡ read
+  pub within : IsWithin front
+  pub there : number ≤ length (lines_of front)
+  pub reached : (number ≤ length (whole_lines front)) ⊎ ((most < length (last_part front)) ⊎ ((back ≡ []) × ended))
 
 -- What a fault says of the bytes in front of it, which are within the limits, and of those that were read after them. So
 -- too long an input is told just where a byte follows the 1,000,000th line or the 268,435,456th byte. What may be written at a

@@ -3,12 +3,14 @@
 #![tactic(auto)]
 
 mod fault;
-mod pieces;
+mod reader;
 mod streams;
 mod watched;
+mod window;
 
 pub use fault::ScriptFault;
-pub use pieces::{MOST_BYTES, MOST_LINES, PIECE, front, new_buffer, read_piece, split_line};
+pub use reader::{LineReader, NextLine};
 pub use streams::{CallFailed, End, Sink, Source};
 pub use watched::Watched;
+pub use window::PIECE;
 pub use work_faults::WorkFault;
