@@ -1,3 +1,4 @@
+use check_kit::{FIRST, STOCK, STOCK_OF_TWO};
 use entry_text::*;
 use field_bounds::{
     Command, Entry, FieldNo, Kind, Last, Refusal, Reply, Schema, SiteNo, Statement, TxnId,
@@ -5,17 +6,6 @@ use field_bounds::{
 use std::alloc::{AllocError, Global};
 use std::process::Abort;
 use std::test::Fail;
-
-const STOCK: FieldNo = FieldNo(0);
-
-const FIRST: TxnId = TxnId {
-    epoch: 0,
-    number: 1,
-};
-
-/// Two sites, on one field from 0 to 100 at 40.
-const STOCK_OF_TWO: &str =
-    r#"{"sites":2,"fields":[{"name":"stock","floor":0,"ceiling":100,"value":40}]}"#;
 
 fn stock(rt: &impl Abort, alloc: Global) -> Result<Schema, Fail> {
     let schema = Schema::from_header(alloc, STOCK_OF_TWO.as_bytes())?;

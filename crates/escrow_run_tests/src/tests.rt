@@ -1,5 +1,12 @@
 //! What no clause says: the texts, whole runs, and readers and writers that fail.
 
+/// Lines, each beside what answers it.
+macro_rules! said {
+    ($($line:expr => $answer:expr,)*) => {
+        [$(($line, $answer)),*]
+    };
+}
+
 mod bad_lines;
 mod faults;
 mod hostile;
@@ -7,12 +14,13 @@ mod levels;
 mod reaches;
 mod worked;
 
+use check_kit::{Narrow, STOCK_OF_TWO, add, broken_behind, joined, same_bytes};
 use escrow_run::{End, ScriptFault, Watched, run_script};
 use field_bounds::SchemaFault;
 use itoa::Buffer;
 use std::alloc::{AllocError, Global};
 use std::io;
-use std::io::{ErrorKind, Read, Write};
+use std::io::Read;
 use std::process::Abort;
 
 const HEADER: &str =
@@ -41,21 +49,6 @@ fn check_reader<R: Read + Drop>(
     let (end, out) = run(alloc, reader);
     assert_eq!(rt; end, wanted, "at {output}");
     assert_eq!(rt; str::from_utf8(out.as_slice()), Ok(output));
-}
-
-/// Adds the parts, one behind the other.
-fn add(text: &mut String, parts: &[&str]) -> Result<(), AllocError> {
-    for part in parts {
-        text.push_str(*part)?;
-    }
-    Ok(())
-}
-
-/// A text of these parts.
-fn joined(alloc: Global, parts: &[&str]) -> Result<String, AllocError> {
-    let mut text = String::new(alloc);
-    add(&mut text, parts)?;
-    Ok(text)
 }
 
 /// A script beside the output that it is to give.
@@ -125,232 +118,123 @@ impl Talk {
     }
 }
 
-/// A reader that gives a byte a read.
-#[derive(Drop)]
-struct Trickle<'a>(&'a [u8]);
-
-impl Read for Trickle<'_> {
-    fn read(&mut self, buf: &mut [u8]) -> io::Result<usize> {
-        let count = buf.len().min(1);
-        self.0.read(&mut buf[..count])
-    }
-}
-
-/// A reader whose every read fails.
-#[derive(Drop)]
-struct Broken(ErrorKind);
-
-impl Read for Broken {
-    fn read(&mut self, _buf: &mut [u8]) -> io::Result<usize> {
-        Err(self.0.into())
-    }
-}
-
-/// A writer that takes so many bytes, one a write, and then fails or takes none.
-#[derive(Drop)]
-struct Narrow {
-    taken: Vec<u8>,
-    room: usize,
-    fails: bool,
-}
-
-impl Write for Narrow {
-    fn write(&mut self, buf: &[u8]) -> io::Result<usize> {
-        if self.room == 0 && self.fails {
-            return Err(ErrorKind::Interrupted.into());
-        }
-        let count = buf.len().min(self.room).min(1);
-        self.taken.extend_from_slice(&buf[..count])?;
-        self.room -= count;
-        Ok(count)
-    }
-
-    fn flush(&mut self) -> io::Result<()> {
-        Ok(())
-    }
-}
-
-/// Two sites, which have half of the rights each: lower 20, raise 30.
-const HALVED: &str =
-    "{\"sites\":2,\"fields\":[{\"name\":\"stock\",\"floor\":0,\"ceiling\":100,\"value\":40}]}";
-
 /// Lines over two sites, with deliveries and torn appends, each beside what answers it.
 const SAID: [&[(&str, &str)]; 15] = [
     // A gift is delivered, and again.
-    &[
-        (
-            "0 give 1 stock lower 5",
-            "0 give 1 stock lower 5 -> given 5",
-        ),
-        ("1 begin", "1 begin -> begun 0.1"),
-        (
-            "1 escrow 0.1 stock -25",
-            "1 escrow 0.1 stock -25 -> refused 7 short 20",
-        ),
-        ("deliver 1", "1 accept 0 1 stock lower 5 -> accepted 5"),
-        (
-            "1 escrow 0.1 stock -25",
-            "1 escrow 0.1 stock -25 -> granted",
-        ),
-        ("deliver 1", "1 accept 0 1 stock lower 5 -> accepted 0"),
-    ],
+    &said! {
+        "0 give 1 stock lower 5" => "0 give 1 stock lower 5 -> given 5",
+        "1 begin" => "1 begin -> begun 0.1",
+        "1 escrow 0.1 stock -25" => "1 escrow 0.1 stock -25 -> refused 7 short 20",
+        "deliver 1" => "1 accept 0 1 stock lower 5 -> accepted 5",
+        "1 escrow 0.1 stock -25" => "1 escrow 0.1 stock -25 -> granted",
+        "deliver 1" => "1 accept 0 1 stock lower 5 -> accepted 0",
+    },
     // The later statement comes first.
-    &[
-        (
-            "0 give 1 stock lower 3",
-            "0 give 1 stock lower 3 -> given 3",
-        ),
-        (
-            "0 give 1 stock lower 2",
-            "0 give 1 stock lower 2 -> given 5",
-        ),
-        ("deliver 2", "1 accept 0 1 stock lower 5 -> accepted 5"),
-        ("deliver 1", "1 accept 0 1 stock lower 3 -> accepted 0"),
-    ],
+    &said! {
+        "0 give 1 stock lower 3" => "0 give 1 stock lower 3 -> given 3",
+        "0 give 1 stock lower 2" => "0 give 1 stock lower 2 -> given 5",
+        "deliver 2" => "1 accept 0 1 stock lower 5 -> accepted 5",
+        "deliver 1" => "1 accept 0 1 stock lower 3 -> accepted 0",
+    },
     // A restart aborts what is open.
-    &[
-        ("0 begin", "0 begin -> begun 0.1"),
-        (
-            "0 escrow 0.1 stock -20",
-            "0 escrow 0.1 stock -20 -> granted",
-        ),
-        ("0 restart", "0 restart -> restarted 1 nothing"),
-        ("0 commit 0.1", "0 commit 0.1 -> refused 4 no transaction"),
-        ("0 begin", "0 begin -> begun 1.1"),
-    ],
+    &said! {
+        "0 begin" => "0 begin -> begun 0.1",
+        "0 escrow 0.1 stock -20" => "0 escrow 0.1 stock -20 -> granted",
+        "0 restart" => "0 restart -> restarted 1 nothing",
+        "0 commit 0.1" => "0 commit 0.1 -> refused 4 no transaction",
+        "0 begin" => "0 begin -> begun 1.1",
+    },
     // A gift in doubt issues no statement before it is stated.
-    &[
-        (
-            "0 give 1 stock lower 5 torn 10",
-            "0 give 1 stock lower 5 -> unsure",
-        ),
-        ("deliver 1", "deliver 1 -> refused 16 no statement"),
-        ("0 restart", "0 restart -> restarted 1 kept"),
-        (
-            "0 restate 1 stock lower",
-            "0 restate 1 stock lower -> stated 5",
-        ),
-        ("deliver 1", "1 accept 0 1 stock lower 5 -> accepted 5"),
-    ],
+    &said! {
+        "0 give 1 stock lower 5 torn 10" => "0 give 1 stock lower 5 -> unsure",
+        "deliver 1" => "deliver 1 -> refused 16 no statement",
+        "0 restart" => "0 restart -> restarted 1 kept",
+        "0 restate 1 stock lower" => "0 restate 1 stock lower -> stated 5",
+        "deliver 1" => "1 accept 0 1 stock lower 5 -> accepted 5",
+    },
     // So does a spare, which gives what it would have been answered.
-    &[
-        (
-            "0 spare 1 stock raise 100 torn 11",
-            "0 spare 1 stock raise 100 -> unsure",
-        ),
-        ("deliver 1", "deliver 1 -> refused 16 no statement"),
-        ("0 restart", "0 restart -> restarted 1 kept"),
-        (
-            "0 restate 1 stock raise",
-            "0 restate 1 stock raise -> stated 15",
-        ),
-        (
-            "0 spare 1 stock raise 100",
-            "0 spare 1 stock raise 100 -> spared 8 23",
-        ),
-        ("deliver 2", "1 accept 0 1 stock raise 23 -> accepted 23"),
-        ("deliver 1", "1 accept 0 1 stock raise 15 -> accepted 0"),
-        ("1 share stock", "1 share stock -> share 20 53"),
-    ],
+    &said! {
+        "0 spare 1 stock raise 100 torn 11" => "0 spare 1 stock raise 100 -> unsure",
+        "deliver 1" => "deliver 1 -> refused 16 no statement",
+        "0 restart" => "0 restart -> restarted 1 kept",
+        "0 restate 1 stock raise" => "0 restate 1 stock raise -> stated 15",
+        "0 spare 1 stock raise 100" => "0 spare 1 stock raise 100 -> spared 8 23",
+        "deliver 2" => "1 accept 0 1 stock raise 23 -> accepted 23",
+        "deliver 1" => "1 accept 0 1 stock raise 15 -> accepted 0",
+        "1 share stock" => "1 share stock -> share 20 53",
+    },
     // A tightening in doubt that was kept, and one that lacked a byte.
-    &[
-        (
-            "0 tighten stock lower 5 torn 8",
-            "0 tighten stock lower 5 -> unsure",
-        ),
-        ("0 restart", "0 restart -> restarted 1 kept"),
-        ("0 share stock", "0 share stock -> share 15 30"),
-    ],
-    &[
-        (
-            "0 tighten stock lower 5 torn 7",
-            "0 tighten stock lower 5 -> unsure",
-        ),
-        ("0 restart", "0 restart -> restarted 1 lost"),
-        ("0 share stock", "0 share stock -> share 20 30"),
-    ],
+    &said! {
+        "0 tighten stock lower 5 torn 8" => "0 tighten stock lower 5 -> unsure",
+        "0 restart" => "0 restart -> restarted 1 kept",
+        "0 share stock" => "0 share stock -> share 15 30",
+    },
+    &said! {
+        "0 tighten stock lower 5 torn 7" => "0 tighten stock lower 5 -> unsure",
+        "0 restart" => "0 restart -> restarted 1 lost",
+        "0 share stock" => "0 share stock -> share 20 30",
+    },
     // A restart whose record is torn fails.
-    &[
-        ("0 begin", "0 begin -> begun 0.1"),
-        (
-            "0 escrow 0.1 stock -20",
-            "0 escrow 0.1 stock -20 -> granted",
-        ),
-        ("0 commit 0.1 torn 12", "0 commit 0.1 -> unsure"),
-        ("0 restart torn 2", "0 restart -> still down"),
-        ("0 restart", "0 restart -> restarted 1 kept"),
-    ],
+    &said! {
+        "0 begin" => "0 begin -> begun 0.1",
+        "0 escrow 0.1 stock -20" => "0 escrow 0.1 stock -20 -> granted",
+        "0 commit 0.1 torn 12" => "0 commit 0.1 -> unsure",
+        "0 restart torn 2" => "0 restart -> still down",
+        "0 restart" => "0 restart -> restarted 1 kept",
+    },
     // Where its record stands whole, its epoch is used up.
-    &[
-        ("0 restart torn 4", "0 restart -> still down"),
-        ("0 restart", "0 restart -> restarted 2 nothing"),
-    ],
+    &said! {
+        "0 restart torn 4" => "0 restart -> still down",
+        "0 restart" => "0 restart -> restarted 2 nothing",
+    },
     // No statement has these numbers.
-    &[
-        ("deliver 0", "deliver 0 -> refused 16 no statement"),
-        ("deliver 1", "deliver 1 -> refused 16 no statement"),
-        ("deliver 1 torn 3", "deliver 1 -> refused 16 no statement"),
-        (
-            "deliver 18446744073709551615",
-            "deliver 18446744073709551615 -> refused 16 no statement",
-        ),
-    ],
+    &said! {
+        "deliver 0" => "deliver 0 -> refused 16 no statement",
+        "deliver 1" => "deliver 1 -> refused 16 no statement",
+        "deliver 1 torn 3" => "deliver 1 -> refused 16 no statement",
+        "deliver 18446744073709551615" => "deliver 18446744073709551615 -> refused 16 no statement",
+    },
     // A step that appends nothing can't be torn.
-    &[
-        ("0 begin torn 3", "0 begin -> begun 0.1"),
-        ("0 read stock torn 0", "0 read stock -> between 20 70"),
-        (
-            "0 escrow 0.1 stock -20 torn 18446744073709551615",
-            "0 escrow 0.1 stock -20 -> granted",
-        ),
-        ("0 commit 0.1", "0 commit 0.1 -> committed"),
-    ],
+    &said! {
+        "0 begin torn 3" => "0 begin -> begun 0.1",
+        "0 read stock torn 0" => "0 read stock -> between 20 70",
+        "0 escrow 0.1 stock -20 torn 18446744073709551615" => "0 escrow 0.1 stock -20 -> granted",
+        "0 commit 0.1" => "0 commit 0.1 -> committed",
+    },
     // An acceptance in doubt that was kept.
-    &[
-        (
-            "0 give 1 stock lower 5",
-            "0 give 1 stock lower 5 -> given 5",
-        ),
-        ("deliver 1 torn 10", "1 accept 0 1 stock lower 5 -> unsure"),
-        ("deliver 1", "1 accept 0 1 stock lower 5 -> refused 1 down"),
-        ("1 restart", "1 restart -> restarted 1 kept"),
-        ("deliver 1", "1 accept 0 1 stock lower 5 -> accepted 0"),
-        ("1 share stock", "1 share stock -> share 25 30"),
-    ],
+    &said! {
+        "0 give 1 stock lower 5" => "0 give 1 stock lower 5 -> given 5",
+        "deliver 1 torn 10" => "1 accept 0 1 stock lower 5 -> unsure",
+        "deliver 1" => "1 accept 0 1 stock lower 5 -> refused 1 down",
+        "1 restart" => "1 restart -> restarted 1 kept",
+        "deliver 1" => "1 accept 0 1 stock lower 5 -> accepted 0",
+        "1 share stock" => "1 share stock -> share 25 30",
+    },
     // One that was lost.
-    &[
-        (
-            "0 give 1 stock lower 5",
-            "0 give 1 stock lower 5 -> given 5",
-        ),
-        ("deliver 1 torn 9", "1 accept 0 1 stock lower 5 -> unsure"),
-        ("deliver 1", "1 accept 0 1 stock lower 5 -> refused 1 down"),
-        ("1 restart", "1 restart -> restarted 1 lost"),
-        ("deliver 1", "1 accept 0 1 stock lower 5 -> accepted 5"),
-        ("1 share stock", "1 share stock -> share 25 30"),
-    ],
+    &said! {
+        "0 give 1 stock lower 5" => "0 give 1 stock lower 5 -> given 5",
+        "deliver 1 torn 9" => "1 accept 0 1 stock lower 5 -> unsure",
+        "deliver 1" => "1 accept 0 1 stock lower 5 -> refused 1 down",
+        "1 restart" => "1 restart -> restarted 1 lost",
+        "deliver 1" => "1 accept 0 1 stock lower 5 -> accepted 5",
+        "1 share stock" => "1 share stock -> share 25 30",
+    },
     // What is in doubt at one site isn't in doubt at the other.
-    &[
-        ("0 begin", "0 begin -> begun 0.1"),
-        (
-            "0 escrow 0.1 stock -20",
-            "0 escrow 0.1 stock -20 -> granted",
-        ),
-        ("0 commit 0.1 torn 12", "0 commit 0.1 -> unsure"),
-        ("1 read stock", "1 read stock -> between 20 70"),
-        ("0 restart", "0 restart -> restarted 1 kept"),
-        ("1 read stock", "1 read stock -> between 20 70"),
-    ],
+    &said! {
+        "0 begin" => "0 begin -> begun 0.1",
+        "0 escrow 0.1 stock -20" => "0 escrow 0.1 stock -20 -> granted",
+        "0 commit 0.1 torn 12" => "0 commit 0.1 -> unsure",
+        "1 read stock" => "1 read stock -> between 20 70",
+        "0 restart" => "0 restart -> restarted 1 kept",
+        "1 read stock" => "1 read stock -> between 20 70",
+    },
     // Luck is for its own line.
-    &[
-        ("0 begin torn 0", "0 begin -> begun 0.1"),
-        (
-            "0 escrow 0.1 stock -20",
-            "0 escrow 0.1 stock -20 -> granted",
-        ),
-        ("0 commit 0.1", "0 commit 0.1 -> committed"),
-        ("0 share stock", "0 share stock -> share 0 50"),
-    ],
+    &said! {
+        "0 begin torn 0" => "0 begin -> begun 0.1",
+        "0 escrow 0.1 stock -20" => "0 escrow 0.1 stock -20 -> granted",
+        "0 commit 0.1" => "0 commit 0.1 -> committed",
+        "0 share stock" => "0 share stock -> share 0 50",
+    },
 ];
 
 /// A field whose name is the word of luck.
@@ -372,21 +256,18 @@ fn check_said(
 #[test]
 fn answers_deliveries_and_luck(rt: HostRuntime) -> Result<(), AllocError> {
     for rows in &SAID {
-        check_said(&rt, rt.alloc(), HALVED, *rows)?;
+        check_said(&rt, rt.alloc(), STOCK_OF_TWO, *rows)?;
     }
     Ok(())
 }
 
 /// Lines over a field of that name, each beside what answers it.
-const OVER_TORN: [(&str, &str); 4] = [
-    ("0 begin", "0 begin -> begun 0.1"),
-    ("0 escrow 0.1 torn 5", "0 escrow 0.1 torn 5 -> granted"),
-    (
-        "0 escrow 0.1 torn -1 torn 5",
-        "0 escrow 0.1 torn -1 -> granted",
-    ),
-    ("0 commit 0.1 torn 5", "0 commit 0.1 -> unsure"),
-];
+const OVER_TORN: [(&str, &str); 4] = said! {
+    "0 begin" => "0 begin -> begun 0.1",
+    "0 escrow 0.1 torn 5" => "0 escrow 0.1 torn 5 -> granted",
+    "0 escrow 0.1 torn -1 torn 5" => "0 escrow 0.1 torn -1 -> granted",
+    "0 commit 0.1 torn 5" => "0 commit 0.1 -> unsure",
+};
 
 #[test]
 fn reads_no_field_as_luck(rt: HostRuntime) -> Result<(), AllocError> {
@@ -412,7 +293,7 @@ const COMMIT_KEPT: [(&str, &str); 3] = [
 
 /// A script in which a commit is torn behind so many bytes.
 fn torn_commit(alloc: Global, bytes: u64) -> Result<Talk, AllocError> {
-    let mut talk = Talk::new(alloc, HALVED)?;
+    let mut talk = Talk::new(alloc, STOCK_OF_TWO)?;
     talk.rows(&BEFORE_COMMIT)?;
     talk.torn("0 commit 0.1", bytes)?;
     talk.rows(if bytes < 12 {
@@ -458,7 +339,7 @@ impl Talk {
 #[test]
 fn refuses_past_the_limits(rt: HostRuntime) -> Result<(), AllocError> {
     let alloc = rt.alloc();
-    let mut talk = Talk::new(alloc, HALVED)?;
+    let mut talk = Talk::new(alloc, STOCK_OF_TWO)?;
     talk.row("0 begin", "begun 0.1")?;
     talk.escrow_past_the_limit()?;
     talk.begin_past_the_limit()?;
@@ -485,20 +366,12 @@ fn tells_bad_headers(rt: HostRuntime) {
     }
 }
 
-/// Runs over so many spaces, behind which every read fails.
-fn check_spaces(rt: &impl Abort, alloc: Global, spaces: u64, wanted: Ended) {
-    let reader = io::repeat(b' ')
-        .take(spaces)
-        .chain(Broken(ErrorKind::Other));
-    check_reader(rt, alloc, reader, wanted, "");
-}
-
 // The 65,537th byte of a header ends the run before the next read.
 #[test]
 fn ends_at_a_long_header(rt: HostRuntime) {
     let long = Err(ScriptFault::Header(SchemaFault::TooLong));
-    check_spaces(&rt, rt.alloc(), 65_537, long);
-    check_spaces(&rt, rt.alloc(), 65_536, READ_FAULT);
+    check_reader(&rt, rt.alloc(), same_bytes(b' ', 65_537), long, "");
+    check_reader(&rt, rt.alloc(), same_bytes(b' ', 65_536), READ_FAULT, "");
 }
 
 // A header is echoed with its CR and, where its LF is missing, with LF.
@@ -536,17 +409,14 @@ fn keeps_the_limit_of_lines(rt: HostRuntime) -> Result<(), AllocError> {
 }
 
 /// A script of one site, each line beside what answers it.
-const ROW: [(&str, &str); 6] = [
-    (HEADER, HEADER),
-    ("0 begin", "0 begin -> begun 0.1"),
-    (
-        "0 escrow 0.1 stock -20",
-        "0 escrow 0.1 stock -20 -> granted",
-    ),
-    ("0 read stock", "0 read stock -> between 40 40"),
-    ("0 commit 0.1", "0 commit 0.1 -> committed"),
-    ("0 read stock", "0 read stock -> between 20 20"),
-];
+const ROW: [(&str, &str); 6] = said! {
+    HEADER => HEADER,
+    "0 begin" => "0 begin -> begun 0.1",
+    "0 escrow 0.1 stock -20" => "0 escrow 0.1 stock -20 -> granted",
+    "0 read stock" => "0 read stock -> between 40 40",
+    "0 commit 0.1" => "0 commit 0.1 -> committed",
+    "0 read stock" => "0 read stock -> between 20 20",
+};
 
 /// The input of the row.
 fn row_input(alloc: Global) -> Result<String, AllocError> {
@@ -573,14 +443,8 @@ fn row_output(alloc: Global, bytes: usize) -> Result<String, AllocError> {
 
 /// Runs over the first so many bytes of the row, behind which every read fails.
 fn check_front(rt: &impl Abort, alloc: Global, front: &[u8]) -> Result<(), AllocError> {
-    let kind = if front.len() % 2 == 0 {
-        ErrorKind::Interrupted
-    } else {
-        ErrorKind::Other
-    };
     let output = row_output(alloc, front.len())?;
-    let reader = Trickle(front).chain(Broken(kind));
-    check_reader(rt, alloc, reader, READ_FAULT, output.as_str());
+    check_reader(rt, alloc, broken_behind(front), READ_FAULT, output.as_str());
     Ok(())
 }
 
@@ -597,14 +461,10 @@ fn ends_where_a_read_fails(rt: HostRuntime) -> Result<(), AllocError> {
 
 /// How a run over a text ends whose writer takes so many bytes, and what was taken.
 fn run_narrow(rt: &impl Abort, alloc: Global, text: &[u8], room: usize) -> (Ended, Vec<u8>) {
-    let mut writer = Watched::new(Narrow {
-        taken: Vec::new(alloc),
-        room,
-        fails: room % 2 == 0,
-    });
+    let mut writer = Watched::new(Narrow::new(alloc, room));
     let end = run_script(alloc, &mut Watched::new(text), &mut writer);
     assert!(rt; writer.last() != End::NotCalled);
-    (end, writer.into_inner().taken)
+    (end, writer.into_inner().into_taken())
 }
 
 /// Behind each byte of the wanted output a write fails.

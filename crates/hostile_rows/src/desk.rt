@@ -2,10 +2,9 @@
 
 ghost use Rattle.std.specs.Prelude.{◌≡◌, ◌<◌};
 
-use super::commands::{BEGUN, COMMIT, SHARE, SPENT, TAKE_TWENTY};
 use super::refused::Refusals;
-use super::schema::stock_of_two;
-use field_bounds::{Command, Reply, SiteNo};
+use check_kit::{entry, stock_of_two};
+use field_bounds::{Command, Entry, SiteNo};
 use kept_records::MemoryMedium;
 use site_desk::{Blank, Closed, Desk, DeskFault, Pass, Receipt, ReceiptFault, check_receipts};
 use site_step::OpenFault;
@@ -15,11 +14,11 @@ use std::sync::Wait;
 use std::sync::ledger::Ledger;
 
 /// The calls, and what each is answered.
-const CALLS: [(Command, Reply); 4] = [
-    (Command::Begin, BEGUN),
-    (TAKE_TWENTY, Reply::Granted),
-    (COMMIT, Reply::Committed),
-    (SHARE, SPENT),
+const CALLS: [Entry; 4] = [
+    entry!(0 begin -> begun 0.1),
+    entry!(0 escrow 0.1 stock -20 -> granted),
+    entry!(0 commit 0.1 -> committed),
+    entry!(0 share stock -> share 0 50),
 ];
 
 /// A desk over an empty medium, with its passes.
@@ -111,11 +110,11 @@ fn count_calls<L: Ledger, R: Wait>(
     receipts: &mut Vec<Receipt>,
     refusals: &mut Refusals,
 ) -> usize {
-    for (at, (command, wanted)) in CALLS.iter().enumerate() {
-        let Some(receipt) = receipt_of(rt, alloc, desk, pass, *command, refusals) else {
+    for (at, wanted) in CALLS.iter().enumerate() {
+        let Some(receipt) = receipt_of(rt, alloc, desk, pass, wanted.command, refusals) else {
             return at;
         };
-        if receipt.entry().reply != *wanted || receipts.push(receipt).is_err() {
+        if receipt.entry().reply != wanted.reply || receipts.push(receipt).is_err() {
             return at;
         }
     }

@@ -4,11 +4,9 @@
 //! last line: it tells how many calls were refused.
 #![tactic(auto)]
 
-mod commands;
 mod desk;
 mod moves;
 mod refused;
-mod schema;
 mod site;
 mod workers;
 mod world;

@@ -1,19 +1,16 @@
 //! Worked commands at site 0 of two: each expected reply is worked out by hand.
 
-use super::commands::{
-    ABORT, ACCEPT_FIVE, BEGUN, BETWEEN, COMMIT, DOWN, FOUND_KEPT, FOUND_LOST, FOUND_NOTHING, FREE,
-    GIVE_FIVE, READ, RESTATE, SHARE, SPARE, SPENT, TAKE_TWENTY, TIGHTEN_FIVE,
-};
 use super::refused::Refusals;
-use super::schema::{STOCK, stock_of_two};
-use field_bounds::{Command, Last, Reply, SiteNo, TxnId};
+use check_kit::{STOCK, add, entry, stock_of_two};
+use field_bounds::{Command, Entry, Reply, SiteNo};
 use itoa::Buffer;
+use kept_records::Mishap::{Append, Cut, Never, Read};
 use kept_records::{Medium, Mishap, TornMedium};
 use site_step::{OpenFault, Site};
 use std::alloc::{AllocError, Global};
 
 /// A command under a mishap, and what the site answers.
-type Step = (Mishap, Command, Reply);
+type Step = (Mishap, Entry);
 
 /// What the medium holds when the site is opened: the records of so many restarts, and then these.
 type Log = (u32, &'static str);
@@ -41,76 +38,55 @@ pub static ROWS: [(&str, Log, &[Step]); 10] = [
 ];
 
 const COMMITTED: [Step; 6] = [
-    (Mishap::Never, Command::Begin, BEGUN),
-    (Mishap::Never, TAKE_TWENTY, Reply::Granted),
-    (Mishap::Never, READ, BETWEEN),
-    (Mishap::Never, COMMIT, Reply::Committed),
-    (Mishap::Never, Command::Restart, FOUND_NOTHING),
-    (Mishap::Never, SHARE, SPENT),
+    (Never, entry!(0 begin -> begun 0.1)),
+    (Never, entry!(0 escrow 0.1 stock -20 -> granted)),
+    (Never, entry!(0 read stock -> between 20 70)),
+    (Never, entry!(0 commit 0.1 -> committed)),
+    (Never, entry!(0 restart -> restarted 1 nothing)),
+    (Never, entry!(0 share stock -> share 0 50)),
 ];
 
 const ABORTED: [Step; 4] = [
-    (Mishap::Never, Command::Begin, BEGUN),
-    (Mishap::Never, TAKE_TWENTY, Reply::Granted),
-    (Mishap::Never, ABORT, Reply::Aborted),
-    (Mishap::Never, SHARE, FREE),
+    (Never, entry!(0 begin -> begun 0.1)),
+    (Never, entry!(0 escrow 0.1 stock -20 -> granted)),
+    (Never, entry!(0 abort 0.1 -> aborted)),
+    (Never, entry!(0 share stock -> share 20 30)),
 ];
 
 const IN_DOUBT: [Step; 4] = [
-    (Mishap::Append(10), GIVE_FIVE, Reply::Unsure),
-    (Mishap::Never, READ, DOWN),
-    (Mishap::Never, Command::Restart, FOUND_KEPT),
-    (Mishap::Never, RESTATE, Reply::Stated { total: 5 }),
+    (Append(10), entry!(0 give 1 stock lower 5 -> unsure)),
+    (Never, entry!(0 read stock -> refused 1 down)),
+    (Never, entry!(0 restart -> restarted 1 kept)),
+    (Never, entry!(0 restate 1 stock lower -> stated 5)),
 ];
 
 const EACH_MISHAP: [Step; 7] = [
-    (Mishap::Never, Command::Begin, BEGUN),
-    (Mishap::Never, TAKE_TWENTY, Reply::Granted),
-    (Mishap::Append(11), COMMIT, Reply::Unsure),
-    (Mishap::Cut, Command::Restart, Reply::StillDown),
-    (Mishap::Read, Command::Restart, Reply::StillDown),
-    (Mishap::Never, Command::Restart, FOUND_LOST),
-    (Mishap::Never, SHARE, FREE),
+    (Never, entry!(0 begin -> begun 0.1)),
+    (Never, entry!(0 escrow 0.1 stock -20 -> granted)),
+    (Append(11), entry!(0 commit 0.1 -> unsure)),
+    (Cut, entry!(0 restart -> still down)),
+    (Read, entry!(0 restart -> still down)),
+    (Never, entry!(0 restart -> restarted 1 lost)),
+    (Never, entry!(0 share stock -> share 20 30)),
 ];
 
 const OTHERS: [Step; 6] = [
-    (Mishap::Never, ACCEPT_FIVE, Reply::Accepted { gain: 5 }),
-    (
-        Mishap::Never,
-        SPARE,
-        Reply::Spared {
-            amount: 15,
-            total: 15,
-        },
-    ),
-    (Mishap::Never, TIGHTEN_FIVE, Reply::Tightened { total: 5 }),
-    (Mishap::Never, GIVE_FIVE, Reply::Given { total: 5 }),
-    (Mishap::Never, Command::Restart, FOUND_NOTHING),
-    (
-        Mishap::Never,
-        SHARE,
-        Reply::Shares {
-            lower: 15,
-            raise: 15,
-        },
-    ),
+    (Never, entry!(0 accept 1 0 stock lower 5 -> accepted 5)),
+    (Never, entry!(0 spare 1 stock raise 100 -> spared 15 15)),
+    (Never, entry!(0 tighten stock lower 5 -> tightened 5)),
+    (Never, entry!(0 give 1 stock lower 5 -> given 5)),
+    (Never, entry!(0 restart -> restarted 1 nothing)),
+    (Never, entry!(0 share stock -> share 15 15)),
 ];
 
 /// 5 of the 20 rights to lower were given to site 1.
 const GIFT_SUMMED_UP: &str = "G 1 0 l 5\nS 0 1 15 30 g 1 0 l 5\n";
 
 const OVER_GIFT: [Step; 4] = [
-    (Mishap::Never, Command::Restart, FOUND_NOTHING),
-    (Mishap::Never, RESTATE, Reply::Stated { total: 5 }),
-    (Mishap::Never, GIVE_FIVE, Reply::Given { total: 10 }),
-    (
-        Mishap::Never,
-        SHARE,
-        Reply::Shares {
-            lower: 10,
-            raise: 30,
-        },
-    ),
+    (Never, entry!(0 restart -> restarted 1 nothing)),
+    (Never, entry!(0 restate 1 stock lower -> stated 5)),
+    (Never, entry!(0 give 1 stock lower 5 -> given 10)),
+    (Never, entry!(0 share stock -> share 10 30)),
 ];
 
 /// 5 of the 20 rights to lower were given up.
@@ -118,103 +94,47 @@ const TIGHTENING_SUMMED_UP: &str = "T 0 l 5\nS 0 1 15 30 t 0 l 5\n";
 
 /// The 10 rights given up in the end and the 10 that are left make the lowest value.
 const OVER_TIGHTENING: [Step; 4] = [
-    (Mishap::Never, Command::Restart, FOUND_NOTHING),
-    (Mishap::Never, TIGHTEN_FIVE, Reply::Tightened { total: 10 }),
-    (
-        Mishap::Never,
-        SHARE,
-        Reply::Shares {
-            lower: 10,
-            raise: 30,
-        },
-    ),
-    (Mishap::Never, READ, BETWEEN),
+    (Never, entry!(0 restart -> restarted 1 nothing)),
+    (Never, entry!(0 tighten stock lower 5 -> tightened 10)),
+    (Never, entry!(0 share stock -> share 10 30)),
+    (Never, entry!(0 read stock -> between 20 70)),
 ];
-
-/// The first transaction of epoch 999.
-const IN_999: TxnId = TxnId {
-    epoch: 999,
-    number: 1,
-};
-
-const TAKE_IN_999: Command = Command::Escrow {
-    txn: IN_999,
-    field: STOCK,
-    change: -20,
-};
-
-const COMMIT_IN_999: Command = Command::Commit { txn: IN_999 };
-
-/// The site comes up with the 999th record.
-const UP_IN_999: Step = (
-    Mishap::Never,
-    Command::Restart,
-    Reply::Restarted {
-        epoch: 999,
-        last: Last::Nothing,
-    },
-);
 
 /// The 1,000th record is followed by a summary.
 const WITH_SUMMARY: [Step; 6] = [
-    UP_IN_999,
-    (Mishap::Never, Command::Begin, Reply::Begun(IN_999)),
-    (Mishap::Never, TAKE_IN_999, Reply::Granted),
-    (Mishap::Never, COMMIT_IN_999, Reply::Committed),
-    (
-        Mishap::Never,
-        Command::Restart,
-        Reply::Restarted {
-            epoch: 1000,
-            last: Last::Nothing,
-        },
-    ),
-    (Mishap::Never, SHARE, SPENT),
+    (Never, entry!(0 restart -> restarted 999 nothing)),
+    (Never, entry!(0 begin -> begun 999.1)),
+    (Never, entry!(0 escrow 999.1 stock -20 -> granted)),
+    (Never, entry!(0 commit 999.1 -> committed)),
+    (Never, entry!(0 restart -> restarted 1000 nothing)),
+    (Never, entry!(0 share stock -> share 0 50)),
 ];
 
 /// The commit's record, `C 999 1 0 -20`, has 14 bytes with its line feed: the summary behind it is
 /// torn.
 const TORN_SUMMARY: [Step; 7] = [
-    UP_IN_999,
-    (Mishap::Never, Command::Begin, Reply::Begun(IN_999)),
-    (Mishap::Never, TAKE_IN_999, Reply::Granted),
-    (Mishap::Append(20), COMMIT_IN_999, Reply::Unsure),
-    (Mishap::Cut, Command::Restart, Reply::StillDown),
-    (
-        Mishap::Never,
-        Command::Restart,
-        Reply::Restarted {
-            epoch: 1000,
-            last: Last::Kept,
-        },
-    ),
-    (Mishap::Never, SHARE, SPENT),
+    (Never, entry!(0 restart -> restarted 999 nothing)),
+    (Never, entry!(0 begin -> begun 999.1)),
+    (Never, entry!(0 escrow 999.1 stock -20 -> granted)),
+    (Append(20), entry!(0 commit 999.1 -> unsure)),
+    (Cut, entry!(0 restart -> still down)),
+    (Never, entry!(0 restart -> restarted 1000 kept)),
+    (Never, entry!(0 share stock -> share 0 50)),
 ];
 
 /// The restart's record, `R 1000`, has 7 bytes with its line feed: it stands whole, without the
 /// summary that is due behind it, and uses its epoch up.
 const WITHOUT_SUMMARY: [Step; 4] = [
-    UP_IN_999,
-    (Mishap::Append(7), Command::Restart, Reply::StillDown),
-    (
-        Mishap::Never,
-        Command::Restart,
-        Reply::Restarted {
-            epoch: 1001,
-            last: Last::Nothing,
-        },
-    ),
-    (Mishap::Never, SHARE, FREE),
+    (Never, entry!(0 restart -> restarted 999 nothing)),
+    (Append(7), entry!(0 restart -> still down)),
+    (Never, entry!(0 restart -> restarted 1001 nothing)),
+    (Never, entry!(0 share stock -> share 20 30)),
 ];
 
 /// Adds the record of the restart behind so many.
 fn add_restart(text: &mut String, behind: u32) -> Result<(), AllocError> {
     let mut digits = Buffer::new();
-    let epoch = digits.format(behind.saturating_add(1));
-    for part in &["R ", epoch, "\n"] {
-        text.push_str(*part)?;
-    }
-    Ok(())
+    add(text, &["R ", digits.format(behind.saturating_add(1)), "\n"])
 }
 
 /// Adds the text of a log.
@@ -344,11 +264,11 @@ fn is_told(
     step: &Step,
     refusals: &mut Refusals,
 ) -> bool {
-    let (mishap, command, wanted) = *step;
+    let (mishap, entry) = *step;
     site.arm(mishap);
     twin.arm(mishap);
-    reply_of(alloc, site, twin, command, refusals) == Some(wanted)
-        && follows(alloc, twin, command, refusals)
+    reply_of(alloc, site, twin, entry.command, refusals) == Some(entry.reply)
+        && follows(alloc, twin, entry.command, refusals)
         && look_alike(site, twin)
 }
 

@@ -1,9 +1,8 @@
 //! A gift that is made at one site and taken in at the other, each at work in a thread of its own.
 
-use super::commands::GIVE_FIVE;
 use super::refused::Refusals;
-use super::schema::{STOCK, stock_of_two};
-use field_bounds::{Command, Entry, Kind, Reply, Schema, SiteNo, Statement};
+use check_kit::{entry, stock_of_two};
+use field_bounds::{Command, Entry, Schema};
 use site_desk::FreeGate;
 use site_workers::{WorkFault, run_workers, scripts_fit};
 use std::alloc::{AllocError, Global};
@@ -11,28 +10,14 @@ use std::sync::Wait;
 use std::thread::Threads;
 
 /// What site 0 does.
-const GIVEN: Entry = Entry {
-    site: SiteNo(0),
-    command: GIVE_FIVE,
-    reply: Reply::Given { total: 5 },
-};
+const GIVEN: Entry = entry!(0 give 1 stock lower 5 -> given 5);
 
 /// What site 1 does.
-const ACCEPTED: Entry = Entry {
-    site: SiteNo(1),
-    command: Command::Accept(Statement {
-        from: SiteNo(0),
-        to: SiteNo(1),
-        field: STOCK,
-        kind: Kind::Lower,
-        total: 5,
-    }),
-    reply: Reply::Accepted { gain: 5 },
-};
+const ACCEPTED: Entry = entry!(1 accept 0 1 stock lower 5 -> accepted 5);
 
 /// Site 0 gives, and site 1 is asked nothing.
 fn scripts(alloc: Global) -> Result<Vec<Vec<Command>>, AllocError> {
-    Ok(vec![in alloc; vec![in alloc; GIVE_FIVE]?, Vec::new(alloc)]?)
+    Ok(vec![in alloc; vec![in alloc; GIVEN.command]?, Vec::new(alloc)]?)
 }
 
 /// The histories of the two sites.

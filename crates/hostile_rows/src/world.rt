@@ -1,27 +1,14 @@
 //! Worked steps of a world of two sites: each expected reply is worked out by hand.
 
-use self::Told::{Asked, Delivered};
-use super::commands::{
-    BEGUN, BETWEEN, COMMIT, DOWN, FOUND_KEPT, FOUND_LOST, FREE, GIVE_BACK, GIVE_FIVE, READ,
-    RESTATE, SHARE, SHORT, SPENT, TAKE_TWENTY, TAKE_TWENTY_FIVE, TIGHTEN_ALL_RAISES, TIGHTEN_FIVE,
-    TIGHTEN_SIXTEEN, TIGHTENED,
-};
 use super::refused::Refusals;
-use super::schema::{STOCK, stock_of_two};
-use field_bounds::{Command, Refusal, Reply, SiteNo};
+use check_kit::{STOCK, step, stock_of_two};
+use field_bounds::{Reply, SiteNo};
 use kept_state::Luck;
 use std::alloc::{AllocError, Global};
 use world_steps::{StepReply, World, WorldStep, steps_fit};
 
-/// A step of a row, and what it tells of it.
-#[derive(Clone, Copy)]
-pub enum Told {
-    /// The site is asked the command, with this luck, and gives this reply.
-    Asked(u16, Command, Luck, Reply),
-    /// The statement of this number is delivered, with this luck: the receiver gives this reply, or
-    /// there is none of that number.
-    Delivered(u64, Luck, Option<Reply>),
-}
+/// A step of a row, and the reply of its entry, or None where it makes none.
+pub type Told = (WorldStep, Option<Reply>);
 
 /// The rows, each with its name.
 pub static ROWS: [(&str, &[Told]); 8] = [
@@ -36,94 +23,69 @@ pub static ROWS: [(&str, &[Told]); 8] = [
 ];
 
 const COMMITTED: [Told; 6] = [
-    Asked(0, Command::Begin, Luck::Fine, BEGUN),
-    Asked(0, TAKE_TWENTY, Luck::Fine, Reply::Granted),
-    Asked(0, READ, Luck::Fine, BETWEEN),
-    Asked(0, COMMIT, Luck::Fine, Reply::Committed),
-    Asked(0, SHARE, Luck::Fine, SPENT),
-    Asked(0, READ, Luck::Fine, Reply::Between { lo: 0, hi: 50 }),
+    step!(0 begin -> begun 0.1),
+    step!(0 escrow 0.1 stock -20 -> granted),
+    step!(0 read stock -> between 20 70),
+    step!(0 commit 0.1 -> committed),
+    step!(0 share stock -> share 0 50),
+    step!(0 read stock -> between 0 50),
 ];
 
 const PASSED_ON: [Told; 6] = [
-    Asked(0, GIVE_FIVE, Luck::Fine, Reply::Given { total: 5 }),
-    Asked(1, Command::Begin, Luck::Fine, BEGUN),
-    Asked(1, TAKE_TWENTY_FIVE, Luck::Fine, SHORT),
-    Delivered(1, Luck::Fine, Some(Reply::Accepted { gain: 5 })),
-    Asked(1, TAKE_TWENTY_FIVE, Luck::Fine, Reply::Granted),
-    Delivered(1, Luck::Fine, Some(Reply::Accepted { gain: 0 })),
+    step!(0 give 1 stock lower 5 -> given 5),
+    step!(1 begin -> begun 0.1),
+    step!(1 escrow 0.1 stock -25 -> refused 7 short 20),
+    step!(deliver 1 -> accepted 5),
+    step!(1 escrow 0.1 stock -25 -> granted),
+    step!(deliver 1 -> accepted 0),
 ];
 
 const IN_DOUBT: [Told; 5] = [
-    Asked(0, GIVE_FIVE, Luck::Torn(10), Reply::Unsure),
-    Delivered(1, Luck::Fine, None),
-    Asked(0, Command::Restart, Luck::Fine, FOUND_KEPT),
-    Asked(0, RESTATE, Luck::Fine, Reply::Stated { total: 5 }),
-    Delivered(1, Luck::Fine, Some(Reply::Accepted { gain: 5 })),
+    step!(0 give 1 stock lower 5 torn 10 -> unsure),
+    step!(deliver 1 -> refused 16 no statement),
+    step!(0 restart -> restarted 1 kept),
+    step!(0 restate 1 stock lower -> stated 5),
+    step!(deliver 1 -> accepted 5),
 ];
 
 const GIVEN_BACK: [Told; 5] = [
-    Asked(0, GIVE_FIVE, Luck::Fine, Reply::Given { total: 5 }),
-    Delivered(1, Luck::Fine, Some(Reply::Accepted { gain: 5 })),
-    Asked(1, GIVE_BACK, Luck::Fine, Reply::Given { total: 5 }),
-    Delivered(2, Luck::Fine, Some(Reply::Accepted { gain: 5 })),
-    Asked(0, SHARE, Luck::Fine, FREE),
+    step!(0 give 1 stock lower 5 -> given 5),
+    step!(deliver 1 -> accepted 5),
+    step!(1 give 0 stock lower 5 -> given 5),
+    step!(deliver 2 -> accepted 5),
+    step!(0 share stock -> share 20 30),
 ];
 
 const TORN: [Told; 6] = [
-    Asked(0, Command::Begin, Luck::Fine, BEGUN),
-    Asked(0, TAKE_TWENTY, Luck::Fine, Reply::Granted),
-    Asked(0, COMMIT, Luck::Torn(11), Reply::Unsure),
-    Asked(0, READ, Luck::Fine, DOWN),
-    Asked(0, Command::Restart, Luck::Fine, FOUND_LOST),
-    Asked(0, SHARE, Luck::Fine, FREE),
+    step!(0 begin -> begun 0.1),
+    step!(0 escrow 0.1 stock -20 -> granted),
+    step!(0 commit 0.1 torn 11 -> unsure),
+    step!(0 read stock -> refused 1 down),
+    step!(0 restart -> restarted 1 lost),
+    step!(0 share stock -> share 20 30),
 ];
 
 const TIGHTENINGS: [Told; 6] = [
-    Asked(0, TIGHTEN_FIVE, Luck::Fine, Reply::Tightened { total: 5 }),
-    Asked(0, SHARE, Luck::Fine, TIGHTENED),
-    Asked(0, READ, Luck::Fine, BETWEEN),
-    Asked(
-        0,
-        TIGHTEN_SIXTEEN,
-        Luck::Fine,
-        Reply::Refused(Refusal::Short { share: 15 }),
-    ),
-    Asked(
-        0,
-        TIGHTEN_ALL_RAISES,
-        Luck::Fine,
-        Reply::Tightened { total: 30 },
-    ),
-    Asked(0, READ, Luck::Fine, BETWEEN),
+    step!(0 tighten stock lower 5 -> tightened 5),
+    step!(0 share stock -> share 15 30),
+    step!(0 read stock -> between 20 70),
+    step!(0 tighten stock lower 16 -> refused 7 short 15),
+    step!(0 tighten stock raise 30 -> tightened 30),
+    step!(0 read stock -> between 20 70),
 ];
 
 /// The record, `T 0 l 5`, has 8 bytes with its line feed.
 const TIGHTENED_IN_DOUBT: [Told; 3] = [
-    Asked(0, TIGHTEN_FIVE, Luck::Torn(8), Reply::Unsure),
-    Asked(0, Command::Restart, Luck::Fine, FOUND_KEPT),
-    Asked(0, SHARE, Luck::Fine, TIGHTENED),
+    step!(0 tighten stock lower 5 torn 8 -> unsure),
+    step!(0 restart -> restarted 1 kept),
+    step!(0 share stock -> share 15 30),
 ];
 
 const TORN_TIGHTENING: [Told; 3] = [
-    Asked(0, TIGHTEN_FIVE, Luck::Torn(7), Reply::Unsure),
-    Asked(0, Command::Restart, Luck::Fine, FOUND_LOST),
-    Asked(0, SHARE, Luck::Fine, FREE),
+    step!(0 tighten stock lower 5 torn 7 -> unsure),
+    step!(0 restart -> restarted 1 lost),
+    step!(0 share stock -> share 20 30),
 ];
-
-/// The step, and the reply of its entry, or None where it makes none.
-fn read_told(told: Told) -> (WorldStep, Option<Reply>) {
-    match told {
-        Told::Asked(site, command, luck, reply) => (
-            WorldStep::Do {
-                site: SiteNo(site),
-                command,
-                luck,
-            },
-            Some(reply),
-        ),
-        Told::Delivered(k, luck, reply) => (WorldStep::Deliver { k, luck }, reply),
-    }
-}
 
 /// A world in which no step was taken, of two tries.
 fn fresh_world(alloc: Global, refusals: &mut Refusals) -> Option<World> {
@@ -208,7 +170,7 @@ fn is_told(
     told: Told,
     refusals: &mut Refusals,
 ) -> bool {
-    let (step, wanted) = read_told(told);
+    let (step, wanted) = told;
     reply_of(alloc, world, twin, step, refusals) == Some(wanted)
         && follows(alloc, twin, step, refusals)
         && look_alike(world, twin)

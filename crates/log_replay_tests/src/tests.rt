@@ -5,12 +5,11 @@ ghost use Rattle.std.specs.Prelude.{◌<◌, ◌≤◌, length};
 ghost use Rattle.field_bounds.specs.Owed.{max_total};
 ghost use Rattle.gift_ledger.specs.Ledger.{IsSlot};
 
-use field_bounds::{FieldNo, Kind, Schema, SiteNo};
+use check_kit::{STOCK, stock_of_two};
+use field_bounds::{Kind, SiteNo};
 use kept_records::{MemoryMedium, Record, read_back, read_records};
 use log_replay::*;
 use std::alloc::Global;
-
-const STOCK: FieldNo = FieldNo(0);
 
 const HERE: SiteNo = SiteNo(0);
 
@@ -39,172 +38,65 @@ const PARTS: Stands = Stands {
     epoch: 0,
 };
 
+/// What differs from the parts.
+macro_rules! stands {
+    ($($part:ident: $value:literal),*) => {
+        Stands { $($part: $value,)* ..PARTS }
+    };
+}
+
 /// Logs that break no rule, and what they stand for.
 const LAWFUL: [(&str, Stands); 21] = [
     ("", PARTS),
-    (
-        "C 0 1 0 -20\n",
-        Stands {
-            lower: 0,
-            raise: 50,
-            ..PARTS
-        },
-    ),
-    (
-        "C 0 1 0 -5 0 3 0 -1\n",
-        Stands {
-            lower: 17,
-            raise: 33,
-            ..PARTS
-        },
-    ),
-    (
-        "G 1 0 l 5\n",
-        Stands {
-            lower: 15,
-            given: 5,
-            ..PARTS
-        },
-    ),
-    (
-        "G 1 0 l 5\nG 1 0 l 20\n",
-        Stands {
-            lower: 0,
-            given: 20,
-            ..PARTS
-        },
-    ),
-    (
-        "A 1 0 l 5\n",
-        Stands {
-            lower: 25,
-            accepted: 5,
-            ..PARTS
-        },
-    ),
-    (
-        "A 1 0 l 5\nA 1 0 l 50\n",
-        Stands {
-            lower: 70,
-            accepted: 50,
-            ..PARTS
-        },
-    ),
-    ("R 1\n", Stands { epoch: 1, ..PARTS }),
-    (
-        "R 1\nC 1 1 0 -1\n",
-        Stands {
-            lower: 19,
-            raise: 31,
-            epoch: 1,
-            ..PARTS
-        },
-    ),
+    ("C 0 1 0 -20\n", stands!(lower: 0, raise: 50)),
+    ("C 0 1 0 -5 0 3 0 -1\n", stands!(lower: 17, raise: 33)),
+    ("G 1 0 l 5\n", stands!(lower: 15, given: 5)),
+    ("G 1 0 l 5\nG 1 0 l 20\n", stands!(lower: 0, given: 20)),
+    ("A 1 0 l 5\n", stands!(lower: 25, accepted: 5)),
+    ("A 1 0 l 5\nA 1 0 l 50\n", stands!(lower: 70, accepted: 50)),
+    ("R 1\n", stands!(epoch: 1)),
+    ("R 1\nC 1 1 0 -1\n", stands!(lower: 19, raise: 31, epoch: 1)),
     (
         "C 0 1 0 -20\nR 3\nA 1 0 l 4\nG 1 0 l 4\n",
-        Stands {
-            lower: 0,
-            raise: 50,
-            given: 4,
-            accepted: 4,
-            epoch: 3,
-            ..PARTS
-        },
+        stands!(lower: 0, raise: 50, given: 4, accepted: 4, epoch: 3),
     ),
-    (
-        "T 0 l 5\n",
-        Stands {
-            lower: 15,
-            cut_lower: 5,
-            ..PARTS
-        },
-    ),
+    ("T 0 l 5\n", stands!(lower: 15, cut_lower: 5)),
     (
         "T 0 l 5\nT 0 r 30\nT 0 l 20\n",
-        Stands {
-            lower: 0,
-            raise: 0,
-            cut_lower: 20,
-            cut_raise: 30,
-            ..PARTS
-        },
+        stands!(lower: 0, raise: 0, cut_lower: 20, cut_raise: 30),
     ),
     (
         "T 0 l 5\nR 1\nC 1 1 0 -15\nT 0 r 45\n",
-        Stands {
-            lower: 0,
-            raise: 0,
-            cut_lower: 5,
-            cut_raise: 45,
-            epoch: 1,
-            ..PARTS
-        },
+        stands!(lower: 0, raise: 0, cut_lower: 5, cut_raise: 45, epoch: 1),
     ),
     (
         "T 0 l 20\nA 1 0 l 50\n",
-        Stands {
-            lower: 50,
-            cut_lower: 20,
-            accepted: 50,
-            ..PARTS
-        },
+        stands!(lower: 50, cut_lower: 20, accepted: 50),
     ),
     ("S 0 1 20 30\n", PARTS),
     (
         "G 1 0 l 5\nS 0 1 15 30 g 1 0 l 5\n",
-        Stands {
-            lower: 15,
-            given: 5,
-            ..PARTS
-        },
+        stands!(lower: 15, given: 5),
     ),
     (
         "T 0 l 5\nS 0 1 15 30 t 0 l 5\n",
-        Stands {
-            lower: 15,
-            cut_lower: 5,
-            ..PARTS
-        },
+        stands!(lower: 15, cut_lower: 5),
     ),
     (
         "C 0 1 0 -20\nR 3\nS 3 1 0 50\nA 1 0 l 4\nG 1 0 l 4\n",
-        Stands {
-            lower: 0,
-            raise: 50,
-            given: 4,
-            accepted: 4,
-            epoch: 3,
-            ..PARTS
-        },
+        stands!(lower: 0, raise: 50, given: 4, accepted: 4, epoch: 3),
     ),
     (
         "G 1 0 l 5\nA 1 0 l 4\nS 0 1 19 30 g 1 0 l 5 a 1 0 l 4\nG 1 0 l 6\n",
-        Stands {
-            lower: 18,
-            given: 6,
-            accepted: 4,
-            ..PARTS
-        },
+        stands!(lower: 18, given: 6, accepted: 4),
     ),
     (
         "T 0 l 5\nS 0 1 15 30 t 0 l 5\nA 1 0 l 50\n",
-        Stands {
-            lower: 65,
-            cut_lower: 5,
-            accepted: 50,
-            ..PARTS
-        },
+        stands!(lower: 65, cut_lower: 5, accepted: 50),
     ),
     (
         "G 1 0 l 5\nT 0 r 30\nT 0 l 15\nS 0 1 0 0 g 1 0 l 5 t 0 l 15 t 0 r 30\n",
-        Stands {
-            lower: 0,
-            raise: 0,
-            cut_lower: 15,
-            cut_raise: 30,
-            given: 5,
-            ..PARTS
-        },
+        stands!(lower: 0, raise: 0, cut_lower: 15, cut_raise: 30, given: 5),
     ),
 ];
 
@@ -244,15 +136,6 @@ const BROKEN: [(&str, u64); 33] = [
     ("S 0 1 20 30 t 0 l 5\n", 1),
     ("S 0 1 20 30\nT 0 l 5\nS 0 1 20 30\n", 3),
 ];
-
-/// Two sites, and one field from 0 to 100 at 40: each site begins with 20 rights to lower it and 30
-/// to raise it.
-const STOCK_OF_TWO: &str =
-    r#"{"sites":2,"fields":[{"name":"stock","floor":0,"ceiling":100,"value":40}]}"#;
-
-fn stock_of_two(alloc: Global) -> Option<Schema> {
-    Schema::from_header(alloc, STOCK_OF_TWO.as_bytes()).ok()
-}
 
 fn read_off(standing: &Standing) -> Stands
     requires rights { 0 < length standing.now.rights }
@@ -332,11 +215,7 @@ fn every_lawful_log_resumes(rt: HostRuntime) {
 #[test]
 fn a_log_resumes_at_its_last_summary(rt: HostRuntime) {
     let alloc = rt.alloc();
-    let given = Stands {
-        lower: 15,
-        given: 5,
-        ..PARTS
-    };
+    let given = stands!(lower: 15, given: 5);
     assert_eq!(rt; resumed(alloc, "G 1 0 l 5\n"), Some((given, 1)));
     assert_eq!(rt;
         resumed(alloc, "S 0 1 20 30\nG 1 0 l 5\nS 0 1 15 30 g 1 0 l 5\n"),

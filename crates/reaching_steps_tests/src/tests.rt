@@ -1,45 +1,10 @@
-use field_bounds::{Command, FieldNo, Kind, Schema, SiteNo, TxnId};
+use check_kit::{NO_FIELD, STOCK, command, stock_of_two, txn};
+use field_bounds::{Command, SiteNo, TxnId};
 use reaching_steps::*;
 use std::alloc::Global;
 use std::process::Abort;
 use std::test::Fail;
 use world_steps::{Luck, World, WorldStep, step_fits};
-
-const STOCK: FieldNo = FieldNo(0);
-
-/// Site 0 gives 5 rights to lower the field to site 1.
-const FIVE_TO_1: Command = Command::Give {
-    to: SiteNo(1),
-    field: STOCK,
-    kind: Kind::Lower,
-    amount: 5,
-};
-
-const FIVE_TO_0: Command = Command::Give {
-    to: SiteNo(0),
-    field: STOCK,
-    kind: Kind::Lower,
-    amount: 5,
-};
-
-const RESTATE: Command = Command::Restate {
-    to: SiteNo(1),
-    field: STOCK,
-    kind: Kind::Lower,
-};
-
-const TIGHTEN: Command = Command::Tighten {
-    field: STOCK,
-    kind: Kind::Lower,
-    amount: 1,
-};
-
-const SPARE_30: Command = Command::Spare {
-    to: SiteNo(1),
-    field: STOCK,
-    kind: Kind::Lower,
-    want: 30,
-};
 
 const DELIVER: WorldStep = WorldStep::Deliver {
     k: 1,
@@ -54,34 +19,18 @@ fn at(site: u16, command: Command, luck: Luck) -> WorldStep {
     }
 }
 
-fn txn(number: u32) -> TxnId {
-    TxnId { epoch: 0, number }
-}
-
 /// Site 1 begins, escrows and commits.
-fn moves(number: u32, change: i64) -> [WorldStep; 3] {
+fn moves(txn: TxnId, change: i64) -> [WorldStep; 3] {
+    let escrow = Command::Escrow {
+        txn,
+        field: STOCK,
+        change,
+    };
     [
         at(1, Command::Begin, Luck::Fine),
-        at(
-            1,
-            Command::Escrow {
-                txn: txn(number),
-                field: STOCK,
-                change,
-            },
-            Luck::Fine,
-        ),
-        at(1, Command::Commit { txn: txn(number) }, Luck::Fine),
+        at(1, escrow, Luck::Fine),
+        at(1, Command::Commit { txn }, Luck::Fine),
     ]
-}
-
-/// Two sites, and one field from 0 to 100 at 40: each site begins with 20 rights to lower it and 30
-/// to raise it.
-const STOCK_OF_TWO: &str =
-    r#"{"sites":2,"fields":[{"name":"stock","floor":0,"ceiling":100,"value":40}]}"#;
-
-fn stock_of_two(alloc: Global) -> Option<Schema> {
-    Schema::from_header(alloc, STOCK_OF_TWO.as_bytes()).ok()
 }
 
 /// A world of two sites in which these steps were taken; None where they don't fit.
@@ -124,9 +73,9 @@ fn meets(alloc: Global, steps: &[WorldStep], target: i64, fault: ReachFault) -> 
 #[test]
 fn to_both_ends(rt: HostRuntime) -> Result<(), Fail> {
     let alloc = rt.alloc();
-    let down = moves(1, -20);
+    let down = moves(txn!(0.1), -20);
     assert!(rt; takes(alloc, &[], 20, &down));
-    let up = moves(2, 50);
+    let up = moves(txn!(0.2), 50);
     assert!(rt; takes(alloc, &down, 70, &up));
     let both = [down[0], down[1], down[2], up[0], up[1], up[2]];
     assert!(rt; takes(alloc, &both, 70, &[]));
@@ -137,50 +86,26 @@ fn to_both_ends(rt: HostRuntime) -> Result<(), Fail> {
 #[test]
 fn gifts_in_flight(rt: HostRuntime) -> Result<(), Fail> {
     let alloc = rt.alloc();
-    let given = at(1, FIVE_TO_0, Luck::Fine);
-    assert!(rt;
-        meets(
-            alloc,
-            &[given],
-            20,
-            ReachFault::InFlight { from: SiteNo(1) }
-        )
-    );
-    assert!(rt;
-        meets(
-            alloc,
-            &[given, DELIVER],
-            24,
-            ReachFault::Outside { lo: 25, hi: 70 }
-        )
-    );
-    assert!(rt; takes(alloc, &[given, DELIVER], 25, &moves(1, -15)));
+    let given = at(1, command!(give 0 stock lower 5), Luck::Fine);
+    let in_flight = ReachFault::InFlight { from: SiteNo(1) };
+    assert!(rt; meets(alloc, &[given], 20, in_flight));
+    let outside = ReachFault::Outside { lo: 25, hi: 70 };
+    assert!(rt; meets(alloc, &[given, DELIVER], 24, outside));
+    assert!(rt; takes(alloc, &[given, DELIVER], 25, &moves(txn!(0.1), -15)));
     Ok(())
 }
 
 #[test]
 fn gifts_that_were_not_told(rt: HostRuntime) -> Result<(), Fail> {
     let alloc = rt.alloc();
-    let torn = at(0, FIVE_TO_1, Luck::Torn(10));
+    let torn = at(0, command!(give 1 stock lower 5), Luck::Torn(10));
     let restart = at(0, Command::Restart, Luck::Fine);
-    assert!(rt;
-        meets(
-            alloc,
-            &[torn, restart],
-            25,
-            ReachFault::Unstated { to: SiteNo(1) }
-        )
-    );
-    let told = at(0, RESTATE, Luck::Fine);
-    let down = moves(1, -25);
-    assert!(rt;
-        takes(
-            alloc,
-            &[torn, restart, told],
-            15,
-            &[DELIVER, down[0], down[1], down[2]]
-        )
-    );
+    let unstated = ReachFault::Unstated { to: SiteNo(1) };
+    assert!(rt; meets(alloc, &[torn, restart], 25, unstated));
+    let told = at(0, command!(restate 1 stock lower), Luck::Fine);
+    let down = moves(txn!(0.1), -25);
+    let expected = [DELIVER, down[0], down[1], down[2]];
+    assert!(rt; takes(alloc, &[torn, restart, told], 15, &expected));
     Ok(())
 }
 
@@ -189,29 +114,15 @@ fn sites_and_bounds(rt: HostRuntime) -> Result<(), Fail> {
     let alloc = rt.alloc();
     let failed = at(1, Command::Restart, Luck::Torn(0));
     assert!(rt; meets(alloc, &[failed], 40, ReachFault::NotUp { site: SiteNo(1) }));
-    assert!(rt;
-        meets(
-            alloc,
-            &[at(1, TIGHTEN, Luck::Fine)],
-            40,
-            ReachFault::Tightened
-        )
-    );
+    let tightened = at(1, command!(tighten stock lower 1), Luck::Fine);
+    assert!(rt; meets(alloc, &[tightened], 40, ReachFault::Tightened));
     let world = world_after(alloc, &[]);
     assert!(rt; world.is_some());
     let world = world.unwrap();
-    assert!(rt;
-        match reach(alloc, &world, SiteNo(2), STOCK, 40) {
-            Err(ReachFault::NoSite) => true,
-            _ => false,
-        }
-    );
-    assert!(rt;
-        match reach(alloc, &world, SiteNo(0), FieldNo(1), 40) {
-            Err(ReachFault::NoField) => true,
-            _ => false,
-        }
-    );
+    let no_site = reach(alloc, &world, SiteNo(2), STOCK, 40);
+    assert!(rt; matches!(no_site, Err(ReachFault::NoSite)));
+    let no_field = reach(alloc, &world, SiteNo(0), NO_FIELD, 40);
+    assert!(rt; matches!(no_field, Err(ReachFault::NoField)));
     Ok(())
 }
 
@@ -219,28 +130,16 @@ fn sites_and_bounds(rt: HostRuntime) -> Result<(), Fail> {
 #[test]
 fn spares_in_doubt(rt: HostRuntime) -> Result<(), Fail> {
     let alloc = rt.alloc();
-    let torn = at(0, SPARE_30, Luck::Torn(11));
+    let torn = at(0, command!(spare 1 stock lower 30), Luck::Torn(11));
     let restart = at(0, Command::Restart, Luck::Fine);
-    assert!(rt;
-        meets(
-            alloc,
-            &[torn, restart],
-            25,
-            ReachFault::Unstated { to: SiteNo(1) }
-        )
-    );
-    let told = at(0, RESTATE, Luck::Fine);
-    let down = moves(1, -30);
-    assert!(rt;
-        takes(
-            alloc,
-            &[torn, restart, told],
-            10,
-            &[DELIVER, down[0], down[1], down[2]]
-        )
-    );
-    let lost = at(0, SPARE_30, Luck::Torn(10));
-    assert!(rt; takes(alloc, &[lost, restart], 20, &moves(1, -20)));
+    let unstated = ReachFault::Unstated { to: SiteNo(1) };
+    assert!(rt; meets(alloc, &[torn, restart], 25, unstated));
+    let told = at(0, command!(restate 1 stock lower), Luck::Fine);
+    let down = moves(txn!(0.1), -30);
+    let expected = [DELIVER, down[0], down[1], down[2]];
+    assert!(rt; takes(alloc, &[torn, restart, told], 10, &expected));
+    let lost = at(0, command!(spare 1 stock lower 30), Luck::Torn(10));
+    assert!(rt; takes(alloc, &[lost, restart], 20, &moves(txn!(0.1), -20)));
     Ok(())
 }
 
@@ -248,13 +147,13 @@ fn spares_in_doubt(rt: HostRuntime) -> Result<(), Fail> {
 #[test]
 fn open_transactions_are_aborted(rt: HostRuntime) -> Result<(), Fail> {
     let alloc = rt.alloc();
-    let first = moves(1, -10);
-    let second = moves(2, -5);
+    let first = moves(txn!(0.1), -10);
+    let second = moves(txn!(0.2), -5);
     let open = [first[0], first[1], second[0], second[1]];
-    let down = moves(3, -20);
+    let down = moves(txn!(0.3), -20);
     let expected = [
-        at(1, Command::Abort { txn: txn(1) }, Luck::Fine),
-        at(1, Command::Abort { txn: txn(2) }, Luck::Fine),
+        at(1, command!(abort 0.1), Luck::Fine),
+        at(1, command!(abort 0.2), Luck::Fine),
         down[0],
         down[1],
         down[2],

@@ -3,219 +3,12 @@ mod stops;
 mod summaries;
 mod tears;
 
-use field_bounds::{Command, FieldNo, Kind, Refusal, Reply, Schema, SiteNo, Statement, TxnId};
+use check_kit::{NO_FIELD, STOCK, entry, stock_of_two};
+use field_bounds::{Command, Entry, Reply, SiteNo};
 use kept_records::{Medium, MemoryMedium};
 use site_step::*;
 use std::alloc::Global;
 use std::process::Abort;
-
-const STOCK: FieldNo = FieldNo(0);
-
-const NO_FIELD: FieldNo = FieldNo(1);
-
-const FIRST: TxnId = TxnId {
-    epoch: 0,
-    number: 1,
-};
-
-/// Two sites, and one field from 0 to 100 at 40: each site begins with 20 rights to lower it and 30
-/// to raise it.
-const STOCK_OF_TWO: &str =
-    r#"{"sites":2,"fields":[{"name":"stock","floor":0,"ceiling":100,"value":40}]}"#;
-
-/// A command, and what the site answers.
-type Row = (Command, Reply);
-
-const COMMIT: Command = Command::Commit { txn: FIRST };
-
-const SHARE: Command = Command::Share { field: STOCK };
-
-const READ: Command = Command::Read { field: STOCK };
-
-const SELF_GIFT: Reply = Reply::Refused(Refusal::SelfGift);
-
-const SHORT_OF_20: Reply = Reply::Refused(Refusal::Short { share: 20 });
-
-const RESTATE: Command = Command::Restate {
-    to: SiteNo(1),
-    field: STOCK,
-    kind: Kind::Lower,
-};
-
-const TAKE_TWENTY: Command = Command::Escrow {
-    txn: FIRST,
-    field: STOCK,
-    change: -20,
-};
-
-const TAKE_21: Command = Command::Escrow {
-    txn: FIRST,
-    field: STOCK,
-    change: -21,
-};
-
-const GIVE_ONE_TO_ITSELF: Command = Command::Give {
-    to: SiteNo(0),
-    field: STOCK,
-    kind: Kind::Lower,
-    amount: 1,
-};
-
-const GIVE_ONE_TO_NO_SITE: Command = Command::Give {
-    to: SiteNo(2),
-    field: STOCK,
-    kind: Kind::Lower,
-    amount: 1,
-};
-
-const GIVE_TWO: Command = Command::Give {
-    to: SiteNo(1),
-    field: STOCK,
-    kind: Kind::Lower,
-    amount: 2,
-};
-
-const GIVE_THREE: Command = Command::Give {
-    to: SiteNo(1),
-    field: STOCK,
-    kind: Kind::Lower,
-    amount: 3,
-};
-
-const GIVE_FIVE: Command = Command::Give {
-    to: SiteNo(1),
-    field: STOCK,
-    kind: Kind::Lower,
-    amount: 5,
-};
-
-const GIVE_TWENTY: Command = Command::Give {
-    to: SiteNo(1),
-    field: STOCK,
-    kind: Kind::Lower,
-    amount: 20,
-};
-
-const GIVE_21: Command = Command::Give {
-    to: SiteNo(1),
-    field: STOCK,
-    kind: Kind::Lower,
-    amount: 21,
-};
-
-const SPARE_TWO: Command = Command::Spare {
-    to: SiteNo(1),
-    field: STOCK,
-    kind: Kind::Raise,
-    want: 2,
-};
-
-const SPARE_NINE: Command = Command::Spare {
-    to: SiteNo(1),
-    field: STOCK,
-    kind: Kind::Raise,
-    want: 9,
-};
-
-const SPARE_100: Command = Command::Spare {
-    to: SiteNo(1),
-    field: STOCK,
-    kind: Kind::Raise,
-    want: 100,
-};
-
-const SPARE_ONE_TO_ITSELF: Command = Command::Spare {
-    to: SiteNo(0),
-    field: STOCK,
-    kind: Kind::Raise,
-    want: 1,
-};
-
-const TIGHTEN_NOTHING: Command = Command::Tighten {
-    field: STOCK,
-    kind: Kind::Lower,
-    amount: 0,
-};
-
-const TIGHTEN_TWO: Command = Command::Tighten {
-    field: STOCK,
-    kind: Kind::Lower,
-    amount: 2,
-};
-
-const TIGHTEN_FIVE: Command = Command::Tighten {
-    field: STOCK,
-    kind: Kind::Lower,
-    amount: 5,
-};
-
-const TIGHTEN_15: Command = Command::Tighten {
-    field: STOCK,
-    kind: Kind::Lower,
-    amount: 15,
-};
-
-const TIGHTEN_16: Command = Command::Tighten {
-    field: STOCK,
-    kind: Kind::Lower,
-    amount: 16,
-};
-
-const TIGHTEN_TWENTY: Command = Command::Tighten {
-    field: STOCK,
-    kind: Kind::Lower,
-    amount: 20,
-};
-
-const TIGHTEN_RAISE_30: Command = Command::Tighten {
-    field: STOCK,
-    kind: Kind::Raise,
-    amount: 30,
-};
-
-const ACCEPT_THREE: Command = Command::Accept(Statement {
-    from: SiteNo(0),
-    to: SiteNo(1),
-    field: STOCK,
-    kind: Kind::Lower,
-    total: 3,
-});
-
-const ACCEPT_FIVE: Command = Command::Accept(Statement {
-    from: SiteNo(0),
-    to: SiteNo(1),
-    field: STOCK,
-    kind: Kind::Lower,
-    total: 5,
-});
-
-const ACCEPT_50: Command = Command::Accept(Statement {
-    from: SiteNo(0),
-    to: SiteNo(1),
-    field: STOCK,
-    kind: Kind::Lower,
-    total: 50,
-});
-
-const ACCEPT_51: Command = Command::Accept(Statement {
-    from: SiteNo(0),
-    to: SiteNo(1),
-    field: STOCK,
-    kind: Kind::Lower,
-    total: 51,
-});
-
-const ACCEPT_FOR_ANOTHER: Command = Command::Accept(Statement {
-    from: SiteNo(0),
-    to: SiteNo(0),
-    field: STOCK,
-    kind: Kind::Lower,
-    total: 50,
-});
-
-fn stock_of_two(alloc: Global) -> Option<Schema> {
-    Schema::from_header(alloc, STOCK_OF_TWO.as_bytes()).ok()
-}
 
 /// What an open of one of the two sites over a medium gives.
 fn opened_over<M: Medium + Drop>(
@@ -241,9 +34,9 @@ fn answer<M: Medium>(alloc: Global, site: &mut Site<M>, command: Command) -> Opt
 }
 
 /// The site answers each command as told, one after another.
-fn assert_answers(rt: &impl Abort, alloc: Global, site: &mut Site<MemoryMedium>, rows: &[Row]) {
-    for (command, reply) in rows {
-        assert_eq!(rt; answer(alloc, site, *command), Some(*reply));
+fn assert_answers(rt: &impl Abort, alloc: Global, site: &mut Site<MemoryMedium>, rows: &[Entry]) {
+    for entry in rows {
+        assert_eq!(rt; answer(alloc, site, entry.command), Some(entry.reply));
     }
 }
 
@@ -273,7 +66,7 @@ fn known_by(site: &Site<MemoryMedium>) -> Known {
 
 /// One of the two sites, over an empty medium that never fails, answers each command as told: what
 /// it then knows.
-fn known_after(rt: &impl Abort, alloc: Global, number: u16, rows: &[Row]) -> Known {
+fn known_after(rt: &impl Abort, alloc: Global, number: u16, rows: &[Entry]) -> Known {
     let Some(mut site) = open_over(alloc, number, MemoryMedium::new(Vec::new(alloc))) else {
         panic!(rt; "no site");
     };
@@ -281,11 +74,11 @@ fn known_after(rt: &impl Abort, alloc: Global, number: u16, rows: &[Row]) -> Kno
     known_by(&site)
 }
 
-const EACH_CALL: [Row; 4] = [
-    (Command::Begin, Reply::Begun(FIRST)),
-    (TAKE_21, SHORT_OF_20),
-    (TAKE_TWENTY, Reply::Granted),
-    (COMMIT, Reply::Committed),
+const EACH_CALL: [Entry; 4] = [
+    entry!(1 begin -> begun 0.1),
+    entry!(1 escrow 0.1 stock -21 -> refused 7 short 20),
+    entry!(1 escrow 0.1 stock -20 -> granted),
+    entry!(1 commit 0.1 -> committed),
 ];
 
 /// Site 1 knows nothing of no field, and answered this many commands.
@@ -306,18 +99,12 @@ fn each_call(rt: HostRuntime) {
     assert_numbers(&rt, &known, 4);
 }
 
-const GIFTS: [Row; 5] = [
-    (GIVE_21, SHORT_OF_20),
-    (GIVE_ONE_TO_NO_SITE, Reply::Refused(Refusal::NoSite)),
-    (GIVE_TWENTY, Reply::Given { total: 20 }),
-    (
-        SHARE,
-        Reply::Shares {
-            lower: 0,
-            raise: 30,
-        },
-    ),
-    (READ, Reply::Between { lo: 0, hi: 70 }),
+const GIFTS: [Entry; 5] = [
+    entry!(0 give 1 stock lower 21 -> refused 7 short 20),
+    entry!(0 give 2 stock lower 1 -> refused 2 no site),
+    entry!(0 give 1 stock lower 20 -> given 20),
+    entry!(0 share stock -> share 0 30),
+    entry!(0 read stock -> between 0 70),
 ];
 
 #[test]
@@ -325,36 +112,12 @@ fn gives(rt: HostRuntime) {
     known_after(&rt, rt.alloc(), 0, &GIFTS);
 }
 
-const SPARES: [Row; 5] = [
-    (
-        SPARE_100,
-        Reply::Spared {
-            amount: 15,
-            total: 15,
-        },
-    ),
-    (
-        SPARE_100,
-        Reply::Spared {
-            amount: 8,
-            total: 23,
-        },
-    ),
-    (
-        SPARE_TWO,
-        Reply::Spared {
-            amount: 2,
-            total: 25,
-        },
-    ),
-    (
-        SPARE_NINE,
-        Reply::Spared {
-            amount: 3,
-            total: 28,
-        },
-    ),
-    (SPARE_ONE_TO_ITSELF, SELF_GIFT),
+const SPARES: [Entry; 5] = [
+    entry!(0 spare 1 stock raise 100 -> spared 15 15),
+    entry!(0 spare 1 stock raise 100 -> spared 8 23),
+    entry!(0 spare 1 stock raise 2 -> spared 2 25),
+    entry!(0 spare 1 stock raise 9 -> spared 3 28),
+    entry!(0 spare 0 stock raise 1 -> refused 8 self gift),
 ];
 
 #[test]
@@ -363,22 +126,16 @@ fn spares_half_at_most(rt: HostRuntime) {
     assert_eq!(rt; known.share, Some((20, 2)));
 }
 
-const TIGHTENINGS: [Row; 9] = [
-    (TIGHTEN_FIVE, Reply::Tightened { total: 5 }),
-    (
-        SHARE,
-        Reply::Shares {
-            lower: 15,
-            raise: 30,
-        },
-    ),
-    (READ, Reply::Between { lo: 20, hi: 70 }),
-    (TIGHTEN_16, Reply::Refused(Refusal::Short { share: 15 })),
-    (TIGHTEN_RAISE_30, Reply::Tightened { total: 30 }),
-    (READ, Reply::Between { lo: 20, hi: 70 }),
-    (TIGHTEN_15, Reply::Tightened { total: 20 }),
-    (READ, Reply::Between { lo: 20, hi: 70 }),
-    (TIGHTEN_NOTHING, Reply::Refused(Refusal::Zero)),
+const TIGHTENINGS: [Entry; 9] = [
+    entry!(0 tighten stock lower 5 -> tightened 5),
+    entry!(0 share stock -> share 15 30),
+    entry!(0 read stock -> between 20 70),
+    entry!(0 tighten stock lower 16 -> refused 7 short 15),
+    entry!(0 tighten stock raise 30 -> tightened 30),
+    entry!(0 read stock -> between 20 70),
+    entry!(0 tighten stock lower 15 -> tightened 20),
+    entry!(0 read stock -> between 20 70),
+    entry!(0 tighten stock lower 0 -> refused 5 zero),
 ];
 
 #[test]
@@ -387,10 +144,10 @@ fn tightens(rt: HostRuntime) {
     assert_eq!(rt; known.share, Some((0, 0)));
 }
 
-const GIVEN_UP_AND_GOT: [Row; 3] = [
-    (TIGHTEN_TWENTY, Reply::Tightened { total: 20 }),
-    (ACCEPT_51, Reply::Refused(Refusal::Forged { room: 50 })),
-    (ACCEPT_50, Reply::Accepted { gain: 50 }),
+const GIVEN_UP_AND_GOT: [Entry; 3] = [
+    entry!(1 tighten stock lower 20 -> tightened 20),
+    entry!(1 accept 0 1 stock lower 51 -> refused 11 forged 50),
+    entry!(1 accept 0 1 stock lower 50 -> accepted 50),
 ];
 
 #[test]
@@ -399,12 +156,12 @@ fn room_is_less_what_was_given_up(rt: HostRuntime) {
     assert_eq!(rt; known.interval, Some((70, 70)));
 }
 
-const RESTATED: [Row; 5] = [
-    (GIVE_ONE_TO_ITSELF, SELF_GIFT),
-    (RESTATE, Reply::Refused(Refusal::NothingGiven)),
-    (GIVE_THREE, Reply::Given { total: 3 }),
-    (GIVE_TWO, Reply::Given { total: 5 }),
-    (RESTATE, Reply::Stated { total: 5 }),
+const RESTATED: [Entry; 5] = [
+    entry!(0 give 0 stock lower 1 -> refused 8 self gift),
+    entry!(0 restate 1 stock lower -> refused 15 nothing given),
+    entry!(0 give 1 stock lower 3 -> given 3),
+    entry!(0 give 1 stock lower 2 -> given 5),
+    entry!(0 restate 1 stock lower -> stated 5),
 ];
 
 #[test]
@@ -413,11 +170,11 @@ fn states(rt: HostRuntime) {
     assert_eq!(rt; known.share, Some((15, 30)));
 }
 
-const UP_TO_THE_ROOM: [Row; 4] = [
-    (ACCEPT_FOR_ANOTHER, Reply::Refused(Refusal::NotYours)),
-    (ACCEPT_51, Reply::Refused(Refusal::Forged { room: 50 })),
-    (ACCEPT_50, Reply::Accepted { gain: 50 }),
-    (ACCEPT_51, Reply::Refused(Refusal::Forged { room: 0 })),
+const UP_TO_THE_ROOM: [Entry; 4] = [
+    entry!(1 accept 0 0 stock lower 50 -> refused 10 not yours),
+    entry!(1 accept 0 1 stock lower 51 -> refused 11 forged 50),
+    entry!(1 accept 0 1 stock lower 50 -> accepted 50),
+    entry!(1 accept 0 1 stock lower 51 -> refused 11 forged 0),
 ];
 
 #[test]
@@ -428,10 +185,10 @@ fn accepts_up_to_the_room(rt: HostRuntime) {
     assert_eq!(rt; known.share, Some((70, 30)));
 }
 
-const LATE_AND_TWICE: [Row; 3] = [
-    (ACCEPT_FIVE, Reply::Accepted { gain: 5 }),
-    (ACCEPT_THREE, Reply::Accepted { gain: 0 }),
-    (ACCEPT_FIVE, Reply::Accepted { gain: 0 }),
+const LATE_AND_TWICE: [Entry; 3] = [
+    entry!(1 accept 0 1 stock lower 5 -> accepted 5),
+    entry!(1 accept 0 1 stock lower 3 -> accepted 0),
+    entry!(1 accept 0 1 stock lower 5 -> accepted 0),
 ];
 
 #[test]

@@ -1,6 +1,7 @@
 //! Lines that ask nothing.
 
-use super::{HALVED, HEADER, Talk, Trickle, check_reader, check_said};
+use super::{HEADER, Talk, check_reader, check_said};
+use check_kit::{STOCK_OF_TWO, Trickle};
 use std::alloc::{AllocError, Global};
 
 /// Lines behind a header of one site, none of which is a command.
@@ -117,29 +118,20 @@ fn answers_bad_lines(rt: HostRuntime) -> Result<(), AllocError> {
 }
 
 /// Lines over two sites, each beside what answers it: refusals, and then lines that ask nothing.
-const OVER_TWO: [(&str, &str); 10] = [
-    (
-        "0 give 0 stock lower 1",
-        "0 give 0 stock lower 1 -> refused 8 self gift",
-    ),
-    (
-        "0 restate 1 stock raise",
-        "0 restate 1 stock raise -> refused 15 nothing given",
-    ),
-    ("0 begin", "0 begin -> begun 0.1"),
-    (
-        "0 escrow 0.1 stock 0",
-        "0 escrow 0.1 stock 0 -> refused 5 zero",
-    ),
-    ("0 read #1", "0 read #1 -> refused 3 no field"),
-    ("0 read sock", "bad line"),
-    ("2 begin", "bad line"),
-    ("0 accept 1 0 stock lower 5", "bad line"),
-    ("0  begin", "bad line"),
-    ("", "bad line"),
-];
+const OVER_TWO: [(&str, &str); 10] = said! {
+    "0 give 0 stock lower 1" => "0 give 0 stock lower 1 -> refused 8 self gift",
+    "0 restate 1 stock raise" => "0 restate 1 stock raise -> refused 15 nothing given",
+    "0 begin" => "0 begin -> begun 0.1",
+    "0 escrow 0.1 stock 0" => "0 escrow 0.1 stock 0 -> refused 5 zero",
+    "0 read #1" => "0 read #1 -> refused 3 no field",
+    "0 read sock" => "bad line",
+    "2 begin" => "bad line",
+    "0 accept 1 0 stock lower 5" => "bad line",
+    "0  begin" => "bad line",
+    "" => "bad line",
+};
 
 #[test]
 fn answers_bad_lines_over_two_sites(rt: HostRuntime) -> Result<(), AllocError> {
-    check_said(&rt, rt.alloc(), HALVED, &OVER_TWO)
+    check_said(&rt, rt.alloc(), STOCK_OF_TWO, &OVER_TWO)
 }

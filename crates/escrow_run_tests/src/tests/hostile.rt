@@ -1,14 +1,13 @@
 //! Appends torn at each byte, a header without end, and readers and writers that are interrupted
 //! once.
 
-use super::{
-    Ended, HALVED, READ_FAULT, Talk, check_reader, check_said, joined, row_input, row_output,
-};
+use super::{Ended, READ_FAULT, Talk, check_reader, check_said, row_input, row_output};
+use check_kit::{InterruptedReader, InterruptedWriter, STOCK_OF_TWO, joined};
 use escrow_run::{ScriptFault, Watched, run_script};
 use field_bounds::SchemaFault;
 use std::alloc::{AllocError, Global};
 use std::io;
-use std::io::{ErrorKind, Read, Write};
+use std::io::Read;
 use std::process::Abort;
 
 const GIFT_LOST: [(&str, &str); 3] = [
@@ -25,7 +24,7 @@ const GIFT_KEPT: [(&str, &str); 3] = [
 
 /// A script in which a gift is torn behind so many bytes.
 fn torn_gift(alloc: Global, bytes: u64) -> Result<Talk, AllocError> {
-    let mut talk = Talk::new(alloc, HALVED)?;
+    let mut talk = Talk::new(alloc, STOCK_OF_TWO)?;
     talk.torn("0 give 1 stock lower 5", bytes)?;
     talk.row("deliver 1", "refused 16 no statement")?;
     talk.rows(if bytes < 10 { &GIFT_LOST } else { &GIFT_KEPT })?;
@@ -43,33 +42,30 @@ fn keeps_a_gift_that_is_whole(rt: HostRuntime) -> Result<(), AllocError> {
     Ok(())
 }
 
-const COMMIT_TORN_FAR_BEHIND: [(&str, &str); 6] = [
-    ("0 begin", "0 begin -> begun 0.1"),
-    (
-        "0 escrow 0.1 stock -20",
-        "0 escrow 0.1 stock -20 -> granted",
-    ),
-    ("0 commit 0.1 torn 1000", "0 commit 0.1 -> unsure"),
-    ("0 read stock", "0 read stock -> refused 1 down"),
-    ("0 restart", "0 restart -> restarted 1 kept"),
-    ("0 share stock", "0 share stock -> share 0 50"),
-];
+const COMMIT_TORN_FAR_BEHIND: [(&str, &str); 6] = said! {
+    "0 begin" => "0 begin -> begun 0.1",
+    "0 escrow 0.1 stock -20" => "0 escrow 0.1 stock -20 -> granted",
+    "0 commit 0.1 torn 1000" => "0 commit 0.1 -> unsure",
+    "0 read stock" => "0 read stock -> refused 1 down",
+    "0 restart" => "0 restart -> restarted 1 kept",
+    "0 share stock" => "0 share stock -> share 0 50",
+};
 
 #[test]
 fn keeps_a_commit_torn_far_behind_its_end(rt: HostRuntime) -> Result<(), AllocError> {
-    check_said(&rt, rt.alloc(), HALVED, &COMMIT_TORN_FAR_BEHIND)
+    check_said(&rt, rt.alloc(), STOCK_OF_TWO, &COMMIT_TORN_FAR_BEHIND)
 }
 
-const FAILED_RESTARTS: [(&str, &str); 4] = [
-    ("0 restart torn 4", "0 restart -> still down"),
-    ("0 restart torn 4", "0 restart -> still down"),
-    ("0 restart torn 4", "0 restart -> still down"),
-    ("0 restart", "0 restart -> restarted 4 nothing"),
-];
+const FAILED_RESTARTS: [(&str, &str); 4] = said! {
+    "0 restart torn 4" => "0 restart -> still down",
+    "0 restart torn 4" => "0 restart -> still down",
+    "0 restart torn 4" => "0 restart -> still down",
+    "0 restart" => "0 restart -> restarted 4 nothing",
+};
 
 #[test]
 fn restarts_behind_three_failed_restarts(rt: HostRuntime) -> Result<(), AllocError> {
-    check_said(&rt, rt.alloc(), HALVED, &FAILED_RESTARTS)
+    check_said(&rt, rt.alloc(), STOCK_OF_TWO, &FAILED_RESTARTS)
 }
 
 #[test]
@@ -106,35 +102,14 @@ fn reads_no_more_once_a_header_is_too_long(rt: HostRuntime) {
 #[test]
 fn reads_a_header_of_the_greatest_length(rt: HostRuntime) -> Result<(), AllocError> {
     let alloc = rt.alloc();
-    let spaces = " ".repeat(alloc, 65_536usize.saturating_sub(HALVED.len()))?;
-    let input = joined(alloc, &[spaces.as_str(), HALVED, "\n0 begin\n"])?;
+    let spaces = " ".repeat(alloc, 65_536usize.saturating_sub(STOCK_OF_TWO.len()))?;
+    let input = joined(alloc, &[spaces.as_str(), STOCK_OF_TWO, "\n0 begin\n"])?;
     let wanted = joined(
         alloc,
-        &[spaces.as_str(), HALVED, "\n0 begin -> begun 0.1\n"],
+        &[spaces.as_str(), STOCK_OF_TWO, "\n0 begin -> begun 0.1\n"],
     )?;
     check_reader(&rt, alloc, input.as_bytes(), Ok(()), wanted.as_str());
     Ok(())
-}
-
-/// A reader that is interrupted once, between two parts, and would answer the next read.
-#[derive(Drop)]
-struct InterruptedReader<'a> {
-    before: &'a [u8],
-    behind: &'a [u8],
-    was_interrupted: bool,
-}
-
-impl Read for InterruptedReader<'_> {
-    fn read(&mut self, buf: &mut [u8]) -> io::Result<usize> {
-        if !self.before.is_empty() {
-            return self.before.read(buf);
-        }
-        if !self.was_interrupted {
-            self.was_interrupted = true;
-            return Err(ErrorKind::Interrupted.into());
-        }
-        self.behind.read(buf)
-    }
 }
 
 /// Runs over a text whose read is interrupted once, behind so many bytes.
@@ -145,11 +120,7 @@ fn check_interrupted(
     behind: &[u8],
 ) -> Result<(), AllocError> {
     let output = row_output(alloc, before.len())?;
-    let reader = InterruptedReader {
-        before,
-        behind,
-        was_interrupted: false,
-    };
+    let reader = InterruptedReader::new(before, behind);
     check_reader(rt, alloc, reader, READ_FAULT, output.as_str());
     Ok(())
 }
@@ -165,44 +136,11 @@ fn reads_no_more_once_interrupted(rt: HostRuntime) -> Result<(), AllocError> {
     Ok(())
 }
 
-/// A writer that is interrupted once, after so many bytes, and would take the next write.
-#[derive(Drop)]
-struct InterruptedWriter {
-    taken: Vec<u8>,
-    room: usize,
-    was_interrupted: bool,
-}
-
-impl Write for InterruptedWriter {
-    fn write(&mut self, buf: &[u8]) -> io::Result<usize> {
-        if self.was_interrupted {
-            self.taken.extend_from_slice(buf)?;
-            return Ok(buf.len());
-        }
-        if self.room == 0 {
-            self.was_interrupted = true;
-            return Err(ErrorKind::Interrupted.into());
-        }
-        let count = buf.len().min(self.room);
-        self.taken.extend_from_slice(&buf[..count])?;
-        self.room -= count;
-        Ok(count)
-    }
-
-    fn flush(&mut self) -> io::Result<()> {
-        Ok(())
-    }
-}
-
 /// How a run over a text ends whose write is interrupted once, and what was taken.
 fn run_interrupted(alloc: Global, text: &[u8], room: usize) -> (Ended, Vec<u8>) {
-    let mut writer = Watched::new(InterruptedWriter {
-        taken: Vec::new(alloc),
-        room,
-        was_interrupted: false,
-    });
+    let mut writer = Watched::new(InterruptedWriter::new(alloc, room));
     let end = run_script(alloc, &mut Watched::new(text), &mut writer);
-    (end, writer.into_inner().taken)
+    (end, writer.into_inner().into_taken())
 }
 
 /// Behind each byte of the wanted output a write is interrupted once.

@@ -1,69 +1,54 @@
 //! Lines that level a field, and the gifts that answer them.
 
-use super::{HALVED, Talk, add, check_said};
+use super::{Talk, check_said};
+use check_kit::{STOCK_OF_THREE, STOCK_OF_TWO, add};
 use itoa::Buffer;
 use std::alloc::AllocError;
 
-/// Three sites: lower 14, 13 and 13, raise 20 each.
-const THREE: &str =
-    "{\"sites\":3,\"fields\":[{\"name\":\"stock\",\"floor\":0,\"ceiling\":100,\"value\":40}]}";
-
-const UNEVEN: [(&str, &str); 7] = [
-    (
-        "0 give 1 stock lower 5",
-        "0 give 1 stock lower 5 -> given 5",
-    ),
-    ("deliver 1", "1 accept 0 1 stock lower 5 -> accepted 5"),
-    (
-        "level stock lower",
-        "level stock lower -> moves 1\n1 give 0 stock lower 5 -> given 5",
-    ),
-    ("1 share stock", "1 share stock -> share 20 30"),
-    ("level stock raise", "level stock raise -> moves 0"),
-    ("deliver 2", "0 accept 1 0 stock lower 5 -> accepted 5"),
-    ("level stock lower", "level stock lower -> moves 0"),
-];
+const UNEVEN: [(&str, &str); 7] = said! {
+    "0 give 1 stock lower 5" => "0 give 1 stock lower 5 -> given 5",
+    "deliver 1" => "1 accept 0 1 stock lower 5 -> accepted 5",
+    "level stock lower" => "level stock lower -> moves 1\n1 give 0 stock lower 5 -> given 5",
+    "1 share stock" => "1 share stock -> share 20 30",
+    "level stock raise" => "level stock raise -> moves 0",
+    "deliver 2" => "0 accept 1 0 stock lower 5 -> accepted 5",
+    "level stock lower" => "level stock lower -> moves 0",
+};
 
 // Two sites are levelled by one gift, which isn't delivered.
 #[test]
 fn levels_what_a_gift_made_uneven(rt: HostRuntime) -> Result<(), AllocError> {
-    check_said(&rt, rt.alloc(), HALVED, &UNEVEN)
+    check_said(&rt, rt.alloc(), STOCK_OF_TWO, &UNEVEN)
 }
 
-const ONE_DOWN: [(&str, &str); 5] = [
-    (
-        "0 give 1 stock lower 14",
-        "0 give 1 stock lower 14 -> given 14",
-    ),
-    ("deliver 1", "1 accept 0 1 stock lower 14 -> accepted 14"),
-    ("1 restart torn 0", "1 restart -> still down"),
-    (
-        "level stock lower",
-        "level stock lower -> moves 1\n2 give 0 stock lower 7 -> given 7",
-    ),
-    ("level stock raise", "level stock raise -> moves 0"),
-];
+const ONE_DOWN: [(&str, &str); 5] = said! {
+    "0 give 1 stock lower 14" => "0 give 1 stock lower 14 -> given 14",
+    "deliver 1" => "1 accept 0 1 stock lower 14 -> accepted 14",
+    "1 restart torn 0" => "1 restart -> still down",
+    "level stock lower" => "level stock lower -> moves 1\n2 give 0 stock lower 7 -> given 7",
+    "level stock raise" => "level stock raise -> moves 0",
+};
 
 const EVEN: [(&str, &str); 1] = [("level stock raise", "level stock raise -> moves 0")];
 
 // A site that is down neither gives nor gets.
 #[test]
 fn levels_the_sites_that_are_up(rt: HostRuntime) -> Result<(), AllocError> {
-    check_said(&rt, rt.alloc(), THREE, &ONE_DOWN)?;
-    check_said(&rt, rt.alloc(), HALVED, &EVEN)
+    check_said(&rt, rt.alloc(), STOCK_OF_THREE, &ONE_DOWN)?;
+    check_said(&rt, rt.alloc(), STOCK_OF_TWO, &EVEN)
 }
 
-const NONE_UP: [(&str, &str); 4] = [
-    ("0 restart torn 0", "0 restart -> still down"),
-    ("1 restart torn 0", "1 restart -> still down"),
-    ("level stock lower", "level stock lower -> moves 0"),
-    ("level stock raise", "level stock raise -> moves 0"),
-];
+const NONE_UP: [(&str, &str); 4] = said! {
+    "0 restart torn 0" => "0 restart -> still down",
+    "1 restart torn 0" => "1 restart -> still down",
+    "level stock lower" => "level stock lower -> moves 0",
+    "level stock raise" => "level stock raise -> moves 0",
+};
 
 // Where all sites are down there is nothing to move.
 #[test]
 fn levels_no_site(rt: HostRuntime) -> Result<(), AllocError> {
-    check_said(&rt, rt.alloc(), HALVED, &NONE_UP)
+    check_said(&rt, rt.alloc(), STOCK_OF_TWO, &NONE_UP)
 }
 
 /// The widest field at its ceiling, among three sites: lower 666666666666667, the same, and one

@@ -1,6 +1,7 @@
 //! Rows of commands over one site and over two, each beside its reply.
 
-use super::{HALVED, HEADER, Talk};
+use super::{HEADER, Talk};
+use check_kit::STOCK_OF_TWO;
 use std::alloc::{AllocError, Global};
 use std::process::Abort;
 
@@ -80,7 +81,7 @@ const WORKED: [(&str, &[(&str, &str)]); 14] = [
         ],
     ),
     (
-        HALVED,
+        STOCK_OF_TWO,
         &[
             ("0 begin", "begun 0.1"),
             ("0 escrow 0.1 stock -20", "granted"),
@@ -91,14 +92,14 @@ const WORKED: [(&str, &[(&str, &str)]); 14] = [
         ],
     ),
     (
-        HALVED,
+        STOCK_OF_TWO,
         &[
             ("0 begin", "begun 0.1"),
             ("0 escrow 0.1 stock -21", "refused 7 short 20"),
         ],
     ),
     (
-        HALVED,
+        STOCK_OF_TWO,
         &[
             ("0 begin", "begun 0.1"),
             ("0 escrow 0.1 stock 5", "granted"),
@@ -109,7 +110,7 @@ const WORKED: [(&str, &[(&str, &str)]); 14] = [
         ],
     ),
     (
-        HALVED,
+        STOCK_OF_TWO,
         &[
             ("0 begin", "begun 0.1"),
             ("0 escrow 0.1 stock -20", "granted"),
@@ -119,7 +120,7 @@ const WORKED: [(&str, &[(&str, &str)]); 14] = [
         ],
     ),
     (
-        HALVED,
+        STOCK_OF_TWO,
         &[
             ("0 begin", "begun 0.1"),
             ("1 begin", "begun 0.1"),
@@ -134,7 +135,7 @@ const WORKED: [(&str, &[(&str, &str)]); 14] = [
         ],
     ),
     (
-        HALVED,
+        STOCK_OF_TWO,
         &[
             ("0 give 0 stock lower 1", "refused 8 self gift"),
             ("0 restate 1 stock raise", "refused 15 nothing given"),
@@ -144,7 +145,7 @@ const WORKED: [(&str, &[(&str, &str)]); 14] = [
         ],
     ),
     (
-        HALVED,
+        STOCK_OF_TWO,
         &[
             ("0 give 1 stock lower 21", "refused 7 short 20"),
             ("0 give 2 stock lower 1", "refused 2 no site"),
@@ -159,7 +160,7 @@ const WORKED: [(&str, &[(&str, &str)]); 14] = [
         ],
     ),
     (
-        HALVED,
+        STOCK_OF_TWO,
         &[
             ("0 spare 1 stock raise 100", "spared 15 15"),
             ("0 spare 1 stock raise 100", "spared 8 23"),
@@ -173,7 +174,7 @@ const WORKED: [(&str, &[(&str, &str)]); 14] = [
         ],
     ),
     (
-        HALVED,
+        STOCK_OF_TWO,
         &[
             ("0 tighten stock lower 5", "tightened 5"),
             ("0 share stock", "share 15 30"),

@@ -4,7 +4,6 @@
 use super::summaries::{COMMIT_BEHIND_999, THOUSANDTH};
 use super::tears::{Tear, answers_all, restarts, site_behind, tears};
 use super::*;
-use field_bounds::Last;
 use kept_records::{Device, End, MediumFault, Mishap, TornMedium};
 use std::alloc::AllocError;
 use std::sync::Arc;

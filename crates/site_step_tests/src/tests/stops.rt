@@ -4,234 +4,97 @@ mod hostile;
 
 use super::tears::{After, Tear, assert_lengths};
 use super::*;
-use field_bounds::Last;
+use check_kit::{command, entry, reply};
+use kept_records::Mishap::{Append, Cut, Never, Read};
 use kept_records::{Mishap, TornMedium};
 
 /// A command under a mishap, and what the site answers.
-type Step = (Mishap, Command, Reply);
-
-const DOWN: Reply = Reply::Refused(Refusal::Down);
-
-const FULL: Reply = Reply::Refused(Refusal::NumbersFull);
+type Step = (Mishap, Entry);
 
 /// An open transaction is aborted by a restart, and numbers start anew in the new epoch.
 const OPEN_AT_A_RESTART: [Step; 5] = [
-    (Mishap::Never, Command::Begin, Reply::Begun(FIRST)),
-    (Mishap::Never, TAKE_TWENTY, Reply::Granted),
-    (
-        Mishap::Never,
-        Command::Restart,
-        Reply::Restarted {
-            epoch: 1,
-            last: Last::Nothing,
-        },
-    ),
-    (
-        Mishap::Never,
-        COMMIT,
-        Reply::Refused(Refusal::NoTransaction),
-    ),
-    (
-        Mishap::Never,
-        Command::Begin,
-        Reply::Begun(TxnId {
-            epoch: 1,
-            number: 1,
-        }),
-    ),
+    (Never, entry!(0 begin -> begun 0.1)),
+    (Never, entry!(0 escrow 0.1 stock -20 -> granted)),
+    (Never, entry!(0 restart -> restarted 1 nothing)),
+    (Never, entry!(0 commit 0.1 -> refused 4 no transaction)),
+    (Never, entry!(0 begin -> begun 1.1)),
 ];
 
 /// A commit's record that lacks its last byte is lost.
 const LOST: [Step; 7] = [
-    (Mishap::Never, Command::Begin, Reply::Begun(FIRST)),
-    (Mishap::Never, TAKE_TWENTY, Reply::Granted),
-    (Mishap::Append(11), COMMIT, Reply::Unsure),
-    (Mishap::Never, READ, DOWN),
-    (
-        Mishap::Never,
-        Command::Restart,
-        Reply::Restarted {
-            epoch: 1,
-            last: Last::Lost,
-        },
-    ),
-    (
-        Mishap::Never,
-        SHARE,
-        Reply::Shares {
-            lower: 20,
-            raise: 30,
-        },
-    ),
-    (Mishap::Never, READ, Reply::Between { lo: 20, hi: 70 }),
+    (Never, entry!(0 begin -> begun 0.1)),
+    (Never, entry!(0 escrow 0.1 stock -20 -> granted)),
+    (Append(11), entry!(0 commit 0.1 -> unsure)),
+    (Never, entry!(0 read stock -> refused 1 down)),
+    (Never, entry!(0 restart -> restarted 1 lost)),
+    (Never, entry!(0 share stock -> share 20 30)),
+    (Never, entry!(0 read stock -> between 20 70)),
 ];
 
 /// A commit's record that stands whole is kept.
 const KEPT: [Step; 7] = [
-    (Mishap::Never, Command::Begin, Reply::Begun(FIRST)),
-    (Mishap::Never, TAKE_TWENTY, Reply::Granted),
-    (Mishap::Append(12), COMMIT, Reply::Unsure),
-    (Mishap::Never, READ, DOWN),
-    (
-        Mishap::Never,
-        Command::Restart,
-        Reply::Restarted {
-            epoch: 1,
-            last: Last::Kept,
-        },
-    ),
-    (
-        Mishap::Never,
-        SHARE,
-        Reply::Shares {
-            lower: 0,
-            raise: 50,
-        },
-    ),
-    (Mishap::Never, READ, Reply::Between { lo: 0, hi: 50 }),
+    (Never, entry!(0 begin -> begun 0.1)),
+    (Never, entry!(0 escrow 0.1 stock -20 -> granted)),
+    (Append(12), entry!(0 commit 0.1 -> unsure)),
+    (Never, entry!(0 read stock -> refused 1 down)),
+    (Never, entry!(0 restart -> restarted 1 kept)),
+    (Never, entry!(0 share stock -> share 0 50)),
+    (Never, entry!(0 read stock -> between 0 50)),
 ];
 
 /// A restart that fails leaves the record in doubt to the next one.
 const FAILED_RESTART: [Step; 5] = [
-    (Mishap::Never, Command::Begin, Reply::Begun(FIRST)),
-    (Mishap::Never, TAKE_TWENTY, Reply::Granted),
-    (Mishap::Append(12), COMMIT, Reply::Unsure),
-    (Mishap::Append(2), Command::Restart, Reply::StillDown),
-    (
-        Mishap::Never,
-        Command::Restart,
-        Reply::Restarted {
-            epoch: 1,
-            last: Last::Kept,
-        },
-    ),
+    (Never, entry!(0 begin -> begun 0.1)),
+    (Never, entry!(0 escrow 0.1 stock -20 -> granted)),
+    (Append(12), entry!(0 commit 0.1 -> unsure)),
+    (Append(2), entry!(0 restart -> still down)),
+    (Never, entry!(0 restart -> restarted 1 kept)),
 ];
 
 /// A restart that fails with its record whole uses its epoch up.
 const EPOCH_USED_UP: [Step; 2] = [
-    (Mishap::Append(4), Command::Restart, Reply::StillDown),
-    (
-        Mishap::Never,
-        Command::Restart,
-        Reply::Restarted {
-            epoch: 2,
-            last: Last::Nothing,
-        },
-    ),
+    (Append(4), entry!(0 restart -> still down)),
+    (Never, entry!(0 restart -> restarted 2 nothing)),
 ];
 
 /// Each kind of call fails once.
 const EACH_MISHAP: [Step; 6] = [
-    (Mishap::Never, Command::Begin, Reply::Begun(FIRST)),
-    (Mishap::Never, TAKE_TWENTY, Reply::Granted),
-    (Mishap::Append(11), COMMIT, Reply::Unsure),
-    (Mishap::Cut, Command::Restart, Reply::StillDown),
-    (Mishap::Read, Command::Restart, Reply::StillDown),
-    (
-        Mishap::Never,
-        Command::Restart,
-        Reply::Restarted {
-            epoch: 1,
-            last: Last::Lost,
-        },
-    ),
+    (Never, entry!(0 begin -> begun 0.1)),
+    (Never, entry!(0 escrow 0.1 stock -20 -> granted)),
+    (Append(11), entry!(0 commit 0.1 -> unsure)),
+    (Cut, entry!(0 restart -> still down)),
+    (Read, entry!(0 restart -> still down)),
+    (Never, entry!(0 restart -> restarted 1 lost)),
 ];
 
 /// Over the record of the last epoch.
 const LAST_EPOCH: [Step; 2] = [
-    (Mishap::Never, Command::Begin, DOWN),
-    (Mishap::Never, Command::Restart, FULL),
+    (Never, entry!(0 begin -> refused 1 down)),
+    (Never, entry!(0 restart -> refused 14 numbers full)),
 ];
 
 /// Over a torn record.
 const TORN_RECORD: [Step; 2] = [
-    (Mishap::Never, Command::Begin, DOWN),
-    (
-        Mishap::Never,
-        Command::Restart,
-        Reply::Restarted {
-            epoch: 1,
-            last: Last::Nothing,
-        },
-    ),
+    (Never, entry!(0 begin -> refused 1 down)),
+    (Never, entry!(0 restart -> restarted 1 nothing)),
 ];
-
-/// Seven raising rights, stated by site 1 to site 0.
-const STATED_SEVEN: Command = Command::Accept(Statement {
-    from: SiteNo(1),
-    to: SiteNo(0),
-    field: STOCK,
-    kind: Kind::Raise,
-    total: 7,
-});
-
-/// Nine of them.
-const STATED_NINE: Command = Command::Accept(Statement {
-    from: SiteNo(1),
-    to: SiteNo(0),
-    field: STOCK,
-    kind: Kind::Raise,
-    total: 9,
-});
 
 /// Of 20 rights to lower and 30 to raise the commit turned 5, 3 to lower were given, and 7 to raise
 /// were gained. So 12 and 42 are free, and the totals go on from what was kept.
 const KEPT_RECORDS: &str = "C 0 1 0 -5\nG 1 0 l 3\nA 1 0 r 7\n";
 
 const OVER_KEPT_RECORDS: [Step; 11] = [
-    (Mishap::Never, SHARE, DOWN),
-    (
-        Mishap::Never,
-        Command::Restart,
-        Reply::Restarted {
-            epoch: 1,
-            last: Last::Nothing,
-        },
-    ),
-    (
-        Mishap::Never,
-        SHARE,
-        Reply::Shares {
-            lower: 12,
-            raise: 42,
-        },
-    ),
-    (Mishap::Never, READ, Reply::Between { lo: 12, hi: 58 }),
-    (Mishap::Never, GIVE_TWO, Reply::Given { total: 5 }),
-    (Mishap::Never, STATED_SEVEN, Reply::Accepted { gain: 0 }),
-    (Mishap::Never, STATED_NINE, Reply::Accepted { gain: 2 }),
-    (
-        Mishap::Never,
-        Command::Begin,
-        Reply::Begun(TxnId {
-            epoch: 1,
-            number: 1,
-        }),
-    ),
-    (
-        Mishap::Never,
-        SHARE,
-        Reply::Shares {
-            lower: 10,
-            raise: 44,
-        },
-    ),
-    (
-        Mishap::Never,
-        Command::Restart,
-        Reply::Restarted {
-            epoch: 2,
-            last: Last::Nothing,
-        },
-    ),
-    (
-        Mishap::Never,
-        SHARE,
-        Reply::Shares {
-            lower: 10,
-            raise: 44,
-        },
-    ),
+    (Never, entry!(0 share stock -> refused 1 down)),
+    (Never, entry!(0 restart -> restarted 1 nothing)),
+    (Never, entry!(0 share stock -> share 12 42)),
+    (Never, entry!(0 read stock -> between 12 58)),
+    (Never, entry!(0 give 1 stock lower 2 -> given 5)),
+    (Never, entry!(0 accept 1 0 stock raise 7 -> accepted 0)),
+    (Never, entry!(0 accept 1 0 stock raise 9 -> accepted 2)),
+    (Never, entry!(0 begin -> begun 1.1)),
+    (Never, entry!(0 share stock -> share 10 44)),
+    (Never, entry!(0 restart -> restarted 2 nothing)),
+    (Never, entry!(0 share stock -> share 10 44)),
 ];
 
 /// Of 20 rights to lower 5 were given up, and 30 to raise; a restart knows them, and they go on
@@ -239,91 +102,35 @@ const OVER_KEPT_RECORDS: [Step; 11] = [
 const KEPT_TIGHTENINGS: &str = "T 0 l 5\nT 0 r 30\n";
 
 const OVER_KEPT_TIGHTENINGS: [Step; 6] = [
-    (
-        Mishap::Never,
-        Command::Restart,
-        Reply::Restarted {
-            epoch: 1,
-            last: Last::Nothing,
-        },
-    ),
-    (
-        Mishap::Never,
-        SHARE,
-        Reply::Shares {
-            lower: 15,
-            raise: 0,
-        },
-    ),
-    (Mishap::Never, READ, Reply::Between { lo: 20, hi: 70 }),
-    (Mishap::Never, TIGHTEN_TWO, Reply::Tightened { total: 7 }),
-    (
-        Mishap::Never,
-        Command::Restart,
-        Reply::Restarted {
-            epoch: 2,
-            last: Last::Nothing,
-        },
-    ),
-    (Mishap::Never, READ, Reply::Between { lo: 20, hi: 70 }),
+    (Never, entry!(0 restart -> restarted 1 nothing)),
+    (Never, entry!(0 share stock -> share 15 0)),
+    (Never, entry!(0 read stock -> between 20 70)),
+    (Never, entry!(0 tighten stock lower 2 -> tightened 7)),
+    (Never, entry!(0 restart -> restarted 2 nothing)),
+    (Never, entry!(0 read stock -> between 20 70)),
 ];
 
 /// A restart over a log that starts with a summary, and one over logs that end with one: of 20
 /// rights to lower 5 were given to another site, or given up.
 const OVER_FRESH_SUMMARY: [Step; 2] = [
-    (
-        Mishap::Never,
-        Command::Restart,
-        Reply::Restarted {
-            epoch: 1,
-            last: Last::Nothing,
-        },
-    ),
-    (
-        Mishap::Never,
-        SHARE,
-        Reply::Shares {
-            lower: 20,
-            raise: 30,
-        },
-    ),
+    (Never, entry!(0 restart -> restarted 1 nothing)),
+    (Never, entry!(0 share stock -> share 20 30)),
 ];
 
 const OVER_SUMMARY: [Step; 2] = [
-    (
-        Mishap::Never,
-        Command::Restart,
-        Reply::Restarted {
-            epoch: 1,
-            last: Last::Nothing,
-        },
-    ),
-    (
-        Mishap::Never,
-        SHARE,
-        Reply::Shares {
-            lower: 15,
-            raise: 30,
-        },
-    ),
+    (Never, entry!(0 restart -> restarted 1 nothing)),
+    (Never, entry!(0 share stock -> share 15 30)),
 ];
 
 /// Under a mishap for reads a restart fails also where no epoch is left, and else it is refused,
 /// which leaves a torn end and a mishap for cuts.
 const LAST_EPOCH_UNDER_MISHAPS: [Step; 2] = [
-    (Mishap::Read, Command::Restart, Reply::StillDown),
-    (Mishap::Cut, Command::Restart, FULL),
+    (Read, entry!(0 restart -> still down)),
+    (Cut, entry!(0 restart -> refused 14 numbers full)),
 ];
 
 /// A mishap for cuts doesn't strike where nothing stands behind the last line feed.
-const NOTHING_TO_CUT: [Step; 1] = [(
-    Mishap::Cut,
-    Command::Restart,
-    Reply::Restarted {
-        epoch: 2,
-        last: Last::Nothing,
-    },
-)];
+const NOTHING_TO_CUT: [Step; 1] = [(Cut, entry!(0 restart -> restarted 2 nothing))];
 
 /// Site 0 over a medium that holds these bytes.
 fn site_over(alloc: Global, bytes: &str) -> Option<Site<TornMedium>> {
@@ -334,9 +141,9 @@ fn site_over(alloc: Global, bytes: &str) -> Option<Site<TornMedium>> {
 /// How many of the answers are as told, from the first on.
 fn count_told(alloc: Global, site: &mut Site<TornMedium>, steps: &[Step]) -> usize {
     for (at, step) in steps.iter().enumerate() {
-        let (mishap, command, reply) = *step;
+        let (mishap, entry) = *step;
         site.arm(mishap);
-        if answer(alloc, site, command) != Some(reply) {
+        if answer(alloc, site, entry.command) != Some(entry.reply) {
             return at;
         }
     }
@@ -463,75 +270,43 @@ fn faults_of_open(rt: HostRuntime) {
 }
 
 /// The record in doubt is lost: nothing stands, and nothing is replayed.
-const AFTER_NONE: After = (
-    Reply::Restarted {
-        epoch: 1,
-        last: Last::Lost,
-    },
-    0,
-    Some((20, 30)),
-);
+const AFTER_NONE: After = (reply!(restarted 1 lost), 0, Some((20, 30)));
 
 /// The record in doubt is kept, and replayed: a commit of 20 rights to lower.
-const AFTER_COMMIT: After = (
-    Reply::Restarted {
-        epoch: 1,
-        last: Last::Kept,
-    },
-    1,
-    Some((0, 50)),
-);
+const AFTER_COMMIT: After = (reply!(restarted 1 kept), 1, Some((0, 50)));
 
 /// A gift of 5 rights to lower, or as many given up.
-const AFTER_GIFT: After = (
-    Reply::Restarted {
-        epoch: 1,
-        last: Last::Kept,
-    },
-    1,
-    Some((15, 30)),
-);
+const AFTER_GIFT: After = (reply!(restarted 1 kept), 1, Some((15, 30)));
 
 /// A spare of 15 rights to raise.
-const AFTER_SPARE: After = (
-    Reply::Restarted {
-        epoch: 1,
-        last: Last::Kept,
-    },
-    1,
-    Some((20, 15)),
-);
+const AFTER_SPARE: After = (reply!(restarted 1 kept), 1, Some((20, 15)));
 
 const TORN_COMMIT: Tear = Tear {
     first: 1,
     end: 1,
-    before: &[Command::Begin, TAKE_TWENTY],
-    torn: COMMIT,
-    reply: Reply::Unsure,
+    before: &[command!(begin), command!(escrow 0.1 stock -20)],
+    torn: entry!(0 commit 0.1 -> unsure),
 };
 
 const TORN_GIFT: Tear = Tear {
     first: 1,
     end: 1,
     before: &[],
-    torn: GIVE_FIVE,
-    reply: Reply::Unsure,
+    torn: entry!(0 give 1 stock lower 5 -> unsure),
 };
 
 const TORN_SPARE: Tear = Tear {
     first: 1,
     end: 1,
     before: &[],
-    torn: SPARE_100,
-    reply: Reply::Unsure,
+    torn: entry!(0 spare 1 stock raise 100 -> unsure),
 };
 
 const TORN_TIGHTENING: Tear = Tear {
     first: 1,
     end: 1,
     before: &[],
-    torn: TIGHTEN_FIVE,
-    reply: Reply::Unsure,
+    torn: entry!(0 tighten stock lower 5 -> unsure),
 };
 
 #[test]

@@ -3,29 +3,14 @@
 
 use super::tears::{After, Tear, assert_lengths};
 use super::*;
-use field_bounds::Last;
-
-/// The first transaction of epoch 999.
-const IN_999: TxnId = TxnId {
-    epoch: 999,
-    number: 1,
-};
-
-const TAKE_TWENTY_IN_999: Command = Command::Escrow {
-    txn: IN_999,
-    field: STOCK,
-    change: -20,
-};
-
-const COMMIT_IN_999: Command = Command::Commit { txn: IN_999 };
+use check_kit::{command, entry, reply};
 
 /// A restart behind 999 that the site itself made.
 const ITS_OWN_THOUSANDTH: Tear = Tear {
     first: 1,
     end: 1000,
     before: &[],
-    torn: Command::Restart,
-    reply: Reply::StillDown,
+    torn: entry!(0 restart -> still down),
 };
 
 /// A restart behind 999, of which the site itself made the last.
@@ -33,78 +18,34 @@ pub const THOUSANDTH: Tear = Tear {
     first: 999,
     end: 1000,
     before: &[],
-    torn: Command::Restart,
-    reply: Reply::StillDown,
+    torn: entry!(0 restart -> still down),
 };
 
 /// A commit of 20 rights to lower behind 999 restarts.
 pub const COMMIT_BEHIND_999: Tear = Tear {
     first: 999,
     end: 1000,
-    before: &[Command::Begin, TAKE_TWENTY_IN_999],
-    torn: COMMIT_IN_999,
-    reply: Reply::Unsure,
+    before: &[command!(begin), command!(escrow 999.1 stock -20)],
+    torn: entry!(0 commit 999.1 -> unsure),
 };
 
 /// The thousandth restart left nothing.
-const RECORD_LOST: After = (
-    Reply::Restarted {
-        epoch: 1000,
-        last: Last::Nothing,
-    },
-    999,
-    Some((20, 30)),
-);
+const RECORD_LOST: After = (reply!(restarted 1000 nothing), 999, Some((20, 30)));
 
 /// It left its record, and no summary.
-const RECORD_KEPT: After = (
-    Reply::Restarted {
-        epoch: 1001,
-        last: Last::Nothing,
-    },
-    1000,
-    Some((20, 30)),
-);
+const RECORD_KEPT: After = (reply!(restarted 1001 nothing), 1000, Some((20, 30)));
 
 /// It left its record and a summary.
-const SUMMARY_KEPT: After = (
-    Reply::Restarted {
-        epoch: 1001,
-        last: Last::Nothing,
-    },
-    0,
-    Some((20, 30)),
-);
+const SUMMARY_KEPT: After = (reply!(restarted 1001 nothing), 0, Some((20, 30)));
 
 /// The commit left nothing.
-const COMMIT_LOST: After = (
-    Reply::Restarted {
-        epoch: 1000,
-        last: Last::Lost,
-    },
-    999,
-    Some((20, 30)),
-);
+const COMMIT_LOST: After = (reply!(restarted 1000 lost), 999, Some((20, 30)));
 
 /// It left its record, and no summary.
-const COMMIT_KEPT: After = (
-    Reply::Restarted {
-        epoch: 1000,
-        last: Last::Kept,
-    },
-    1000,
-    Some((0, 50)),
-);
+const COMMIT_KEPT: After = (reply!(restarted 1000 kept), 1000, Some((0, 50)));
 
 /// It left its record and a summary.
-const COMMIT_IN_SUMMARY: After = (
-    Reply::Restarted {
-        epoch: 1000,
-        last: Last::Kept,
-    },
-    0,
-    Some((0, 50)),
-);
+const COMMIT_IN_SUMMARY: After = (reply!(restarted 1000 kept), 0, Some((0, 50)));
 
 #[test]
 fn thousandth_restart_torn_behind_its_record(rt: HostRuntime) {

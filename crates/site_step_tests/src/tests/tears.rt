@@ -11,8 +11,7 @@ pub struct Tear {
     pub first: u32,
     pub end: u32,
     pub before: &'static [Command],
-    pub torn: Command,
-    pub reply: Reply,
+    pub torn: Entry,
 }
 
 /// What the restart behind a torn command says, how many records it replayed, and the shares then.
@@ -70,7 +69,7 @@ pub fn answers_all(alloc: Global, site: &mut Site<TornMedium>, commands: &[Comma
 /// site is down then.
 pub fn tears(alloc: Global, site: &mut Site<TornMedium>, tear: &Tear, bytes: u64) -> bool {
     site.arm(Mishap::Append(bytes));
-    answer(alloc, site, tear.torn) == Some(tear.reply) && !site.is_up()
+    answer(alloc, site, tear.torn.command) == Some(tear.torn.reply) && !site.is_up()
 }
 
 /// What a restart behind the torn command tells, where all before goes as told.

@@ -1,6 +1,7 @@
 //! Logs that no site left, and stops one after another: each expected answer is worked out by hand.
 
 use super::*;
+use check_kit::entry;
 
 /// Logs of site 0, each with the first line that breaks a rule: more than its rights, an epoch that
 /// hasn't begun, a gift to itself, rights past its room, a site that isn't in the schema, a field
@@ -27,22 +28,8 @@ fn opens_over_no_hostile_log(rt: HostRuntime) {
 
 /// All that fits beside the 50 rights of site 0 was accepted.
 const OVER_ALL_THE_ROOM: [Step; 2] = [
-    (
-        Mishap::Never,
-        Command::Restart,
-        Reply::Restarted {
-            epoch: 1,
-            last: Last::Nothing,
-        },
-    ),
-    (
-        Mishap::Never,
-        SHARE,
-        Reply::Shares {
-            lower: 70,
-            raise: 30,
-        },
-    ),
+    (Never, entry!(0 restart -> restarted 1 nothing)),
+    (Never, entry!(0 share stock -> share 70 30)),
 ];
 
 const ALL_THE_ROOM: [Run; 1] = [("A 1 0 l 50\n", &OVER_ALL_THE_ROOM, 2)];
@@ -54,34 +41,20 @@ fn opens_over_all_the_room(rt: HostRuntime) {
 
 /// Each failed restart left its whole record, `R 1` to `R 3`.
 const STOPPED_THREE_TIMES: [Step; 4] = [
-    (Mishap::Append(4), Command::Restart, Reply::StillDown),
-    (Mishap::Append(4), Command::Restart, Reply::StillDown),
-    (Mishap::Append(4), Command::Restart, Reply::StillDown),
-    (
-        Mishap::Never,
-        Command::Restart,
-        Reply::Restarted {
-            epoch: 4,
-            last: Last::Nothing,
-        },
-    ),
+    (Append(4), entry!(0 restart -> still down)),
+    (Append(4), entry!(0 restart -> still down)),
+    (Append(4), entry!(0 restart -> still down)),
+    (Never, entry!(0 restart -> restarted 4 nothing)),
 ];
 
 /// The read fails first, and then the cut.
 const READ_THEN_CUT: [Step; 6] = [
-    (Mishap::Never, Command::Begin, Reply::Begun(FIRST)),
-    (Mishap::Never, TAKE_TWENTY, Reply::Granted),
-    (Mishap::Append(11), COMMIT, Reply::Unsure),
-    (Mishap::Read, Command::Restart, Reply::StillDown),
-    (Mishap::Cut, Command::Restart, Reply::StillDown),
-    (
-        Mishap::Never,
-        Command::Restart,
-        Reply::Restarted {
-            epoch: 1,
-            last: Last::Lost,
-        },
-    ),
+    (Never, entry!(0 begin -> begun 0.1)),
+    (Never, entry!(0 escrow 0.1 stock -20 -> granted)),
+    (Append(11), entry!(0 commit 0.1 -> unsure)),
+    (Read, entry!(0 restart -> still down)),
+    (Cut, entry!(0 restart -> still down)),
+    (Never, entry!(0 restart -> restarted 1 lost)),
 ];
 
 const ONE_AFTER_ANOTHER: [Run; 2] = [("", &STOPPED_THREE_TIMES, 4), ("", &READ_THEN_CUT, 6)];
