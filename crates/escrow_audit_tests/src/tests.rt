@@ -3,17 +3,13 @@
 mod faults;
 mod hostile;
 
+use check_kit::{Narrow, STOCK_OF_TWO, Trickle, broken_behind, same_bytes, text_of_two};
 use escrow_audit::{AuditEnd, ScriptFault, Sink, Source, Watched, audit_text};
 use field_bounds::SchemaFault;
 use std::alloc::{AllocError, Global};
-use std::io;
-use std::io::{Chain, ErrorKind, Read, Repeat, Take, Write};
+use std::io::Read;
 use std::process::Abort;
 use std::thread::Threads;
-
-/// Two sites, which have half of the rights each: lower 20, raise 30.
-const HALVED: &str =
-    "{\"sites\":2,\"fields\":[{\"name\":\"stock\",\"floor\":0,\"ceiling\":100,\"value\":40}]}";
 
 /// How an audit ends.
 type Ended = Result<AuditEnd, ScriptFault>;
@@ -71,16 +67,6 @@ fn check_reader<R: Read + Drop>(
     check_end(rt, end, out.as_slice(), wanted, answer);
 }
 
-/// The lines behind the header of two sites.
-fn text_of(alloc: Global, lines: &[&str]) -> Result<String, AllocError> {
-    let mut text = [HALVED, "\n"].concat(alloc)?;
-    for line in lines {
-        text.push_str(*line)?;
-        text.push_str("\n")?;
-    }
-    Ok(text)
-}
-
 /// Audits lines behind the header of two sites, in one pass and field by field.
 fn check(
     rt: &(impl Abort + Threads + Sync),
@@ -89,7 +75,7 @@ fn check(
     end: AuditEnd,
     answer: &str,
 ) -> Result<(), AllocError> {
-    let text = text_of(alloc, lines)?;
+    let text = text_of_two(alloc, lines)?;
     check_text(rt, alloc, text.as_bytes(), Ok(end), answer);
     Ok(())
 }
@@ -106,51 +92,6 @@ fn check_text(
     check_reader(rt, alloc, true, text, wanted, answer);
 }
 
-/// A reader that gives a byte a read.
-#[derive(Drop)]
-struct Trickle<'a>(&'a [u8]);
-
-impl Read for Trickle<'_> {
-    fn read(&mut self, buf: &mut [u8]) -> io::Result<usize> {
-        let count = buf.len().min(1);
-        self.0.read(&mut buf[..count])
-    }
-}
-
-/// A reader whose every read fails.
-#[derive(Drop)]
-struct Broken(ErrorKind);
-
-impl Read for Broken {
-    fn read(&mut self, _buf: &mut [u8]) -> io::Result<usize> {
-        Err(self.0.into())
-    }
-}
-
-/// A writer that takes so many bytes, one a write, and then fails or takes none.
-#[derive(Drop)]
-struct Narrow {
-    taken: Vec<u8>,
-    room: usize,
-    fails: bool,
-}
-
-impl Write for Narrow {
-    fn write(&mut self, buf: &[u8]) -> io::Result<usize> {
-        if self.room == 0 && self.fails {
-            return Err(ErrorKind::Interrupted.into());
-        }
-        let count = buf.len().min(self.room).min(1);
-        self.taken.extend_from_slice(&buf[..count])?;
-        self.room -= count;
-        Ok(count)
-    }
-
-    fn flush(&mut self) -> io::Result<()> {
-        Ok(())
-    }
-}
-
 /// A transaction, with reads and the shares before and after it.
 const ROW: [&str; 6] = [
     "0 begin -> begun 0.1",
@@ -161,90 +102,61 @@ const ROW: [&str; 6] = [
     "0 read stock -> between 0 50",
 ];
 
+/// Entries, the end of their audit, and what is answered.
+macro_rules! judged {
+    ($($line:expr),* => $end:ident, $answer:literal) => {
+        (&[$($line),*], AuditEnd::$end, $answer)
+    };
+}
+
 /// Entries under two sites, and what is answered.
 const JUDGED: [(&[&str], AuditEnd, &str); 14] = [
-    (&[], AuditEnd::Legal, "legal 0\n"),
+    judged!(=> Legal, "legal 0\n"),
     (&ROW, AuditEnd::Legal, "legal 6\n"),
-    (
-        &["5 begin -> begun 0.1"],
-        AuditEnd::Illegal,
-        "illegal 1 site\n",
+    judged!("5 begin -> begun 0.1" => Illegal, "illegal 1 site\n"),
+    judged!("0 read stock -> between 41 100" => Illegal, "illegal 1 interval\n"),
+    judged!("0 read stock -> between 0 100" => Illegal, "illegal 1 reply\n"),
+    judged!(
+        "0 begin -> begun 0.1",
+        "0 escrow 0.1 stock -21 -> refused 7 short 19"
+        => Illegal, "illegal 2 shortage\n"
     ),
-    (
-        &["0 read stock -> between 41 100"],
-        AuditEnd::Illegal,
-        "illegal 1 interval\n",
+    judged!(
+        "0 begin -> begun 0.1",
+        "0 escrow 0.1 stock -21 -> refused 7 short 20"
+        => Legal, "legal 2\n"
     ),
-    (
-        &["0 read stock -> between 0 100"],
-        AuditEnd::Illegal,
-        "illegal 1 reply\n",
+    judged!(
+        "0 begin -> begun 0.1",
+        "0 escrow 0.1 stock -41 -> granted"
+        => Illegal, "illegal 2 grant\n"
     ),
-    (
-        &[
-            "0 begin -> begun 0.1",
-            "0 escrow 0.1 stock -21 -> refused 7 short 19",
-        ],
-        AuditEnd::Illegal,
-        "illegal 2 shortage\n",
+    judged!(
+        "0 begin -> begun 0.1",
+        "0 escrow 0.1 stock -25 -> granted"
+        => Illegal, "illegal 2 reply\n"
     ),
-    (
-        &[
-            "0 begin -> begun 0.1",
-            "0 escrow 0.1 stock -21 -> refused 7 short 20",
-        ],
-        AuditEnd::Legal,
-        "legal 2\n",
-    ),
-    (
-        &["0 begin -> begun 0.1", "0 escrow 0.1 stock -41 -> granted"],
-        AuditEnd::Illegal,
-        "illegal 2 grant\n",
-    ),
-    (
-        &["0 begin -> begun 0.1", "0 escrow 0.1 stock -25 -> granted"],
-        AuditEnd::Illegal,
-        "illegal 2 reply\n",
-    ),
-    (
-        &["0 begin -> begun 0.1", "hello"],
-        AuditEnd::BadEntry,
-        "bad entry 3\n",
-    ),
+    judged!("0 begin -> begun 0.1", "hello" => BadEntry, "bad entry 3\n"),
     // Each site accepts what the other gives only later.
-    (
-        &[
-            "0 accept 1 0 stock lower 5 -> accepted 5",
-            "0 give 1 stock lower 5 -> given 5",
-            "1 accept 0 1 stock lower 5 -> accepted 5",
-            "1 give 0 stock lower 5 -> given 5",
-        ],
-        AuditEnd::Illegal,
-        "illegal 1 statement\n",
+    judged!(
+        "0 accept 1 0 stock lower 5 -> accepted 5",
+        "0 give 1 stock lower 5 -> given 5",
+        "1 accept 0 1 stock lower 5 -> accepted 5",
+        "1 give 0 stock lower 5 -> given 5"
+        => Illegal, "illegal 1 statement\n"
     ),
     // A statement that nobody issued.
-    (
-        &["1 accept 0 1 stock lower 50 -> accepted 50"],
-        AuditEnd::Illegal,
-        "illegal 1 statement\n",
-    ),
+    judged!("1 accept 0 1 stock lower 50 -> accepted 50" => Illegal, "illegal 1 statement\n"),
     // Two tightenings leave nothing to lower.
-    (
-        &[
-            "0 tighten stock lower 20 -> tightened 20",
-            "1 tighten stock lower 20 -> tightened 20",
-            "0 begin -> begun 0.1",
-            "0 escrow 0.1 stock -1 -> granted",
-        ],
-        AuditEnd::Illegal,
-        "illegal 4 grant\n",
+    judged!(
+        "0 tighten stock lower 20 -> tightened 20",
+        "1 tighten stock lower 20 -> tightened 20",
+        "0 begin -> begun 0.1",
+        "0 escrow 0.1 stock -1 -> granted"
+        => Illegal, "illegal 4 grant\n"
     ),
     // A bad entry goes before every verdict.
-    (
-        &["5 begin -> begun 0.1", ""],
-        AuditEnd::BadEntry,
-        "bad entry 3\n",
-    ),
+    judged!("5 begin -> begun 0.1", "" => BadEntry, "bad entry 3\n"),
 ];
 
 #[test]
@@ -451,7 +363,7 @@ fn check_reads(
 fn takes_a_last_line_without_its_end(rt: HostRuntime) -> Result<(), AllocError> {
     let alloc = rt.alloc();
     for (behind, end, answer) in &LAST_LINES {
-        let text = [HALVED, *behind].concat(alloc)?;
+        let text = [STOCK_OF_TWO, *behind].concat(alloc)?;
         check_reads(&rt, alloc, text.as_bytes(), Ok(*end), *answer);
     }
     Ok(())
@@ -467,11 +379,6 @@ const BAD_HEADERS: [(&str, SchemaFault); 4] = [
         SchemaFault::SiteCount,
     ),
 ];
-
-/// A reader of so many bytes, all the same, behind which every read fails.
-fn same_bytes(byte: u8, count: u64) -> Chain<Take<Repeat>, Broken> {
-    io::repeat(byte).take(count).chain(Broken(ErrorKind::Other))
-}
 
 #[test]
 fn tells_bad_headers(rt: HostRuntime) {
@@ -497,7 +404,7 @@ const LONG_LINES: [(u64, Ended, &str); 3] = [
 #[test]
 fn ends_at_a_long_line(rt: HostRuntime) -> Result<(), AllocError> {
     let alloc = rt.alloc();
-    let text = text_of(alloc, &["0 begin -> begun 0.1"])?;
+    let text = text_of_two(alloc, &["0 begin -> begun 0.1"])?;
     for (bytes, wanted, answer) in &LONG_LINES {
         let reader = text.as_bytes().chain(same_bytes(b'x', *bytes));
         check_reader(&rt, alloc, false, reader, *wanted, *answer);
@@ -509,7 +416,7 @@ fn ends_at_a_long_line(rt: HostRuntime) -> Result<(), AllocError> {
 fn keeps_the_limit_of_lines(rt: HostRuntime) -> Result<(), AllocError> {
     let alloc = rt.alloc();
     let lines = "bad line\n".repeat(alloc, 999_999)?;
-    let text = [HALVED, "\n", lines.as_str()].concat(alloc)?;
+    let text = [STOCK_OF_TWO, "\n", lines.as_str()].concat(alloc)?;
     let bytes = text.as_bytes();
     check_reader(&rt, alloc, false, bytes, Ok(AuditEnd::Legal), "legal 0\n");
     let longer = bytes.chain(b"x".as_slice());
@@ -520,19 +427,14 @@ fn keeps_the_limit_of_lines(rt: HostRuntime) -> Result<(), AllocError> {
 /// Behind each byte of a text a read fails.
 fn check_fronts(rt: &(impl Abort + Threads + Sync), alloc: Global, text: &[u8]) {
     for count in 0..=text.len() {
-        let kind = if count % 2 == 0 {
-            ErrorKind::Interrupted
-        } else {
-            ErrorKind::Other
-        };
-        let reader = Trickle(&text[..count]).chain(Broken(kind));
+        let reader = broken_behind(&text[..count]);
         check_reader(rt, alloc, false, reader, READ_FAULT, "");
     }
 }
 
 #[test]
 fn ends_where_a_read_fails(rt: HostRuntime) -> Result<(), AllocError> {
-    let text = text_of(rt.alloc(), &ROW)?;
+    let text = text_of_two(rt.alloc(), &ROW)?;
     check_fronts(&rt, rt.alloc(), text.as_bytes());
     Ok(())
 }
@@ -544,13 +446,9 @@ fn audit_narrow(
     text: &[u8],
     room: usize,
 ) -> (Ended, Vec<u8>) {
-    let mut writer = Watched::new(Narrow {
-        taken: Vec::new(alloc),
-        room,
-        fails: room % 2 == 0,
-    });
+    let mut writer = Watched::new(Narrow::new(alloc, room));
     let end = ended(rt, alloc, false, &mut Watched::new(text), &mut writer);
-    (end, writer.into_inner().taken)
+    (end, writer.into_inner().into_taken())
 }
 
 /// Behind each byte of the answer a write fails.
@@ -565,7 +463,7 @@ fn check_rooms(rt: &(impl Abort + Threads + Sync), alloc: Global, text: &[u8]) {
 
 #[test]
 fn ends_where_a_write_fails(rt: HostRuntime) -> Result<(), AllocError> {
-    let text = text_of(rt.alloc(), &ROW)?;
+    let text = text_of_two(rt.alloc(), &ROW)?;
     check_rooms(&rt, rt.alloc(), text.as_bytes());
     Ok(())
 }

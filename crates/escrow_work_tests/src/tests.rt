@@ -1,18 +1,13 @@
 //! What no clause says: the texts, honest works, and readers and writers that fail.
 
+use check_kit::{Narrow, broken_behind, same_bytes, text_of_two};
 use escrow_work::{ScriptFault, Watched, WorkFault, work_text};
 use field_bounds::SchemaFault;
-use std::alloc::{AllocError, Global};
-use std::io;
-use std::io::{ErrorKind, Read, Write};
-use std::process::Abort;
+use std::alloc::Global;
+use std::io::Read;
 use std::sync::Wait;
 use std::test::Fail;
 use std::thread::Threads;
-
-/// Two sites, which have half of the rights each: lower 20, raise 30.
-const HALVED: &str =
-    "{\"sites\":2,\"fields\":[{\"name\":\"stock\",\"floor\":0,\"ceiling\":100,\"value\":40}]}";
 
 /// How a work over a reader ended, and what it wrote.
 fn work<R: Read + Drop>(
@@ -23,25 +18,6 @@ fn work<R: Read + Drop>(
     let mut writer = Watched::new(Vec::new(alloc));
     let end = work_text(rt, alloc, &mut Watched::new(reader), &mut writer);
     (end, writer.into_inner())
-}
-
-/// A text of these parts.
-fn joined(alloc: Global, parts: &[&str]) -> Result<String, AllocError> {
-    let mut text = String::new(alloc);
-    for part in parts {
-        text.push_str(*part)?;
-    }
-    Ok(text)
-}
-
-/// The lines behind the header of two sites.
-fn text_of(alloc: Global, lines: &[&str]) -> Result<String, AllocError> {
-    let mut text = joined(alloc, &[HALVED, "\n"])?;
-    for line in lines {
-        text.push_str(*line)?;
-        text.push_str("\n")?;
-    }
-    Ok(text)
 }
 
 /// Works that have one trace, and that trace.
@@ -87,9 +63,9 @@ const WORKS: [(&[&str], &[&str]); 4] = [
 fn writes_what_the_sites_do(rt: HostRuntime) -> Result<(), Fail> {
     let alloc = rt.alloc();
     for (lines, entries) in &WORKS {
-        let (end, out) = work(&rt, alloc, text_of(alloc, *lines)?.as_bytes());
+        let (end, out) = work(&rt, alloc, text_of_two(alloc, *lines)?.as_bytes());
         assert_eq!(rt; end, Ok(()));
-        let wanted = text_of(alloc, *entries)?;
+        let wanted = text_of_two(alloc, *entries)?;
         assert_eq!(rt; str::from_utf8(out.as_slice()), Ok(wanted.as_str()));
     }
     Ok(())
@@ -107,7 +83,7 @@ fn count(text: &[u8], ending: &str) -> (usize, usize) {
 #[test]
 fn gifts_go_both_ways(rt: HostRuntime) -> Result<(), Fail> {
     let alloc = rt.alloc();
-    let mut text = joined(alloc, &[HALVED, "\n"])?;
+    let mut text = text_of_two(alloc, &[])?;
     for _ in 0..10 {
         text.push_str("0 give 1 stock lower 1\n1 give 0 stock lower 1\n")?;
     }
@@ -140,7 +116,7 @@ fn tells_the_first_bad_line(rt: HostRuntime) -> Result<(), Fail> {
     let alloc = rt.alloc();
     for line in &BAD {
         for (lines, number) in [([*line, "0 begin"], 2), (["0 begin", *line], 3)] {
-            let (end, out) = work(&rt, alloc, text_of(alloc, &lines)?.as_bytes());
+            let (end, out) = work(&rt, alloc, text_of_two(alloc, &lines)?.as_bytes());
             assert_eq!(rt; end, Err(ScriptFault::BadLine(number)));
             assert_eq!(rt; out.len(), 0);
         }
@@ -152,12 +128,9 @@ fn tells_the_first_bad_line(rt: HostRuntime) -> Result<(), Fail> {
 #[test]
 fn ends_at_a_long_line(rt: HostRuntime) -> Result<(), Fail> {
     let alloc = rt.alloc();
-    let header = joined(alloc, &[HALVED, "\n0 begin\n"])?;
+    let header = text_of_two(alloc, &["0 begin"])?;
     for (bytes, fault) in [(256, ScriptFault::Read), (257, ScriptFault::BadLine(3))] {
-        let reader = header
-            .as_bytes()
-            .chain(io::repeat(b'x').take(bytes))
-            .chain(Broken(ErrorKind::Other));
+        let reader = header.as_bytes().chain(same_bytes(b'x', bytes));
         let (end, out) = work(&rt, alloc, reader);
         assert_eq!(rt; end, Err(fault));
         assert_eq!(rt; out.len(), 0);
@@ -181,62 +154,12 @@ fn tells_bad_headers(rt: HostRuntime) -> Result<(), Fail> {
     Ok(())
 }
 
-/// A reader that gives a byte a read.
-#[derive(Drop)]
-struct Trickle<'a>(&'a [u8]);
-
-impl Read for Trickle<'_> {
-    fn read(&mut self, buf: &mut [u8]) -> io::Result<usize> {
-        let count = buf.len().min(1);
-        self.0.read(&mut buf[..count])
-    }
-}
-
-/// A reader whose every read fails.
-#[derive(Drop)]
-struct Broken(ErrorKind);
-
-impl Read for Broken {
-    fn read(&mut self, _buf: &mut [u8]) -> io::Result<usize> {
-        Err(self.0.into())
-    }
-}
-
-/// A writer that takes so many bytes, one a write, and then fails or takes none.
-#[derive(Drop)]
-struct Narrow {
-    taken: Vec<u8>,
-    room: usize,
-    fails: bool,
-}
-
-impl Write for Narrow {
-    fn write(&mut self, buf: &[u8]) -> io::Result<usize> {
-        if self.room == 0 && self.fails {
-            return Err(ErrorKind::Interrupted.into());
-        }
-        let count = buf.len().min(self.room).min(1);
-        self.taken.extend_from_slice(&buf[..count])?;
-        self.room -= count;
-        Ok(count)
-    }
-
-    fn flush(&mut self) -> io::Result<()> {
-        Ok(())
-    }
-}
-
 #[test]
 fn ends_where_a_read_fails(rt: HostRuntime) -> Result<(), Fail> {
     let alloc = rt.alloc();
-    let text = text_of(alloc, &["0 give 1 stock lower 5"])?;
+    let text = text_of_two(alloc, &["0 give 1 stock lower 5"])?;
     for count in 0..=text.len() {
-        let kind = if count % 2 == 0 {
-            ErrorKind::Interrupted
-        } else {
-            ErrorKind::Other
-        };
-        let reader = Trickle(&text.as_bytes()[..count]).chain(Broken(kind));
+        let reader = broken_behind(&text.as_bytes()[..count]);
         let (end, out) = work(&rt, alloc, reader);
         assert_eq!(rt; end, Err(ScriptFault::Read));
         assert_eq!(rt; out.len(), 0);
@@ -247,14 +170,10 @@ fn ends_where_a_read_fails(rt: HostRuntime) -> Result<(), Fail> {
 #[test]
 fn ends_where_a_write_fails(rt: HostRuntime) -> Result<(), Fail> {
     let alloc = rt.alloc();
-    let text = text_of(alloc, &["0 begin"])?;
-    let wanted = text_of(alloc, &["0 begin -> begun 0.1"])?;
+    let text = text_of_two(alloc, &["0 begin"])?;
+    let wanted = text_of_two(alloc, &["0 begin -> begun 0.1"])?;
     for room in 0..=wanted.len() {
-        let mut writer = Watched::new(Narrow {
-            taken: Vec::new(alloc),
-            room,
-            fails: room % 2 == 0,
-        });
+        let mut writer = Watched::new(Narrow::new(alloc, room));
         let end = work_text(&rt, alloc, &mut Watched::new(text.as_bytes()), &mut writer);
         if room < wanted.len() {
             assert_eq!(rt; end, Err(ScriptFault::Write));
@@ -262,7 +181,7 @@ fn ends_where_a_write_fails(rt: HostRuntime) -> Result<(), Fail> {
             assert_eq!(rt; end, Ok(()));
         }
         assert_eq!(rt;
-            writer.into_inner().taken.as_slice(),
+            writer.into_inner().into_taken().as_slice(),
             &wanted.as_bytes()[..room]
         );
     }

@@ -2,7 +2,8 @@ ghost use Rattle.std.specs.Prelude.{◌≡◌, ◌<◌};
 
 mod threads;
 
-use field_bounds::{Command, FieldNo, Reply, Schema, SiteNo, TxnId};
+use check_kit::{command, reply, stock_of_two};
+use field_bounds::{Command, Reply, SiteNo};
 use kept_records::MemoryMedium;
 use site_desk::*;
 use std::alloc::Global;
@@ -13,22 +14,6 @@ use std::sync::atomic::{AtomicU64, Ordering};
 use std::sync::ledger::Ledger;
 use std::thread;
 use std::thread::Threads;
-
-const STOCK: FieldNo = FieldNo(0);
-
-const FIRST: TxnId = TxnId {
-    epoch: 0,
-    number: 1,
-};
-
-/// Two sites, and one field from 0 to 100 at 40: each site begins with 20 rights to lower it and 30
-/// to raise it.
-const STOCK_OF_TWO: &str =
-    r#"{"sites":2,"fields":[{"name":"stock","floor":0,"ceiling":100,"value":40}]}"#;
-
-fn stock_of_two(alloc: Global) -> Option<Schema> {
-    Schema::from_header(alloc, STOCK_OF_TWO.as_bytes()).ok()
-}
 
 /// A medium that holds these bytes.
 fn medium_over(alloc: Global, bytes: &[u8]) -> Option<MemoryMedium> {
@@ -81,14 +66,10 @@ fn served<L: Ledger, R: Wait>(
 
 /// The four calls.
 const FOUR: [Command; 4] = [
-    Command::Begin,
-    Command::Escrow {
-        txn: FIRST,
-        field: STOCK,
-        change: -20,
-    },
-    Command::Commit { txn: FIRST },
-    Command::Share { field: STOCK },
+    command!(begin),
+    command!(escrow 0.1 stock -20),
+    command!(commit 0.1),
+    command!(share stock),
 ];
 
 /// Whether the desk answers a begin, an escrow, a commit and a share with the first pass.
@@ -209,11 +190,7 @@ fn assert_four(rt: &impl Abort, shown: &Shown) {
     assert!(rt; shown.served && shown.fresh);
     assert_eq!(rt; shown.entries, 4);
     assert_eq!(rt; shown.misnumbered, None);
-    let shares = Reply::Shares {
-        lower: 0,
-        raise: 50,
-    };
-    assert_eq!(rt; shown.last, Some(shares));
+    assert_eq!(rt; shown.last, Some(reply!(share 0 50)));
     assert_eq!(rt; shown.verdict, Ok(()));
 }
 

@@ -4,7 +4,8 @@ ghost use Rattle.std.specs.Prelude.{◌≡◌, ◌<◌};
 ghost use Rattle.crossbeam_channel.specs.Claims.{IsSeatAt};
 ghost use Rattle.crossbeam_channel.specs.Ends.{receives_on};
 
-use field_bounds::{Command, Entry, FieldNo, Kind, Reply, Schema, SiteNo, Statement};
+use check_kit::{Meeting, STOCK, comes, entry, reply, schema_of, statement, stock_of_two};
+use field_bounds::{Command, Entry, Kind, Schema, SiteNo, Statement};
 use kept_records::MemoryMedium;
 use site_desk::{Blank, Desk, FreeGate, Gate, Receipt};
 use site_workers::inbox::{admit, hire, open_inbox, put};
@@ -16,23 +17,9 @@ use std::sync::atomic::{AtomicU64, Ordering};
 use std::sync::ledger::Ledger;
 use std::thread::Threads;
 
-const STOCK: FieldNo = FieldNo(0);
-
-/// A field from 0 to 100 at 40, at two sites: each begins with 20 rights to lower it.
-const STOCK_OF_TWO: &str =
-    r#"{"sites":2,"fields":[{"name":"stock","floor":0,"ceiling":100,"value":40}]}"#;
-
 /// A field from 0 to 10,000 at 4,000, at 16 sites.
 const STOCK_OF_SIXTEEN: &str =
     r#"{"sites":16,"fields":[{"name":"stock","floor":0,"ceiling":10000,"value":4000}]}"#;
-
-fn schema_of(alloc: Global, header: &str) -> Option<Schema> {
-    Schema::from_header(alloc, header.as_bytes()).ok()
-}
-
-fn stock_of_two(alloc: Global) -> Option<Schema> {
-    schema_of(alloc, STOCK_OF_TWO)
-}
 
 /// A gift of one right to lower.
 fn gift(to: u16) -> Command {
@@ -81,34 +68,16 @@ fn gives(answer: Option<Result<Vec<Vec<Entry>>, WorkFault>>, sites: usize, entri
 #[test]
 fn a_gift_comes_to_its_receiver(rt: HostRuntime) -> Result<(), AllocError> {
     let alloc = rt.alloc();
-    let give = Command::Give {
-        to: SiteNo(1),
-        field: STOCK,
-        kind: Kind::Lower,
-        amount: 5,
-    };
-    let scripts = vec![in alloc; vec![in alloc; give]?, Vec::new(alloc)]?;
+    let given = entry!(0 give 1 stock lower 5 -> given 5);
+    let accepted = entry!(1 accept 0 1 stock lower 5 -> accepted 5);
+    let scripts = vec![in alloc; vec![in alloc; given.command]?, Vec::new(alloc)]?;
     let answer = run(&rt, alloc, stock_of_two(alloc), scripts, &FreeGate);
-    let given = Entry {
-        site: SiteNo(0),
-        command: give,
-        reply: Reply::Given { total: 5 },
-    };
-    let accepted = Entry {
-        site: SiteNo(1),
-        command: Command::Accept(FIVE),
-        reply: Reply::Accepted { gain: 5 },
-    };
     let as_told = match answer {
-        Some(Ok(histories)) => {
-            histories.len() == 2
-                && histories
-                    .get(0)
-                    .is_some_and(|history| history.as_slice() == [given].as_slice())
-                && histories
-                    .get(1)
-                    .is_some_and(|history| history.as_slice() == [accepted].as_slice())
-        }
+        Some(Ok(histories)) => match histories.as_slice() {
+            [zero, one] => zero.as_slice() == [given].as_slice()
+                && one.as_slice() == [accepted].as_slice(),
+            _ => false,
+        },
         _ => false,
     };
     assert!(&rt; as_told);
@@ -116,13 +85,7 @@ fn a_gift_comes_to_its_receiver(rt: HostRuntime) -> Result<(), AllocError> {
 }
 
 /// What site 0 states when it has given 5 rights to lower to site 1.
-const FIVE: Statement = Statement {
-    from: SiteNo(0),
-    to: SiteNo(1),
-    field: STOCK,
-    kind: Kind::Lower,
-    total: 5,
-};
+const FIVE: Statement = statement!(0 1 stock lower 5);
 
 #[test]
 fn gifts_go_both_ways(rt: HostRuntime) -> Result<(), AllocError> {
@@ -151,38 +114,15 @@ fn sixteen_sites_give_in_a_ring(rt: HostRuntime) -> Result<(), AllocError> {
     Ok(())
 }
 
-/// A gate whose first call at each of two sites waits, as long as it takes to turn so many times,
-/// until the other site's first call is there too.
+/// A gate at which the first calls of two sites meet.
 #[derive(Drop)]
-struct Both {
-    zero: AtomicU64,
-    one: AtomicU64,
-}
-
-/// Whether the mark is set while turning so many times.
-fn comes(mark: &AtomicU64) -> bool {
-    for _turn in 0..100_000_000u64 {
-        if mark.load(Ordering::SeqCst) == 1 {
-            return true;
-        }
-    }
-    false
-}
+struct Both(Meeting);
 
 impl Gate for Both {
     ghost turns = { λ gate site call. Unit {0} };
 
     fn inside(&self, site: SiteNo, call: u64) -> bool {
-        if call != 1 {
-            return true;
-        }
-        let (own, other) = if site == SiteNo(0) {
-            (&self.zero, &self.one)
-        } else {
-            (&self.one, &self.zero)
-        };
-        own.store(1, Ordering::SeqCst);
-        comes(other)
+        self.0.meets(site, call)
     }
 
     fn answered(&self, _site: SiteNo, _call: u64) {}
@@ -192,16 +132,14 @@ impl Gate for Both {
 fn two_sites_work_at_the_same_time(rt: HostRuntime) -> Result<(), AllocError> {
     let alloc = rt.alloc();
     let scripts = vec![in alloc; begin(alloc)?, begin(alloc)?]?;
-    let gate = Both {
-        zero: AtomicU64::new(0),
-        one: AtomicU64::new(0),
-    };
+    let gate = Both(Meeting::new());
     let answer = run(&rt, alloc, stock_of_two(alloc), scripts, &gate);
     assert!(&rt; gives(answer, 2, 1));
     Ok(())
 }
 
-/// A gate whose first call at site 0 waits, as long, until site 1's first call was answered.
+/// A gate whose first call at site 0 waits until site 1's first call was answered, as long as it takes
+/// to turn so many times.
 #[derive(Drop)]
 struct After {
     answered: AtomicU64,
@@ -211,7 +149,7 @@ impl Gate for After {
     ghost turns = { λ gate site call. Unit {0} };
 
     fn inside(&self, site: SiteNo, call: u64) -> bool {
-        site != SiteNo(0) || call != 1 || comes(&self.answered)
+        site != SiteNo(0) || call != 1 || comes(&self.answered, 100_000_000)
     }
 
     fn answered(&self, site: SiteNo, call: u64) {
@@ -338,9 +276,9 @@ fn a_courier_accepts_what_is_stated(rt: HostRuntime) {
     let accepted = match answer {
         Some(Ok(receipts)) => {
             receipts.len() == 1
-                && receipts.get(0).is_some_and(|receipt| {
-                    receipt.entry().reply == Reply::Accepted { gain: 5 }
-                })
+                && receipts
+                    .get(0)
+                    .is_some_and(|receipt| { receipt.entry().reply == reply!(accepted 5) })
         }
         _ => false,
     };

@@ -1,11 +1,12 @@
 //! Input without end, and a reader that is interrupted once.
 
-use super::{HALVED, READ_FAULT, ROW, check_reader, text_of};
+use super::{READ_FAULT, ROW, check_reader};
+use check_kit::{InterruptedReader, text_of_two};
 use escrow_audit::{AuditEnd, ScriptFault};
 use field_bounds::SchemaFault;
 use std::alloc::{AllocError, Global};
 use std::io;
-use std::io::{ErrorKind, Read};
+use std::io::Read;
 use std::process::Abort;
 use std::thread::Threads;
 
@@ -31,48 +32,23 @@ fn check_endless(rt: &(impl Abort + Threads + Sync), alloc: Global, header: &[u8
 // An empty line and one past its limit are bad entries.
 #[test]
 fn ends_lines_without_end(rt: HostRuntime) -> Result<(), AllocError> {
-    let header = [HALVED, "\n"].concat(rt.alloc())?;
+    let header = text_of_two(rt.alloc(), &[])?;
     check_endless(&rt, rt.alloc(), header.as_bytes(), b'\n');
     check_endless(&rt, rt.alloc(), header.as_bytes(), b'x');
     Ok(())
 }
 
-/// A reader that is interrupted once, between two parts, and would answer the next read.
-#[derive(Drop)]
-struct InterruptedReader<'a> {
-    before: &'a [u8],
-    behind: &'a [u8],
-    was_interrupted: bool,
-}
-
-impl Read for InterruptedReader<'_> {
-    fn read(&mut self, buf: &mut [u8]) -> io::Result<usize> {
-        if !self.before.is_empty() {
-            return self.before.read(buf);
-        }
-        if !self.was_interrupted {
-            self.was_interrupted = true;
-            return Err(ErrorKind::Interrupted.into());
-        }
-        self.behind.read(buf)
-    }
-}
-
 /// Behind each byte of a text a read is interrupted.
 fn check_interrupted(rt: &(impl Abort + Threads + Sync), alloc: Global, text: &[u8]) {
     for count in 0..=text.len() {
-        let reader = InterruptedReader {
-            before: &text[..count],
-            behind: &text[count..],
-            was_interrupted: false,
-        };
+        let reader = InterruptedReader::new(&text[..count], &text[count..]);
         check_reader(rt, alloc, false, reader, READ_FAULT, "");
     }
 }
 
 #[test]
 fn reads_no_more_once_interrupted(rt: HostRuntime) -> Result<(), AllocError> {
-    let text = text_of(rt.alloc(), &ROW)?;
+    let text = text_of_two(rt.alloc(), &ROW)?;
     check_interrupted(&rt, rt.alloc(), text.as_bytes());
     Ok(())
 }

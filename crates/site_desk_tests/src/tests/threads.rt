@@ -3,6 +3,7 @@
 ghost use Rattle.std.specs.Prelude.{◌≡◌, ◌<◌};
 
 use super::*;
+use check_kit::{Meeting, comes, command};
 
 /// Whether a begin is answered, and an abort of what was begun.
 fn begins_and_aborts<L: Ledger, R: Wait>(
@@ -176,36 +177,13 @@ fn two_threads_call_one_desk(rt: HostRuntime) {
     }
 }
 
-/// Whether the mark is set while turning so many times.
-fn comes(mark: &AtomicU64, turns: u64) -> bool {
-    for _turn in 0..turns {
-        if mark.load(Ordering::SeqCst) == 1 {
-            return true;
-        }
-    }
-    false
-}
-
-/// A gate whose first call at each of two sites waits, as long as it takes to turn so many times,
-/// until the other site's first call is there too.
+/// A gate at which the first calls of two sites meet.
 #[derive(Drop)]
-struct Both {
-    zero: AtomicU64,
-    one: AtomicU64,
-}
+struct Both(Meeting);
 
 impl Gate for Both {
     fn inside(&self, site: SiteNo, call: u64) -> bool {
-        if call != 1 {
-            return true;
-        }
-        let (own, other) = if site == SiteNo(0) {
-            (&self.zero, &self.one)
-        } else {
-            (&self.one, &self.zero)
-        };
-        own.store(1, Ordering::SeqCst);
-        comes(other, 100_000_000)
+        self.0.meets(site, call)
     }
 
     fn answered(&self, _site: SiteNo, _call: u64) {}
@@ -331,7 +309,7 @@ fn read_at<L: Ledger, R: Wait>(
     passes: &mut [Pass<L>],
     gate: &Both,
 ) -> Option<Receipt> {
-    let read = Command::Read { field: STOCK };
+    let read = command!(read stock);
     desk.call_at(rt, alloc, passes.first_mut()?, read, gate)
         .ok()
 }
@@ -396,10 +374,7 @@ fn verdicts(alloc: Global, read: Read, foreign: Option<Receipt>) -> Verdicts {
 #[test]
 fn two_desks_are_called_at_the_same_time(rt: HostRuntime) {
     let alloc = rt.alloc();
-    let gate = Both {
-        zero: AtomicU64::new(0),
-        one: AtomicU64::new(0),
-    };
+    let gate = Both(Meeting::new());
     let shared = &gate;
     let handle = &rt;
     let (zero, foreign) = thread::join(
