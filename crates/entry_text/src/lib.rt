@@ -7,15 +7,15 @@
 
 mod append;
 mod command;
-mod display;
 mod entry;
 mod laws;
 mod refusal;
 mod reply;
+mod spelling;
 mod word;
 mod writing;
 
-pub use append::append_reply;
+pub use append::{append_entry, append_reply};
 pub use command::read_command;
 pub use entry::read_entry;
 pub use laws::texts_are_lines;
@@ -23,7 +23,7 @@ pub use line_words::{read_number, read_signed};
 pub use word::{
     Fields, expect, field_at, kind_at, number_at, read_field, read_kind, signed_at, site_at,
 };
-pub use writing::{append_entry, write_command, write_entry};
+pub use writing::{write_command, write_entry};
 
 /// The most bytes of a line, without its line feed.
 pub const MAX_LINE: usize = 256;

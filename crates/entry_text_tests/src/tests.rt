@@ -499,34 +499,28 @@ fn refuses_other_restarts(rt: HostRuntime) -> Result<(), Fail> {
 }
 
 /// Appends the entry of the first begin at site 1, and again.
-fn append_twice(out: &mut Vec<u8>, text: &mut String, schema: &Schema) -> Result<(), AllocError> {
+fn append_twice(out: &mut Vec<u8>, schema: &Schema) -> Result<(), AllocError> {
     let entry = Entry {
         site: SiteNo(1),
         command: Command::Begin,
         reply: Reply::Begun(FIRST),
     };
-    append_entry(out, text, schema, entry)?;
-    append_entry(out, text, schema, entry)
+    append_entry(out, schema, entry)?;
+    append_entry(out, schema, entry)
 }
 
 #[test]
 fn appends_entries(rt: HostRuntime) -> Result<(), Fail> {
     let alloc = rt.alloc();
     let schema = stock(&rt, alloc)?;
-    let mut text = String::new(alloc);
     let mut out = vec![in alloc; b'#']?;
-    append_twice(&mut out, &mut text, &schema)?;
+    append_twice(&mut out, &schema)?;
     assert!(rt; out.as_slice() == b"#1 begin -> begun 0.11 begin -> begun 0.1".as_slice());
     Ok(())
 }
 
 /// Appends the entry of an acceptance at site 1 of 5 lowering rights on this field.
-fn append_acceptance(
-    out: &mut Vec<u8>,
-    text: &mut String,
-    schema: &Schema,
-    field: FieldNo,
-) -> Result<(), AllocError> {
+fn append_acceptance(out: &mut Vec<u8>, schema: &Schema, field: FieldNo) -> Result<(), AllocError> {
     let entry = Entry {
         site: SiteNo(1),
         command: Command::Accept(Statement {
@@ -538,18 +532,17 @@ fn append_acceptance(
         }),
         reply: Reply::Accepted { gain: 5 },
     };
-    append_entry(out, text, schema, entry)
+    append_entry(out, schema, entry)
 }
 
 #[test]
 fn appends_acceptances(rt: HostRuntime) -> Result<(), Fail> {
     let alloc = rt.alloc();
     let schema = stock(&rt, alloc)?;
-    let mut text = String::new(alloc);
     let mut out = Vec::new(alloc);
-    append_acceptance(&mut out, &mut text, &schema, STOCK)?;
+    append_acceptance(&mut out, &schema, STOCK)?;
     out.push(b'/')?;
-    append_acceptance(&mut out, &mut text, &schema, FieldNo(300))?;
+    append_acceptance(&mut out, &schema, FieldNo(300))?;
     let named = b"1 accept 0 1 stock lower 25 -> accepted 5/";
     let unnamed = b"1 accept 0 1 #300 lower 25 -> accepted 5";
     assert!(rt; out.starts_with(named.as_slice()));

@@ -13,7 +13,7 @@ use crate::reading::{Found, read_entries};
 use central_machine::{judge, judge_fields};
 use central_rules::{Rule, Verdict};
 use field_bounds::{Entry, Schema};
-use script_input::{ScriptFault, Sink, Source};
+use script_input::{ScriptFault, Sink, Source, write_out};
 use std::alloc::{AllocError, Global};
 use std::thread::Threads;
 
@@ -133,21 +133,6 @@ fn answer<R: Source>(
         }
         Found::BadEntry(number) => Ok((AuditEnd::BadEntry, bad_entry_line(alloc, number)?)),
     }
-}
-
-// Writes what is answered.
-fn write_out<W: Sink>(writer: &mut W, bytes: &[u8]) -> Result<(), ScriptFault>
-    ensures ok { OnOk result (Appends (W.bytes writer.old) (W.bytes writer.new) bytes.now) }
-    ensures front { OnErr result (AppendsPrefix (W.bytes writer.old) (W.bytes writer.new)
-        bytes.now) }
-    ensures fault { IfErr result (λ fault. fault ≡ ScriptFault.Write) }
-    ensures refused { OnErr result (HasRefused (W.last writer.new)) }
-    ensures writes { CountsWrites result (W.refusals writer.old) (W.refusals writer.new) }
-{
-    if writer.write_all(bytes).is_err() {
-        return Err(ScriptFault::Write);
-    }
-    Ok(())
 }
 
 /// Audits what a run wrote: whether its entries are a run of one central escrow store in which each

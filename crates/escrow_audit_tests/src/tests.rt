@@ -3,13 +3,14 @@
 mod faults;
 mod hostile;
 
-use check_kit::{Narrow, STOCK_OF_TWO, Trickle, broken_behind, same_bytes, text_of_two};
+use check_kit::{STOCK_OF_TWO, text_of_two};
 use escrow_audit::{AuditEnd, ScriptFault, Sink, Source, Watched, audit_text};
 use field_bounds::SchemaFault;
 use std::alloc::{AllocError, Global};
 use std::io::Read;
 use std::process::Abort;
 use std::thread::Threads;
+use stream_kit::{Narrow, Trickle, broken_behind, same_bytes};
 
 /// How an audit ends.
 type Ended = Result<AuditEnd, ScriptFault>;

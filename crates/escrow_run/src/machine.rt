@@ -60,10 +60,9 @@ fn add_remark(out: &mut Vec<u8>, k: u64) -> Result<(), AllocError>
 }
 
 // Adds the text of the entry that a step made, and an LF. What the step asked of a site isn't
-// spelled again where it is spelled already; else the text is made in `text`, whatever that held.
+// spelled again where it is spelled already.
 fn add_made(
     out: &mut Vec<u8>,
-    text: &mut String,
     schema: &Schema,
     spelled: Option<&[u8]>,
     entry: Entry,
@@ -79,21 +78,16 @@ fn add_made(
             out.extend_from_slice(command)?;
             out.extend_from_slice(b" -> ")?;
             append_reply(out, entry.reply)?;
-            out.extend_from_slice(b"\n")
         }
-        None => {
-            append_entry(out, text, schema, entry)?;
-            out.extend_from_slice(b"\n")
-        }
+        None => append_entry(out, schema, entry)?,
     }
+    out.extend_from_slice(b"\n")
 }
 
 /// The world under the schema of a header line.
 #[derive(Drop)]
 pub(crate) struct Machine {
     world: World,
-    // The text of the last entry that was spelled whole; its memory is used again.
-    text: String,
 }
 
 impl Machine {
@@ -109,7 +103,6 @@ impl Machine {
     {
         Ok(Machine {
             world: World::new(alloc, schema)?,
-            text: String::new(alloc),
         })
     }
 
@@ -129,9 +122,7 @@ impl Machine {
         ensures err { OnErr result (take (length out.old.items) out.new.items ≡ out.old.items) }
     {
         match self.world.step(alloc, step)? {
-            StepReply::Made(entry) => {
-                add_made(out, &mut self.text, self.world.schema(), spelled, entry)
-            }
+            StepReply::Made(entry) => add_made(out, self.world.schema(), spelled, entry),
             StepReply::NoStatement => match *step {
                 WorldStep::Do { .. } => unreachable!(),
                 WorldStep::Deliver { k, .. } => add_remark(out, k),

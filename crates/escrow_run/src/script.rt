@@ -7,7 +7,7 @@ ghost use Rattle.script_input.specs.Streams.{HasFailed, GaveNothing, HasRefused}
 
 use crate::machine::{Machine, add_line};
 use entry_text::MAX_LINE;
-use script_input::{LineReader, NextLine, PIECE, ScriptFault, Sink, Source};
+use script_input::{LineReader, NextLine, PIECE, ScriptFault, Sink, Source, write_out};
 use std::alloc::Global;
 
 // The reader of lines, the world, and what is to be written.
@@ -61,9 +61,7 @@ impl Script {
         ensures refused { OnErr result (HasRefused (W.last writer.new)) }
         ensures writes { CountsWrites result (W.refusals writer.old) (W.refusals writer.new) }
     {
-        if writer.write_all(self.out.as_slice()).is_err() {
-            return Err(ScriptFault::Write);
-        }
+        write_out(writer, self.out.as_slice())?;
         self.out.clear();
         Ok(())
     }

@@ -14,7 +14,7 @@ mod levels;
 mod reaches;
 mod worked;
 
-use check_kit::{Narrow, STOCK_OF_TWO, add, broken_behind, joined, same_bytes};
+use check_kit::{STOCK_OF_TWO, add, joined};
 use escrow_run::{End, ScriptFault, Watched, run_script};
 use field_bounds::SchemaFault;
 use itoa::Buffer;
@@ -22,6 +22,7 @@ use std::alloc::{AllocError, Global};
 use std::io;
 use std::io::Read;
 use std::process::Abort;
+use stream_kit::{Narrow, broken_behind, same_bytes};
 
 const HEADER: &str =
     "{\"sites\":1,\"fields\":[{\"name\":\"stock\",\"floor\":0,\"ceiling\":100,\"value\":40}]}";

@@ -13,26 +13,20 @@ use crate::scripts::Scripts;
 use crate::woven::work_woven;
 use entry_text::append_entry;
 use field_bounds::{Entry, Schema};
-use script_input::{ScriptFault, Sink, Source};
+use script_input::{ScriptFault, Sink, Source, write_out};
 use site_desk::FreeGate;
 use std::alloc::{AllocError, Global};
 use std::sync::Wait;
 use std::thread::Threads;
 
 // The header line, and a line for each entry.
-fn text_of(
-    alloc: Global,
-    schema: &Schema,
-    header: Vec<u8>,
-    entries: &[Entry],
-) -> Result<Vec<u8>, AllocError>
+fn text_of(schema: &Schema, header: Vec<u8>, entries: &[Entry]) -> Result<Vec<u8>, AllocError>
     ensures { IfOk result (λ text. text.items ≡ work_text schema.now header.items entries.now) }
 {
     let mut out = header;
     out.push(b'\n')?;
-    let mut line = String::new(alloc);
     for entry in entries {
-        append_entry(&mut out, &mut line, schema, *entry)?;
+        append_entry(&mut out, schema, *entry)?;
         out.push(b'\n')?;
     }
     Ok(out)
@@ -56,7 +50,7 @@ fn made(
         rows,
     } = scripts;
     let entries = work_woven(rt, alloc, &schema, rows, &FreeGate)?;
-    Ok(text_of(alloc, &schema, header, entries.as_slice())?)
+    Ok(text_of(&schema, header, entries.as_slice())?)
 }
 
 // Reads the input, and tells the text of its work.
@@ -76,22 +70,6 @@ fn answer<R: Source>(
 {
     let scripts = read_scripts(alloc, reader)?;
     made(rt, alloc, scripts)
-}
-
-// Writes the text.
-fn write_out<W: Sink>(writer: &mut W, bytes: &[u8]) -> Result<(), ScriptFault>
-    ensures ok { OnOk result
-        (Appends (W.bytes writer.old) (W.bytes writer.new) bytes.now) }
-    ensures front { OnErr result
-        (AppendsPrefix (W.bytes writer.old) (W.bytes writer.new) bytes.now) }
-    ensures fault { IfErr result (λ fault. fault ≡ ScriptFault.Write) }
-    ensures refused { OnErr result (HasRefused (W.last writer.new)) }
-    ensures writes { CountsWrites result (W.refusals writer.old) (W.refusals writer.new) }
-{
-    if writer.write_all(bytes).is_err() {
-        return Err(ScriptFault::Write);
-    }
-    Ok(())
 }
 
 /// Sets all sites to work on their scripts at the same time, each in threads of its own, and takes

@@ -1,6 +1,6 @@
 //! What no clause says: the texts, honest works, and readers and writers that fail.
 
-use check_kit::{Narrow, broken_behind, same_bytes, text_of_two};
+use check_kit::text_of_two;
 use escrow_work::{ScriptFault, Watched, WorkFault, work_text};
 use field_bounds::SchemaFault;
 use std::alloc::Global;
@@ -8,6 +8,7 @@ use std::io::Read;
 use std::sync::Wait;
 use std::test::Fail;
 use std::thread::Threads;
+use stream_kit::{Narrow, broken_behind, same_bytes};
 
 /// How a work over a reader ended, and what it wrote.
 fn work<R: Read + Drop>(

@@ -1,7 +1,11 @@
 //! Why a call on a text ended without its answer.
 
-ghost use Rattle.std.specs.Prelude.{◌≡◌};
+ghost use Rattle.std.specs.Prelude.{◌≡◌, ◌<◌, length, OnOk, OnErr, IfErr};
+ghost use Rattle.std.specs.Io.KnownBytes.{Appends};
+ghost use Rattle.script_input.specs.Faults.{CountsWrites};
+ghost use Rattle.script_input.specs.Streams.{HasRefused, AppendsPrefix};
 
+use crate::streams::{CallFailed, Sink};
 use field_bounds::SchemaFault;
 use std::alloc::AllocError;
 use thiserror::Error;
@@ -62,5 +66,22 @@ impl From<SchemaFault> for ScriptFault {
             SchemaFault::NoMemory => ScriptFault::NoMemory,
             other => ScriptFault::Header(other),
         }
+    }
+}
+
+/// Writes the bytes, in as many writes as it takes. The fault is a write fault: a write was refused,
+/// which isn't tried again; then a front of the bytes was written. Costs no memory.
+pub fn write_out<W: Sink>(writer: &mut W, bytes: &[u8]) -> Result<(), ScriptFault>
+    ensures ok { OnOk result (Appends (W.bytes writer.old) (W.bytes writer.new) bytes.now) }
+    ensures front { OnErr result (AppendsPrefix (W.bytes writer.old) (W.bytes writer.new)
+        bytes.now) }
+    ensures some { OnErr result (0 < length bytes.now) }
+    ensures fault { IfErr result (λ fault. fault ≡ ScriptFault.Write) }
+    ensures refused { OnErr result (HasRefused (W.last writer.new)) }
+    ensures writes { CountsWrites result (W.refusals writer.old) (W.refusals writer.new) }
+{
+    match writer.write_all(bytes) {
+        Ok(()) => Ok(()),
+        Err(CallFailed) => Err(ScriptFault::Write),
     }
 }

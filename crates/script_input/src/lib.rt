@@ -8,7 +8,7 @@ mod streams;
 mod watched;
 mod window;
 
-pub use fault::ScriptFault;
+pub use fault::{ScriptFault, write_out};
 pub use reader::{LineReader, NextLine};
 pub use streams::{CallFailed, End, Sink, Source};
 pub use watched::Watched;

@@ -80,6 +80,7 @@ impl LineReader {
     }
 
     /// The line that was given last, without its LF. Costs no memory.
+    #[inline]
     pub fn line(&self) -> &[u8]
         ensures line { result.now ≡ given_line self.now }
     {
@@ -95,6 +96,7 @@ impl LineReader {
 
     // How many bytes of what wasn't given stand before the first LF, and how many end them: that LF,
     // or none where there is no LF.
+    #[inline(always)]
     fn first_part(&self) -> (usize, usize)
         ensures most { result.1 ≤ 1 }
         ensures fits { result.0 + result.1 ≤ length (pending self.now) }
@@ -111,6 +113,7 @@ impl LineReader {
     }
 
     // Gives the line that so many bytes are the rest of, and what ends it.
+    #[inline(always)]
     fn give(&mut self, count: usize, ending: usize) -> NextLine
         requires there { count + ending ≤ length (pending self.old) }
         requires lines { self.old.lines < 1000000 }
@@ -130,6 +133,7 @@ impl LineReader {
     }
 
     // Passes over so many bytes of a line that is too long.
+    #[inline(never)]
     fn pass_over(&mut self, count: usize)
         requires there { count ≤ length (pending self.old) }
         requires lines { self.old.lines < 1000000 }
@@ -142,6 +146,7 @@ impl LineReader {
     }
 
     // What comes where nothing is left of what was read: None where a read is due.
+    #[inline(never)]
     fn find_end(&mut self) -> Option<NextLine>
         requires none { pending self.old ≡ [] }
         ensures next { (from to : Option (List ℕ)) (last : End) (given : List (List ℕ)) (most : ℕ)
@@ -166,6 +171,7 @@ impl LineReader {
     /// The fault is TooLong: a byte follows the 1,000,000th line or the 268,435,456th byte. Costs a
     /// look at each byte of the line, and no memory; a line that more than one read bring is looked
     /// at again with each.
+    #[inline(always)]
     pub fn find(&mut self, most: usize) -> Result<Option<NextLine>, ScriptFault>
         requires most { most ≤ 65536 }
 

@@ -48,6 +48,7 @@ impl Window {
     }
 
     /// The bytes that weren't given.
+    #[inline]
     pub(crate) fn rest(&self) -> &[u8]
         ensures { result.now ≡ rest_of self.now }
     {
@@ -55,6 +56,7 @@ impl Window {
     }
 
     /// The line that was given last.
+    #[inline]
     pub(crate) fn line(&self) -> &[u8]
         ensures { result.now ≡ line_of self.now }
     {
@@ -62,6 +64,7 @@ impl Window {
     }
 
     /// Gives a line of so many bytes, and as many behind it as end it.
+    #[inline]
     pub(crate) fn give(&mut self, count: usize, ending: usize)
         requires { count + ending ≤ length (rest_of self.old) }
         ensures line { line_of self.new ≡ take count (rest_of self.old) }

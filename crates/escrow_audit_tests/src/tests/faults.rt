@@ -1,11 +1,12 @@
 //! A source and a sink that fail once, and would go on.
 
 use super::{Ended, READ_FAULT, ROW, ended, written};
-use check_kit::{FailingSource, RefusingSink, text_of_two};
+use check_kit::text_of_two;
 use escrow_audit::{End, Watched};
 use std::alloc::{AllocError, Global};
 use std::process::Abort;
 use std::thread::Threads;
+use stream_kit::{FailingSource, RefusingSink};
 
 /// The answer to the row.
 const ANSWER: &[u8] = b"legal 6\n";

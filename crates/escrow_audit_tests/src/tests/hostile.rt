@@ -1,7 +1,7 @@
 //! Input without end, and a reader that is interrupted once.
 
 use super::{READ_FAULT, ROW, check_reader};
-use check_kit::{InterruptedReader, text_of_two};
+use check_kit::text_of_two;
 use escrow_audit::{AuditEnd, ScriptFault};
 use field_bounds::SchemaFault;
 use std::alloc::{AllocError, Global};
@@ -9,6 +9,7 @@ use std::io;
 use std::io::Read;
 use std::process::Abort;
 use std::thread::Threads;
+use stream_kit::InterruptedReader;
 
 #[test]
 fn ends_a_header_without_end(rt: HostRuntime) {

@@ -1,8 +1,9 @@
 //! Lines that ask nothing.
 
 use super::{HEADER, Talk, check_reader, check_said};
-use check_kit::{STOCK_OF_TWO, Trickle};
+use check_kit::STOCK_OF_TWO;
 use std::alloc::{AllocError, Global};
+use stream_kit::Trickle;
 
 /// Lines behind a header of one site, none of which is a command.
 const BAD: [&str; 82] = [

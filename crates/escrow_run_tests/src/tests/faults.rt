@@ -1,10 +1,10 @@
 //! A source and a sink that fail once, and would go on.
 
 use super::{Ended, READ_FAULT, row_input, row_output};
-use check_kit::{FailingSource, RefusingSink};
 use escrow_run::{ScriptFault, Watched, run_script};
 use std::alloc::{AllocError, Global};
 use std::process::Abort;
+use stream_kit::{FailingSource, RefusingSink};
 
 /// How a run over a source ended, and what it wrote. No write failed.
 fn run_failing(rt: &impl Abort, alloc: Global, source: &mut FailingSource) -> (Ended, Vec<u8>) {

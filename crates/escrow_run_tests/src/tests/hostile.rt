@@ -2,13 +2,14 @@
 //! once.
 
 use super::{Ended, READ_FAULT, Talk, check_reader, check_said, row_input, row_output};
-use check_kit::{InterruptedReader, InterruptedWriter, STOCK_OF_TWO, joined};
+use check_kit::{STOCK_OF_TWO, joined};
 use escrow_run::{ScriptFault, Watched, run_script};
 use field_bounds::SchemaFault;
 use std::alloc::{AllocError, Global};
 use std::io;
 use std::io::Read;
 use std::process::Abort;
+use stream_kit::{InterruptedReader, InterruptedWriter};
 
 const GIFT_LOST: [(&str, &str); 3] = [
     ("0 restart", "restarted 1 lost"),
