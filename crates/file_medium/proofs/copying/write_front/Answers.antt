@@ -1,0 +1,24 @@
+use Rattle.std.proofs.Common.{◌-◌, ◌++◌, length, take, drop, sym, ap, ◌∙◌, arith, length-take}
+use lib.Seq.{take-add, take-take}
+use Rattle.std.specs.Io.KnownBytes.{append_known}
+use Rattle.file_medium.proofs.Known.{append_known-append}
+use Rattle.file_medium.proofs.copying.write_front.Goals as goal
+
+pub loop-written-preserved : goal.loop-written-preserved
+loop-written-preserved g c =
+    let done = c.loop-written.written in
+    let n = c.in-Ok.count in
+    let xs = c.args.piece.now in
+    let before = c.loop-written.invariant in
+    let known = g.F.LogFile.bytes c.args.file.now in
+    let fits = c.in-Ok.ensures.bound in
+    let most = length-take (length xs - done) (drop done xs) in
+    let joined = ap (λ l. take done xs ++ l) (take-take n (length xs - done) (drop done xs) (omega arith)) ∙ sym (take-add done n xs) in
+    record {
+      within = omega arith;
+      bytes = c.in-Ok.ensures.bytes
+          ∙ ap (λ k. append_known k (take n (take (length xs - done) (drop done xs)))) before.bytes
+          ∙ append_known-append known (take done xs) (take n (take (length xs - done) (drop done xs)))
+          ∙ ap (append_known known) joined;
+      safe = c.in-Ok.ensures.safe ∙ before.safe;
+    }

@@ -1,0 +1,107 @@
+//! A file of the system.
+
+ghost use Rattle.std.specs.Prelude.{None};
+
+use crate::log_file::{FileFailed, LogFile};
+use std::fs::{File, Files, OpenOptions, TryLockError};
+use std::io::{self, Write};
+use std::os::unix::fs::FileExt;
+use std::path::Path;
+use thiserror::Error;
+
+/// A log in a file of the system, locked for its owner as long as this value lives.
+///
+/// This is the one place in which it is read, and not proved, that a file keeps the law of
+/// `LogFile`: no contract can see what a file of the system holds, so `bytes` and `safe` are None,
+/// of which each clause holds whatever the body. The bodies of `read_at`, `write`, `cut` and `sync`
+/// make one call of the system each, at the file that was opened, and hand its answer on.
+#[derive(Drop)]
+pub struct HostFile {
+    file: File,
+}
+
+impl LogFile for HostFile {
+    ghost bytes = { λ f. None };
+
+    ghost safe = { λ f. None };
+
+    fn read_at(&mut self, at: u64, buffer: &mut [u8]) -> Result<usize, FileFailed> {
+        self.file.read_at(buffer, at).map_err(|_| FileFailed)
+    }
+
+    fn write(&mut self, piece: &[u8]) -> Result<usize, FileFailed> {
+        self.file.write(piece).map_err(|_| FileFailed)
+    }
+
+    fn cut(&mut self, kept: u64) -> Result<(), FileFailed> {
+        self.file.set_len(kept).map_err(|_| FileFailed)
+    }
+
+    fn sync(&mut self) -> Result<(), FileFailed> {
+        self.file.sync_data().map_err(|_| FileFailed)
+    }
+}
+
+/// Whether a log is to be there before it is opened.
+#[derive(Clone, Copy, Debug, PartialEq, Eq)]
+pub enum Opening {
+    /// The file is made, and mustn't be there.
+    New,
+    /// The file has to be there.
+    Existing,
+}
+
+/// Why a log wasn't opened.
+#[derive(Debug, Drop, Error)]
+pub enum OpenLogFault {
+    /// Another process has it locked, or another value of this one.
+    #[error("the log is open elsewhere")]
+    Busy,
+    /// The system refused a call. Its kind is `AlreadyExists` where a new log is there already, and
+    /// `NotFound` where an existing one isn't.
+    #[error(transparent)]
+    System(#[from] io::Error),
+}
+
+/// Opens the log at a path, and locks it: who else opens it by this call is answered `Busy`. A
+/// process that ends, however it does, lets go of it.
+///
+/// The file is synced before it is read, and so is its folder, so that a new file is found after a
+/// stop of the machine. Where a sync of an earlier process failed, the system may hold pages in
+/// memory that the disk hasn't got, and no later sync tells: so until the machine is started anew
+/// what is read may be other than what the disk has.
+///
+/// No clause says what becomes of a file: this is read, and not proved. A fault may leave a new
+/// file, which is empty. Costs no memory, and two syncs.
+pub fn open_log<R: Files<File = File>>(
+    rt: &R,
+    path: &str,
+    opening: Opening,
+) -> Result<HostFile, OpenLogFault> {
+    let file = open_file(rt, path, opening)?;
+    match file.try_lock() {
+        Ok(()) => {}
+        Err(TryLockError::WouldBlock) => return Err(OpenLogFault::Busy),
+        Err(TryLockError::Error(fault)) => return Err(OpenLogFault::System(fault)),
+    }
+    file.sync_all()?;
+    File::open(rt, folder_of(path))?.sync_all()?;
+    Ok(HostFile { file })
+}
+
+/// The file, opened to be read and added to.
+fn open_file<R: Files<File = File>>(rt: &R, path: &str, opening: Opening) -> io::Result<File> {
+    OpenOptions::new()
+        .read(true)
+        .append(true)
+        .create_new(opening == Opening::New)
+        .open(rt, path)
+}
+
+/// The folder in which a path lies.
+fn folder_of(path: &str) -> &str {
+    match Path::new(path).parent() {
+        Some(folder) if !folder.as_str().is_empty() => folder.as_str(),
+        Some(_) | None => ".",
+    }
+}
