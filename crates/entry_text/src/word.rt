@@ -3,10 +3,11 @@
 ghost use Rattle.std.specs.Prelude.{◌≡◌, ◌==◌, ◌^◌, IfSome, Some, position, bytes_eq};
 ghost use Rattle.field_bounds.specs.declared.kind.Kind.{Kind as KindType};
 ghost use Rattle.field_bounds.specs.declared.id.FieldNo.{FieldNo as FieldNumber};
+ghost use Rattle.field_bounds.specs.declared.id.TxnId.{TxnId as Txn};
 ghost use Rattle.field_bounds.specs.Limits.{IsSchema};
 ghost use Rattle.line_words.specs.Reading.{Gives, word_at, below, number_of, signed_of, only_of};
-ghost use Rattle.entry_text.specs.Spelling.{kind_text, field_text};
-ghost use Rattle.entry_text.specs.Ranges.{FieldFits};
+ghost use Rattle.entry_text.specs.Spelling.{id_text, kind_text, field_text};
+ghost use Rattle.entry_text.specs.Ranges.{IdFits, FieldFits};
 ghost use Rattle.entry_text.specs.Reading.{site_of, id_of, kind_of, field_of};
 
 use field_bounds::{FieldNo, Kind, Schema, SiteNo, TxnId};
@@ -156,17 +157,35 @@ pub fn site_at(line: &mut Words<'_>) -> Option<SiteNo>
     Some(SiteNo(small(line.next()?)?))
 }
 
-/// Takes a transaction: `EPOCH.NUMBER`, each a number of u32.
+// The transaction that the word spells.
 #[inline(always)]
-#[tactic(auto, unfolding(line_words::specs::Reading::word_at, crate::specs::Reading::id_of))]
-pub(crate) fn txn_at(line: &mut Words<'_>) -> Option<TxnId>
-    ensures { Gives result line.new (word_at id_of line.old) }
+#[tactic(auto, unfolding(crate::specs::Reading::id_of))]
+fn txn_of(word: &[u8]) -> Option<TxnId>
+    ensures { result ≡ id_of word.now }
 {
-    let word = line.next()?;
     let dot = place_of_dot(word)?;
     let epoch = medium(&word[..dot])?;
     let number = medium(&word[dot + 1..])?;
     Some(TxnId { epoch, number })
+}
+
+/// Takes a transaction: `EPOCH.NUMBER`, each a number of u32.
+#[inline(always)]
+#[tactic(auto, unfolding(line_words::specs::Reading::word_at))]
+pub(crate) fn txn_at(line: &mut Words<'_>) -> Option<TxnId>
+    ensures { Gives result line.new (word_at id_of line.old) }
+{
+    txn_of(line.next()?)
+}
+
+/// The transaction that the word spells: `EPOCH.NUMBER`, each a number from 0 to 4,294,967,295.
+/// None where the word spells none. Costs a pass over the word, and no memory.
+pub fn read_txn(word: &[u8]) -> Option<TxnId>
+    ensures found { IfSome result (λ t. word.now ≡ id_text t) }
+    ensures fits { IfSome result (λ t. IdFits t) }
+    ensures only { (t : Txn) → IdFits t → word.now ≡ id_text t → result ≡ Some t }
+{
+    txn_of(word)
 }
 
 /// Takes the next word as a kind, `lower` or `raise`, or tells None where it is no kind or no word

@@ -99,7 +99,7 @@ fn read_next<F: LogFile>(
 }
 
 /// Reads a file whole. `Device`: a read failed. `NoMemory`: memory is wanting.
-pub(crate) fn read_whole<F: LogFile>(alloc: Global, file: &mut F) -> Result<Vec<u8>, MediumFault>
+pub fn read_whole<F: LogFile>(alloc: Global, file: &mut F) -> Result<Vec<u8>, MediumFault>
     ensures copy { IfOk result (λ held. IsCopyOf (F.bytes file.new) held.items) }
     ensures bytes { F.bytes file.new ≡ F.bytes file.old }
     ensures safe { F.safe file.new ≡ F.safe file.old }

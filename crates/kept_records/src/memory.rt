@@ -33,6 +33,13 @@ impl MemoryMedium {
     {
         MemoryMedium { held }
     }
+
+    /// The bytes that it holds. Costs no memory.
+    pub fn bytes(&self) -> &[u8]
+        ensures bytes { result.now ≡ self.now.bytes }
+    {
+        &self.held
+    }
 }
 
 impl Medium for MemoryMedium {

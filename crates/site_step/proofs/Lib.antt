@@ -10,6 +10,6 @@ pub mod Resumes
 pub mod Restarts
 pub mod Opens
 mod Calls
-mod Lasting
-mod Lines
+pub mod Lasting
+pub mod Lines
 mod Excluded

@@ -84,6 +84,7 @@ impl StepNotes {
     }
 
     /// Keeps a step that made an entry.
+    #[inline]
     pub(crate) fn keep_made(&mut self, step: &WorldStep)
         requires room { HasMemoryFor self.old step.now }
         ensures kept { (past trace : List Entry) (entry : Entry)

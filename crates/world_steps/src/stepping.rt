@@ -20,6 +20,7 @@ use site_step::Site;
 use std::alloc::{AllocError, Global};
 
 /// Adds the statement that an entry issues, if any, to a list that has room.
+#[inline]
 pub(crate) fn note(told: &mut Vec<Statement>, entry: &Entry)
     requires room { vec_len told.old < vec_capacity told.old }
     ensures told { reverse told.new.items ≡ with_statement (statement_of entry.now)

@@ -25,4 +25,13 @@ impl<M: Medium> Site<M> {
     {
         self.fresh
     }
+
+    /// The medium that the site stands on. Costs no memory.
+    pub fn medium(&self) -> &M
+        ensures bytes { M.bytes result.now ≡ self.now.bytes }
+        ensures failed { M.failed result.now ≡ self.now.failed }
+        ensures foretold { M.foretold result.now ≡ self.now.foretold }
+    {
+        &self.medium
+    }
 }
