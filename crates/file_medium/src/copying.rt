@@ -98,7 +98,8 @@ fn read_next<F: LogFile>(
     }
 }
 
-/// Reads a file whole. `Device`: a read failed. `NoMemory`: memory is wanting.
+/// Reads a file whole, in pieces of 64 KiB. `Device`: a read failed. `NoMemory`: memory is wanting.
+/// Costs a pass over the file, and memory for it and for a piece.
 pub fn read_whole<F: LogFile>(alloc: Global, file: &mut F) -> Result<Vec<u8>, MediumFault>
     ensures copy { IfOk result (λ held. IsCopyOf (F.bytes file.new) held.items) }
     ensures bytes { F.bytes file.new ≡ F.bytes file.old }
