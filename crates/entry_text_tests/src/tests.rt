@@ -205,6 +205,15 @@ fn assert_kinds(rt: &impl Abort) {
     assert_eq!(rt; read_kind(b"rise"), None);
 }
 
+fn assert_txns(rt: &impl Abort) {
+    let txn = TxnId {
+        epoch: 3,
+        number: 17,
+    };
+    assert_eq!(rt; read_txn(b"3.17"), Some(txn));
+    assert_eq!(rt; read_txn(b"3.017"), None);
+}
+
 fn assert_numbers(rt: &impl Abort) {
     assert_eq!(rt; read_number(b"20"), Some(20));
     assert_eq!(rt; read_signed(b"-20"), Some(-20));
@@ -215,6 +224,7 @@ fn reads_words(rt: HostRuntime) -> Result<(), Fail> {
     let schema = stock(&rt, rt.alloc())?;
     assert_fields(&rt, &schema);
     assert_kinds(&rt);
+    assert_txns(&rt);
     assert_numbers(&rt);
     Ok(())
 }

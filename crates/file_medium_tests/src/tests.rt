@@ -71,6 +71,18 @@ fn assert_each_call(rt: &impl Abort, alloc: Global, medium: &mut FileMedium<Memo
 }
 
 #[test]
+fn a_file_is_read_whole(rt: HostRuntime) {
+    let alloc = rt.alloc();
+    let Some(mut file) = file_of(alloc, b"ab\ncd") else {
+        panic!(rt; "no file");
+    };
+    match read_whole(alloc, &mut file) {
+        Ok(held) => assert!(&rt; held.as_slice() == b"ab\ncd"),
+        Err(_) => panic!(rt; "not read"),
+    }
+}
+
+#[test]
 fn short_writes_add_the_whole_piece(rt: HostRuntime) {
     let alloc = rt.alloc();
     let Some(mut file) = file_of(alloc, b"ab\n") else {

@@ -99,6 +99,16 @@ fn each_call(rt: HostRuntime) {
     assert_numbers(&rt, &known, 4);
 }
 
+#[test]
+fn a_medium_is_lent(rt: HostRuntime) {
+    let alloc = rt.alloc();
+    let Some(mut site) = open_over(alloc, 1, MemoryMedium::new(Vec::new(alloc))) else {
+        panic!(rt; "no site");
+    };
+    assert_answers(&rt, alloc, &mut site, &EACH_CALL);
+    assert!(&rt; site.medium().bytes() == b"C 0 1 0 -20\n");
+}
+
 const GIFTS: [Entry; 5] = [
     entry!(0 give 1 stock lower 21 -> refused 7 short 20),
     entry!(0 give 2 stock lower 1 -> refused 2 no site),
