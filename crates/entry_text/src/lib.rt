@@ -21,7 +21,8 @@ pub use entry::read_entry;
 pub use laws::texts_are_lines;
 pub use line_words::{read_number, read_signed};
 pub use word::{
-    Fields, expect, field_at, kind_at, number_at, read_field, read_kind, signed_at, site_at,
+    Fields, expect, field_at, kind_at, number_at, read_field, read_kind, read_txn, signed_at,
+    site_at,
 };
 pub use writing::{write_command, write_entry};
 

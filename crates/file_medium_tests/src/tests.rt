@@ -77,7 +77,7 @@ fn a_file_is_read_whole(rt: HostRuntime) {
         panic!(rt; "no file");
     };
     match read_whole(alloc, &mut file) {
-        Ok(held) => assert!(&rt; held.as_slice() == b"ab\ncd"),
+        Ok(held) => assert!(&rt; held.as_slice() == b"ab\ncd".as_slice()),
         Err(_) => panic!(rt; "not read"),
     }
 }

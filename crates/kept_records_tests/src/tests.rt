@@ -329,7 +329,7 @@ fn assert_memory(rt: &impl Abort, alloc: Global, medium: &mut MemoryMedium) {
     assert_eq!(rt; grown, (Some(true), true));
     let cut = (cut_to_four(alloc, medium, "R 1\n"), medium.failures());
     assert_eq!(rt; cut, ((Some(true), true), 0));
-    assert!(rt; medium.bytes() == b"R 1\n");
+    assert!(rt; medium.bytes() == b"R 1\n".as_slice());
 }
 
 #[test]

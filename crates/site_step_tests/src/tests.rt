@@ -106,7 +106,7 @@ fn a_medium_is_lent(rt: HostRuntime) {
         panic!(rt; "no site");
     };
     assert_answers(&rt, alloc, &mut site, &EACH_CALL);
-    assert!(&rt; site.medium().bytes() == b"C 0 1 0 -20\n");
+    assert!(&rt; site.medium().bytes() == b"C 0 1 0 -20\n".as_slice());
 }
 
 const GIFTS: [Entry; 5] = [
