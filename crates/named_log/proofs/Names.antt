@@ -1,0 +1,81 @@
+-- What becomes of the bytes behind a name, and of those that were compared with it (this project).
+use Rattle.std.proofs.Common.{◌≡◌, ◌≢◌, ◌≤◌, ◌<◌, ◌+◌, ◌-◌, ℕ, List, ◌++◌, length, take, drop, Bool, true, false, not, min, inl, inr, Option, None, Some, Result, Ok, Err, refl, sym, ap, subst, ◌∙◌, arith}
+use Rattle.std.proofs.lemmas.List.{drop-take, length-take-le, take_all}
+use Rattle.std.specs.Str.{bytes_eq}
+use Rattle.std.proofs.lemmas.Slice.Eq.{bytes_eq-Decides}
+use Rattle.std.proofs.lemmas.Bool.{cases_Bool}
+use lib.Seq.{take-add, take-take}
+use Rattle.file_medium.specs.Files.{CutsTo, ReadsAt}
+use Rattle.named_log.specs.Names.{behind, HasMet, StartsAs}
+
+-- A cut of the file is one of the log behind the name.
+pub cut-behind : {T E : Type 0} (name kept place : ℕ) (old new : Option (List ℕ)) (result : Result T E) → place ≡ name + kept
+    → CutsTo place old new result → CutsTo kept (behind name old) (behind name new) result
+cut-behind name kept place old new (Err e) at cuts = ap (behind name) cuts
+cut-behind name kept place None new (Ok t) at cuts = ap (behind name) cuts
+cut-behind name kept place (Some xs) new (Ok t) at cuts =
+    ap (behind name) cuts ∙ ap (λ k. Some (drop name (take k xs))) at ∙ ap Some (drop-take name kept xs)
+
+-- Bytes that differ are told to, and those that are the same are told so.
+differ : (xs ys : List ℕ) → xs ≢ ys → false ≡ bytes_eq xs ys
+differ xs ys ne =
+    elim (cases_Bool (bytes_eq xs ys)) [
+      | inl same ↦ absurd (ne ((bytes_eq-Decides xs ys).0 same))
+      | inr other ↦ sym other
+    ]
+
+-- The bytes ended before the name did.
+pub starts-short : (known : Option (List ℕ)) (seen n : ℕ) (name buffer : List ℕ) → seen < length name → 0 < length buffer
+    → min n (length name - seen) ≡ 0 → ReadsAt known seen n buffer → StartsAs false known name
+starts-short None seen n name buffer within some none reads = tt
+starts-short (Some xs) seen n name buffer within some none reads =
+    let short : length xs ≤ seen = reads.1 (omega arith) some in
+    differ (take (length name) xs) name (λ same. absurd (omega (arith, ap length (sym (take_all (length name) xs (omega arith)) ∙ same))))
+
+-- What was read of the file.
+next-of : (xs buffer : List ℕ) (seen n count : ℕ) → count ≤ n → take n buffer ≡ take n (drop seen xs)
+    → take count buffer ≡ take count (drop seen xs)
+next-of xs buffer seen n count few reads =
+    sym (take-take count n buffer few) ∙ ap (take count) reads ∙ take-take count n (drop seen xs) few
+
+-- The next bytes aren't those of the name.
+pub starts-other : (known : Option (List ℕ)) (seen n count : ℕ) (name buffer : List ℕ) → count ≤ n → seen + count ≤ length name
+    → take count buffer ≢ take count (drop seen name) → ReadsAt known seen n buffer → StartsAs false known name
+starts-other None seen n count name buffer few within other reads = tt
+starts-other (Some xs) seen n count name buffer few within other reads =
+    differ (take (length name) xs) name (λ same.
+    other (next-of xs buffer seen n count few reads.0
+    ∙ sym (drop-take seen count xs)
+    ∙ ap (drop seen) (sym (take-take (seen + count) (length name) xs within))
+    ∙ ap (λ l. drop seen (take (seen + count) l)) same
+    ∙ drop-take seen count name))
+
+-- The next bytes are those of the name.
+pub met-more : (known : Option (List ℕ)) (seen n count : ℕ) (name buffer : List ℕ) → count ≤ n → HasMet known seen name
+    → take count buffer ≡ take count (drop seen name) → ReadsAt known seen n buffer → HasMet known (seen + count) name
+met-more None seen n count name buffer few met same reads = tt
+met-more (Some xs) seen n count name buffer few met same reads =
+    take-add seen count xs
+    ∙ ap (λ l. l ++ take count (drop seen xs)) met
+    ∙ ap (λ l. take seen name ++ l) (sym (next-of xs buffer seen n count few reads.0) ∙ same)
+    ∙ sym (take-add seen count name)
+
+-- All of the name was met.
+pub starts-all : (known : Option (List ℕ)) (seen : ℕ) (name : List ℕ) → length name ≤ seen → seen ≤ length name
+    → HasMet known seen name → StartsAs true known name
+starts-all None seen name all within met = tt
+starts-all (Some xs) seen name all within met =
+    let same : take (length name) xs ≡ name =
+    ap (λ k. take k xs) (omega arith) ∙ met ∙ take_all seen name all in
+    sym ((bytes_eq-Decides (take (length name) xs) name).1 same)
+
+-- Bytes that weren't found to differ are the same, and those that were aren't.
+not_false : (b : Bool) → not b ≡ false → b ≡ true
+not_false true h = refl
+not_false false h = absurd cc
+
+pub same_bytes : (r : Bool) (xs ys : List ℕ) → r ≡ not (bytes_eq xs ys) → r ≡ false → xs ≡ ys
+same_bytes r xs ys is was = (bytes_eq-Decides xs ys).0 (not_false (bytes_eq xs ys) (sym is ∙ was))
+
+pub other_bytes : (r : Bool) (xs ys : List ℕ) → r ≡ not (bytes_eq xs ys) → r ≡ true → xs ≢ ys
+other_bytes r xs ys is was same = absurd (cc (is, was, (bytes_eq-Decides xs ys).1 same))
