@@ -1,0 +1,16 @@
+use Rattle.std.proofs.Common.{◌≡◌, ℕ, ◌<◌, length, get_or}
+use Rattle.kept_records.specs.Stands.{Lawful}
+use Rattle.log_replay.specs.declared.standing.Standing.{Standing}
+use Rattle.log_replay.specs.Standing.{IsStandingFor}
+use Rattle.world_logs.specs.Logs.{log_of}
+use Rattle.world_logs.specs.Lost.{known_of, known_records}
+use Rattle.world_logs.proofs.lost.known_standings.Given as goal
+
+-- the logs of the sites so far are lawful, and the standings are for them
+abbrev pub invariant-loop-number : goal.invariant-loop-number
+invariant-loop-number l = record {
+  count : length l.standings.items ≡ l.number;
+  lawful : (s : ℕ) → s < l.number → Lawful l.schema s (log_of (known_records (known_of l.logs)) s);
+  each : (s : ℕ) (d : Standing) → s < l.number
+      → IsStandingFor l.schema s (log_of (known_records (known_of l.logs)) s) (get_or l.standings.items s d);
+}

@@ -1,0 +1,56 @@
+use Rattle.std.proofs.Common.{◌≡◌, ℕ, ◌<◌, ◌++◌, ◌∷◌, [], List, length, sym, ◌∙◌, ap, subst, inl, inr, arith, below_more}
+use Rattle.std.proofs.lemmas.Bool.{cases_eq}
+use Rattle.std.proofs.lemmas.Grind.{common_steps}
+use Rattle.std.proofs.lemmas.List.{get_or_push, get_or_append_left}
+use Rattle.std.specs.Global.{Vec}
+use Rattle.std.specs.List.{AllByRecursion}
+use Rattle.kept_records.specs.declared.record.Record.{Record}
+use Rattle.kept_records.specs.Text.{IsRecord}
+use Rattle.kept_records.specs.Stands.{Lawful}
+use Rattle.log_replay.specs.declared.standing.Standing.{Standing}
+use Rattle.log_replay.specs.Standing.{IsStandingFor}
+use Rattle.world_logs.specs.Logs.{records_of, log_of}
+use Rattle.world_logs.proofs.Readings.{log_at}
+use Rattle.world_logs.proofs.standings.standings_of.Goals as goal
+
+pub standing_of-requires-clause-in_range : goal.standing_of-requires-clause-in_range
+standing_of-requires-clause-in_range c =
+    let n = c.loop-number.number in
+    let below : n < length c.args.logs.now = omega (arith, c.requires.count, c.loop-number-test.true, c.sites-number-end.ensures.value) in
+    subst (λ (rs : List Record). AllByRecursion IsRecord rs)
+    (log_at c.args.logs.now n c.from.result c.index-logs-from.result below c.from.ensures
+    ∙ ap (λ (v : Vec Record). v.items) (sym c.index-logs-from.is) ∙ sym c.as_slice-log.ensures.value)
+    (c.requires.in_range n)
+
+pub loop-number-preserved : goal.loop-number-preserved
+loop-number-preserved c =
+    let schema = c.args.schema.now in
+    let logs = records_of c.args.logs.now in
+    let old = c.loop-number.standings.items in
+    let x = c.in_ok-standing_of.field-0 in
+    let n = c.loop-number.number in
+    let below : n < length c.args.logs.now = omega (arith, c.requires.count, c.loop-number-test.true, c.sites-number-end.ensures.value) in
+    let same : c.as_slice-log.result.now ≡ log_of logs n =
+    c.as_slice-log.ensures.value ∙ ap (λ (v : Vec Record). v.items) c.index-logs-from.is
+    ∙ sym (log_at c.args.logs.now n c.from.result c.index-logs-from.result below c.from.ensures) in
+    let lawful : Lawful schema n (log_of logs n) =
+    subst (λ (rs : List Record). Lawful schema n rs) same c.in_ok-standing_of.ensures.lawful in
+    let stands : IsStandingFor schema n (log_of logs n) x =
+    subst (λ (rs : List Record). IsStandingFor schema n rs x) same c.in_ok-standing_of.ensures.stands in
+    let grown : c.push.new.self.items ≡ old ++ x ∷ [] = c.in_ok-push.ensures.items in
+    record {
+      count = grind (arith, common_steps);
+      lawful = below_more (λ s. Lawful schema s (log_of logs s)) n c.loop-number.invariant.lawful lawful;
+      each = λ s d less.
+          rw grown (elim (cases_eq s n) [
+            | inl same ↦
+                subst (λ (y : Standing). IsStandingFor schema s (log_of logs s) y)
+                (sym (get_or_push old x d s (c.loop-number.invariant.count ∙ sym same)))
+                (subst (λ (j : ℕ). IsStandingFor schema j (log_of logs j) x) (sym same) stands)
+            | inr apart ↦
+                let there : s < n = omega (arith, less, apart) in
+                subst (λ (y : Standing). IsStandingFor schema s (log_of logs s) y)
+                (sym (get_or_append_left old (x ∷ []) d s (omega (arith, there, c.loop-number.invariant.count))))
+                (c.loop-number.invariant.each s d there)
+          ]);
+    }

@@ -1,0 +1,69 @@
+//! Whether the logs of all sites account for every right.
+
+ghost use Rattle.std.specs.Prelude.{◌≡◌, ℕ, List, IfOk, IfErr, length};
+ghost use Rattle.std.specs.List.{AllByRecursion};
+ghost use Rattle.kept_records.specs.declared.record.Record.{Record};
+ghost use Rattle.kept_records.specs.Text.{IsRecord};
+ghost use Rattle.world_logs.specs.Logs.{records_of, log_of, AreLawful, AcceptedWithin};
+ghost use Rattle.world_logs.specs.States.{AreStates};
+ghost use Rattle.world_logs.specs.Faults.{TellsFault};
+ghost use Rattle.world_logs.specs.Body.{AddUp, AreOfWorld};
+
+use crate::excess_search::first_excess;
+use crate::fault::WorldFault;
+use crate::field_state::FieldState;
+use crate::standings::standings_of;
+use crate::sums::state_of;
+use field_bounds::{FieldNo, Schema};
+use kept_records::Record;
+use log_replay::Standing;
+use std::alloc::{AllocError, Global};
+
+/// Where each field stands.
+fn states_of(
+    alloc: Global,
+    schema: &Schema,
+    standings: &[Standing],
+) -> Result<Vec<FieldState>, AllocError>
+    requires of_world { AreOfWorld schema.now standings.now }
+    ensures states { IfOk result (λ states. (logs : List (List Record))
+        → AddUp schema.now logs standings.now → AreStates schema.now logs states.items) }
+{
+    let mut states = Vec::new(alloc);
+    for number in 0..schema.fields() {
+        states.push(state_of(schema, standings, FieldNo(number)))?;
+    }
+    Ok(states)
+}
+
+/// Checks the logs of all sites of a world, one for each site in the order of the sites, and answers
+/// where each field stands, field by field: its committed value, and its bounds as tightened.
+///
+/// It is answered exactly where each log is lawful and no site has accepted more from another than
+/// that has given it. By the law `logs_account_for_all_rights` the own rights of all sites and those
+/// in flight are then all that lies between a value and its bounds: no right was made or lost.
+/// `BreaksRule` and `AcceptedMore` name the first that is not so; `NoMemory` can come in place of
+/// any answer.
+///
+/// The records' numbers lie in the ranges that `Record` tells, as those that were read from a log do.
+/// Costs a pass over each log, and for each field and each two sites a look at what passed between
+/// them. Takes memory for what each log stands for and for the answer.
+pub fn check_world(
+    alloc: Global,
+    schema: &Schema,
+    logs: &[Vec<Record>],
+) -> Result<Vec<FieldState>, WorldFault>
+    requires count { length logs.now ≡ schema.now.sites }
+    requires in_range { (s : ℕ) → AllByRecursion IsRecord (log_of (records_of logs.now) s) }
+    ensures lawful { IfOk result (λ states. AreLawful schema.now (records_of logs.now)) }
+    ensures within { IfOk result (λ states. AcceptedWithin schema.now (records_of logs.now)) }
+    ensures states { IfOk result (λ states. AreStates schema.now (records_of logs.now)
+        states.items) }
+    ensures fault { IfErr result (λ fault. TellsFault schema.now (records_of logs.now) fault) }
+{
+    let standings = standings_of(alloc, schema, logs)?;
+    match first_excess(schema, standings.as_slice(), &[]) {
+        Some(excess) => Err(WorldFault::AcceptedMore(excess)),
+        None => Ok(states_of(alloc, schema, standings.as_slice())?),
+    }
+}

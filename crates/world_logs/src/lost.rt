@@ -1,0 +1,141 @@
+//! Between which values each field lies where logs are lost.
+
+ghost use Rattle.std.specs.Prelude.{◌≡◌, ℕ, ◌<◌, List, Option, IfOk, IfErr, length, map, is_none};
+ghost use Rattle.std.specs.List.{AllByRecursion};
+ghost use Rattle.kept_records.specs.declared.record.Record.{Record};
+ghost use Rattle.kept_records.specs.Text.{IsRecord};
+ghost use Rattle.kept_records.specs.Stands.{Lawful};
+ghost use Rattle.log_replay.specs.Standing.{IsStandingFor};
+ghost use Rattle.world_logs.specs.Logs.{log_of, AreLawful};
+ghost use Rattle.world_logs.specs.Lost.{known_of, known_records, AreRanges};
+ghost use Rattle.world_logs.specs.LostFaults.{KnownWithin, TellsTooMuch, TellsKnownFault};
+ghost use Rattle.world_logs.specs.LostBody.{records_in, StandForKnown, AreOfKnown};
+ghost use Rattle.world_logs.specs.Faults.{TellsOfLog, TellsUnlawful};
+ghost use Rattle.world_logs.specs.Body.{StandFor};
+
+use crate::excess_search::first_excess;
+use crate::fault::WorldFault;
+use crate::field_state::FieldRange;
+use crate::lost_sums::range_of;
+use crate::standings::standing_of;
+use field_bounds::{FieldNo, Schema, SiteNo};
+use kept_records::Record;
+use log_replay::Standing;
+use std::alloc::{AllocError, Global};
+
+/// What the log of a site stands for, or no records where it is lost.
+fn known_standing(
+    alloc: Global,
+    schema: &Schema,
+    site: SiteNo,
+    log: &Option<Vec<Record>>,
+) -> Result<Standing, WorldFault>
+    requires site_in { site.0 < schema.now.sites }
+    requires in_range { AllByRecursion IsRecord (records_in log.now) }
+    ensures lawful { IfOk result (λ standing. Lawful schema.now site.0 (records_in log.now)) }
+    ensures stands { IfOk result (λ standing. IsStandingFor schema.now site.0 (records_in log.now)
+        standing) }
+    ensures fault { IfErr result (λ fault. TellsOfLog schema.now site.0 (records_in log.now) fault) }
+{
+    match log {
+        Some(log) => standing_of(alloc, schema, site, log.as_slice()),
+        None => Ok(Standing::new(alloc, schema, site)?),
+    }
+}
+
+/// What the log of each site stands for, site by site, or the first log that isn't lawful.
+fn known_standings(
+    alloc: Global,
+    schema: &Schema,
+    logs: &[Option<Vec<Record>>],
+) -> Result<Vec<Standing>, WorldFault>
+    requires count { length logs.now ≡ schema.now.sites }
+    requires in_range { (s : ℕ) → AllByRecursion IsRecord
+        (log_of (known_records (known_of logs.now)) s) }
+    ensures stand { IfOk result (λ standings. StandFor schema.now
+        (known_records (known_of logs.now)) standings.items) }
+    ensures fault { IfErr result (λ fault. TellsUnlawful schema.now
+        (known_records (known_of logs.now)) fault) }
+{
+    let mut standings = Vec::new(alloc);
+    for number in 0..schema.sites() {
+        let log = &logs[usize::from(number)];
+        standings.push(known_standing(alloc, schema, SiteNo(number), log)?)?;
+    }
+    Ok(standings)
+}
+
+/// Site by site, whether the log is lost.
+fn lost_of(alloc: Global, logs: &[Option<Vec<Record>>]) -> Result<Vec<bool>, AllocError>
+    ensures { IfOk result (λ lost. lost.items ≡ map (λ log. is_none log) logs.now) }
+{
+    let mut lost = Vec::new(alloc);
+    for log in logs {
+        lost.push(log.is_none())?;
+    }
+    Ok(lost)
+}
+
+/// The ranges of all fields, or the first field that has no room.
+fn ranges_of(
+    alloc: Global,
+    schema: &Schema,
+    standings: &[Standing],
+    lost: &[bool],
+) -> Result<Vec<FieldRange>, WorldFault>
+    requires of_known { AreOfKnown schema.now standings.now lost.now }
+    ensures ranges { IfOk result (λ ranges. (known : List (Option (List Record)))
+        → StandForKnown schema.now known standings.now lost.now
+        → AreRanges schema.now known ranges.items) }
+    ensures fault { IfErr result (λ fault. (known : List (Option (List Record)))
+        → StandForKnown schema.now known standings.now lost.now
+        → TellsTooMuch schema.now known fault) }
+{
+    let mut ranges = Vec::new(alloc);
+    for number in 0..schema.fields() {
+        let field = FieldNo(number);
+        match range_of(schema, standings, lost, field) {
+            Some(range) => ranges.push(range)?,
+            None => return Err(WorldFault::TooMuch { field }),
+        }
+    }
+    Ok(ranges)
+}
+
+/// Tells, where the logs of some sites are lost, between which values each field's committed value
+/// lies, field by field: for each site, in order, there is its log, or None where it is lost.
+///
+/// Whatever the lost logs say, so that each log is lawful and no site has accepted more than it was
+/// given: by the law `known_logs_bound_each_value` the value is at least the schema's floor and what
+/// the known sites guard of rights to lower the field and have in flight among one another, and at
+/// most its ceiling less the same to raise it. Where no log is lost, both are the value that
+/// `check_world` answers.
+///
+/// It is answered exactly where each known log is lawful, no known site has accepted more from a
+/// known one than that has given it, and what the known sites guard and have in flight on each field
+/// is no more than the field is wide. `BreaksRule`, `AcceptedMore` and `TooMuch` name the first that
+/// is not so, and `TooMuch` tells that no lost logs go with the known ones; `NoMemory` can come in
+/// place of any answer. The records' numbers lie in the ranges that `Record` tells. Costs what
+/// `check_world` costs.
+pub fn bound_world(
+    alloc: Global,
+    schema: &Schema,
+    logs: &[Option<Vec<Record>>],
+) -> Result<Vec<FieldRange>, WorldFault>
+    requires count { length logs.now ≡ schema.now.sites }
+    requires in_range { (s : ℕ) → AllByRecursion IsRecord
+        (log_of (known_records (known_of logs.now)) s) }
+    ensures lawful { IfOk result (λ ranges. AreLawful schema.now
+        (known_records (known_of logs.now))) }
+    ensures within { IfOk result (λ ranges. KnownWithin schema.now (known_of logs.now)) }
+    ensures ranges { IfOk result (λ ranges. AreRanges schema.now (known_of logs.now)
+        ranges.items) }
+    ensures fault { IfErr result (λ fault. TellsKnownFault schema.now (known_of logs.now) fault) }
+{
+    let standings = known_standings(alloc, schema, logs)?;
+    let lost = lost_of(alloc, logs)?;
+    match first_excess(schema, standings.as_slice(), lost.as_slice()) {
+        Some(excess) => Err(WorldFault::AcceptedMore(excess)),
+        None => ranges_of(alloc, schema, standings.as_slice(), lost.as_slice()),
+    }
+}

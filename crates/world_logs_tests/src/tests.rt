@@ -1,0 +1,357 @@
+//! Worked logs of all sites of a world. Of one field from 0 to 100 at 40, two sites begin with 20
+//! rights to lower it and 30 to raise it each; of three, the first has 14 to lower it, the others 13,
+//! and each has 20 to raise it. Every expected value is worked out by hand.
+
+ghost use Rattle.std.specs.Prelude.{ℕ, IfSome};
+ghost use Rattle.std.specs.List.{AllByRecursion};
+ghost use Rattle.kept_records.specs.Text.{IsRecord};
+ghost use Rattle.world_logs.specs.Logs.{records_of, log_of};
+ghost use Rattle.world_logs.specs.Lost.{known_of, known_records};
+
+use check_kit::{STOCK_OF_THREE, STOCK_OF_TWO, schema_of};
+use field_bounds::{FieldNo, Kind, Schema, SiteNo};
+use kept_records::{Record, read_records};
+use std::alloc::Global;
+use world_logs::*;
+
+/// Two sites and two fields: the second may lie from -10 to 0, and begins at -10, so that site 0
+/// and site 1 have 5 rights each to raise it, and none to lower it.
+const TWO_FIELDS: &str =
+    r#"{"sites":2,"fields":[{"name":"stock","floor":0,"ceiling":100,"value":40},{"name":"debt","floor":-10,"ceiling":0,"value":-10}]}"#;
+
+/// A value, its floor and its ceiling.
+macro_rules! at {
+    ($value:expr, $floor:expr, $ceiling:expr) => {
+        FieldState { value: $value, floor: $floor, ceiling: $ceiling }
+    };
+}
+
+/// The logs of two sites that account for every right, and where the field stands.
+const ACCOUNTED: [([&str; 2], FieldState); 11] = [
+    (["", ""], at!(40, 0, 100)),
+    (["C 0 1 0 -20\n", ""], at!(20, 0, 100)),
+    (["", "C 0 1 0 30\n"], at!(70, 0, 100)),
+    (["C 0 1 0 -20\n", "C 0 1 0 30\n"], at!(50, 0, 100)),
+    (["", "C 0 1 0 -5 0 3\n"], at!(38, 0, 100)),
+    // Five rights in flight.
+    (["G 1 0 l 5\n", ""], at!(40, 0, 100)),
+    (["G 1 0 l 5\n", "A 0 0 l 5\nC 0 1 0 -25\n"], at!(15, 0, 100)),
+    // Two in flight.
+    (["G 1 0 l 5\n", "A 0 0 l 3\nC 0 1 0 -23\n"], at!(17, 0, 100)),
+    (["T 0 l 5\n", "T 0 r 30\n"], at!(40, 5, 70)),
+    (
+        ["T 0 l 20\nC 0 1 0 30\n", "C 0 1 0 -20\nT 0 r 10\n"],
+        at!(50, 20, 90),
+    ),
+    (["R 1\nC 1 1 0 -1\nS 1 1 19 31\n", ""], at!(39, 0, 100)),
+];
+
+/// A site, and the number of the record of its log that breaks a rule.
+macro_rules! breaks {
+    ($site:expr, $number:expr) => {
+        WorldFault::BreaksRule { site: SiteNo($site), number: $number }
+    };
+}
+
+/// What was given on the first field from one site to another, and what that accepted.
+macro_rules! more {
+    ($from:expr, $to:expr, $kind:expr, $given:expr, $accepted:expr) => {
+        WorldFault::AcceptedMore(Excess {
+            from: SiteNo($from),
+            to: SiteNo($to),
+            field: FieldNo(0),
+            kind: $kind,
+            given: $given,
+            accepted: $accepted,
+        })
+    };
+}
+
+/// The logs of two sites that don't, and the first fault of them.
+const REFUSED: [([&str; 2], WorldFault); 10] = [
+    (["C 0 1 0 -21\n", ""], breaks!(0, 1)),
+    (["", "G 0 0 l 5\nG 0 0 l 5\n"], breaks!(1, 2)),
+    (["T 0 l 21\n", "T 0 l 21\n"], breaks!(0, 1)),
+    // A log of site 0, where that of site 1 belongs.
+    (["", "G 1 0 l 5\n"], breaks!(1, 1)),
+    // A log that breaks a rule goes before what was accepted and never given.
+    (["A 1 0 l 1\n", "T 0 l 21\n"], breaks!(1, 1)),
+    (
+        ["G 1 0 l 5\n", "A 0 0 l 6\n"],
+        more!(0, 1, Kind::Lower, 5, 6),
+    ),
+    (
+        ["G 1 0 l 5\n", "A 0 0 r 5\n"],
+        more!(0, 1, Kind::Raise, 0, 5),
+    ),
+    (
+        ["A 1 0 r 2\nA 1 0 l 1\n", ""],
+        more!(1, 0, Kind::Lower, 0, 1),
+    ),
+    (
+        ["A 1 0 r 2\n", "A 0 0 l 1\n"],
+        more!(1, 0, Kind::Raise, 0, 2),
+    ),
+    // The giver's log was put back to an older one.
+    (["", "A 0 0 l 5\n"], more!(0, 1, Kind::Lower, 0, 5)),
+];
+
+/// The same of three sites.
+const REFUSED_OF_THREE: [([&str; 3], WorldFault); 4] = [
+    (
+        ["", "A 2 0 l 1\nA 0 0 l 1\n", "A 0 0 l 1\n"],
+        more!(0, 1, Kind::Lower, 0, 1),
+    ),
+    (
+        ["", "A 2 0 l 1\n", "A 0 0 l 1\n"],
+        more!(2, 1, Kind::Lower, 0, 1),
+    ),
+    // A gift to site 1, which site 2 accepted.
+    (
+        ["G 1 0 l 5\n", "", "A 0 0 l 5\n"],
+        more!(0, 2, Kind::Lower, 0, 5),
+    ),
+    // Together site 0 has given what was accepted, but not to site 2.
+    (
+        ["G 1 0 l 5\nG 2 0 l 3\n", "A 0 0 l 2\n", "A 0 0 l 5\n"],
+        more!(0, 2, Kind::Lower, 3, 5),
+    ),
+];
+
+/// The records of each log, or None where a line is no record, or memory was refused.
+fn read_logs(alloc: Global, texts: &[&str]) -> Option<Vec<Vec<Record>>>
+    ensures in_range { IfSome result (λ logs. (s : ℕ)
+        → AllByRecursion IsRecord (log_of (records_of logs.items) s)) }
+{
+    let mut logs = Vec::new(alloc);
+    for text in texts {
+        let (records, _) = read_records(alloc, text.as_bytes()).ok()?;
+        logs.push(records).ok()?;
+    }
+    Some(logs)
+}
+
+/// Where each field stands, or None where the logs can't be checked.
+fn checked(
+    alloc: Global,
+    header: &str,
+    texts: &[&str],
+) -> Option<Result<Vec<FieldState>, WorldFault>> {
+    let schema = schema_of(alloc, header)?;
+    let logs = read_logs(alloc, texts)?;
+    if logs.len() != usize::from(schema.sites()) {
+        return None;
+    }
+    Some(check_world(alloc, &schema, logs.as_slice()))
+}
+
+/// Where the first field stands.
+fn first_checked(
+    alloc: Global,
+    header: &str,
+    texts: &[&str],
+) -> Option<Result<FieldState, WorldFault>> {
+    match checked(alloc, header, texts)? {
+        Ok(states) => Some(Ok(*states.as_slice().get(0)?)),
+        Err(fault) => Some(Err(fault)),
+    }
+}
+
+#[test]
+fn logs_that_account_for_every_right(rt: HostRuntime) {
+    for (texts, state) in &ACCOUNTED {
+        assert_eq!(rt;
+            first_checked(rt.alloc(), STOCK_OF_TWO, texts),
+            Some(Ok(*state))
+        );
+    }
+}
+
+#[test]
+fn logs_that_are_refused(rt: HostRuntime) {
+    for (texts, fault) in &REFUSED {
+        assert_eq!(rt;
+            first_checked(rt.alloc(), STOCK_OF_TWO, texts),
+            Some(Err(*fault))
+        );
+    }
+    for (texts, fault) in &REFUSED_OF_THREE {
+        assert_eq!(rt;
+            first_checked(rt.alloc(), STOCK_OF_THREE, texts),
+            Some(Err(*fault))
+        );
+    }
+}
+
+#[test]
+fn each_field_stands_by_itself(rt: HostRuntime) {
+    let alloc = rt.alloc();
+    let texts = ["C 0 1 0 -1 1 4\nT 1 r 1\n", "C 0 1 1 5\nC 0 2 1 -2\n"];
+    let states = match checked(alloc, TWO_FIELDS, &texts) {
+        Some(Ok(states)) => states,
+        _ => Vec::new(alloc),
+    };
+    assert_eq!(rt;
+        states.as_slice(),
+        [at!(39, 0, 100), at!(-3, -10, -1)].as_slice()
+    );
+    // The lower field is named first, and both kinds of it before the next.
+    assert_eq!(rt;
+        first_checked(alloc, TWO_FIELDS, &["", "A 0 1 l 1\nA 0 0 r 1\n"]),
+        Some(Err(more!(0, 1, Kind::Raise, 0, 1)))
+    );
+}
+
+/// Whether the logs settle to the schema of this header; None where they don't settle.
+fn settles_to(alloc: Global, header: &str, texts: &[&str], expected: &str) -> Option<bool> {
+    let schema = schema_of(alloc, header)?;
+    let logs = read_logs(alloc, texts)?;
+    if logs.len() != usize::from(schema.sites()) {
+        return None;
+    }
+    let settled = settle_world(alloc, &schema, logs.as_slice()).ok()?;
+    let expected = schema_of(alloc, expected)?;
+    Some(settled == expected)
+}
+
+#[test]
+fn a_world_is_settled(rt: HostRuntime) {
+    let alloc = rt.alloc();
+    assert_eq!(rt;
+        settles_to(alloc, STOCK_OF_TWO, &["", ""], STOCK_OF_TWO),
+        Some(true)
+    );
+    assert_eq!(rt;
+        settles_to(
+            alloc,
+            STOCK_OF_TWO,
+            &["G 1 0 l 5\n", "A 0 0 l 3\nC 0 1 0 -23\nT 0 r 2\n"],
+            r#"{"sites":2,"fields":[{"name":"stock","floor":0,"ceiling":98,"value":17}]}"#
+        ),
+        Some(true)
+    );
+    assert_eq!(rt;
+        settles_to(
+            alloc,
+            TWO_FIELDS,
+            &["C 0 1 0 -1 1 4\nT 1 r 1\n", "C 0 1 1 5\nC 0 2 1 -2\n"],
+            r#"{"sites":2,"fields":[{"name":"stock","floor":0,"ceiling":100,"value":39},{"name":"debt","floor":-10,"ceiling":-1,"value":-3}]}"#
+        ),
+        Some(true)
+    );
+    assert_eq!(rt;
+        settles_to(alloc, STOCK_OF_TWO, &["C 0 1 0 -20\n", ""], STOCK_OF_TWO),
+        Some(false)
+    );
+    assert_eq!(rt;
+        settles_to(alloc, STOCK_OF_TWO, &["", "A 0 0 l 5\n"], STOCK_OF_TWO),
+        None
+    );
+}
+
+/// The least and the greatest value.
+macro_rules! range {
+    ($least:expr, $greatest:expr) => {
+        FieldRange { least: $least, greatest: $greatest }
+    };
+}
+
+/// The logs of two sites, of which some are lost, and between which values the field lies.
+const BOUNDED: [([Option<&str>; 2], FieldRange); 7] = [
+    ([None, None], range!(0, 100)),
+    // Site 0 is left with 15 rights to lower and 35 to raise.
+    ([Some("C 0 1 0 -5\n"), None], range!(15, 65)),
+    ([None, Some("C 0 1 0 -5\n")], range!(15, 65)),
+    // What went to the lost site may be spent.
+    ([Some("G 1 0 l 5\n"), None], range!(15, 70)),
+    ([Some("A 1 0 l 20\n"), None], range!(40, 70)),
+    // What was given up is no one's, and moves the bound.
+    ([Some("T 0 l 5\nT 0 r 30\n"), None], range!(20, 70)),
+    // No log is lost: the value alone.
+    (
+        [Some("G 1 0 l 5\n"), Some("A 0 0 l 3\nC 0 1 0 -23\n")],
+        range!(17, 17),
+    ),
+];
+
+/// The same of three sites.
+const BOUNDED_OF_THREE: [([Option<&str>; 3], FieldRange); 2] = [
+    // Four rights in flight between the known sites, which own 10 and 13 to lower, and 20 each to
+    // raise.
+    ([Some("G 1 0 l 4\n"), Some(""), None], range!(27, 60)),
+    // What was accepted from the lost site is not compared.
+    ([Some(""), Some("A 2 0 l 1\n"), None], range!(28, 60)),
+];
+
+/// The logs of three sites, of which one is lost, and the first fault of them.
+const UNBOUNDED: [([Option<&str>; 3], WorldFault); 3] = [
+    ([None, Some("T 0 l 14\n"), Some("")], breaks!(1, 1)),
+    (
+        [Some("G 1 0 l 5\n"), Some("A 0 0 l 6\n"), None],
+        more!(0, 1, Kind::Lower, 5, 6),
+    ),
+    // With what it says to have accepted, site 0 has 80 rights to lower and 20 to raise, and site 1
+    // has 13 and 20: together more than the 100 that the field is wide.
+    (
+        [Some("A 2 0 l 66\n"), Some(""), None],
+        WorldFault::TooMuch { field: FieldNo(0) },
+    ),
+];
+
+/// The records of each log that isn't lost, or None where a line is no record, or memory was
+/// refused.
+fn read_known(alloc: Global, texts: &[Option<&str>]) -> Option<Vec<Option<Vec<Record>>>>
+    ensures in_range { IfSome result (λ logs. (s : ℕ)
+        → AllByRecursion IsRecord (log_of (known_records (known_of logs.items)) s)) }
+{
+    let mut logs = Vec::new(alloc);
+    for text in texts {
+        match text {
+            Some(text) => {
+                let (records, _) = read_records(alloc, text.as_bytes()).ok()?;
+                logs.push(Some(records)).ok()?;
+            }
+            None => logs.push(None).ok()?,
+        }
+    }
+    Some(logs)
+}
+
+/// Between which values the first field lies, or None where the logs can't be read.
+fn first_bounded(
+    alloc: Global,
+    header: &str,
+    texts: &[Option<&str>],
+) -> Option<Result<FieldRange, WorldFault>> {
+    let schema = schema_of(alloc, header)?;
+    let logs = read_known(alloc, texts)?;
+    if logs.len() != usize::from(schema.sites()) {
+        return None;
+    }
+    match bound_world(alloc, &schema, logs.as_slice()) {
+        Ok(ranges) => Some(Ok(*ranges.as_slice().get(0)?)),
+        Err(fault) => Some(Err(fault)),
+    }
+}
+
+#[test]
+fn lost_logs_leave_a_range(rt: HostRuntime) {
+    for (texts, range) in &BOUNDED {
+        assert_eq!(rt;
+            first_bounded(rt.alloc(), STOCK_OF_TWO, texts),
+            Some(Ok(*range))
+        );
+    }
+    for (texts, range) in &BOUNDED_OF_THREE {
+        assert_eq!(rt;
+            first_bounded(rt.alloc(), STOCK_OF_THREE, texts),
+            Some(Ok(*range))
+        );
+    }
+    for (texts, fault) in &UNBOUNDED {
+        assert_eq!(rt;
+            first_bounded(rt.alloc(), STOCK_OF_THREE, texts),
+            Some(Err(*fault))
+        );
+    }
+}
