@@ -1,0 +1,205 @@
+-- What was written when a batch is let out, and where the serving ends.
+use Rattle.std.proofs.Common.{◌≡◌, ℕ, List, [], ◌++◌, ◌+◌, ◌⊎◌, Option, Result, length, take, refl, sym, ap, ◌∙◌, subst, inl, inr, append_assoc, append-nil}
+use Rattle.std.proofs.Math.Seq.{take-append-add}
+use Rattle.std.specs.Io.KnownBytes.{Appends, Consumes, Keeps}
+use Rattle.std.proofs.KnownBytes.{Appends-trans, Consumes-nil, Consumes-trans, Consumes-kept}
+use Rattle.script_input.specs.Lines.{whole_lines, last_part, whole_lines_after, last_part_after}
+use Rattle.script_input.specs.Streams.{AppendsPrefix}
+use Rattle.script_input.proofs.LineLemmas.{whole_lines_after-append, last_part_after-append}
+use Rattle.file_medium.specs.Copies.{IsCopyOf}
+use Rattle.site_service.specs.declared.fault.ServeFault.{ServeFault}
+use Rattle.site_service.specs.declared.fault.ServeFault.TheVariants as faults
+use Rattle.site_service.specs.Answers.{AnswersLines}
+use Rattle.site_service.specs.Service.{ServiceValue, IsSettled, KeepsLog, HasAnsweredAll, LetsOut, HoldsBack}
+use Rattle.site_service.specs.Serving.{IsKeptOf, Serves, ServesPart, Stops, StopsAtOnce, reads_failed, CountsReads, CountsWrites}
+use Rattle.site_service.proofs.Lines.{answers_after}
+
+-- what waited at first is let out, and nothing was read
+pub serves_none : (from before after : Option (List ℕ)) (start now : ServiceValue) → now.served ≡ start.served
+    → LetsOut before after start now → ServesPart from from before after start now []
+serves_none from before after start now same out = record {
+  serves = record {
+    read = [];
+    consumed = Consumes-nil from;
+    text = [];
+    answers = (same, refl);
+    written = subst (Appends before after) (sym (append-nil start.waiting)) out.out;
+    waiting = out.waiting;
+    settled = out.settled;
+  };
+  kept = inl refl;
+}
+
+-- what was let out couldn't be written whole
+pub stops_first : (from before after : Option (List ℕ)) (start now : ServiceValue) → now.served ≡ start.served → IsSettled now
+    → AppendsPrefix before after start.waiting → Stops from from before after start now faults.Write
+stops_first from before after start now same settled front = record {
+  front = [];
+  back = [];
+  consumed = Consumes-nil from;
+  last = now;
+  text = [];
+  answers = (same, refl);
+  out = subst (AppendsPrefix before after) (sym (append-nil start.waiting)) front;
+  settled = settled;
+  safe = settled.safe;
+}
+
+-- a front of what is known and of what is written after it
+prefix_after : (before middle after : Option (List ℕ)) (written out : List ℕ) → Appends before middle written
+    → AppendsPrefix middle after out → AppendsPrefix before after (written ++ out)
+prefix_after before middle after written out wrote front = (
+  length written + front.0,
+  subst (Appends before after) (sym (take-append-add written out front.0))
+      (Appends-trans before middle after written (take front.0 out) wrote front.1),
+)
+
+-- A fault in front of which all batches were let out: what was read since is the back.
+pub stops_behind : (from mid to before after : Option (List ℕ)) (start now later : ServiceValue) (line piece : List ℕ)
+    → ServesPart from mid before after start now line → Consumes mid to piece → later.safe ≡ now.safe
+    → Stops from to before after start later faults.NoMemory × Stops from to before after start later faults.Device
+    × Stops from to before after start later faults.Read × Stops from to before after start later faults.TooLong
+stops_behind from mid to before after start now later line piece part more same =
+    let s = part.serves in
+    let consumed : Consumes from to (s.read ++ piece) = Consumes-trans from mid to s.read piece s.consumed more in
+    let safe : IsCopyOf later.safe now.served.site.bytes =
+    subst (λ (k : Option (List ℕ)). IsCopyOf k now.served.site.bytes) (sym same) s.settled.safe in (
+      record { front = s.read; back = piece; consumed = consumed; last = now; text = s.text; answers = s.answers; out = s.written; settled = s.settled; safe = safe },
+      record { front = s.read; back = piece; consumed = consumed; last = now; text = s.text; answers = s.answers; out = s.written; settled = s.settled; safe = safe },
+      record { front = s.read; back = piece; consumed = consumed; last = now; text = s.text; answers = s.answers; out = s.written; settled = s.settled; safe = safe },
+      record { front = s.read; back = piece; consumed = consumed; last = now; text = s.text; answers = s.answers; out = s.written; settled = s.settled; safe = safe },
+    )
+
+-- no byte was read since
+pub stops_kept : (from mid to before after : Option (List ℕ)) (start now : ServiceValue) (line : List ℕ)
+    → ServesPart from mid before after start now line → Keeps mid to → Stops from to before after start now faults.Read
+stops_kept from mid to before after start now line part keeps =
+    let s = part.serves in record {
+      front = s.read;
+      back = [];
+      consumed = subst (Consumes from to) (sym (append-nil s.read)) (Consumes-kept from mid to s.read s.consumed keeps);
+      last = now;
+      text = s.text;
+      answers = s.answers;
+      out = s.written;
+      settled = s.settled;
+      safe = s.settled.safe;
+    }
+
+-- the end of the input
+pub serves_all : (from mid to before after : Option (List ℕ)) (start now : ServiceValue) (line : List ℕ)
+    → ServesPart from mid before after start now line → Consumes mid to [] → Serves from to before after start now
+serves_all from mid to before after start now line part none =
+    let s = part.serves in record {
+      read = s.read;
+      consumed = subst (Consumes from to) (append-nil s.read) (Consumes-trans from mid to s.read [] s.consumed none);
+      text = s.text;
+      answers = s.answers;
+      written = s.written;
+      waiting = s.waiting;
+      settled = s.settled;
+    }
+
+-- ---- a batch
+
+module _ (from mid to before half after : Option (List ℕ)) (start now answered : ServiceValue) (line piece : List ℕ)
+    (part : ServesPart from mid before half start now line) (more : Consumes mid to piece)
+    (all : HasAnsweredAll (whole_lines_after (last_part part.serves.read) piece) now answered) where
+  lines_read : whole_lines (part.serves.read ++ piece) ≡ whole_lines part.serves.read ++ whole_lines_after (last_part part.serves.read) piece
+  lines_read = whole_lines_after-append [] part.serves.read piece
+
+  answers_read : AnswersLines start.served (whole_lines (part.serves.read ++ piece)) answered.served (part.serves.text ++ all.text)
+  answers_read =
+      subst (λ (ls : List (List ℕ)). AnswersLines start.served ls answered.served (part.serves.text ++ all.text)) (sym lines_read)
+      (answers_after start.served now.served answered.served (whole_lines part.serves.read)
+      (whole_lines_after (last_part part.serves.read) piece) part.serves.text all.text part.serves.answers all.answers)
+
+  -- what waits is the text of the batch
+  waits : answered.waiting ≡ all.text
+  waits = all.added ∙ ap (λ (t : List ℕ). t ++ all.text) part.serves.waiting
+
+  texts : (start.waiting ++ part.serves.text) ++ answered.waiting ≡ start.waiting ++ (part.serves.text ++ all.text)
+  texts = ap (λ (t : List ℕ). (start.waiting ++ part.serves.text) ++ t) waits ∙ append_assoc start.waiting part.serves.text all.text
+
+  -- it is let out
+  pub serves_batch : (later : ServiceValue) (left : List ℕ) → later.served ≡ answered.served → LetsOut half after answered later
+      → IsKeptOf (last_part_after (last_part part.serves.read) piece) left → ServesPart from to before after start later left
+  serves_batch later left same out keeps = record {
+    serves = record {
+      read = part.serves.read ++ piece;
+      consumed = Consumes-trans from mid to part.serves.read piece part.serves.consumed more;
+      text = part.serves.text ++ all.text;
+      answers = subst (λ s. AnswersLines start.served (whole_lines (part.serves.read ++ piece)) s (part.serves.text ++ all.text)) (sym same)
+          answers_read;
+      written = subst (Appends before after) texts
+          (Appends-trans before half after (start.waiting ++ part.serves.text) answered.waiting part.serves.written out.out);
+      waiting = out.waiting;
+      settled = out.settled;
+    };
+    kept = subst (λ (p : List ℕ). IsKeptOf p left) (sym (last_part_after-append [] part.serves.read piece)) keeps;
+  }
+
+  -- a front of it is written
+  pub stops_batch : (later : ServiceValue) → later.served ≡ answered.served → IsSettled later → AppendsPrefix half after answered.waiting
+      → Stops from to before after start later faults.Write
+  stops_batch later same settled front = record {
+    front = part.serves.read ++ piece;
+    back = [];
+    consumed = subst (Consumes from to) (sym (append-nil (part.serves.read ++ piece)))
+        (Consumes-trans from mid to part.serves.read piece part.serves.consumed more);
+    last = later;
+    text = part.serves.text ++ all.text;
+    answers = subst (λ s. AnswersLines start.served (whole_lines (part.serves.read ++ piece)) s (part.serves.text ++ all.text)) (sym same)
+        answers_read;
+    out = subst (AppendsPrefix before after) texts
+        (prefix_after before half after (start.waiting ++ part.serves.text) answered.waiting part.serves.written front);
+    settled = settled;
+    safe = settled.safe;
+  }
+
+-- ---- a fault of a release
+
+-- in the middle of a serving
+pub stops_release : (from mid to before half after : Option (List ℕ)) (start now answered later : ServiceValue) (line piece : List ℕ)
+    (part : ServesPart from mid before half start now line) → Consumes mid to piece
+    → HasAnsweredAll (whole_lines_after (last_part part.serves.read) piece) now answered → KeepsLog now answered
+    → later.served ≡ answered.served → (fault : ServeFault) → HoldsBack half after answered later fault
+    → Stops from to before after start later fault
+stops_release from mid to before half after start now answered later line piece part more all keeps same faults.Device held =
+    subst (λ (w : Option (List ℕ)). Stops from to before w start later faults.Device) (sym held.0)
+    (stops_behind from mid to before half start now later line piece part more (held.2 ∙ keeps.safe)).1
+stops_release from mid to before half after start now answered later line piece part more all keeps same faults.Write held =
+    stops_batch from mid to before half after start now answered line piece part more all later same held.0 held.1
+stops_release from mid to before half after start now answered later line piece part more all keeps same faults.Read held = absurd held
+stops_release from mid to before half after start now answered later line piece part more all keeps same faults.TooLong held = absurd held
+stops_release from mid to before half after start now answered later line piece part more all keeps same faults.NoMemory held = absurd held
+
+-- before the first read
+pub stops_at_first : (from before after : Option (List ℕ)) (start now : ServiceValue) → now.served ≡ start.served → (fault : ServeFault)
+    → HoldsBack before after start now fault → StopsAtOnce from from before after fault ⊎ Stops from from before after start now fault
+stops_at_first from before after start now same faults.Device held = inl (record { device = refl; unread = refl; unwritten = held.0 })
+stops_at_first from before after start now same faults.Write held = inr (stops_first from before after start now same held.0 held.1)
+stops_at_first from before after start now same faults.Read held = absurd held
+stops_at_first from before after start now same faults.TooLong held = absurd held
+stops_at_first from before after start now same faults.NoMemory held = absurd held
+
+-- ---- what is counted
+
+module _ (before after : Option (List ℕ)) (old new : ServiceValue) where
+  pub held_reads : (fault : ServeFault) (count : ℕ) → HoldsBack before after old new fault → count ≡ reads_failed fault count
+  held_reads faults.Device count held = refl
+  held_reads faults.Write count held = refl
+  held_reads faults.Read count held = absurd held
+  held_reads faults.TooLong count held = absurd held
+  held_reads faults.NoMemory count held = absurd held
+
+  pub held_not_read : (fault : ServeFault) → HoldsBack before after old new fault → fault ≡ faults.Read → ⊥
+  held_not_read fault held is = subst (HoldsBack before after old new) is held
+
+pub writes_from : {T : Type 0} (r : Result T ServeFault) (start mid after : ℕ) → mid ≡ start → CountsWrites r mid after
+    → CountsWrites r start after
+writes_from r start mid after same counts = subst (λ n. CountsWrites r n after) same counts
+
+pub reads_from : {T : Type 0} (r : Result T ServeFault) (start mid after : ℕ) → mid ≡ start → CountsReads r mid after
+    → CountsReads r start after
+reads_from r start mid after same counts = subst (λ n. CountsReads r n after) same counts

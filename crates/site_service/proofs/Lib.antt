@@ -1,0 +1,9 @@
+pub mod Stops
+pub mod Whole
+pub mod Ends
+pub mod WholeLogs
+pub mod Links
+pub mod Questions
+pub mod Told
+pub mod Lines
+pub mod Batches

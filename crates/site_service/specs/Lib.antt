@@ -1,0 +1,7 @@
+pub mod Answers
+pub mod Service
+pub mod Opening
+pub mod Serving
+pub mod Stops
+pub mod Kept
+pub mod Asking

@@ -1,0 +1,120 @@
+-- A service as its callers see it, and what its calls do (this project).
+use Rattle.std.specs.Prelude.{◌≡◌, ◌≤◌, ℕ, Bool, true, false, List, [], ◌++◌, length, take, Option, Some}
+use Rattle.std.specs.Io.KnownBytes.{Appends}
+use Rattle.field_bounds.specs.Schema.{SchemaValue}
+use Rattle.field_bounds.specs.declared.entry.Command.{Command}
+use Rattle.kept_records.specs.declared.medium.Mishap.TheVariants.{Never}
+use Rattle.kept_records.specs.declared.record.Record.{Record}
+use Rattle.site_step.specs.Site.{SiteValue, Holds}
+use Rattle.script_input.specs.Streams.{AppendsPrefix}
+use Rattle.file_medium.specs.Copies.{IsCopyOf}
+use Rattle.site_service.specs.declared.fault.ServeFault.{ServeFault}
+use Rattle.site_service.specs.declared.fault.ServeFault.TheVariants as faults
+use Rattle.site_service.specs.Answers.{Served, Answered, IsAnswer, AnswersLine, AnswersLines}
+
+-- What the answers depend on; the text of the answers that wait to be let out; the bytes that the log's file holds, and those of
+-- it that are safe, where they are known; how many of the medium's bytes are settled there; and whether a call of the file that
+-- was to settle more has failed.
+pub record ServiceValue : Type 0 where
+  pub served : Served
+  pub waiting : List ℕ
+  pub log : Option (List ℕ)
+  pub safe : Option (List ℕ)
+  pub settled : ℕ
+  pub lost : Bool
+
+-- A service's value, from its parts.
+abbrev pub value_of : SiteValue → ℕ → List ℕ → Option (List ℕ) → Option (List ℕ) → ℕ → Bool → ServiceValue
+value_of site lines waiting log safe settled lost =
+    record {
+      served = record { site = site; lines = lines };
+      waiting = waiting;
+      log = log;
+      safe = safe;
+      settled = settled;
+      lost = lost;
+    }
+
+-- ---- the link between the medium and the log
+
+-- The site stands on a medium that never fails, and that holds lawful records and nothing behind them.
+pub record IsWhole (v : SiteValue) : Type 0 where
+  pub never : v.foretold ≡ Some Never
+  pub records : List Record
+  pub log : Holds v.schema v.site.0 v.bytes records []
+
+-- The site goes on over such a medium, to which it only appends.
+pub record Grows (old new : SiteValue) : Type 0 where
+  pub whole : IsWhole new
+  pub added : List ℕ
+  pub bytes : new.bytes ≡ old.bytes ++ added
+  pub schema : new.schema ≡ old.schema
+
+-- What is safe of the log is the first so many of the medium's bytes, which are settled; and so is all that the log holds, unless
+-- a call of its file has failed. The schema is the site's.
+pub record IsLinked (schema : SchemaValue) (v : ServiceValue) : Type 0 where
+  pub own : schema ≡ v.served.site.schema
+  pub whole : IsWhole v.served.site
+  pub within : v.settled ≤ length v.served.site.bytes
+  pub safe : IsCopyOf v.safe (take v.settled v.served.site.bytes)
+  pub log : v.lost ≡ false → IsCopyOf v.log (take v.settled v.served.site.bytes)
+
+-- All that the medium holds is in the log, and safe there: so the record of each answer so far.
+pub record IsSettled (v : ServiceValue) : Type 0 where
+  pub sound : v.lost ≡ false
+  pub log : IsCopyOf v.log v.served.site.bytes
+  pub safe : IsCopyOf v.safe v.served.site.bytes
+
+-- ---- the calls
+
+-- The log is as before, and so is what is settled of it.
+pub record KeepsLog (old new : ServiceValue) : Type 0 where
+  pub log : new.log ≡ old.log
+  pub safe : new.safe ≡ old.safe
+  pub settled : new.settled ≡ old.settled
+  pub lost : new.lost ≡ old.lost
+
+-- The output has grown by the answer to the line of this number.
+pub record Tells (line : List ℕ) (old : SiteValue) (number : ℕ) (new : SiteValue) (out grown : List ℕ) : Type 0 where
+  pub text : List ℕ
+  pub answer : IsAnswer old line number new text
+  pub added : grown ≡ out ++ text
+
+-- The output has grown by the entry of a command that was carried out.
+pub record TellsEntry (command : Command) (old new : SiteValue) (out grown : List ℕ) : Type 0 where
+  pub text : List ℕ
+  pub answered : Answered old command new text
+  pub added : grown ≡ out ++ text
+
+-- A command is carried out, and its answer waits behind those that waited.
+pub record HasApplied (command : Command) (old new : ServiceValue) : Type 0 where
+  pub tells : TellsEntry command old.served.site new.served.site old.waiting new.waiting
+  pub lines : new.served.lines ≡ old.served.lines
+
+-- A line is answered, and its answer waits behind those that waited.
+pub record HasAnswered (line : List ℕ) (old new : ServiceValue) : Type 0 where
+  pub text : List ℕ
+  pub answer : AnswersLine old.served line new.served text
+  pub added : new.waiting ≡ old.waiting ++ text
+
+-- Lines are answered one after the other, and their answers wait behind those that waited.
+pub record HasAnsweredAll (lines : List (List ℕ)) (old new : ServiceValue) : Type 0 where
+  pub text : List ℕ
+  pub answers : AnswersLines old.served lines new.served text
+  pub added : new.waiting ≡ old.waiting ++ text
+
+-- What a release that went well leaves: all is settled, the text of the answers that waited was written, all of it, and none waits.
+pub record LetsOut (before after : Option (List ℕ)) (old new : ServiceValue) : Type 0 where
+  pub settled : IsSettled new
+  pub out : Appends before after old.waiting
+  pub waiting : new.waiting ≡ []
+
+-- What a fault of a release leaves. Device: the sink holds what it held, what was safe still is, and nothing will be let out any
+-- more. Write: all is settled, a front of the answers was written, and none waits. No other fault comes.
+abbrev pub HoldsBack : Option (List ℕ) → Option (List ℕ) → ServiceValue → ServiceValue → ServeFault → Type 0
+HoldsBack before after old new faults.Device =
+    (after ≡ before) × (new.waiting ≡ old.waiting) × (new.safe ≡ old.safe) × (new.lost ≡ true)
+HoldsBack before after old new faults.Write = IsSettled new × AppendsPrefix before after old.waiting × (new.waiting ≡ [])
+HoldsBack before after old new faults.Read = ⊥
+HoldsBack before after old new faults.TooLong = ⊥
+HoldsBack before after old new faults.NoMemory = ⊥

@@ -1,0 +1,90 @@
+-- What a served site reads and lets out (this project).
+use Rattle.std.specs.Prelude.{◌≡◌, ◌⊎◌, ◌<◌, ℕ, Bool, true, false, List, [], ◌++◌, length, Option, Result, Ok, Err}
+use Rattle.std.specs.Io.KnownBytes.{Appends, Consumes, IsAtEnd}
+use Rattle.entry_text.specs.Lines.{max_line}
+use Rattle.script_input.specs.Lines.{whole_lines, last_part}
+use Rattle.script_input.specs.Streams.{AppendsPrefix, one_more}
+use Rattle.file_medium.specs.Copies.{IsCopyOf}
+use Rattle.site_service.specs.declared.fault.ServeFault.{ServeFault}
+use Rattle.site_service.specs.declared.fault.ServeFault.TheVariants as faults
+use Rattle.site_service.specs.Answers.{AnswersLines}
+use Rattle.site_service.specs.Service.{ServiceValue, IsSettled}
+
+-- What is kept of a part of a line: all of it, or, of more than 256 bytes, more than 256.
+abbrev pub IsKeptOf : List ℕ → List ℕ → Type 0
+IsKeptOf part kept = (kept ≡ part) ⊎ ((max_line < length kept) × (max_line < length part))
+
+-- The reader has lost what was read. What waited at first was written, and behind it exactly the text of the answers to the whole
+-- lines that were read; none waits, and the record of each is safe.
+pub record Serves (from to before after : Option (List ℕ)) (start now : ServiceValue) : Type 0 where
+  pub read : List ℕ
+  pub consumed : Consumes from to read
+  pub text : List ℕ
+  pub answers : AnswersLines start.served (whole_lines read) now.served text
+  pub written : Appends before after (start.waiting ++ text)
+  pub waiting : now.waiting ≡ []
+  pub settled : IsSettled now
+
+-- The same between two reads: of the line that is being read so much is kept.
+pub record ServesPart (from to before after : Option (List ℕ)) (start now : ServiceValue) (line : List ℕ) : Type 0 where
+  pub serves : Serves from to before after start now
+  pub kept : IsKeptOf (last_part serves.read) line
+
+-- The serving goes on, or the input has ended: a last line without a line feed is no line.
+abbrev pub ServesOn : Option (List ℕ) → Option (List ℕ) → Option (List ℕ) → Option (List ℕ) → ServiceValue → ServiceValue
+    → List ℕ → Bool → Type 0
+ServesOn from to before after start now line true = ServesPart from to before after start now line
+ServesOn from to before after start now line false = Serves from to before after start now × IsAtEnd to
+
+-- What was written by the time of a fault, of this text: a front of it at a write fault, and else all.
+abbrev pub IsOutAt : ServeFault → Option (List ℕ) → Option (List ℕ) → List ℕ → Type 0
+IsOutAt faults.Write before after text = AppendsPrefix before after text
+IsOutAt faults.Read before after text = Appends before after text
+IsOutAt faults.Device before after text = Appends before after text
+IsOutAt faults.TooLong before after text = Appends before after text
+IsOutAt faults.NoMemory before after text = Appends before after text
+
+-- A fault ends the serving. What was read is a front, whose batches were let out, and the rest: what was written is exactly what
+-- waited at first and the text of the answers to the whole lines of the front, at a write fault a front of that. The record of each
+-- of these answers is safe: they were answered by a site whose bytes are all safe, then and still.
+pub record Stops (from to before after : Option (List ℕ)) (start now : ServiceValue) (fault : ServeFault) : Type 0 where
+  pub front : List ℕ
+  pub back : List ℕ
+  pub consumed : Consumes from to (front ++ back)
+  pub last : ServiceValue
+  pub text : List ℕ
+  pub answers : AnswersLines start.served (whole_lines front) last.served text
+  pub out : IsOutAt fault before after (start.waiting ++ text)
+  pub settled : IsSettled last
+  pub safe : IsCopyOf now.safe last.served.site.bytes
+
+-- What waited at first wasn't let out, since the log's file failed: nothing was read and nothing written.
+pub record StopsAtOnce (from to before after : Option (List ℕ)) (fault : ServeFault) : Type 0 where
+  pub device : fault ≡ faults.Device
+  pub unread : to ≡ from
+  pub unwritten : after ≡ before
+
+-- How many reads failed, after a call that this fault ends: one more at a read fault, and else as many.
+abbrev pub reads_failed : ServeFault → ℕ → ℕ
+reads_failed faults.Read count = one_more count
+reads_failed faults.Write count = count
+reads_failed faults.Device count = count
+reads_failed faults.TooLong count = count
+reads_failed faults.NoMemory count = count
+
+-- How many writes were refused, after a call that this fault ends.
+abbrev pub writes_refused : ServeFault → ℕ → ℕ
+writes_refused faults.Write count = one_more count
+writes_refused faults.Read count = count
+writes_refused faults.Device count = count
+writes_refused faults.TooLong count = count
+writes_refused faults.NoMemory count = count
+
+-- How many reads failed, and how many writes were refused, after a call that ends so.
+abbrev pub CountsReads : {T : Type 0} → Result T ServeFault → ℕ → ℕ → Type 0
+CountsReads (Ok x) before after = after ≡ before
+CountsReads (Err fault) before after = after ≡ reads_failed fault before
+
+abbrev pub CountsWrites : {T : Type 0} → Result T ServeFault → ℕ → ℕ → Type 0
+CountsWrites (Ok x) before after = after ≡ before
+CountsWrites (Err fault) before after = after ≡ writes_refused fault before

@@ -1,0 +1,130 @@
+//! The answers of a site, as text.
+
+ghost use Rattle.std.specs.Prelude.{◌≡◌, ◌<◌, ◌++◌, ◌∷◌, [], ℕ, Bool, List, length, take, OnOk, OnErr};
+ghost use Rattle.entry_text.specs.Spelling.{entry_text};
+ghost use Rattle.entry_text.specs.Lines.{max_line};
+ghost use Rattle.site_service.specs.Kept.{TellsCommit, kept_words};
+ghost use Rattle.site_service.specs.Service.{IsWhole, Grows, Tells, TellsEntry};
+
+use crate::asking::{Request, asked};
+use crate::bad_line::add_bad;
+use crate::kept::holds_commit;
+use entry_text::append_entry;
+use field_bounds::{Command, Entry, Schema, TxnId};
+use kept_records::MemoryMedium;
+use site_step::Site;
+use std::alloc::{AllocError, Global};
+
+// Adds the text of an entry and an LF, or changes nothing where memory is refused.
+fn add_entry(out: &mut Vec<u8>, schema: &Schema, entry: Entry) -> Result<(), AllocError>
+    ensures ok { OnOk result (out.new.items
+        ≡ out.old.items ++ (entry_text schema.now entry ++ 10 ∷ [])) }
+    ensures err { OnErr result (out.new.items ≡ out.old.items) }
+{
+    let kept = out.len();
+    append_entry(out, schema, entry)?;
+    if out.push(b'\n').is_err() {
+        out.truncate(kept);
+        return Err(AllocError);
+    }
+    Ok(())
+}
+
+/// Carries out a command, and adds its entry as a line. Where memory is refused nothing is added;
+/// the command may have been carried out.
+pub(crate) fn carry_out(
+    alloc: Global,
+    site: &mut Site<MemoryMedium>,
+    schema: &Schema,
+    out: &mut Vec<u8>,
+    command: Command,
+) -> Result<(), AllocError>
+    requires schema { schema.now ≡ site.old.schema }
+    ensures ok { OnOk result (TellsEntry command site.old site.new out.old.items out.new.items) }
+    ensures err { OnErr result (out.new.items ≡ out.old.items) }
+    ensures grows { IsWhole site.old → Grows site.old site.new }
+{
+    let number = site.site();
+    let reply = site.apply(alloc, command)?;
+    add_entry(
+        out,
+        schema,
+        Entry {
+            site: number,
+            command,
+            reply,
+        },
+    )
+}
+
+// The words that tell whether a commit is kept.
+fn words(kept: bool) -> &'static [u8]
+    ensures { result.now ≡ kept_words kept }
+{
+    if kept { b" -> yes\n" } else { b" -> no\n" }
+}
+
+// Adds a question and its answer. Where memory is refused a front of it may have been added.
+fn push_kept(out: &mut Vec<u8>, line: &[u8], kept: bool) -> Result<(), AllocError>
+    ensures ok { OnOk result (out.new.items ≡ out.old.items ++ (line.now ++ kept_words kept)) }
+    ensures err { OnErr result (take (length out.old.items) out.new.items ≡ out.old.items) }
+{
+    out.extend_from_slice(line)?;
+    out.extend_from_slice(words(kept))
+}
+
+// The same, or changes nothing where memory is refused.
+fn add_kept(out: &mut Vec<u8>, line: &[u8], kept: bool) -> Result<(), AllocError>
+    ensures ok { OnOk result (out.new.items ≡ out.old.items ++ (line.now ++ kept_words kept)) }
+    ensures err { OnErr result (out.new.items ≡ out.old.items) }
+{
+    let before = out.len();
+    if push_kept(out, line, kept).is_err() {
+        out.truncate(before);
+        return Err(AllocError);
+    }
+    Ok(())
+}
+
+// Adds a question for a commit with its answer, or nothing where memory is refused.
+fn tell_commit(
+    alloc: Global,
+    log: &[u8],
+    out: &mut Vec<u8>,
+    line: &[u8],
+    txn: TxnId,
+) -> Result<(), AllocError>
+    ensures ok { OnOk result ((kept : Bool) × TellsCommit log.now txn kept
+        × (out.new.items ≡ out.old.items ++ (line.now ++ kept_words kept))) }
+    ensures err { OnErr result (out.new.items ≡ out.old.items) }
+{
+    let kept = holds_commit(alloc, log, txn)?;
+    add_kept(out, line, kept)?;
+    Ok(())
+}
+
+/// Answers the line of this number: adds the entry of the command that it asks, or whether a commit
+/// is in the log, or that it asks nothing. Where memory is refused nothing is added; a command may
+/// have been carried out. The answer to a line that is too long is that to each such line.
+pub(crate) fn answer_line(
+    alloc: Global,
+    site: &mut Site<MemoryMedium>,
+    schema: &Schema,
+    out: &mut Vec<u8>,
+    number: u64,
+    line: &[u8],
+) -> Result<(), AllocError>
+    requires schema { schema.now ≡ site.old.schema }
+    ensures ok { OnOk result (Tells line.now site.old number site.new out.old.items
+        out.new.items) }
+    ensures long { (whole : List ℕ) → max_line < length line.now → max_line < length whole
+        → OnOk result (Tells whole site.old number site.new out.old.items out.new.items) }
+    ensures err { OnErr result (out.new.items ≡ out.old.items) }
+    ensures grows { IsWhole site.old → Grows site.old site.new }
+{
+    match asked(schema, site.site(), line) {
+        Ok(Request::Do(command)) => carry_out(alloc, site, schema, out, command),
+        Ok(Request::Kept(txn)) => tell_commit(alloc, site.medium().bytes(), out, line, txn),
+        Err(why) => add_bad(out, number, why),
+    }
+}

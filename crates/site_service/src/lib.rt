@@ -1,0 +1,22 @@
+//! One site, served over lines of text, and a log in a file that follows the site's medium: no
+//! answer is let out before the log holds its record and is safe.
+#![tactic(auto)]
+
+mod answering;
+mod asking;
+mod bad_line;
+mod fault;
+mod following;
+mod kept;
+mod laws;
+mod opening;
+mod service;
+mod serving;
+
+pub use bad_line::BadLine;
+pub use fault::ServeFault;
+pub use laws::stop_leaves_a_front;
+pub use script_input::{CallFailed, End, Sink, Source, Watched};
+pub use service::Service;
+pub use serving::serve;
+pub use site_step::OpenFault;

@@ -1,0 +1,215 @@
+//! A site over a log that follows its medium.
+
+ghost use Rattle.std.specs.Prelude.{◌≡◌, ◌<◌, true, length, List, ℕ, IfOk, IfErr, OnOk, OnErr};
+ghost use Rattle.entry_text.specs.Lines.{max_line};
+ghost use Rattle.script_input.specs.Streams.{HasRefused};
+ghost use Rattle.site_service.specs.Kept.{TellsCommit};
+ghost use Rattle.site_service.specs.Opening.{IsOpened, TellsBadLine};
+ghost use Rattle.site_service.specs.Service.{IsSettled, KeepsLog, HasApplied, HasAnswered, LetsOut, HoldsBack};
+ghost use Rattle.site_service.specs.Serving.{CountsWrites};
+
+use crate::answering::{answer_line, carry_out};
+use crate::fault::ServeFault;
+use crate::following::{add_safely, let_out};
+use crate::kept::holds_commit;
+use crate::opening::{open_site, read_lines};
+use field_bounds::{Command, Schema, SiteNo, TxnId};
+use file_medium::{FileFailed, LogFile};
+use kept_records::{Device, MemoryMedium};
+use script_input::Sink;
+use site_step::{OpenFault, Site};
+use std::alloc::{AllocError, Global};
+use std::marker::Model;
+
+/// One site that answers at once, over a medium in memory, and lets its answers out in batches: the
+/// log's file is given what the medium holds, and is synced, before the text of a batch leaves.
+/// There is no other way out for a text, so no answer is seen whose record isn't safe.
+///
+/// The medium never fails, so no answer is in doubt and no restart fails. Where a call of the file
+/// fails while the log is to follow, nothing is let out any more: what the file then has is seen by
+/// who opens the log anew.
+///
+/// Contracts see the site and how many lines were answered; the text that waits; the bytes of the
+/// file and those that are safe, as far as it tells them; how many of the medium's bytes are
+/// settled; and whether the file has failed. At all times the safe bytes are the settled ones of
+/// the medium, and so are those of the file, unless it has failed. Costs memory for the log once,
+/// for the site's records and history, and for the text that waits. Source: this project.
+#[derive(Drop)]
+pub struct Service<F: LogFile> {
+    site: Site<MemoryMedium>,
+    schema: Schema,
+    lines: u64,
+    waiting: Vec<u8>,
+    log: F,
+    settled: usize,
+    lost: bool,
+}
+
+impl<F: LogFile> Model for Service<F> {
+    ghost use Rattle.site_service.specs.Service.{ServiceValue, value_of, IsLinked};
+
+    ghost Value = { ServiceValue };
+
+    ghost view = { λ s. value_of s.site s.lines s.waiting.items (F.bytes s.log) (F.safe s.log)
+        s.settled s.lost };
+
+    ghost invariant = { λ s. IsLinked s.schema (value_of s.site s.lines s.waiting.items
+        (F.bytes s.log) (F.safe s.log) s.settled s.lost) };
+}
+
+impl<F: LogFile + Drop> Service<F> {
+    /// Opens the site of this number over a log, and restarts it: the answer to that waits. What
+    /// stands behind the last line feed is a torn record, and is cut off; then all that the log
+    /// holds is safe, the record of the restart included.
+    ///
+    /// `Line(n)`: line n of the log, from 1, is the first that is no record or breaks a rule of a
+    /// kept log; that never comes over what a service left, wherever a stop fell. `Device`: a call
+    /// of the file failed. `NoMemory`: memory is wanting. Either lets go of the file. Costs two
+    /// syncs, and memory for the bytes of the log and for its records.
+    pub fn open(
+        alloc: Global,
+        schema: Schema,
+        number: SiteNo,
+        log: F,
+    ) -> Result<Service<F>, OpenFault>
+        requires in_schema { number.0 < schema.sites }
+        ensures ok { IfOk result (IsOpened schema number (F.bytes log)) }
+        ensures line { IfErr result (TellsBadLine schema number (F.bytes log)) }
+    {
+        let mut log = log;
+        let held = read_lines(alloc, &mut log)?;
+        let settled = held.len();
+        let site = open_site(alloc, &schema, number, held)?;
+        let mut service = Service {
+            site,
+            schema,
+            lines: 0,
+            waiting: Vec::new(alloc),
+            log,
+            settled,
+            lost: false,
+        };
+        service.apply(alloc, Command::Restart)?;
+        match service.settle() {
+            Ok(()) => Ok(service),
+            Err(Device) => Err(OpenFault::Device),
+        }
+    }
+}
+
+impl<F: LogFile> Service<F> {
+    /// The site, to be looked at. Costs no memory.
+    pub fn site(&self) -> &Site<MemoryMedium>
+        ensures value { result.now ≡ self.now.served.site }
+    {
+        &self.site
+    }
+
+    /// Whether a call of the file has failed, so that nothing is let out any more. Costs no memory.
+    pub fn is_lost(&self) -> bool
+        ensures value { result ≡ self.now.lost }
+    {
+        self.lost
+    }
+
+    /// Whether the commit of a transaction is in the log: so a client finds out whose answer didn't
+    /// come. Where it is yes, the commit is safe once the log is settled, as before any answer is
+    /// let out. The error is want of memory. Costs a pass over the log, and memory for its records.
+    pub fn has_kept(&self, alloc: Global, txn: TxnId) -> Result<bool, AllocError>
+        ensures kept { IfOk result (TellsCommit self.now.served.site.bytes txn) }
+    {
+        holds_commit(alloc, self.site.medium().bytes(), txn)
+    }
+
+    /// Carries out a command; the line of its entry waits. Where memory is refused no answer waits;
+    /// the command may have been carried out, as by a stop of which nobody sees the answer. Costs
+    /// what the site's own step costs, and the text.
+    pub fn apply(&mut self, alloc: Global, command: Command) -> Result<(), AllocError>
+        ensures ok { OnOk result (HasApplied command self.old self.new) }
+        ensures err { OnErr result (self.new.waiting ≡ self.old.waiting) }
+        ensures log { KeepsLog self.old self.new }
+    {
+        carry_out(
+            alloc,
+            &mut self.site,
+            &self.schema,
+            &mut self.waiting,
+            command,
+        )
+    }
+
+    /// Answers a line, without its LF: the entry of the command that it asks of this site; or `bad
+    /// line N WHY`, N the number of the line, from 1 since the service was opened. The answer
+    /// waits. The answer to a line of more than 256 bytes is that to any other such line. Where
+    /// memory is refused no answer waits; a command may have been carried out.
+    pub fn answer(&mut self, alloc: Global, line: &[u8]) -> Result<(), AllocError>
+        ensures ok { OnOk result (HasAnswered line.now self.old self.new) }
+        ensures long { (whole : List ℕ) → max_line < length line.now → max_line < length whole
+            → OnOk result (HasAnswered whole self.old self.new) }
+        ensures err { OnErr result (self.new.waiting ≡ self.old.waiting) }
+        ensures log { KeepsLog self.old self.new }
+    {
+        self.lines = self.lines.wrapping_add(1);
+        answer_line(
+            alloc,
+            &mut self.site,
+            &self.schema,
+            &mut self.waiting,
+            self.lines,
+            line,
+        )
+    }
+
+    /// Brings the log to what the medium holds, by one sync where that is more than it has: at Ok
+    /// the record of each answer so far is safe. At the fault, which is a fault of the file in this
+    /// call or an earlier one, nothing is let out any more; what was safe still is. Costs no
+    /// memory.
+    pub fn settle(&mut self) -> Result<(), Device>
+        ensures ok { OnOk result (IsSettled self.new) }
+        ensures err { OnErr result (self.new.lost ≡ true) }
+        ensures safe { OnErr result (self.new.safe ≡ self.old.safe) }
+        ensures lost { self.old.lost ≡ true → self.new.lost ≡ true }
+        ensures served { self.new.served ≡ self.old.served }
+        ensures waiting { self.new.waiting ≡ self.old.waiting }
+    {
+        if self.lost {
+            return Err(Device);
+        }
+        let held = self.site.medium().bytes();
+        let all = held.len();
+        if self.settled == all {
+            return Ok(());
+        }
+        match add_safely(&mut self.log, &held[self.settled..]) {
+            Ok(()) => {
+                self.settled = all;
+                Ok(())
+            }
+            Err(FileFailed) => {
+                self.lost = true;
+                Err(Device)
+            }
+        }
+    }
+
+    /// Settles the log, and then writes the text that waits: all of it at Ok. The faults are
+    /// `Device`, at which the writer wasn't called, and `Write`, at which a front of the text was
+    /// written; none waits then, so that no answer is written twice. Costs no memory.
+    pub fn release<W: Sink>(&mut self, writer: &mut W) -> Result<(), ServeFault>
+        ensures ok { OnOk result (LetsOut (W.bytes writer.old) (W.bytes writer.new)
+            self.old self.new) }
+        ensures err { IfErr result (HoldsBack (W.bytes writer.old) (W.bytes writer.new)
+            self.old self.new) }
+
+        // At a device fault the writer is as it was.
+        ensures untouched { IfErr result (λ fault. fault ≡ ServeFault.Device
+            → writer.new ≡ writer.old) }
+        ensures served { self.new.served ≡ self.old.served }
+        ensures refused { IfErr result (λ fault. fault ≡ ServeFault.Write
+            → HasRefused (W.last writer.new)) }
+        ensures writes { CountsWrites result (W.refusals writer.old) (W.refusals writer.new) }
+    {
+        self.settle()?;
+        let_out(&mut self.waiting, writer)
+    }
+}
