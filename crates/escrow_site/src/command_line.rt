@@ -1,0 +1,226 @@
+//! What the command line asks for.
+
+use clap::builder::ValueParser;
+use clap::error::ErrorKind;
+use clap::{Arg, ArgAction, ArgMatches, Command, Error};
+use log_stand::Stand;
+use std::alloc::{AllocError, Global};
+use std::rt::Env;
+use std::{env, io};
+
+const ABOUT: &str = "Serves one site of an escrow database over a log in a folder";
+
+const EXAMPLE: &str = "\
+Each answer leaves it once the log has its record and is synced, so a stop at any
+moment loses nothing that was answered.
+
+Example:
+  escrow_site create shop --schema schema.json --site 0
+  escrow_site serve shop < commands.txt
+  escrow_site show shop
+
+Statuses: 0 done; 1 a read or write of the standard streams failed; 2 the command
+line or the schema is refused; 3 the folder or its log is refused; 4 out of memory;
+5 a call of the system failed at a file; 6 another process serves the folder.";
+
+const CREATE_ABOUT: &str = "Makes the folder of a site, with an empty log";
+
+const CREATE_EXAMPLE: &str = "\
+FILE has one line, the JSON header: the number of sites, 1 to 64, and 1 to 256
+fields, each with its floor, ceiling and value. Each site of a world is created
+once, with the same header and a number of its own, from 0. Nothing may be at the
+path FOLDER.
+
+Example of FILE:
+  {\"sites\":2,\"fields\":[{\"name\":\"stock\",\"floor\":0,\"ceiling\":100,\"value\":40}]}";
+
+const SERVE_ABOUT: &str = "Serves the site over standard input and output";
+
+const SERVE_EXAMPLE: &str = "\
+It writes `ready 1 EPOCH LENGTH`, the entry of the site's restart, and then a line
+for each line of the input: a command of `escrow run` at this site and its reply,
+`kept ID -> yes` or `no` for `kept ID`, or `bad line N WHY`. It ends with its input.
+
+Example input:
+  0 begin
+  0 escrow 1.1 stock -20
+  0 commit 1.1
+
+Its output in a new folder of site 0:
+  ready 1 1 4
+  0 restart -> restarted 1 nothing
+  0 begin -> begun 1.1
+  0 escrow 1.1 stock -20 -> granted
+  0 commit 1.1 -> committed";
+
+const NO_SYNC_HELP: &str = "Doesn't sync the log: a stop of the machine may lose what was answered";
+
+const NOT_BEFORE_HELP: &str = "Refuses a log with an earlier epoch or fewer bytes, as an old copy";
+
+const NOT_BEFORE_NAMES: &[&str] = &["EPOCH", "LENGTH"];
+
+const SHOW_ABOUT: &str = "Tells what the site's log stands for, served or not";
+
+/// What the command line asks for.
+#[derive(Drop)]
+pub(crate) enum Task {
+    Create {
+        folder: String,
+        schema: String,
+        site: u64,
+    },
+    Serve {
+        folder: String,
+        synced: bool,
+        not_before: Option<Stand>,
+    },
+    Show {
+        folder: String,
+    },
+}
+
+fn folder_arg<'a>(alloc: Global) -> Arg<'a> {
+    Arg::new(alloc, "FOLDER")
+        .help("The site's folder")
+        .required(true)
+        .action(ArgAction::Set)
+}
+
+fn create_command<'a>(alloc: Global) -> Result<Command<'a>, AllocError> {
+    let schema = Arg::new(alloc, "schema")
+        .long("schema")
+        .value_name("FILE")
+        .help("The file that holds the header")
+        .required(true)
+        .action(ArgAction::Set);
+    let site = Arg::new(alloc, "site")
+        .long("site")
+        .value_name("N")
+        .help("The number of the site")
+        .required(true)
+        .action(ArgAction::Set)
+        .value_parser(ValueParser::unsigned(0, u64::MAX));
+    Command::new(alloc, "create")
+        .about(CREATE_ABOUT)
+        .after_help(CREATE_EXAMPLE)
+        .arg(folder_arg(alloc))?
+        .arg(schema)?
+        .arg(site)
+}
+
+fn serve_command<'a>(alloc: Global) -> Result<Command<'a>, AllocError> {
+    let no_sync = Arg::new(alloc, "no-sync")
+        .long("no-sync")
+        .help(NO_SYNC_HELP)
+        .action(ArgAction::SetTrue);
+    let not_before = Arg::new(alloc, "not-before")
+        .long("not-before")
+        .value_names(NOT_BEFORE_NAMES)
+        .num_args(2)
+        .help(NOT_BEFORE_HELP)
+        .action(ArgAction::Set)
+        .value_parser(ValueParser::unsigned(0, u64::MAX));
+    Command::new(alloc, "serve")
+        .about(SERVE_ABOUT)
+        .after_help(SERVE_EXAMPLE)
+        .arg(folder_arg(alloc))?
+        .arg(no_sync)?
+        .arg(not_before)
+}
+
+fn show_command<'a>(alloc: Global) -> Result<Command<'a>, AllocError> {
+    Command::new(alloc, "show")
+        .about(SHOW_ABOUT)
+        .arg(folder_arg(alloc))
+}
+
+fn program<'a>(alloc: Global) -> Result<Command<'a>, AllocError> {
+    Command::new(alloc, "escrow_site")
+        .about(ABOUT)
+        .after_help(EXAMPLE)
+        .subcommand_required(true)
+        .arg_required_else_help(true)
+        .subcommand(create_command(alloc)?)?
+        .subcommand(serve_command(alloc)?)?
+        .subcommand(show_command(alloc)?)
+}
+
+// The text of an argument, or none where it isn't given, which clap refuses if it is required.
+fn text_of(alloc: Global, asked: &ArgMatches<'_>, id: &str) -> Result<String, AllocError> {
+    match asked.get_str(id) {
+        Some(text) => String::from_str(alloc, text),
+        None => Ok(String::new(alloc)),
+    }
+}
+
+// A number, which clap has read.
+fn number_of(text: &str) -> u64 {
+    text.parse::<u64>().unwrap_or(0)
+}
+
+// The stand that `--not-before` tells.
+fn not_before(asked: &ArgMatches<'_>) -> Option<Stand> {
+    match asked.get_strs("not-before")? {
+        [epoch, length] => Some(Stand {
+            epoch: number_of(epoch),
+            length: number_of(length),
+        }),
+        _ => None,
+    }
+}
+
+fn create_task(alloc: Global, asked: &ArgMatches<'_>) -> Result<Task, AllocError> {
+    Ok(Task::Create {
+        folder: text_of(alloc, asked, "FOLDER")?,
+        schema: text_of(alloc, asked, "schema")?,
+        site: asked.get_one::<u64>("site").unwrap_or(0),
+    })
+}
+
+fn serve_task(alloc: Global, asked: &ArgMatches<'_>) -> Result<Task, AllocError> {
+    Ok(Task::Serve {
+        folder: text_of(alloc, asked, "FOLDER")?,
+        synced: !asked.get_flag("no-sync"),
+        not_before: not_before(asked),
+    })
+}
+
+fn show_task(alloc: Global, asked: &ArgMatches<'_>) -> Result<Task, AllocError> {
+    Ok(Task::Show {
+        folder: text_of(alloc, asked, "FOLDER")?,
+    })
+}
+
+// The task that the words of a command line ask for.
+fn task_of(alloc: Global, matches: &ArgMatches<'_>) -> Result<Task, Error> {
+    match matches.subcommand() {
+        Some(("create", asked)) => Ok(create_task(alloc, asked)?),
+        Some(("serve", asked)) => Ok(serve_task(alloc, asked)?),
+        Some(("show", asked)) => Ok(show_task(alloc, asked)?),
+        _ => Err(program(alloc)?.error(ErrorKind::MissingSubcommand, "no subcommand")?),
+    }
+}
+
+// The words of the command line.
+fn read_words(
+    rt: &(impl Env + AllocGlobal),
+    command: &mut Command<'_>,
+) -> Result<Vec<String>, Error> {
+    match env::args(rt) {
+        Ok(words) => Ok(words.collect(rt.alloc())?),
+        Err(fault) if fault.kind() == io::ErrorKind::OutOfMemory => Err(AllocError.into()),
+        Err(_) => {
+            let words = "invalid UTF-8 was detected in one or more arguments";
+            Err(command.error(ErrorKind::InvalidValue, words)?)
+        }
+    }
+}
+
+/// What the command line asks for, or why it asks for nothing.
+pub(crate) fn read_task(rt: &(impl Env + AllocGlobal)) -> Result<Task, Error> {
+    let alloc = rt.alloc();
+    let mut command = program(alloc)?;
+    let words = read_words(rt, &mut command)?;
+    let matches = command.try_get_matches_from(words.as_slice())?;
+    task_of(alloc, &matches)
+}

@@ -1,0 +1,115 @@
+//! The command `create`.
+
+use crate::fault::{Fault, Why, asked, failed, header_words, refused, unread};
+use crate::folder::Paths;
+use site_folder::{Identity, IdentityFault, log_name, write_identity};
+use std::alloc::Global;
+use std::fs::File;
+use std::io::{ErrorKind, Write};
+use std::path::Path;
+use std::{fs, io};
+
+// The header that a schema's file tells: its bytes, without one line feed at the end.
+fn header_of(text: &[u8]) -> &[u8] {
+    match text {
+        [header @ .., b'\n'] => header,
+        _ => text,
+    }
+}
+
+// Why a header and a number make no site, as a fault of the schema's file.
+fn schema_fault(alloc: Global, schema: &str, number: u64, fault: IdentityFault) -> Fault {
+    let why = match fault {
+        IdentityFault::Lines => Why::ManyLines,
+        IdentityFault::Header(fault) => Why::Header(fault, header_words(fault)),
+        IdentityFault::Number => Why::NoNumber(number),
+        IdentityFault::Version | IdentityFault::NoIdentity | IdentityFault::World => Why::Damaged,
+        IdentityFault::NoMemory => return Fault::NoMemory,
+    };
+    asked(alloc, schema, why)
+}
+
+// The site of a number in the world of a schema's file.
+fn read_schema(rt: &HostRuntime, schema: &str, number: u64) -> Result<Identity, Fault> {
+    let alloc = rt.alloc();
+    let text = match fs::read(rt, schema) {
+        Ok(text) => text,
+        Err(error) => return Err(unread(alloc, schema, error)),
+    };
+    match Identity::new(alloc, number, header_of(text.as_slice())) {
+        Ok(identity) => Ok(identity),
+        Err(fault) => Err(schema_fault(alloc, schema, number, fault)),
+    }
+}
+
+// Makes the folder, which mustn't be there.
+fn make_folder(rt: &HostRuntime, paths: &Paths) -> Result<(), Fault> {
+    let folder = paths.folder.as_str();
+    match fs::create_dir(rt, folder) {
+        Ok(()) => Ok(()),
+        Err(error) if error.kind() == ErrorKind::AlreadyExists => {
+            Err(refused(rt.alloc(), folder, Why::FolderThere))
+        }
+        Err(error) => Err(failed(rt.alloc(), folder, error)),
+    }
+}
+
+// Writes a new file, and makes it safe from a stop of the machine.
+fn write_new(rt: &HostRuntime, path: &str, text: &[u8]) -> io::Result<()> {
+    let mut file = File::create_new(rt, path)?;
+    file.write_all(text)?;
+    file.sync_all()
+}
+
+// Writes a file of the folder.
+fn write_file(rt: &HostRuntime, path: &str, text: &[u8]) -> Result<(), Fault> {
+    match write_new(rt, path, text) {
+        Ok(()) => Ok(()),
+        Err(error) => Err(failed(rt.alloc(), path, error)),
+    }
+}
+
+// Writes the name of the log, and then, as the last of all, who the folder belongs to.
+fn write_files(rt: &HostRuntime, paths: &Paths, identity: &Identity) -> Result<(), Fault> {
+    let alloc = rt.alloc();
+    let name = log_name(alloc, identity)?;
+    write_file(rt, paths.log.as_str(), name.as_slice())?;
+    let text = write_identity(alloc, identity)?;
+    write_file(rt, paths.site.as_str(), text.as_slice())
+}
+
+// The folder in which a path lies.
+fn parent_of(path: &str) -> &str {
+    match Path::new(path).parent() {
+        Some(folder) if !folder.as_str().is_empty() => folder.as_str(),
+        Some(_) | None => ".",
+    }
+}
+
+// Makes the names in a folder safe from a stop of the machine.
+fn sync_folder(rt: &HostRuntime, folder: &str) -> Result<(), Fault> {
+    let synced = match File::open(rt, folder) {
+        Ok(opened) => opened.sync_all(),
+        Err(error) => Err(error),
+    };
+    match synced {
+        Ok(()) => Ok(()),
+        Err(error) => Err(failed(rt.alloc(), folder, error)),
+    }
+}
+
+/// Makes the folder of a site, with a log of no records, and makes it safe from a stop of the machine. A
+/// fault may leave a part of it.
+pub(crate) fn create(
+    rt: &HostRuntime,
+    folder: &str,
+    schema: &str,
+    number: u64,
+) -> Result<(), Fault> {
+    let identity = read_schema(rt, schema, number)?;
+    let paths = Paths::new(rt.alloc(), folder)?;
+    make_folder(rt, &paths)?;
+    write_files(rt, &paths, &identity)?;
+    sync_folder(rt, folder)?;
+    sync_folder(rt, parent_of(folder))
+}

@@ -1,0 +1,196 @@
+//! The command `show`.
+
+ghost use Rattle.std.specs.Prelude.{◌≡◌, ◌≤◌, ◌<◌, length, pos, neg_ℤ, IfOk, ◌+ℤ◌, ◌-ℤ◌, ◌≤ℤ◌};
+ghost use Rattle.field_bounds.specs.Limits.{max_quantity};
+ghost use Rattle.field_bounds.specs.Owed.{max_change};
+ghost use Rattle.field_bounds.specs.Parts.{field_at};
+ghost use Rattle.site_rights.specs.Rights.{guarded_at};
+
+use crate::fault::{Fault, Why, refused};
+use crate::folder::{Paths, read_file, read_site};
+use field_bounds::{FieldNo, Kind, Schema, SiteNo};
+use gift_ledger::{FieldAccounts, Ledger};
+use kept_records::read_front;
+use log_replay::{Replayed, Standing, replay};
+use site_folder::{Identity, log_name};
+use site_rights::Rights;
+use std::alloc::Global;
+use std::io;
+
+/// What the records of a log stand for, and their length in bytes.
+#[derive(Drop)]
+struct Shown {
+    length: usize,
+    standing: Standing,
+}
+
+// The fault that a line of the log is no record of the site.
+fn bad_record(alloc: Global, paths: &Paths, line: u64) -> Fault {
+    refused(alloc, paths.log.as_str(), Why::BadRecord(line))
+}
+
+// The records of a log's file, behind its name.
+fn behind_name<'a>(
+    alloc: Global,
+    paths: &Paths,
+    identity: &Identity,
+    bytes: &'a [u8],
+) -> Result<&'a [u8], Fault> {
+    let name = log_name(alloc, identity)?;
+    match bytes.strip_prefix(name.as_slice()) {
+        Some(records) => Ok(records),
+        None => Err(refused(alloc, paths.log.as_str(), Why::OtherLog)),
+    }
+}
+
+// Takes in the records of the log.
+fn read_records(rt: &HostRuntime, paths: &Paths, identity: &Identity) -> Result<Shown, Fault>
+    ensures fields { IfOk result (λ shown. length shown.standing.rights
+        ≡ length identity.now.schema.fields) }
+{
+    let alloc = rt.alloc();
+    let bytes = read_file(rt, paths.log.as_str(), Why::NoLog)?;
+    let records = behind_name(alloc, paths, identity, bytes.as_slice())?;
+    let front = read_front(alloc, records)?;
+    if let Some(line) = front.bad_line {
+        return Err(bad_record(alloc, paths, line));
+    }
+    let number = identity.number();
+    match replay(alloc, identity.schema(), number, front.records.as_slice())? {
+        Replayed::Standing(standing) => Ok(Shown {
+            length: front.length,
+            standing,
+        }),
+        Replayed::BreaksRule { number } => Err(bad_record(alloc, paths, number)),
+    }
+}
+
+// A floor raised by rights.
+fn raise_by(bound: i64, by: u64) -> i64
+    requires high { bound ≤ℤ pos max_quantity }
+    requires small { by ≤ max_change }
+    ensures { result ≡ bound +ℤ pos by }
+{
+    bound + by as i64
+}
+
+// A ceiling lowered by rights.
+fn lower_by(bound: i64, by: u64) -> i64
+    requires low { neg_ℤ (pos max_quantity) ≤ℤ bound }
+    requires small { by ≤ max_change }
+    ensures { result ≡ bound -ℤ pos by }
+{
+    bound - by as i64
+}
+
+// The values between which the site knows a field to lie.
+fn interval(schema: &Schema, rights: &Rights, field: FieldNo) -> (i64, i64)
+    requires in_schema { field.0 < length schema.now.fields }
+    requires fields { length rights.now ≡ length schema.now.fields }
+    ensures lo { result.0 ≡ (field_at schema.now field.0).floor
+        +ℤ pos (guarded_at rights.now field.0 Kind.Lower) }
+    ensures hi { result.1 ≡ (field_at schema.now field.0).ceiling
+        -ℤ pos (guarded_at rights.now field.0 Kind.Raise) }
+{
+    let (floor, ceiling, _) = schema.bounds(field);
+    (
+        raise_by(floor, rights.guarded(field, Kind::Lower)),
+        lower_by(ceiling, rights.guarded(field, Kind::Raise)),
+    )
+}
+
+// Shows the rights on a field.
+fn show_rights(rt: &impl Print, schema: &Schema, rights: &Rights, field: FieldNo) -> io::Result<()>
+    requires in_schema { field.0 < length schema.now.fields }
+    requires fields { length rights.now ≡ length schema.now.fields }
+{
+    let name = schema.name(field);
+    let (lo, hi) = interval(schema, rights, field);
+    let lower = rights.free(field, Kind::Lower);
+    let raise = rights.free(field, Kind::Raise);
+    print!(rt; "field {name} between {lo} {hi} share {lower} {raise}")?;
+    let lower = rights.tightened(field, Kind::Lower);
+    let raise = rights.tightened(field, Kind::Raise);
+    println!(rt; " tightened {lower} {raise}")
+}
+
+// Shows a total above 0.
+fn show_total(
+    rt: &impl Print,
+    what: &str,
+    site: u16,
+    name: &str,
+    kind: &str,
+    total: u64,
+) -> io::Result<()> {
+    if total == 0 {
+        return Ok(());
+    }
+    println!(rt; "{what} {site} {name} {kind} {total}")
+}
+
+// Shows the totals on a field with another site.
+fn show_totals(rt: &impl Print, site: u16, name: &str, totals: &FieldAccounts) -> io::Result<()> {
+    show_total(rt, "given", site, name, "lower", totals.lower.given)?;
+    show_total(rt, "given", site, name, "raise", totals.raise.given)?;
+    show_total(rt, "accepted", site, name, "lower", totals.lower.accepted)?;
+    show_total(rt, "accepted", site, name, "raise", totals.raise.accepted)
+}
+
+// Shows the totals on a field, site by site.
+fn show_ledger(
+    rt: &impl Print,
+    sites: u16,
+    ledger: &Ledger,
+    field: FieldNo,
+    name: &str,
+) -> io::Result<()> {
+    for site in 0..sites {
+        if let Some(totals) = ledger.accounts(SiteNo(site)).get(usize::from(field.0)) {
+            show_totals(rt, site, name, totals)?;
+        }
+    }
+    Ok(())
+}
+
+// Shows each field in order.
+fn show_fields(rt: &impl Print, schema: &Schema, standing: &Standing) -> io::Result<()>
+    requires fields { length standing.now.rights ≡ length schema.now.fields }
+{
+    for number in 0..schema.fields() {
+        let field = FieldNo(number);
+        show_rights(rt, schema, &standing.rights, field)?;
+        show_ledger(
+            rt,
+            schema.sites(),
+            &standing.ledger,
+            field,
+            schema.name(field),
+        )?;
+    }
+    Ok(())
+}
+
+// Shows who the folder belongs to, and how far its log has come.
+fn show_site(rt: &impl Print, identity: &Identity, world: &str, shown: &Shown) -> io::Result<()> {
+    println!(rt; "site {}", identity.number().0)?;
+    println!(rt; "world {world}")?;
+    println!(rt; "epoch {}", shown.standing.epoch)?;
+    println!(rt; "length {}", shown.length)
+}
+
+/// Shows what the log of a folder stands for. It is read without its lock.
+pub(crate) fn show(rt: &HostRuntime, folder: &str) -> Result<(), Fault> {
+    let alloc = rt.alloc();
+    let paths = Paths::new(alloc, folder)?;
+    let identity = read_site(rt, &paths)?;
+    let shown = read_records(rt, &paths, &identity)?;
+    let world = identity.world(alloc)?;
+    if show_site(rt, &identity, world.as_str(), &shown).is_err() {
+        return Err(Fault::Write);
+    }
+    match show_fields(rt, identity.schema(), &shown.standing) {
+        Ok(()) => Ok(()),
+        Err(_) => Err(Fault::Write),
+    }
+}

@@ -1,0 +1,11 @@
+//! What the names of logs tell, as the contract of a function that does nothing.
+
+ghost use Rattle.std.specs.Prelude.{◌≡◌, ◌++◌, ℕ, List};
+ghost use Rattle.site_folder.specs.Identity.{IdentityValue, IsIdentity, log_name, HaveOneName};
+
+/// Bytes that begin with the names of two logs are of one site: of one number, in worlds of one
+/// name. So the log of another site, put in the place of a site's own, doesn't begin with its name.
+pub fn names_tell_sites_apart()
+    ensures apart { (v w : IdentityValue) (rest more : List ℕ) → IsIdentity v → IsIdentity w
+        → log_name v ++ rest ≡ log_name w ++ more → HaveOneName v w }
+{}

@@ -1,0 +1,14 @@
+//! Whose folder it is: the text that a site's folder holds beside its log, so that no site is served
+//! over the log of another site, of another world, or of another version.
+#![tactic(auto)]
+
+mod fault;
+mod identity;
+mod laws;
+mod lines;
+mod text;
+
+pub use fault::IdentityFault;
+pub use identity::Identity;
+pub use laws::names_tell_sites_apart;
+pub use text::{log_name, read_identity, write_identity};

@@ -1,0 +1,79 @@
+//! Identities as text.
+
+ghost use Rattle.std.specs.Prelude.{◌≡◌, ◌≢◌, ◌⊎◌, OnOk, IfOk, IfErr, MatchResult};
+ghost use Rattle.site_folder.specs.Identity.{IdentityValue, IsIdentity, world_name, identity_text, log_name};
+ghost use Rattle.site_folder.specs.Reading.{IsRefused};
+
+use crate::fault::IdentityFault;
+use crate::identity::{Identity, world_name};
+use crate::lines::read_lines;
+use itoa::Buffer;
+use std::alloc::{AllocError, Global};
+
+/// The text of an identity: four lines, each with a line feed at its end. Each identity has one
+/// text, and no two have the same. The error is want of memory. Costs the memory of the text.
+pub fn write_identity(alloc: Global, identity: &Identity) -> Result<Vec<u8>, AllocError>
+    ensures text { IfOk result (λ text. text.items ≡ identity_text identity.now) }
+{
+    let mut number = Buffer::new();
+    let world = world_name(alloc, identity.header())?;
+    let mut text = Vec::new(alloc);
+    text.extend_from_slice(b"escrow site 1\nnumber ")?;
+    text.extend_from_slice(number.format(identity.number().0).as_bytes())?;
+    text.extend_from_slice(b"\nworld ")?;
+    text.extend_from_slice(world.as_bytes())?;
+    text.extend_from_slice(b"\n")?;
+    text.extend_from_slice(identity.header())?;
+    text.extend_from_slice(b"\n")?;
+    Ok(text)
+}
+
+/// The name with which the log of a site begins: three lines, each with a line feed at its end. No
+/// bytes begin with the names of two sites, as `names_tell_sites_apart` says. The error is want of
+/// memory. Costs the memory of the name.
+pub fn log_name(alloc: Global, identity: &Identity) -> Result<Vec<u8>, AllocError>
+    ensures name { IfOk result (λ name. name.items ≡ log_name identity.now) }
+{
+    let mut number = Buffer::new();
+    let world = world_name(alloc, identity.header())?;
+    let mut name = Vec::new(alloc);
+    name.extend_from_slice(b"escrow log 1\nnumber ")?;
+    name.extend_from_slice(number.format(identity.number().0).as_bytes())?;
+    name.extend_from_slice(b"\nworld ")?;
+    name.extend_from_slice(world.as_bytes())?;
+    name.extend_from_slice(b"\n")?;
+    Ok(name)
+}
+
+// Refuses the name of a world that isn't that of the header.
+fn check_world(alloc: Global, world: &[u8], header: &[u8]) -> Result<(), IdentityFault>
+    ensures ok { OnOk result (world.now ≡ world_name header.now) }
+    ensures err { IfErr result (λ fault. (fault ≡ IdentityFault.NoMemory)
+        ⊎ ((fault ≡ IdentityFault.World) × (world.now ≢ world_name header.now))) }
+{
+    let name = world_name(alloc, header)?;
+    if world == name.as_bytes() {
+        Ok(())
+    } else {
+        Err(IdentityFault::World)
+    }
+}
+
+/// The identity whose text it is.
+///
+/// The fault is the first of these that holds: `Version`, another first line; `NoIdentity`, other
+/// lines behind it; `World`, the name of the world isn't that of the header; `Header`, the header
+/// tells no schema; `Number`, no site of it has the number. `NoMemory` can come in place of any
+/// answer. Costs a pass over the text, a parse of the header, and memory for it and its schema.
+pub fn read_identity(alloc: Global, text: &[u8]) -> Result<Identity, IdentityFault>
+    ensures found { IfOk result (λ identity. text.now ≡ identity_text identity) }
+    ensures only { (identity : IdentityValue) → IsIdentity identity
+        → text.now ≡ identity_text identity
+        → MatchResult result (λ read. read ≡ identity)
+        (λ fault. fault ≡ IdentityFault.NoMemory) }
+    ensures refused { IfErr result (IsRefused text.now) }
+{
+    let told = read_lines(text)?;
+    check_world(alloc, told.world, told.header)?;
+    Identity::new(alloc, told.number, told.header)
+}
