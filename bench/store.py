@@ -1,0 +1,292 @@
+#!/usr/bin/env python3
+"""Measures durable commits a second on one hot field: a site that `escrow_site` serves, beside a plain program that
+appends and syncs, PostgreSQL's hot row, and Redis that syncs each append.
+
+    bench/store.py [SECONDS [TURNS]] [--folder FOLDER]
+
+SECONDS is how long each row runs in a turn (2 if left out), TURNS how often all rows run, one after another (7), and
+FOLDER where all of them keep their files (a temporary folder): one disk for all. It prints the median of each row with its
+least and greatest, and then ratios: each is the median of the ratios within a turn, since what else a disk does falls on
+all rows of a turn alike. What isn't installed is skipped, by name; `bench/install` installs it.
+
+The rows:
+
+- `site N deep`: one client has N transactions under way: a begin, an escrow of -1 and a commit, three lines each. A
+  transaction counts once its commit was answered, which is behind the sync of its record.
+- `site N deep, --no-sync`: the same without a sync.
+- `raw 1 deep`: a plain program (`bench/plain/raw_log.rs`) that the same client drives: it appends a record of 16 bytes, syncs it
+  and answers.
+- `postgres N clients`: an UPDATE of one row, prepared, with the bound as its condition; by pgbench, over a socket.
+- `redis N clients`: a script that tests the bound and lowers one key; by redis-benchmark, over a socket, `appendfsync
+  always`. With `-P 64` each client has 64 of them under way.
+
+Needs Linux, the built program (`rt ci` or `rt run` leave it in crates/escrow_site/out), and `rustc` for the plain one.
+"""
+
+import argparse
+import contextlib
+import os
+import pwd
+import re
+import shutil
+import statistics
+import subprocess
+import sys
+import tempfile
+import time
+from collections.abc import Callable, Iterator
+from dataclasses import dataclass
+
+TOP = os.path.dirname(os.path.dirname(os.path.abspath(__file__)))
+HEADER = '{"sites":1,"fields":[{"name":"stock","floor":0,"ceiling":1000000000000000,"value":500000000000000}]}\n'
+DEPTHS = (1, 8, 64, 1_024)
+CLIENTS = (1, 8, 64)
+MOST = 3_000_000
+LOWER = "local v = tonumber(redis.call('GET', KEYS[1])) if v >= 1 then return redis.call('DECRBY', KEYS[1], 1) end return -1"
+UPDATE = "UPDATE stock SET value = value - 1 WHERE id = 1 AND value >= 1;\n"
+
+
+@dataclass(frozen=True)
+class Row:
+    """What is measured, and how: the commits a second of so many seconds."""
+
+    name: str
+    measure: Callable[[float], float]
+
+
+class Texts:
+    """The lines of many transactions in a row, and where each of them begins."""
+
+    def __init__(self, transaction: Callable[[int], bytes]) -> None:
+        pieces = [transaction(number) for number in range(1, MOST + 1)]
+        self.bytes = b"".join(pieces)
+        self.starts = [0]
+        for piece in pieces:
+            self.starts.append(self.starts[-1] + len(piece))
+
+    def between(self, first: int, behind: int) -> memoryview:
+        return memoryview(self.bytes)[self.starts[first] : self.starts[behind]]
+
+
+def write_all(to: int, text: memoryview) -> None:
+    while text:
+        text = text[os.write(to, text) :]
+
+
+def drive(child: subprocess.Popen, texts: Texts, lines: int, deep: int, seconds: float) -> float:
+    """Keeps so many transactions under way, each answered by so many lines: how many were answered a second."""
+    to, back = child.stdin.fileno(), child.stdout.fileno()
+    sent, answered, start = 0, 0, time.perf_counter()
+    end = start + seconds
+    while time.perf_counter() < end and sent < MOST:
+        upto = min(MOST, answered // lines + deep)
+        write_all(to, texts.between(sent, upto))
+        sent = upto
+        told = os.read(back, 1 << 20)
+        if not told:
+            sys.exit(f"{child.args[0]} ended")
+        answered += told.count(b"\n")
+    return answered / lines / (time.perf_counter() - start)
+
+
+@contextlib.contextmanager
+def running(words: list[str], **how: object) -> Iterator[subprocess.Popen]:
+    child = subprocess.Popen(words, **how)
+    try:
+        yield child
+    finally:
+        child.terminate()
+        child.wait()
+
+
+def site_rows(folder: str) -> Iterator[Row]:
+    program = os.path.join(TOP, "crates", "escrow_site", "out", "escrow_site")
+    if not os.path.exists(program):
+        print("skipped: escrow_site, which isn't built here")
+        return
+    header, kept = os.path.join(folder, "header"), os.path.join(folder, "site")
+    with open(header, "w", encoding="ascii") as file:
+        file.write(HEADER)
+    texts: dict[int, Texts] = {}
+
+    def measure(deep: int, words: list[str], seconds: float) -> float:
+        shutil.rmtree(kept, ignore_errors=True)
+        subprocess.run([program, "create", kept, "--schema", header, "--site", "0"], check=True)
+        pipes = {"stdin": subprocess.PIPE, "stdout": subprocess.PIPE, "bufsize": 0}
+        with running([program, "serve", kept, *words], **pipes) as child:
+            epoch = epoch_of(child)
+            if epoch not in texts:
+                texts[epoch] = Texts(
+                    lambda number: b"0 begin\n0 escrow %d.%d stock -1\n0 commit %d.%d\n" % (epoch, number, epoch, number)
+                )
+            return drive(child, texts[epoch], 3, deep, seconds)
+
+    for deep in DEPTHS:
+        yield Row(f"site {deep:,} deep", lambda seconds, deep=deep: measure(deep, [], seconds))
+    for deep in DEPTHS[-2:]:
+        yield Row(f"site {deep:,} deep, --no-sync", lambda seconds, deep=deep: measure(deep, ["--no-sync"], seconds))
+
+
+def epoch_of(child: subprocess.Popen) -> int:
+    """The epoch that the served site tells: it stands in the entry of its restart."""
+    told = b""
+    while not (found := re.search(rb"restart -> restarted (\d+) \w+\n", told)):
+        piece = os.read(child.stdout.fileno(), 1 << 16)
+        if not piece:
+            sys.exit("escrow_site ended before it was ready")
+        told += piece
+    return int(found[1])
+
+
+def raw_rows(folder: str) -> Iterator[Row]:
+    if shutil.which("rustc") is None:
+        print("skipped: the plain program, since there is no rustc")
+        return
+    program = os.path.join(folder, "raw_log")
+    source = os.path.join(TOP, "bench", "plain", "raw_log.rs")
+    subprocess.run(["rustc", "--edition", "2024", "-O", "-o", program, source], check=True)
+    texts = Texts(lambda number: b"append\n")
+
+    def measure(seconds: float) -> float:
+        pipes = {"stdin": subprocess.PIPE, "stdout": subprocess.PIPE, "bufsize": 0}
+        with running([program, os.path.join(folder, "raw")], **pipes) as child:
+            return drive(child, texts, 1, 1, seconds)
+
+    yield Row("raw 1 deep", measure)
+
+
+def postgres_programs() -> str | None:
+    """The folder of PostgreSQL's programs."""
+    versions = "/usr/lib/postgresql"
+    if not os.path.isdir(versions):
+        return None
+    newest = max(os.listdir(versions), key=lambda it: int(it) if it.isdigit() else 0)
+    return os.path.join(versions, newest, "bin")
+
+
+def as_postgres() -> list[str]:
+    """The words before a command: PostgreSQL doesn't run as root."""
+    return ["runuser", "-u", "postgres", "--"] if os.geteuid() == 0 else []
+
+
+@contextlib.contextmanager
+def postgres(folder: str, programs: str) -> Iterator[str]:
+    """A server over a folder of its own, with the one row: the folder of its socket."""
+    data, quiet = os.path.join(folder, "postgres"), {"stdout": subprocess.DEVNULL, "check": True}
+    os.mkdir(data)
+    if os.geteuid() == 0:
+        owner = pwd.getpwnam("postgres")
+        os.chown(data, owner.pw_uid, owner.pw_gid)
+    subprocess.run([*as_postgres(), f"{programs}/initdb", "-D", f"{data}/base", "-A", "trust", "-U", "bench"], **quiet)
+    options = f"-c listen_addresses= -c unix_socket_directories={data} -c max_connections=100"
+    control = [*as_postgres(), f"{programs}/pg_ctl", "-D", f"{data}/base", "-w"]
+    subprocess.run([*control, "-o", options, "-l", f"{data}/log", "start"], **quiet)
+    try:
+        rows = "CREATE TABLE stock (id int PRIMARY KEY, value bigint); INSERT INTO stock VALUES (1, 500000000000000);"
+        subprocess.run(["psql", "-q", "-h", data, "-U", "bench", "-d", "postgres", "-c", rows], **quiet)
+        yield data
+    finally:
+        subprocess.run([*control, "-m", "immediate", "stop"], **quiet)
+
+
+def postgres_rows(folder: str, socket: str) -> Iterator[Row]:
+    script = os.path.join(folder, "update.sql")
+    with open(script, "w", encoding="ascii") as file:
+        file.write(UPDATE)
+
+    def measure(clients: int, seconds: float) -> float:
+        words = ["pgbench", "-h", socket, "-U", "bench", "-n", "-M", "prepared", "-f", script, "-c", str(clients)]
+        words += ["-j", str(min(clients, 4)), "-T", str(max(1, round(seconds))), "postgres"]
+        told = subprocess.run(words, capture_output=True, text=True, check=True).stdout
+        return float(re.search(r"tps = ([0-9.]+)", told)[1])
+
+    for clients in CLIENTS:
+        yield Row(f"postgres {clients} clients", lambda seconds, clients=clients: measure(clients, seconds))
+
+
+@contextlib.contextmanager
+def redis(folder: str) -> Iterator[str]:
+    """A server over a folder of its own, with the one key: its socket."""
+    data = os.path.join(folder, "redis")
+    os.mkdir(data)
+    socket = os.path.join(data, "socket")
+    words = ["redis-server", "--port", "0", "--unixsocket", socket, "--dir", data, "--save", ""]
+    words += ["--appendonly", "yes", "--appendfsync", "always"]
+    with running(words, stdout=subprocess.DEVNULL):
+        for _ in range(100):
+            set_key = ["redis-cli", "-s", socket, "set", "stock", "500000000000000"]
+            if subprocess.run(set_key, capture_output=True, text=True).stdout.strip() == "OK":
+                break
+            time.sleep(0.1)
+        else:
+            sys.exit("redis-server doesn't answer")
+        yield socket
+
+
+def redis_rows(socket: str) -> Iterator[Row]:
+    loaded = subprocess.run(["redis-cli", "-s", socket, "script", "load", LOWER], capture_output=True, text=True, check=True)
+    script = loaded.stdout.strip()
+
+    def measure(clients: int, under_way: int, seconds: float) -> float:
+        def rate(count: int) -> float:
+            words = ["redis-benchmark", "-s", socket, "-q", "-n", str(count), "-c", str(clients), "-P", str(under_way)]
+            told = subprocess.run([*words, "evalsha", script, "1", "stock"], capture_output=True, text=True, check=True)
+            return float(re.findall(r"([0-9.]+) requests per second", told.stdout)[-1])
+
+        # First few, to tell how many fill the time.
+        few = rate(clients * under_way * 20)
+        return rate(max(clients * under_way * 20, int(few * seconds)))
+
+    for clients in CLIENTS:
+        yield Row(f"redis {clients} clients", lambda seconds, clients=clients: measure(clients, 1, seconds))
+    yield Row("redis 64 clients -P 64", lambda seconds: measure(64, 64, seconds))
+
+
+RATIOS = (
+    ("site 1 deep", "raw 1 deep"),
+    ("site 1 deep", "postgres 1 clients"),
+    ("site 8 deep", "postgres 8 clients"),
+    ("site 64 deep", "postgres 64 clients"),
+    ("site 1 deep", "redis 1 clients"),
+    ("site 8 deep", "redis 8 clients"),
+    ("site 64 deep", "redis 64 clients"),
+    ("site 1,024 deep", "redis 64 clients -P 64"),
+)
+
+
+def tell(rows: list[Row], turns: list[dict[str, float]]) -> None:
+    for row in rows:
+        rates = [turn[row.name] for turn in turns]
+        print(f"{row.name:26} {statistics.median(rates):12,.0f} a second  {min(rates):12,.0f} to {max(rates):12,.0f}")
+    for ours, other in RATIOS:
+        if ours in turns[0] and other in turns[0]:
+            ratios = [turn[ours] / turn[other] for turn in turns]
+            middle, least, most = statistics.median(ratios), min(ratios), max(ratios)
+            print(f"{ours} : {other:26} {middle:8.2f} times  {least:.2f} to {most:.2f}")
+
+
+def main() -> None:
+    parser = argparse.ArgumentParser(description="Durable commits a second on one hot field.")
+    parser.add_argument("seconds", type=float, nargs="?", default=2.0)
+    parser.add_argument("turns", type=int, nargs="?", default=7)
+    parser.add_argument("--folder", default=None, help="where all keep their files")
+    given = parser.parse_args()
+    with contextlib.ExitStack() as stack:
+        folder = stack.enter_context(tempfile.TemporaryDirectory(prefix="store-", dir=given.folder))
+        os.chmod(folder, 0o755)
+        rows = [*site_rows(folder), *raw_rows(folder)]
+        programs = postgres_programs()
+        if programs is None or shutil.which("pgbench") is None:
+            print("skipped: PostgreSQL, which isn't installed")
+        else:
+            rows += postgres_rows(folder, stack.enter_context(postgres(folder, programs)))
+        if shutil.which("redis-server") is None or shutil.which("redis-benchmark") is None:
+            print("skipped: Redis, which isn't installed")
+        else:
+            rows += redis_rows(stack.enter_context(redis(folder)))
+        turns = [{row.name: row.measure(given.seconds) for row in rows} for _ in range(given.turns)]
+        tell(rows, turns)
+
+
+if __name__ == "__main__":
+    main()
