@@ -1,14 +1,10 @@
 -- What a schema keeps, and that it is within the limits.
-use Rattle.std.proofs.Common.{◌≡◌, ℕ, ◌≤◌, ◌≤ℤ◌, Bool, true, false, cond, not, ◌&&◌, List, [], ◌∷◌, ◌++◌, length, Option, ltb, arith, IsUtf8, Some, None, Ok, String, string_bytes, bytes_eq, option_map, ◌+◌, ℤ, position, slice_get, slice_index_or, int_le, T, refl, sym, ap, subst, ◌∙◌}
+use Rattle.std.proofs.Common.{◌≡◌, ℕ, ◌≤◌, ◌≤ℤ◌, Bool, true, false, cond, not, ◌&&◌, List, [], ◌∷◌, ◌++◌, length, Option, Some, None, Ok, String, string_bytes, bytes_eq, option_map, ◌+◌, ℤ, position, slice_get, slice_index_or, int_le, T, refl, sym, ap, subst, ◌∙◌}
 use Rattle.std.specs.List.{AllByRecursion, prefix_len}
 use Rattle.std.specs.Map.{keys_of}
-use Rattle.std.specs.Bool.{Decides}
 use Rattle.std.specs.Int.Signed.{le_z_yes}
 use Rattle.std.specs.declared.alloc.Global.{Global}
 use Rattle.std.proofs.lemmas.List.{length-map}
-use Rattle.std.proofs.lemmas.Bool.{le-ltb}
-use Rattle.std.proofs.lemmas.Slice.Eq.{bytes_eq-Decides}
-use Rattle.std.proofs.lemmas.Str.{IsUtf8-string_bytes}
 use Rattle.std.proofs.lemmas.Option.{get_or_from_slice_get, slice_get-map}
 use Rattle.field_bounds.specs.declared.schema.FieldBounds.{FieldBounds}
 use Rattle.field_bounds.specs.declared.fault.SchemaFault.{SchemaFault}
@@ -102,28 +98,3 @@ pub IsSchema-from : (sites : ℕ) (fs kept : List FieldValue) → 1 ≤ sites �
 IsSchema-from sites fs kept some few some_field few_fields h =
     let of : List FieldValue → SchemaValue = λ (k : List FieldValue). record { sites = sites; fields = k } in
     IsSchema-of sites fs (of kept) some few some_field few_fields (made_of of (first_fault [] fs) fs kept h)
-
--- ---- a name that is no text
-
-not_at : (name : List ℕ) (key : String Global) → ¬ IsUtf8 name → bytes_eq name (string_bytes key) ≡ false
-not_at name key not_text = by (bytes_eq name (string_bytes key)) (bytes_eq-Decides name (string_bytes key))
-  where
-    by : (b : Bool) → Decides b (name ≡ string_bytes key) → b ≡ false
-    by true d = absurd (not_text (subst IsUtf8 (sym (d.0 refl)) (IsUtf8-string_bytes key)))
-    by false d = refl
-
-passes_all : (name : List ℕ) (es : List (String Global × FieldBounds)) → ¬ IsUtf8 name
-    → prefix_len (λ f. not (bytes_eq name f.name)) (stored_values es) ≡ length (stored_values es)
-passes_all name [] not_text = refl
-passes_all name (e ∷ es) not_text =
-    ap (λ b. cond (not b) (1 + prefix_len (λ f. not (bytes_eq name f.name)) (stored_values es)) 0) (not_at name e.0 not_text)
-    ∙ omega (arith, passes_all name es not_text)
-
--- bytes that are no text name no field
-pub no_place : (name : List ℕ) (es : List (String Global × FieldBounds)) → ¬ IsUtf8 name
-    → position (λ f. bytes_eq name f.name) (stored_values es) ≡ None
-no_place name es not_text =
-    let all = passes_all name es not_text in
-    let past : ltb (prefix_len (λ f. not (bytes_eq name f.name)) (stored_values es)) (length (stored_values es)) ≡ false =
-    le-ltb _ _ (omega (arith, all)) in
-    rw past refl

@@ -85,7 +85,8 @@ module _ (base : Base) (p : Option SiteNo → Bool) (f : ℕ) (k : Kind) where
   gifts_kept [] = omega arith
   gifts_kept (e ∷ o) = kept_step e.command e.reply o (gifts_kept o)
 
-  any_kept : (kept : Bool) (o : List Entry) → gifts p f k (effects base false o) ≤ gifts p f k (effects base kept o)
+  -- what was given with every doubt counted as kept is no less than with none
+  pub any_kept : (kept : Bool) (o : List Entry) → gifts p f k (effects base false o) ≤ gifts p f k (effects base kept o)
   any_kept true o = gifts_kept o
   any_kept false o = omega arith
 

@@ -17,6 +17,7 @@ mod restart_rows;
 mod schema;
 mod site_rows;
 mod spare;
+mod spelling;
 mod statements;
 mod tighten_rows;
 

@@ -14,6 +14,7 @@ use crate::header::{read_json, read_parts};
 use crate::id::{FieldNo, SiteNo};
 use crate::kind::Kind;
 use crate::limits::{MAX_FIELDS, MAX_HEADER, MAX_NAME, MAX_QUANTITY, MAX_SITES};
+use crate::spelling::Spelling;
 use indexmap::IndexMap;
 use std::alloc::{AllocError, Global};
 use std::marker::Model;
@@ -273,11 +274,7 @@ impl Schema {
         ensures place { option_map (λ n. n.0) result
             ≡ position (λ f. bytes_eq name.now f.name) self.now.fields }
     {
-        let fields = &self.fields;
-        let Ok(name) = str::from_utf8(name) else {
-            return None;
-        };
-        let place = fields.get_index_of(name)?;
+        let place = self.fields.get_index_of(Spelling { bytes: name })?;
         Some(FieldNo(place as u16))
     }
 

@@ -1,6 +1,8 @@
 -- What becomes of known bytes, and of a copy of them (this project).
-use Rattle.std.proofs.Common.{◌≡◌, ◌≤◌, ◌<◌, ◌+◌, refl, ℕ, List, ◌++◌, length, take, drop, Option, None, Some, ap, sym, ◌∙◌, append_assoc, arith, length-drop}
+use Rattle.std.proofs.Common.{◌≡◌, ◌≢◌, ◌≤◌, ◌<◌, ◌+◌, refl, Bool, true, false, not, ℕ, List, ◌++◌, length, take, drop, Option, None, Some, ap, sym, ◌∙◌, append_assoc, arith, length-drop}
 use Rattle.std.proofs.lemmas.List.{length-take-le, length-append, drop-drop, take_all}
+use Rattle.std.specs.Str.{bytes_eq}
+use Rattle.std.proofs.lemmas.Slice.Eq.{bytes_eq-Decides}
 use lib.Seq.{take-add}
 use Rattle.std.specs.Io.KnownBytes.{append_known}
 use Rattle.file_medium.specs.Files.{ReadsAt}
@@ -42,3 +44,14 @@ seen-all (Some xs) from seen held buffer has whole reads some =
     let end : length xs ≤ from + seen = reads.1 refl some in
     let short : length (drop from xs) ≤ seen = omega (arith, length-drop from xs) in
     sym (take_all seen (drop from xs) short) ∙ has ∙ take_all seen held (omega arith)
+
+-- Bytes that weren't found to differ are the same, and those that were aren't.
+not_false : (b : Bool) → not b ≡ false → b ≡ true
+not_false true h = refl
+not_false false h = absurd cc
+
+pub same_bytes : (r : Bool) (xs ys : List ℕ) → r ≡ not (bytes_eq xs ys) → r ≡ false → xs ≡ ys
+same_bytes r xs ys is was = (bytes_eq-Decides xs ys).0 (not_false (bytes_eq xs ys) (sym is ∙ was))
+
+pub other_bytes : (r : Bool) (xs ys : List ℕ) → r ≡ not (bytes_eq xs ys) → r ≡ true → xs ≢ ys
+other_bytes r xs ys is was same = absurd (cc (is, was, (bytes_eq-Decides xs ys).1 same))

@@ -22,8 +22,9 @@ pub(crate) fn new_piece(alloc: Global) -> Result<Vec<u8>, MediumFault>
 }
 
 /// Writes the piece behind the bytes of the file, in as many writes as it takes, and tells how many
-/// bytes the file took, from the front: all of them, or a write failed or took none.
-pub(crate) fn write_front<F: LogFile>(file: &mut F, piece: &[u8]) -> usize
+/// bytes the file took, from the front: all of them, or a write failed or took none. That one isn't
+/// tried again, and nothing is synced. Costs no memory.
+pub fn write_front<F: LogFile>(file: &mut F, piece: &[u8]) -> usize
     ensures bound { result ≤ length piece.now }
     ensures bytes { F.bytes file.new ≡ append_known (F.bytes file.old) (take result piece.now) }
     ensures safe { F.safe file.new ≡ F.safe file.old }

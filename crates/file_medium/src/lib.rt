@@ -8,7 +8,7 @@ mod log_file;
 mod medium;
 mod memory_file;
 
-pub use copying::read_whole;
+pub use copying::{read_whole, write_front};
 pub use host::{HostFile, OpenLogFault, Opening, open_log};
 pub use log_file::{FileFailed, LogFile};
 pub use medium::{Durability, FileMedium};

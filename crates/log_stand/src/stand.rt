@@ -27,10 +27,10 @@ impl Stand {
 }
 
 // The epoch behind a record.
-fn later(epoch: u32, record: &Record) -> u32
-    ensures { result ≡ later epoch record.now }
+fn later(epoch: u32, next: &Record) -> u32
+    ensures { result ≡ later epoch next.now }
 {
-    match record {
+    match next {
         Record::Restart { epoch: new } => epoch.max(*new),
         Record::Commit { .. }
         | Record::Gift { .. }

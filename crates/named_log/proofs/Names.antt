@@ -1,5 +1,5 @@
 -- What becomes of the bytes behind a name, and of those that were compared with it (this project).
-use Rattle.std.proofs.Common.{◌≡◌, ◌≢◌, ◌≤◌, ◌<◌, ◌+◌, ◌-◌, ℕ, List, ◌++◌, length, take, drop, Bool, true, false, not, min, inl, inr, Option, None, Some, Result, Ok, Err, refl, sym, ap, subst, ◌∙◌, arith}
+use Rattle.std.proofs.Common.{◌≡◌, ◌≢◌, ◌≤◌, ◌<◌, ◌+◌, ◌-◌, ℕ, List, ◌++◌, length, take, drop, Bool, true, false, min, inl, inr, Option, None, Some, Result, Ok, Err, refl, sym, ap, subst, ◌∙◌, arith}
 use Rattle.std.proofs.lemmas.List.{drop-take, length-take-le, take_all}
 use Rattle.std.specs.Str.{bytes_eq}
 use Rattle.std.proofs.lemmas.Slice.Eq.{bytes_eq-Decides}
@@ -68,14 +68,3 @@ starts-all (Some xs) seen name all within met =
     let same : take (length name) xs ≡ name =
     ap (λ k. take k xs) (omega arith) ∙ met ∙ take_all seen name all in
     sym ((bytes_eq-Decides (take (length name) xs) name).1 same)
-
--- Bytes that weren't found to differ are the same, and those that were aren't.
-not_false : (b : Bool) → not b ≡ false → b ≡ true
-not_false true h = refl
-not_false false h = absurd cc
-
-pub same_bytes : (r : Bool) (xs ys : List ℕ) → r ≡ not (bytes_eq xs ys) → r ≡ false → xs ≡ ys
-same_bytes r xs ys is was = (bytes_eq-Decides xs ys).0 (not_false (bytes_eq xs ys) (sym is ∙ was))
-
-pub other_bytes : (r : Bool) (xs ys : List ℕ) → r ≡ not (bytes_eq xs ys) → r ≡ true → xs ≢ ys
-other_bytes r xs ys is was same = absurd (cc (is, was, (bytes_eq-Decides xs ys).1 same))

@@ -1,17 +1,7 @@
-use Rattle.std.proofs.Common.{◌≡◌, ◌+◌, ◌-◌, ℕ, Bool, true, false, not, List, take, drop, refl, sym, subst, ap, ◌∙◌, arith}
-use Rattle.std.specs.Str.{bytes_eq}
-use Rattle.std.proofs.lemmas.Slice.Eq.{bytes_eq-Decides}
+use Rattle.std.proofs.Common.{◌≡◌, ◌+◌, ◌-◌, take, drop, sym, subst, ap, ◌∙◌, arith}
 use Rattle.file_medium.specs.Files.{ReadsAt}
-use Rattle.file_medium.proofs.Known.{seen-more}
+use Rattle.file_medium.proofs.Known.{seen-more, same_bytes}
 use Rattle.file_medium.proofs.copying.holds.Goals as goal
-
-not_false : (b : Bool) → not b ≡ false → b ≡ true
-not_false true h = refl
-not_false false h = absurd cc
-
--- Bytes that weren't found to differ are the same.
-same_bytes : (r : Bool) (xs ys : List ℕ) → r ≡ not (bytes_eq xs ys) → r ≡ false → xs ≡ ys
-same_bytes r xs ys is was = (bytes_eq-Decides xs ys).0 (not_false (bytes_eq xs ys) (sym is ∙ was))
 
 pub loop-seen-preserved : goal.loop-seen-preserved
 loop-seen-preserved g c =

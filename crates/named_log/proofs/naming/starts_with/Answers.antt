@@ -1,6 +1,7 @@
 use Rattle.std.proofs.Common.{◌≡◌, ◌≢◌, ◌+◌, ◌-◌, take, drop, sym, subst, ap, ◌∙◌, arith}
 use Rattle.file_medium.specs.Files.{ReadsAt}
-use Rattle.named_log.proofs.Names.{starts-short, starts-other, starts-all, met-more, same_bytes, other_bytes}
+use Rattle.file_medium.proofs.Known.{same_bytes, other_bytes}
+use Rattle.named_log.proofs.Names.{starts-short, starts-other, starts-all, met-more}
 use Rattle.named_log.proofs.naming.starts_with.Goals as goal
 
 pub returns-then-count-eq0-clause-starts : goal.returns-then-count-eq0-clause-starts

@@ -1,11 +1,6 @@
-use Rattle.std.proofs.Common.{sym}
 use Rattle.std.specs.Arc.{arc_value}
-use Rattle.field_bounds.proofs.Kept.{place_is, no_place}
+use Rattle.field_bounds.proofs.Kept.{place_is}
 use Rattle.field_bounds.proofs.schema.Schema.field_no_of.Goals as goal
-
-pub returns-in_default : goal.returns-in_default
-returns-in_default c =
-    record { place = sym (rw (← c.self.view_is) (no_place c.args.name.now (arc_value c.self.inside.fields).entries c.in_default.ensures.cases.0)) }
 
 pub returns-in_err-place : goal.returns-in_err-place
 returns-in_err-place c =
@@ -15,7 +10,6 @@ returns-in_err-place c =
         ← c.self.view_is,
         ← place_is c.args.name.now (arc_value c.self.inside.fields).entries,
         ← c.deref.ensures,
-        ← c.in-Ok.ensures.cases.0,
       ) c.in_err-place.ensures.index;
     }
 
@@ -25,6 +19,5 @@ returns c = record {
     ← c.self.view_is,
     ← place_is c.args.name.now (arc_value c.self.inside.fields).entries,
     ← c.deref.ensures,
-    ← c.in-Ok.ensures.cases.0,
   ) c.in_ok-place.ensures.index;
 }
