@@ -1,5 +1,5 @@
 -- The texts of identities: each is of one, and it is refused for no fault.
-use Rattle.std.proofs.Common.{append_assoc, codes, ◌≡◌, ℕ, List, [], ◌∷◌, ◌++◌, Result, Ok, Err, refl, sym, ap, subst, ◌∙◌, arith}
+use Rattle.std.proofs.Common.{append_assoc, codes, ◌≡◌, ◌≢◌, slice_index, ℕ, List, [], ◌∷◌, ◌++◌, Result, Ok, Err, refl, sym, ap, subst, ◌∙◌, arith}
 use Rattle.std.specs.Prelude.{IfOk, IfErr, MatchResult}
 use Rattle.std.specs.Fmt.{decimal}
 use Rattle.std.proofs.lemmas.List.{append_cancel_left}
@@ -10,7 +10,7 @@ use Rattle.field_bounds.specs.declared.id.SiteNo.{SiteNo}
 use Rattle.field_bounds.proofs.Alone.{schema_of-limits}
 use Rattle.site_folder.specs.declared.fault.IdentityFault.{IdentityFault}
 use Rattle.site_folder.specs.declared.fault.IdentityFault.TheVariants.{Version, NoIdentity, World, Lines, Header, Number, NoMemory}
-use Rattle.site_folder.specs.Identity.{IdentityValue, IsIdentity, IsOneLine, world_name, version_line, line_then, told_text, identity_text, log_name, HaveOneName}
+use Rattle.site_folder.specs.Identity.{IdentityValue, IsIdentity, IsOneLine, world_name, version_line, line_then, told_text, identity_text, file_name, log_name, trace_name, HaveOneName}
 use Rattle.site_folder.specs.Reading.{Tells, TellsLines, TellsNone, MakesNone, IsRefused}
 use Rattle.site_folder.proofs.LineLemmas.{world_name_line, as_lines, one_cut, SameTold, same_told}
 
@@ -101,7 +101,7 @@ pub only_by : (text : List ℕ) (read : Result IdentityValue IdentityFault) → 
 only_by text (Ok i) whole found refused v own is = same_identity i v whole own text found is
 only_by text (Err fault) whole found refused v own is = never_refused v own text is fault refused
 
--- ---- names of logs
+-- ---- names of files
 
 -- a line, and what stands behind it, with more behind that
 line_more : (line rest more : List ℕ) → line_then line rest ++ more ≡ line_then line (rest ++ more)
@@ -117,17 +117,21 @@ world_is_line v own = (as_lines _ v.number.0 (world_name v.header) v.header (own
 abbrev behind_version : IdentityValue → List ℕ → List ℕ
 behind_version v more = line_then (codes "number " ++ decimal v.number.0) (line_then (codes "world " ++ world_name v.header) more)
 
-name_more : (v : IdentityValue) (more : List ℕ) → log_name v ++ more ≡ line_then (codes "escrow log 1") (behind_version v more)
-name_more v more =
-    ap (λ (l : List ℕ). line_then (codes "escrow log 1") l)
+name_more : (version : List ℕ) (v : IdentityValue) (more : List ℕ) → file_name version v ++ more ≡ line_then version (behind_version v more)
+name_more version v more =
+    line_more version (behind_version v []) more
+    ∙ ap (λ (l : List ℕ). line_then version l)
     (line_more (codes "number " ++ decimal v.number.0) (line_then (codes "world " ++ world_name v.header) []) more
-    ∙ ap (line_then (codes "number " ++ decimal v.number.0)) (line_more (codes "world " ++ world_name v.header) [] more))
+    ∙ ap (λ (l : List ℕ). line_then (codes "number " ++ decimal v.number.0) l) (line_more (codes "world " ++ world_name v.header) [] more))
 
-pub one_name : (v w : IdentityValue) (rest more : List ℕ) → IsIdentity v → IsIdentity w → log_name v ++ rest ≡ log_name w ++ more
-    → HaveOneName v w
-one_name v w rest more own other is =
-    let behind : behind_version v rest ≡ behind_version w more =
-    append_cancel_left (codes "escrow log 1" ++ 10 ∷ []) _ _ (sym (name_more v rest) ∙ is ∙ name_more w more) in
+pub one_name : (version : List ℕ) (v w : IdentityValue) (rest more : List ℕ) → IsIdentity v → IsIdentity w
+    → file_name version v ++ rest ≡ file_name version w ++ more → HaveOneName v w
+one_name version v w rest more own other is =
+    let same : version ++ (10 ∷ behind_version v rest) ≡ version ++ (10 ∷ behind_version w more) =
+    sym (name_more version v rest) ∙ is ∙ name_more version w more in
+    let cut : 10 ∷ behind_version v rest ≡ 10 ∷ behind_version w more =
+    append_cancel_left version (10 ∷ behind_version v rest) (10 ∷ behind_version w more) same in
+    let behind : behind_version v rest ≡ behind_version w more = cc in
     let one = one_cut (codes "number " ++ decimal v.number.0) (codes "number " ++ decimal w.number.0) _ _ (number_is_line v own)
     (number_is_line w other) behind in
     let two = one_cut (codes "world " ++ world_name v.header) (codes "world " ++ world_name w.header) rest more (world_is_line v own)
@@ -137,3 +141,10 @@ one_name v w rest more own other is =
       number = same_site v.number w.number (decimal_injective v.number.0 w.number.0 (own_lines v own).fits (own_lines w other).fits digits);
       world = append_cancel_left (codes "world ") _ _ two.front;
     }
+
+-- the name of a log is no front of that of a trace: behind `escrow ` they differ
+pub other_kind : (v w : IdentityValue) (rest more : List ℕ) → log_name v ++ rest ≢ trace_name w ++ more
+other_kind v w rest more is =
+    let at : slice_index (log_name v ++ rest) 7 ≡ slice_index (trace_name w ++ more) 7 = ap (λ (l : List ℕ). slice_index l 7) is in
+    let letters : ◌≡◌ {A = ℕ} 108 116 = at in
+    absurd (omega (arith, letters))

@@ -44,12 +44,21 @@ told_text number world header =
 abbrev pub identity_text : IdentityValue → List ℕ
 identity_text v = line_then version_line (told_text v.number.0 (world_name v.header) v.header)
 
--- The name of a log: three lines, of the format's version, of the number of its site, and of the name of its world.
-abbrev pub log_name : IdentityValue → List ℕ
-log_name v =
-    line_then (codes "escrow log 1") (line_then (codes "number " ++ decimal v.number.0) (line_then (codes "world " ++ world_name v.header) []))
+-- The name with which a file of a site begins: three lines, of this version of its format, of the number of its site, and
+-- of the name of its world.
+abbrev pub file_name : List ℕ → IdentityValue → List ℕ
+file_name version v =
+    line_then version (line_then (codes "number " ++ decimal v.number.0) (line_then (codes "world " ++ world_name v.header) []))
 
--- Two sites have one name for their logs: they are one site of worlds that have one name.
+-- The name of a log.
+abbrev pub log_name : IdentityValue → List ℕ
+log_name v = file_name (codes "escrow log 1") v
+
+-- The name of a trace.
+abbrev pub trace_name : IdentityValue → List ℕ
+trace_name v = file_name (codes "escrow trace 1") v
+
+-- Two sites have one name for their logs, and one for their traces: they are one site of worlds that have one name.
 pub record HaveOneName (v w : IdentityValue) : Type 0 where
   pub number : v.number ≡ w.number
   pub world : world_name v.header ≡ world_name w.header

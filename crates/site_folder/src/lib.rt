@@ -1,5 +1,6 @@
 //! Whose folder it is: the text that a site's folder holds beside its log, so that no site is served
-//! over the log of another site, of another world, or of another version.
+//! over the log of another site, of another world, or of another version; and the names with which its
+//! files begin.
 #![tactic(auto)]
 
 mod fault;
@@ -11,4 +12,4 @@ mod text;
 pub use fault::IdentityFault;
 pub use identity::Identity;
 pub use laws::names_tell_sites_apart;
-pub use text::{log_name, read_identity, write_identity};
+pub use text::{log_name, read_identity, trace_name, write_identity};

@@ -1,7 +1,7 @@
 //! Identities as text.
 
 ghost use Rattle.std.specs.Prelude.{◌≡◌, ◌≢◌, ◌⊎◌, OnOk, IfOk, IfErr, MatchResult};
-ghost use Rattle.site_folder.specs.Identity.{IdentityValue, IsIdentity, world_name, identity_text, log_name};
+ghost use Rattle.site_folder.specs.Identity.{IdentityValue, IsIdentity, world_name, identity_text, file_name, log_name, trace_name};
 ghost use Rattle.site_folder.specs.Reading.{IsRefused};
 
 use crate::fault::IdentityFault;
@@ -28,21 +28,38 @@ pub fn write_identity(alloc: Global, identity: &Identity) -> Result<Vec<u8>, All
     Ok(text)
 }
 
+// The three lines with which a file of a site begins, of which the first is this version.
+fn file_name(alloc: Global, version: &[u8], identity: &Identity) -> Result<Vec<u8>, AllocError>
+    ensures name { IfOk result (λ name. name.items ≡ file_name version.now identity.now) }
+{
+    let mut number = Buffer::new();
+    let world = world_name(alloc, identity.header())?;
+    let mut name = Vec::new(alloc);
+    name.extend_from_slice(version)?;
+    name.extend_from_slice(b"\nnumber ")?;
+    name.extend_from_slice(number.format(identity.number().0).as_bytes())?;
+    name.extend_from_slice(b"\nworld ")?;
+    name.extend_from_slice(world.as_bytes())?;
+    name.extend_from_slice(b"\n")?;
+    Ok(name)
+}
+
 /// The name with which the log of a site begins: three lines, each with a line feed at its end. No
 /// bytes begin with the names of two sites, as `names_tell_sites_apart` says. The error is want of
 /// memory. Costs the memory of the name.
 pub fn log_name(alloc: Global, identity: &Identity) -> Result<Vec<u8>, AllocError>
     ensures name { IfOk result (λ name. name.items ≡ log_name identity.now) }
 {
-    let mut number = Buffer::new();
-    let world = world_name(alloc, identity.header())?;
-    let mut name = Vec::new(alloc);
-    name.extend_from_slice(b"escrow log 1\nnumber ")?;
-    name.extend_from_slice(number.format(identity.number().0).as_bytes())?;
-    name.extend_from_slice(b"\nworld ")?;
-    name.extend_from_slice(world.as_bytes())?;
-    name.extend_from_slice(b"\n")?;
-    Ok(name)
+    file_name(alloc, b"escrow log 1", identity)
+}
+
+/// The name with which the trace of a site begins: three lines, each with a line feed at its end. No
+/// bytes begin with the names of two sites, or with that of a log too, as `names_tell_sites_apart`
+/// says. The error is want of memory. Costs the memory of the name.
+pub fn trace_name(alloc: Global, identity: &Identity) -> Result<Vec<u8>, AllocError>
+    ensures name { IfOk result (λ name. name.items ≡ trace_name identity.now) }
+{
+    file_name(alloc, b"escrow trace 1", identity)
 }
 
 // Refuses the name of a world that isn't that of the header.

@@ -2,7 +2,7 @@
 //! line feed.
 
 use field_bounds::{SchemaFault, SiteNo};
-use site_folder::{Identity, IdentityFault, log_name, read_identity, write_identity};
+use site_folder::{Identity, IdentityFault, log_name, read_identity, trace_name, write_identity};
 use std::alloc::{AllocError, Global};
 use std::process::Abort;
 use std::test::Fail;
@@ -74,6 +74,23 @@ fn names_a_log(rt: HostRuntime) -> Result<(), Fail> {
         str::from_utf8(name.as_slice()),
         Ok(
             "escrow log 1
+number 1
+world 145aa8408cfe4e170aa9ab522fe2e8b9b4c23917b59218cbdada91cf44b1183a
+"
+        )
+    );
+    Ok(())
+}
+
+#[test]
+fn names_a_trace(rt: HostRuntime) -> Result<(), Fail> {
+    let alloc = rt.alloc();
+    let identity = read_identity(alloc, TEXT.as_bytes())?;
+    let name = trace_name(alloc, &identity)?;
+    assert_eq!(rt;
+        str::from_utf8(name.as_slice()),
+        Ok(
+            "escrow trace 1
 number 1
 world 145aa8408cfe4e170aa9ab522fe2e8b9b4c23917b59218cbdada91cf44b1183a
 "
