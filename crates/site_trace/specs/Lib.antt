@@ -1,0 +1,5 @@
+pub mod Lines
+pub mod Traces
+pub mod Reading
+pub mod Records
+pub mod Ends

@@ -1,0 +1,16 @@
+//! The trace that a served site keeps beside its log: all its answers, a line each, in order.
+#![tactic(auto)]
+
+mod cutting;
+mod fault;
+mod laws;
+mod line;
+mod reading;
+mod records;
+mod remark;
+mod split;
+
+pub use cutting::{TraceEnd, trace_end};
+pub use fault::TraceFault;
+pub use laws::{cut_trace_holds_its_entries, entries_tell_records_left, trace_is_read_in_one_way};
+pub use reading::{Trace, TracedEntry, read_trace};

@@ -1,0 +1,96 @@
+//! Lines of a trace that are no entries.
+
+ghost use Rattle.std.specs.Prelude.{◌≡◌, ◌≢◌, ◌++◌, ℕ, List, MatchOption, MatchBool};
+ghost use Rattle.site_trace.specs.Lines.{AnswersKept, AnswersBad, IsKeptAnswer, IsRemark};
+ghost use Rattle.site_trace.specs.Reading.{IsNumber, StartsWithNumber};
+
+use crate::split::split_at_first;
+use entry_text::{read_number, read_txn};
+
+// What stands behind a word at the front of the line, or None where it doesn't stand there.
+fn behind<'a>(line: &'a [u8], word: &[u8]) -> Option<&'a [u8]>
+    ensures rest { MatchOption result ((rest : List ℕ) → line.now ≢ word.now ++ rest)
+        (λ rest. line.now ≡ word.now ++ rest.now) }
+{
+    match line.strip_prefix(word) {
+        Some(rest) => Some(rest),
+        None => None,
+    }
+}
+
+// What stands in front of a word at the end of the line, or None where it doesn't stand there.
+fn before<'a>(line: &'a [u8], word: &[u8]) -> Option<&'a [u8]>
+    ensures front { MatchOption result ((front : List ℕ) → line.now ≢ front ++ word.now)
+        (λ front. line.now ≡ front.now ++ word.now) }
+{
+    match line.strip_suffix(word) {
+        Some(front) => Some(front),
+        None => None,
+    }
+}
+
+// What stands between two words, of which one is at the front of the line and the other at its end,
+// or None where they don't stand there.
+fn between<'a>(line: &'a [u8], front: &[u8], end: &[u8]) -> Option<&'a [u8]>
+    ensures inner { MatchOption result
+        ((inner : List ℕ) → line.now ≢ front.now ++ (inner ++ end.now))
+        (λ inner. line.now ≡ front.now ++ (inner.now ++ end.now)) }
+{
+    match behind(line, front) {
+        Some(rest) => before(rest, end),
+        None => None,
+    }
+}
+
+// Whether the line tells in these words whether a commit is in the log.
+fn tells_commit(line: &[u8], words: &[u8]) -> bool
+    ensures tells { MatchBool result (AnswersKept line.now words.now)
+        (AnswersKept line.now words.now → ⊥) }
+{
+    match between(line, b"kept ", words) {
+        Some(txn) => read_txn(txn).is_some(),
+        None => false,
+    }
+}
+
+// Whether the line answers a question for a commit.
+fn is_kept_answer(line: &[u8]) -> bool
+    ensures kept { MatchBool result (IsKeptAnswer line.now) (IsKeptAnswer line.now → ⊥) }
+{
+    tells_commit(line, b" -> yes") || tells_commit(line, b" -> no")
+}
+
+// Whether the word is a number.
+fn is_number(word: &[u8]) -> bool
+    ensures number { MatchBool result (IsNumber word.now) (IsNumber word.now → ⊥) }
+{
+    read_number(word).is_some()
+}
+
+// Whether a number and a space stand at the front of the bytes.
+fn starts_with_number(bytes: &[u8]) -> bool
+    ensures starts { MatchBool result (StartsWithNumber bytes.now)
+        (StartsWithNumber bytes.now → ⊥) }
+{
+    match split_at_first(bytes, b' ') {
+        Some((word, _)) => is_number(word),
+        None => false,
+    }
+}
+
+// Whether the line answers a line that asked nothing.
+fn is_bad_answer(line: &[u8]) -> bool
+    ensures bad { MatchBool result (AnswersBad line.now) (AnswersBad line.now → ⊥) }
+{
+    match behind(line, b"bad line ") {
+        Some(rest) => starts_with_number(rest),
+        None => false,
+    }
+}
+
+/// Whether the line is an answer that is no entry.
+pub(crate) fn is_remark(line: &[u8]) -> bool
+    ensures remark { MatchBool result (IsRemark line.now) (IsRemark line.now → ⊥) }
+{
+    is_kept_answer(line) || is_bad_answer(line)
+}
