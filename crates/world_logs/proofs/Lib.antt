@@ -6,3 +6,6 @@ pub mod Lists
 pub mod Settled
 pub mod Known
 pub mod LostReadings
+pub mod Left
+pub mod HeaderLines
+pub mod AllKnown

@@ -1,6 +1,5 @@
 -- What the standings for the logs of all sites tell.
-use Rattle.std.proofs.Common.{◌≡◌, ℕ, ◌<◌, List, [], length, get_or, sym, ◌∙◌, ap, subst, arith}
-use Rattle.std.specs.Global.{Vec}
+use Rattle.std.proofs.Common.{◌≡◌, ℕ, ◌<◌, List, [], length, map, get_or, sym, ◌∙◌, ap, subst, arith}
 use Rattle.std.proofs.lemmas.List.{get_or-map}
 use Rattle.field_bounds.specs.declared.kind.Kind.{Kind}
 use Rattle.field_bounds.specs.Schema.{SchemaValue}
@@ -10,7 +9,7 @@ use Rattle.site_rights.specs.Rights.{own_at, cut_at}
 use Rattle.gift_ledger.specs.Ledger.{total_at, accepted_at, IsSlot}
 use Rattle.log_replay.specs.declared.standing.Standing.{Standing}
 use Rattle.log_replay.specs.Standing.{IsOther, IsStandingFor}
-use Rattle.world_logs.specs.Logs.{records_of, log_of, IsPair, given_between, accepted_between}
+use Rattle.world_logs.specs.Logs.{log_of, IsPair, given_between, accepted_between}
 use Rattle.world_logs.specs.Body.{StandFor}
 
 module _ (schema : SchemaValue) (logs : List (List Record)) (xs : List Standing) (is : StandFor schema logs xs) where
@@ -48,8 +47,7 @@ module _ (schema : SchemaValue) (logs : List (List Record)) (xs : List Standing)
     pub accepted_is : (k : Kind) → i ≡ to → accepted_at (get_or xs i d).ledger from f k ≡ accepted_between logs from to f k
     accepted_is k at = (standing_is to i d pair.to_in at).for_.accepted from f k from_other
 
--- the records of one of the vectors
-pub log_at : (logs : List (Vec Record)) (s i : ℕ) (d : Vec Record) → s < length logs → i ≡ s
-    → log_of (records_of logs) s ≡ (get_or logs i d).items
-log_at logs s i d below at =
-    get_or-map (λ (w : Vec Record). w.items) logs s d [] below ∙ ap (λ (j : ℕ). (get_or logs j d).items) (sym at)
+-- the records of one of the logs
+pub log_at : {A : Type 0} (kept : A → List Record) (logs : List A) (s i : ℕ) (d : A) → s < length logs → i ≡ s
+    → log_of (map kept logs) s ≡ kept (get_or logs i d)
+log_at kept logs s i d below at = get_or-map kept logs s d [] below ∙ ap (λ (j : ℕ). kept (get_or logs j d)) (sym at)

@@ -5,3 +5,5 @@ pub mod Body
 pub mod Lost
 pub mod LostFaults
 pub mod LostBody
+pub mod Traces
+pub mod HeaderText

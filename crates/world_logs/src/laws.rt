@@ -1,10 +1,13 @@
 //! Laws of the logs of all sites, each as the contract of a function that does nothing.
 
-ghost use Rattle.std.specs.Prelude.{◌≤ℤ◌, ◌<◌, ℕ, List, Option, length};
+ghost use Rattle.std.specs.Prelude.{◌≡◌, ◌≤ℤ◌, ◌<◌, ℕ, Bool, false, List, Option, length};
+ghost use Rattle.field_bounds.specs.declared.entry.Entry.{Entry};
 ghost use Rattle.field_bounds.specs.Schema.{SchemaValue};
 ghost use Rattle.field_bounds.specs.Limits.{IsSchema};
+ghost use Rattle.field_bounds.specs.Central.{committed_value, floor_in as floor_in_trace, ceiling_in as ceiling_in_trace, IsSound};
 ghost use Rattle.kept_records.specs.declared.record.Record.{Record};
 ghost use Rattle.world_logs.specs.Logs.{AreLawful, AcceptedWithin, value_in, floor_in, ceiling_in, IsConserved};
+ghost use Rattle.world_logs.specs.Traces.{AreLeft};
 ghost use Rattle.world_logs.specs.Lost.{MayBe, least_value, greatest_value};
 
 /// The logs of all sites, each lawful, of which none has accepted more than was given to its site,
@@ -37,4 +40,28 @@ pub fn known_logs_bound_each_value()
         (f : ℕ) → f < length schema.fields
         → (least_value schema known f ≤ℤ value_in schema logs f)
         × (value_in schema logs f ≤ℤ greatest_value schema known f) }
+{}
+
+/// The logs that the sites of a world leave pass the check, and tell what its trace comes to. Where
+/// each reply of a trace was owed and each statement that was taken in was issued before, no log that
+/// its entries left has accepted more than was given, whatever stands there of what is in doubt
+/// (`within`). Where nothing that is in doubt stands, as in the logs of sites that are up, value,
+/// floor and ceiling of each field are those of the trace (`value`, `floor`, `ceiling`): the value is
+/// the one that one central store has committed.
+///
+/// Source: O'Neil 1986 for the committed value, this project for the law.
+pub fn logs_tell_what_the_trace_does()
+    ensures within { (schema : SchemaValue) (trace : List Entry) (kept : ℕ → Bool)
+        (logs : List (List Record)) → IsSound schema trace → AreLeft schema trace kept logs
+        → AcceptedWithin schema logs }
+    ensures value { (schema : SchemaValue) (trace : List Entry) (logs : List (List Record))
+        → IsSchema schema → IsSound schema trace → AreLeft schema trace (λ s. false) logs →
+        (f : ℕ) → f < length schema.fields
+        → value_in schema logs f ≡ committed_value schema trace f }
+    ensures floor { (schema : SchemaValue) (trace : List Entry) (logs : List (List Record))
+        → IsSchema schema → IsSound schema trace → AreLeft schema trace (λ s. false) logs →
+        (f : ℕ) → floor_in schema logs f ≡ floor_in_trace schema trace f }
+    ensures ceiling { (schema : SchemaValue) (trace : List Entry) (logs : List (List Record))
+        → IsSchema schema → IsSound schema trace → AreLeft schema trace (λ s. false) logs →
+        (f : ℕ) → ceiling_in schema logs f ≡ ceiling_in_trace schema trace f }
 {}

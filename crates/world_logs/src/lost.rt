@@ -4,66 +4,20 @@ ghost use Rattle.std.specs.Prelude.{◌≡◌, ℕ, ◌<◌, List, Option, IfOk,
 ghost use Rattle.std.specs.List.{AllByRecursion};
 ghost use Rattle.kept_records.specs.declared.record.Record.{Record};
 ghost use Rattle.kept_records.specs.Text.{IsRecord};
-ghost use Rattle.kept_records.specs.Stands.{Lawful};
-ghost use Rattle.log_replay.specs.Standing.{IsStandingFor};
 ghost use Rattle.world_logs.specs.Logs.{log_of, AreLawful};
 ghost use Rattle.world_logs.specs.Lost.{known_of, known_records, AreRanges};
 ghost use Rattle.world_logs.specs.LostFaults.{KnownWithin, TellsTooMuch, TellsKnownFault};
-ghost use Rattle.world_logs.specs.LostBody.{records_in, StandForKnown, AreOfKnown};
-ghost use Rattle.world_logs.specs.Faults.{TellsOfLog, TellsUnlawful};
-ghost use Rattle.world_logs.specs.Body.{StandFor};
+ghost use Rattle.world_logs.specs.LostBody.{StandForKnown, AreOfKnown};
 
 use crate::excess_search::first_excess;
 use crate::fault::WorldFault;
 use crate::field_state::FieldRange;
 use crate::lost_sums::range_of;
-use crate::standings::standing_of;
-use field_bounds::{FieldNo, Schema, SiteNo};
+use crate::standings::standings_of;
+use field_bounds::{FieldNo, Schema};
 use kept_records::Record;
 use log_replay::Standing;
 use std::alloc::{AllocError, Global};
-
-/// What the log of a site stands for, or no records where it is lost.
-fn known_standing(
-    alloc: Global,
-    schema: &Schema,
-    site: SiteNo,
-    log: &Option<Vec<Record>>,
-) -> Result<Standing, WorldFault>
-    requires site_in { site.0 < schema.now.sites }
-    requires in_range { AllByRecursion IsRecord (records_in log.now) }
-    ensures lawful { IfOk result (λ standing. Lawful schema.now site.0 (records_in log.now)) }
-    ensures stands { IfOk result (λ standing. IsStandingFor schema.now site.0 (records_in log.now)
-        standing) }
-    ensures fault { IfErr result (λ fault. TellsOfLog schema.now site.0 (records_in log.now) fault) }
-{
-    match log {
-        Some(log) => standing_of(alloc, schema, site, log.as_slice()),
-        None => Ok(Standing::new(alloc, schema, site)?),
-    }
-}
-
-/// What the log of each site stands for, site by site, or the first log that isn't lawful.
-fn known_standings(
-    alloc: Global,
-    schema: &Schema,
-    logs: &[Option<Vec<Record>>],
-) -> Result<Vec<Standing>, WorldFault>
-    requires count { length logs.now ≡ schema.now.sites }
-    requires in_range { (s : ℕ) → AllByRecursion IsRecord
-        (log_of (known_records (known_of logs.now)) s) }
-    ensures stand { IfOk result (λ standings. StandFor schema.now
-        (known_records (known_of logs.now)) standings.items) }
-    ensures fault { IfErr result (λ fault. TellsUnlawful schema.now
-        (known_records (known_of logs.now)) fault) }
-{
-    let mut standings = Vec::new(alloc);
-    for number in 0..schema.sites() {
-        let log = &logs[usize::from(number)];
-        standings.push(known_standing(alloc, schema, SiteNo(number), log)?)?;
-    }
-    Ok(standings)
-}
 
 /// Site by site, whether the log is lost.
 fn lost_of(alloc: Global, logs: &[Option<Vec<Record>>]) -> Result<Vec<bool>, AllocError>
@@ -132,7 +86,7 @@ pub fn bound_world(
         ranges.items) }
     ensures fault { IfErr result (λ fault. TellsKnownFault schema.now (known_of logs.now) fault) }
 {
-    let standings = known_standings(alloc, schema, logs)?;
+    let standings = standings_of(alloc, schema, logs)?;
     let lost = lost_of(alloc, logs)?;
     match first_excess(schema, standings.as_slice(), lost.as_slice()) {
         Some(excess) => Err(WorldFault::AcceptedMore(excess)),

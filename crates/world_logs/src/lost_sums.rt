@@ -1,8 +1,6 @@
 //! Sums over the sites whose logs are known, and between which values a field lies by them.
 
-ghost use Rattle.std.specs.Prelude.{◌≡◌, ◌+◌, ◌*◌, ◌-◌, ◌^◌, ◌<◌, ◌≤◌, min, List, Option, IfSome, IfNone, length};
-ghost use Rattle.field_bounds.specs.Limits.{max_sites};
-ghost use Rattle.field_bounds.specs.Owed.{max_change};
+ghost use Rattle.std.specs.Prelude.{◌≡◌, ◌+◌, ◌-◌, ◌^◌, ◌<◌, min, List, Option, IfSome, IfNone, length};
 ghost use Rattle.field_bounds.specs.Parts.{sum_below, field_at, width_of};
 ghost use Rattle.kept_records.specs.declared.record.Record.{Record};
 ghost use Rattle.world_logs.specs.Lost.{known_log, guarded_by, flight_by, guarded_known, flight_known, known_rights, range_of, HasRoom};
@@ -10,6 +8,7 @@ ghost use Rattle.world_logs.specs.LostBody.{StandForKnown, AreOfKnown};
 
 use crate::excess_search::is_lost;
 use crate::field_state::FieldRange;
+use crate::site_sum::sum_over;
 use field_bounds::{FieldNo, Kind, Schema, SiteNo};
 use log_replay::Standing;
 
@@ -29,7 +28,6 @@ fn guarded_by(
     ensures value { (known : List (Option (List Record)))
         → StandForKnown schema.now known standings.now lost.now
         → result ≡ guarded_by schema.now site.0 (known_log known site.0) field.0 kind }
-    ensures most { result ≤ max_change }
 {
     if is_lost(lost, site) {
         return 0;
@@ -37,8 +35,8 @@ fn guarded_by(
     standings[usize::from(site.0)].rights.guarded(field, kind)
 }
 
-/// What the known sites guard of a kind on a field.
-fn guarded_known(
+/// What the known sites guard of a kind on a field, or the greatest `u64` where that is more.
+pub(crate) fn guarded_known(
     schema: &Schema,
     standings: &[Standing],
     lost: &[bool],
@@ -49,14 +47,11 @@ fn guarded_known(
     requires field_in { field.0 < length schema.now.fields }
     ensures value { (known : List (Option (List Record)))
         → StandForKnown schema.now known standings.now lost.now
-        → result ≡ guarded_known schema.now known field.0 kind }
-    ensures most { result ≤ max_sites * max_change }
+        → result ≡ min (guarded_known schema.now known field.0 kind) (2 ^ 64 - 1) }
 {
-    let mut rights = 0;
-    for number in 0..schema.sites() {
-        rights += guarded_by(schema, standings, lost, SiteNo(number), field, kind);
-    }
-    rights
+    sum_over(schema.sites(), |site| {
+        guarded_by(schema, standings, lost, site, field, kind)
+    })
 }
 
 /// The rights in flight from one site to another, and none to itself, or where a log is lost.
@@ -105,12 +100,9 @@ fn flight_by_site(
         → result ≡ min (sum_below schema.now.sites (λ to. flight_by (known_log known from.0)
         (known_log known to) from.0 to field.0 kind)) (2 ^ 64 - 1) }
 {
-    let mut flight: u64 = 0;
-    for number in 0..schema.sites() {
-        let one = flight_by(schema, standings, lost, from, SiteNo(number), field, kind);
-        flight = flight.saturating_add(one);
-    }
-    flight
+    sum_over(schema.sites(), |to| {
+        flight_by(schema, standings, lost, from, to, field, kind)
+    })
 }
 
 /// The rights in flight of a kind on a field between known sites, or the greatest `u64` where there
@@ -128,17 +120,14 @@ fn flight_known(
         → StandForKnown schema.now known standings.now lost.now
         → result ≡ min (flight_known schema.now known field.0 kind) (2 ^ 64 - 1) }
 {
-    let mut flight: u64 = 0;
-    for number in 0..schema.sites() {
-        let one = flight_by_site(schema, standings, lost, SiteNo(number), field, kind);
-        flight = flight.saturating_add(one);
-    }
-    flight
+    sum_over(schema.sites(), |from| {
+        flight_by_site(schema, standings, lost, from, field, kind)
+    })
 }
 
 /// What the known sites guard and have in flight of a kind on a field, or the greatest `u64` where
 /// that is more.
-fn rights_known(
+pub(crate) fn rights_known(
     schema: &Schema,
     standings: &[Standing],
     lost: &[bool],

@@ -9,9 +9,9 @@ ghost use Rattle.world_logs.specs.Logs.{records_of, log_of};
 ghost use Rattle.world_logs.specs.Lost.{known_of, known_records};
 
 use check_kit::{STOCK_OF_THREE, STOCK_OF_TWO, schema_of};
-use field_bounds::{FieldNo, Kind, Schema, SiteNo};
+use field_bounds::{FieldNo, FieldSpec, Kind, Schema, SiteNo};
 use kept_records::{Record, read_records};
-use std::alloc::Global;
+use std::alloc::{AllocError, Global};
 use world_logs::*;
 
 /// Two sites and two fields: the second may lie from -10 to 0, and begins at -10, so that site 0
@@ -354,4 +354,71 @@ fn lost_logs_leave_a_range(rt: HostRuntime) {
             Some(Err(*fault))
         );
     }
+}
+
+/// Headers, and how they are written.
+const WRITTEN: [(&str, &str); 4] = [
+    (STOCK_OF_TWO, STOCK_OF_TWO),
+    (TWO_FIELDS, TWO_FIELDS),
+    (
+        r#"{ "fields": [{"value": 40, "ceiling": 100, "floor": 0, "name": "stock"}], "sites": 2 }"#,
+        STOCK_OF_TWO,
+    ),
+    (
+        r#"{"sites":64,"fields":[{"name":"_9","floor":-1000000000000000,"ceiling":1000000000000000,"value":-1}]}"#,
+        r#"{"sites":64,"fields":[{"name":"_9","floor":-1000000000000000,"ceiling":1000000000000000,"value":-1}]}"#,
+    ),
+];
+
+/// Whether the header of the schema that a header tells is written like this; None where it isn't
+/// written.
+fn is_written(alloc: Global, header: &str, expected: &str) -> Option<bool> {
+    let schema = schema_of(alloc, header)?;
+    let written = write_header(alloc, &schema).ok()?;
+    Some(written.as_str() == expected)
+}
+
+#[test]
+fn headers_are_written(rt: HostRuntime) {
+    for (header, expected) in &WRITTEN {
+        assert_eq!(rt; is_written(rt.alloc(), *header, *expected), Some(true));
+    }
+    assert_eq!(rt;
+        is_written(rt.alloc(), STOCK_OF_TWO, STOCK_OF_THREE),
+        Some(false)
+    );
+}
+
+/// A field with a name of 32 bytes and numbers of 16 digits.
+fn longest_field(alloc: Global, number: u16) -> Result<FieldSpec, AllocError> {
+    Ok(FieldSpec {
+        name: format!(in alloc; "a_name_of_thirty_two_bytes_0_{number}")?,
+        floor: -1_000_000_000_000_000,
+        ceiling: 1_000_000_000_000_000,
+        value: -1_000_000_000_000_000,
+    })
+}
+
+/// As many of them as a schema may have.
+fn longest_fields(alloc: Global) -> Result<Vec<FieldSpec>, AllocError> {
+    let mut fields = Vec::new(alloc);
+    for number in 100..356u16 {
+        fields.push(longest_field(alloc, number)?)?;
+    }
+    Ok(fields)
+}
+
+/// How long the longest header is; None where it isn't written.
+fn longest(alloc: Global) -> Option<usize> {
+    let fields = longest_fields(alloc).ok()?;
+    let schema = Schema::new(alloc, 64, fields).ok()?;
+    let written = write_header(alloc, &schema).ok()?;
+    Some(written.len())
+}
+
+// A field has 40 bytes beside its name of 32 and its numbers of 17, 16 and 17 bytes, so 122; 256 of
+// them, 255 commas, and 24 bytes around.
+#[test]
+fn the_longest_header_is_read_back(rt: HostRuntime) {
+    assert_eq!(rt; longest(rt.alloc()), Some(31_511));
 }

@@ -1,10 +1,35 @@
-use Rattle.std.proofs.Common.{Bool, List, subst}
-use Rattle.std.proofs.lemmas.Result.{IfOk-weaker, IfErr-weaker}
-use Rattle.world_logs.specs.Faults.{IsFirstExcess}
+use Rattle.std.proofs.Common.{Bool, List, sym, subst}
+use Rattle.std.specs.List.{AllByRecursion}
+use Rattle.std.proofs.lemmas.Result.{IfOk-weaker, IfErr-weaker, err_from_is_err_and}
+use Rattle.kept_records.specs.declared.record.Record.{Record}
+use Rattle.kept_records.specs.Text.{IsRecord}
+use Rattle.world_logs.specs.Logs.{log_of}
+use Rattle.world_logs.specs.Faults.{IsFirstExcess, TellsUnlawful}
 use Rattle.world_logs.specs.Body.{IsKnownPair}
 use Rattle.world_logs.specs.Lost.{known_of, known_records}
-use Rattle.world_logs.proofs.LostReadings.{stand_for_known, known_within, too_much_tells}
+use Rattle.world_logs.proofs.LostReadings.{records_are, unlawful_tells, told_lost_is, stand_for_known, known_within, too_much_tells}
 use Rattle.world_logs.proofs.lost.bound_world.Goals as goal
+
+pub standings_of-requires-clause-in_range : goal.standings_of-requires-clause-in_range
+standings_of-requires-clause-in_range c = λ s.
+    subst (λ (ls : List (List Record)). AllByRecursion IsRecord (log_of ls s)) (sym (records_are c.args.logs.now)) (c.requires.in_range s)
+
+pub returns-in_err-standings-clause-fault : goal.returns-in_err-standings-clause-fault
+returns-in_err-standings-clause-fault c =
+    let p = err_from_is_err_and c.from_residual.result c.from_residual.ensures.1 in
+    let schema = c.args.schema.now in
+    rw (p.1, p.2) (
+    unlawful_tells schema (known_of c.args.logs.now) c.in_err-standings.field-0.0
+    (subst (λ (ls : List (List Record)). TellsUnlawful schema ls c.in_err-standings.field-0.0) (records_are c.args.logs.now)
+    c.in_err-standings.ensures.fault)
+    )
+
+pub returns-clause-lawful : goal.returns-clause-lawful
+returns-clause-lawful c =
+    let is = stand_for_known c.args.schema.now c.args.logs.now c.in_ok-standings.standings.items c.as_slice.result.now
+    c.in_ok-lost.lost.items c.as_slice-2.result.now c.requires.count c.in_ok-standings.ensures.stand c.as_slice.ensures.value
+    c.as_slice-2.ensures.value c.in_ok-lost.ensures in
+    IfOk-weaker c.ranges_of.result _ _ (λ ranges told. is.stand.lawful) c.ranges_of.ensures.ranges
 
 pub returns-in-Some-clause-fault : goal.returns-in-Some-clause-fault
 returns-in-Some-clause-fault c =
@@ -15,7 +40,8 @@ returns-in-Some-clause-fault c =
     c.as_slice-2.result.now c.requires.count c.in_ok-standings.ensures.stand c.as_slice.ensures.value c.as_slice-2.ensures.value
     c.in_ok-lost.ensures in (
       is.stand.lawful,
-      subst (λ (lost : List Bool). IsFirstExcess (IsKnownPair schema lost) logs c.in-Some.excess) is.lost_is
+      subst (λ (lost : List Bool). IsFirstExcess (IsKnownPair schema lost) logs c.in-Some.excess) (told_lost_is c.args.logs.now c.in_ok-lost.lost.items c.as_slice-2.result.now
+          c.as_slice-2.ensures.value c.in_ok-lost.ensures)
           (c.in-Some.ensures.some logs is.stand),
     )
 
@@ -38,7 +64,8 @@ returns-clause-within c =
     c.as_slice-2.result.now c.requires.count c.in_ok-standings.ensures.stand c.as_slice.ensures.value c.as_slice-2.ensures.value
     c.in_ok-lost.ensures in
     IfOk-weaker c.ranges_of.result _ _
-    (λ ranges told. known_within schema known c.as_slice-2.result.now is.lost_is (c.in-None.ensures.none (known_records known) is.stand))
+    (λ ranges told. known_within schema known c.as_slice-2.result.now
+    (told_lost_is c.args.logs.now c.in_ok-lost.lost.items c.as_slice-2.result.now c.as_slice-2.ensures.value c.in_ok-lost.ensures) (c.in-None.ensures.none (known_records known) is.stand))
     c.ranges_of.ensures.ranges
 
 pub returns-clause-ranges : goal.returns-clause-ranges
@@ -57,7 +84,8 @@ returns-clause-fault c =
     let is = stand_for_known schema c.args.logs.now c.in_ok-standings.standings.items c.as_slice.result.now c.in_ok-lost.lost.items
     c.as_slice-2.result.now c.requires.count c.in_ok-standings.ensures.stand c.as_slice.ensures.value c.as_slice-2.ensures.value
     c.in_ok-lost.ensures in
-    let within = known_within schema known c.as_slice-2.result.now is.lost_is (c.in-None.ensures.none (known_records known) is.stand) in
+    let within = known_within schema known c.as_slice-2.result.now
+    (told_lost_is c.args.logs.now c.in_ok-lost.lost.items c.as_slice-2.result.now c.as_slice-2.ensures.value c.in_ok-lost.ensures) (c.in-None.ensures.none (known_records known) is.stand) in
     IfErr-weaker c.ranges_of.result _ _
     (λ fault told. too_much_tells schema known fault within
     (told known

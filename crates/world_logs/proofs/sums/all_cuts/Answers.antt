@@ -1,41 +1,28 @@
-use Rattle.std.proofs.Common.{◌≤◌, ◌+◌, ◌∙◌, arith}
-use Rattle.field_bounds.specs.Owed.{max_change}
+use Rattle.std.proofs.Common.{◌≡◌, ℕ, ◌-◌, ◌^◌, min, ◌∙◌, ap, arith, rules}
+use Rattle.field_bounds.specs.Parts.{sum_below}
 use Rattle.kept_records.specs.Stands.{cut_in}
 use Rattle.world_logs.specs.Logs.{log_of}
-use Rattle.world_logs.proofs.Totals.{all_few, front_below, step_below}
-use Rattle.world_logs.proofs.Readings.{cut_is}
+use Rattle.world_logs.proofs.Totals.{all_few}
 use Rattle.world_logs.proofs.sums.all_cuts.Goals as goal
 
-pub overflow_add-cuts : goal.overflow_add-cuts
-overflow_add-cuts c =
+pub returns-clause-value : goal.returns-clause-value
+returns-clause-value c = λ logs is.
     let schema = c.args.schema.now in
-    let logs = c.requires.of_world.0 in
-    let is = c.requires.of_world.1 in
     let f = c.args.field.0 in
     let k = c.args.kind in
-    let n = c.loop-number.number in
-    let sites = c.sites-number-end.ensures in
-    let few : c.loop-number.cuts + c.tightened-cuts.result ≤ max_change =
-    step_below schema.sites n (λ s. cut_in (log_of logs s) f k) c.loop-number.cuts c.tightened-cuts.result max_change
-    (omega (arith, c.loop-number-test.true, sites.value))
-    (omega (arith, all_few schema sites.limits logs is.stand.lawful is.within f k c.requires.field_in))
-    (c.loop-number.invariant logs is)
-    (c.tightened-cuts.ensures.value ∙ cut_is schema logs c.args.standings.now is.stand n c.from.result c.index-standings-from.result
-    (omega (arith, c.loop-number-test.true, sites.value)) c.from.ensures f k c.requires.field_in) in
-    omega (arith, few)
+    let stand = is.stand in
+    let one : ℕ → ℕ = λ (s : ℕ). cut_in (log_of logs s) f k in
+    let told : c.sum_over.result ≡ min (sum_below schema.sites one) (2 ^ 64 - 1) =
+    c.sum_over.ensures.value one (λ s x below post. search rules)
+    ∙ ap (λ (n : ℕ). min (sum_below n one) (2 ^ 64 - 1)) c.sites.ensures.value in
+    omega (arith, told, all_few schema c.sites.ensures.limits logs stand.lawful is.within f k c.requires.field_in)
 
 pub returns-clause-most : goal.returns-clause-most
 returns-clause-most c =
-    let schema = c.args.schema.now in
     let logs = c.requires.of_world.0 in
     let is = c.requires.of_world.1 in
-    let f = c.args.field.0 in
-    let k = c.args.kind in
-    let n = c.loop-number.number in
-    let sites = c.sites-number-end.ensures in
     omega (
       arith,
-      c.loop-number.invariant logs is,
-      front_below n schema.sites (λ s. cut_in (log_of logs s) f k) (omega (arith, c.loop-number.auto, sites.value)),
-      all_few schema sites.limits logs is.stand.lawful is.within f k c.requires.field_in,
+      returns-clause-value c logs is,
+      all_few c.args.schema.now c.sites.ensures.limits logs is.stand.lawful is.within c.args.field.0 c.args.kind c.requires.field_in,
     )
