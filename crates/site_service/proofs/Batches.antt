@@ -11,13 +11,15 @@ use Rattle.site_service.specs.declared.fault.ServeFault.{ServeFault}
 use Rattle.site_service.specs.declared.fault.ServeFault.TheVariants as faults
 use Rattle.site_service.specs.Answers.{AnswersLines}
 use Rattle.site_service.specs.Service.{ServiceValue, IsSettled, KeepsLog, HasAnsweredAll, LetsOut, HoldsBack}
-use Rattle.site_service.specs.Serving.{IsKeptOf, Serves, ServesPart, Stops, StopsAtOnce, reads_failed, CountsReads, CountsWrites}
+use Rattle.site_service.specs.Serving.{IsKeptOf, Serves, ServesPart, Stops, StopsAtOnce, IsOutAt, reads_failed, CountsReads, CountsWrites}
+use Rattle.site_service.specs.Traces.{TraceValue, HasTold, HasKept}
 use Rattle.site_service.proofs.Lines.{answers_after}
+use Rattle.site_service.proofs.Tracing.{told_none, told_more, kept_of, kept_front}
 
 -- what waited at first is let out, and nothing was read
-pub serves_none : (from before after : Option (List ℕ)) (start now : ServiceValue) → now.served ≡ start.served
-    → LetsOut before after start now → ServesPart from from before after start now []
-serves_none from before after start now same out = record {
+pub serves_none : (from before after : Option (List ℕ)) (trace : TraceValue) (start now : ServiceValue) → now.served ≡ start.served
+    → LetsOut before after start now → ServesPart from from before after trace trace start now []
+serves_none from before after trace start now same out = record {
   serves = record {
     read = [];
     consumed = Consumes-nil from;
@@ -26,14 +28,15 @@ serves_none from before after start now same out = record {
     written = subst (Appends before after) (sym (append-nil start.waiting)) out.out;
     waiting = out.waiting;
     settled = out.settled;
+    told = told_none trace;
   };
   kept = inl refl;
 }
 
 -- what was let out couldn't be written whole
-pub stops_first : (from before after : Option (List ℕ)) (start now : ServiceValue) → now.served ≡ start.served → IsSettled now
-    → AppendsPrefix before after start.waiting → Stops from from before after start now faults.Write
-stops_first from before after start now same settled front = record {
+pub stops_first : (from before after : Option (List ℕ)) (trace : TraceValue) (start now : ServiceValue) → now.served ≡ start.served
+    → IsSettled now → AppendsPrefix before after start.waiting → Stops from from before after trace trace start now faults.Write
+stops_first from before after trace start now same settled front = record {
   front = [];
   back = [];
   consumed = Consumes-nil from;
@@ -43,6 +46,7 @@ stops_first from before after start now same settled front = record {
   out = subst (AppendsPrefix before after) (sym (append-nil start.waiting)) front;
   settled = settled;
   safe = settled.safe;
+  told = kept_of trace trace [] (told_none trace);
 }
 
 -- a front of what is known and of what is written after it
@@ -55,25 +59,29 @@ prefix_after before middle after written out wrote front = (
 )
 
 -- A fault in front of which all batches were let out: what was read since is the back.
-pub stops_behind : (from mid to before after : Option (List ℕ)) (start now later : ServiceValue) (line piece : List ℕ)
-    → ServesPart from mid before after start now line → Consumes mid to piece → later.safe ≡ now.safe
-    → Stops from to before after start later faults.NoMemory × Stops from to before after start later faults.Device
-    × Stops from to before after start later faults.Read × Stops from to before after start later faults.TooLong
-stops_behind from mid to before after start now later line piece part more same =
-    let s = part.serves in
-    let consumed : Consumes from to (s.read ++ piece) = Consumes-trans from mid to s.read piece s.consumed more in
-    let safe : IsCopyOf later.safe now.served.site.bytes =
-    subst (λ (k : Option (List ℕ)). IsCopyOf k now.served.site.bytes) (sym same) s.settled.safe in (
-      record { front = s.read; back = piece; consumed = consumed; last = now; text = s.text; answers = s.answers; out = s.written; settled = s.settled; safe = safe },
-      record { front = s.read; back = piece; consumed = consumed; last = now; text = s.text; answers = s.answers; out = s.written; settled = s.settled; safe = safe },
-      record { front = s.read; back = piece; consumed = consumed; last = now; text = s.text; answers = s.answers; out = s.written; settled = s.settled; safe = safe },
-      record { front = s.read; back = piece; consumed = consumed; last = now; text = s.text; answers = s.answers; out = s.written; settled = s.settled; safe = safe },
-    )
+pub stops_behind : (from mid to before after : Option (List ℕ)) (trace half traced : TraceValue) (start now later : ServiceValue)
+    (line piece : List ℕ) (part : ServesPart from mid before after trace half start now line) → Consumes mid to piece
+    → later.safe ≡ now.safe → HasKept trace traced part.serves.text → (fault : ServeFault) → IsOutAt fault before after (start.waiting ++ part.serves.text)
+    → Stops from to before after trace traced start later fault
+stops_behind from mid to before after trace half traced start now later line piece part more same told fault out =
+    let s = part.serves in record {
+      front = s.read;
+      back = piece;
+      consumed = Consumes-trans from mid to s.read piece s.consumed more;
+      last = now;
+      text = s.text;
+      answers = s.answers;
+      out = out;
+      settled = s.settled;
+      safe = subst (λ (k : Option (List ℕ)). IsCopyOf k now.served.site.bytes) (sym same) s.settled.safe;
+      told = told;
+    }
 
 -- no byte was read since
-pub stops_kept : (from mid to before after : Option (List ℕ)) (start now : ServiceValue) (line : List ℕ)
-    → ServesPart from mid before after start now line → Keeps mid to → Stops from to before after start now faults.Read
-stops_kept from mid to before after start now line part keeps =
+pub stops_kept : (from mid to before after : Option (List ℕ)) (trace traced : TraceValue) (start now : ServiceValue) (line : List ℕ)
+    → ServesPart from mid before after trace traced start now line → Keeps mid to
+    → Stops from to before after trace traced start now faults.Read
+stops_kept from mid to before after trace traced start now line part keeps =
     let s = part.serves in record {
       front = s.read;
       back = [];
@@ -84,12 +92,14 @@ stops_kept from mid to before after start now line part keeps =
       out = s.written;
       settled = s.settled;
       safe = s.settled.safe;
+      told = kept_of trace traced s.text s.told;
     }
 
 -- the end of the input
-pub serves_all : (from mid to before after : Option (List ℕ)) (start now : ServiceValue) (line : List ℕ)
-    → ServesPart from mid before after start now line → Consumes mid to [] → Serves from to before after start now
-serves_all from mid to before after start now line part none =
+pub serves_all : (from mid to before after : Option (List ℕ)) (trace traced : TraceValue) (start now : ServiceValue) (line : List ℕ)
+    → ServesPart from mid before after trace traced start now line → Consumes mid to []
+    → Serves from to before after trace traced start now
+serves_all from mid to before after trace traced start now line part none =
     let s = part.serves in record {
       read = s.read;
       consumed = subst (Consumes from to) (append-nil s.read) (Consumes-trans from mid to s.read [] s.consumed none);
@@ -98,13 +108,15 @@ serves_all from mid to before after start now line part none =
       written = s.written;
       waiting = s.waiting;
       settled = s.settled;
+      told = s.told;
     }
 
 -- ---- a batch
 
-module _ (from mid to before half after : Option (List ℕ)) (start now answered : ServiceValue) (line piece : List ℕ)
-    (part : ServesPart from mid before half start now line) (more : Consumes mid to piece)
-    (all : HasAnsweredAll (whole_lines_after (last_part part.serves.read) piece) now answered) where
+module _ (from mid to before half after : Option (List ℕ)) (trace earlier traced : TraceValue) (start now answered : ServiceValue)
+    (line piece : List ℕ) (part : ServesPart from mid before half trace earlier start now line) (more : Consumes mid to piece)
+    (all : HasAnsweredAll (whole_lines_after (last_part part.serves.read) piece) now answered)
+    (told : HasTold earlier traced answered.waiting) where
   lines_read : whole_lines (part.serves.read ++ piece) ≡ whole_lines part.serves.read ++ whole_lines_after (last_part part.serves.read) piece
   lines_read = whole_lines_after-append [] part.serves.read piece
 
@@ -118,12 +130,17 @@ module _ (from mid to before half after : Option (List ℕ)) (start now answered
   waits : answered.waiting ≡ all.text
   waits = all.added ∙ ap (λ (t : List ℕ). t ++ all.text) part.serves.waiting
 
+  -- and the trace has grown by it
+  told_batch : HasTold trace traced (part.serves.text ++ all.text)
+  told_batch = subst (λ (t : List ℕ). HasTold trace traced (part.serves.text ++ t)) waits
+      (told_more trace earlier traced part.serves.text answered.waiting part.serves.told told)
+
   texts : (start.waiting ++ part.serves.text) ++ answered.waiting ≡ start.waiting ++ (part.serves.text ++ all.text)
   texts = ap (λ (t : List ℕ). (start.waiting ++ part.serves.text) ++ t) waits ∙ append_assoc start.waiting part.serves.text all.text
 
   -- it is let out
   pub serves_batch : (later : ServiceValue) (left : List ℕ) → later.served ≡ answered.served → LetsOut half after answered later
-      → IsKeptOf (last_part_after (last_part part.serves.read) piece) left → ServesPart from to before after start later left
+      → IsKeptOf (last_part_after (last_part part.serves.read) piece) left → ServesPart from to before after trace traced start later left
   serves_batch later left same out keeps = record {
     serves = record {
       read = part.serves.read ++ piece;
@@ -135,13 +152,14 @@ module _ (from mid to before half after : Option (List ℕ)) (start now answered
           (Appends-trans before half after (start.waiting ++ part.serves.text) answered.waiting part.serves.written out.out);
       waiting = out.waiting;
       settled = out.settled;
+      told = told_batch;
     };
     kept = subst (λ (p : List ℕ). IsKeptOf p left) (sym (last_part_after-append [] part.serves.read piece)) keeps;
   }
 
   -- a front of it is written
   pub stops_batch : (later : ServiceValue) → later.served ≡ answered.served → IsSettled later → AppendsPrefix half after answered.waiting
-      → Stops from to before after start later faults.Write
+      → Stops from to before after trace traced start later faults.Write
   stops_batch later same settled front = record {
     front = part.serves.read ++ piece;
     back = [];
@@ -155,33 +173,44 @@ module _ (from mid to before half after : Option (List ℕ)) (start now answered
         (prefix_after before half after (start.waiting ++ part.serves.text) answered.waiting part.serves.written front);
     settled = settled;
     safe = settled.safe;
+    told = kept_of trace traced (part.serves.text ++ all.text) told_batch;
   }
+
+  -- the log failed behind the trace
+  pub stops_device : (later : ServiceValue) → later.safe ≡ now.safe → half ≡ after → Stops from to before after trace traced start later faults.Device
+  stops_device later same unwritten =
+      subst (λ (w : Option (List ℕ)). Stops from to before w trace traced start later faults.Device) unwritten
+      (stops_behind from mid to before half trace earlier traced start now later line piece part more same
+      (kept_front trace traced part.serves.text all.text told_batch) faults.Device part.serves.written)
 
 -- ---- a fault of a release
 
 -- in the middle of a serving
-pub stops_release : (from mid to before half after : Option (List ℕ)) (start now answered later : ServiceValue) (line piece : List ℕ)
-    (part : ServesPart from mid before half start now line) → Consumes mid to piece
-    → HasAnsweredAll (whole_lines_after (last_part part.serves.read) piece) now answered → KeepsLog now answered
-    → later.served ≡ answered.served → (fault : ServeFault) → HoldsBack half after answered later fault
-    → Stops from to before after start later fault
-stops_release from mid to before half after start now answered later line piece part more all keeps same faults.Device held =
-    subst (λ (w : Option (List ℕ)). Stops from to before w start later faults.Device) (sym held.0)
-    (stops_behind from mid to before half start now later line piece part more (held.2 ∙ keeps.safe)).1
-stops_release from mid to before half after start now answered later line piece part more all keeps same faults.Write held =
-    stops_batch from mid to before half after start now answered line piece part more all later same held.0 held.1
-stops_release from mid to before half after start now answered later line piece part more all keeps same faults.Read held = absurd held
-stops_release from mid to before half after start now answered later line piece part more all keeps same faults.TooLong held = absurd held
-stops_release from mid to before half after start now answered later line piece part more all keeps same faults.NoMemory held = absurd held
+pub stops_release : (from mid to before half after : Option (List ℕ)) (trace earlier traced : TraceValue) (start now answered later : ServiceValue)
+    (line piece : List ℕ) (part : ServesPart from mid before half trace earlier start now line) → Consumes mid to piece
+    → HasAnsweredAll (whole_lines_after (last_part part.serves.read) piece) now answered → HasTold earlier traced answered.waiting
+    → KeepsLog now answered → later.served ≡ answered.served → (fault : ServeFault) → HoldsBack half after answered later fault
+    → Stops from to before after trace traced start later fault
+stops_release from mid to before half after trace earlier traced start now answered later line piece part more all told keeps same faults.Device held =
+    stops_device from mid to before half after trace earlier traced start now answered line piece part more all told later
+    (held.2 ∙ keeps.safe) (sym held.0)
+stops_release from mid to before half after trace earlier traced start now answered later line piece part more all told keeps same faults.Write held =
+    stops_batch from mid to before half after trace earlier traced start now answered line piece part more all told later same held.0 held.1
+stops_release from mid to before half after trace earlier traced start now answered later line piece part more all told keeps same faults.Read held = absurd held
+stops_release from mid to before half after trace earlier traced start now answered later line piece part more all told keeps same faults.TooLong held = absurd held
+stops_release from mid to before half after trace earlier traced start now answered later line piece part more all told keeps same faults.NoMemory held = absurd held
 
 -- before the first read
-pub stops_at_first : (from before after : Option (List ℕ)) (start now : ServiceValue) → now.served ≡ start.served → (fault : ServeFault)
-    → HoldsBack before after start now fault → StopsAtOnce from from before after fault ⊎ Stops from from before after start now fault
-stops_at_first from before after start now same faults.Device held = inl (record { device = refl; unread = refl; unwritten = held.0 })
-stops_at_first from before after start now same faults.Write held = inr (stops_first from before after start now same held.0 held.1)
-stops_at_first from before after start now same faults.Read held = absurd held
-stops_at_first from before after start now same faults.TooLong held = absurd held
-stops_at_first from before after start now same faults.NoMemory held = absurd held
+pub stops_at_first : (from before after : Option (List ℕ)) (trace : TraceValue) (start now : ServiceValue) → now.served ≡ start.served
+    → (fault : ServeFault) → HoldsBack before after start now fault
+    → StopsAtOnce from from before after trace trace fault ⊎ Stops from from before after trace trace start now fault
+stops_at_first from before after trace start now same faults.Device held =
+    inl (record { device = refl; unread = refl; unwritten = held.0; untold = refl })
+stops_at_first from before after trace start now same faults.Write held =
+    inr (stops_first from before after trace start now same held.0 held.1)
+stops_at_first from before after trace start now same faults.Read held = absurd held
+stops_at_first from before after trace start now same faults.TooLong held = absurd held
+stops_at_first from before after trace start now same faults.NoMemory held = absurd held
 
 -- ---- what is counted
 

@@ -1,9 +1,11 @@
 pub mod Stops
 pub mod Whole
 pub mod Ends
-pub mod WholeLogs
+pub mod Index
 pub mod Links
 pub mod Questions
 pub mod Told
 pub mod Lines
 pub mod Batches
+pub mod Tracing
+pub mod WordFaults

@@ -8,7 +8,7 @@ use Rattle.entry_text.specs.Spelling.{entry_text}
 use Rattle.entry_text.specs.Lines.{max_line}
 use Rattle.site_step.specs.Site.{SiteValue, Applies}
 use Rattle.site_service.specs.declared.bad_line.BadLine.{BadLine}
-use Rattle.site_service.specs.declared.bad_line.BadLine.TheVariants.{TooLong, OtherSite, NoCommand}
+use Rattle.site_service.specs.declared.bad_line.BadLine.TheVariants.{TooLong, OtherSite, UnknownWord, NoField, NoCommand}
 use Rattle.field_bounds.specs.declared.id.TxnId.{TxnId}
 use Rattle.entry_text.specs.Ranges.{IdFits}
 use Rattle.site_service.specs.Kept.{TellsCommit, kept_text, kept_words}
@@ -57,7 +57,9 @@ module _ (schema : SchemaValue) (number : SiteNo) (old : SiteValue) (own : schem
   told_long line whole TooLong long more bad added =
       record { text = bad_text count TooLong; answer = inr (inr (record { why = TooLong; bad = more; same = refl; told = refl })); added = added }
   told_long line whole OtherSite long more bad added = absurd (omega (arith, long, bad.0))
-  told_long line whole NoCommand long more bad added = absurd (omega (arith, long, bad.0))
+  told_long line whole UnknownWord long more bad added = absurd (omega (arith, long, bad.0.short))
+  told_long line whole NoField long more bad added = absurd (omega (arith, long, bad.0.short))
+  told_long line whole NoCommand long more bad added = absurd (omega (arith, long, bad.0.short))
 
   -- a question for a commit
   pub told_commit : (line : List ℕ) (txn : TxnId) → IdFits txn × (line ≡ kept_text txn)

@@ -13,6 +13,7 @@ use Rattle.kept_records.specs.declared.record.Record.{Record}
 use Rattle.kept_records.specs.declared.record.Record.TheVariants as records
 use Rattle.kept_records.specs.Text.{text}
 use Rattle.kept_records.specs.Logs.{HasNoLf, IsLog}
+use Rattle.kept_records.specs.Keeping.{IsKept}
 use Rattle.kept_records.specs.Stands.{greatest, piece, plain, Lawful}
 use Rattle.kept_records.proofs.Lines.{body}
 use Rattle.kept_state.specs.Keeps.{record_at, adds}
@@ -109,3 +110,7 @@ whole_opened schema number held count v opens whole never =
     let lawful : Lawful v.schema v.site.0 v.based = subst (λ (s : SiteNo). Lawful v.schema s.0 v.based) (sym opens.site)
     (subst (λ (s : SchemaValue). Lawful s number.0 v.based) (sym opens.schema) opens.lawful) in
     record { never = never; records = plain v.based; log = record { all = v.based; log = log; lawful = lawful; told = refl } }
+
+-- what it holds is a log
+pub whole_kept : (v : SiteValue) → IsWhole v → IsKept v.bytes
+whole_kept v whole = (whole.log.all, [], whole.log.log)

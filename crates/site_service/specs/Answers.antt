@@ -11,9 +11,11 @@ use Rattle.entry_text.specs.Spelling.{command_text, entry_text}
 use Rattle.entry_text.specs.Ranges.{SiteFits, IdFits, CommandFits}
 use Rattle.entry_text.specs.Lines.{max_line}
 use Rattle.script_input.specs.Streams.{one_more}
+use Rattle.line_words.specs.Words.{words}
+use Rattle.site_service.specs.LineFaults.{fault_in}
 use Rattle.site_service.specs.Kept.{TellsCommit, kept_text, kept_words}
 use Rattle.site_service.specs.declared.bad_line.BadLine.{BadLine}
-use Rattle.site_service.specs.declared.bad_line.BadLine.TheVariants.{TooLong, OtherSite, NoCommand}
+use Rattle.site_service.specs.declared.bad_line.BadLine.TheVariants.{TooLong, OtherSite, UnknownWord, NoField, NoCommand}
 
 -- What the answer to a line depends on: the site, and how many lines were answered before, as a u64 that begins again at 0.
 pub record Served : Type 0 where
@@ -45,20 +47,28 @@ pub record ToldKept (old : SiteValue) (line : List ℕ) (new : SiteValue) (text 
 
 -- ---- a line that asks nothing
 
+-- The line has no more than 256 bytes, and is the text neither of a command nor of a question for a commit.
+pub record AsksNothing (schema : SchemaValue) (line : List ℕ) : Type 0 where
+  pub short : length line ≤ max_line
+  pub command : (site : SiteNo) (command : Command) → SiteFits site → CommandFits command → line ≢ command_text schema site command
+  pub question : (txn : TxnId) → IdFits txn → line ≢ kept_text txn
+
 -- Why a line asks nothing of a site: it has more than 256 bytes; or it has no more, and is the text of a command of another
--- site, or neither of a command nor of a question for a commit.
+-- site, or neither of a command nor of a question for a commit, by what its words tell.
 abbrev pub IsBad : SchemaValue → SiteNo → List ℕ → BadLine → Type 0
 IsBad schema number line TooLong = max_line < length line
 IsBad schema number line OtherSite = (length line ≤ max_line)
     × ((site : SiteNo) × (command : Command) × (site ≢ number) × (line ≡ command_text schema site command))
-IsBad schema number line NoCommand = (length line ≤ max_line)
-    × ((site : SiteNo) (command : Command) → SiteFits site → CommandFits command → line ≢ command_text schema site command)
-    × ((txn : TxnId) → IdFits txn → line ≢ kept_text txn)
+IsBad schema number line UnknownWord = AsksNothing schema line × (fault_in schema (words line) ≡ UnknownWord)
+IsBad schema number line NoField = AsksNothing schema line × (fault_in schema (words line) ≡ NoField)
+IsBad schema number line NoCommand = AsksNothing schema line × (fault_in schema (words line) ≡ NoCommand)
 
 -- The words that tell it.
 abbrev pub bad_words : BadLine → List ℕ
 bad_words TooLong = codes "too long"
 bad_words OtherSite = codes "other site"
+bad_words UnknownWord = codes "unknown word"
+bad_words NoField = codes "no such field"
 bad_words NoCommand = codes "no command"
 
 -- The answer to the line of this number, with a line feed (10).

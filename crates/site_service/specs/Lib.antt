@@ -1,7 +1,10 @@
 pub mod Answers
 pub mod Service
 pub mod Opening
+pub mod Traces
 pub mod Serving
 pub mod Stops
 pub mod Kept
+pub mod LineFaults
+pub mod Index
 pub mod Asking

@@ -9,14 +9,15 @@ use Rattle.site_service.specs.declared.fault.ServeFault.{ServeFault}
 use Rattle.site_service.specs.declared.fault.ServeFault.TheVariants as faults
 use Rattle.site_service.specs.Answers.{AnswersLines}
 use Rattle.site_service.specs.Service.{ServiceValue, IsSettled}
+use Rattle.site_service.specs.Traces.{TraceValue, HasTold, HasKept}
 
 -- What is kept of a part of a line: all of it, or, of more than 256 bytes, more than 256.
 abbrev pub IsKeptOf : List ℕ → List ℕ → Type 0
 IsKeptOf part kept = (kept ≡ part) ⊎ ((max_line < length kept) × (max_line < length part))
 
 -- The reader has lost what was read. What waited at first was written, and behind it exactly the text of the answers to the whole
--- lines that were read; none waits, and the record of each is safe.
-pub record Serves (from to before after : Option (List ℕ)) (start now : ServiceValue) : Type 0 where
+-- lines that were read, by which text the trace has grown too; none waits, and the record of each is safe.
+pub record Serves (from to before after : Option (List ℕ)) (trace traced : TraceValue) (start now : ServiceValue) : Type 0 where
   pub read : List ℕ
   pub consumed : Consumes from to read
   pub text : List ℕ
@@ -24,17 +25,19 @@ pub record Serves (from to before after : Option (List ℕ)) (start now : Servic
   pub written : Appends before after (start.waiting ++ text)
   pub waiting : now.waiting ≡ []
   pub settled : IsSettled now
+  pub told : HasTold trace traced text
 
 -- The same between two reads: of the line that is being read so much is kept.
-pub record ServesPart (from to before after : Option (List ℕ)) (start now : ServiceValue) (line : List ℕ) : Type 0 where
-  pub serves : Serves from to before after start now
+pub record ServesPart (from to before after : Option (List ℕ)) (trace traced : TraceValue) (start now : ServiceValue) (line : List ℕ)
+    : Type 0 where
+  pub serves : Serves from to before after trace traced start now
   pub kept : IsKeptOf (last_part serves.read) line
 
 -- The serving goes on, or the input has ended: a last line without a line feed is no line.
-abbrev pub ServesOn : Option (List ℕ) → Option (List ℕ) → Option (List ℕ) → Option (List ℕ) → ServiceValue → ServiceValue
-    → List ℕ → Bool → Type 0
-ServesOn from to before after start now line true = ServesPart from to before after start now line
-ServesOn from to before after start now line false = Serves from to before after start now × IsAtEnd to
+abbrev pub ServesOn : Option (List ℕ) → Option (List ℕ) → Option (List ℕ) → Option (List ℕ) → TraceValue → TraceValue
+    → ServiceValue → ServiceValue → List ℕ → Bool → Type 0
+ServesOn from to before after trace traced start now line true = ServesPart from to before after trace traced start now line
+ServesOn from to before after trace traced start now line false = Serves from to before after trace traced start now × IsAtEnd to
 
 -- What was written by the time of a fault, of this text: a front of it at a write fault, and else all.
 abbrev pub IsOutAt : ServeFault → Option (List ℕ) → Option (List ℕ) → List ℕ → Type 0
@@ -46,8 +49,10 @@ IsOutAt faults.NoMemory before after text = Appends before after text
 
 -- A fault ends the serving. What was read is a front, whose batches were let out, and the rest: what was written is exactly what
 -- waited at first and the text of the answers to the whole lines of the front, at a write fault a front of that. The record of each
--- of these answers is safe: they were answered by a site whose bytes are all safe, then and still.
-pub record Stops (from to before after : Option (List ℕ)) (start now : ServiceValue) (fault : ServeFault) : Type 0 where
+-- of these answers is safe: they were answered by a site whose bytes are all safe, then and still. The text of these answers is safe
+-- in the trace, maybe with more behind it: so what is safe of the log is never ahead of the trace.
+pub record Stops (from to before after : Option (List ℕ)) (trace traced : TraceValue) (start now : ServiceValue) (fault : ServeFault)
+    : Type 0 where
   pub front : List ℕ
   pub back : List ℕ
   pub consumed : Consumes from to (front ++ back)
@@ -57,12 +62,14 @@ pub record Stops (from to before after : Option (List ℕ)) (start now : Service
   pub out : IsOutAt fault before after (start.waiting ++ text)
   pub settled : IsSettled last
   pub safe : IsCopyOf now.safe last.served.site.bytes
+  pub told : HasKept trace traced text
 
--- What waited at first wasn't let out, since the log's file failed: nothing was read and nothing written.
-pub record StopsAtOnce (from to before after : Option (List ℕ)) (fault : ServeFault) : Type 0 where
+-- What waited at first wasn't let out, since the log's file failed: nothing was read, nothing written, and nothing traced.
+pub record StopsAtOnce (from to before after : Option (List ℕ)) (trace traced : TraceValue) (fault : ServeFault) : Type 0 where
   pub device : fault ≡ faults.Device
   pub unread : to ≡ from
   pub unwritten : after ≡ before
+  pub untold : traced ≡ trace
 
 -- How many reads failed, after a call that this fault ends: one more at a read fault, and else as many.
 abbrev pub reads_failed : ServeFault → ℕ → ℕ

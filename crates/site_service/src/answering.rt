@@ -3,12 +3,14 @@
 ghost use Rattle.std.specs.Prelude.{◌≡◌, ◌<◌, ◌++◌, ◌∷◌, [], ℕ, Bool, List, length, take, OnOk, OnErr};
 ghost use Rattle.entry_text.specs.Spelling.{entry_text};
 ghost use Rattle.entry_text.specs.Lines.{max_line};
+ghost use Rattle.kept_records.specs.Keeping.{IsKept};
+ghost use Rattle.site_service.specs.Index.{IsIndexOf};
 ghost use Rattle.site_service.specs.Kept.{TellsCommit, kept_words};
 ghost use Rattle.site_service.specs.Service.{IsWhole, Grows, Tells, TellsEntry};
 
 use crate::asking::{Request, asked};
 use crate::bad_line::add_bad;
-use crate::kept::holds_commit;
+use crate::kept::KeptCommits;
 use entry_text::append_entry;
 use field_bounds::{Command, Entry, Schema, TxnId};
 use kept_records::MemoryMedium;
@@ -89,17 +91,21 @@ fn add_kept(out: &mut Vec<u8>, line: &[u8], kept: bool) -> Result<(), AllocError
 // Adds a question for a commit with its answer, or nothing where memory is refused.
 fn tell_commit(
     alloc: Global,
+    kept: &mut KeptCommits,
     log: &[u8],
     out: &mut Vec<u8>,
     line: &[u8],
     txn: TxnId,
 ) -> Result<(), AllocError>
-    ensures ok { OnOk result ((kept : Bool) × TellsCommit log.now txn kept
-        × (out.new.items ≡ out.old.items ++ (line.now ++ kept_words kept))) }
+    requires index { IsIndexOf kept.old log.now }
+    requires log { IsKept log.now }
+    ensures ok { OnOk result ((is_kept : Bool) × TellsCommit log.now txn is_kept
+        × (out.new.items ≡ out.old.items ++ (line.now ++ kept_words is_kept))) }
     ensures err { OnErr result (out.new.items ≡ out.old.items) }
+    ensures index { IsIndexOf kept.new log.now }
 {
-    let kept = holds_commit(alloc, log, txn)?;
-    add_kept(out, line, kept)?;
+    let is_kept = kept.holds(alloc, log, txn)?;
+    add_kept(out, line, is_kept)?;
     Ok(())
 }
 
@@ -110,21 +116,27 @@ pub(crate) fn answer_line(
     alloc: Global,
     site: &mut Site<MemoryMedium>,
     schema: &Schema,
+    kept: &mut KeptCommits,
     out: &mut Vec<u8>,
     number: u64,
     line: &[u8],
 ) -> Result<(), AllocError>
     requires schema { schema.now ≡ site.old.schema }
+    requires whole { IsWhole site.old }
+    requires index { IsIndexOf kept.old site.old.bytes }
     ensures ok { OnOk result (Tells line.now site.old number site.new out.old.items
         out.new.items) }
     ensures long { (whole : List ℕ) → max_line < length line.now → max_line < length whole
         → OnOk result (Tells whole site.old number site.new out.old.items out.new.items) }
     ensures err { OnErr result (out.new.items ≡ out.old.items) }
-    ensures grows { IsWhole site.old → Grows site.old site.new }
+    ensures grows { Grows site.old site.new }
+    ensures index { IsIndexOf kept.new site.new.bytes }
 {
     match asked(schema, site.site(), line) {
         Ok(Request::Do(command)) => carry_out(alloc, site, schema, out, command),
-        Ok(Request::Kept(txn)) => tell_commit(alloc, site.medium().bytes(), out, line, txn),
+        Ok(Request::Kept(txn)) => {
+            tell_commit(alloc, kept, site.medium().bytes(), out, line, txn)
+        },
         Err(why) => add_bad(out, number, why),
     }
 }

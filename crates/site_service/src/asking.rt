@@ -9,6 +9,7 @@ ghost use Rattle.site_service.specs.Asking.{IsAsked};
 ghost use Rattle.site_service.specs.Kept.{kept_text};
 
 use crate::bad_line::BadLine;
+use crate::line_fault::fault_in;
 use entry_text::{MAX_LINE, read_command, read_txn};
 use field_bounds::{Command, Schema, SiteNo, TxnId};
 
@@ -51,7 +52,7 @@ fn asked_command(schema: &Schema, number: SiteNo, line: &[u8]) -> Result<Command
     ensures err { IfErr result (IsBad schema.now number line.now) }
 {
     let Some((site, command)) = read_command(schema, line) else {
-        return Err(BadLine::NoCommand);
+        return Err(fault_in(schema, line));
     };
     if site == number {
         Ok(command)

@@ -14,7 +14,11 @@ pub enum BadLine {
     TooLong,
     /// It is the text of a command of another site.
     OtherSite,
-    /// It is the text of no command under the schema.
+    /// Its second word, which is to name a command, names none.
+    UnknownWord,
+    /// The word that is to name a field names none of the schema.
+    NoField,
+    /// It is the text of no command under the schema, for another reason than these.
     NoCommand,
 }
 
@@ -25,6 +29,8 @@ fn words(why: BadLine) -> &'static [u8]
     match why {
         BadLine::TooLong => b"too long",
         BadLine::OtherSite => b"other site",
+        BadLine::UnknownWord => b"unknown word",
+        BadLine::NoField => b"no such field",
         BadLine::NoCommand => b"no command",
     }
 }

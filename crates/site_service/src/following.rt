@@ -6,24 +6,8 @@ ghost use Rattle.script_input.specs.Streams.{AppendsPrefix, HasRefused};
 ghost use Rattle.site_service.specs.Serving.{CountsWrites};
 
 use crate::fault::ServeFault;
-use file_medium::{FileFailed, LogFile};
+use file_medium::{FileFailed, LogFile, write_front};
 use script_input::Sink;
-
-// Writes a piece behind the bytes of a file, in as many writes as it takes. A write that fails, or
-// takes none of its bytes, is the fault, and isn't tried again.
-fn write_all<F: LogFile>(file: &mut F, piece: &[u8]) -> Result<(), FileFailed>
-    ensures added { OnOk result (F.bytes file.new ≡ append_known (F.bytes file.old) piece.now) }
-    ensures safe { F.safe file.new ≡ F.safe file.old }
-{
-    let mut written = 0;
-    while written < piece.len() {
-        match file.write(&piece[written..]) {
-            Ok(0) | Err(_) => return Err(FileFailed),
-            Ok(count) => written += count,
-        }
-    }
-    Ok(())
-}
 
 /// Writes a piece behind the bytes of a file, and syncs it once: at Ok it holds the piece too, and
 /// all that it holds is safe. At a fault what was safe still is, and of the rest nothing is known.
@@ -32,7 +16,9 @@ pub(crate) fn add_safely<F: LogFile>(file: &mut F, piece: &[u8]) -> Result<(), F
     ensures safe { OnOk result (F.safe file.new ≡ F.bytes file.new) }
     ensures kept { OnErr result (F.safe file.new ≡ F.safe file.old) }
 {
-    write_all(file, piece)?;
+    if write_front(file, piece) < piece.len() {
+        return Err(FileFailed);
+    }
     file.sync()
 }
 

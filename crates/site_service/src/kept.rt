@@ -1,37 +1,80 @@
 //! Which commits a log holds.
 
-ghost use Rattle.std.specs.Prelude.{◌≡◌, IfOk};
-ghost use Rattle.site_service.specs.Kept.{is_commit_of, has_commit, TellsCommit};
+ghost use Rattle.std.specs.Prelude.{◌≡◌, ◌↔◌, ◌⊎◌, ◌≤◌, ℕ, List, true, length, drop, Contains, IfOk, OnOk, OnErr};
+ghost use Rattle.field_bounds.specs.declared.id.TxnId.{TxnId as Txn};
+ghost use Rattle.kept_records.specs.Keeping.{IsKept};
+ghost use Rattle.kept_records.specs.Logs.{HasNoLf};
+ghost use Rattle.site_service.specs.Kept.{is_commit_of, TellsCommit};
+ghost use Rattle.site_service.specs.Index.{IsIndexOf};
 
 use field_bounds::TxnId;
-use kept_records::{Record, read_front};
+use kept_records::{Cursor, Record};
 use std::alloc::{AllocError, Global};
+use std::collections::BTreeSet;
 
-// Whether the record is the commit of this transaction.
-fn is_commit(record: &Record, txn: TxnId) -> bool
-    ensures { result ≡ is_commit_of txn record.now }
-{
-    match record {
-        Record::Commit { txn: other, .. } => *other == txn,
-        Record::Gift { .. }
-        | Record::Accept { .. }
-        | Record::Tighten { .. }
-        | Record::Restart { .. }
-        | Record::Summary { .. } => false,
+/// The transactions whose commits are among the records in the first so many bytes of a log. What
+/// the log has got since is looked at when it is asked: so each record is read once, and a look-up
+/// costs a step for each doubling of their number.
+#[derive(Drop)]
+pub(crate) struct KeptCommits {
+    txns: BTreeSet<TxnId>,
+    seen: usize,
+}
+
+impl KeptCommits {
+    /// Those in front of the first byte: none. Takes no memory.
+    pub(crate) fn new(alloc: Global) -> KeptCommits
+        ensures none { (bytes : List ℕ) → IsIndexOf result bytes }
+    {
+        KeptCommits {
+            txns: BTreeSet::new(alloc),
+            seen: 0,
+        }
     }
-}
 
-// Whether one of the records is.
-fn is_among(records: &[Record], txn: TxnId) -> bool
-    ensures { result ≡ has_commit txn records.now }
-{
-    records.iter().any(|record| is_commit(record, txn))
-}
+    // Takes in one more record, of which a commit alone counts.
+    fn take_in(&mut self, next: &Record) -> Result<(), AllocError>
+        ensures ok { OnOk result ((txn : Txn) → Contains self.new.txns.keys txn
+            ↔ ((is_commit_of txn next.now ≡ true) ⊎ Contains self.old.txns.keys txn)) }
+        ensures err { OnErr result (self.new ≡ self.old) }
+        ensures seen { self.new.seen ≡ self.old.seen }
+    {
+        if let Record::Commit { txn, .. } = next {
+            self.txns.insert(*txn)?;
+        }
+        Ok(())
+    }
 
-/// Whether the commit of a transaction is among the records of a log.
-pub(crate) fn holds_commit(alloc: Global, log: &[u8], txn: TxnId) -> Result<bool, AllocError>
-    ensures kept { IfOk result (TellsCommit log.now txn) }
-{
-    let front = read_front(alloc, log)?;
-    Ok(is_among(front.records.as_slice(), txn))
+    // Looks at what stands behind the bytes that were looked at.
+    fn look(&mut self, alloc: Global, log: &[u8]) -> Result<(), AllocError>
+        requires index { IsIndexOf self.old log.now }
+        requires log { IsKept log.now }
+        ensures index { IsIndexOf self.new log.now }
+        ensures all { OnOk result (HasNoLf (drop self.new.seen log.now)) }
+    {
+        let mut records = Cursor::new(alloc, &log[self.seen..]);
+        while let Some(record) = records.next(alloc)? {
+            self.take_in(&record)?;
+            records.give_back(record);
+            self.seen = log.len() - records.left();
+        }
+        Ok(())
+    }
+
+    /// Whether the commit of a transaction is among the records of the log. The error is want of
+    /// memory.
+    pub(crate) fn holds(
+        &mut self,
+        alloc: Global,
+        log: &[u8],
+        txn: TxnId,
+    ) -> Result<bool, AllocError>
+        requires index { IsIndexOf self.old log.now }
+        requires log { IsKept log.now }
+        ensures index { IsIndexOf self.new log.now }
+        ensures kept { IfOk result (TellsCommit log.now txn) }
+    {
+        self.look(alloc, log)?;
+        Ok(self.txns.contains(&txn))
+    }
 }

@@ -1,17 +1,18 @@
 //! A site over a log that follows its medium.
 
-ghost use Rattle.std.specs.Prelude.{◌≡◌, ◌<◌, true, length, List, ℕ, IfOk, IfErr, OnOk, OnErr};
+ghost use Rattle.std.specs.Prelude.{◌≡◌, ◌<◌, [], true, length, List, ℕ, IfOk, IfErr, OnOk, OnErr};
 ghost use Rattle.entry_text.specs.Lines.{max_line};
 ghost use Rattle.script_input.specs.Streams.{HasRefused};
 ghost use Rattle.site_service.specs.Kept.{TellsCommit};
 ghost use Rattle.site_service.specs.Opening.{IsOpened, TellsBadLine};
 ghost use Rattle.site_service.specs.Service.{IsSettled, KeepsLog, HasApplied, HasAnswered, LetsOut, HoldsBack};
 ghost use Rattle.site_service.specs.Serving.{CountsWrites};
+ghost use Rattle.site_service.specs.Traces.{trace_of, HasTold, HasKept};
 
 use crate::answering::{answer_line, carry_out};
 use crate::fault::ServeFault;
 use crate::following::{add_safely, let_out};
-use crate::kept::holds_commit;
+use crate::kept::KeptCommits;
 use crate::opening::{open_site, read_lines};
 use field_bounds::{Command, Schema, SiteNo, TxnId};
 use file_medium::{FileFailed, LogFile};
@@ -38,6 +39,7 @@ use std::marker::Model;
 pub struct Service<F: LogFile> {
     site: Site<MemoryMedium>,
     schema: Schema,
+    kept: KeptCommits,
     lines: u64,
     waiting: Vec<u8>,
     log: F,
@@ -46,35 +48,42 @@ pub struct Service<F: LogFile> {
 }
 
 impl<F: LogFile> Model for Service<F> {
-    ghost use Rattle.site_service.specs.Service.{ServiceValue, value_of, IsLinked};
+    ghost use Rattle.site_service.specs.Service.{ServiceValue, value_of};
+    ghost use Rattle.site_service.specs.Index.{IsSoundService};
 
     ghost Value = { ServiceValue };
 
     ghost view = { λ s. value_of s.site s.lines s.waiting.items (F.bytes s.log) (F.safe s.log)
         s.settled s.lost };
 
-    ghost invariant = { λ s. IsLinked s.schema (value_of s.site s.lines s.waiting.items
-        (F.bytes s.log) (F.safe s.log) s.settled s.lost) };
+    ghost invariant = { λ s. IsSoundService s.schema (value_of s.site s.lines s.waiting.items
+        (F.bytes s.log) (F.safe s.log) s.settled s.lost) s.kept };
 }
 
 impl<F: LogFile + Drop> Service<F> {
     /// Opens the site of this number over a log, and restarts it: the answer to that waits. What
     /// stands behind the last line feed is a torn record, and is cut off; then all that the log
-    /// holds is safe, the record of the restart included.
+    /// holds is safe, the record of the restart included. The answer is written to the trace, and
+    /// is safe there, before the log gets that record; `NoTrace` is for a site that keeps no trace.
     ///
     /// `Line(n)`: line n of the log, from 1, is the first that is no record or breaks a rule of a
     /// kept log; that never comes over what a service left, wherever a stop fell. `Device`: a call
-    /// of the file failed. `NoMemory`: memory is wanting. Either lets go of the file. Costs two
-    /// syncs, and memory for the bytes of the log and for its records.
-    pub fn open(
+    /// of a file failed. `NoMemory`: memory is wanting. Either lets go of the log. Costs two syncs
+    /// of the log and one of the trace, and memory for the bytes of the log and for its records.
+    pub fn open<T: LogFile>(
         alloc: Global,
         schema: Schema,
         number: SiteNo,
         log: F,
+        trace: &mut T,
     ) -> Result<Service<F>, OpenFault>
         requires in_schema { number.0 < schema.sites }
         ensures ok { IfOk result (IsOpened schema number (F.bytes log)) }
         ensures line { IfErr result (TellsBadLine schema number (F.bytes log)) }
+        ensures told { IfOk result (λ made. HasTold (trace_of (T.bytes trace.old) (T.safe trace.old))
+            (trace_of (T.bytes trace.new) (T.safe trace.new)) made.waiting) }
+        ensures kept { OnErr result (HasKept (trace_of (T.bytes trace.old) (T.safe trace.old))
+            (trace_of (T.bytes trace.new) (T.safe trace.new)) []) }
     {
         let mut log = log;
         let held = read_lines(alloc, &mut log)?;
@@ -83,6 +92,7 @@ impl<F: LogFile + Drop> Service<F> {
         let mut service = Service {
             site,
             schema,
+            kept: KeptCommits::new(alloc),
             lines: 0,
             waiting: Vec::new(alloc),
             log,
@@ -90,7 +100,7 @@ impl<F: LogFile + Drop> Service<F> {
             lost: false,
         };
         service.apply(alloc, Command::Restart)?;
-        match service.settle() {
+        match service.settle_behind(trace) {
             Ok(()) => Ok(service),
             Err(Device) => Err(OpenFault::Device),
         }
@@ -114,11 +124,13 @@ impl<F: LogFile> Service<F> {
 
     /// Whether the commit of a transaction is in the log: so a client finds out whose answer didn't
     /// come. Where it is yes, the commit is safe once the log is settled, as before any answer is
-    /// let out. The error is want of memory. Costs a pass over the log, and memory for its records.
-    pub fn has_kept(&self, alloc: Global, txn: TxnId) -> Result<bool, AllocError>
-        ensures kept { IfOk result (TellsCommit self.now.served.site.bytes txn) }
+    /// let out. The error is want of memory. Costs a look-up, and for each record that came since
+    /// the last question, or since the opening, a look at it and memory for a commit's transaction.
+    pub fn has_kept(&mut self, alloc: Global, txn: TxnId) -> Result<bool, AllocError>
+        ensures kept { IfOk result (TellsCommit self.old.served.site.bytes txn) }
+        ensures same { self.new ≡ self.old }
     {
-        holds_commit(alloc, self.site.medium().bytes(), txn)
+        self.kept.holds(alloc, self.site.medium().bytes(), txn)
     }
 
     /// Carries out a command; the line of its entry waits. Where memory is refused no answer waits;
@@ -154,10 +166,44 @@ impl<F: LogFile> Service<F> {
             alloc,
             &mut self.site,
             &self.schema,
+            &mut self.kept,
             &mut self.waiting,
             self.lines,
             line,
         )
+    }
+
+    /// Writes the text that waits behind a trace, and makes it safe there, by one sync where any
+    /// waits. To be called once for a text, before the log is settled: so the log is never ahead of
+    /// the trace. At the fault, a call of the trace's file failed, and what was safe of it still is.
+    /// Costs no memory.
+    pub fn write_trace<T: LogFile>(&self, trace: &mut T) -> Result<(), Device>
+        ensures ok { OnOk result (HasTold (trace_of (T.bytes trace.old) (T.safe trace.old))
+            (trace_of (T.bytes trace.new) (T.safe trace.new)) self.now.waiting) }
+        ensures err { OnErr result (T.safe trace.new ≡ T.safe trace.old) }
+    {
+        if self.waiting.is_empty() {
+            return Ok(());
+        }
+        match add_safely(trace, self.waiting.as_slice()) {
+            Ok(()) => Ok(()),
+            Err(FileFailed) => Err(Device),
+        }
+    }
+
+    // Writes the trace, and then settles the log: where the trace fails, no more of the log is safe.
+    fn settle_behind<T: LogFile>(&mut self, trace: &mut T) -> Result<(), Device>
+        ensures ok { OnOk result (IsSettled self.new) }
+        ensures safe { OnErr result (self.new.safe ≡ self.old.safe) }
+        ensures served { self.new.served ≡ self.old.served }
+        ensures waiting { self.new.waiting ≡ self.old.waiting }
+        ensures told { OnOk result (HasTold (trace_of (T.bytes trace.old) (T.safe trace.old))
+            (trace_of (T.bytes trace.new) (T.safe trace.new)) self.old.waiting) }
+        ensures kept { OnErr result (HasKept (trace_of (T.bytes trace.old) (T.safe trace.old))
+            (trace_of (T.bytes trace.new) (T.safe trace.new)) []) }
+    {
+        self.write_trace(trace)?;
+        self.settle()
     }
 
     /// Brings the log to what the medium holds, by one sync where that is more than it has: at Ok

@@ -6,6 +6,7 @@ ghost use Rattle.std.specs.Io.KnownBytes.{IsAtEnd, ReadConsumes};
 ghost use Rattle.script_input.specs.Lines.{whole_lines_after, last_part_after};
 ghost use Rattle.script_input.specs.Streams.{HasFailed, GaveNothing, HasRefused};
 ghost use Rattle.site_service.specs.Service.{ServiceValue, KeepsLog, HasAnswered, HasAnsweredAll};
+ghost use Rattle.site_service.specs.Traces.{TraceValue, trace_of};
 ghost use Rattle.site_service.specs.Serving.{IsKeptOf, Serves, ServesPart, ServesOn, Stops, StopsAtOnce, CountsReads, CountsWrites};
 
 use crate::fault::ServeFault;
@@ -104,27 +105,28 @@ fn read_piece<R: Source>(reader: &mut R, buffer: &mut [u8]) -> Result<usize, Ser
     }
 }
 
-// One read, the answers to the lines that it ends, and their release. Tells whether there may be
-// more.
-fn take_batch<F: LogFile, R: Source, W: Sink>(
+// One read, the answers to the lines that it ends, and their release: they are in the trace before.
+// Tells whether there may be more.
+fn take_batch<F: LogFile, T: LogFile, R: Source, W: Sink>(
     alloc: Global,
     service: &mut Service<F>,
+    trace: &mut T,
     line: &mut Vec<u8>,
     buffer: &mut [u8],
     reader: &mut R,
     writer: &mut W,
 ) -> Result<bool, ServeFault>
     requires room { 0 < length buffer.old }
-    ensures ok { (from before : Option (List ℕ)) (start : ServiceValue)
-        → ServesPart from (R.bytes reader.old) before (W.bytes writer.old) start service.old
-        line.old.items
-        → IfOk result (ServesOn from (R.bytes reader.new) before (W.bytes writer.new) start
-        service.new line.new.items) }
-    ensures err { (from before : Option (List ℕ)) (start : ServiceValue)
-        → ServesPart from (R.bytes reader.old) before (W.bytes writer.old) start service.old
-        line.old.items
-        → IfErr result (Stops from (R.bytes reader.new) before (W.bytes writer.new) start
-        service.new) }
+    ensures ok { (from before : Option (List ℕ)) (was : TraceValue) (start : ServiceValue)
+        → ServesPart from (R.bytes reader.old) before (W.bytes writer.old)
+        was (trace_of (T.bytes trace.old) (T.safe trace.old)) start service.old line.old.items
+        → IfOk result (ServesOn from (R.bytes reader.new) before (W.bytes writer.new)
+        was (trace_of (T.bytes trace.new) (T.safe trace.new)) start service.new line.new.items) }
+    ensures err { (from before : Option (List ℕ)) (was : TraceValue) (start : ServiceValue)
+        → ServesPart from (R.bytes reader.old) before (W.bytes writer.old)
+        was (trace_of (T.bytes trace.old) (T.safe trace.old)) start service.old line.old.items
+        → IfErr result (Stops from (R.bytes reader.new) before (W.bytes writer.new)
+        was (trace_of (T.bytes trace.new) (T.safe trace.new)) start service.new) }
     ensures end { IfOk result (λ more. more ≡ false → GaveNothing (R.last reader.new)) }
     ensures read { IfErr result (λ fault. fault ≡ ServeFault.Read
         → HasFailed (R.last reader.new)) }
@@ -138,25 +140,30 @@ fn take_batch<F: LogFile, R: Source, W: Sink>(
         return Ok(false);
     }
     answer_piece(alloc, service, line, front(buffer, count))?;
+    service.write_trace(trace)?;
     service.release(writer)?;
     Ok(true)
 }
 
 // Serves the input, batch by batch, to its end.
-fn serve_batches<F: LogFile, R: Source, W: Sink>(
+fn serve_batches<F: LogFile, T: LogFile, R: Source, W: Sink>(
     alloc: Global,
     service: &mut Service<F>,
+    trace: &mut T,
     reader: &mut R,
     writer: &mut W,
 ) -> Result<(), ServeFault>
-    ensures ok { (from before : Option (List ℕ)) (start : ServiceValue)
-        → ServesPart from (R.bytes reader.old) before (W.bytes writer.old) start service.old []
-        → OnOk result (Serves from (R.bytes reader.new) before (W.bytes writer.new) start
-        service.new × IsAtEnd (R.bytes reader.new)) }
-    ensures err { (from before : Option (List ℕ)) (start : ServiceValue)
-        → ServesPart from (R.bytes reader.old) before (W.bytes writer.old) start service.old []
-        → IfErr result (Stops from (R.bytes reader.new) before (W.bytes writer.new) start
-        service.new) }
+    ensures ok { (from before : Option (List ℕ)) (was : TraceValue) (start : ServiceValue)
+        → ServesPart from (R.bytes reader.old) before (W.bytes writer.old)
+        was (trace_of (T.bytes trace.old) (T.safe trace.old)) start service.old []
+        → OnOk result (Serves from (R.bytes reader.new) before (W.bytes writer.new)
+        was (trace_of (T.bytes trace.new) (T.safe trace.new)) start service.new
+        × IsAtEnd (R.bytes reader.new)) }
+    ensures err { (from before : Option (List ℕ)) (was : TraceValue) (start : ServiceValue)
+        → ServesPart from (R.bytes reader.old) before (W.bytes writer.old)
+        was (trace_of (T.bytes trace.old) (T.safe trace.old)) start service.old []
+        → IfErr result (Stops from (R.bytes reader.new) before (W.bytes writer.new)
+        was (trace_of (T.bytes trace.new) (T.safe trace.new)) start service.new) }
     ensures end { OnOk result (GaveNothing (R.last reader.new)) }
     ensures read { IfErr result (λ fault. fault ≡ ServeFault.Read
         → HasFailed (R.last reader.new)) }
@@ -171,6 +178,7 @@ fn serve_batches<F: LogFile, R: Source, W: Sink>(
         if !take_batch(
             alloc,
             service,
+            trace,
             &mut line,
             buffer.as_mut_slice(),
             reader,
@@ -185,34 +193,43 @@ fn serve_batches<F: LogFile, R: Source, W: Sink>(
 /// Lets out what waits, and then serves the lines of an input until it ends: each is answered by
 /// the entry of the command that it asks of this site, or by `bad line N WHY`. What one read of at
 /// most 64 KiB brings is a batch: its whole lines are answered, the log is settled, by at most one
-/// sync, and then their answers are written. A last line without LF is no line, since its end may
-/// be wanting. There is no limit to the input but that of 2^64 - 1 reads.
+/// sync, and then their answers are written. Before the log they are written to the trace, and are
+/// safe there, by at most one sync more; what waits at first is in it already, by `Service::open`.
+/// `NoTrace` is for a site that keeps no trace. A last line without LF is no line, since its end
+/// may be wanting. There is no limit to the input but that of 2^64 - 1 reads.
 ///
 /// The faults: `Read`, a read answered an error, which isn't tried again; `Write`, a write did, or
-/// took no byte; `Device`, a call of the log's file failed; `NoMemory`. At each but `Write` exactly
-/// the answers of the batches before it were written, and at `Write` a front of these with its own.
+/// took no byte; `Device`, a call of the log's or the trace's file failed; `NoMemory`. At each but
+/// `Write` exactly the answers of the batches before it were written, and at `Write` a front of
+/// these with its own. Then neither the service nor the trace is to be used any more.
 ///
 /// Costs 64 KiB, memory for the longest batch of answers, and what the site's own steps cost.
 /// Source: this project.
-pub fn serve<F: LogFile, R: Source, W: Sink>(
+pub fn serve<F: LogFile, T: LogFile, R: Source, W: Sink>(
     alloc: Global,
     service: &mut Service<F>,
+    trace: &mut T,
     reader: &mut R,
     writer: &mut W,
 ) -> Result<(), ServeFault>
-    // All the input is read, and the text of the answers to its whole lines is written.
+    // All the input is read, and the text of the answers to its whole lines is written, and is in
+    // the trace.
     ensures ok { OnOk result (Serves (R.bytes reader.old) (R.bytes reader.new)
-        (W.bytes writer.old) (W.bytes writer.new) service.old service.new
+        (W.bytes writer.old) (W.bytes writer.new) (trace_of (T.bytes trace.old) (T.safe trace.old))
+        (trace_of (T.bytes trace.new) (T.safe trace.new)) service.old service.new
         × IsAtEnd (R.bytes reader.new)) }
 
     // That is so only after a read that had room and gave nothing.
     ensures end { OnOk result (GaveNothing (R.last reader.new)) }
 
-    // At a fault what was written is the text of the answers to the whole lines of a front.
+    // At a fault what was written is the text of the answers to the whole lines of a front, which is
+    // safe in the trace.
     ensures err { IfErr result (λ fault. StopsAtOnce (R.bytes reader.old) (R.bytes reader.new)
-        (W.bytes writer.old) (W.bytes writer.new) fault
+        (W.bytes writer.old) (W.bytes writer.new) (trace_of (T.bytes trace.old) (T.safe trace.old))
+        (trace_of (T.bytes trace.new) (T.safe trace.new)) fault
         ⊎ Stops (R.bytes reader.old) (R.bytes reader.new)
-        (W.bytes writer.old) (W.bytes writer.new) service.old service.new fault) }
+        (W.bytes writer.old) (W.bytes writer.new) (trace_of (T.bytes trace.old) (T.safe trace.old))
+        (trace_of (T.bytes trace.new) (T.safe trace.new)) service.old service.new fault) }
 
     // A read fault comes only where a read failed.
     ensures read { IfErr result (λ fault. fault ≡ ServeFault.Read
@@ -229,5 +246,5 @@ pub fn serve<F: LogFile, R: Source, W: Sink>(
     ensures writes { CountsWrites result (W.refusals writer.old) (W.refusals writer.new) }
 {
     service.release(writer)?;
-    serve_batches(alloc, service, reader, writer)
+    serve_batches(alloc, service, trace, reader, writer)
 }

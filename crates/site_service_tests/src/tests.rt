@@ -1,6 +1,7 @@
 //! Each expected answer is worked out by hand from the definitions.
 
 mod faults;
+mod traces;
 mod turns;
 
 use check_kit::{STOCK, command, joined, stock_of_two};
@@ -25,15 +26,24 @@ fn file_of(alloc: Global, bytes: &[u8]) -> Result<MemoryFile, AllocError> {
     Ok(MemoryFile::new(alloc, Vec::from_slice(alloc, bytes)?))
 }
 
-/// Site 0 of two, served over this file.
-fn open_over<F: LogFile + Drop>(alloc: Global, file: F) -> Result<Service<F>, OpenFault> {
+/// Site 0 of two, served over this file and told to this trace.
+fn open_traced<F: LogFile + Drop, T: LogFile>(
+    alloc: Global,
+    file: F,
+    trace: &mut T,
+) -> Result<Service<F>, OpenFault> {
     let Some(schema) = stock_of_two(alloc) else {
         return Err(OpenFault::NoMemory);
     };
     if schema.sites() == 0 {
         return Err(OpenFault::NoMemory);
     }
-    Service::open(alloc, schema, SiteNo(0), file)
+    Service::open(alloc, schema, SiteNo(0), file, trace)
+}
+
+/// Site 0 of two, served over this file.
+fn open_over<F: LogFile + Drop>(alloc: Global, file: F) -> Result<Service<F>, OpenFault> {
+    open_traced(alloc, file, &mut NoTrace)
 }
 
 /// Lets out what waits.
@@ -43,15 +53,26 @@ fn let_out<F: LogFile>(alloc: Global, service: &mut Service<F>) -> Told {
     (end, writer.into_inner())
 }
 
+/// Serves what a reader gives, and tells it to a trace.
+fn serve_traced<F: LogFile, T: LogFile, R: Read + Drop>(
+    alloc: Global,
+    service: &mut Service<F>,
+    trace: &mut T,
+    reader: R,
+) -> Told {
+    let mut reader = Watched::new(reader);
+    let mut writer = Watched::new(Vec::new(alloc));
+    let end = serve(alloc, service, trace, &mut reader, &mut writer);
+    (end, writer.into_inner())
+}
+
 /// Serves what a reader gives.
 fn serve_all<F: LogFile, R: Read + Drop>(
     alloc: Global,
     service: &mut Service<F>,
     reader: R,
 ) -> Told {
-    let mut writer = Watched::new(Vec::new(alloc));
-    let end = serve(alloc, service, &mut Watched::new(reader), &mut writer);
-    (end, writer.into_inner())
+    serve_traced(alloc, service, &mut NoTrace, reader)
 }
 
 /// Tests that all went well, and that this text was written.
@@ -135,9 +156,9 @@ kept 1.2 -> no
 bad line 8 no command
 0 read stock -> between 15 65
 bad line 10 other site
-bad line 11 no command
+bad line 11 no such field
 bad line 12 no command
-bad line 13 no command
+bad line 13 no such field
 bad line 14 no command
 0 accept 1 0 stock lower 4 -> accepted 4
 0 share stock -> share 19 35
@@ -156,6 +177,37 @@ fn answers_each_line(rt: HostRuntime) -> Result<(), Fail> {
     let mut service = open_over(alloc, file_of(alloc, b"")?)?;
     let trickle = Trickle(LINES.as_bytes());
     assert_told(&rt, &serve_all(alloc, &mut service, trickle), ANSWERS);
+    Ok(())
+}
+
+/// Lines that ask nothing, and why.
+const BAD_LINES: [(&str, &str); 14] = [
+    ("hello", "no command"),
+    ("0  begin", "unknown word"),
+    ("0 sell stock", "unknown word"),
+    ("0 Begin", "unknown word"),
+    ("x begin", "no command"),
+    ("0 begin now", "no command"),
+    ("0 commit", "no command"),
+    ("0 share sock", "no such field"),
+    ("0 read #0", "no such field"),
+    ("0 tighten stock", "no command"),
+    ("0 give 1 sock lower 4", "no such field"),
+    ("0 give 1", "no command"),
+    ("0 accept 1 0 sock lower 4", "no such field"),
+    ("kept begin", "no command"),
+];
+
+// A field that isn't there has a name with `#`, from the count of fields on.
+#[test]
+fn tells_why_a_line_is_bad(rt: HostRuntime) -> Result<(), Fail> {
+    let alloc = rt.alloc();
+    for (line, why) in &BAD_LINES {
+        let mut service = open_over(alloc, file_of(alloc, b"")?)?;
+        service.answer(alloc, line.as_bytes())?;
+        let wanted = joined(alloc, &[FRESH, "bad line 1 ", *why, "\n"])?;
+        assert_told(&rt, &let_out(alloc, &mut service), wanted.as_str());
+    }
     Ok(())
 }
 

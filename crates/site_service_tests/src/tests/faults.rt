@@ -38,7 +38,7 @@ fn assert_failing(
     let mut service = open_over(alloc, file_of(alloc, b"")?)?;
     let mut writer = Watched::new(Vec::new(alloc));
     assert_eq!(rt;
-        serve(alloc, &mut service, source, &mut writer),
+        serve(alloc, &mut service, &mut NoTrace, source, &mut writer),
         Err(ServeFault::Read)
     );
     assert_eq!(rt; source.failures(), 1);
@@ -72,7 +72,7 @@ fn assert_refused(
     let mut service = open_over(alloc, file_of(alloc, b"")?)?;
     let mut source = Watched::new(INPUT.as_bytes());
     assert_eq!(rt;
-        serve(alloc, &mut service, &mut source, sink),
+        serve(alloc, &mut service, &mut NoTrace, &mut source, sink),
         Err(ServeFault::Write)
     );
     assert_eq!(rt; source.failures(), 0);

@@ -70,7 +70,7 @@ const ROWS: [Row; 12] = [
 ];
 
 /// The answer of the opening, and those of the first so many batches.
-fn text_behind(alloc: Global, count: usize) -> Result<String, AllocError> {
+pub(crate) fn text_behind(alloc: Global, count: usize) -> Result<String, AllocError> {
     let mut text = joined(alloc, &[FRESH])?;
     for (_lines, answers) in BATCHES.iter().take(count) {
         text.push_str(*answers)?;
@@ -92,6 +92,43 @@ fn log_behind(alloc: Global, count: usize) -> Result<String, AllocError> {
     Ok(log)
 }
 
+/// Serves the three batches, and tells them to a trace.
+pub(crate) fn serve_batches<F: LogFile, T: LogFile>(
+    alloc: Global,
+    service: &mut Service<F>,
+    trace: &mut T,
+) -> Told {
+    let [first, second, third] = &BATCHES;
+    let two = first.0.as_bytes().chain(second.0.as_bytes());
+    serve_traced(alloc, service, trace, two.chain(third.0.as_bytes()))
+}
+
+/// Tests that exactly the first so many batches were let out.
+pub(crate) fn assert_front(
+    rt: &impl Abort,
+    alloc: Global,
+    told: &Told,
+    count: usize,
+) -> Result<(), AllocError> {
+    let wanted = text_behind(alloc, count)?;
+    assert_eq!(rt; str::from_utf8(told.1.as_slice()), Ok(wanted.as_str()));
+    if count < BATCHES.len() {
+        assert_eq!(rt; told.0, Err(ServeFault::Device));
+    } else {
+        assert_eq!(rt; told.0, Ok(()));
+    }
+    Ok(())
+}
+
+/// Tests that nothing is let out any more.
+fn assert_lost<F: LogFile>(rt: &impl Abort, alloc: Global, service: &mut Service<F>) {
+    assert!(rt; service.is_lost());
+    assert_eq!(rt; service.settle(), Err(Device));
+    let (end, out) = let_out(alloc, service);
+    assert_eq!(rt; end, Err(ServeFault::Device));
+    assert_eq!(rt; out.len(), 0);
+}
+
 /// Tests that a failed batch isn't let out, now or later, and that all before it is.
 fn assert_let_out<F: LogFile>(
     rt: &impl Abort,
@@ -99,23 +136,10 @@ fn assert_let_out<F: LogFile>(
     service: &mut Service<F>,
     count: usize,
 ) -> Result<(), AllocError> {
-    let [first, second, third] = &BATCHES;
-    let reader = first
-        .0
-        .as_bytes()
-        .chain(second.0.as_bytes())
-        .chain(third.0.as_bytes());
-    let (end, out) = serve_all(alloc, service, reader);
-    let wanted = text_behind(alloc, count)?;
-    assert_eq!(rt; str::from_utf8(out.as_slice()), Ok(wanted.as_str()));
-    assert_eq!(rt; end.is_ok(), count == BATCHES.len());
-    assert_eq!(rt; service.is_lost(), count < BATCHES.len());
+    let told = serve_batches(alloc, service, &mut NoTrace);
+    assert_front(rt, alloc, &told, count)?;
     if count < BATCHES.len() {
-        assert_eq!(rt; end, Err(ServeFault::Device));
-        assert_eq!(rt; service.settle(), Err(Device));
-        let (end, out) = let_out(alloc, service);
-        assert_eq!(rt; end, Err(ServeFault::Device));
-        assert_eq!(rt; out.len(), 0);
+        assert_lost(rt, alloc, service);
     }
     Ok(())
 }

@@ -2,7 +2,9 @@ use Rattle.std.proofs.Common.{[], refl, ap, subst, ◌∙◌, rules}
 use Rattle.std.proofs.lemmas.Result.{err_from_is_err_and}
 use Rattle.std.proofs.KnownBytes.{Consumes-nil}
 use Rattle.site_service.specs.Serving.{ServesOn, reads_failed, writes_refused}
+use Rattle.site_service.specs.declared.fault.ServeFault.TheVariants as faults
 use Rattle.site_service.proofs.Batches.{stops_behind}
+use Rattle.site_service.proofs.Tracing.{kept_of}
 use Rattle.site_service.proofs.serving.serve_batches.Goals as goal
 
 pub returns-in_err-buffer : goal.returns-in_err-buffer
@@ -10,9 +12,10 @@ returns-in_err-buffer g c =
     let mid = g.R.Source.bytes c.args.reader.now in
     let p = err_from_is_err_and c.from_residual.result c.from_residual.ensures.1 in
     rw (p.1, p.2) (record {
-      ok = λ from before start part. tt;
-      err = λ from before start part.
-          (stops_behind from mid mid before _ start c.args.service.now c.args.service.now [] [] part (Consumes-nil mid) refl).0;
+      ok = λ from before was start part. tt;
+      err = λ from before was start part.
+          stops_behind from mid mid before _ was _ _ start c.args.service.now c.args.service.now [] [] part (Consumes-nil mid) refl
+          (kept_of was _ part.serves.text part.serves.told) faults.NoMemory part.serves.written;
       end = tt;
       read = λ h. cc;
       write = λ h. cc;
@@ -25,8 +28,8 @@ returns-in_err-take_batch g c =
     let inv = c.batches.invariant in
     let p = err_from_is_err_and c.from_residual-in_err-take_batch.result c.from_residual-in_err-take_batch.ensures.1 in
     rw (p.1, p.2) (record {
-      ok = λ from before start part. tt;
-      err = λ from before start part. c.in_err-take_batch.ensures.err from before start (inv.serves from before start part);
+      ok = λ from before was start part. tt;
+      err = λ from before was start part. c.in_err-take_batch.ensures.err from before was start (inv.serves from before was start part);
       end = tt;
       read = c.in_err-take_batch.ensures.read;
       write = c.in_err-take_batch.ensures.write;
@@ -37,10 +40,10 @@ returns-in_err-take_batch g c =
 pub returns-then-not-branch : goal.returns-then-not-branch
 returns-then-not-branch g c =
     let inv = c.batches.invariant in record {
-      ok = λ from before start part.
-          subst (ServesOn from _ before _ start c.take_batch.new.service c.take_batch.new.line.items) c.if-not-branch.true
-          (c.in_ok-take_batch.ensures.ok from before start (inv.serves from before start part));
-      err = λ from before start part. tt;
+      ok = λ from before was start part.
+          subst (ServesOn from _ before _ was _ start c.take_batch.new.service c.take_batch.new.line.items) c.if-not-branch.true
+          (c.in_ok-take_batch.ensures.ok from before was start (inv.serves from before was start part));
+      err = λ from before was start part. tt;
       end = c.in_ok-take_batch.ensures.end c.if-not-branch.true;
       read = tt;
       write = tt;
@@ -51,15 +54,16 @@ returns-then-not-branch g c =
 pub batches-preserved : goal.batches-preserved
 batches-preserved g c =
     let inv = c.batches.invariant in record {
-      serves = λ from before start part.
-          subst (ServesOn from _ before _ start c.take_batch.new.service c.take_batch.new.line.items) c.if-not-branch.false
-          (c.in_ok-take_batch.ensures.ok from before start (inv.serves from before start part));
+      serves = λ from before was start part.
+          subst (ServesOn from _ before _ was _ start c.take_batch.new.service c.take_batch.new.line.items) c.if-not-branch.false
+          (c.in_ok-take_batch.ensures.ok from before was start (inv.serves from before was start part));
       some = search rules;
       reads = c.in_ok-take_batch.ensures.reads ∙ inv.reads;
       writes = c.in_ok-take_batch.ensures.writes ∙ inv.writes;
     }
 
 pub returns-clause-err : goal.returns-clause-err
-returns-clause-err g c = λ from before start part.
-    (stops_behind from _ _ before _ start c.batches.service c.batches.service c.batches.line.items [] (c.batches.invariant.serves from before start part)
-    (Consumes-nil _) refl).3
+returns-clause-err g c = λ from before was start part.
+    let here = c.batches.invariant.serves from before was start part in
+    stops_behind from _ _ before _ was _ _ start c.batches.service c.batches.service c.batches.line.items [] here (Consumes-nil _) refl
+    (kept_of was _ here.serves.text here.serves.told) faults.TooLong here.serves.written

@@ -7,8 +7,11 @@ use Rattle.site_service.proofs.service.Service.answer.Goals as goal
 pub invariant_of-self : goal.invariant_of-self
 invariant_of-self g c =
     let s = c.self.inside in
-    link_grows s.schema s.site s.lines s.waiting.items (g.F.LogFile.bytes s.log) (g.F.LogFile.safe s.log) s.settled s.lost c.self.invariant
-    c.answer_line.new.site (one_more s.lines) c.answer_line.new.out.items (c.answer_line.ensures.grows c.self.invariant.whole)
+    record {
+      linked = link_grows s.schema s.site s.lines s.waiting.items (g.F.LogFile.bytes s.log) (g.F.LogFile.safe s.log) s.settled s.lost
+          c.self.invariant.linked c.answer_line.new.site (one_more s.lines) c.answer_line.new.out.items c.answer_line.ensures.grows;
+      index = c.answer_line.ensures.index;
+    }
 
 pub returns-clause-ok : goal.returns-clause-ok
 returns-clause-ok g c =

@@ -1,12 +1,17 @@
 use Rattle.std.proofs.lemmas.Result.{on_ok_weaker, on_err_weaker}
 use Rattle.site_service.proofs.Links.{link_grows, log_kept, waits_same, has_applied}
+use Rattle.site_service.proofs.Index.{index_grows}
 use Rattle.site_service.proofs.service.Service.apply.Goals as goal
 
 pub invariant_of-self : goal.invariant_of-self
 invariant_of-self g c =
     let s = c.self.inside in
-    link_grows s.schema s.site s.lines s.waiting.items (g.F.LogFile.bytes s.log) (g.F.LogFile.safe s.log) s.settled s.lost c.self.invariant
-    c.carry_out.new.site s.lines c.carry_out.new.out.items (c.carry_out.ensures.grows c.self.invariant.whole)
+    let grows = c.carry_out.ensures.grows c.self.invariant.linked.whole in
+    record {
+      linked = link_grows s.schema s.site s.lines s.waiting.items (g.F.LogFile.bytes s.log) (g.F.LogFile.safe s.log) s.settled s.lost
+          c.self.invariant.linked c.carry_out.new.site s.lines c.carry_out.new.out.items grows;
+      index = index_grows s.kept s.site.bytes c.carry_out.new.site.bytes grows.added c.self.invariant.index grows.bytes;
+    }
 
 pub returns-clause-ok : goal.returns-clause-ok
 returns-clause-ok g c =

@@ -7,8 +7,11 @@ use Rattle.site_service.proofs.service.Service.release.Goals as goal
 pub invariant_of-self : goal.invariant_of-self
 invariant_of-self g c =
     let s = c.self.inside in
-    link_waits s.schema s.site s.lines s.waiting.items (g.F.LogFile.bytes s.log) (g.F.LogFile.safe s.log) s.settled s.lost c.self.invariant
-    c.let_out.new.text.items
+    record {
+      linked = link_waits s.schema s.site s.lines s.waiting.items (g.F.LogFile.bytes s.log) (g.F.LogFile.safe s.log) s.settled s.lost
+          c.self.invariant.linked c.let_out.new.text.items;
+      index = c.self.invariant.index;
+    }
 
 pub returns-clause-ok : goal.returns-clause-ok
 returns-clause-ok g c =
