@@ -1,7 +1,7 @@
 //! Why a task ends before it is done, in words that name the file and say what to do.
 
 use field_bounds::SchemaFault;
-use std::alloc::{AllocError, Global};
+use std::alloc::{AllocError, AllocFailed, Global};
 use std::io;
 use std::io::ErrorKind;
 use thiserror::Error;
@@ -35,6 +35,30 @@ pub(crate) enum Why {
     BadRecord(u64),
     #[error("epoch {0}, length {1}: older than --not-before: put the newest log back")]
     Old(u64, u64),
+    #[error("isn't there: only a site that was always served with --trace has one")]
+    NoTrace,
+    #[error("is there: serve with --trace, so that it misses nothing")]
+    TraceThere,
+    #[error("isn't the trace of this site: put its own newest trace back")]
+    OtherTrace,
+    #[error("line {0} is no entry: put its own newest trace back")]
+    BadEntry(u64),
+    #[error("is behind its log, which has records of no entry in it: put its own newest trace back")]
+    TraceBehind,
+    #[error("isn't of the world of {0}: name the folders of one world")]
+    OtherWorld(String),
+    #[error("is of site {0}, as {1} is: name one folder for each site")]
+    SameSite(u16, String),
+    /// Of the log of the site that gave.
+    #[error("site {to} accepted {accepted} {kind} on {field} from site {from}, which gave {given}: this log is older than what it gave: put its newest log back")]
+    AcceptedMore {
+        from: u16,
+        to: u16,
+        field: String,
+        kind: &'static str,
+        given: u64,
+        accepted: u64,
+    },
 }
 
 /// Why a task ends before it is done. A text names the file.
@@ -61,6 +85,20 @@ pub(crate) enum Fault {
     Device(String),
     #[error("{0}: in use: another process serves it")]
     Busy(String),
+    /// No folder of this site is named.
+    #[error("site {0}: isn't among the folders: name the folders of all sites of the world")]
+    NoFolder(u16),
+    /// The logs of the sites with these numbers are lost.
+    #[error("the logs of these sites are lost: {0}: put the newest ones back to settle")]
+    LogsLost(String),
+    /// On this field the logs that are there have more rights than it is wide.
+    #[error("field {0}: the logs have more rights than it is wide: one is older than what its site gave: put the newest ones back")]
+    TooMuch(String),
+    /// No trace weaves the sites: this site has this entry, from 1, as its next, and it can't come.
+    #[error("entry {1} of site {0} can't come next: another site's copy is older than this one's: copy all folders anew")]
+    Stuck(u16, u64),
+    #[error("the header that was written isn't read back")]
+    NotReadBack,
     #[error("out of memory")]
     NoMemory,
 }
@@ -71,13 +109,23 @@ impl From<AllocError> for Fault {
     }
 }
 
+impl<T: Drop> From<AllocFailed<T>> for Fault {
+    fn from(_refused: AllocFailed<T>) -> Fault {
+        Fault::NoMemory
+    }
+}
+
 impl Fault {
     /// The status with which the program ends.
     pub(crate) fn status(&self) -> u8 {
         match self {
             Fault::Read | Fault::Write | Fault::TooLong => 1,
-            Fault::Unread(..) | Fault::Asked(..) => 2,
-            Fault::Refused(..) => 3,
+            Fault::Unread(..) | Fault::Asked(..) | Fault::NoFolder(_) => 2,
+            Fault::Refused(..)
+            | Fault::LogsLost(_)
+            | Fault::TooMuch(_)
+            | Fault::Stuck(..)
+            | Fault::NotReadBack => 3,
             Fault::NoMemory => 4,
             Fault::System(..) | Fault::Device(_) => 5,
             Fault::Busy(_) => 6,
@@ -134,6 +182,14 @@ pub(crate) fn unread(alloc: Global, path: &str, error: io::Error) -> Fault {
     }
     match String::from_str(alloc, path) {
         Ok(path) => Fault::Unread(path, error),
+        Err(_) => Fault::NoMemory,
+    }
+}
+
+/// The fault that a call failed at a file whose answers wait for it.
+pub(crate) fn device_fault(alloc: Global, path: &str) -> Fault {
+    match String::from_str(alloc, path) {
+        Ok(path) => Fault::Device(path),
         Err(_) => Fault::NoMemory,
     }
 }

@@ -1,11 +1,16 @@
 //! A site's folder: where its files lie, and what they hold.
 
+ghost use Rattle.std.specs.Prelude.{IfOk};
+ghost use Rattle.std.specs.List.{AllByRecursion};
+ghost use Rattle.kept_records.specs.Text.{IsRecord};
+
 use crate::fault::{Fault, Why, failed, header_words, refused};
 use file_medium::{HostFile, OpenLogFault, Opening, open_log};
-use site_folder::{Identity, IdentityFault, read_identity};
+use kept_records::{Front, read_front};
+use site_folder::{Identity, IdentityFault, log_name, read_identity};
 use std::alloc::{AllocError, Global};
+use std::fs;
 use std::io::ErrorKind;
-use std::{fs, io};
 
 /// The paths of a folder and of its files.
 #[derive(Drop)]
@@ -13,6 +18,9 @@ pub(crate) struct Paths {
     pub folder: String,
     pub log: String,
     pub site: String,
+    pub trace: String,
+    /// Where a trace is written before it is there.
+    pub new_trace: String,
 }
 
 // The path of a file in a folder.
@@ -29,6 +37,8 @@ impl Paths {
             folder: String::from_str(alloc, folder)?,
             log: path_in(alloc, folder, "log")?,
             site: path_in(alloc, folder, "site")?,
+            trace: path_in(alloc, folder, "trace")?,
+            new_trace: path_in(alloc, folder, "trace.new")?,
         })
     }
 }
@@ -70,23 +80,50 @@ pub(crate) fn read_site(rt: &HostRuntime, paths: &Paths) -> Result<Identity, Fau
     }
 }
 
-// Why a log wasn't opened, as a fault at its path.
-fn log_fault(alloc: Global, path: &str, fault: OpenLogFault) -> Fault {
+/// The fault that a line of the log is no record of the site.
+pub(crate) fn bad_record(alloc: Global, paths: &Paths, line: u64) -> Fault {
+    refused(alloc, paths.log.as_str(), Why::BadRecord(line))
+}
+
+/// The records of a log's file, behind its name.
+pub(crate) fn behind_name<'a>(
+    alloc: Global,
+    paths: &Paths,
+    identity: &Identity,
+    bytes: &'a [u8],
+) -> Result<&'a [u8], Fault> {
+    let name = log_name(alloc, identity)?;
+    match bytes.strip_prefix(name.as_slice()) {
+        Some(records) => Ok(records),
+        None => Err(refused(alloc, paths.log.as_str(), Why::OtherLog)),
+    }
+}
+
+/// The records of the log of the folder, each line of which is one. It is read without its lock.
+pub(crate) fn read_log(rt: &HostRuntime, paths: &Paths, identity: &Identity) -> Result<Front, Fault>
+    ensures in_range { IfOk result (λ front. AllByRecursion IsRecord front.records.items) }
+{
+    let alloc = rt.alloc();
+    let bytes = read_file(rt, paths.log.as_str(), Why::NoLog)?;
+    let records = behind_name(alloc, paths, identity, bytes.as_slice())?;
+    let front = read_front(alloc, records)?;
+    match front.bad_line {
+        Some(line) => Err(bad_record(alloc, paths, line)),
+        None => Ok(front),
+    }
+}
+
+/// Why a file wasn't opened, as a fault at its path; or why it is refused where it isn't there.
+pub(crate) fn file_fault(alloc: Global, path: &str, fault: OpenLogFault, missing: Why) -> Fault {
     match fault {
         OpenLogFault::Busy => match String::from_str(alloc, path) {
             Ok(path) => Fault::Busy(path),
             Err(_) => Fault::NoMemory,
         },
-        OpenLogFault::System(error) => log_failed(alloc, path, error),
-    }
-}
-
-// The same for a call of the system.
-fn log_failed(alloc: Global, path: &str, error: io::Error) -> Fault {
-    if error.kind() == ErrorKind::NotFound {
-        refused(alloc, path, Why::NoLog)
-    } else {
-        failed(alloc, path, error)
+        OpenLogFault::System(error) if error.kind() == ErrorKind::NotFound => {
+            refused(alloc, path, missing)
+        }
+        OpenLogFault::System(error) => failed(alloc, path, error),
     }
 }
 
@@ -94,6 +131,6 @@ fn log_failed(alloc: Global, path: &str, error: io::Error) -> Fault {
 pub(crate) fn lock_log(rt: &HostRuntime, paths: &Paths) -> Result<HostFile, Fault> {
     match open_log(rt, paths.log.as_str(), Opening::Existing) {
         Ok(log) => Ok(log),
-        Err(fault) => Err(log_fault(rt.alloc(), paths.log.as_str(), fault)),
+        Err(fault) => Err(file_fault(rt.alloc(), paths.log.as_str(), fault, Why::NoLog)),
     }
 }

@@ -2,18 +2,23 @@
 //! another, over standard input and output.
 #![tactic(auto)]
 
-mod command_line;
+mod checking;
 mod creating;
 mod fault;
 mod folder;
+mod progress;
 mod serving;
+mod settling;
 mod showing;
+mod tracing;
 mod unsynced;
+mod weaving;
+mod worlds;
 
 use clap::Error;
 use clap::error::ErrorKind;
-use command_line::{Task, read_task};
 use fault::Fault;
+use site_tasks::{Task, read_task};
 use std::process::ExitCode;
 
 fn carry_out(rt: &HostRuntime, task: &Task) -> Result<(), Fault> {
@@ -23,12 +28,11 @@ fn carry_out(rt: &HostRuntime, task: &Task) -> Result<(), Fault> {
             schema,
             site,
         } => creating::create(rt, folder.as_str(), schema.as_str(), *site),
-        Task::Serve {
-            folder,
-            synced,
-            not_before,
-        } => serving::serve_folder(rt, folder.as_str(), *synced, *not_before),
+        Task::Serve { folder, how } => serving::serve_folder(rt, folder.as_str(), *how),
         Task::Show { folder } => showing::show(rt, folder.as_str()),
+        Task::Check { folders } => checking::check(rt, folders.as_slice()),
+        Task::Settle { folders } => settling::settle(rt, folders.as_slice()),
+        Task::Weave { folders } => weaving::weave_folders(rt, folders.as_slice()),
     }
 }
 

@@ -1,24 +1,17 @@
 //! The command `serve`.
 
-use crate::fault::{Fault, Why, failed, refused};
-use crate::folder::{Paths, lock_log, read_site};
+use crate::fault::{Fault, Why, device_fault, refused};
+use crate::folder::{Paths, behind_name, lock_log, read_file, read_site};
+use crate::tracing::trace_for;
 use crate::unsynced::UnsyncedFile;
-use file_medium::{LogFile, read_whole};
-use kept_records::MediumFault;
+use file_medium::{HostFile, LogFile};
 use log_stand::{Stand, stand_of};
 use named_log::{NameFault, NamedLog};
 use script_input::{Sink, Watched};
 use site_folder::{Identity, log_name};
-use site_service::{OpenFault, ServeFault, Service, serve};
+use site_service::{NoTrace, OpenFault, ServeFault, Service, serve};
+use site_tasks::Serving;
 use std::alloc::Global;
-
-// The fault that a call failed at the log's file.
-fn device_fault(alloc: Global, paths: &Paths) -> Fault {
-    match String::from_str(alloc, paths.log.as_str()) {
-        Ok(path) => Fault::Device(path),
-        Err(_) => Fault::NoMemory,
-    }
-}
 
 // The log of the site in a file, which has to begin with its name.
 fn open_named<F: LogFile + Drop>(
@@ -31,27 +24,23 @@ fn open_named<F: LogFile + Drop>(
     match NamedLog::open(file, name.as_slice()) {
         Ok(log) => Ok(log),
         Err(NameFault::Other) => Err(refused(alloc, paths.log.as_str(), Why::OtherLog)),
-        Err(NameFault::Device) => Err(device_fault(alloc, paths)),
-    }
-}
-
-// The bytes of the log.
-fn read_log<F: LogFile>(alloc: Global, paths: &Paths, log: &mut F) -> Result<Vec<u8>, Fault> {
-    match read_whole(alloc, log) {
-        Ok(bytes) => Ok(bytes),
-        Err(MediumFault::Device) => Err(device_fault(alloc, paths)),
-        Err(MediumFault::NoMemory) => Err(Fault::NoMemory),
+        Err(NameFault::Device) => Err(device_fault(alloc, paths.log.as_str())),
     }
 }
 
 // Refuses a log that is older than was seen of it before. It stays as it is.
-fn check_age<F: LogFile>(
-    alloc: Global,
+fn check_age(
+    rt: &HostRuntime,
     paths: &Paths,
-    log: &mut F,
+    identity: &Identity,
     seen: Stand,
 ) -> Result<(), Fault> {
-    let stand = stand_of(alloc, read_log(alloc, paths, log)?.as_slice())?;
+    let alloc = rt.alloc();
+    let bytes = read_file(rt, paths.log.as_str(), Why::NoLog)?;
+    let stand = stand_of(
+        alloc,
+        behind_name(alloc, paths, identity, bytes.as_slice())?,
+    )?;
     if stand.is_before(seen) {
         let why = Why::Old(stand.epoch, stand.length);
         return Err(refused(alloc, paths.log.as_str(), why));
@@ -59,20 +48,21 @@ fn check_age<F: LogFile>(
     Ok(())
 }
 
-// Opens the site over its log.
-fn open_service<F: LogFile + Drop>(
+// Opens the site over its log, and tells its trace.
+fn open_service<F: LogFile + Drop, T: LogFile>(
     alloc: Global,
     paths: &Paths,
     identity: &Identity,
     log: F,
+    trace: &mut T,
 ) -> Result<Service<F>, Fault> {
     let schema = identity.schema().copy()?;
-    match Service::open(alloc, schema, identity.number(), log) {
+    match Service::open(alloc, schema, identity.number(), log, trace) {
         Ok(service) => Ok(service),
         Err(OpenFault::Line(line)) => {
             Err(refused(alloc, paths.log.as_str(), Why::BadRecord(line)))
         }
-        Err(OpenFault::Device) => Err(device_fault(alloc, paths)),
+        Err(OpenFault::Device) => Err(device_fault(alloc, paths.log.as_str())),
         Err(OpenFault::NoMemory) => Err(Fault::NoMemory),
     }
 }
@@ -101,64 +91,88 @@ fn write_ready<F: LogFile, W: Sink>(
     }
 }
 
-// Why the serving ended, as a fault at the log.
-fn serve_fault(alloc: Global, paths: &Paths, fault: ServeFault) -> Fault {
+// The file at which a call failed: its log's, unless the service's log is sound.
+fn failed_file<'a, F: LogFile>(paths: &'a Paths, service: &Service<F>) -> &'a str {
+    if service.is_lost() {
+        paths.log.as_str()
+    } else {
+        paths.trace.as_str()
+    }
+}
+
+// Why the serving ended, as a fault at this file.
+fn serve_fault(alloc: Global, path: &str, fault: ServeFault) -> Fault {
     match fault {
         ServeFault::Read => Fault::Read,
         ServeFault::Write => Fault::Write,
-        ServeFault::Device => device_fault(alloc, paths),
+        ServeFault::Device => device_fault(alloc, path),
         ServeFault::TooLong => Fault::TooLong,
         ServeFault::NoMemory => Fault::NoMemory,
     }
 }
 
 // Opens the site over a log, and serves it to the end of the input.
-fn serve_log<F: LogFile + Drop>(
+fn serve_log<F: LogFile + Drop, T: LogFile>(
     rt: &HostRuntime,
     paths: &Paths,
     identity: &Identity,
     log: F,
+    trace: &mut T,
 ) -> Result<(), Fault> {
     let alloc = rt.alloc();
-    let mut service = open_service(alloc, paths, identity, log)?;
+    let mut service = open_service(alloc, paths, identity, log, trace)?;
     let mut reader = Watched::new(rt.stdin());
     let mut writer = Watched::new(rt.stdout());
     write_ready(alloc, &service, &mut writer)?;
-    match serve(alloc, &mut service, &mut reader, &mut writer) {
+    match serve(alloc, &mut service, trace, &mut reader, &mut writer) {
         Ok(()) => Ok(()),
-        Err(fault) => Err(serve_fault(alloc, paths, fault)),
+        Err(fault) => Err(serve_fault(alloc, failed_file(paths, &service), fault)),
     }
 }
 
-// Serves the site over its file, unless that is another log, or an old one.
-fn serve_file<F: LogFile + Drop>(
+// Serves the site over its files, unless the log is another one.
+fn serve_files<F: LogFile + Drop>(
     rt: &HostRuntime,
     paths: &Paths,
     identity: &Identity,
     file: F,
-    not_before: Option<Stand>,
+    trace: Option<F>,
 ) -> Result<(), Fault> {
-    let mut log = open_named(rt.alloc(), paths, identity, file)?;
-    if let Some(seen) = not_before {
-        check_age(rt.alloc(), paths, &mut log, seen)?;
+    let log = open_named(rt.alloc(), paths, identity, file)?;
+    match trace {
+        Some(mut trace) => serve_log(rt, paths, identity, log, &mut trace),
+        None => serve_log(rt, paths, identity, log, &mut NoTrace),
     }
-    serve_log(rt, paths, identity, log)
+}
+
+// Serves the site over files that aren't synced.
+fn serve_unsynced(
+    rt: &HostRuntime,
+    paths: &Paths,
+    identity: &Identity,
+    file: HostFile,
+    trace: Option<HostFile>,
+) -> Result<(), Fault> {
+    let trace = match trace {
+        Some(trace) => Some(UnsyncedFile::new(trace)),
+        None => None,
+    };
+    serve_files(rt, paths, identity, UnsyncedFile::new(file), trace)
 }
 
 /// Serves the site of a folder over standard input and output, to the end of the input. Where it
 /// isn't synced, what is answered may be lost by a stop of the machine.
-pub(crate) fn serve_folder(
-    rt: &HostRuntime,
-    folder: &str,
-    synced: bool,
-    not_before: Option<Stand>,
-) -> Result<(), Fault> {
+pub(crate) fn serve_folder(rt: &HostRuntime, folder: &str, how: Serving) -> Result<(), Fault> {
     let paths = Paths::new(rt.alloc(), folder)?;
     let identity = read_site(rt, &paths)?;
     let file = lock_log(rt, &paths)?;
-    if synced {
-        serve_file(rt, &paths, &identity, file, not_before)
+    if let Some(seen) = how.not_before {
+        check_age(rt, &paths, &identity, seen)?;
+    }
+    let trace = trace_for(rt, &paths, &identity, how.is_traced)?;
+    if how.is_synced {
+        serve_files(rt, &paths, &identity, file, trace)
     } else {
-        serve_file(rt, &paths, &identity, UnsyncedFile::new(file), not_before)
+        serve_unsynced(rt, &paths, &identity, file, trace)
     }
 }

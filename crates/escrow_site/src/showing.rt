@@ -6,13 +6,12 @@ ghost use Rattle.field_bounds.specs.Owed.{max_change};
 ghost use Rattle.field_bounds.specs.Parts.{field_at};
 ghost use Rattle.site_rights.specs.Rights.{guarded_at};
 
-use crate::fault::{Fault, Why, refused};
-use crate::folder::{Paths, read_file, read_site};
+use crate::fault::Fault;
+use crate::folder::{Paths, bad_record, read_log, read_site};
 use field_bounds::{FieldNo, Kind, Schema, SiteNo};
 use gift_ledger::{FieldAccounts, Ledger};
-use kept_records::read_front;
 use log_replay::{Replayed, Standing, replay};
-use site_folder::{Identity, log_name};
+use site_folder::Identity;
 use site_rights::Rights;
 use std::alloc::Global;
 use std::io;
@@ -24,37 +23,13 @@ struct Shown {
     standing: Standing,
 }
 
-// The fault that a line of the log is no record of the site.
-fn bad_record(alloc: Global, paths: &Paths, line: u64) -> Fault {
-    refused(alloc, paths.log.as_str(), Why::BadRecord(line))
-}
-
-// The records of a log's file, behind its name.
-fn behind_name<'a>(
-    alloc: Global,
-    paths: &Paths,
-    identity: &Identity,
-    bytes: &'a [u8],
-) -> Result<&'a [u8], Fault> {
-    let name = log_name(alloc, identity)?;
-    match bytes.strip_prefix(name.as_slice()) {
-        Some(records) => Ok(records),
-        None => Err(refused(alloc, paths.log.as_str(), Why::OtherLog)),
-    }
-}
-
 // Takes in the records of the log.
 fn read_records(rt: &HostRuntime, paths: &Paths, identity: &Identity) -> Result<Shown, Fault>
     ensures fields { IfOk result (λ shown. length shown.standing.rights
         ≡ length identity.now.schema.fields) }
 {
     let alloc = rt.alloc();
-    let bytes = read_file(rt, paths.log.as_str(), Why::NoLog)?;
-    let records = behind_name(alloc, paths, identity, bytes.as_slice())?;
-    let front = read_front(alloc, records)?;
-    if let Some(line) = front.bad_line {
-        return Err(bad_record(alloc, paths, line));
-    }
+    let front = read_log(rt, paths, identity)?;
     let number = identity.number();
     match replay(alloc, identity.schema(), number, front.records.as_slice())? {
         Replayed::Standing(standing) => Ok(Shown {

@@ -1,5 +1,6 @@
-//! What the command line asks for.
+//! The words of the command line.
 
+use crate::task::{Serving, Task};
 use clap::builder::ValueParser;
 use clap::error::ErrorKind;
 use clap::{Arg, ArgAction, ArgMatches, Command, Error};
@@ -18,9 +19,10 @@ Example:
   escrow_site create shop --schema schema.json --site 0
   escrow_site serve shop < commands.txt
   escrow_site show shop
+  escrow_site check shop0 shop1
 
 Statuses: 0 done; 1 a read or write of the standard streams failed; 2 the command
-line or the schema is refused; 3 the folder or its log is refused; 4 out of memory;
+line or the schema is refused; 3 a folder or a log is refused; 4 out of memory;
 5 a call of the system failed at a file; 6 another process serves the folder.";
 
 const CREATE_ABOUT: &str = "Makes the folder of a site, with an empty log";
@@ -53,6 +55,9 @@ Its output in a new folder of site 0:
   0 escrow 1.1 stock -20 -> granted
   0 commit 1.1 -> committed";
 
+const TRACE_HELP: &str =
+    "Keeps a trace of all answers beside the log, for weave: from the first time on";
+
 const NO_SYNC_HELP: &str = "Doesn't sync the log: a stop of the machine may lose what was answered";
 
 const NOT_BEFORE_HELP: &str = "Refuses a log with an earlier epoch or fewer bytes, as an old copy";
@@ -61,29 +66,68 @@ const NOT_BEFORE_NAMES: &[&str] = &["EPOCH", "LENGTH"];
 
 const SHOW_ABOUT: &str = "Tells what the site's log stands for, served or not";
 
-/// What the command line asks for.
-#[derive(Drop)]
-pub(crate) enum Task {
-    Create {
-        folder: String,
-        schema: String,
-        site: u64,
-    },
-    Serve {
-        folder: String,
-        synced: bool,
-        not_before: Option<Stand>,
-    },
-    Show {
-        folder: String,
-    },
-}
+const CHECK_ABOUT: &str = "Checks the logs of all sites of a world together";
+
+const CHECK_EXAMPLE: &str = "\
+The sites are stopped, or the folders are copies of one moment: of each site of the
+world one folder, in any order. It reads each log once, takes no lock, and writes
+nothing into a folder. It takes memory for all records.
+
+It is refused where a site accepted more than was given to it by the log of the
+site that gave. Else no right was made or lost, and each field has one value:
+
+  world NAME
+  sites N
+  field FIELD value V floor F ceiling C     for each field
+
+Example:
+  escrow_site check shop0 shop1";
+
+const SETTLE_ABOUT: &str = "Writes the header of a new world that goes on where the logs end";
+
+const SETTLE_EXAMPLE: &str = "\
+The folders are as for `check`, which is done first. Each field of the new world has
+its committed value, and its bounds as they were tightened; what was in flight is
+the new sites'. Use nothing of the old world with the new one.
+
+Where logs are lost, a folder that isn't named or has no log, it writes no header.
+It writes, for each field, between which values it lies by the other logs, and ends
+with status 3:
+
+  field FIELD between LO HI
+
+Example:
+  escrow_site settle shop0 shop1 > world2.json
+  escrow_site create new0 --schema world2.json --site 0";
+
+const WEAVE_ABOUT: &str = "Writes one trace of all sites of a world, for `escrow audit`";
+
+const WEAVE_EXAMPLE: &str = "\
+The sites are stopped, or the folders are copies in which each log was copied before
+its trace: of each site of the world one folder, in any order, which was always
+served with --trace. It takes no lock, and writes nothing into a folder. It takes
+memory for all entries, and a step for each.
+
+Each trace counts as far as its log goes. It writes the header, and the entries of
+all sites in one order in which each statement comes before it is accepted.
+
+Example:
+  escrow_site weave shop0 shop1 > trace
+  escrow audit < trace";
 
 fn folder_arg<'a>(alloc: Global) -> Arg<'a> {
     Arg::new(alloc, "FOLDER")
         .help("The site's folder")
         .required(true)
         .action(ArgAction::Set)
+}
+
+fn folders_arg<'a>(alloc: Global) -> Arg<'a> {
+    Arg::new(alloc, "FOLDER")
+        .help("The folders of the sites")
+        .required(true)
+        .num_args(1..)
+        .action(ArgAction::Append)
 }
 
 fn create_command<'a>(alloc: Global) -> Result<Command<'a>, AllocError> {
@@ -109,6 +153,10 @@ fn create_command<'a>(alloc: Global) -> Result<Command<'a>, AllocError> {
 }
 
 fn serve_command<'a>(alloc: Global) -> Result<Command<'a>, AllocError> {
+    let trace = Arg::new(alloc, "trace")
+        .long("trace")
+        .help(TRACE_HELP)
+        .action(ArgAction::SetTrue);
     let no_sync = Arg::new(alloc, "no-sync")
         .long("no-sync")
         .help(NO_SYNC_HELP)
@@ -124,6 +172,7 @@ fn serve_command<'a>(alloc: Global) -> Result<Command<'a>, AllocError> {
         .about(SERVE_ABOUT)
         .after_help(SERVE_EXAMPLE)
         .arg(folder_arg(alloc))?
+        .arg(trace)?
         .arg(no_sync)?
         .arg(not_before)
 }
@@ -134,6 +183,27 @@ fn show_command<'a>(alloc: Global) -> Result<Command<'a>, AllocError> {
         .arg(folder_arg(alloc))
 }
 
+fn check_command<'a>(alloc: Global) -> Result<Command<'a>, AllocError> {
+    Command::new(alloc, "check")
+        .about(CHECK_ABOUT)
+        .after_help(CHECK_EXAMPLE)
+        .arg(folders_arg(alloc))
+}
+
+fn settle_command<'a>(alloc: Global) -> Result<Command<'a>, AllocError> {
+    Command::new(alloc, "settle")
+        .about(SETTLE_ABOUT)
+        .after_help(SETTLE_EXAMPLE)
+        .arg(folders_arg(alloc))
+}
+
+fn weave_command<'a>(alloc: Global) -> Result<Command<'a>, AllocError> {
+    Command::new(alloc, "weave")
+        .about(WEAVE_ABOUT)
+        .after_help(WEAVE_EXAMPLE)
+        .arg(folders_arg(alloc))
+}
+
 fn program<'a>(alloc: Global) -> Result<Command<'a>, AllocError> {
     Command::new(alloc, "escrow_site")
         .about(ABOUT)
@@ -142,7 +212,10 @@ fn program<'a>(alloc: Global) -> Result<Command<'a>, AllocError> {
         .arg_required_else_help(true)
         .subcommand(create_command(alloc)?)?
         .subcommand(serve_command(alloc)?)?
-        .subcommand(show_command(alloc)?)
+        .subcommand(show_command(alloc)?)?
+        .subcommand(check_command(alloc)?)?
+        .subcommand(settle_command(alloc)?)?
+        .subcommand(weave_command(alloc)?)
 }
 
 // The text of an argument, or none where it isn't given, which clap refuses if it is required.
@@ -151,6 +224,17 @@ fn text_of(alloc: Global, asked: &ArgMatches<'_>, id: &str) -> Result<String, Al
         Some(text) => String::from_str(alloc, text),
         None => Ok(String::new(alloc)),
     }
+}
+
+// The texts of an argument, or none where it isn't given, which clap refuses if it is required.
+fn texts_of(alloc: Global, asked: &ArgMatches<'_>, id: &str) -> Result<Vec<String>, AllocError> {
+    let mut texts = Vec::new(alloc);
+    if let Some(given) = asked.get_strs(id) {
+        for text in given {
+            texts.push(String::from_str(alloc, text)?)?;
+        }
+    }
+    Ok(texts)
 }
 
 // A number, which clap has read.
@@ -180,8 +264,11 @@ fn create_task(alloc: Global, asked: &ArgMatches<'_>) -> Result<Task, AllocError
 fn serve_task(alloc: Global, asked: &ArgMatches<'_>) -> Result<Task, AllocError> {
     Ok(Task::Serve {
         folder: text_of(alloc, asked, "FOLDER")?,
-        synced: !asked.get_flag("no-sync"),
-        not_before: not_before(asked),
+        how: Serving {
+            is_synced: !asked.get_flag("no-sync"),
+            is_traced: asked.get_flag("trace"),
+            not_before: not_before(asked),
+        },
     })
 }
 
@@ -191,12 +278,33 @@ fn show_task(alloc: Global, asked: &ArgMatches<'_>) -> Result<Task, AllocError> 
     })
 }
 
+fn check_task(alloc: Global, asked: &ArgMatches<'_>) -> Result<Task, AllocError> {
+    Ok(Task::Check {
+        folders: texts_of(alloc, asked, "FOLDER")?,
+    })
+}
+
+fn settle_task(alloc: Global, asked: &ArgMatches<'_>) -> Result<Task, AllocError> {
+    Ok(Task::Settle {
+        folders: texts_of(alloc, asked, "FOLDER")?,
+    })
+}
+
+fn weave_task(alloc: Global, asked: &ArgMatches<'_>) -> Result<Task, AllocError> {
+    Ok(Task::Weave {
+        folders: texts_of(alloc, asked, "FOLDER")?,
+    })
+}
+
 // The task that the words of a command line ask for.
 fn task_of(alloc: Global, matches: &ArgMatches<'_>) -> Result<Task, Error> {
     match matches.subcommand() {
         Some(("create", asked)) => Ok(create_task(alloc, asked)?),
         Some(("serve", asked)) => Ok(serve_task(alloc, asked)?),
         Some(("show", asked)) => Ok(show_task(alloc, asked)?),
+        Some(("check", asked)) => Ok(check_task(alloc, asked)?),
+        Some(("settle", asked)) => Ok(settle_task(alloc, asked)?),
+        Some(("weave", asked)) => Ok(weave_task(alloc, asked)?),
         _ => Err(program(alloc)?.error(ErrorKind::MissingSubcommand, "no subcommand")?),
     }
 }
@@ -217,7 +325,7 @@ fn read_words(
 }
 
 /// What the command line asks for, or why it asks for nothing.
-pub(crate) fn read_task(rt: &(impl Env + AllocGlobal)) -> Result<Task, Error> {
+pub fn read_task(rt: &(impl Env + AllocGlobal)) -> Result<Task, Error> {
     let alloc = rt.alloc();
     let mut command = program(alloc)?;
     let words = read_words(rt, &mut command)?;

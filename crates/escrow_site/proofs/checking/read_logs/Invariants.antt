@@ -1,0 +1,12 @@
+use Rattle.std.proofs.Common.{◌≡◌, ℕ, length}
+use Rattle.std.specs.List.{AllByRecursion}
+use Rattle.kept_records.specs.Text.{IsRecord}
+use Rattle.world_logs.specs.Logs.{records_of, log_of}
+use Rattle.escrow_site.proofs.checking.read_logs.Given as goal
+
+-- the records of the logs so far lie in their ranges
+abbrev pub invariant-loop-number : goal.invariant-loop-number
+invariant-loop-number l = record {
+  count : length l.logs.items ≡ l.number;
+  in_range : (s : ℕ) → AllByRecursion IsRecord (log_of (records_of l.logs.items) s);
+}

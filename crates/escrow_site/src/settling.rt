@@ -1,0 +1,147 @@
+//! The command `settle`.
+
+ghost use Rattle.std.specs.Prelude.{◌≡◌, ℕ, IfOk, length};
+ghost use Rattle.std.specs.List.{AllByRecursion};
+ghost use Rattle.kept_records.specs.Text.{IsRecord};
+ghost use Rattle.world_logs.specs.Logs.{log_of};
+ghost use Rattle.world_logs.specs.Lost.{known_of, known_records};
+ghost use Rattle.world_logs.specs.LostBody.{records_in};
+
+use crate::checking::{logs_fault, read_logs};
+use crate::fault::{Fault, failed};
+use crate::folder::read_log;
+use crate::progress::tell_reading;
+use crate::worlds::{World, read_world};
+use field_bounds::{FieldNo, Schema, SiteNo};
+use kept_records::Record;
+use std::alloc::{AllocError, Global};
+use std::{fs, io};
+use world_logs::{FieldRange, HeaderFault, bound_world, settle_world, write_header};
+
+// Whether the log of a site is lost: no folder of it is named, or none is in its folder.
+fn is_lost(rt: &HostRuntime, world: &World, site: SiteNo) -> Result<bool, Fault> {
+    let Some(folder) = world.folder(site) else {
+        return Ok(true);
+    };
+    let path = folder.paths.log.as_str();
+    match fs::exists(rt, path) {
+        Ok(is_there) => Ok(!is_there),
+        Err(error) => Err(failed(rt.alloc(), path, error)),
+    }
+}
+
+// The sites whose logs are lost, in their order.
+fn lost_sites(rt: &HostRuntime, world: &World) -> Result<Vec<SiteNo>, Fault> {
+    let mut lost = Vec::new(rt.alloc());
+    for number in 0..world.schema.sites() {
+        let site = SiteNo(number);
+        if is_lost(rt, world, site)? {
+            lost.push(site)?;
+        }
+    }
+    Ok(lost)
+}
+
+// The records of a site's log, or None where it is lost.
+fn read_known(
+    rt: &HostRuntime,
+    world: &World,
+    lost: &[SiteNo],
+    site: SiteNo,
+) -> Result<Option<Vec<Record>>, Fault>
+    ensures in_range { IfOk result (λ log. AllByRecursion IsRecord (records_in log)) }
+{
+    if lost.contains(&site) {
+        return Ok(None);
+    }
+    let folder = world.named_folder(site)?;
+    tell_reading(rt, folder.paths.folder.as_str(), site, world.schema.sites());
+    Ok(Some(read_log(rt, &folder.paths, &folder.identity)?.records))
+}
+
+// The logs of all sites, in their order, where they aren't lost.
+fn read_known_logs(
+    rt: &HostRuntime,
+    world: &World,
+    lost: &[SiteNo],
+) -> Result<Vec<Option<Vec<Record>>>, Fault>
+    ensures count { IfOk result (λ logs. length logs.items ≡ world.now.schema.sites) }
+    ensures in_range { IfOk result (λ logs. (s : ℕ)
+        → AllByRecursion IsRecord (log_of (known_records (known_of logs.items)) s)) }
+{
+    let mut logs = Vec::new(rt.alloc());
+    for number in 0..world.schema.sites() {
+        logs.push(read_known(rt, world, lost, SiteNo(number))?)?;
+    }
+    Ok(logs)
+}
+
+// Settles the world by the logs of all sites.
+fn settle_logs(rt: &HostRuntime, world: &World) -> Result<(), Fault> {
+    let alloc = rt.alloc();
+    let logs = read_logs(rt, world)?;
+    let settled = match settle_world(alloc, &world.schema, logs.as_slice()) {
+        Ok(settled) => settled,
+        Err(fault) => return Err(logs_fault(alloc, world, fault)),
+    };
+    let header = match write_header(alloc, &settled) {
+        Ok(header) => header,
+        Err(HeaderFault::NotReadBack) => return Err(Fault::NotReadBack),
+        Err(HeaderFault::NoMemory) => return Err(Fault::NoMemory),
+    };
+    match println!(rt; "{header}") {
+        Ok(()) => Ok(()),
+        Err(_) => Err(Fault::Write),
+    }
+}
+
+// Shows between which values each field lies.
+fn show_ranges(rt: &impl Print, schema: &Schema, ranges: &[FieldRange]) -> io::Result<()>
+    requires count { length ranges.now ≡ length schema.now.fields }
+{
+    for number in 0..schema.fields() {
+        let name = schema.name(FieldNo(number));
+        let FieldRange { least, greatest } = ranges[usize::from(number)];
+        println!(rt; "field {name} between {least} {greatest}")?;
+    }
+    Ok(())
+}
+
+// The numbers of sites, one space between them.
+fn numbers_of(alloc: Global, sites: &[SiteNo]) -> Result<String, AllocError> {
+    let mut numbers = String::new(alloc);
+    for site in sites {
+        if !numbers.is_empty() {
+            numbers.push_str(" ")?;
+        }
+        let number = format!(in alloc; "{}", site.0)?;
+        numbers.push_str(number.as_str())?;
+    }
+    Ok(numbers)
+}
+
+// Shows between which values each field lies by the logs that are there, and tells which are lost.
+fn bound_logs(rt: &HostRuntime, world: &World, lost: &[SiteNo]) -> Result<(), Fault> {
+    let alloc = rt.alloc();
+    let logs = read_known_logs(rt, world, lost)?;
+    let ranges = match bound_world(alloc, &world.schema, logs.as_slice()) {
+        Ok(ranges) => ranges,
+        Err(fault) => return Err(logs_fault(alloc, world, fault)),
+    };
+    match show_ranges(rt, &world.schema, ranges.as_slice()) {
+        Ok(()) => Err(Fault::LogsLost(numbers_of(alloc, lost)?)),
+        Err(_) => Err(Fault::Write),
+    }
+}
+
+/// Writes the header of a new world that goes on where the logs of all sites of a world end, or,
+/// where logs are lost, between which values each field lies. They are read without their locks.
+pub(crate) fn settle(rt: &HostRuntime, folders: &[String]) -> Result<(), Fault> {
+    let world = read_world(rt, folders)?;
+    let lost = lost_sites(rt, &world)?;
+    if lost.is_empty() {
+        settle_logs(rt, &world)
+    } else {
+        bound_logs(rt, &world, lost.as_slice())
+    }
+}

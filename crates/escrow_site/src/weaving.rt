@@ -1,0 +1,93 @@
+//! The command `weave`.
+
+ghost use Rattle.std.specs.Prelude.{◌≤◌, IfOk, length};
+
+use crate::fault::Fault;
+use crate::progress::tell_reading;
+use crate::tracing::read_kept_trace;
+use crate::worlds::{SiteFolder, World, read_world};
+use entry_text::append_entry;
+use field_bounds::{Entry, Schema, SiteNo};
+use script_input::{Sink, Watched};
+use std::alloc::{AllocError, Global};
+use trace_weave::{WeaveFault, weave};
+
+/// How many bytes gather before they are written.
+const PIECE: usize = 65_536;
+
+// The entries of a site that its log has the records of.
+fn read_history(rt: &HostRuntime, folder: &SiteFolder) -> Result<Vec<Entry>, Fault> {
+    let kept = read_kept_trace(rt, &folder.paths, &folder.identity)?;
+    let entries = kept.trace.entries.iter().take(kept.end.entries);
+    Ok(entries.map(|traced| traced.entry).collect(rt.alloc())?)
+}
+
+// The entries of all sites, in their order.
+fn read_histories(rt: &HostRuntime, world: &World) -> Result<Vec<Vec<Entry>>, Fault>
+    ensures few { IfOk result (λ histories. length histories.items ≤ 65535) }
+{
+    let mut histories = Vec::new(rt.alloc());
+    for number in 0..world.schema.sites() {
+        let site = SiteNo(number);
+        let folder = world.named_folder(site)?;
+        tell_reading(rt, folder.paths.folder.as_str(), site, world.schema.sites());
+        histories.push(read_history(rt, folder)?)?;
+    }
+    Ok(histories)
+}
+
+// One trace of all sites.
+fn read_weave(rt: &HostRuntime, world: &World) -> Result<Vec<Entry>, Fault> {
+    let histories = read_histories(rt, world)?;
+    match weave(rt.alloc(), histories.as_slice()) {
+        Ok(trace) => Ok(trace),
+        Err(WeaveFault::Stuck { site, number }) => Err(Fault::Stuck(site.0, number)),
+        Err(WeaveFault::NoMemory) => Err(Fault::NoMemory),
+    }
+}
+
+// Adds the line of an entry.
+fn add_line(text: &mut Vec<u8>, schema: &Schema, entry: Entry) -> Result<(), AllocError> {
+    append_entry(text, schema, entry)?;
+    text.push(b'\n')?;
+    Ok(())
+}
+
+// Writes what has gathered, and keeps its memory for more.
+fn write_piece<W: Sink>(writer: &mut W, text: &mut Vec<u8>) -> Result<(), Fault> {
+    match writer.write_all(text.as_slice()) {
+        Ok(()) => {
+            text.clear();
+            Ok(())
+        }
+        Err(_) => Err(Fault::Write),
+    }
+}
+
+// Writes the header line and the entries, a line each.
+fn write_trace<W: Sink>(
+    alloc: Global,
+    writer: &mut W,
+    world: &World,
+    trace: &[Entry],
+) -> Result<(), Fault> {
+    let mut text = Vec::from_slice(alloc, world.header.as_slice())?;
+    text.push(b'\n')?;
+    for entry in trace {
+        add_line(&mut text, &world.schema, *entry)?;
+        if text.len() >= PIECE {
+            write_piece(writer, &mut text)?;
+        }
+    }
+    write_piece(writer, &mut text)
+}
+
+/// Writes one trace of all sites of a world: the header line, and an entry a line, as an audit reads
+/// them. The folders are read without their locks, and nothing is written before all are read.
+pub(crate) fn weave_folders(rt: &HostRuntime, folders: &[String]) -> Result<(), Fault> {
+    let alloc = rt.alloc();
+    let world = read_world(rt, folders)?;
+    let trace = read_weave(rt, &world)?;
+    let mut writer = Watched::new(rt.stdout());
+    write_trace(alloc, &mut writer, &world, trace.as_slice())
+}

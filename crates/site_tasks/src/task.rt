@@ -1,0 +1,46 @@
+//! What the command line asks for.
+
+use log_stand::Stand;
+
+/// How a folder is served.
+#[derive(Clone, Copy, Debug, Drop, PartialEq, Eq)]
+pub struct Serving {
+    /// Whether its files are synced.
+    pub is_synced: bool,
+    /// Whether a trace is kept beside its log.
+    pub is_traced: bool,
+    /// How far its log has come at least, or None where that isn't told.
+    pub not_before: Option<Stand>,
+}
+
+/// What the command line asks for.
+#[derive(Drop)]
+pub enum Task {
+    /// To make the folder of the site of this number, by the schema in a file.
+    Create {
+        folder: String,
+        schema: String,
+        site: u64,
+    },
+    /// To serve the site of a folder.
+    Serve {
+        folder: String,
+        how: Serving,
+    },
+    /// To tell what the log of a folder stands for.
+    Show {
+        folder: String,
+    },
+    /// To check the logs of all sites of a world together.
+    Check {
+        folders: Vec<String>,
+    },
+    /// To write the header of a world that goes on where the logs end.
+    Settle {
+        folders: Vec<String>,
+    },
+    /// To write one trace of all sites of a world.
+    Weave {
+        folders: Vec<String>,
+    },
+}
