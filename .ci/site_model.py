@@ -36,6 +36,9 @@ class World:
     def log_name(self, site: int) -> bytes:
         return f"escrow log 1\nnumber {site}\nworld {self.name()}\n".encode()
 
+    def trace_name(self, site: int) -> bytes:
+        return self.log_name(site).replace(b"escrow log", b"escrow trace", 1)
+
     def part(self, site: int, field: Field, kind: str) -> int:
         total = field.value - field.floor if kind == LOWER else field.ceiling - field.value
         return total // self.sites + (site < total % self.sites)
@@ -149,18 +152,53 @@ class Log:
         return lines
 
 
+def flight(logs: list[Log], number: int, kind: str) -> list[int]:
+    """What is in flight between any two of these sites."""
+    return [a.given[b.site, number, kind] - b.accepted[a.site, number, kind] for a in logs for b in logs if a is not b]
+
+
+def known(logs: list[Log], number: int, kind: str) -> int:
+    """What these sites guard of a field's width, and have in flight among one another."""
+    return sum(log.guarded(number, kind) for log in logs) + sum(flight(logs, number, kind))
+
+
+def committed(logs: list[Log], number: int, field: Field) -> int:
+    changes = [it for log in logs for escrows in log.commits.values() for it in escrows]
+    return field.value + sum(change for on, change in changes if on == number)
+
+
 def check_world(logs: list[Log]) -> None:
     """The logs of all sites of a world together: nobody accepted more than was given, and what the sites own and what
     is in flight make up the distance of the committed value to each bound, as tightened."""
-    world = logs[0].world
-    for number, field in enumerate(world.fields):
-        value = field.value + sum(
-            change for log in logs for changes in log.commits.values() for on, change in changes if on == number
-        )
+    for number, field in enumerate(logs[0].world.fields):
+        value = committed(logs, number, field)
         for kind, distance in ((LOWER, value - field.floor), (RAISE, field.ceiling - value)):
-            flight = [
-                a.given[b.site, number, kind] - b.accepted[a.site, number, kind] for a in logs for b in logs if a is not b
-            ]
-            guarded = sum(log.guarded(number, kind) for log in logs)
-            if min(flight, default=0) < 0 or guarded + sum(flight) != distance:
-                raise NoLog(f"{field.name} {kind}: {guarded} guarded and {flight} in flight, and not {distance}")
+            has = known(logs, number, kind)
+            if min(flight(logs, number, kind), default=0) < 0 or has != distance:
+                raise NoLog(f"{field.name} {kind}: {has} guarded and in flight, and not {distance}")
+
+
+def settled(logs: list[Log]) -> World:
+    """The world that goes on where the logs of all sites of one end."""
+    world = logs[0].world
+    fields = []
+    for number, field in enumerate(world.fields):
+        lower, upper = (sum(log.cut[number, kind] for log in logs) for kind in (LOWER, RAISE))
+        fields.append(Field(field.name, field.floor + lower, field.ceiling - upper, committed(logs, number, field)))
+    return World(world.sites, tuple(fields))
+
+
+def checked(logs: list[Log]) -> list[str]:
+    """What `check` tells of the logs of all sites."""
+    world = logs[0].world
+    fields = [f"field {it.name} value {it.value} floor {it.floor} ceiling {it.ceiling}" for it in settled(logs).fields]
+    return [f"world {world.name()}", f"sites {world.sites}", *fields]
+
+
+def bounded(logs: list[Log]) -> list[str]:
+    """What `settle` tells where these are the logs that aren't lost."""
+    lines = []
+    for number, field in enumerate(logs[0].world.fields):
+        lo, hi = field.floor + known(logs, number, LOWER), field.ceiling - known(logs, number, RAISE)
+        lines.append(f"field {field.name} between {lo} {hi}")
+    return lines

@@ -1,0 +1,330 @@
+"""Each misuse of the program escrow_site, with its text and its status: the folder stays as it was."""
+from __future__ import annotations
+
+import hashlib
+import os
+import shutil
+import subprocess
+
+from gate_programs import Fault
+from site_model import World
+from site_program import ALONE, COMMIT, FIRST, SHOP, SOLD, Program, Site, files_of
+
+def header(field: str = "", sites: str = "2") -> str:
+    return SHOP.header().replace('"sites":2', f'"sites":{sites}').replace('"floor":0', field or '"floor":0')
+
+
+STOCK = SHOP.header()[len('{"sites":2,"fields":[') : -2]
+HEADERS = (
+    ("", "header S1: no JSON"),
+    ("{}\n", "header S2: another shape"),
+    (header(sites="65"), "header S3: the number of sites"),
+    ('{"sites":2,"fields":[]}', "header S4: the number of fields"),
+    (SHOP.header().replace("stock", "Stock"), "header S5: a field's name"),
+    (SHOP.header().replace(STOCK, f"{STOCK},{STOCK}"), "header S6: a name that is used twice"),
+    (header('"floor":41'), "header S7: a field's bounds"),
+    (SHOP.header().ljust(65_537), "header S9: more than 65536 bytes"),
+    (SHOP.header().replace(",", ",\n"), "the header isn't one line: write it as one line of JSON"),
+    (f"{SHOP.header()}\n\n", "the header isn't one line: write it as one line of JSON"),
+    (header(sites="1"), "no site 1: sites are numbered from 0"),
+)
+
+
+def site_text(number: str = "0", text: str = SHOP.header(), name: str = "", version: str = "1") -> str:
+    name = name or hashlib.sha256(text.encode()).hexdigest()
+    return f"escrow site {version}\nnumber {number}\nworld {name}\n{text}\n"
+
+
+NAME = SHOP.name()
+DAMAGED = "isn't as create wrote it: put it back from a copy"
+CHANGED = "the header was changed: put it back from a copy, as create wrote it"
+SITES = (
+    ("", "isn't of escrow site 1: serve it by the version that made it"),
+    (site_text(version="2"), "isn't of escrow site 1: serve it by the version that made it"),
+    (site_text()[:-1], DAMAGED),
+    (f"{site_text()}\n", DAMAGED),
+    (site_text(number="00"), DAMAGED),
+    (site_text().replace("number 0\n", ""), DAMAGED),
+    (site_text(text=SHOP.header().replace("100", "900"), name=NAME), CHANGED),
+    (site_text(text=SHOP.header().replace("40", "90"), name=NAME), CHANGED),
+    (site_text(name=NAME.upper()), CHANGED),
+    (site_text(text="{}"), "header S2: another shape"),
+    (site_text(number="2"), "its header has no such site: put it back from a copy, as create wrote it"),
+    (site_text(number="65536"), "its header has no such site: put it back from a copy, as create wrote it"),
+)
+
+# Logs that begin otherwise than one of site 0 of SHOP.
+OTHER_LOGS = (
+    b"",
+    b"R 1\n",
+    SHOP.log_name(0)[:-1],
+    SHOP.log_name(0).replace(b"log 1", b"log 2"),
+    SHOP.log_name(1),
+    SHOP.log_name(10) + b"R 1\n",
+    World(3, SHOP.fields).log_name(0) + b"R 1\n",
+)
+
+# Records that are none of site 0 of SHOP, each with the number of its first bad line.
+LOGS = (
+    (b"hello\n", 1),
+    (b"R 1\nhello\nR 2\n", 2),
+    (b"R 1\nR 1\n", 2),
+    (b"R 1\nC 1 1 0 -21\n", 2),
+    (b"R 1\nC 1 1 0 -20\nC 1 2 0 -1\n", 3),
+    (b"R 1\nG 0 0 l 5\n", 2),
+    (b"R 1\nC 1 1 1 -1\n", 2),
+)
+
+COMMAND_LINES: tuple[tuple[list[str], str], ...] = (
+    ([], "create"),
+    (["sell"], "sell"),
+    (["create"], "--schema"),
+    (["create", "shop", "--schema", "s", "--site", "-1"], "-1"),
+    (["create", "shop", "--schema", "s", "--site", "one"], "one"),
+    (["serve"], "FOLDER"),
+    (["serve", "shop", "--not-before", "1"], "--not-before"),
+    (["serve", "shop", "--not-before", "1", "two"], "two"),
+    (["serve", "shop", "more"], "more"),
+    (["show", "shop", "--no-sync"], "--no-sync"),
+    (["check"], "FOLDER"),
+    (["settle"], "FOLDER"),
+    (["weave"], "FOLDER"),
+    (["weave", "shop", "--trace"], "--trace"),
+)
+
+
+def refuses(program: Program, site: Site, words: list[str], status: int, told: str) -> None:
+    """A folder that is refused, twice, and stays as it was."""
+    before = files_of(site.folder)
+    for _ in range(2):
+        program.ends([words[0], site.folder, *words[1:]], status, "", told, COMMIT)
+    if files_of(site.folder) != before:
+        raise Fault(f"{site.folder}: refused, and changed: {told}")
+
+
+def refuse_command_lines(program: Program) -> None:
+    for words, named in COMMAND_LINES:
+        status, out, err = program.run(words)
+        if (status, out) != (2, "") or named not in err:
+            raise Fault(f"escrow_site {' '.join(words)}: {status}, {out!r}, {err!r}")
+
+
+def refuse_schemas(program: Program) -> None:
+    new = os.path.join(program.folder, "new")
+    for text, told in HEADERS:
+        schema = program.file("bad.json", text)
+        program.ends(["create", new, "--schema", schema, "--site", "1"], 2, "", f"{schema}: {told}")
+    words = ["create", new, "--schema", f"{new}.json", "--site", "1"]
+    program.ends(words, 2, "", f"{new}.json: {os.strerror(2)} (os error 2)")
+    if os.path.exists(new):
+        raise Fault(f"{new}: refused, and made")
+
+
+def refuse_folders(program: Program) -> None:
+    site = program.created("taken")
+    schema = os.path.join(program.folder, "schema.json")
+    there = f"{site.folder}: is there already: create takes a path at which nothing is"
+    refuses(program, site, ["create", "--schema", schema, "--site", "0"], 3, there)
+    nowhere = os.path.join(program.folder, "nowhere")
+    for word in ("serve", "show"):
+        program.ends([word, nowhere], 3, "", f"{nowhere}/site: isn't there: a site's folder is made by create")
+    for text, told in SITES:
+        program.file("taken/site", text)
+        for word in ("serve", "show"):
+            refuses(program, site, [word], 3, f"{site.folder}/site: {told}")
+
+
+def refuse_logs(program: Program) -> None:
+    site = program.created("bad_logs")
+    log = f"{site.folder}/log"
+    for text in OTHER_LOGS:
+        program.file("bad_logs/log", text.decode())
+        for word in ("serve", "show"):
+            refuses(program, site, [word], 3, f"{log}: isn't the log of this site: put its own newest log back")
+    for text, line in LOGS:
+        program.file("bad_logs/log", (SHOP.log_name(0) + text).decode())
+        for word in ("serve", "show"):
+            refuses(program, site, [word], 3, f"{log}: line {line} is no record of this site: put its own newest log back")
+    os.remove(log)
+    gone = f"{log}: isn't there: put the newest log back; a site without it would sell again what it sold"
+    for word in ("serve", "show"):
+        refuses(program, site, [word], 3, gone)
+
+
+def refuse_exchanged(program: Program) -> None:
+    """Two sites' logs, exchanged before anything was sold: each is lawful at the other site."""
+    sites = [program.created(f"exchanged{number}", SHOP, number) for number in (0, 1)]
+    texts = [files_of(site.folder)["log"] for site in sites]
+    for site, text in zip(sites, reversed(texts)):
+        program.file(f"exchanged{site.number}/log", text.decode())
+        refuses(program, site, ["serve"], 3, f"{site.folder}/log: isn't the log of this site: put its own newest log back")
+
+
+def refuse_old_copy(program: Program) -> None:
+    site = program.created("old")
+    copy = f"{site.folder}.copy"
+    program.ends(["serve", site.folder], 0, FIRST.format(1, 4, 1) + SOLD, "", COMMIT)
+    shutil.copyfile(f"{site.folder}/log", copy)
+    program.ends(["serve", site.folder, "--not-before", "1", "4"], 0, FIRST.format(2, 20, 2), "")
+    shutil.copyfile(copy, f"{site.folder}/log")
+    told = f"{site.folder}/log: epoch 1, length 16: older than --not-before: put the newest log back"
+    refuses(program, site, ["serve", "--not-before", "2", "20"], 3, told)
+    refuses(program, site, ["serve", "--not-before", "2", "0"], 3, told)
+    refuses(program, site, ["serve", "--not-before", "0", "17"], 3, told)
+
+
+NO_TRACE = "isn't there: only a site that was always served with --trace has one"
+NOT_ITS_TRACE = "isn't the trace of this site: put its own newest trace back"
+BEHIND = "is behind its log, which has records of no entry in it: put its own newest trace back"
+OPENED = "0 restart -> restarted 1 nothing\n"
+
+# Traces of site 0 of ALONE, which was restarted and then sold 20: what stands behind the name, and why it is refused.
+TRACES = (
+    ("", BEHIND),
+    (OPENED, BEHIND),
+    (OPENED + SOLD[:-1], BEHIND),
+    (OPENED + SOLD.replace("granted", "refused 7 short 5"), BEHIND),
+    (f"{OPENED}hello\n{SOLD}", "line 2 is no entry: put its own newest trace back"),
+    (OPENED + SOLD.replace("stock", "stack"), "line 3 is no entry: put its own newest trace back"),
+)
+
+
+def refuse_traces(program: Program) -> None:
+    site = program.created("untraced", ALONE)
+    program.ends(["serve", site.folder], 0, FIRST.format(1, 4, 1) + SOLD, "", COMMIT)
+    for words in (["serve", "--trace"], ["weave"]):
+        refuses(program, site, words, 3, f"{site.folder}/trace: {NO_TRACE}")
+    site = program.created("traced", ALONE)
+    trace, name = f"{site.folder}/trace", ALONE.trace_name(0).decode()
+    program.ends(["serve", site.folder, "--trace"], 0, FIRST.format(1, 4, 1) + SOLD, "", COMMIT)
+    refuses(program, site, ["serve"], 3, f"{trace}: is there: serve with --trace, so that it misses nothing")
+    told = [(name + text, why) for text, why in TRACES]
+    names = ("", name[:-1], ALONE.log_name(0).decode(), SHOP.trace_name(0).decode())
+    told += [(other + OPENED + SOLD, NOT_ITS_TRACE) for other in names]
+    for text, why in told:
+        program.file("traced/trace", text)
+        for words in (["serve", "--trace"], ["weave"]):
+            refuses(program, site, words, 3, f"{trace}: {why}")
+
+
+def cut_traces(program: Program) -> None:
+    """A trace that is ahead of its log is cut back to it, and woven so; remarks and a torn end are no entries."""
+    site = program.created("ahead", ALONE)
+    asked = b"0 begin\n0 escrow 1.1 stock -20\nkept 1.1\nhello\n0 commit 1.1\n"
+    sold = SOLD.replace("0 commit", "kept 1.1 -> no\nbad line 4 no command\n0 commit")
+    program.ends(["serve", site.folder, "--trace"], 0, FIRST.format(1, 4, 1) + sold, "", asked)
+    kept = ALONE.trace_name(0).decode() + OPENED + sold
+    if files_of(site.folder)["trace"].decode() != kept:
+        raise Fault(f"{site.folder}: the trace is {files_of(site.folder)['trace']!r}")
+    opened = "0 begin -> begun 1.2\n0 escrow 1.2 stock -5 -> granted\n"
+    program.file("ahead/trace", f"{kept}{opened}0 commit 1.2 -> committed\n0 begin -> begun 1.3\n0 beg")
+    program.ends(["weave", site.folder], 0, f"{ALONE.header()}\n{OPENED}{SOLD}{opened}", "")
+    program.ends(["serve", site.folder, "--trace"], 0, FIRST.format(2, 20, 2), "", b"")
+    again = OPENED.replace("1", "2")
+    if files_of(site.folder)["trace"].decode() != kept + opened + again:
+        raise Fault(f"{site.folder}: the trace is {files_of(site.folder)['trace']!r}")
+    program.ends(["weave", site.folder], 0, f"{ALONE.header()}\n{OPENED}{SOLD}{opened}{again}", "")
+
+
+def refuse_folder_lists(program: Program) -> None:
+    """Folders that aren't those of all sites of one world."""
+    first, second = (program.created(f"of_world{number}", SHOP, number).folder for number in (0, 1))
+    twin = program.created("twin").folder
+    other = program.created("of_another", World(3, SHOP.fields)).folder
+    for word in ("check", "settle", "weave"):
+        told = f"{other}: isn't of the world of {first}: name the folders of one world"
+        program.ends([word, first, second, other], 2, "", told)
+        told = f"{twin}: is of site 0, as {first} is: name one folder for each site"
+        program.ends([word, second, first, twin], 2, "", told)
+        nowhere = os.path.join(program.folder, "nowhere")
+        told = f"{nowhere}/site: isn't there: a site's folder is made by create"
+        program.ends([word, first, nowhere], 3, "", told)
+    told = "site 0: isn't among the folders: name the folders of all sites of the world"
+    for word in ("check", "weave"):
+        program.ends([word, second], 2, "", told)
+
+
+LOST = "the logs of these sites are lost: {}: put the newest ones back to settle"
+
+
+def refuse_worlds(program: Program) -> None:
+    """Logs that don't go together, and logs that are lost."""
+    first, second = (program.created(f"together{number}", SHOP, number).folder for number in (0, 1))
+    program.ends(["check", first, second], 0, f"world {NAME}\nsites 2\nfield stock value 40 floor 0 ceiling 100\n", "")
+    program.ends(["settle", second], 3, "field stock between 20 70\n", LOST.format(0))
+    log = f"{second}/log"
+    program.file("together1/log", f"{SHOP.log_name(1).decode()}R 1\nA 0 0 l 5\n")
+    told = "site 1 accepted 5 lower on stock from site 0, which gave 0"
+    told = f"{first}/log: {told}: this log is older than what it gave: put its newest log back"
+    for word in ("check", "settle"):
+        program.ends([word, first, second], 3, "", told)
+    program.file("together1/log", f"{SHOP.log_name(1).decode()}R 1\nR 1\n")
+    for word in ("check", "settle"):
+        told = f"{log}: line 2 is no record of this site: put its own newest log back"
+        program.ends([word, first, second], 3, "", told)
+    os.remove(log)
+    told = f"{log}: isn't there: put the newest log back; a site without it would sell again what it sold"
+    program.ends(["check", first, second], 3, "", told)
+    program.ends(["settle", first, second], 3, "field stock between 20 70\n", LOST.format(1))
+
+
+def refuse_too_much(program: Program) -> None:
+    """Sites that together have more than the field is wide, where the third log is lost."""
+    world = World(3, SHOP.fields)
+    first, second = (program.created(f"of_three{number}", world, number).folder for number in (0, 1))
+    program.ends(["settle", second], 3, "field stock between 13 80\n", LOST.format("0 2"))
+    program.file("of_three0/log", f"{world.log_name(0).decode()}A 2 0 l 66\n")
+    told = "the logs have more rights than it is wide: one is older than what its site gave"
+    told = f"field stock: {told}: put the newest ones back"
+    program.ends(["settle", first, second], 3, "", told)
+
+
+def refuse_old_trace(program: Program) -> None:
+    """Traces that don't go together: a site that accepted what the other's copy hasn't given yet."""
+    zero, one = (program.created(f"pair{number}", SHOP, number) for number in (0, 1))
+    copies = [(f"{zero.folder}/{it}", f"{zero.folder}.{it}") for it in ("log", "trace")]
+    program.ends(["serve", zero.folder, "--trace"], 0, FIRST.format(1, 4, 1), "", b"")
+    for path, copy in copies:
+        shutil.copyfile(path, copy)
+    given = FIRST.format(2, 8, 2) + "0 give 1 stock lower 5 -> given 5\n"
+    program.ends(["serve", zero.folder, "--trace"], 0, given, "", b"0 give 1 stock lower 5\n")
+    accepted = FIRST.format(1, 4, 1).replace("0 restart", "1 restart") + "1 accept 0 1 stock lower 5 -> accepted 5\n"
+    program.ends(["serve", one.folder, "--trace"], 0, accepted, "", b"1 accept 0 1 stock lower 5\n")
+    status, woven, err = program.run(["weave", one.folder, zero.folder])
+    if status or err or woven.index("given 5") > woven.index("accepted 5"):
+        raise Fault(f"weave of a gift: {status}, {woven!r}, {err!r}")
+    for path, copy in copies:
+        shutil.copyfile(copy, path)
+    told = "entry 2 of site 1 can't come next: another site's copy is older than this one's: copy all folders anew"
+    program.ends(["weave", zero.folder, one.folder], 3, "", told)
+
+
+def refuse_second(program: Program) -> None:
+    site = program.created("second")
+    how = {"stdin": subprocess.PIPE, "stdout": subprocess.PIPE, "env": {}}
+    process = program.children.start([program.path, "serve", site.folder], **how)
+    try:
+        process.stdout.readline()
+        refuses(program, site, ["serve"], 6, f"{site.folder}/log: in use: another process serves it")
+        status, out, err = program.run(["show", site.folder])
+        if status or err or "epoch 1\n" not in out:
+            raise Fault(f"{site.folder}: shown while served: {status}, {out!r}, {err!r}")
+    finally:
+        program.children.end(process)
+
+
+MISUSES = (
+    refuse_command_lines,
+    refuse_schemas,
+    refuse_folders,
+    refuse_logs,
+    refuse_exchanged,
+    refuse_old_copy,
+    refuse_folder_lists,
+    refuse_worlds,
+    refuse_too_much,
+    refuse_traces,
+    refuse_old_trace,
+    cut_traces,
+    refuse_second,
+)
