@@ -43,6 +43,7 @@ The scripts:
   alone.
 """
 
+import argparse
 import filecmp
 import os
 import shutil
@@ -250,7 +251,7 @@ def build_plain(folder):
 
 def build(folder):
     """The program, and the plain one where there is a compiler for it."""
-    subprocess.run([os.path.join(TOP, "escrow"), "--help"], stdout=subprocess.DEVNULL, check=True)
+    subprocess.run([os.path.join(TOP, "escrow"), "prove"], check=True)
     program = os.path.join(TOP, "crates", "escrow", "out", "escrow")
     return program, build_plain(folder)
 
@@ -397,24 +398,35 @@ def desks(lines, plain, turns):
         print(f"{told}  load {os.getloadavg()[0]:.1f}")
 
 
+def read_words():
+    """What the command line asks for. Nothing is built or run before it was read."""
+    parser = argparse.ArgumentParser(description=__doc__, formatter_class=argparse.RawDescriptionHelpFormatter)
+    parser.add_argument("lines", type=int, nargs="?", default=1_000_000, help="1,000 or more")
+    parser.add_argument("turns", type=int, nargs="?", default=5, help="1 or more")
+    parts = parser.add_mutually_exclusive_group()
+    for part in ("audit", "restarts", "desk", "work"):
+        parts.add_argument(f"--{part}", dest="part", action="store_const", const=part, help="these rows alone")
+    asked = parser.parse_args()
+    if asked.lines < 1_000 or asked.turns < 1:
+        parser.error("too few lines or turns")
+    return asked
+
+
 def main():
-    words = [word for word in sys.argv[1:] if not word.startswith("--")]
-    lines = int(words[0]) if words else 1_000_000
-    turns = int(words[1]) if len(words) > 1 else 5
-    if lines < 1_000 or turns < 1:
-        sys.exit(__doc__)
+    asked = read_words()
+    lines, turns = asked.lines, asked.turns
     with tempfile.TemporaryDirectory() as folder:
-        if "--desk" in sys.argv:
+        if asked.part == "desk":
             desks(lines, build_plain(folder), turns)
             return
         programs = build(folder)
-        if "--audit" in sys.argv:
+        if asked.part == "audit":
             audits(lines, folder, programs, turns)
             return
-        if "--work" in sys.argv:
+        if asked.part == "work":
             works(lines, folder, programs[0], turns)
             return
-        if "--restarts" in sys.argv:
+        if asked.part == "restarts":
             restarts(lines, folder, programs[0], turns)
             return
         compare("one site", one_site(lines // 10, 1), folder, programs, turns)

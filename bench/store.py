@@ -20,7 +20,8 @@ The rows:
 - `redis N clients`: a script that tests the bound and lowers one key; by redis-benchmark, over a socket, `appendfsync
   always`. With `-P 64` each client has 64 of them under way.
 
-Needs Linux, the built program (`rt ci` or `rt run` leave it in crates/escrow_site/out), and `rustc` for the plain one.
+Needs Linux, the program (where `rt ci` or `rt run` left none in crates/escrow_site/out, the packed one, which `./escrow_site`
+unpacks), and `rustc` for the plain one.
 """
 
 import argparse
@@ -100,9 +101,10 @@ def running(words: list[str], **how: object) -> Iterator[subprocess.Popen]:
 
 
 def site_rows(folder: str) -> Iterator[Row]:
-    program = os.path.join(TOP, "crates", "escrow_site", "out", "escrow_site")
-    if not os.path.exists(program):
-        print("skipped: escrow_site, which isn't built here")
+    places = (os.path.join(TOP, *place, "out", "escrow_site") for place in (("crates", "escrow_site"), ("packed",)))
+    program = next(filter(os.path.exists, places), None)
+    if program is None:
+        print("skipped: escrow_site, which is neither built nor unpacked here")
         return
     header, kept = os.path.join(folder, "header"), os.path.join(folder, "site")
     with open(header, "w", encoding="ascii") as file:
@@ -266,9 +268,9 @@ def tell(rows: list[Row], turns: list[dict[str, float]]) -> None:
 
 
 def main() -> None:
-    parser = argparse.ArgumentParser(description="Durable commits a second on one hot field.")
-    parser.add_argument("seconds", type=float, nargs="?", default=2.0)
-    parser.add_argument("turns", type=int, nargs="?", default=7)
+    parser = argparse.ArgumentParser(description=__doc__, formatter_class=argparse.RawDescriptionHelpFormatter)
+    parser.add_argument("seconds", type=float, nargs="?", default=2.0, help="of each row in a turn")
+    parser.add_argument("turns", type=int, nargs="?", default=7, help="of all rows, one after another")
     parser.add_argument("--folder", default=None, help="where all keep their files")
     given = parser.parse_args()
     with contextlib.ExitStack() as stack:

@@ -24,7 +24,10 @@ Example:
 Statuses: 0 done; 1 a read or write failed, or the input is too long;
 2 the command line, the header or a line of `work` is refused; 3 the audit found
 an entry that is illegal, or a line that is no entry, or `work` came to no trace;
-4 out of memory.";
+4 out of memory.
+
+The help of each command tells its lines, its faults and its statuses. Every line,
+reply, refusal and fault: docs/FORMATS.md.";
 
 const RUN_ABOUT: &str = "Answers the script on standard input, line by line";
 
@@ -53,8 +56,32 @@ divided evenly among the sites. Each other line is a command at a site:
                                 field's committed value is TARGET
 
 ` torn N` behind a line tears what it appends after N bytes. Each line is
-answered by its command, an arrow and the reply. Any other line is answered by
-`bad line`, and changes nothing.
+answered by its command, an arrow and the reply; a reply as `refused 7 short 20`
+has the number of the refusal, its word, and here how many rights the site has.
+Any other line, as one with a site or a field that the header hasn't, a second
+space, a capital or a comment, is answered by `bad line`, and changes nothing. A
+line behind the header has at most 256 bytes, and a script 1,000,000 lines and
+268,435,456 bytes.
+
+Statuses, with what is told of a fault on standard error:
+
+  0                     all lines are answered; refusals and bad lines are answers
+  1  read fault         standard input can't be read
+     write fault        standard output can't be written
+     input too long     there are more lines or bytes than that
+  2  header S1          line 1 is no JSON
+     header S2          it has another shape: a key too many or missing, a value
+                        of another type, a number that isn't whole
+     header S3          the number of sites isn't 1 to 64
+     header S4          the number of fields isn't 1 to 256
+     header S5          a field's name isn't 1 to 32 of a-z, 0-9 and _
+     header S6          a name is used twice
+     header S7          a field's bounds aren't floor <= value <= ceiling, each of
+                        them from -10^15 to 10^15
+     header S9          it has more than 65,536 bytes
+  4  out of memory      S8, or want of memory later
+
+Every line, reply, refusal and fault: docs/FORMATS.md.
 
 Example input:
   {\"sites\":1,\"fields\":[{\"name\":\"stock\",\"floor\":0,\"ceiling\":100,\"value\":40}]}
@@ -80,6 +107,14 @@ told to its receiver, which accepts it.
 The header is written, and then what all sites did, as one trace that `escrow
 audit` finds legal. Its order may differ from run to run.
 
+Statuses and faults are those of `escrow run`, whose help lists S1 to S9, and:
+
+  2  bad line L         line L is no such command; the header is line 1
+  3  work fault, stuck, illegal
+                        the sites came to no trace
+
+Every line, reply, refusal and fault: docs/FORMATS.md.
+
 Example input:
   {\"sites\":2,\"fields\":[{\"name\":\"stock\",\"floor\":0,\"ceiling\":100,\"value\":40}]}
   0 give 1 stock lower 5
@@ -103,6 +138,10 @@ One line is written:
                     that it breaks: site, grant, shortage, interval, statement
                     or reply
   bad entry L       line L is the first that is neither an entry nor a remark
+
+The status is 0 where it is legal, and else 3. The other statuses and faults are
+those of `escrow run`, whose help lists S1 to S9. What each rule asks for, and
+every line: docs/FORMATS.md and docs/DEFINITIONS.md.
 
 Example input:
   {\"sites\":1,\"fields\":[{\"name\":\"stock\",\"floor\":0,\"ceiling\":100,\"value\":40}]}
