@@ -73,7 +73,8 @@ def read_trace(text, name):
 
 # ---- what the entries come to
 
-Front = namedtuple("Front", "value inf sup floor ceiling intervals")
+Front = namedtuple("Front", "value inf sup floor ceiling sites")
+Known = namedtuple("Known", "low high floor ceiling free")
 Gift = namedtuple("Gift", "start giver end receiver")
 
 
@@ -99,11 +100,14 @@ class Store:
         self.field, self.name, self.value = trace.field, trace.field.name, trace.field.value
         self.sites = [Site(trace.field, number, trace.sites) for number in range(trace.sites)]
 
-    def interval(self, site):
-        """What a read at the site would answer; a site that is down answers none."""
-        low = self.field.floor + site.own["lower"] + site.cut["lower"]
-        high = self.field.ceiling - site.own["raise"] - site.cut["raise"]
-        return (low, high) if site.is_up else (None, None)
+    def known(self, site):
+        """What a read at the site would answer, the bounds as its own tightenings moved them, and its free rights by
+        kind; of a site that is down nothing."""
+        if not site.is_up:
+            return None
+        floor, ceiling = self.field.floor + site.cut["lower"], self.field.ceiling - site.cut["raise"]
+        free = {kind: own - site.held(kind) for kind, own in site.own.items()}
+        return Known(floor + site.own["lower"], ceiling - site.own["raise"], floor, ceiling, free)
 
     def front(self):
         """What is drawn behind the entries so far."""
@@ -111,7 +115,7 @@ class Store:
                      self.value + sum(site.held("raise") for site in self.sites),
                      self.field.floor + sum(site.cut["lower"] for site in self.sites),
                      self.field.ceiling - sum(site.cut["raise"] for site in self.sites),
-                     [self.interval(site) for site in self.sites])
+                     [self.known(site) for site in self.sites])
 
     def take(self, entry):
         """One more entry. What is in doubt takes effect where the next restart finds it kept."""
