@@ -22,6 +22,7 @@ use crate::accounts::Accounts;
 use crate::extent::Extent;
 use escrow_journal::Journal;
 use field_bounds::{Command, Entry, FieldNo, Kind, Reply, Schema, SiteNo, by_command};
+use history::{GhostHistory, History};
 use kept_records::{Medium, Mishap, Record, TornMedium};
 pub use opening::OpenFault;
 use opening::{Found, read_base};
@@ -37,13 +38,14 @@ use std::marker::Model;
 /// Source: O'Neil 1986 for escrows and the test of a grant, Balegas and others 2015 for rights that
 /// a site holds and transfers, this project for what it keeps and its restarts.
 #[derive(Drop)]
-pub struct Site<M: Medium> {
+pub struct Site<M: Medium, H: History<Entry> = Vec<Entry>> {
     schema: Schema,
     number: SiteNo,
     medium: M,
     fresh: bool,
-    based: Vec<Record>,
-    history: Vec<Entry>,
+    // What is in it only proofs see.
+    based: GhostHistory<Record>,
+    history: H,
     up: bool,
     extent: Extent,
     doubt: Option<usize>,
@@ -53,40 +55,29 @@ pub struct Site<M: Medium> {
     line: Vec<u8>,
 }
 
-impl<M: Medium> Model for Site<M> {
+impl<M: Medium, H: History<Entry>> Model for Site<M, H> {
     ghost use Rattle.site_step.specs.Site.{SiteValue, value_of};
     ghost use Rattle.site_step.specs.State.{IsSoundSite};
 
     ghost Value = { SiteValue };
 
-    ghost view = { λ s. value_of s.schema s.number s.fresh s.based.items s.history.items
+    ghost view = { λ s. value_of s.schema s.number s.fresh s.based.list.items (H.items s.history)
         (M.bytes s.medium) (M.failed s.medium) (M.foretold s.medium) s.doubt s.replayed };
 
-    ghost invariant = { λ s. IsSoundSite (value_of s.schema s.number s.fresh s.based.items
-        s.history.items (M.bytes s.medium) (M.failed s.medium)
+    ghost invariant = { λ s. IsSoundSite (value_of s.schema s.number s.fresh s.based.list.items
+        (H.items s.history) (M.bytes s.medium) (M.failed s.medium)
         (M.foretold s.medium) s.doubt s.replayed) s.up s.extent s.accounts };
 }
 
-impl<M: Medium> Site<M> {
-    /// Opens a site over a medium, which stays as it is. Over an empty one the site is up at epoch
-    /// 0 with its parts as free rights. Over any other it is down, and stands on the records that
-    /// the medium holds, once it is restarted: bytes behind the last line feed are a torn record,
-    /// and are left out. Its history is empty.
-    ///
-    /// A fault hands the medium back. `Device`: the device failed in its one read, which a mishap
-    /// for reads makes it do; where it is known that none strikes, this never comes, and where one
-    /// struck it is used up. `Line(n)`: line n, from 1, is the first that is no record or breaks a
-    /// rule of a kept log; that never comes over what a site left, wherever a stop fell.
-    /// `NoMemory`: memory is wanting.
-    ///
-    /// Reads the medium once, and keeps its records. Costs one row for each field, and one more for
-    /// each site and field.
-    pub fn open(
+impl<M: Medium, H: History<Entry>> Site<M, H> {
+    /// Opens a site as `open` does, whose history goes where the type says: `Site::open_with` of a
+    /// `Site<M, GhostHistory<Entry>>` makes one that keeps no entry, and answers alike.
+    pub fn open_with(
         alloc: Global,
         schema: Schema,
         site: SiteNo,
         medium: M,
-    ) -> Result<Site<M>, (OpenFault, M)>
+    ) -> Result<Site<M, H>, (OpenFault, M)>
         requires in_schema { site.0 < schema.sites }
         ensures ok { IfOk result (λ made. Opens schema site (M.bytes medium)
             (M.failed medium) made) }
@@ -118,8 +109,8 @@ impl<M: Medium> Site<M> {
                 number: site,
                 medium,
                 fresh,
-                based: records,
-                history: Vec::new(alloc),
+                based: GhostHistory::of(records),
+                history: H::of(Vec::new(alloc)),
                 up: fresh,
                 extent,
                 doubt: None,
@@ -148,16 +139,6 @@ impl<M: Medium> Site<M> {
         ensures value { result ≡ is_up (base_of self.now) self.now.history }
     {
         self.up
-    }
-
-    /// The commands answered so far with their replies, the oldest first: a run of owed replies,
-    /// and the medium holds the records that they leave. Costs no memory.
-    pub fn history(&self) -> &[Entry]
-        ensures value { reverse result.now ≡ self.now.history }
-        ensures run { IsRun self.now.schema self.now.site.0 (base_of self.now) self.now.history }
-        ensures holds { HoldsLog self.now }
-    {
-        &self.history
     }
 
     /// How many records the last Restart replayed that read the medium and wasn't refused, and 0
@@ -240,7 +221,58 @@ impl<M: Medium> Site<M> {
     }
 }
 
-impl Site<TornMedium> {
+impl<M: Medium> Site<M, Vec<Entry>> {
+    /// Opens a site over a medium, which stays as it is. Over an empty one the site is up at epoch
+    /// 0 with its parts as free rights. Over any other it is down, and stands on the records that
+    /// the medium holds, once it is restarted: bytes behind the last line feed are a torn record,
+    /// and are left out. Its history is empty.
+    ///
+    /// A fault hands the medium back. `Device`: the device failed in its one read, which a mishap
+    /// for reads makes it do; where it is known that none strikes, this never comes, and where one
+    /// struck it is used up. `Line(n)`: line n, from 1, is the first that is no record or breaks a
+    /// rule of a kept log; that never comes over what a site left, wherever a stop fell.
+    /// `NoMemory`: memory is wanting.
+    ///
+    /// Reads the medium once, and keeps its records. Costs one row for each field, and one more for
+    /// each site and field.
+    pub fn open(
+        alloc: Global,
+        schema: Schema,
+        site: SiteNo,
+        medium: M,
+    ) -> Result<Site<M>, (OpenFault, M)>
+        requires in_schema { site.0 < schema.sites }
+        ensures ok { IfOk result (λ made. Opens schema site (M.bytes medium)
+            (M.failed medium) made) }
+        ensures mishap { IfOk result (λ made. made.foretold ≡ M.foretold medium) }
+        ensures nothing { IfOk result (λ made. M.bytes medium ≡ [] → Finds made 0 Nothing) }
+        ensures line { IfErr result (λ refused. TellsLine schema site.0
+            (M.bytes medium) refused.0) }
+        ensures never { IfErr result (λ refused. SparesLogs schema site.0
+            (M.bytes medium) refused.0) }
+        ensures bytes { IfErr result (λ refused. M.bytes refused.1 ≡ M.bytes medium) }
+        ensures failed { IfErr result (λ refused. M.failed refused.1
+            ≡ failed_at refused.0 (M.failed medium)) }
+        ensures foretold { IfErr result (λ refused. M.foretold refused.1
+            ≡ foretold_at refused.0 (M.foretold medium)) }
+        ensures device { IfErr result (λ refused. FailsUnder refused.0 (M.foretold medium)) }
+        ensures read { IfOk result (λ made. M.foretold medium ≡ Some Read → ⊥) }
+    {
+        Site::open_with(alloc, schema, site, medium)
+    }
+
+    /// The commands answered so far with their replies, the oldest first: a run of owed replies,
+    /// and the medium holds the records that they leave. Costs no memory.
+    pub fn history(&self) -> &[Entry]
+        ensures value { reverse result.now ≡ self.now.history }
+        ensures run { IsRun self.now.schema self.now.site.0 (base_of self.now) self.now.history }
+        ensures holds { HoldsLog self.now }
+    {
+        &self.history
+    }
+}
+
+impl<H: History<Entry>> Site<TornMedium, H> {
     /// Sets the mishap that strikes the site's medium next, in place of the one before, and changes
     /// nothing else. Where the count of failures is at the greatest `u64`, none strikes. Costs no
     /// memory.

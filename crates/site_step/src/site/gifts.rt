@@ -6,13 +6,15 @@ ghost use Rattle.site_step.specs.Site.{here, base_of, Applies};
 
 use super::Site;
 use field_bounds::{
-    Command, FieldNo, Kind, MAX_CHANGE, MAX_TOTAL, Refusal, Reply, SiteNo, Statement, refuse_first,
+    Command, Entry, FieldNo, Kind, MAX_CHANGE, MAX_TOTAL, Refusal, Reply, SiteNo, Statement,
+    refuse_first,
 };
+use history::History;
 use kept_records::{Medium, Record};
 use rebalance::spare_amount;
 use std::alloc::{AllocError, Global};
 
-impl<M: Medium> Site<M> {
+impl<M: Medium, H: History<Entry>> Site<M, H> {
     fn knows(&self, site: SiteNo) -> bool
         ensures { result ≡ nat_lt site.0 self.now.schema.sites }
     {

@@ -5,10 +5,11 @@ ghost use Rattle.field_bounds.specs.Effects.{fresh};
 ghost use Rattle.site_step.specs.Site.{base_of};
 
 use super::Site;
-use field_bounds::{Schema, SiteNo};
+use field_bounds::{Entry, Schema, SiteNo};
+use history::History;
 use kept_records::Medium;
 
-impl<M: Medium> Site<M> {
+impl<M: Medium, H: History<Entry>> Site<M, H> {
     /// Whether the site has this number, and its schema equals this one. Costs a look at each
     /// field, and no memory.
     pub fn is_of(&self, schema: &Schema, number: SiteNo) -> bool

@@ -15,10 +15,11 @@ ghost use Rattle.site_step.specs.State.{is_carried};
 use super::Site;
 use crate::extent::due_behind;
 use field_bounds::{Command, Entry, Escrow, FieldNo, Kind, Refusal, Reply, TxnId};
+use history::History;
 use kept_records::{Escrows, Medium, Record, Summary, append_piece};
 use std::alloc::{AllocError, Global};
 
-impl<M: Medium> Site<M> {
+impl<M: Medium, H: History<Entry>> Site<M, H> {
     /// Adds the entry of a refusal.
     pub(super) fn refuse(&mut self, command: Command, refusal: Refusal) -> Result<Reply, AllocError>
         requires refused { first (refusals (here self.old) command) ≡ Some refusal }

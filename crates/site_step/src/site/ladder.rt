@@ -8,9 +8,10 @@ ghost use Rattle.site_step.specs.Site.{here, base_of};
 
 use super::Site;
 use field_bounds::{
-    Command, FieldNo, Kind, MAX_CHANGE, MAX_ESCROWS, MAX_NUMBER, MAX_OPEN, Refusal, TxnId,
+    Command, Entry, FieldNo, Kind, MAX_CHANGE, MAX_ESCROWS, MAX_NUMBER, MAX_OPEN, Refusal, TxnId,
     by_command, refuse_first,
 };
+use history::History;
 use kept_records::Medium;
 
 /// A floor raised by rights.
@@ -31,7 +32,7 @@ fn lower_by(bound: i64, by: u64) -> i64
     bound - by as i64
 }
 
-impl<M: Medium> Site<M> {
+impl<M: Medium, H: History<Entry>> Site<M, H> {
     pub(super) fn has(&self, field: FieldNo) -> bool
         ensures { result ≡ nat_lt field.0 (length self.now.schema.fields) }
     {

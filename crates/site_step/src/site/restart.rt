@@ -14,6 +14,7 @@ ghost use Rattle.site_step.specs.Resuming.{IsLawfulLog, IsReplayed, ResumesOver,
 use super::Site;
 use crate::extent::due_behind;
 use field_bounds::{Command, Entry, Last, MAX_EPOCH, Refusal, Reply, Schema, SiteNo};
+use history::History;
 use kept_records::{
     Medium, MediumFault, ReadBack, Record, append_restart_piece, count_plain, read_back,
     starts_with_no_restart,
@@ -160,9 +161,9 @@ fn last_of(doubt: Option<usize>, behind: &[Record]) -> Last
 }
 
 /// Adds the entry of a restart to a history that has room for it.
-fn tell(history: &mut Vec<Entry>, site: SiteNo, reply: Reply)
-    requires room { vec_len history.old < vec_capacity history.old }
-    ensures told { history.new.items ≡ history.old.items
+fn tell<H: History<Entry>>(history: &mut H, site: SiteNo, reply: Reply)
+    requires room { H.has_room history.old 1 }
+    ensures told { H.items history.new ≡ H.items history.old
         ++ record { site = site; command = commands.Restart; reply = reply } ∷ [] }
 {
     history.push_reserved(Entry {
@@ -172,7 +173,7 @@ fn tell(history: &mut Vec<Entry>, site: SiteNo, reply: Reply)
     });
 }
 
-impl<M: Medium> Site<M> {
+impl<M: Medium, H: History<Entry>> Site<M, H> {
     pub(super) fn restart(&mut self, alloc: Global) -> Result<Reply, AllocError>
         ensures ok { IfOk result (λ reply. Applies self.old commands.Restart reply self.new) }
         ensures err { OnErr result (self.new ≡ self.old) }

@@ -5,11 +5,12 @@ ghost use Rattle.field_bounds.specs.Owed.{first, refusals, cut_so_far, max_chang
 ghost use Rattle.site_step.specs.Site.{here, base_of, Applies};
 
 use super::Site;
-use field_bounds::{Command, FieldNo, Kind, MAX_CHANGE, Refusal, Reply, refuse_first};
+use field_bounds::{Command, Entry, FieldNo, Kind, MAX_CHANGE, Refusal, Reply, refuse_first};
+use history::History;
 use kept_records::{Medium, Record};
 use std::alloc::{AllocError, Global};
 
-impl<M: Medium> Site<M> {
+impl<M: Medium, H: History<Entry>> Site<M, H> {
     /// What the site has given up so far of a kind on the field.
     fn cut_so_far(&self, field: FieldNo, kind: Kind) -> u64
         requires up { is_up (base_of self.now) self.now.history ≡ true }

@@ -63,10 +63,9 @@ reach-requires g c =
         arith,
         few_more s c.self.view_is c.in-Standing.behind.items did.2,
         many,
-        length-reverse i.history.items,
-        i.history.ok,
-        i.history.small,
-        i.based.ok,
+        length-reverse (g.H.History.items i.history),
+        g.met.H.History.few i.history,
+        i.based.counted,
         i.based.small,
       );
     }

@@ -20,10 +20,9 @@ extend-requires g c =
       few = omega (
         arith,
         few_written c.self.invariant c.self.view_is c.args.command c.requires.unrefused c.requires.told,
-        length-reverse i.history.items,
-        i.history.ok,
-        i.history.small,
-        i.based.ok,
+        length-reverse (g.H.History.items i.history),
+        g.met.H.History.few i.history,
+        i.based.counted,
         i.based.small,
       );
     }
