@@ -13,6 +13,7 @@ use crate::bad_line::add_bad;
 use crate::kept::KeptCommits;
 use entry_text::append_entry;
 use field_bounds::{Command, Entry, Schema, TxnId};
+use history::GhostHistory;
 use kept_records::MemoryMedium;
 use site_step::Site;
 use std::alloc::{AllocError, Global};
@@ -36,7 +37,7 @@ fn add_entry(out: &mut Vec<u8>, schema: &Schema, entry: Entry) -> Result<(), All
 /// the command may have been carried out.
 pub(crate) fn carry_out(
     alloc: Global,
-    site: &mut Site<MemoryMedium>,
+    site: &mut Site<MemoryMedium, GhostHistory<Entry>>,
     schema: &Schema,
     out: &mut Vec<u8>,
     command: Command,
@@ -114,7 +115,7 @@ fn tell_commit(
 /// have been carried out. The answer to a line that is too long is that to each such line.
 pub(crate) fn answer_line(
     alloc: Global,
-    site: &mut Site<MemoryMedium>,
+    site: &mut Site<MemoryMedium, GhostHistory<Entry>>,
     schema: &Schema,
     kept: &mut KeptCommits,
     out: &mut Vec<u8>,

@@ -9,8 +9,9 @@ ghost use Rattle.file_medium.specs.Copies.{IsCopyOf};
 ghost use Rattle.site_service.specs.Opening.{HoldsLines};
 ghost use Rattle.site_service.specs.Service.{IsWhole};
 
-use field_bounds::{Schema, SiteNo};
+use field_bounds::{Entry, Schema, SiteNo};
 use file_medium::{FileFailed, LogFile, read_whole};
+use history::GhostHistory;
 use kept_records::{MediumFault, MemoryMedium};
 use memchr::memrchr;
 use site_step::{OpenFault, Site};
@@ -74,7 +75,7 @@ pub(crate) fn open_site(
     schema: &Schema,
     number: SiteNo,
     held: Vec<u8>,
-) -> Result<Site<MemoryMedium>, OpenFault>
+) -> Result<Site<MemoryMedium, GhostHistory<Entry>>, OpenFault>
     requires in_schema { number.0 < schema.now.sites }
     requires whole { last_part held.items ≡ [] }
     ensures opens { IfOk result (Opens schema.now number held.items 0) }
@@ -83,7 +84,7 @@ pub(crate) fn open_site(
     ensures never { IfErr result (SparesLogs schema.now number.0 held.items) }
 {
     let own = schema.copy()?;
-    match Site::open(alloc, own, number, MemoryMedium::new(held)) {
+    match Site::open_with(alloc, own, number, MemoryMedium::new(held)) {
         Ok(site) => Ok(site),
         Err((fault, _medium)) => Err(fault),
     }

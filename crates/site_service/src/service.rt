@@ -14,8 +14,9 @@ use crate::fault::ServeFault;
 use crate::following::{add_safely, let_out};
 use crate::kept::KeptCommits;
 use crate::opening::{open_site, read_lines};
-use field_bounds::{Command, Schema, SiteNo, TxnId};
+use field_bounds::{Command, Entry, Schema, SiteNo, TxnId};
 use file_medium::{FileFailed, LogFile};
+use history::GhostHistory;
 use kept_records::{Device, MemoryMedium};
 use script_input::Sink;
 use site_step::{OpenFault, Site};
@@ -34,10 +35,11 @@ use std::marker::Model;
 /// file and those that are safe, as far as it tells them; how many of the medium's bytes are
 /// settled; and whether the file has failed. At all times the safe bytes are the settled ones of
 /// the medium, and so are those of the file, unless it has failed. Costs memory for the log once,
-/// for the site's records and history, and for the text that waits. Source: this project.
+/// for the text that waits, and for the commits that were asked for: none for the records before,
+/// nor for the answers. Source: this project.
 #[derive(Drop)]
 pub struct Service<F: LogFile> {
-    site: Site<MemoryMedium>,
+    site: Site<MemoryMedium, GhostHistory<Entry>>,
     schema: Schema,
     kept: KeptCommits,
     lines: u64,
@@ -69,7 +71,8 @@ impl<F: LogFile + Drop> Service<F> {
     /// `Line(n)`: line n of the log, from 1, is the first that is no record or breaks a rule of a
     /// kept log; that never comes over what a service left, wherever a stop fell. `Device`: a call
     /// of a file failed. `NoMemory`: memory is wanting. Either lets go of the log. Costs two syncs
-    /// of the log and one of the trace, and memory for the bytes of the log and for its records.
+    /// of the log and one of the trace, memory for the bytes of the log, and for its records until it is
+    /// open.
     pub fn open<T: LogFile>(
         alloc: Global,
         schema: Schema,
@@ -109,7 +112,7 @@ impl<F: LogFile + Drop> Service<F> {
 
 impl<F: LogFile> Service<F> {
     /// The site, to be looked at. Costs no memory.
-    pub fn site(&self) -> &Site<MemoryMedium>
+    pub fn site(&self) -> &Site<MemoryMedium, GhostHistory<Entry>>
         ensures value { result.now ≡ self.now.served.site }
     {
         &self.site

@@ -14,6 +14,7 @@ ghost use Rattle.world_steps.specs.Standing.{Once, AllFollow, AreCalm};
 
 use crate::step::WorldStep;
 use field_bounds::{Command, Entry, Reply, SiteNo, Statement, statement_of};
+use history::GhostHistory;
 use kept_records::{Mishap, TornMedium};
 use kept_state::Luck;
 use site_step::Site;
@@ -76,7 +77,7 @@ pub(crate) fn luck_of(step: &WorldStep) -> Luck
 /// One command at a site, with its luck: a mishap is armed where that is torn, and nothing is armed
 /// after it.
 fn apply_once(
-    site: &mut Site<TornMedium>,
+    site: &mut Site<TornMedium, GhostHistory<Entry>>,
     alloc: Global,
     command: Command,
     luck: Luck,
@@ -98,7 +99,7 @@ fn apply_once(
 
 /// One command at one of the sites, with its luck.
 pub(crate) fn apply_at(
-    sites: &mut [Site<TornMedium>],
+    sites: &mut [Site<TornMedium, GhostHistory<Entry>>],
     alloc: Global,
     number: SiteNo,
     command: Command,

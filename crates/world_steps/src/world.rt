@@ -15,6 +15,7 @@ use crate::beside_trace::StepNotes;
 use crate::step::{StepReply, WorldStep};
 use crate::stepping::{apply_at, luck_of, note, question_of};
 use field_bounds::{Entry, FieldNo, Schema, SiteNo, Statement};
+use history::GhostHistory;
 use kept_records::TornMedium;
 use site_step::{OpenFault, Site};
 use std::alloc::{AllocError, Global};
@@ -22,11 +23,11 @@ use std::marker::Model;
 
 /// All sites of a schema, each over a medium in memory that is torn where a step says so. Contracts
 /// see the schema and the steps taken, in order: all else is told by these. Of the steps a world
-/// keeps only what its trace doesn't tell.
+/// keeps only what its trace doesn't tell, and its sites keep no history.
 #[derive(Drop)]
 pub struct World {
     schema: Schema,
-    sites: Vec<Site<TornMedium>>,
+    sites: Vec<Site<TornMedium, GhostHistory<Entry>>>,
     trace: Vec<Entry>,
     steps: StepNotes,
     issued: Vec<Statement>,
@@ -45,11 +46,15 @@ impl Model for World {
 }
 
 /// A site over an empty medium, which won't fail: the only fault is want of memory.
-fn fresh_site(alloc: Global, schema: Schema, site: SiteNo) -> Result<Site<TornMedium>, AllocError>
+fn fresh_site(
+    alloc: Global,
+    schema: Schema,
+    site: SiteNo,
+) -> Result<Site<TornMedium, GhostHistory<Entry>>, AllocError>
     requires in_schema { site.0 < schema.sites }
     ensures stands { IfOk result (λ made. Follows schema site.0 [] 0 made) }
 {
-    match Site::open(alloc, schema, site, TornMedium::new(Vec::new(alloc))) {
+    match Site::open_with(alloc, schema, site, TornMedium::new(Vec::new(alloc))) {
         Ok(made) => Ok(made),
         Err((OpenFault::NoMemory, _)) => Err(AllocError),
         Err((OpenFault::Device, _)) => unreachable!(),
@@ -58,7 +63,10 @@ fn fresh_site(alloc: Global, schema: Schema, site: SiteNo) -> Result<Site<TornMe
 }
 
 /// The sites of a schema, each over an empty medium.
-fn fresh_sites(alloc: Global, schema: &Schema) -> Result<Vec<Site<TornMedium>>, AllocError>
+fn fresh_sites(
+    alloc: Global,
+    schema: &Schema,
+) -> Result<Vec<Site<TornMedium, GhostHistory<Entry>>>, AllocError>
     ensures count { IfOk result (λ sites. length sites.items ≡ schema.now.sites) }
     ensures stand { IfOk result (λ sites. AllFollow schema.now [] 0 sites.items) }
 {
