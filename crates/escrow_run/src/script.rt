@@ -68,6 +68,7 @@ impl Script {
 
     // Answers the next line, or writes what is to be written and reads more, and tells whether
     // there may be more.
+    #[inline(always)]
     fn take_next<R: Source, W: Sink>(
         &mut self,
         reader: &mut R,

@@ -46,6 +46,14 @@ pub record IsDue (r : LineReader) : Type 0 where
   pub lines : (r.lines < 1000000) ⊎ ((pending r ≡ []) × (r.passed ≡ 0))
   pub not_ended : r.ended ≡ false
 
+-- A line of so many bytes that its LF follows can be given as it is: none of it was passed over, it has at most `most` bytes, and
+-- it is within the limits.
+pub record IsPlain (r : LineReader) (count most : ℕ) : Type 0 where
+  pub none : r.passed ≡ 0
+  pub short : count ≤ most
+  pub lines : r.lines < 1000000
+  pub bytes : r.taken + count < 268435456
+
 -- Bytes are passed over only of a line of which some were.
 pub record PassesOn (old new : LineReader) : Type 0 where
   pub none : old.passed ≡ 0 → new.passed ≡ 0

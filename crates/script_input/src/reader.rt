@@ -1,6 +1,6 @@
 //! The lines of an input, one by one, and its limits.
 
-ghost use Rattle.std.specs.Prelude.{◌≡◌, ◌≢◌, ℕ, List, ◌+◌, ◌-◌, ◌<◌, ◌≤◌, ◌⊎◌, [], ◌∷◌, ◌++◌, length, take, drop, All, true, false, IfOk, OnOk, OnErr, IfErr, IfNone, IfSome, Option, Ok};
+ghost use Rattle.std.specs.Prelude.{◌≡◌, ◌≢◌, ℕ, List, ◌+◌, ◌-◌, ◌<◌, ◌≤◌, ◌⊎◌, ◌↔◌, [], ◌∷◌, ◌++◌, length, take, drop, All, true, false, IfOk, OnOk, OnErr, IfErr, IfNone, IfSome, IsTrue, Option, Ok};
 ghost use Rattle.field_bounds.specs.Header.{schema_of};
 ghost use Rattle.script_input.specs.declared.streams.End.{End};
 ghost use Rattle.script_input.specs.Streams.{HasFailed};
@@ -64,7 +64,7 @@ fn schema_of_line(alloc: Global, line: &[u8]) -> Result<Schema, ScriptFault>
 }
 
 impl LineReader {
-    ghost use Rattle.script_input.specs.Reader.{pending, given_line, lines_given, passed_over, ahead_of, IsDue, PassesOn, IsFresh, Reads, Finds, Nexts, Falls, StopsAt, HasHeader, HasGiven, HasPassed};
+    ghost use Rattle.script_input.specs.Reader.{pending, given_line, lines_given, passed_over, ahead_of, IsDue, IsPlain, PassesOn, IsFresh, Reads, Finds, Nexts, Falls, StopsAt, HasHeader, HasGiven, HasPassed};
 
     /// A reader of lines before its first read. Costs 128 KiB. The error is want of memory.
     pub fn new(alloc: Global) -> Result<LineReader, AllocError>
@@ -165,6 +165,64 @@ impl LineReader {
         Some(self.give(0, 0))
     }
 
+    // Whether a line of so many bytes that its LF follows can be given as it is.
+    #[inline(always)]
+    fn is_plain(&self, count: usize, most: usize) -> bool
+        ensures { IsTrue result ↔ IsPlain self.now count most }
+    {
+        self.passed == 0
+            && count <= most
+            && self.lines < MOST_LINES
+            && (count as u64) < MOST_BYTES - self.taken
+    }
+
+    // The next line, as `find` tells it, where so many bytes stand before the first LF of what wasn't
+    // given, and so many end them.
+    #[inline(never)]
+    fn find_by_limits(
+        &mut self,
+        count: usize,
+        ending: usize,
+        most: usize,
+    ) -> Result<Option<NextLine>, ScriptFault>
+        requires ending { ending ≤ 1 }
+        requires fits { count + ending ≤ length (pending self.old) }
+        requires unbroken { All (λ b. b ≢ 10) (take count (pending self.old)) }
+        requires broken { ending ≡ 1 → pending self.old
+            ≡ take count (pending self.old) ++ 10 ∷ drop (count + 1) (pending self.old) }
+        requires whole { ending ≡ 0 → count ≡ length (pending self.old) }
+        requires most { most ≤ 65536 }
+        ensures next { (from to : Option (List ℕ)) (last : End) (given : List (List ℕ))
+            → Reads from to last self.old given
+            → Finds from to last given self.old self.new most result }
+        ensures fault { IfErr result (λ fault. fault ≡ ScriptFault.TooLong) }
+        ensures due { IfOk result (λ found. IfNone found (IsDue self.new)) }
+        ensures passed { IfOk result (λ found. IfNone found (PassesOn self.old self.new)) }
+        ensures ahead { IfOk result (Falls self.old self.new) }
+    {
+        if count + ending == 0 {
+            return Ok(self.find_end());
+        }
+        if self.lines >= MOST_LINES {
+            return Err(ScriptFault::TooLong);
+        }
+        let room = MOST_BYTES - self.taken;
+        if self.passed == 0 && count > most && room > most as u64 {
+            self.pass_over(count.min(room as usize));
+            return Ok(Some(NextLine::Long));
+        }
+        if (count + ending) as u64 > room {
+            return Err(ScriptFault::TooLong);
+        }
+        if ending > 0 || self.ended {
+            return Ok(Some(self.give(count, ending)));
+        }
+        if self.passed > 0 {
+            self.pass_over(count);
+        }
+        Ok(None)
+    }
+
     /// The next line, of at most `most` bytes, in what was read; or None where a read is due: then
     /// what was read has no more whole line.
     ///
@@ -190,27 +248,10 @@ impl LineReader {
         ensures ahead { IfOk result (Falls self.old self.new) }
     {
         let (count, ending) = self.first_part();
-        if count + ending == 0 {
-            return Ok(self.find_end());
+        if ending == 1 && self.is_plain(count, most) {
+            return Ok(Some(self.give(count, 1)));
         }
-        if self.lines >= MOST_LINES {
-            return Err(ScriptFault::TooLong);
-        }
-        let room = MOST_BYTES - self.taken;
-        if self.passed == 0 && count > most && room > most as u64 {
-            self.pass_over(count.min(room as usize));
-            return Ok(Some(NextLine::Long));
-        }
-        if (count + ending) as u64 > room {
-            return Err(ScriptFault::TooLong);
-        }
-        if ending > 0 || self.ended {
-            return Ok(Some(self.give(count, ending)));
-        }
-        if self.passed > 0 {
-            self.pass_over(count);
-        }
-        Ok(None)
+        self.find_by_limits(count, ending, most)
     }
 
     /// Reads more, at most 64 KiB, where a read is due. The fault is a read fault, and nothing is
