@@ -3,7 +3,6 @@ pub mod Reading
 pub mod Small
 pub mod Given
 pub mod Row
-pub mod Central_rules
 pub mod Rows
 pub mod Puts
 pub mod Ending
@@ -13,9 +12,14 @@ pub mod Doubts
 pub mod Sites
 pub mod Steps
 pub mod Rest
-pub mod Totals_more
 pub mod Rows_told
 pub mod Parallel
 pub mod Places
 pub mod Found
 pub mod Gathered
+pub mod Moves
+pub mod Sums_more
+pub mod Sums_taken
+pub mod Sums_step
+pub mod Room
+pub mod Totals_more

@@ -1,4 +1,6 @@
 pub mod Amounts
 pub mod Open
 pub mod Running
+pub mod Sums
+pub mod Totals
 pub mod Parts

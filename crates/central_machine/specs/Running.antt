@@ -1,5 +1,5 @@
 -- The running totals of a judge, and what they are over a front of a trace, the newest entry first (this project).
-use Rattle.std.specs.Prelude.{◌≡◌, ℕ, ◌+◌, ◌-◌, ◌*◌, ◌<◌, ◌≤◌, max, unsigned_abs, sum_by, Bool, true, false, [], List, ◌∷◌, length, reverse, slice_get, Option, Some, None}
+use Rattle.std.specs.Prelude.{◌≡◌, ℕ, ◌+◌, ◌-◌, ◌*◌, ◌<◌, ◌≤◌, max, unsigned_abs, sum_by, Bool, true, false, [], List, ◌∷◌, length, reverse, Option, Some, None}
 use Rattle.field_bounds.specs.declared.kind.Kind.{Kind}
 use Rattle.field_bounds.specs.declared.id.TxnId.{TxnId}
 use Rattle.field_bounds.specs.declared.effect.Effect.{Effect}
@@ -14,13 +14,9 @@ use Rattle.field_bounds.specs.Kind.{other, kind_of}
 use Rattle.field_bounds.specs.Schema.{SchemaValue}
 use Rattle.field_bounds.specs.Effects.{Base, fresh, is_begun, is_open, open_txns, escrows_of, takes, total_given, total_accepted, cut, share, held_rights, spare_amount, says_doubt_kept, effect_of, effects}
 use Rattle.field_bounds.specs.Owed.{Place, place, is_up, epoch_of, count_since, is_begun_reply, is_still_down, is_unsure}
-use Rattle.field_bounds.specs.Central.{own}
 use Rattle.central_machine.specs.declared.numbers.Numbers.{Numbers}
 use Rattle.central_machine.specs.declared.site_totals.SiteTotals.{SiteTotals}
-use Rattle.central_machine.specs.declared.totals.Totals.{Totals}
-use Rattle.central_machine.specs.declared.running.Running.{Running}
 use Rattle.central_machine.specs.Amounts.{amount, has_slot, IsPut, capped_sum}
-use Rattle.statement_set.specs.Issued.{HasIssued}
 use Rattle.central_machine.specs.Open.{txns_of, escrows_at, IsOpened, IsAdded, IsClosed}
 
 -- ---- the numbers of one site
@@ -245,12 +241,19 @@ pub record IsSite (schema : SchemaValue) (s : ℕ) (o : List Entry) (x : SiteTot
 abbrev pub TellsOf : SchemaValue → ℕ → SiteTotals → Place → Type 0
 TellsOf schema s x at = (o : List Entry) × IsSite schema s o x × (at ≡ place schema s (fresh schema s) o)
 
--- The totals of all sites are those of a front.
-pub record AreTotals (schema : SchemaValue) (t : List Entry) (x : Totals) : Type 0 where
-  pub count : length x.sites.items ≡ schema.sites
-  pub sites : (s : ℕ) (y : SiteTotals) → slice_get x.sites.items s ≡ Some y → IsSite schema s (own s t) y
+-- A site's totals took an entry in, which puts this into effect.
+pub record PutsIn (effect : Option Effect) (e : Entry) (x y : SiteTotals) : Type 0 where
+  pub numbers : NumbersAfter effect e.reply x.doubt x.numbers y.numbers
+  pub doubt : y.doubt ≡ doubt_after effect e.reply x.doubt
+  pub up : (base : Base) (o : List Entry) → x.site_counts.up ≡ is_up base o → y.site_counts.up ≡ is_up base (e ∷ o)
+  pub epoch : (base : Base) (o : List Entry) → x.site_counts.epoch ≡ epoch_of base o → y.site_counts.epoch ≡ epoch_of base (e ∷ o)
+  pub begun : (o : List Entry) → length o < 18446744073709551615 → x.site_counts.begun ≡ count_since is_begun_reply o
+      → y.site_counts.begun ≡ count_since is_begun_reply (e ∷ o)
+  pub still_down : (o : List Entry) → length o < 18446744073709551615 → x.site_counts.still_down ≡ count_since is_still_down o
+      → y.site_counts.still_down ≡ count_since is_still_down (e ∷ o)
+  pub unsure : (o : List Entry) → length o < 18446744073709551615 → x.site_counts.unsure ≡ count_since is_unsure o
+      → y.site_counts.unsure ≡ count_since is_unsure (e ∷ o)
 
--- And so are the statements issued.
-pub record AreRunning (schema : SchemaValue) (t : List Entry) (x : Running) : Type 0 where
-  pub totals : AreTotals schema t x.totals
-  pub issued : HasIssued x.issued t
+-- A site's totals took an entry in.
+abbrev pub GoesOn : Entry → SiteTotals → SiteTotals → Type 0
+GoesOn e x y = PutsIn (effect_by (amount x.numbers.free) e.command e.reply) e x y

@@ -1,10 +1,13 @@
 //! Amounts of both kinds, by number.
 
-ghost use Rattle.std.specs.Prelude.{◌≡◌, ◌<◌, ℕ, true, IfOk, length, slice_index_or};
+ghost use Rattle.std.specs.Prelude.{◌≡◌, ◌<◌, ◌+◌, ℕ, pos, ◌+ℤ◌, ◌≤ℤ◌, true, IfOk, length, slice_index_or};
 ghost use Rattle.field_bounds.specs.declared.kind.Kind.{Kind};
 ghost use Rattle.field_bounds.specs.Parts.{part_of};
 ghost use Rattle.central_machine.specs.Amounts.{amount, has_slot, IsPut};
+ghost use Rattle.central_machine.specs.Sums.{IsWindow, IsRoom};
 
+use crate::window::Window;
+use central_rules::bounds_of;
 use field_bounds::{FieldNo, Kind, Schema, SiteNo};
 use std::alloc::{AllocError, Global};
 
@@ -13,6 +16,14 @@ use std::alloc::{AllocError, Global};
 pub struct Amounts {
     lower: Vec<u64>,
     raise: Vec<u64>,
+}
+
+/// How far one value lies above another.
+fn distance(low: i64, high: i64) -> u64
+    requires ordered { low ≤ℤ high }
+    ensures { low +ℤ pos result ≡ high }
+{
+    high.abs_diff(low)
 }
 
 impl Amounts {
@@ -55,6 +66,24 @@ impl Amounts {
             lower: Amounts::parts_of(alloc, schema, site, Kind::Lower)?,
             raise: Amounts::parts_of(alloc, schema, site, Kind::Raise)?,
         })
+    }
+
+    /// By how much the start value of each field of a window may fall and rise within the schema's
+    /// bounds.
+    pub fn rooms(alloc: Global, schema: &Schema, window: Window) -> Result<Amounts, AllocError>
+        requires in_schema { IsWindow schema.now window }
+        ensures { IfOk result (λ made. (f : ℕ) → f < window.count →
+            IsRoom schema.now (window.first + f) made f) }
+    {
+        let _fields = schema.fields();
+        let mut lower = Vec::new(alloc);
+        let mut raise = Vec::new(alloc);
+        for place in 0..window.count {
+            let bounds = bounds_of(schema, FieldNo(window.first + place));
+            lower.push(distance(bounds.floor, bounds.value))?;
+            raise.push(distance(bounds.value, bounds.ceiling))?;
+        }
+        Ok(Amounts { lower, raise })
     }
 
     /// The amount at a place, 0 where there is none.

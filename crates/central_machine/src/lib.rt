@@ -7,6 +7,8 @@
 
 mod amounts;
 mod faults;
+mod field_sums;
+mod field_tests;
 mod journal;
 mod judging;
 mod numbers;
@@ -16,6 +18,7 @@ mod running;
 mod site_totals;
 mod statements;
 mod totals;
+mod window;
 
 pub use central_rules::{Rule, Verdict, judge_plain, verdict_is_exact};
 pub use judging::{judge, judge_counted};

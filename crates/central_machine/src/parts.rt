@@ -4,7 +4,7 @@ ghost use Rattle.std.specs.Prelude.{◌≡◌, IfOk, List, reverse};
 ghost use Rattle.field_bounds.specs.declared.entry.Entry.{Entry};
 ghost use Rattle.central_rules.specs.declared.verdict.Verdict.TheVariants.{Legal};
 ghost use Rattle.central_rules.specs.Verdict.{verdict_of, verdict_back};
-ghost use Rattle.central_machine.specs.Running.{AreTotals};
+ghost use Rattle.central_machine.specs.Totals.{AreTotals};
 ghost use Rattle.central_machine.specs.Parts.{rule_named};
 
 use crate::faults::{earliest, faults_of, first_is_at};
@@ -23,16 +23,16 @@ fn totals_of(alloc: Global, schema: &Schema, front: &[Entry]) -> Result<Totals, 
     let _few = length_of(front);
     let mut totals = Totals::new(alloc, schema)?;
     for entry in front {
-        totals.step(alloc, schema, *entry)?;
+        totals.step(alloc, schema, entry)?;
     }
     Ok(totals)
 }
 
 /// The rule that a bad entry breaks first, of which it is known whether it takes in a statement
 /// that wasn't issued.
-fn rule_of(totals: &Totals, schema: &Schema, entry: Entry, untold: bool) -> Rule
+fn rule_of(totals: &Totals, schema: &Schema, entry: &Entry, untold: bool) -> Rule
     ensures { (t : List Entry) → AreTotals schema.now t totals.now →
-        verdict_back schema.now t ≡ Legal → result ≡ rule_named schema.now t entry untold }
+        result ≡ rule_named schema.now t entry.now untold }
 {
     if entry.site.0 >= schema.sites() {
         return Rule::Site;
@@ -71,7 +71,7 @@ pub fn judge_fields(
         return Ok(Verdict::Legal);
     };
     let totals = totals_of(alloc, schema, &entries[..place])?;
-    let rule = rule_of(&totals, schema, *entry, first_is_at(&faults, place));
+    let rule = rule_of(&totals, schema, entry, first_is_at(&faults, place));
     let at = (place + 1) as u64;
     Ok(Verdict::Illegal { at, rule })
 }

@@ -2,10 +2,11 @@
 
 ghost use Rattle.std.specs.Prelude.{◌≡◌, ◌<◌, length, List, ◌∷◌, [], OnOk, IfOk, None};
 ghost use Rattle.field_bounds.specs.declared.entry.Entry.{Entry};
+ghost use Rattle.field_bounds.specs.Schema.{SchemaValue};
 ghost use Rattle.central_rules.specs.declared.verdict.Verdict.TheVariants.{Legal};
 ghost use Rattle.central_rules.specs.declared.verdict.Rule.TheVariants.{Statement as Told};
 ghost use Rattle.central_rules.specs.Verdict.{broken_rule, verdict_back, test_of};
-ghost use Rattle.central_machine.specs.Running.{AreRunning};
+ghost use Rattle.central_machine.specs.Totals.{AreRunning};
 
 use crate::statements;
 use crate::totals::Totals;
@@ -32,24 +33,27 @@ impl Running {
         })
     }
 
-    fn statement_holds(&self, schema: &Schema, entry: Entry) -> bool
-        ensures { (t : List Entry) → AreRunning schema.now t self.now →
-            result ≡ test_of schema.now t entry Told }
+    /// Whether the entry keeps the rule on statements.
+    fn statement_holds(&self, entry: &Entry) -> bool
+        ensures { (schema : SchemaValue) (t : List Entry) → AreRunning schema t self.now →
+            result ≡ test_of schema t entry.now Told }
     {
-        let _sites = schema.sites();
         statements::holds(&self.issued, entry)
     }
 
-    /// The first rule that the next entry breaks, of a site of the schema.
-    fn rule_named(&self, schema: &Schema, entry: Entry) -> Option<Rule>
-        requires site_in { entry.site.0 < schema.now.sites }
+    /// The first rule that the next entry breaks: each of the six is tested by what the totals tell,
+    /// and none is left out because of another.
+    fn broken_rule(&self, schema: &Schema, entry: &Entry) -> Option<Rule>
         ensures { (t : List Entry) → AreRunning schema.now t self.now →
-            verdict_back schema.now t ≡ Legal → result ≡ broken_rule schema.now t entry }
+            result ≡ broken_rule schema.now t entry.now }
     {
+        if entry.site.0 >= schema.sites() {
+            return Some(Rule::Site);
+        }
         if let Some(rule) = self.totals.field_broken(schema, entry) {
             return Some(rule);
         }
-        if !self.statement_holds(schema, entry) {
+        if !self.statement_holds(entry) {
             return Some(Rule::Statement);
         }
         if !self.totals.reply_holds(schema, entry) {
@@ -58,29 +62,15 @@ impl Running {
         None
     }
 
-    /// The first rule that the next entry breaks. One of a site of the schema, whose statement was
-    /// issued and whose reply is owed, breaks none.
-    fn broken_rule(&self, schema: &Schema, entry: Entry) -> Option<Rule>
-        ensures { (t : List Entry) → AreRunning schema.now t self.now →
-            verdict_back schema.now t ≡ Legal → result ≡ broken_rule schema.now t entry }
-    {
-        if entry.site.0 >= schema.sites() {
-            return Some(Rule::Site);
-        }
-        if self.statement_holds(schema, entry) && self.totals.reply_holds(schema, entry) {
-            return None;
-        }
-        self.rule_named(schema, entry)
-    }
-
     /// Takes the totals of a front to those of the front with the next entry.
-    fn step(&mut self, alloc: Global, schema: &Schema, entry: Entry) -> Result<(), AllocError>
+    fn step(&mut self, alloc: Global, schema: &Schema, entry: &Entry) -> Result<(), AllocError>
         ensures { OnOk result ((t : List Entry) → length t < 230584300921369395 →
             AreRunning schema.now t self.old → verdict_back schema.now t ≡ Legal →
-            broken_rule schema.now t entry ≡ None → AreRunning schema.now (entry ∷ t) self.new) }
+            broken_rule schema.now t entry.now ≡ None →
+            AreRunning schema.now (entry.now ∷ t) self.new) }
     {
         let _sites = schema.sites();
-        statements::note(&mut self.issued, &entry)?;
+        statements::note(&mut self.issued, entry)?;
         self.totals.step(alloc, schema, entry)
     }
 
@@ -89,13 +79,13 @@ impl Running {
         &mut self,
         alloc: Global,
         schema: &Schema,
-        entry: Entry,
+        entry: &Entry,
     ) -> Result<Option<Rule>, AllocError>
         ensures rule { IfOk result (λ rule. (t : List Entry) → AreRunning schema.now t self.old →
-            verdict_back schema.now t ≡ Legal → rule ≡ broken_rule schema.now t entry) }
+            rule ≡ broken_rule schema.now t entry.now) }
         ensures totals { IfOk result (λ rule. (t : List Entry) → length t < 230584300921369395 →
             AreRunning schema.now t self.old → verdict_back schema.now t ≡ Legal → rule ≡ None →
-            AreRunning schema.now (entry ∷ t) self.new) }
+            AreRunning schema.now (entry.now ∷ t) self.new) }
     {
         if let Some(rule) = self.broken_rule(schema, entry) {
             return Ok(Some(rule));

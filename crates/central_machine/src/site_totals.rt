@@ -1,13 +1,12 @@
 //! The running totals of one site.
 
-ghost use Rattle.std.specs.Prelude.{◌≡◌, ◌<◌, ◌∷◌, [], IfOk, OnOk, List, length, if◌then◌else◌, Option, Some, None};
+ghost use Rattle.std.specs.Prelude.{◌≡◌, ◌<◌, [], IfOk, OnOk, if◌then◌else◌, Option, Some, None};
 ghost use Rattle.field_bounds.specs.declared.effect.Effect.TheVariants.{Gives};
 ghost use Rattle.field_bounds.specs.declared.entry.Command.TheVariants.{Spare};
 ghost use Rattle.field_bounds.specs.declared.entry.Entry.{Entry};
-ghost use Rattle.field_bounds.specs.Effects.{Base, says_doubt_kept};
-ghost use Rattle.field_bounds.specs.Owed.{is_up, epoch_of, count_since, is_begun_reply, is_still_down, is_unsure};
+ghost use Rattle.field_bounds.specs.Effects.{says_doubt_kept};
 ghost use Rattle.central_machine.specs.Amounts.{amount};
-ghost use Rattle.central_machine.specs.Running.{NumbersAfter, effect_by, doubt_after, settled_effect, IsSite};
+ghost use Rattle.central_machine.specs.Running.{NumbersAfter, effect_by, doubt_after, settled_effect, IsSite, PutsIn, GoesOn};
 
 use crate::amounts::Amounts;
 use crate::journal::Journal;
@@ -137,7 +136,7 @@ fn doubt_after(effect: Option<Effect>, reply: Reply, before: Option<Effect>) -> 
     }
 }
 
-fn settled(last: Last, doubt: Option<Effect>) -> Option<Effect>
+pub fn settled(last: Last, doubt: Option<Effect>) -> Option<Effect>
     ensures { result ≡ settled_effect (says_doubt_kept last) doubt }
 {
     match last {
@@ -198,34 +197,34 @@ impl SiteTotals {
         })
     }
 
-    /// Takes in the next entry of the site.
-    pub fn take_in(&mut self, alloc: Global, entry: Entry) -> Result<(), AllocError>
-        ensures numbers { OnOk result (NumbersAfter
-            (effect_by (amount self.old.numbers.free) entry.command entry.reply) entry.reply
-            self.old.doubt self.old.numbers self.new.numbers) }
-        ensures doubt { OnOk result (self.new.doubt
-            ≡ doubt_after (effect_by (amount self.old.numbers.free) entry.command entry.reply)
-            entry.reply self.old.doubt) }
-        ensures up { OnOk result ((base : Base) (o : List Entry) →
-            self.old.site_counts.up ≡ is_up base o
-            → self.new.site_counts.up ≡ is_up base (entry ∷ o)) }
-        ensures epoch { OnOk result ((base : Base) (o : List Entry) →
-            self.old.site_counts.epoch ≡ epoch_of base o →
-            self.new.site_counts.epoch ≡ epoch_of base (entry ∷ o)) }
-        ensures begun { OnOk result ((o : List Entry) → length o < 18446744073709551615 →
-            self.old.site_counts.begun ≡ count_since is_begun_reply o →
-            self.new.site_counts.begun ≡ count_since is_begun_reply (entry ∷ o)) }
-        ensures still_down { OnOk result ((o : List Entry) → length o < 18446744073709551615 →
-            self.old.site_counts.still_down ≡ count_since is_still_down o →
-            self.new.site_counts.still_down ≡ count_since is_still_down (entry ∷ o)) }
-        ensures unsure { OnOk result ((o : List Entry) → length o < 18446744073709551615 →
-            self.old.site_counts.unsure ≡ count_since is_unsure o →
-            self.new.site_counts.unsure ≡ count_since is_unsure (entry ∷ o)) }
+    /// What an entry of the site puts into effect.
+    pub fn effect_by(&self, entry: &Entry) -> Option<Effect>
+        ensures { result
+            ≡ effect_by (amount self.now.numbers.free) entry.now.command entry.now.reply }
     {
-        let effect = effect_by(&self.numbers.free, entry.command, entry.reply);
+        effect_by(&self.numbers.free, entry.command, entry.reply)
+    }
+
+    /// Takes in the next entry of the site, which puts this into effect.
+    pub fn put_in(
+        &mut self,
+        alloc: Global,
+        effect: Option<Effect>,
+        entry: &Entry,
+    ) -> Result<(), AllocError>
+        ensures { OnOk result (PutsIn effect entry.now self.old self.new) }
+    {
         self.numbers.after(alloc, effect, entry.reply, self.doubt)?;
         self.doubt = doubt_after(effect, entry.reply, self.doubt);
-        self.site_counts = self.site_counts.after(entry);
+        self.site_counts = self.site_counts.after(*entry);
         Ok(())
+    }
+
+    /// Takes in the next entry of the site.
+    pub fn take_in(&mut self, alloc: Global, entry: &Entry) -> Result<(), AllocError>
+        ensures { OnOk result (GoesOn entry.now self.old self.new) }
+    {
+        let effect = self.effect_by(entry);
+        self.put_in(alloc, effect, entry)
     }
 }

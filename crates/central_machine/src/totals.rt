@@ -1,48 +1,40 @@
 //! The running totals of a judge.
 
-ghost use Rattle.std.specs.Prelude.{◌≡◌, ◌<◌, ◌≤◌, ◌-◌, ◌&&◌, int_le, length, List, ◌∷◌, [], OnOk, IfOk, None};
+ghost use Rattle.std.specs.Prelude.{◌≡◌, ◌<◌, ℕ, length, slice_get, List, ◌∷◌, [], OnOk, IfOk, Some, None};
 ghost use Rattle.field_bounds.specs.declared.entry.Entry.{Entry};
-ghost use Rattle.field_bounds.specs.declared.kind.Kind.TheVariants.{Lower};
-ghost use Rattle.field_bounds.specs.Effects.{fresh, share, held_rights, cut};
-ghost use Rattle.field_bounds.specs.Parts.{sum_below};
-ghost use Rattle.field_bounds.specs.Central.{at_site, committed_value, open_sizes, shares, cuts, in_flight, given_between, accepted_between, IsSound};
+ghost use Rattle.field_bounds.specs.Schema.{SchemaValue};
+ghost use Rattle.field_bounds.specs.Effects.{fresh, share};
+ghost use Rattle.field_bounds.specs.Central.{at_site};
 ghost use Rattle.central_rules.specs.declared.verdict.Verdict.TheVariants.{Legal};
-ghost use Rattle.central_rules.specs.declared.verdict.Rule.TheVariants.{Site, Grant, Shortage, Interval, Statement as Told, Reply as Owed};
-ghost use Rattle.central_rules.specs.Verdict.{broken_rule, verdict_back, within_bound, test_of, true_share};
+ghost use Rattle.central_rules.specs.declared.verdict.Rule.TheVariants.{Grant, Shortage, Interval, Reply as Owed};
+ghost use Rattle.central_rules.specs.Verdict.{broken_rule, verdict_back, test_of, true_share};
 ghost use Rattle.central_machine.specs.Parts.{field_broken};
-ghost use Rattle.central_machine.specs.Running.{AreTotals, IsSite};
+ghost use Rattle.central_machine.specs.Running.{IsSite};
+ghost use Rattle.central_machine.specs.Totals.{AreTotals};
 ghost use Rattle.central_rules.specs.Replies.{reply_test};
 ghost use Rattle.field_bounds.specs.Owed.{place};
 
-use crate::numbers::place_at;
+use crate::field_sums::FieldSums;
 use crate::owed::RunningSite;
 use crate::site_totals::SiteTotals;
-use central_rules::{Bounds, Rule, bounds_of, fits, has, lies_between};
+use crate::window::Window;
+use central_rules::{Rule, fits, has};
 use field_bounds::{Command, Entry, FieldNo, Kind, Refusal, Reply, Schema, SiteNo};
 use std::alloc::{AllocError, Global};
 
-/// The totals of all sites over a front.
+/// The totals of a front: the sums of all fields, and the totals of each site.
 #[derive(Drop)]
 pub struct Totals {
+    pub window: Window,
+    pub sums: FieldSums,
     pub sites: Vec<SiteTotals>,
 }
 
-/// Bounds with the floor as the value.
-fn at_floor(bounds: Bounds) -> Bounds
-    ensures value { result.value ≡ bounds.floor }
-{
-    Bounds {
-        floor: bounds.floor,
-        ceiling: bounds.ceiling,
-        value: bounds.floor,
-    }
-}
-
 /// Whether a site owes the reply, where its totals say that it stands.
-pub fn reply_fits(schema: &Schema, site: SiteNo, totals: &SiteTotals, entry: Entry) -> bool
+pub fn reply_fits(schema: &Schema, site: SiteNo, totals: &SiteTotals, entry: &Entry) -> bool
     ensures { (o : List Entry) → IsSite schema.now site.0 o totals.now → result
-        ≡ reply_test (place schema.now site.0 (fresh schema.now site.0) o) entry.command
-        entry.reply }
+        ≡ reply_test (place schema.now site.0 (fresh schema.now site.0) o) entry.now.command
+        entry.now.reply }
 {
     let here = RunningSite {
         schema,
@@ -52,16 +44,32 @@ pub fn reply_fits(schema: &Schema, site: SiteNo, totals: &SiteTotals, entry: Ent
     fits(&here, entry.command, entry.reply)
 }
 
+/// The totals of each site of no entries.
+fn sites_of(alloc: Global, schema: &Schema) -> Result<Vec<SiteTotals>, AllocError>
+    ensures count { IfOk result (λ sites. length sites.items ≡ schema.now.sites) }
+    ensures each { IfOk result (λ sites. (s : ℕ) (y : SiteTotals) →
+        slice_get sites.items s ≡ Some y → IsSite schema.now s [] y) }
+{
+    let mut sites = Vec::new(alloc);
+    for site in 0..schema.sites() {
+        sites.push(SiteTotals::new(alloc, schema, SiteNo(site))?)?;
+    }
+    Ok(sites)
+}
+
 impl Totals {
     /// The totals of no entries.
     pub fn new(alloc: Global, schema: &Schema) -> Result<Totals, AllocError>
         ensures { IfOk result (λ made. AreTotals schema.now [] made) }
     {
-        let mut sites = Vec::new(alloc);
-        for site in 0..schema.sites() {
-            sites.push(SiteTotals::new(alloc, schema, SiteNo(site))?)?;
-        }
-        Ok(Totals { sites })
+        let window = Window::whole(schema);
+        let sums = FieldSums::new(alloc, schema, window)?;
+        let sites = sites_of(alloc, schema)?;
+        Ok(Totals {
+            window,
+            sums,
+            sites,
+        })
     }
 
     fn free_at(&self, schema: &Schema, site: u16, field: FieldNo, kind: Kind) -> u64
@@ -76,191 +84,12 @@ impl Totals {
         }
     }
 
-    fn held_at(&self, schema: &Schema, site: u16, field: FieldNo, kind: Kind) -> u64
-        ensures { (t : List Entry) → AreTotals schema.now t self.now → site < schema.now.sites →
-            field.0 < length schema.now.fields →
-            result ≡ held_rights field.0 kind (at_site schema.now t site) }
+    /// Whether the entry keeps the rule on grants.
+    fn grant_holds(&self, entry: &Entry) -> bool
+        ensures { (schema : SchemaValue) (t : List Entry) → AreTotals schema t self.now →
+            result ≡ test_of schema t entry.now Grant }
     {
-        let _sites = schema.sites();
-        match self.sites.get(usize::from(site)) {
-            Some(x) => x.numbers.held.at(usize::from(field.0), kind),
-            None => 0,
-        }
-    }
-
-    fn cut_at(&self, schema: &Schema, site: u16, field: FieldNo, kind: Kind) -> u64
-        ensures { (t : List Entry) → AreTotals schema.now t self.now → site < schema.now.sites →
-            field.0 < length schema.now.fields →
-            result ≡ cut (fresh schema.now site) field.0 kind (at_site schema.now t site) }
-    {
-        let _sites = schema.sites();
-        match self.sites.get(usize::from(site)) {
-            Some(x) => x.numbers.cut.at(usize::from(field.0), kind),
-            None => 0,
-        }
-    }
-
-    fn given_at(&self, schema: &Schema, from: u16, to: u16, field: FieldNo, kind: Kind) -> u64
-        ensures { (t : List Entry) → AreTotals schema.now t self.now → from < schema.now.sites →
-            to < schema.now.sites → field.0 < length schema.now.fields →
-            result ≡ given_between schema.now t field.0 kind from to }
-    {
-        let _sites = schema.sites();
-        match self.sites.get(usize::from(from)) {
-            Some(x) => x
-                .numbers
-                .given
-                .at(place_at(x.numbers.stride, SiteNo(to), field), kind),
-            None => 0,
-        }
-    }
-
-    fn accepted_at(&self, schema: &Schema, from: u16, to: u16, field: FieldNo, kind: Kind) -> u64
-        ensures { (t : List Entry) → AreTotals schema.now t self.now → from < schema.now.sites →
-            to < schema.now.sites → field.0 < length schema.now.fields →
-            result ≡ accepted_between schema.now t field.0 kind from to }
-    {
-        let _sites = schema.sites();
-        match self.sites.get(usize::from(to)) {
-            Some(x) => x
-                .numbers
-                .accepted
-                .at(place_at(x.numbers.stride, SiteNo(from), field), kind),
-            None => 0,
-        }
-    }
-
-    /// What a site gave and isn't accepted yet.
-    fn flight_from(&self, schema: &Schema, from: u16, field: FieldNo, kind: Kind) -> u128
-        requires site_in { from < schema.now.sites }
-        requires field_in { field.0 < length schema.now.fields }
-        ensures value { (t : List Entry) → AreTotals schema.now t self.now → result
-            ≡ sum_below schema.now.sites (λ to. given_between schema.now t field.0 kind from to -
-            accepted_between schema.now t field.0 kind from to) }
-        ensures small { result ≤ 1208925819614629174706176 }
-    {
-        let mut sum: u128 = 0;
-        for to in 0..schema.sites() {
-            sum += u128::from(
-                self.given_at(schema, from, to, field, kind)
-                    .saturating_sub(self.accepted_at(schema, from, to, field, kind)),
-            );
-        }
-        sum
-    }
-
-    /// The rights in flight.
-    fn in_flight(&self, schema: &Schema, field: FieldNo, kind: Kind) -> u128
-        requires field_in { field.0 < length schema.now.fields }
-        ensures value { (t : List Entry) → AreTotals schema.now t self.now →
-            result ≡ in_flight schema.now t field.0 kind }
-        ensures small { result ≤ 79228162514264337593543950336 }
-    {
-        let mut sum: u128 = 0;
-        for from in 0..schema.sites() {
-            sum += self.flight_from(schema, from, field, kind);
-        }
-        sum
-    }
-
-    /// The shares of all sites.
-    fn shares(&self, schema: &Schema, field: FieldNo, kind: Kind) -> u128
-        requires field_in { field.0 < length schema.now.fields }
-        ensures value { (t : List Entry) → AreTotals schema.now t self.now →
-            result ≡ shares schema.now t field.0 kind }
-        ensures small { result ≤ 1208925819614629174706176 }
-    {
-        let mut sum: u128 = 0;
-        for site in 0..schema.sites() {
-            sum += u128::from(self.free_at(schema, site, field, kind));
-        }
-        sum
-    }
-
-    /// What all sites have given up for good.
-    fn cuts(&self, schema: &Schema, field: FieldNo, kind: Kind) -> u128
-        requires field_in { field.0 < length schema.now.fields }
-        ensures value { (t : List Entry) → AreTotals schema.now t self.now →
-            result ≡ cuts schema.now t field.0 kind }
-        ensures small { result ≤ 1208925819614629174706176 }
-    {
-        let mut sum: u128 = 0;
-        for site in 0..schema.sites() {
-            sum += u128::from(self.cut_at(schema, site, field, kind));
-        }
-        sum
-    }
-
-    /// The sizes of the open escrows of all sites.
-    fn open_sizes(&self, schema: &Schema, field: FieldNo, kind: Kind) -> u128
-        requires field_in { field.0 < length schema.now.fields }
-        ensures value { (t : List Entry) → AreTotals schema.now t self.now → IsSound schema.now t →
-            result ≡ open_sizes schema.now t field.0 kind }
-        ensures small { result ≤ 1208925819614629174706176 }
-    {
-        let mut sum: u128 = 0;
-        for site in 0..schema.sites() {
-            sum += u128::from(self.held_at(schema, site, field, kind));
-        }
-        sum
-    }
-
-    /// Whether one central store may grant a change of a kind, of this size: rights are conserved,
-    /// so it may where the free rights of all sites and those in flight cover it.
-    fn may_grant(&self, schema: &Schema, field: FieldNo, by: u64, kind: Kind) -> bool
-        requires field_in { field.0 < length schema.now.fields }
-        ensures { (t : List Entry) → AreTotals schema.now t self.now →
-            verdict_back schema.now t ≡ Legal → result ≡ within_bound schema.now t field.0 by kind }
-    {
-        let _sites = schema.sites();
-        u128::from(by) <= self.shares(schema, field, kind) + self.in_flight(schema, field, kind)
-    }
-
-    /// Whether the committed value lies between the two: it lies above the schema's floor by the
-    /// rights to lower of all sites, free, held and given up, and those in flight.
-    fn holds_between(&self, schema: &Schema, field: FieldNo, lo: i64, hi: i64) -> bool
-        requires field_in { field.0 < length schema.now.fields }
-        ensures { (t : List Entry) → AreTotals schema.now t self.now →
-            verdict_back schema.now t ≡ Legal → result
-            ≡ (int_le lo (committed_value schema.now t field.0)
-            && int_le (committed_value schema.now t field.0) hi) }
-    {
-        let _sites = schema.sites();
-        let bounds = bounds_of(schema, field);
-        let shares = self.shares(schema, field, Kind::Lower);
-        let flight = self.in_flight(schema, field, Kind::Lower);
-        let open = self.open_sizes(schema, field, Kind::Lower);
-        let cut = self.cuts(schema, field, Kind::Lower);
-        let from_floor = at_floor(bounds);
-        lies_between(lo, hi, &from_floor, shares + flight + open + cut, 0)
-    }
-
-    fn grant_holds(&self, schema: &Schema, entry: Entry) -> bool
-        ensures { (t : List Entry) → AreTotals schema.now t self.now →
-            verdict_back schema.now t ≡ Legal → result ≡ test_of schema.now t entry Grant }
-    {
-        match (entry.command, entry.reply) {
-            (Command::Escrow { field, change, .. }, Reply::Granted) => {
-                if !has(schema, field) {
-                    return true;
-                }
-                self.may_grant(schema, field, change.unsigned_abs(), Kind::of(change))
-            }
-            (
-                Command::Tighten {
-                    field,
-                    kind,
-                    amount,
-                },
-                Reply::Tightened { .. },
-            ) => {
-                if !has(schema, field) {
-                    return true;
-                }
-                self.may_grant(schema, field, amount, kind)
-            }
-            _ => true,
-        }
+        self.sums.grant_holds(self.window, entry)
     }
 
     fn is_share(
@@ -282,10 +111,12 @@ impl Totals {
         told == self.free_at(schema, site.0, field, kind) && told < asked
     }
 
-    fn shortage_holds(&self, schema: &Schema, entry: Entry) -> bool
-        requires site_in { entry.site.0 < schema.now.sites }
+    /// Whether the entry keeps the rule on shortages: it names the site's share, which is less than
+    /// was asked.
+    fn shortage_holds(&self, schema: &Schema, entry: &Entry) -> bool
+        requires site_in { entry.now.site.0 < schema.now.sites }
         ensures { (t : List Entry) → AreTotals schema.now t self.now →
-            result ≡ test_of schema.now t entry Shortage }
+            result ≡ test_of schema.now t entry.now Shortage }
     {
         let Reply::Refused(Refusal::Short { share }) = entry.reply else {
             return true;
@@ -323,25 +154,19 @@ impl Totals {
         }
     }
 
-    fn interval_holds(&self, schema: &Schema, entry: Entry) -> bool
+    /// Whether the entry keeps the rule on intervals.
+    fn interval_holds(&self, schema: &Schema, entry: &Entry) -> bool
         ensures { (t : List Entry) → AreTotals schema.now t self.now →
-            verdict_back schema.now t ≡ Legal → result ≡ test_of schema.now t entry Interval }
+            result ≡ test_of schema.now t entry.now Interval }
     {
-        match (entry.command, entry.reply) {
-            (Command::Read { field }, Reply::Between { lo, hi }) => {
-                if !has(schema, field) {
-                    return true;
-                }
-                self.holds_between(schema, field, lo, hi)
-            }
-            _ => true,
-        }
+        self.sums.interval_holds(self.window, schema, entry)
     }
 
-    pub fn reply_holds(&self, schema: &Schema, entry: Entry) -> bool
-        requires site_in { entry.site.0 < schema.now.sites }
+    /// Whether the entry keeps the rule on replies: it is one that the site owes.
+    pub fn reply_holds(&self, schema: &Schema, entry: &Entry) -> bool
+        requires site_in { entry.now.site.0 < schema.now.sites }
         ensures { (t : List Entry) → AreTotals schema.now t self.now →
-            result ≡ test_of schema.now t entry Owed }
+            result ≡ test_of schema.now t entry.now Owed }
     {
         match self.sites.get(usize::from(entry.site.0)) {
             Some(totals) => reply_fits(schema, entry.site, totals, entry),
@@ -349,26 +174,34 @@ impl Totals {
         }
     }
 
-    /// Takes the totals of a front to those of the front with the next entry.
-    pub fn step(&mut self, alloc: Global, schema: &Schema, entry: Entry) -> Result<(), AllocError>
+    /// Takes the totals of a front to those of the front with the next entry: first the sums, by
+    /// what the site's totals tell of the entry, and then these.
+    pub fn step(&mut self, alloc: Global, schema: &Schema, entry: &Entry) -> Result<(), AllocError>
         ensures { OnOk result ((t : List Entry) → length t < 230584300921369395 →
             AreTotals schema.now t self.old → verdict_back schema.now t ≡ Legal →
-            broken_rule schema.now t entry ≡ None → AreTotals schema.now (entry ∷ t) self.new) }
+            broken_rule schema.now t entry.now ≡ None →
+            AreTotals schema.now (entry.now ∷ t) self.new) }
     {
         let _sites = schema.sites();
         match self.sites.get_mut(usize::from(entry.site.0)) {
-            Some(site) => site.take_in(alloc, entry),
+            Some(site) => {
+                let effect = site.effect_by(entry);
+                self.sums
+                    .after(&site.numbers, site.doubt, effect, entry.reply);
+                site.put_in(alloc, effect, entry)
+            }
             None => Ok(()),
         }
     }
 
-    /// The first rule on fields that the next entry breaks: of Grant, Shortage and Interval.
-    pub fn field_broken(&self, schema: &Schema, entry: Entry) -> Option<Rule>
-        requires site_in { entry.site.0 < schema.now.sites }
+    /// The first rule on fields that the next entry breaks: of Grant, Shortage and Interval, each
+    /// by its own test.
+    pub fn field_broken(&self, schema: &Schema, entry: &Entry) -> Option<Rule>
+        requires site_in { entry.now.site.0 < schema.now.sites }
         ensures { (t : List Entry) → AreTotals schema.now t self.now →
-            verdict_back schema.now t ≡ Legal → result ≡ field_broken schema.now t entry }
+            result ≡ field_broken schema.now t entry.now }
     {
-        if !self.grant_holds(schema, entry) {
+        if !self.grant_holds(entry) {
             return Some(Rule::Grant);
         }
         if !self.shortage_holds(schema, entry) {

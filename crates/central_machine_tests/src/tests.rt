@@ -167,6 +167,115 @@ fn a_commit_in_doubt(rt: HostRuntime) {
     assert_rows(&rt, rt.alloc(), &IN_DOUBT);
 }
 
+// The replies of the rows below are what no site owes, so that only the sums tell which rule is
+// broken first.
+
+const COMMITTED: [Row; 7] = rows! {
+    [0 begin -> begun 0.1] [0 escrow 0.1 stock -20 -> granted] [0 read stock -> between 0 39] => illegal 3 Interval;
+    [0 begin -> begun 0.1] [0 escrow 0.1 stock -20 -> granted] [0 read stock -> between 40 40] => illegal 3 Reply;
+    [0 begin -> begun 0.1] [0 escrow 0.1 stock -20 -> granted] [0 commit 0.1 -> committed]
+        [1 read stock -> between 21 100] => illegal 4 Interval;
+    [0 begin -> begun 0.1] [0 escrow 0.1 stock -20 -> granted] [0 commit 0.1 -> committed]
+        [1 read stock -> between 20 20] => illegal 4 Reply;
+    [0 begin -> begun 0.1] [0 escrow 0.1 stock 30 -> granted] [0 commit 0.1 -> committed]
+        [1 read stock -> between 0 69] => illegal 4 Interval;
+    [0 begin -> begun 0.1] [0 escrow 0.1 stock -20 -> granted] [0 abort 0.1 -> aborted]
+        [1 read stock -> between 0 39] => illegal 4 Interval;
+    [0 begin -> begun 0.1] [0 escrow 0.1 stock -20 -> granted] [0 abort 0.1 -> aborted]
+        [1 read stock -> between 40 40] => illegal 4 Reply;
+};
+
+// The committed value, of 40 at first, changes by a commit alone.
+#[test]
+fn the_committed_value(rt: HostRuntime) {
+    assert_rows(&rt, rt.alloc(), &COMMITTED);
+}
+
+const ENDED: [Row; 9] = rows! {
+    [0 begin -> begun 0.1] [0 escrow 0.1 stock -20 -> granted] [0 escrow 0.1 stock -21 -> granted] => illegal 3 Grant;
+    [0 begin -> begun 0.1] [0 escrow 0.1 stock -20 -> granted] [0 escrow 0.1 stock -20 -> granted] => illegal 3 Reply;
+    [0 begin -> begun 0.1] [0 escrow 0.1 stock -20 -> granted] [0 abort 0.1 -> aborted]
+        [0 begin -> begun 0.2] [0 escrow 0.2 stock -41 -> granted] => illegal 5 Grant;
+    [0 begin -> begun 0.1] [0 escrow 0.1 stock -20 -> granted] [0 abort 0.1 -> aborted]
+        [0 begin -> begun 0.2] [0 escrow 0.2 stock -40 -> granted] => illegal 5 Reply;
+    [0 begin -> begun 0.1] [0 escrow 0.1 stock -20 -> granted] [0 commit 0.1 -> committed]
+        [0 begin -> begun 0.2] [0 escrow 0.2 stock -21 -> granted] => illegal 5 Grant;
+    [0 begin -> begun 0.1] [0 escrow 0.1 stock -20 -> granted] [0 commit 0.1 -> committed]
+        [0 begin -> begun 0.2] [0 escrow 0.2 stock -20 -> granted] => illegal 5 Reply;
+    [0 begin -> begun 0.1] [0 escrow 0.1 stock -20 -> granted] [0 commit 0.1 -> committed]
+        [0 begin -> begun 0.2] [0 escrow 0.2 stock 81 -> granted] => illegal 5 Grant;
+    [0 begin -> begun 0.1] [0 escrow 0.1 stock -20 -> granted] [0 commit 0.1 -> committed]
+        [0 begin -> begun 0.2] [0 escrow 0.2 stock 80 -> granted] => illegal 5 Reply;
+    [0 begin -> begun 0.1] [0 escrow 0.1 stock -20 -> granted] [0 restart -> restarted 1 nothing]
+        [0 begin -> begun 1.1] [0 escrow 1.1 stock -40 -> granted] => illegal 5 Reply;
+};
+
+// What is open bounds what may be granted until its transaction ends: the floor lies 40 below and
+// the ceiling 60 above.
+#[test]
+fn what_may_be_granted(rt: HostRuntime) {
+    assert_rows(&rt, rt.alloc(), &ENDED);
+}
+
+const SETTLED: [Row; 8] = rows! {
+    [0 begin -> begun 0.1] [0 escrow 0.1 stock -20 -> granted] [0 commit 0.1 -> unsure]
+        [1 read stock -> between 0 39] => illegal 4 Interval;
+    [0 begin -> begun 0.1] [0 escrow 0.1 stock -20 -> granted] [0 commit 0.1 -> unsure]
+        [0 restart -> restarted 1 kept] [1 read stock -> between 21 100] => illegal 5 Interval;
+    [0 begin -> begun 0.1] [0 escrow 0.1 stock -20 -> granted] [0 commit 0.1 -> unsure]
+        [0 restart -> restarted 1 lost] [1 read stock -> between 0 39] => illegal 5 Interval;
+    [0 begin -> begun 0.1] [0 escrow 0.1 stock -20 -> granted] [0 commit 0.1 -> unsure]
+        [1 begin -> begun 0.1] [1 escrow 0.1 stock -21 -> granted] => illegal 5 Grant;
+    [0 begin -> begun 0.1] [0 escrow 0.1 stock -20 -> granted] [0 commit 0.1 -> unsure]
+        [0 restart -> restarted 1 kept] [0 begin -> begun 1.1] [0 escrow 1.1 stock -21 -> granted] => illegal 6 Grant;
+    [0 begin -> begun 0.1] [0 escrow 0.1 stock -20 -> granted] [0 commit 0.1 -> unsure]
+        [0 restart -> restarted 1 kept] [0 begin -> begun 1.1] [0 escrow 1.1 stock -20 -> granted] => illegal 6 Reply;
+    [0 begin -> begun 0.1] [0 escrow 0.1 stock -20 -> granted] [0 commit 0.1 -> unsure]
+        [0 restart -> restarted 1 lost] [0 begin -> begun 1.1] [0 escrow 1.1 stock -41 -> granted] => illegal 6 Grant;
+    [0 begin -> begun 0.1] [0 escrow 0.1 stock -20 -> granted] [0 commit 0.1 -> unsure]
+        [0 restart -> restarted 1 lost] [0 begin -> begun 1.1] [0 escrow 1.1 stock -40 -> granted] => illegal 6 Reply;
+};
+
+// A commit in doubt counts from the restart that kept it.
+#[test]
+fn a_commit_that_a_restart_settles(rt: HostRuntime) {
+    assert_rows(&rt, rt.alloc(), &SETTLED);
+}
+
+const CUT_IN_DOUBT: [Row; 4] = rows! {
+    [0 tighten stock lower 20 -> unsure] [1 begin -> begun 0.1] [1 escrow 0.1 stock -40 -> granted] => illegal 3 Reply;
+    [0 tighten stock lower 20 -> unsure] [0 restart -> restarted 1 kept]
+        [1 begin -> begun 0.1] [1 escrow 0.1 stock -21 -> granted] => illegal 4 Grant;
+    [0 tighten stock lower 20 -> unsure] [0 restart -> restarted 1 lost]
+        [1 begin -> begun 0.1] [1 escrow 0.1 stock -40 -> granted] => illegal 4 Reply;
+    [0 tighten stock raise 30 -> tightened 30] [1 begin -> begun 0.1] [1 escrow 0.1 stock 31 -> granted] => illegal 3 Grant;
+};
+
+#[test]
+fn a_tightening_in_doubt(rt: HostRuntime) {
+    assert_rows(&rt, rt.alloc(), &CUT_IN_DOUBT);
+}
+
+const SHORT: [Row; 6] = rows! {
+    [0 give 1 stock lower 5 -> given 5] [0 begin -> begun 0.1] [0 escrow 0.1 stock -16 -> refused 7 short 20] => illegal 3 Shortage;
+    [0 give 1 stock lower 5 -> given 5] [1 accept 0 1 stock lower 5 -> accepted 5]
+        [1 begin -> begun 0.1] [1 escrow 0.1 stock -26 -> refused 7 short 20] => illegal 4 Shortage;
+    [0 give 1 stock lower 5 -> unsure] [0 restart -> restarted 1 kept]
+        [0 begin -> begun 1.1] [0 escrow 1.1 stock -16 -> refused 7 short 20] => illegal 4 Shortage;
+    [0 give 1 stock lower 5 -> unsure] [0 restart -> restarted 1 kept]
+        [0 begin -> begun 1.1] [0 escrow 1.1 stock -16 -> refused 7 short 15] => legal;
+    [0 spare 1 stock raise 100 -> unsure] [0 restart -> restarted 1 kept]
+        [0 begin -> begun 1.1] [0 escrow 1.1 stock 31 -> refused 7 short 30] => illegal 4 Shortage;
+    [0 spare 1 stock raise 100 -> unsure] [0 restart -> restarted 1 lost]
+        [0 begin -> begun 1.1] [0 escrow 1.1 stock 31 -> refused 7 short 15] => illegal 4 Shortage;
+};
+
+// A shortage that names the share as it was before a gift, or as it would be after one that is lost.
+#[test]
+fn shortages(rt: HostRuntime) {
+    assert_rows(&rt, rt.alloc(), &SHORT);
+}
+
 /// A run of one site: what `0 begin` and the five lines after it print.
 const RUN: [Entry; 6] = [
     entry!(0 begin -> begun 0.1),

@@ -4,3 +4,4 @@ pub mod Fronts
 pub mod Across
 pub mod Counts
 pub mod Rungs
+pub mod Exact

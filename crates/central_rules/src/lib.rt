@@ -19,7 +19,7 @@ mod verdict;
 pub use afresh::same_txn;
 pub use front::{Bounds, bounds_of, has, lies_between};
 pub use ladder::{AtPlace, fits};
-pub use laws::verdict_is_exact;
+pub use laws::{tests_are_rules, verdict_is_exact};
 pub use plain::judge_plain;
 pub use site_counts::SiteCounts;
 pub use verdict::{Rule, Verdict};

@@ -1,9 +1,10 @@
 //! The judge that sums afresh over each front.
-ghost use Rattle.std.specs.Prelude.{◌≡◌, ◌≤◌, ◌<◌, IfOk, reverse, length, Option, Some, None};
-ghost use Rattle.central_rules.specs.Verdict.{verdict_of, broken_rule, statement_test, is_issued, is_told_by, same_statement, verdict_back, grant_test, shortage_test, interval_test, test_of};
-ghost use Rattle.central_rules.specs.declared.verdict.Verdict.TheVariants.{Legal};
+ghost use Rattle.std.specs.Prelude.{◌≡◌, ◌≤◌, ◌<◌, ◌↔◌, ℕ, IfOk, reverse, length, Option, Some, None};
+ghost use Rattle.central_rules.specs.declared.verdict.Rule.{Rule};
+ghost use Rattle.central_rules.specs.Verdict.{IsFirstBad, verdict_of, broken_rule, statement_test, is_issued, is_told_by, same_statement, verdict_back, grant_test, shortage_test, interval_test, test_of};
+ghost use Rattle.central_rules.specs.declared.verdict.Verdict.TheVariants.{Legal, Illegal};
 ghost use Rattle.field_bounds.specs.Statements.{statement_of};
-ghost use Rattle.field_bounds.specs.Central.{IsSound};
+ghost use Rattle.field_bounds.specs.Central.{IsSound, IsCentral};
 ghost use Rattle.central_rules.specs.declared.verdict.Rule.TheVariants.{Reply as Owed};
 
 use crate::front::{between, has, true_share, within_bound};
@@ -17,9 +18,27 @@ use std::alloc::{AllocError, Global};
 /// which each reply was owed, else the first bad entry, counted from 1, and the first rule that it
 /// breaks. Each front is summed afresh, as the definitions read.
 ///
+/// It is Legal exactly where the trace is sound and central (`legal`); else `at` is the first bad
+/// entry, and `rule` the first rule that it breaks over the front before it (`illegal`). Over a
+/// sound trace it is Legal (`sound`).
+///
 /// The error is want of memory. Takes time in proportion to the cube of the number of entries, and
 /// memory for what took effect at one site at a time.
 pub fn judge_plain(alloc: Global, schema: &Schema, entries: &[Entry]) -> Result<Verdict, AllocError>
+    ensures verdict { IfOk result (λ verdict. verdict ≡ verdict_of schema.now entries.now) }
+    ensures legal { IfOk result (λ verdict. verdict ≡ Legal
+        ↔ (IsSound schema.now (reverse entries.now) × IsCentral schema.now (reverse entries.now))) }
+    ensures illegal { IfOk result (λ verdict. (at : ℕ) (rule : Rule) → verdict ≡ Illegal at rule →
+        IsFirstBad schema.now (reverse entries.now) at rule) }
+    ensures sound { IsSound schema.now (reverse entries.now) →
+        IfOk result (λ verdict. verdict ≡ Legal) }
+{
+    let _sites = schema.sites();
+    judge_fronts(alloc, schema, entries)
+}
+
+/// The verdict by each front in turn.
+fn judge_fronts(alloc: Global, schema: &Schema, entries: &[Entry]) -> Result<Verdict, AllocError>
     ensures verdict { IfOk result (λ verdict. verdict ≡ verdict_of schema.now entries.now) }
 {
     let _few = length_of(entries);

@@ -1,7 +1,7 @@
 use Rattle.std.proofs.Common.{List, refl, sym, subst, ◌∙◌, arith}
 use Rattle.field_bounds.specs.declared.entry.Entry.{Entry}
 use Rattle.central_rules.specs.Verdict.{verdict_back}
-use Rattle.central_machine.specs.Running.{AreRunning}
+use Rattle.central_machine.specs.Totals.{AreRunning}
 use Rattle.central_machine.proofs.Reading.{inside, shorter, next, front_is, stops, goes_on, ends, ends_legal}
 use Rattle.central_machine.proofs.judging.judge_counted.Goals as goal
 
@@ -12,7 +12,7 @@ loop-entry-init c = record { same = refl; within = omega arith; legal = refl; to
 pub returns-in-Some-2-clause-verdict : goal.returns-in-Some-2-clause-verdict
 returns-in-Some-2-clause-verdict c =
     let was = c.loop-entry.invariant in
-    let found = sym (c.in_ok-rule.ensures.rule _ was.totals was.legal) ∙ c.in-Some-2.is in
+    let found = sym (c.in_ok-rule.ensures.rule _ was.totals) ∙ c.in-Some-2.is in
     stops c.args.schema.now c.args.entries.now c.loop-entry.reader.entries.now was.same c.loop-entry.reader.read c.next.new.self.read
     c.next.result c.next.ensures.value c.next.ensures.read
     c.in-Some.entry c.in-Some.is was.legal c.in-Some-2.rule found
@@ -32,7 +32,7 @@ loop-entry-preserved c =
     let xs = c.loop-entry.reader.entries.now in
     let i = c.loop-entry.reader.read in
     let j = c.next.new.self.read in
-    let good = sym (c.in_ok-rule.ensures.rule _ was.totals was.legal) ∙ c.in_default-2.is in
+    let good = sym (c.in_ok-rule.ensures.rule _ was.totals) ∙ c.in_default-2.is in
     let front = front_is c.args.schema.now c.args.entries.now xs was.same i j c.next.result c.next.ensures.value c.next.ensures.read
     c.in-Some.entry c.in-Some.is in
     let more = next c.args.schema.now c.args.entries.now xs was.same i j c.next.result c.next.ensures.value c.next.ensures.read

@@ -1,4 +1,4 @@
-use Rattle.std.proofs.Common.{◌≤◌, ◌+◌, ◌∙◌, ap, sym, refl, subst, length, rules, arith, List, None}
+use Rattle.std.proofs.Common.{◌≤◌, ◌+◌, ◌∙◌, ap, sym, refl, length, rules, arith, None}
 use Rattle.central_rules.specs.declared.verdict.Rule.{Rule}
 use Rattle.central_rules.specs.declared.verdict.Verdict.TheVariants.{Illegal}
 use Rattle.central_machine.specs.Parts.{front_of, earliest, first_is_at}
@@ -39,6 +39,6 @@ returns g c =
     let untold = c.first_is_at.ensures ∙ ap (λ xs. first_is_at xs p) c.deref-2.ensures.value in
     record {
       verdict =
-          ap (λ (r : Rule). Illegal (p + 1) r) (c.rule_of-rule.ensures (front_of entries p) (c.in_ok-totals.ensures legal) legal)
+          ap (λ (r : Rule). Illegal (p + 1) r) (c.rule_of-rule.ensures (front_of entries p) (c.in_ok-totals.ensures legal))
           ∙ one_found schema good entries faults zip p first c.in-Some-get.entry.now at c.first_is_at.result untold;
     }

@@ -3,7 +3,7 @@ use Rattle.field_bounds.specs.declared.entry.Entry.{Entry}
 use Rattle.central_rules.specs.declared.verdict.Verdict.TheVariants.{Legal}
 use Rattle.central_rules.specs.Verdict.{verdict_back}
 use Rattle.central_rules.proofs.Fronts.{front_more}
-use Rattle.central_machine.specs.Running.{AreTotals}
+use Rattle.central_machine.specs.Totals.{AreTotals}
 use Rattle.central_machine.proofs.Found.{legal_parts, long_front}
 use Rattle.central_machine.proofs.parts.totals_of.Goals as goal
 

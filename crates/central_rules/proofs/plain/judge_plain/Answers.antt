@@ -1,18 +1,13 @@
-use Rattle.std.proofs.Common.{sym, ◌∙◌, refl, arith}
-use Rattle.central_rules.specs.Verdict.{verdict_back}
-use Rattle.central_rules.proofs.Verdicts.{stop_here, go_on}
+use Rattle.central_rules.specs.declared.verdict.Verdict.{Verdict}
+use Rattle.central_rules.proofs.Exact.{legal_of, first_of, sound_of}
 use Rattle.central_rules.proofs.plain.judge_plain.Goals as goal
 
-pub loop-i-init : goal.loop-i-init
-unfolding verdict_back
-loop-i-init c = refl
+pub returns-clause-legal : goal.returns-clause-legal
+returns-clause-legal c = legal_of (λ (v : Verdict). v) c.args.schema.now c.args.entries.now c.judge_fronts.result c.judge_fronts.ensures.verdict
 
-pub returns-in-Some : goal.returns-in-Some
-returns-in-Some c = record {
-  verdict = stop_here c.args.schema.now c.args.entries.now c.loop-i.i _ (omega arith) c.loop-i.invariant c.in-Some.rule
-      (sym c.in_ok-rule.ensures ∙ c.in-Some.is);
-}
+pub returns-clause-illegal : goal.returns-clause-illegal
+returns-clause-illegal c = first_of (λ (v : Verdict). v) c.args.schema.now c.args.entries.now c.judge_fronts.result c.judge_fronts.ensures.verdict
 
-pub loop-i-preserved : goal.loop-i-preserved
-loop-i-preserved c = go_on c.args.schema.now c.args.entries.now c.loop-i.i _ (omega arith) c.loop-i.invariant
-    (sym c.in_ok-rule.ensures ∙ c.in_default.is)
+pub returns-clause-sound : goal.returns-clause-sound
+returns-clause-sound c = λ sound.
+    sound_of (λ (v : Verdict). v) c.args.schema.now c.args.entries.now c.judge_fronts.result c.judge_fronts.ensures.verdict c.sites-sites.ensures.limits sound

@@ -1,0 +1,145 @@
+-- The sums of all sites over the fields of a window, and what one more effect does to them (this project).
+use Rattle.std.specs.Prelude.{◌≡◌, ℕ, ◌+◌, ◌-◌, ◌<◌, ◌≤◌, ℤ, pos, ◌+ℤ◌, unsigned_abs, nat_lt, if◌then◌else◌, true, List, length, Option, Some, None}
+use Rattle.field_bounds.specs.declared.kind.Kind.{Kind}
+use Rattle.field_bounds.specs.declared.kind.Kind.TheVariants.{Lower, Raise}
+use Rattle.field_bounds.specs.declared.effect.Effect.{Effect}
+use Rattle.field_bounds.specs.declared.effect.Effect.TheVariants.{Begins, Grants, Commits, Aborts, Gives, Accepts, Stops}
+use Rattle.field_bounds.specs.declared.entry.Escrow.{Escrow as EscrowOf}
+use Rattle.field_bounds.specs.declared.entry.Reply.{Reply}
+use Rattle.field_bounds.specs.declared.entry.Reply.TheVariants.{Begun, Granted, Committed, Aborted, Given, Stated, Spared, Tightened, Accepted, Between, Shares, Restarted, Unsure, StillDown, Refused}
+use Rattle.field_bounds.specs.declared.entry.Entry.{Entry}
+use Rattle.field_bounds.specs.Kind.{other, kind_of}
+use Rattle.field_bounds.specs.Schema.{SchemaValue}
+use Rattle.field_bounds.specs.Parts.{field_at}
+use Rattle.field_bounds.specs.Effects.{says_doubt_kept}
+use Rattle.field_bounds.specs.Central.{committed_value, open_sizes, cuts}
+use Rattle.central_machine.specs.declared.amounts.Amounts.{Amounts}
+use Rattle.central_machine.specs.declared.journal.OpenTransaction.{OpenTransaction}
+use Rattle.central_machine.specs.declared.numbers.Numbers.{Numbers}
+use Rattle.central_machine.specs.declared.window.Window.{Window}
+use Rattle.central_machine.specs.declared.field_sums.FieldSums.{FieldSums}
+use Rattle.central_machine.specs.Amounts.{amount, has_slot, IsPut, capped_sum}
+use Rattle.central_machine.specs.Open.{escrows_at}
+use Rattle.central_machine.specs.Running.{sizes_taken, settled_effect}
+
+-- The place of a field in a window.
+abbrev pub window_place : Window → ℕ → Option ℕ
+window_place w f = if nat_lt f w.first then None else if nat_lt (f - w.first) w.count then Some (f - w.first) else None
+
+abbrev pub Grows : Amounts → Amounts → ℕ → Kind → ℕ → Type 0
+Grows n m place kind size = IsPut n m place kind (capped_sum (amount n place kind + size))
+
+abbrev pub Shrinks : Amounts → Amounts → ℕ → Kind → ℕ → Type 0
+Shrinks n m place kind size = IsPut n m place kind (amount n place kind - size)
+
+-- Escrows are committed: the room of their kind goes over to the other.
+pub record Moves (n m : FieldSums) (escrows : List EscrowOf) : Type 0 where
+  pub room : (f : ℕ) (k : Kind) → has_slot n.room f ≡ true → amount n.room f k ≤ 18446744073709551615
+      → amount m.room f k ≡ capped_sum (amount n.room f k + sizes_taken f (other k) escrows) - sizes_taken f k escrows
+  pub places : (g : ℕ) → has_slot m.room g ≡ has_slot n.room g
+  pub aside_same : m.aside ≡ n.aside
+  pub cut_same : m.cut ≡ n.cut
+
+pub record Tightens (n m : FieldSums) (f : ℕ) (k : Kind) (size : ℕ) : Type 0 where
+  pub cut : Grows n.cut m.cut f k size
+  pub room_same : m.room ≡ n.room
+  pub aside_same : m.aside ≡ n.aside
+
+-- What an effect that was in doubt and is kept does to the room and the cut.
+abbrev pub SettlesDoubt : Option Effect → List OpenTransaction → FieldSums → FieldSums → Type 0
+SettlesDoubt None rows n m = m ≡ n
+SettlesDoubt (Some (Begins txn)) rows n m = m ≡ n
+SettlesDoubt (Some (Grants txn field change)) rows n m = m ≡ n
+SettlesDoubt (Some (Commits txn)) rows n m = Moves n m (escrows_at txn rows)
+SettlesDoubt (Some (Aborts txn)) rows n m = m ≡ n
+SettlesDoubt (Some (Gives None field kind size)) rows n m = Tightens n m field.0 kind size
+SettlesDoubt (Some (Gives (Some to) field kind size)) rows n m = m ≡ n
+SettlesDoubt (Some (Accepts from field kind total)) rows n m = m ≡ n
+SettlesDoubt (Some Stops) rows n m = m ≡ n
+
+-- The sums but for what is open.
+pub record KeepsRest (n m : FieldSums) : Type 0 where
+  pub room : m.room ≡ n.room
+  pub cut : m.cut ≡ n.cut
+
+-- An escrow is open.
+pub record SetAside (n m : FieldSums) (f : ℕ) (change : ℤ) : Type 0 where
+  pub more : Grows n.aside m.aside f (kind_of change) (unsigned_abs change)
+  pub rest : KeepsRest n m
+
+-- Escrows aren't open any more.
+pub record Closes (n m : FieldSums) (escrows : List EscrowOf) : Type 0 where
+  pub less : (f : ℕ) (k : Kind) → has_slot n.aside f ≡ true → amount m.aside f k ≡ amount n.aside f k - sizes_taken f k escrows
+  pub places : (g : ℕ) → has_slot m.aside g ≡ has_slot n.aside g
+  pub rest : KeepsRest n m
+
+-- What is open less all that a site holds.
+pub record ClosesAll (n m : FieldSums) (x : Numbers) : Type 0 where
+  pub less : (f : ℕ) (k : Kind) → f < x.stride → has_slot n.aside f ≡ true → amount m.aside f k ≡ amount n.aside f k - amount x.held f k
+  pub places : (g : ℕ) → has_slot m.aside g ≡ has_slot n.aside g
+  pub rest : KeepsRest n m
+
+-- Escrows are committed, and then aren't open any more.
+pub record CommitsAndCloses (n m : FieldSums) (escrows : List EscrowOf) : Type 0 where
+  pub mid : FieldSums
+  pub moves : Moves n mid escrows
+  pub closes : Closes mid m escrows
+
+-- The sums with one more effect.
+abbrev pub SumsTake : Option Effect → List OpenTransaction → FieldSums → FieldSums → Type 0
+SumsTake None rows n m = m ≡ n
+SumsTake (Some (Begins txn)) rows n m = m ≡ n
+SumsTake (Some (Grants txn field change)) rows n m = SetAside n m field.0 change
+SumsTake (Some (Commits txn)) rows n m = CommitsAndCloses n m (escrows_at txn rows)
+SumsTake (Some (Aborts txn)) rows n m = Closes n m (escrows_at txn rows)
+SumsTake (Some (Gives None field kind size)) rows n m = Tightens n m field.0 kind size
+SumsTake (Some (Gives (Some to) field kind size)) rows n m = m ≡ n
+SumsTake (Some (Accepts from field kind total)) rows n m = m ≡ n
+SumsTake (Some Stops) rows n m = m ≡ n
+
+-- The sums after one more reply, with this effect where it isn't in doubt.
+abbrev pub SumsAfter : Option Effect → Reply → Option Effect → Numbers → FieldSums → FieldSums → Type 0
+SumsAfter effect (Begun txn) d x n m = SumsTake effect x.journal.rows.items n m
+SumsAfter effect Granted d x n m = SumsTake effect x.journal.rows.items n m
+SumsAfter effect Committed d x n m = SumsTake effect x.journal.rows.items n m
+SumsAfter effect Aborted d x n m = SumsTake effect x.journal.rows.items n m
+SumsAfter effect (Given total) d x n m = SumsTake effect x.journal.rows.items n m
+SumsAfter effect (Stated total) d x n m = SumsTake effect x.journal.rows.items n m
+SumsAfter effect (Spared amount total) d x n m = SumsTake effect x.journal.rows.items n m
+SumsAfter effect (Tightened total) d x n m = SumsTake effect x.journal.rows.items n m
+SumsAfter effect (Accepted gain) d x n m = SumsTake effect x.journal.rows.items n m
+SumsAfter effect (Between lo hi) d x n m = SumsTake effect x.journal.rows.items n m
+SumsAfter effect (Shares lower raise) d x n m = SumsTake effect x.journal.rows.items n m
+SumsAfter effect (Restarted epoch found) d x n m =
+    (mid : FieldSums) × SettlesDoubt (settled_effect (says_doubt_kept found) d) x.journal.rows.items n mid × ClosesAll mid m x
+SumsAfter effect Unsure d x n m = m ≡ n
+SumsAfter effect StillDown d x n m = SumsTake effect x.journal.rows.items n m
+SumsAfter effect (Refused refusal) d x n m = SumsTake effect x.journal.rows.items n m
+
+-- The amounts at a place are how far the start value of a field stands above the floor and below the ceiling.
+pub record IsRoom (schema : SchemaValue) (field : ℕ) (a : Amounts) (place : ℕ) : Type 0 where
+  pub slot : has_slot a place ≡ true
+  pub low : (field_at schema field).floor +ℤ pos (amount a place Lower) ≡ (field_at schema field).value
+  pub high : (field_at schema field).value +ℤ pos (amount a place Raise) ≡ (field_at schema field).ceiling
+
+-- The sums are those of a front, on the fields of a window: how far the committed value stands from both bounds of the
+-- schema, the sizes of the open escrows, and what was given up.
+pub record AreSums (schema : SchemaValue) (w : Window) (t : List Entry) (x : FieldSums) : Type 0 where
+  pub room_in : (f : ℕ) → f < w.count → has_slot x.room f ≡ true
+  pub aside_in : (f : ℕ) → f < w.count → has_slot x.aside f ≡ true
+  pub cut_in : (f : ℕ) → f < w.count → has_slot x.cut f ≡ true
+  pub low : (f : ℕ) → f < w.count
+      → (field_at schema (w.first + f)).floor +ℤ pos (amount x.room f Lower) ≡ committed_value schema t (w.first + f)
+  pub high : (f : ℕ) → f < w.count
+      → committed_value schema t (w.first + f) +ℤ pos (amount x.room f Raise) ≡ (field_at schema (w.first + f)).ceiling
+  pub aside : (f : ℕ) (k : Kind) → f < w.count → amount x.aside f k ≡ open_sizes schema t (w.first + f) k
+  pub cut : (f : ℕ) (k : Kind) → f < w.count → amount x.cut f k ≡ cuts schema t (w.first + f) k
+
+-- The window lies in the schema.
+abbrev pub IsWindow : SchemaValue → Window → Type 0
+IsWindow schema w = w.first + w.count ≤ length schema.fields
+
+-- The window is the whole schema.
+pub record IsWhole (schema : SchemaValue) (w : Window) : Type 0 where
+  pub first : w.first ≡ 0
+  pub count : w.count ≡ length schema.fields

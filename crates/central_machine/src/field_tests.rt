@@ -1,0 +1,106 @@
+//! The rules on fields that one central store keeps, tested by the sums of a front.
+
+ghost use Rattle.std.specs.Prelude.{◌≡◌, ℕ, ◌+◌, ◌<◌, ◌&&◌, int_le, List, length};
+ghost use Rattle.field_bounds.specs.declared.entry.Entry.{Entry};
+ghost use Rattle.field_bounds.specs.Schema.{SchemaValue};
+ghost use Rattle.field_bounds.specs.Central.{committed_value};
+ghost use Rattle.central_rules.specs.Verdict.{within_bound, test_of};
+ghost use Rattle.central_rules.specs.declared.verdict.Rule.TheVariants.{Grant, Interval};
+ghost use Rattle.central_machine.specs.Sums.{AreSums, IsWhole};
+
+use crate::field_sums::FieldSums;
+use crate::window::Window;
+use central_rules::{Bounds, bounds_of, has, lies_between};
+use field_bounds::{Command, Entry, FieldNo, Kind, Reply, Schema};
+
+/// Bounds with the floor as the value.
+fn at_floor(bounds: Bounds) -> Bounds
+    ensures value { result.value ≡ bounds.floor }
+{
+    Bounds {
+        floor: bounds.floor,
+        ceiling: bounds.ceiling,
+        value: bounds.floor,
+    }
+}
+
+impl FieldSums {
+    /// Whether one central store may grant a change of a kind, of this size: the infimum less it
+    /// lies at the floor or above, or the supremum and it at the ceiling or below, where floor and
+    /// ceiling are tightened by what was given up.
+    fn may_grant(&self, place: usize, kind: Kind, by: u64) -> bool
+        ensures { (schema : SchemaValue) (w : Window) (t : List Entry) (f : ℕ) →
+            AreSums schema w t self.now → place < w.count → f ≡ w.first + place →
+            result ≡ within_bound schema t f by kind }
+    {
+        let aside = u128::from(self.aside.at(place, kind));
+        let cut = u128::from(self.cut.at(place, kind));
+        aside + cut + u128::from(by) <= u128::from(self.room.at(place, kind))
+    }
+
+    /// Whether the committed value of a field, at a place of the window, lies between the two.
+    fn holds_between(&self, schema: &Schema, field: FieldNo, place: usize, lo: i64, hi: i64) -> bool
+        ensures { (w : Window) (t : List Entry) → AreSums schema.now w t self.now →
+            place < w.count → field.0 ≡ w.first + place → field.0 < length schema.now.fields →
+            result ≡ (int_le lo (committed_value schema.now t field.0)
+            && int_le (committed_value schema.now t field.0) hi) }
+    {
+        if !has(schema, field) {
+            return true;
+        }
+        let from_floor = at_floor(bounds_of(schema, field));
+        let above = u128::from(self.room.at(place, Kind::Lower));
+        lies_between(lo, hi, &from_floor, above, 0)
+    }
+
+    /// Whether an entry keeps the rule on grants: what is granted or given up on a field is allowed
+    /// by the infimum or the supremum.
+    pub fn grant_holds(&self, window: Window, entry: &Entry) -> bool
+        ensures { (schema : SchemaValue) (t : List Entry) → IsWhole schema window →
+            AreSums schema window t self.now → result ≡ test_of schema t entry.now Grant }
+    {
+        match (entry.command, entry.reply) {
+            (Command::Escrow { field, change, .. }, Reply::Granted) => {
+                match window.place(field) {
+                    Some(place) => {
+                        let size = change.unsigned_abs();
+                        self.may_grant(usize::from(place), Kind::of(change), size)
+                    }
+                    None => true,
+                }
+            }
+            (
+                Command::Tighten {
+                    field,
+                    kind,
+                    amount,
+                },
+                Reply::Tightened { .. },
+            ) => {
+                match window.place(field) {
+                    Some(place) => self.may_grant(usize::from(place), kind, amount),
+                    None => true,
+                }
+            }
+            _ => true,
+        }
+    }
+
+    /// Whether an entry keeps the rule on intervals: one that was read of a field holds its
+    /// committed value.
+    pub fn interval_holds(&self, window: Window, schema: &Schema, entry: &Entry) -> bool
+        ensures { (t : List Entry) → IsWhole schema.now window →
+            AreSums schema.now window t self.now →
+            result ≡ test_of schema.now t entry.now Interval }
+    {
+        match (entry.command, entry.reply) {
+            (Command::Read { field }, Reply::Between { lo, hi }) => {
+                match window.place(field) {
+                    Some(place) => self.holds_between(schema, field, usize::from(place), lo, hi),
+                    None => true,
+                }
+            }
+            _ => true,
+        }
+    }
+}
