@@ -1,0 +1,35 @@
+"""A client of a served site of escrow: quantities that never pass a bound.
+
+    import escrow
+    escrow.create("shop0", "world.json", 0)         # once
+    with escrow.Site("shop0") as site:
+        with site.transaction() as t:
+            t.lower("stock", 3)
+"""
+
+from .errors import (
+    Down,
+    EscrowError,
+    Forged,
+    Lost,
+    NothingGiven,
+    Over,
+    ProgramError,
+    Refusal,
+    Refused,
+    Short,
+    Unknown,
+)
+from .pipeline import Counts, Watch
+from .program import Shown, create, find_program, show
+from .schema import Field, Schema
+from .site import AsyncSite, Site
+from .supervisor import Backoff
+from .transaction import AsyncTransaction, Transaction
+from .values import Interval, Kind, Mark, Outcome, Share, Spared, Statement
+
+__all__ = [
+    "AsyncSite", "AsyncTransaction", "Backoff", "Counts", "Down", "EscrowError", "Field", "Forged", "Interval", "Kind",
+    "Lost", "Mark", "NothingGiven", "Outcome", "Over", "ProgramError", "Refusal", "Refused", "Schema", "Share", "Short",
+    "Shown", "Site", "Spared", "Statement", "Transaction", "Unknown", "Watch", "create", "find_program", "show",
+]  # fmt: skip

@@ -1,0 +1,343 @@
+"""What can be asked of a served site: the lines that go out, and what their answers mean."""
+
+from __future__ import annotations
+
+import enum
+from collections.abc import Callable, Sequence
+from typing import ClassVar, Generic, Optional, Protocol, TypeVar
+
+from .errors import Faulty, Unknown, refused
+from .values import Command, Outcome
+from .waiters import Waiter
+
+T = TypeVar("T")
+ARROW = " -> "
+
+
+class Run(Protocol):
+    """The process as it now stands."""
+
+    number: int
+    """The number of the site."""
+    epoch: int
+
+    def new_id(self) -> str:
+        """The id that the next begin is answered with, where its line goes out next. Raises `EpochFull`."""
+
+    def standing(self, id: str) -> Standing:
+        """Where a transaction stands in this process, by the lines that went out."""
+
+
+class Standing(enum.Enum):
+    """Where a transaction stands in a process."""
+
+    LATER = enum.auto()
+    """Its epoch isn't begun yet."""
+    UNBEGUN = enum.auto()
+    """It isn't begun yet."""
+    OPEN = enum.auto()
+    ENDED = enum.auto()
+
+
+class Call(Generic[T]):
+    """Lines that go out together, and who waits for what their answers mean.
+
+    `plan` is asked in the order of the lines, under the pipeline's lock. It leaves in `text` the lines, and in
+    `expected` the one text of answers for which `told` needn't be asked, whose result is None; empty where there is
+    none.
+    """
+
+    __slots__ = ("waiter", "text", "expected", "result", "began")
+
+    waiter: Optional[Waiter]
+    text: str
+    expected: str
+    result: object
+    """What the answers mean, or the exception to raise."""
+    began: float
+
+    command: ClassVar[Command]
+    field: ClassVar[str] = ""
+    again: ClassVar[bool] = False
+    """Whether it is made again after a stop that left its answer out: it changes nothing that counts twice."""
+    opens: ClassVar[bool] = False
+    """Whether it takes a place among the open transactions."""
+    closes: ClassVar[bool] = False
+    """Whether it leaves one."""
+    bound: ClassVar[bool] = False
+    """Whether it belongs to a transaction that ends with the process."""
+
+    def plan(self, run: Run) -> None:
+        """Sets `text`, lines each with its line feed, and `expected`. Raises what is wrong with asking it now: then
+        nothing goes out."""
+        raise NotImplementedError
+
+    def stopped(self) -> None:
+        """The process stopped before it was asked, and it is bound to it."""
+
+    def told(self, replies: Sequence[Reply]) -> T:
+        """What the replies mean, one for each line. Raises `Refused`."""
+        raise NotImplementedError
+
+    def take(self, buffer: str, at: int) -> int:
+        """Takes its answers out of the buffer: where they end, or -1 where they haven't all come.
+
+        Raises `Faulty` where they don't fit the lines.
+        """
+        replies: list[Reply] = []
+        for line in self.text.split("\n")[:-1]:
+            end = buffer.find("\n", at)
+            if end < 0:
+                return -1
+            replies.append(_reply(buffer[at:end], line))
+            at = end + 1
+        try:
+            self.result = self.told(replies)
+        except Faulty:
+            raise
+        except Exception as fault:
+            self.result = fault
+        return at
+
+
+class Reply:
+    """What one line was answered."""
+
+    __slots__ = ("line", "text")
+
+    def __init__(self, line: str, text: str) -> None:
+        self.line, self.text = line, text
+
+    def words(self, first: str) -> list[str]:
+        """Its words, the first of which is to be this one. Raises `Refused` where it is a refusal, and `Faulty` where
+        it is another."""
+        told = self.text.split(" ")
+        if told[0] == "refused":
+            raise refused(told, self.line)
+        if told[0] != first:
+            raise Faulty(f"{self.line!r} was answered {self.text!r}")
+        return told
+
+
+def _reply(answer: str, line: str) -> Reply:
+    if not answer.startswith(line + ARROW):
+        raise Faulty(f"{answer!r} doesn't answer {line!r}")
+    return Reply(line, answer[len(line) + len(ARROW) :])
+
+
+class Line(Call[T]):
+    """One line, and what is read from the words of its reply."""
+
+    __slots__ = ("command", "field", "again", "_read")
+
+    def __init__(
+        self, command: Command, line: str, read: Callable[[list[str]], T], *, again: bool, field: str = ""
+    ) -> None:
+        self.command, self.field, self.again = command, field, again  # type: ignore[misc]
+        self.text, self.expected = line + "\n", ""
+        self._read = read
+
+    def plan(self, run: Run) -> None:
+        """It is the same at any time."""
+
+    def told(self, replies: Sequence[Reply]) -> T:
+        return self._read(replies[0].words(_FIRST[self.command]))
+
+
+_FIRST = {
+    Command.GIVE: "given",
+    Command.SPARE: "spared",
+    Command.RESTATE: "stated",
+    Command.ACCEPT: "accepted",
+    Command.TIGHTEN: "tightened",
+    Command.READ: "between",
+    Command.SHARE: "share",
+}
+"""The first words of the replies that aren't refusals."""
+
+
+class Shape:
+    """What the lines of one change of a field, and their answers, have in common: the pieces between the ids."""
+
+    __slots__ = ("asked_1", "asked_2", "told_1", "told_2", "told_3")
+
+    def __init__(self, number: int, field: str, change: int) -> None:
+        self.asked_1 = f"{number} begin\n{number} escrow "
+        self.asked_2 = f" {field} {change}\n{number} commit "
+        self.told_1 = f"{number} begin -> begun "
+        self.told_2 = f"\n{number} escrow "
+        self.told_3 = f" {field} {change} -> granted\n{number} commit "
+
+
+class Change(Call[None]):
+    """A transaction of one change, in one trip: begin, escrow and commit. `id` is that of the last try."""
+
+    __slots__ = ("id", "_shape")
+    command = Command.CHANGE
+
+    def __init__(self, shape: Shape) -> None:
+        self._shape = shape
+
+    def plan(self, run: Run) -> None:
+        own = self.id = run.new_id()
+        shape = self._shape
+        self.text = f"{shape.asked_1}{own}{shape.asked_2}{own}\n"
+        self.expected = f"{shape.told_1}{own}{shape.told_2}{own}{shape.told_3}{own} -> committed\n"
+
+    def told(self, replies: Sequence[Reply]) -> None:
+        _begun(replies[0], self.id)
+        replies[1].words("granted")
+        replies[2].words("committed")
+
+
+def _begun(reply: Reply, own: str) -> None:
+    if reply.words("begun") != ["begun", own]:
+        raise Faulty(f"{reply.text!r} where {own} was to be begun")
+
+
+class Account(Protocol):
+    """A transaction, as its calls see it: where it stands. Asked under the pipeline's lock."""
+
+    id: str
+
+    def begins(self, run: Run) -> str:
+        """It begins now: its id. Raises `Over` where it has ended meanwhile."""
+
+    def goes_on(self, run: Run) -> str:
+        """Its id, where it is still open. Raises `Over` where it isn't."""
+
+    def ends(self, run: Run) -> str:
+        """It ends now: its id. Raises `Over` where it has ended."""
+
+    def stopped(self) -> None:
+        """It was to end, and the process stopped before."""
+
+
+class First(Call[None]):
+    """The first call of a transaction: begin and escrow."""
+
+    __slots__ = ("_account", "_what")
+    command = Command.ESCROW
+    again = True
+    opens = True
+
+    def __init__(self, account: Account, field: str, change: int) -> None:
+        self.waiter = None
+        self._account, self._what = account, f"{field} {change}"
+
+    def plan(self, run: Run) -> None:
+        n, own = run.number, self._account.begins(run)
+        self.text = f"{n} begin\n{n} escrow {own} {self._what}\n"
+        self.expected = f"{n} begin -> begun {own}\n{n} escrow {own} {self._what} -> granted\n"
+
+    def told(self, replies: Sequence[Reply]) -> None:
+        _begun(replies[0], self._account.id)
+        replies[1].words("granted")
+
+
+class Later(Call[None]):
+    """A later escrow of a transaction."""
+
+    __slots__ = ("_account", "_what")
+    command = Command.ESCROW
+    bound = True
+
+    def __init__(self, account: Account, field: str, change: int) -> None:
+        self._account, self._what = account, f"{field} {change}"
+
+    def plan(self, run: Run) -> None:
+        line = f"{run.number} escrow {self._account.goes_on(run)} {self._what}"
+        self.text, self.expected = f"{line}\n", f"{line} -> granted\n"
+
+    def told(self, replies: Sequence[Reply]) -> None:
+        replies[0].words("granted")
+
+
+class Commit(Call[None]):
+    """The commit of a transaction."""
+
+    __slots__ = ("_account",)
+    command = Command.COMMIT
+    closes = True
+    bound = True
+
+    def __init__(self, account: Account) -> None:
+        self._account = account
+
+    def plan(self, run: Run) -> None:
+        line = f"{run.number} commit {self._account.ends(run)}"
+        self.text, self.expected = f"{line}\n", f"{line} -> committed\n"
+
+    def stopped(self) -> None:
+        self._account.stopped()
+
+    def told(self, replies: Sequence[Reply]) -> None:
+        replies[0].words("committed")
+
+
+class Abort(Call[None]):
+    """The abort of a transaction."""
+
+    __slots__ = ("_account",)
+    command = Command.ABORT
+    closes = True
+    bound = True
+
+    def __init__(self, account: Account) -> None:
+        self._account = account
+
+    def plan(self, run: Run) -> None:
+        line = f"{run.number} abort {self._account.ends(run)}"
+        self.text, self.expected = f"{line}\n", f"{line} -> aborted\n"
+
+    def stopped(self) -> None:
+        self._account.stopped()
+
+    def told(self, replies: Sequence[Reply]) -> None:
+        replies[0].words("aborted")
+
+
+class GiveBack(Call[None]):
+    """The abort of a transaction whose time is up. Nobody waits for it."""
+
+    __slots__ = ("_id",)
+    command = Command.ABORT
+    closes = True
+    bound = True
+
+    def __init__(self, id: str) -> None:
+        self.waiter = None
+        self._id = id
+
+    def plan(self, run: Run) -> None:
+        self.text, self.expected = f"{run.number} abort {self._id}\n", ""
+
+    def told(self, replies: Sequence[Reply]) -> None:
+        replies[0].words("aborted")
+
+
+class Kept(Call[Outcome]):
+    """What became of a transaction."""
+
+    __slots__ = ("_id", "_is_open")
+    command = Command.KEPT
+    again = True
+
+    def __init__(self, id: str) -> None:
+        self._id, self._is_open = id, False
+        self.text, self.expected = f"kept {id}\n", ""
+
+    def plan(self, run: Run) -> None:
+        standing = run.standing(self._id)
+        if standing is Standing.LATER:
+            raise Unknown("its epoch is later than any of the log: an older log was put back", self._id)
+        if standing is Standing.UNBEGUN:
+            raise ValueError(f"{self._id}: no such transaction was begun yet")
+        self._is_open = standing is Standing.OPEN
+
+    def told(self, replies: Sequence[Reply]) -> Outcome:
+        if replies[0].text == "yes":
+            return Outcome.COMMITTED
+        if replies[0].text != "no":
+            raise Faulty(f"{replies[0].line!r} was answered {replies[0].text!r}")
+        return Outcome.OPEN if self._is_open else Outcome.NOT_COMMITTED

@@ -1,0 +1,180 @@
+"""What a call of a site raises, each with what to do then."""
+
+from __future__ import annotations
+
+import enum
+from collections.abc import Sequence
+from typing import Optional
+
+from .values import Kind
+
+
+class Refusal(enum.IntEnum):
+    """The numbers of the refusals."""
+
+    DOWN = 1
+    NO_SITE = 2
+    NO_FIELD = 3
+    NO_TRANSACTION = 4
+    ZERO = 5
+    TOO_LARGE = 6
+    SHORT = 7
+    SELF_GIFT = 8
+    LEDGER_FULL = 9
+    NOT_YOURS = 10
+    FORGED = 11
+    TOO_MANY_OPEN = 12
+    TOO_MANY_ESCROWS = 13
+    NUMBERS_FULL = 14
+    NOTHING_GIVEN = 15
+
+    @property
+    def reason(self) -> str:
+        """The words of the refusal."""
+        return self.name.lower().replace("_", " ")
+
+    @property
+    def advice(self) -> str:
+        """What to do."""
+        return _ADVICE[self]
+
+
+_ADVICE = {
+    Refusal.DOWN: "wait until the site stands again",
+    Refusal.NO_SITE: "name a site of the schema: they are numbered from 0",
+    Refusal.NO_FIELD: "name a field of the schema",
+    Refusal.NO_TRANSACTION: "begin anew: the transaction has ended, or the site was restarted",
+    Refusal.ZERO: "ask for at least 1",
+    Refusal.TOO_LARGE: "ask for at most 2 * 10^15",
+    Refusal.SHORT: "ask for at most the share, or get rights of other sites",
+    Refusal.SELF_GIFT: "name another site",
+    Refusal.LEDGER_FULL: "settle the world and begin a new one: more than 10^18 were given to that site",
+    Refusal.NOT_YOURS: "hand the statement to the site that it is for",
+    Refusal.FORGED: "raise an alarm: no site of this world can have issued this statement",
+    Refusal.TOO_MANY_OPEN: "end a transaction: a site has at most 64 open",
+    Refusal.TOO_MANY_ESCROWS: "commit, and begin another: a transaction sets aside at most 16 times",
+    Refusal.NUMBERS_FULL: "restart the site: a new epoch counts from 1",
+    Refusal.NOTHING_GIVEN: "there is nothing to state: nothing was given yet",
+}
+
+
+class EscrowError(Exception):
+    """Any trouble with a site."""
+
+
+class Refused(EscrowError):
+    """The site refused, and nothing was changed.
+
+    `number` is the refusal's, `reason` its words, `advice` what to do, `told` the quantity that some refusals tell, and
+    `asked` the line that was refused.
+    """
+
+    def __init__(self, number: Refusal, told: Optional[int], asked: str) -> None:
+        self.number = number
+        self.reason = number.reason
+        self.advice = number.advice
+        self.told = told
+        self.asked = asked
+        tail = "" if told is None else f" {told}"
+        super().__init__(f"{asked}: refused {int(number)} {self.reason}{tail}: {self.advice}")
+
+
+class Short(Refused):
+    """The site has too few free rights of the kind."""
+
+    @property
+    def share(self) -> int:
+        """How many it has, in quantities: less than was asked for."""
+        return self.told or 0
+
+    @property
+    def field(self) -> str:
+        """The field."""
+        return self._words()[0]
+
+    @property
+    def kind(self) -> Kind:
+        """The kind of rights that it has too few of."""
+        told = self._words()[1]
+        if told in ("lower", "raise"):
+            return Kind(told)
+        return Kind.LOWER if told.startswith("-") else Kind.RAISE
+
+    def _words(self) -> list[str]:
+        words = self.asked.split(" ")
+        return words[2:] if words[1] == "tighten" else words[3:]
+
+
+class Forged(Refused):
+    """A statement that no site can have issued: it tells more than there is room for."""
+
+
+class NothingGiven(Refused):
+    """There is nothing to state: nothing was given to that site yet, of that kind, on that field."""
+
+
+class Lost(EscrowError):
+    """A stop of the site came before the commit: the transaction isn't committed, and never will be. Begin anew."""
+
+
+class Over(EscrowError):
+    """The transaction has ended: it was committed or aborted, its time was up, or a stop of the site aborted it. Begin
+    anew."""
+
+
+class Unknown(EscrowError):
+    """A stop of the site left the answer out, and what happened can't be told now. Tell the customer nothing yet.
+
+    `id` is that of the transaction, where there is one: `Site.outcome` tells of it once the site stands again.
+    """
+
+    def __init__(self, why: str, id: Optional[str] = None) -> None:
+        self.id = id
+        super().__init__(why if id is None else f"transaction {id}: {why}")
+
+
+class Down(EscrowError):
+    """The site isn't served. What was called was never asked of it, and nothing was changed.
+
+    `status` is the one with which the program ended, where it did.
+    """
+
+    def __init__(self, why: str, status: Optional[int] = None) -> None:
+        self.status = status
+        super().__init__(why)
+
+
+class ProgramError(EscrowError):
+    """A run of the program, as `create` or `show`, ended with this status and told why."""
+
+    def __init__(self, status: int, why: str) -> None:
+        self.status = status
+        super().__init__(why)
+
+
+class Interrupted(EscrowError):
+    """A stop left the answer out. The calls of a site look up what happened, so this never reaches who called."""
+
+
+class EpochFull(EscrowError):
+    """The epoch has no number left for a transaction. The process is ended and started again, so this never reaches who
+    called."""
+
+
+class Faulty(EscrowError):
+    """What the program answered doesn't fit what it was asked. The process is ended, and what it did is looked up."""
+
+
+_CLASSES = {Refusal.SHORT: Short, Refusal.FORGED: Forged, Refusal.NOTHING_GIVEN: NothingGiven}
+
+
+def refused(words: Sequence[str], asked: str) -> Refused:
+    """The exception for a reply `refused NUMBER WORDS`, and a quantity where one is told."""
+    number = Refusal(int(words[1]))
+    told = int(words[-1]) if len(words) > 2 and words[-1].isdigit() else None
+    return _CLASSES.get(number, Refused)(number, told, asked)
+
+
+def gone() -> Over:
+    """What a transaction is told that a stop has ended."""
+    return Over("the transaction has ended: a stop of the site aborted it")

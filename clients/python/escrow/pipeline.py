@@ -1,0 +1,407 @@
+"""The calls of many threads and tasks, in one order over one pipe, each with its own answers."""
+
+from __future__ import annotations
+
+import itertools
+import os
+import select
+import threading
+import time
+from collections import deque
+from collections.abc import Callable, Iterable
+from dataclasses import dataclass, field
+from typing import Any, Optional, Protocol
+
+from .calls import Call, Shape, Standing
+from .errors import Down, EpochFull, EscrowError, Faulty, Interrupted, Lost, Over, Refusal, Refused, Short, Unknown, gone
+from .numbers import change_of, read_id
+from .values import Command, Kind, Share, Spared, Statement
+from .waiters import settle
+
+PLACES = 63
+"""How many transactions are open at most: a site has 64 places, and one is left for changes in one trip."""
+SHAPES = 4096
+"""How many changes' shapes are kept at most."""
+NUMBERS = 1_000_000_000
+"""How many transactions an epoch has: then the process is started anew."""
+
+
+class Watch(Protocol):
+    """Who counts what happens: `escrow.metrics.Metrics` does. Called from several threads, sometimes under a lock."""
+
+    def answered(self, command: str, seconds: float, count: int = 1) -> None:
+        """An answer came, so many seconds after it was asked."""
+
+    def refused(self, command: str, number: int, reason: str) -> None:
+        """It was a refusal."""
+
+    def shared(self, field: str, lower: Optional[int] = None, raise_: Optional[int] = None) -> None:
+        """The site told free rights."""
+
+    def started(self, epoch: int, length: int) -> None:
+        """The process is ready."""
+
+    def stopped(self, status: int) -> None:
+        """The process has ended."""
+
+    def missed(self, outcome: str) -> None:
+        """A call ended without its answer: `lost`, `over`, `unknown` or `down`."""
+
+    def waits(self, calls: int) -> None:
+        """So many calls aren't answered yet."""
+
+    def holds(self, transactions: int) -> None:
+        """So many transactions are open."""
+
+
+@dataclass
+class Counts:
+    """What was counted since the site was opened."""
+
+    starts: int = 0
+    """Times that the process stood."""
+    stops: int = 0
+    """Ends of it."""
+    answers: int = 0
+    """Calls that were answered, refusals included."""
+    refusals: dict[Refusal, int] = field(default_factory=dict)
+    """Refusals, by number."""
+    interrupted: int = 0
+    """Calls that a stop left without their answer."""
+    again: int = 0
+    """Those of them that were made again."""
+
+
+class Pipeline:
+    """The order of the lines of one site, over one process after another."""
+
+    def __init__(
+        self, number: int, fields: frozenset[str], issued: Callable[[Statement], None], watch: Optional[Watch]
+    ) -> None:
+        self.number = number
+        self.counts = Counts()
+        self.lock = threading.Lock()
+        self._fields, self._issued, self._watch = fields, issued, watch
+        self.shapes: dict[tuple[str, int], Shape] = {}
+        # The process, as it now stands.
+        self.up = False
+        self.dead: Optional[Down] = None
+        """Why no call is taken any more."""
+        self.epoch = 0
+        self.era = 0
+        """How often somebody else may have served the site between two processes of this client."""
+        self.open = 0
+        self.open_ids: set[str] = set()
+        self.numbers = NUMBERS
+        self._numbers, self._prefix = 0, ""
+        self._ending = False  # its input is to end, once all that was asked is written
+        # The calls.
+        self._pending: deque[Call[Any]] = deque()  # not answered yet, in the order of the lines
+        self._waiting: deque[Call[Any]] = deque()  # wait for a place
+        self._deferred: list[Call[Any]] = []  # wait until the site stands
+        # The pipe.
+        self._out: list[str] = []  # lines that aren't written yet
+        self._began = 0.0  # when the first of them was asked
+        self._rest = ""  # the front of an answer
+        self._to = -1
+        self._writing = threading.Lock()
+        self._full = threading.Event()  # the pipe took less than there was
+
+    # What callers do.
+
+    def known(self, field: str) -> str:
+        """The field, where the schema has it. Raises `Refused` where it hasn't, as the site would."""
+        if field not in self._fields:
+            raise Refused(Refusal.NO_FIELD, None, field)
+        return field
+
+    def shape(self, field: str, change: int) -> Shape:
+        """What the lines of such a change have in common, kept in `shapes`. Raises `Refused` or `ValueError` where it
+        is none."""
+        shape = self.shapes.get((field, change))
+        if shape is None:
+            shape = Shape(self.number, self.known(field), change_of(change))
+            if len(self.shapes) >= SHAPES:
+                self.shapes.clear()
+            self.shapes[field, change] = shape
+        return shape
+
+    def submit(self, calls: Iterable[Call[Any]]) -> None:
+        """Puts the lines of calls behind those of others, or keeps them until it can. Then `flush`."""
+        with self.lock:
+            for call in calls:
+                if self.up and not call.opens:
+                    self.queue(call)
+                else:
+                    self._place(call)
+
+    def _place(self, call: Call[Any]) -> None:
+        if self.dead is not None:
+            self._turn_away(call, self.dead)
+        elif not self.up:
+            self._keep(call)
+        elif call.opens and self.open >= PLACES:
+            self._waiting.append(call)
+        else:
+            self.queue(call)
+
+    def _keep(self, call: Call[Any]) -> None:
+        if call.bound:  # its transaction has ended with the process
+            call.stopped()
+            self.fail(call, gone())
+        else:
+            self._deferred.append(call)
+
+    def queue(self, call: Call[Any]) -> None:
+        """Puts the lines of a call behind those of others. Only under the lock, and while the site is up."""
+        try:
+            call.plan(self)
+        except EpochFull:
+            self.up, self._ending = False, True
+            self._deferred.append(call)
+            return
+        except (EscrowError, ValueError) as fault:
+            self.fail(call, fault)
+            return
+        if self._watch is not None:
+            call.began = self._began = self._began if self._out else time.perf_counter()
+        self._pending.append(call)
+        self._out.append(call.text)
+        if call.opens:
+            self.open += 1
+        elif call.closes:
+            self._leave()
+
+    def _leave(self) -> None:
+        self.open -= 1
+        if self._waiting:
+            self.queue(self._waiting.popleft())
+
+    def fail(self, call: Call[Any], fault: Exception) -> None:
+        """It isn't asked, or wasn't answered: who waits is told why. Only under the lock."""
+        call.result = fault
+        settle((call,))
+        if call.command is not Command.KEPT:
+            self.missed(fault)
+
+    def _turn_away(self, call: Call[Any], why: Down) -> None:
+        self.fail(call, Down(str(why), why.status))  # one for each who raises it
+
+    def missed(self, fault: Exception) -> None:
+        """A call ends without its answer: it is counted."""
+        if self._watch is not None and type(fault) in _MISSED:
+            self._watch.missed(_MISSED[type(fault)])
+
+    def new_id(self) -> str:
+        """The id that the next begin is answered with, where its line goes out next. Raises `EpochFull`."""
+        if self._numbers >= self.numbers:
+            raise EpochFull()
+        self._numbers += 1
+        return f"{self._prefix}{self._numbers}"
+
+    def standing(self, id: str) -> Standing:
+        """Where a transaction stands in this process, by the lines that went out. Raises `ValueError` where this is no
+        id."""
+        epoch, number = read_id(id)
+        if epoch > self.epoch:
+            return Standing.LATER
+        if epoch == self.epoch and number > self._numbers:
+            return Standing.UNBEGUN
+        return Standing.OPEN if id in self.open_ids else Standing.ENDED
+
+    @property
+    def begun(self) -> int:
+        """How many transactions this process was asked to begin."""
+        return self._numbers
+
+    @property
+    def unanswered(self) -> int:
+        """How many calls wait."""
+        return len(self._pending) + len(self._deferred) + len(self._waiting)
+
+    # What the pipe takes.
+
+    def flush(self) -> None:
+        """Writes all that has gathered, as far as the pipe takes it. Who finds another at it leaves it to that one."""
+        while self._out and not self._full.is_set() and self._writing.acquire(blocking=False):
+            try:
+                self._write()
+            finally:
+                self._writing.release()
+        if self._ending:
+            self.finish()
+
+    def _write(self) -> None:
+        with self.lock:
+            text, self._out = "".join(self._out), []
+        piece = text.encode("ascii")
+        try:
+            taken = os.write(self._to, piece)
+        except BlockingIOError:
+            taken = 0
+        except OSError:  # it has ended: the reader finds that out
+            return
+        if taken < len(piece):
+            with self.lock:
+                self._out.insert(0, text[taken:])
+            self._full.set()
+
+    def write_rest(self) -> None:
+        """Waits for a pipe that took less than there was, and goes on with it. For one thread of its own."""
+        self._full.wait()
+        to = self._to
+        if to >= 0:
+            poll = select.poll()
+            poll.register(to, select.POLLOUT)
+            poll.poll(100)
+        self._full.clear()
+        self.flush()
+
+    def wake_writer(self) -> None:
+        """Has `write_rest` look again."""
+        self._full.set()
+
+    # What comes back.
+
+    def feed(self, piece: bytes) -> None:
+        """Hands answers to who waits for them. Raises `Faulty` where they fit no line."""
+        buffer, at = self._rest + piece.decode("ascii", "replace"), 0
+        done: list[Call[Any]] = []
+        pending = self._pending
+        try:
+            while at < len(buffer):
+                if not pending:
+                    raise Faulty(f"{buffer[at:]!r} answers nothing")
+                call = pending[0]
+                expected = call.expected
+                if expected and buffer.startswith(expected, at):
+                    call.result = None
+                    at += len(expected)
+                else:
+                    end = call.take(buffer, at)
+                    if end < 0:
+                        break
+                    self._notice(call.result)
+                    at = end
+                done.append(pending.popleft())
+        finally:
+            self._rest = buffer[at:]
+            self._settle(done)
+
+    def _settle(self, done: list[Call[Any]]) -> None:
+        self.counts.answers += len(done)
+        settle(done)
+        if self._watch is not None:
+            self._tell(done, self._watch)
+
+    def _notice(self, told: object) -> None:
+        if isinstance(told, Refused):
+            self.counts.refusals[told.number] = self.counts.refusals.get(told.number, 0) + 1
+        elif isinstance(told, Spared):
+            self._issued(told.statement)
+        elif isinstance(told, Statement):
+            self._issued(told)
+
+    def _tell(self, done: list[Call[Any]], watch: Watch) -> None:
+        now = time.perf_counter()
+        for (command, began), calls in itertools.groupby(done, _turn):
+            watch.answered(command.value, now - began, sum(1 for _ in calls))
+        for call in done:
+            told = call.result
+            if isinstance(told, Refused):
+                watch.refused(call.command.value, int(told.number), told.reason)
+            if isinstance(told, Short):
+                watch.shared(told.field, **{_SIDES[told.kind]: told.share})
+            elif isinstance(told, Share):
+                watch.shared(call.field, told.lower, told.raise_)
+        watch.waits(self.unanswered)
+        watch.holds(self.open)
+
+    # What the supervisor does.
+
+    def stand(self, epoch: int, to: int) -> None:
+        """The process stands, and takes lines at this end of its pipe, which is closed here."""
+        os.set_blocking(to, False)
+        with self._writing, self.lock:
+            self.counts.starts += 1
+            self._ending = self.dead is not None
+            self.epoch, self._prefix, self._numbers, self.open = epoch, f"{epoch}.", 0, 0
+            self.open_ids.clear()
+            self._out, self._rest, self._to = [], "", to
+            self._full.clear()
+            self.up = self.dead is None
+            deferred, self._deferred = self._deferred, []
+            for call in deferred:
+                self._place(call)
+        self.flush()
+
+    def finish(self) -> None:
+        """Ends the input of a process that is to take no more, where all that was asked is written."""
+        with self._writing, self.lock:
+            if not self._out and not self.up:
+                self._close()
+
+    def _close(self) -> None:
+        to, self._to = self._to, -1
+        if to >= 0:
+            os.close(to)
+
+    def detach(self) -> None:
+        """The process takes no more lines: calls wait until the next one stands."""
+        with self._writing, self.lock:
+            self.up = False
+            self._out = []
+            self._close()
+
+    def fall(self) -> None:
+        """The process has ended, and was read to its end: calls are made again, or told that they were interrupted."""
+        with self.lock:
+            interrupted, waiting = list(self._pending), list(self._waiting)
+            self._pending.clear()
+            self._waiting.clear()
+            self.counts.stops += 1
+            self.counts.interrupted += len(interrupted)
+            for call in interrupted:
+                self._place_again(call)
+            for call in waiting:
+                self._place(call)
+
+    def _place_again(self, call: Call[Any]) -> None:
+        if call.again:
+            self.counts.again += 1
+            self._place(call)
+        else:
+            self.fail(call, Interrupted("the site stopped"))
+
+    def die(self, why: Down) -> None:
+        """No call is taken from now on: those that weren't asked yet are told why. The first reason stays."""
+        with self.lock:
+            self.dead = self.dead or why
+            self.up, self._ending = False, True
+            unasked = [*self._waiting, *self._deferred]
+            self._waiting.clear()
+            self._deferred.clear()
+            for call in unasked:
+                self._turn_away(call, self.dead)
+
+    def let_go(self) -> None:
+        """This is a fork of the client: it has no site. Takes no lock, for whoever held one isn't here."""
+        self.lock, self._writing = threading.Lock(), threading.Lock()
+        self.up, self.dead = False, Down("a fork of the client doesn't have its site: make one in it")
+        self._out = []
+        self._close()
+
+    def give_up(self, why: Down) -> None:
+        """Calls that wait until the site stands are told why it doesn't; later ones wait anew."""
+        with self.lock:
+            deferred, self._deferred = self._deferred, []
+            for call in deferred:
+                self._turn_away(call, why)
+
+
+_MISSED: dict[type[Exception], str] = {Down: "down", Lost: "lost", Over: "over", Unknown: "unknown"}
+_SIDES = {Kind.LOWER: "lower", Kind.RAISE: "raise_"}
+
+
+def _turn(call: Call[Any]) -> tuple[Command, float]:
+    return call.command, call.began

@@ -1,0 +1,245 @@
+"""Starts the process of a site, watches it, and starts it again. Never two at once."""
+
+from __future__ import annotations
+
+import os
+import select
+import signal
+import subprocess
+import threading
+import time
+from collections.abc import Callable
+from dataclasses import dataclass
+from typing import IO, NamedTuple, Optional
+
+from .errors import Down, Faulty
+from .pipeline import Pipeline, Watch
+from .records import served_between
+from .schema import Identity
+from .values import Mark
+
+VERSION = "1"
+"""The version of the ready line and of all that follows it."""
+HOPELESS = {
+    2: "",
+    3: "",
+    5: ": make room or mend the disk; after a sync that failed start the machine anew before the site",
+}
+"""Statuses behind which it isn't started again, and what there is to add to what the program told: 2 and 3 would come
+again. 5 is a fault of the disk: until it is mended, what the system shows of the log may not be on the disk."""
+LOOK = 0.5
+"""Seconds between two looks for calls that have waited too long, where a start takes long."""
+A_WHILE = 1.0
+"""So many seconds a process stands for a while."""
+AT_ONCE = 1 << 18
+"""How many bytes of answers one read takes."""
+
+
+class Backoff(NamedTuple):
+    """How many seconds pass between an end of the process and the next start."""
+
+    first: float = 0.05
+    """At first, and again once it has got on."""
+    most: float = 5.0
+    """At most: each time that it gets on nowhere the time is doubled."""
+
+
+@dataclass(frozen=True)
+class Orders:
+    """What to start, and how patiently: `patience` is how many seconds calls wait for a site that doesn't stand."""
+
+    folder: str
+    whose: Identity
+    command: tuple[str, ...]
+    backoff: Backoff
+    patience: float
+
+
+class Supervisor:
+    """Keeps one process running in a thread of its own, until it is closed or there is no hope."""
+
+    def __init__(
+        self,
+        orders: Orders,
+        pipeline: Pipeline,
+        started: Callable[[], None],
+        watch: Optional[Watch],
+        mark: Optional[Mark],
+    ) -> None:
+        self._orders, self._pipeline, self._started, self._watch = orders, pipeline, started, watch
+        self.mark = mark
+        self._process: Optional[subprocess.Popen[bytes]] = None
+        self.last_status: Optional[int] = None
+        self.last_error = ""
+        self._down_since = time.monotonic()
+        self._closing = threading.Event()
+        self._over = threading.Event()
+        self._stood = threading.Event()  # it stands, or there is no hope
+        name = f"escrow site {pipeline.number}"
+        self._thread = threading.Thread(target=self._supervise, name=name, daemon=True)
+        self._writer = threading.Thread(target=self._write_rests, name=f"{name} writer", daemon=True)
+        self._thread.start()
+        self._writer.start()
+
+    @property
+    def pid(self) -> Optional[int]:
+        """The process, where there is one."""
+        process = self._process
+        return None if process is None else process.pid
+
+    def wait(self, seconds: float) -> bool:
+        """Waits until the site has stood once, or there is no hope: whether either came in time."""
+        return self._stood.wait(seconds)
+
+    def close(self, seconds: float) -> None:
+        """Takes no more calls, lets the process answer what it was asked, and ends it: after so many seconds by force.
+        """
+        self._pipeline.die(Down("the site was closed"))
+        self._closing.set()
+        self._pipeline.finish()
+        self._thread.join(seconds)
+        while self._thread.is_alive():
+            self._kill()
+            self._thread.join(0.1)
+
+    def _kill(self) -> None:
+        process = self._process
+        if process is not None and process.returncode is None:
+            _kill_all(process)
+
+    # The supervisor's thread.
+
+    def _supervise(self) -> None:
+        why = Down("the site was closed")
+        try:
+            why = self._keep_running() or why
+        except Down as fault:
+            why = fault
+        except Exception as fault:
+            why = Down(f"a fault of the client: {fault!r}")
+            raise
+        finally:
+            self._closing.set()
+            self._pipeline.die(why)
+            self._stood.set()
+            self._over.set()
+            self._pipeline.wake_writer()
+
+    def _keep_running(self) -> Optional[Down]:
+        """One process after another: why there is no hope, or None where it was closed."""
+        pause = self._orders.backoff.first
+        while not self._closing.is_set():
+            if self._run():
+                pause, self._down_since = self._orders.backoff.first, time.monotonic()
+            if self._closing.is_set():
+                break
+            if self.last_status in HOPELESS:
+                return Down(self.last_error + HOPELESS[self.last_status], self.last_status)
+            self._lose_patience()
+            self._closing.wait(pause)
+            pause = min(2 * pause, self._orders.backoff.most)
+        return None
+
+    def _patience_left(self) -> float:
+        return self._down_since + self._orders.patience - time.monotonic()
+
+    def _lose_patience(self) -> None:
+        if self._patience_left() <= 0:
+            why = self.last_error or "its start takes long"
+            self._pipeline.give_up(Down(f"the site doesn't stand: {why}", self.last_status))
+
+    def _run(self) -> bool:
+        """One process from its start to its end, which is waited for. Whether it got anywhere: it answered, or stood
+        for a while."""
+        try:
+            process = self._start()
+        except OSError as fault:
+            self.last_status, self.last_error = 2, f"{self._orders.command[0]}: {fault.strerror}"
+            return False
+        assert process.stdin and process.stdout and process.stderr
+        self._process, why, got_on = process, "", False
+        try:
+            if self._stands(process.stdin, process.stdout):
+                answers, began = self._pipeline.counts.answers, time.monotonic()
+                self._read(process.stdout.fileno())
+                got_on = self._pipeline.counts.answers > answers or time.monotonic() - began > A_WHILE
+        except Faulty as faulty:
+            why = str(faulty)
+        finally:
+            self._end(process, why)
+        return got_on
+
+    def _start(self) -> subprocess.Popen[bytes]:
+        words = list(self._orders.command)
+        if self.mark is not None:
+            words += ["--not-before", str(self.mark.epoch), str(self.mark.length)]
+        pipe = subprocess.PIPE
+        return subprocess.Popen(words, stdin=pipe, stdout=pipe, stderr=pipe, bufsize=0, start_new_session=True)
+
+    def _stands(self, to: IO[bytes], back: IO[bytes]) -> bool:
+        """Reads the two lines that a site begins with: whether they came whole. Then it takes calls. Raises `Down`
+        where they never will."""
+        poll = select.poll()
+        poll.register(back, select.POLLIN)
+        while not poll.poll(1000 * max(LOOK, self._patience_left())):
+            self._lose_patience()
+        ready, restart = back.readline(), back.readline()
+        if not restart.endswith(b"\n"):
+            return False
+        mark = _mark(ready)
+        if mark.epoch <= self._pipeline.epoch:
+            raise Faulty(f"epoch {mark.epoch} behind epoch {self._pipeline.epoch}")
+        if self._pipeline.epoch and served_between(self._orders.folder, self._orders.whose, self.mark or mark, mark):
+            self._pipeline.era += 1
+        self.mark = mark
+        if self._watch is not None:
+            self._watch.started(*mark)
+        self._pipeline.stand(mark.epoch, os.dup(to.fileno()))
+        to.close()
+        self._started()
+        self._stood.set()
+        return True
+
+    def _read(self, back: int) -> None:
+        while piece := os.read(back, AT_ONCE):
+            self._pipeline.feed(piece)
+
+    def _end(self, process: subprocess.Popen[bytes], why: str) -> None:
+        assert process.stdin and process.stdout and process.stderr
+        if not self._closing.is_set():
+            _kill_all(process)  # it has closed its output, or its answers don't fit: it can do nothing more for us
+        self._pipeline.detach()
+        process.stdin.close()
+        told = process.stderr.read().decode(errors="replace").strip()
+        self.last_status = process.wait()
+        self.last_error = told or why or f"it ended with status {self.last_status}"
+        process.stdout.close()
+        process.stderr.close()
+        self._process = None
+        self._pipeline.fall()
+        if self._watch is not None:
+            self._watch.stopped(self.last_status)
+
+    # The writer's thread: what the pipe didn't take at once.
+
+    def _write_rests(self) -> None:
+        while not self._over.is_set():
+            self._pipeline.write_rest()
+            if self._closing.is_set():
+                self._pipeline.finish()
+
+
+def _mark(ready: bytes) -> Mark:
+    words = ready.decode("ascii", "replace").split()
+    if words[:2] != ["ready", VERSION] or len(words) != 4 or not (words[2] + words[3]).isdecimal():
+        raise Down(f"the program isn't one that this client knows: it began with {ready!r}")
+    return Mark(int(words[2]), int(words[3]))
+
+
+def _kill_all(process: subprocess.Popen[bytes]) -> None:
+    """Kills the process and what it began: it leads a group of its own, in which a script that runs the program is too.
+    """
+    try:
+        os.killpg(process.pid, signal.SIGKILL)
+    except ProcessLookupError:
+        pass
