@@ -1,0 +1,411 @@
+"""Carries the statements of a site to the others and theirs to it, and gets rights of others when the site is short."""
+from __future__ import annotations
+
+import asyncio
+import os
+import queue
+import threading
+import time
+from dataclasses import dataclass
+from enum import Enum, auto
+from typing import Callable, Optional, Sequence, Union
+
+from escrow import AsyncSite, Forged, Kind, Mark, NothingGiven, Refused, Short, Site, Statement
+from escrow.metrics import Metrics
+from escrow.schema import identity
+
+from .counts import Counts, count_in
+from .medium import Medium
+from .messages import Ask, Garbage, Marked, Message, Shares, Topics
+from .policy import Policy
+
+AWAY, FRESH = 3, 1.25                                   # after so many looks a site is away, or may stand still
+Place = tuple[str, Kind]                                # a field, and the kind of its rights
+Total = tuple[int, str, Kind]                           # the other site, the field, the kind
+
+
+class Signal(Enum):
+    """What the worker is told beside messages."""
+
+    OPENED = auto()                                     # the medium is connected
+    STARTED = auto()                                    # the site stands anew
+    CLOSE = auto()
+
+
+@dataclass(frozen=True)
+class Heard:
+    """A message, and when it came (by `time.monotonic`)."""
+
+    message: Message
+    at: float
+
+
+Event = Union[Heard, Statement, Signal]
+
+
+@dataclass
+class Report:
+    """What another site last told of its free rights, when that came, and until when what it told doesn't know yet
+    what moved."""
+
+    shares: Shares
+    at: float
+    moved: float = 0.0
+
+
+class Carrier:
+    """Joins a site to the others over a medium. Close it before the site.
+
+    A statement is told anew each time that the medium is connected, and every `refresh` seconds: so the medium may
+    lose all that it has. A receiver hands each statement that may be new to its site, which alone judges it: a
+    forged total, however large, hides no true one. After a start of the site all that it ever gave is asked of it
+    again. Never carry for a site that isn't synced: a gift that is told and then lost is one that nobody gave.
+
+    Any thread may call `change` and `fetch`; they wait for at most `policy.asks` times `policy.patience`, and as
+    long as the site is down. `AsyncCarrier` is for tasks. What it counts stands in `counts`, and in `metrics` too
+    where the site's are given: `escrow_carrier_forged_total` and so on, and `escrow_carrier_connected`."""
+
+    def __init__(self, site: Site, medium: Medium, policy: Policy = Policy(), refresh: float = 10.0,
+                 metrics: Optional[Metrics] = None) -> None:
+        self.site, self.medium, self.policy, self.refresh = site, medium, policy, refresh
+        self.counts = Counts()
+        self.last_fault: Optional[Exception] = None
+        world = identity(os.fspath(site.folder))
+        self._topics = Topics(world.world, world.schema)
+        self._others = [it for it in range(world.schema.sites) if it != site.number]
+        self._fields = [it.name for it in world.schema.fields]
+        self._places = [(name, kind) for name in self._fields for kind in Kind]
+        self._events: queue.SimpleQueue[Event] = queue.SimpleQueue()
+        self._told: dict[Total, Statement] = {}         # what this site gave: the greatest totals that it answered
+        self._accepted: dict[Total, int] = {}           # the greatest totals that it answered to have accepted
+        self._own, self._answers = Shares(site.number, {}), -1
+        self._moved = dict.fromkeys(self._places, time.monotonic())
+        self._changed = threading.Condition()           # guards what follows
+        self._reports: dict[int, Report] = {}
+        self._gains = dict.fromkeys(self._places, 0)
+        self._failed = dict.fromkeys(self._places, -self.policy.patience)
+        self._fetching = {place: threading.Lock() for place in self._places}
+        self._worker = threading.Thread(target=self._work, name=f"carrier {site.number}", daemon=True)
+        site.on_statement.append(self._events.put)
+        site.on_start.append(self._started)
+        self._started()
+        self._worker.start()
+        if metrics is not None:
+            count_in(metrics, self.counts, medium)
+        name = f"escrow-{world.world[:16]}-{site.number}"
+        medium.open(name, self._topics.filters(site.number), self._hear, lambda: self._events.put(Signal.OPENED))
+
+    # ---- for who sells
+
+    def change(self, field: str, change: int) -> str:
+        """`Site.change`, with rights of other sites where its own are short. Raises what that raises: `Short` where the
+        others had too few, or couldn't be reached."""
+        while True:                                     # somebody else here may take what was fetched
+            try:
+                return self.site.change(field, change)
+            except Short:
+                if not self.fetch(field, _needed(change), abs(change)):
+                    raise
+
+    def fetch(self, field: str, kind: Kind, amount: int) -> bool:
+        """Gets rights from other sites, until this one has so many of the kind free. False where they don't come.
+        One thread at a time asks about a kind of a field: the next finds what it got. Raises KeyError where the
+        world has no such field, and `Down`."""
+        place = field, kind
+        with self._fetching[place]:
+            if self._has(place, amount):
+                return True
+            if not self.medium.is_connected or time.monotonic() - self._failed[place] < self.policy.patience:
+                return False                            # somebody else has just asked them all
+            if self._ask_others(place, amount):
+                return True
+            self._failed[place] = time.monotonic()
+            return False
+
+    def known(self, field: str, kind: Kind) -> dict[int, Optional[int]]:
+        """How many rights of a kind each other site had free, as it told last, at most three `refresh` ago; None
+        where it has told nothing yet. A site that has told nothing since then is left out: it is away."""
+        with self._changed:
+            return self._known((field, kind), AWAY)
+
+    def close(self) -> None:
+        """Ends it, once what came so far is handed to the site. A second time does nothing."""
+        if self._started not in self.site.on_start:
+            return
+        self.site.on_start.remove(self._started)
+        self.site.on_statement.remove(self._events.put)
+        self._events.put(Signal.CLOSE)
+        self._worker.join()
+        self.medium.close()
+
+    def __enter__(self) -> Carrier:
+        return self
+
+    def __exit__(self, *_: object) -> None:
+        self.close()
+
+    # ---- when short
+
+    def _has(self, place: Place, amount: int) -> bool:
+        return self.site.share(place[0]).of(place[1]) >= amount
+
+    def _ask_others(self, place: Place, amount: int) -> bool:
+        asked: set[int] = set()                         # in vain, since rights came last
+        for _ in range(self.policy.asks):
+            with self._changed:
+                giver = self.policy.giver(self._known(place, AWAY), asked)
+            if giver is None:
+                return False
+            if not self._ask(giver, place, amount):
+                asked.add(giver)
+            elif self._has(place, amount):
+                return True
+            else:
+                asked.clear()
+        return False
+
+    def _known(self, place: Place, looks: float) -> dict[int, Optional[int]]:
+        since = time.monotonic() - looks * self.refresh
+        reports = ((site, self._reports.get(site)) for site in self._others)
+        return {site: None if report is None else report.shares.of(*place) for site, report in reports
+                if report is None or report.at > since}
+
+    def _ask(self, giver: int, place: Place, amount: int) -> bool:
+        """Whether rights of that kind came from anywhere, in the time that the asked site has."""
+        with self._changed:
+            gains, report = self._gains[place], self._reports.get(giver)
+            self._moved[place] = time.monotonic()
+            self._publish(Ask(self.site.number, giver, *place, self.policy.wanted(amount)), False)
+            self.counts.asked += 1
+
+            def is_answered() -> bool:
+                told = self._reports.get(giver)
+                has_none = told is not report and told is not None and told.shares.of(*place) == 0
+                return self._gains[place] != gains or has_none
+            self._changed.wait_for(is_answered, self.policy.patience)
+            return self._gains[place] != gains
+
+    # ---- what comes: the threads of the site and of the medium only note it
+
+    def _started(self) -> None:
+        self._events.put(Signal.STARTED)
+
+    def _hear(self, topic: str, payload: bytes) -> None:
+        self.counts.heard += 1
+        try:
+            message = self._topics.read(topic, payload)
+        except Garbage:
+            self.counts.garbage += 1
+            return
+        self._events.put(Heard(message, time.monotonic()))
+
+    # ---- the worker
+
+    def _work(self) -> None:
+        due = time.monotonic()
+        while (event := self._next(due)) is not Signal.CLOSE:
+            self._try(lambda: self._take(event))
+            if time.monotonic() >= due:
+                self._try(self._look)
+                due = time.monotonic() + self.refresh
+
+    def _try(self, act: Callable[[], None]) -> None:
+        try:
+            act()
+        except Exception as fault:                      # mostly that the site is down: it is told or asked again later
+            self.counts.faults += 1
+            self.last_fault = fault
+
+    def _next(self, due: float) -> Optional[Event]:
+        """What comes next; none where the next look is due before."""
+        try:
+            return self._events.get(timeout=max(0.0, due - time.monotonic()))
+        except queue.Empty:
+            return None
+
+    def _take(self, event: Optional[Event]) -> None:
+        if event is Signal.OPENED:
+            self.counts.connects += 1
+            self._tell_all()
+            self._tell_shares(self._fields)
+        elif event is Signal.STARTED:
+            self._restate()
+            self._tell_mark()
+        elif isinstance(event, Statement):
+            self._tell(event)
+        elif isinstance(event, Heard):
+            self._take_message(event)
+
+    def _take_message(self, heard: Heard) -> None:
+        message = heard.message
+        if isinstance(message, Shares):
+            self._note(message, heard.at)
+        elif isinstance(message, Statement) and message.to == self.site.number and message.giver != self.site.number:
+            self._accept(message, heard.at)
+        elif isinstance(message, Ask) and message.giver == self.site.number and message.asker != self.site.number:
+            if time.monotonic() - heard.at < self.policy.patience:
+                self._spare(message)
+
+    def _note(self, shares: Shares, at: float) -> None:
+        if shares.site != self.site.number:
+            with self._changed:
+                before = self._reports.get(shares.site)
+                if before is None or at >= before.moved:
+                    self._reports[shares.site] = Report(shares, at)
+                    self._changed.notify_all()
+
+    def _accept(self, given: Statement, at: float) -> None:
+        total = given.giver, given.field, given.kind
+        if given.total <= self._accepted.get(total, 0):
+            self.counts.stale += 1
+            return
+        try:
+            gain = self.site.accept(given)
+        except Forged:
+            self.counts.forged += 1
+            return
+        except Refused:
+            self.counts.garbage += 1
+            return
+        self._accepted[total] = given.total
+        if gain == 0:
+            self.counts.stale += 1
+            return
+        self.counts.accepted += 1
+        self.counts.gained += gain
+        place = given.field, given.kind
+        with self._changed:
+            self._moved[place] = time.monotonic()
+            self._gains[place] += 1
+            self._expect(given.giver, place, -gain, at)
+            self._changed.notify_all()
+        self._tell_shares([given.field])
+
+    def _spare(self, ask: Ask) -> None:
+        place = ask.field, ask.kind
+        self._moved[place] = time.monotonic()
+        try:
+            spared = self.site.spare(ask.asker, ask.field, ask.kind, ask.amount)
+            self.counts.spared += spared.amount
+            self._tell(spared.statement)
+            with self._changed:
+                self._expect(ask.asker, place, spared.amount, time.monotonic())
+        except Refused:
+            pass                                        # it has none itself: its shares tell so
+        self._tell_shares([ask.field])
+
+    def _expect(self, site: int, place: Place, amount: int, at: float) -> None:
+        """A site has so many more, or less, until it tells anew, later than this: so what is on its way isn't given
+        twice."""
+        report = self._reports.get(site)
+        if report is not None:
+            report.shares.add(*place, amount)
+            report.moved = at
+
+    # ---- what goes
+
+    def _publish(self, message: Message, is_kept: bool) -> None:
+        topic, payload = self._topics.spelled(message)
+        self.medium.publish(topic, payload, is_kept)
+
+    def _tell(self, statement: Statement) -> None:
+        """Tells a statement, where it tells more than those before."""
+        total = statement.to, statement.field, statement.kind
+        if total not in self._told or statement.total > self._told[total].total:
+            self._told[total] = statement
+            self._publish(statement, True)
+
+    def _tell_all(self) -> None:
+        for given in self._told.values():
+            self._publish(given, True)
+
+    def _tell_shares(self, fields: Sequence[str]) -> None:
+        """Tells what is free here; asks the site anew for these fields."""
+        for field in fields:
+            self._own.shares[field] = self.site.share(field)
+        if len(self._own.shares) == len(self._fields):
+            self._publish(self._own, True)
+
+    def _restate(self) -> None:
+        """Asks the site for all that it ever gave."""
+        for to in self._others:
+            for field, kind in self._places:
+                try:
+                    self._tell(self.site.restate(to, field, kind))
+                except NothingGiven:
+                    pass
+
+    def _tell_mark(self) -> None:
+        self._publish(Marked(self.site.number, self.site.mark), True)
+
+    def _look(self) -> None:
+        """Tells all anew, and evens out what is quiet. The site isn't asked where it has answered nothing since the
+        last look."""
+        self._tell_shares(self._fields if self.site.counts.answers != self._answers else [])
+        self._answers = self.site.counts.answers
+        self._tell_all()
+        self._tell_mark()
+        for place in self._places if self.medium.is_connected else []:
+            if time.monotonic() - self._moved[place] >= self.policy.quiet:
+                self._even_out(place)
+
+    def _even_out(self, place: Place) -> None:
+        with self._changed:
+            shares = {site: share for site, share in self._known(place, FRESH).items() if share is not None}
+        shares[self.site.number] = self._own.of(*place)
+        for gift in self.policy.gifts(self.site.number, shares):
+            self._moved[place] = time.monotonic()
+            try:
+                self._tell(self.site.give(gift.to, *place, gift.amount))
+            except Short:                               # it was sold meanwhile
+                continue
+            self.counts.evened += gift.amount
+            with self._changed:
+                self._expect(gift.to, place, gift.amount, time.monotonic())
+            self._tell_shares([place[0]])
+
+
+class AsyncCarrier:
+    """The same carrier for the tasks of one event loop: they sell in the loop what the site has, and wait for
+    rights of others in a thread."""
+
+    def __init__(self, carrier: Carrier, site: AsyncSite) -> None:
+        self._carrier, self._site = carrier, site
+
+    async def change(self, field: str, change: int) -> str:
+        """As `Carrier.change`."""
+        while True:
+            try:
+                return await self._site.change(field, change)
+            except Short:
+                if not await self.fetch(field, _needed(change), abs(change)):
+                    raise
+
+    async def fetch(self, field: str, kind: Kind, amount: int) -> bool:
+        """As `Carrier.fetch`."""
+        return await asyncio.to_thread(self._carrier.fetch, field, kind, amount)
+
+
+def _needed(change: int) -> Kind:
+    return Kind.LOWER if change < 0 else Kind.RAISE
+
+
+def last_mark(folder: str, medium: Medium, seconds: float = 2.0) -> Optional[Mark]:
+    """The mark that the site of a folder told last, for `Site(folder, not_before=..)`: an older log is then
+    refused. None where none came in this time, as where the medium has lost it: that is no leave to serve a copy.
+    Closes the medium."""
+    number, world, schema = identity(os.path.abspath(folder))
+    topics, marks, came = Topics(world, schema), [Mark(0, 0)], threading.Event()
+
+    def hear(topic: str, payload: bytes) -> None:
+        try:
+            message = topics.read(topic, payload)
+        except Garbage:
+            return
+        if isinstance(message, Marked) and message.site == number:
+            marks.append(message.mark)
+            came.set()
+    medium.open(f"escrow-{world[:16]}-{number}-mark", [topics.mark(number)], hear, lambda: None)
+    came.wait(seconds)
+    medium.close()
+    return marks[-1] if came.is_set() else None

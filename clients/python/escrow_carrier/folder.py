@@ -1,0 +1,65 @@
+"""Messages over a folder of files that all sites see: a share, or folders that rsync keeps alike. No broker is
+needed."""
+from __future__ import annotations
+
+import glob
+import os
+import threading
+from typing import Callable, Sequence
+
+from .medium import Hear
+
+
+class Folder:
+    """A file for each topic, looked at every `pause` seconds. Give its carriers a policy whose `patience` is some
+    four pauses, and the time that rsync takes. By rsync each machine copies what its own site tells,
+    `escrow/WORLD/N`, to the others, and nothing else: a copy of theirs would put old messages back."""
+
+    is_connected = True
+
+    def __init__(self, path: str, pause: float = 0.5) -> None:
+        self._path, self._pause, self._closed = path, pause, threading.Event()
+        self._seen: dict[str, tuple[int, int]] = {}
+
+    def open(self, name: str, filters: Sequence[str], hear: Hear, opened: Callable[[], None]) -> None:
+        """Looks from now on. A question that was there before isn't heard."""
+        patterns = [os.path.join(glob.escape(self._path), it.replace("+", "*")) for it in filters]
+        self._look([f"{it}~" for it in patterns], lambda _topic, _payload: None)
+        self._name = name
+        opened()
+
+        def look() -> None:
+            while not self._closed.wait(self._pause):
+                self._look(patterns, hear)
+        self._thread = threading.Thread(target=look, name=f"folder {name}", daemon=True)
+        self._thread.start()
+
+    def _look(self, patterns: list[str], hear: Hear) -> None:
+        for path in (path for pattern in patterns for path in glob.glob(pattern)):
+            try:
+                told = os.stat(path)
+                if self._seen.get(path) == (told.st_mtime_ns, told.st_ino):
+                    continue
+                with open(path, "rb") as file:
+                    payload = file.read()
+            except OSError:                             # it was replaced meanwhile: the next look finds it
+                continue
+            self._seen[path] = (told.st_mtime_ns, told.st_ino)
+            hear(os.path.relpath(path, self._path).rstrip("~"), payload)
+
+    def publish(self, topic: str, payload: str, is_kept: bool) -> None:
+        """Puts the file in place as a whole. A name with `~` at its end is of a question, which isn't kept."""
+        path = os.path.join(self._path, topic if is_kept else f"{topic}~")
+        folder, name = os.path.split(path)
+        try:
+            os.makedirs(folder, exist_ok=True)
+            with open(os.path.join(folder, f".{name}.{self._name}"), "w", encoding="ascii") as file:
+                file.write(payload)
+            os.replace(file.name, path)
+        except OSError:                                 # the share is away: lost, and told anew later
+            pass
+
+    def close(self) -> None:
+        """Looks no more."""
+        self._closed.set()
+        self._thread.join()

@@ -1,0 +1,26 @@
+"""What a carrier needs of whatever brings its messages to the others."""
+from __future__ import annotations
+
+from typing import Callable, Protocol, Sequence
+
+Hear = Callable[[str, bytes], None]
+
+
+class Medium(Protocol):
+    """Brings messages to all who hear their topic. It may lose, repeat, delay and exchange them. Of a topic that is
+    kept, who comes later hears the last message."""
+
+    def open(self, name: str, filters: Sequence[str], hear: Hear, opened: Callable[[], None]) -> None:
+        """Begins, and returns at once. Calls `opened` each time that it is connected, and `hear` with the topic and the
+        payload of each message that comes; neither raises, and neither waits for an answer of the site. `name` is no
+        other carrier's."""
+
+    def publish(self, topic: str, payload: str, is_kept: bool) -> None:
+        """Sends a message, or loses it where it isn't connected. It doesn't raise."""
+
+    @property
+    def is_connected(self) -> bool:
+        """Whether messages go out."""
+
+    def close(self) -> None:
+        """Ends it; nothing is heard any more."""
