@@ -1,0 +1,380 @@
+"""Tests of `escrow.metrics`: the text is compared with what was typed by hand, and read by a reader of its own."""
+from __future__ import annotations
+
+import math
+import os
+import re
+import signal
+import tempfile
+import threading
+import time
+import unittest
+import urllib.error
+import urllib.request
+
+import programs
+
+import escrow
+from escrow.metrics import CONTENT_TYPE, Metrics, Type, serve, text_of, write
+
+NAME = re.compile(r"[a-zA-Z_:][a-zA-Z0-9_:]*")
+SAMPLE = re.compile(r"([a-zA-Z_:][a-zA-Z0-9_:]*)(?:\{(.*)\})? (\S+)")
+LABEL = re.compile(r'([a-zA-Z_][a-zA-Z0-9_]*)="((?:[^"\\\n]|\\\\|\\"|\\n)*)"(?:,|$)')
+ESCAPES = {"\\\\": "\\", '\\"': '"', "\\n": "\n"}
+
+
+def labels_of(text: str) -> dict[str, str]:
+    """The labels of a sample; an AssertionError where they are none."""
+    labels, end = {}, 0
+    for found in LABEL.finditer(text):
+        assert found.start() == end, text
+        end = found.end()
+        labels[found[1]] = re.sub(r"\\.", lambda it: ESCAPES[str(it.group())], found[2])
+    assert end == len(text), text
+    return labels
+
+
+def read(text: str) -> dict[str, dict[tuple[tuple[str, str], ...], float]]:
+    """Samples by name and labels: each family has its help, then its type, then its samples and no others."""
+    samples: dict[str, dict[tuple[tuple[str, str], ...], float]] = {}
+    seen: set[str] = set()
+    family = kind = ""
+    assert text == "" or text.endswith("\n")
+    for line in text.split("\n")[:-1]:
+        if line.startswith("# HELP "):
+            family = line.split(" ")[2]
+            assert NAME.fullmatch(family) and family not in seen, line
+            seen.add(family)
+        elif line.startswith("# TYPE "):
+            assert line.split(" ")[2] == family, line
+            kind = line.split(" ")[3]
+            assert kind in ("counter", "gauge", "histogram"), line
+        else:
+            found = SAMPLE.fullmatch(line)
+            assert found, line
+            ends = ("_bucket", "_sum", "_count") if kind == "histogram" else ("",)
+            assert found[1] in [family + end for end in ends], line
+            key = tuple(sorted(labels_of(found[2] or "").items()))
+            assert key not in samples.setdefault(found[1], {}), line
+            samples[found[1]][key] = math.inf if found[3] == "+Inf" else float(found[3])
+    return samples
+
+
+WHOLE = """\
+# HELP escrow_answers_total Answers of the site, refusals included, by command.
+# TYPE escrow_answers_total counter
+escrow_answers_total{site="2",command="commit"} 2
+escrow_answers_total{site="2",command="escrow"} 4
+# HELP escrow_refusals_total Refusals, by command, number and reason.
+# TYPE escrow_refusals_total counter
+escrow_refusals_total{site="2",command="accept",number="2",reason="no site"} 0
+escrow_refusals_total{site="2",command="accept",number="3",reason="no field"} 0
+escrow_refusals_total{site="2",command="accept",number="10",reason="not yours"} 0
+escrow_refusals_total{site="2",command="accept",number="11",reason="forged"} 0
+escrow_refusals_total{site="2",command="escrow",number="7",reason="short"} 1
+escrow_refusals_total{site="2",command="give",number="9",reason="ledger full"} 0
+escrow_refusals_total{site="2",command="spare",number="9",reason="ledger full"} 0
+# HELP escrow_missed_total Calls that ended without an answer, by outcome.
+# TYPE escrow_missed_total counter
+escrow_missed_total{site="2",outcome="down"} 0
+escrow_missed_total{site="2",outcome="lost"} 1
+escrow_missed_total{site="2",outcome="over"} 0
+escrow_missed_total{site="2",outcome="unknown"} 0
+# HELP escrow_answer_seconds Seconds from a command to its answer.
+# TYPE escrow_answer_seconds histogram
+escrow_answer_seconds_bucket{site="2",le="0.25"} 3
+escrow_answer_seconds_bucket{site="2",le="1"} 5
+escrow_answer_seconds_bucket{site="2",le="+Inf"} 6
+escrow_answer_seconds_sum{site="2"} 6.5
+escrow_answer_seconds_count{site="2"} 6
+# HELP escrow_share_rights Free rights as last told, in the field's quantities.
+# TYPE escrow_share_rights gauge
+escrow_share_rights{site="2",field="seats",kind="lower"} 15
+escrow_share_rights{site="2",field="stock",kind="lower"} 4
+escrow_share_rights{site="2",field="stock",kind="raise"} 0
+# HELP escrow_up 1 where the process is ready, else 0.
+# TYPE escrow_up gauge
+escrow_up{site="2"} 1
+# HELP escrow_starts_total Times that the process was ready.
+# TYPE escrow_starts_total counter
+escrow_starts_total{site="2"} 2
+# HELP escrow_stops_total Ends of the process, by status; below 0 the signal.
+# TYPE escrow_stops_total counter
+escrow_stops_total{site="2",status="-9"} 1
+escrow_stops_total{site="2",status="0"} 0
+escrow_stops_total{site="2",status="1"} 0
+escrow_stops_total{site="2",status="2"} 0
+escrow_stops_total{site="2",status="3"} 0
+escrow_stops_total{site="2",status="4"} 0
+escrow_stops_total{site="2",status="5"} 0
+escrow_stops_total{site="2",status="6"} 0
+# HELP escrow_epoch Epoch of the last start.
+# TYPE escrow_epoch gauge
+escrow_epoch{site="2"} 8
+# HELP escrow_log_bytes Bytes of the log's records at the last start.
+# TYPE escrow_log_bytes gauge
+escrow_log_bytes{site="2"} 1500
+# HELP escrow_waiting_calls Calls that aren't answered yet.
+# TYPE escrow_waiting_calls gauge
+escrow_waiting_calls{site="2"} 3
+# HELP escrow_open_transactions Open transactions, of 64 places.
+# TYPE escrow_open_transactions gauge
+escrow_open_transactions{site="2"} 1
+"""
+
+
+def told() -> Metrics:
+    """Site 2 after two starts, six answers, a refusal and a kill; all times can be added without rounding."""
+    numbers = Metrics(2, (0.25, 1))
+    numbers.started(7, 1000)
+    numbers.answered("escrow", 0.125)
+    numbers.answered("escrow", 0.25)
+    numbers.answered("escrow", 0.5)
+    numbers.refused("escrow", 7, "short")
+    numbers.shared("stock", lower=9)
+    numbers.stopped(-9)
+    numbers.missed("lost")
+    numbers.started(8, 1500)
+    numbers.answered("commit", 0.5, 1)
+    numbers.answered("commit", 5)
+    numbers.answered("escrow", 0.125)
+    numbers.shared("stock", 4, 0)
+    numbers.shared("seats", lower=15)
+    numbers.waits(3)
+    numbers.holds(1)
+    return numbers
+
+
+class Text(unittest.TestCase):
+    """The text form."""
+
+    def test_whole(self) -> None:
+        """Each number, typed by hand: an answer at the end of a bucket counts in it."""
+        self.assertEqual(text_of([told()]), WHOLE)
+        read(WHOLE)
+
+    def test_nothing_yet(self) -> None:
+        """A site that never started is down; what is alarmed on is 0 from the start, so that the first of it is seen; else what was
+        never counted has no sample."""
+        samples = read(text_of([Metrics(0)]))
+        site = (("site", "0"),)
+        self.assertEqual(samples["escrow_up"], {site: 0})
+        self.assertEqual(samples["escrow_answer_seconds_count"], {site: 0})
+        self.assertEqual(samples["escrow_answer_seconds_bucket"][(("le", "+Inf"),) + site], 0)
+        self.assertNotIn("escrow_answers_total", samples)
+        forged = (("command", "accept"), ("number", "11"), ("reason", "forged")) + site
+        self.assertEqual(samples["escrow_refusals_total"][forged], 0)
+        self.assertEqual(samples["escrow_stops_total"][site + (("status", "5"),)], 0)
+        self.assertEqual(set(samples["escrow_missed_total"].values()), {0})
+        self.assertEqual(text_of([]), "")
+
+    def test_sites_share_families(self) -> None:
+        """Two sites in one text: each family once, a sample for each."""
+        other = Metrics(0)
+        other.answered("read", 0.00005, 3)
+        text = text_of([other, told()])
+        self.assertEqual(text.count("# TYPE escrow_up gauge"), 1)
+        samples = read(text)
+        self.assertEqual(samples["escrow_up"], {(("site", "0"),): 0, (("site", "2"),): 1})
+        self.assertEqual(samples["escrow_answers_total"][(("command", "read"), ("site", "0"))], 3)
+        self.assertEqual(samples["escrow_answer_seconds_bucket"][(("le", "0.0001"), ("site", "0"))], 3)
+
+    def test_labels_are_escaped(self) -> None:
+        """A backslash, a quotation mark and a line feed in a label come back as they were."""
+        numbers = Metrics(0)
+        wild = 'a"b\\c\nd'
+        numbers.missed(wild)
+        text = text_of([numbers])
+        self.assertIn('outcome="a\\"b\\\\c\\nd"} 1\n', text)
+        self.assertEqual(read(text)["escrow_missed_total"][(("outcome", wild), ("site", "0"))], 1)
+
+    def test_numbers_of_others(self) -> None:
+        """A number that somebody else counts is read for each text, at the sites that have it, in its family."""
+        first, second, counted = Metrics(0), Metrics(1), [0]
+        for numbers in (first, second):
+            numbers.also("escrow_carrier_forged_total", "Forged\nor \\ not.", Type.COUNTER, lambda: counted[0])
+        second.also("escrow_carrier_connected", "1 where it is.", Type.GAUGE, lambda: True)
+        counted[0] = 3
+        self.assertTrue(text_of([first, second]).endswith(
+            "# HELP escrow_carrier_forged_total Forged\\nor \\\\ not.\n# TYPE escrow_carrier_forged_total counter\n"
+            'escrow_carrier_forged_total{site="0"} 3\nescrow_carrier_forged_total{site="1"} 3\n'
+            "# HELP escrow_carrier_connected 1 where it is.\n# TYPE escrow_carrier_connected gauge\n"
+            'escrow_carrier_connected{site="1"} 1\n'))
+        read(text_of([first, second]))
+        second.also("escrow_gone", "It can't be had.", Type.GAUGE, lambda: 1 // 0)
+        self.assertTrue(text_of([second]).endswith("# HELP escrow_gone It can't be had.\n# TYPE escrow_gone gauge\n"))
+        for name in ("escrow_up", "escrow_carrier_forged_total", "no name", "Name", ""):
+            with self.assertRaises(ValueError):
+                first.also(name, "", Type.GAUGE, lambda: 0)
+
+    def test_large_numbers(self) -> None:
+        """Rights up to 2 * 10^15 are whole numbers in the text."""
+        numbers = Metrics(0)
+        numbers.shared("money", 2_000_000_000_000_000, 1)
+        self.assertIn('kind="lower"} 2000000000000000\n', text_of([numbers]))
+
+    def test_bad_buckets(self) -> None:
+        """Ends that don't rise from above 0 are refused."""
+        for bounds in ((), (0,), (1, 1), (2, 1)):
+            with self.assertRaises(ValueError):
+                Metrics(0, bounds)
+
+    def test_threads(self) -> None:
+        """No count is lost where eight threads count."""
+        numbers = Metrics(0)
+
+        def count() -> None:
+            for _ in range(5000):
+                numbers.answered("read", 0.0002)
+                numbers.refused("read", 3, "no field")
+
+        threads = [threading.Thread(target=count) for _ in range(8)]
+        for thread in threads:
+            thread.start()
+        for thread in threads:
+            thread.join()
+        samples = read(text_of([numbers]))
+        self.assertEqual(list(samples["escrow_answers_total"].values()), [40000])
+        self.assertEqual(max(samples["escrow_refusals_total"].values()), 40000)
+        self.assertEqual(samples["escrow_answer_seconds_bucket"][(("le", "0.0001"), ("site", "0"))], 0)
+        self.assertEqual(samples["escrow_answer_seconds_bucket"][(("le", "0.00025"), ("site", "0"))], 40000)
+
+
+class Written(unittest.TestCase):
+    """The file and the HTTP handler."""
+
+    def test_file(self) -> None:
+        """The file has the text, is replaced as a whole, and nothing is left beside it."""
+        with tempfile.TemporaryDirectory() as folder:
+            path = os.path.join(folder, "escrow.prom")
+            write(path, [Metrics(0)])
+            write(path, [told()])
+            with open(path, encoding="utf-8", newline="") as file:
+                self.assertEqual(file.read(), WHOLE)
+            self.assertEqual(os.listdir(folder), ["escrow.prom"])
+
+    def test_file_is_always_whole(self) -> None:
+        """Who reads while it is written never sees a part."""
+        with tempfile.TemporaryDirectory() as folder:
+            path, end = os.path.join(folder, "escrow.prom"), time.monotonic() + 0.5
+            write(path, [told()])
+
+            def write_again() -> None:
+                for _ in range(200):
+                    write(path, [told()])
+
+            writer = threading.Thread(target=write_again)
+            writer.start()
+            while writer.is_alive() and time.monotonic() < end:
+                with open(path, encoding="utf-8", newline="") as file:
+                    self.assertEqual(file.read(), WHOLE)
+            writer.join()
+
+    def test_file_that_cannot_be(self) -> None:
+        """A path in no folder, and a path that is a folder, are faults of the system; nothing is left behind."""
+        with tempfile.TemporaryDirectory() as folder:
+            os.mkdir(os.path.join(folder, "taken"))
+            for path in ("none/escrow.prom", "taken"):
+                with self.assertRaises(OSError):
+                    write(os.path.join(folder, path), [told()])
+            self.assertEqual(os.listdir(folder), ["taken"])
+
+    def test_http(self) -> None:
+        """The text at /metrics, made anew each time; 404 elsewhere; the port is free again once it is closed."""
+        numbers, asked = told(), [0]
+
+        def refresh() -> None:
+            asked[0] += 1
+            numbers.holds(asked[0])
+
+        server = serve([numbers], refresh=refresh)
+        try:
+            address = f"http://127.0.0.1:{server.port}"
+            with urllib.request.urlopen(f"{address}/metrics", timeout=5) as answer:
+                self.assertEqual(answer.headers["Content-Type"], CONTENT_TYPE)
+                self.assertEqual(answer.read().decode(), WHOLE)
+            with urllib.request.urlopen(f"{address}/metrics", timeout=5) as answer:
+                self.assertIn('escrow_open_transactions{site="2"} 2\n', answer.read().decode())
+            with self.assertRaises(urllib.error.HTTPError) as fault:
+                urllib.request.urlopen(f"{address}/", timeout=5)
+            self.assertEqual(fault.exception.code, 404)
+            fault.exception.close()
+        finally:
+            server.close()
+        with self.assertRaises(OSError):
+            urllib.request.urlopen(f"{address}/metrics", timeout=5)
+
+
+    def test_refresh_that_fails(self) -> None:
+        """The numbers are told as they are where they can't be refreshed."""
+        def down() -> None:
+            raise ConnectionError
+
+        server = serve([told()], refresh=down)
+        try:
+            with urllib.request.urlopen(f"http://127.0.0.1:{server.port}/metrics", timeout=5) as answer:
+                self.assertEqual(answer.read().decode(), WHOLE)
+        finally:
+            server.close()
+
+    def test_port_that_is_taken(self) -> None:
+        """A second server of one port is a fault of the system."""
+        server = serve([told()])
+        try:
+            with self.assertRaises(OSError):
+                serve([told()], port=server.port)
+        finally:
+            server.close()
+
+
+class OverASite(unittest.TestCase):
+    """What the client counts at a real site."""
+
+    def test_a_site(self) -> None:
+        """Three sales of one, one of too many, one of two in a transaction, a read, a forged statement, a kill, a clean end."""
+        with tempfile.TemporaryDirectory() as at:
+            folder, numbers = os.path.join(at, "shop"), Metrics(0)
+            schema = escrow.Schema(2, (escrow.Field("stock", 0, 100, 40),))
+            escrow.create(folder, schema, 0, programs.escrow_site())
+            with escrow.Site(folder, programs.escrow_site(), metrics=numbers) as site:
+                for _ in range(3):
+                    site.change("stock", -1)
+                with self.assertRaises(escrow.Short):
+                    site.change("stock", -50)
+                with site.transaction() as transaction:
+                    transaction.lower("stock", 2)
+                with self.assertRaises(escrow.Forged):
+                    site.accept(escrow.Statement(1, 0, "stock", escrow.Kind.LOWER, 51))
+                self.assertEqual(site.read("stock"), escrow.Interval(15, 65))
+                before = read(text_of([numbers]))
+                assert site.pid
+                os.kill(site.pid, signal.SIGKILL)
+                self.assertEqual(site.share("stock"), escrow.Share(15, 35))
+                after = read(text_of([numbers]))
+            ended = read(text_of([numbers]))
+        self.check_before(before)
+        alone = (("site", "0"),)
+        # The log has R 1, three records C 1 N 0 -1 and one C 1 5 0 -2, and R 2, each with its line feed.
+        self.assertEqual([after[f"escrow_{it}"][alone] for it in ("up", "starts_total", "epoch", "log_bytes")], [1, 2, 2, 52])
+        self.assertEqual(after["escrow_stops_total"][alone + (("status", "-9"),)], 1)
+        self.assertEqual(after["escrow_share_rights"], {(("field", "stock"), ("kind", "lower")) + alone: 15,
+                                                        (("field", "stock"), ("kind", "raise")) + alone: 35})
+        self.assertEqual((ended["escrow_up"][alone], ended["escrow_stops_total"][alone + (("status", "0"),)]), (0, 1))
+
+    def check_before(self, samples: dict[str, dict[tuple[tuple[str, str], ...], float]]) -> None:
+        """What was counted up to the kill. Of 20 rights to lower three are sold: 17 are told with the refusal."""
+        alone = (("site", "0"),)
+        answers = {"change": 4, "escrow": 1, "commit": 1, "accept": 1, "read": 1}
+        self.assertEqual(samples["escrow_answers_total"], {(("command", it),) + alone: count for it, count in answers.items()})
+        refused = {key: count for key, count in samples["escrow_refusals_total"].items() if count}
+        self.assertEqual(refused, {(("command", "change"), ("number", "7"), ("reason", "short")) + alone: 1,
+                                   (("command", "accept"), ("number", "11"), ("reason", "forged")) + alone: 1})
+        self.assertEqual(samples["escrow_share_rights"], {(("field", "stock"), ("kind", "lower")) + alone: 17})
+        self.assertEqual(samples["escrow_answer_seconds_count"], {alone: 8})
+        self.assertEqual([samples[f"escrow_{it}"][alone] for it in ("up", "epoch", "log_bytes", "waiting_calls", "open_transactions")],
+                         [1, 1, 4, 0, 0])
+        self.assertEqual(sum(samples["escrow_stops_total"].values()), 0)
+
+
+if __name__ == "__main__":
+    unittest.main()
