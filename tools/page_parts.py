@@ -7,8 +7,9 @@ docs/ARCHITECTURE.md, `graph`: each crate of crates.txt, the crates that it stan
 out), those whose proof files it cites, and the kit's libraries. The crates *_tests are left out.
 
 docs/DEFINITIONS.md, `index`: each definition of crates/*/specs that the contract of an exported function or trait
-names, or that an exported type is seen as, with the first sentence of the comment above it. Laws (functions whose body
-is empty) don't count, and what the page tells by hand is left out, as are worked rows.
+names, or that an exported type is seen as, by file, with the file's first sentence. Laws (functions whose body is
+empty) and worked rows don't count. What the page tells by hand is left out: a name that one crate alone has counts
+wherever it stands, and any other in a bullet or a paragraph that names its crate.
 
 With --check nothing is written, and the status is 1 where a page isn't as it would be written. It needs Python 3.10 and
 its standard library alone.
@@ -82,42 +83,16 @@ class Definition(NamedTuple):
     name: str
 
 
-class Group(NamedTuple):
-    """Definitions that one comment tells."""
-
-    names: list[str]
-    comment: str
-
-    def leans(self) -> bool:
-        """Whether the comment can't be read without the one above it."""
-        return re.match(r"The same|Those|And so|So it|It |One that|They ", self.comment) is not None
+def names_of(file: str) -> list[str]:
+    """The definitions of a file, in order."""
+    return re.findall(r"^(?:(?:abbrev|unfoldable) pub|pub record) ([A-Za-z_]\w*)", text_of(file), re.M)
 
 
-def comment_of(lines: list[str]) -> str:
-    """The first sentence of what the lines say."""
-    text = SOURCES.sub("", " ".join(line[2:].strip() for line in lines)).strip()
-    return re.split(r"(?<=\.) ", text)[0]
-
-
-def groups_of(text: str) -> list[Group]:
-    groups: list[Group] = []
-    for block in text.split("\n\n")[1:]:
-        comment: list[str] = []
-        for line in block.splitlines():
-            if line.startswith("-- ----"):
-                groups.append(Group([], comment_of([line.replace("----", "")])))
-                comment = []
-                continue
-            if line.startswith("--"):
-                comment.append(line)
-                continue
-            defined = re.match(r"(?:abbrev pub|pub record|pub data|pub def) ([A-Za-z_]\w*)", line)
-            if defined:
-                if comment or not groups:
-                    groups.append(Group([], comment_of(comment)))
-                groups[-1].names.append(defined[1])
-            comment = []
-    return groups
+def sentence_of(file: str) -> str:
+    """The first sentence of the comment that a file begins with, sources left out."""
+    comment = re.match(r"(?:--.*\n)*", text_of(file))
+    said = " ".join(line[2:].strip() for line in (comment[0] if comment else "").splitlines())
+    return re.split(r"[.:] ", SOURCES.sub("", said))[0].removesuffix(".")
 
 
 def exported(crate: str) -> set[str]:
@@ -154,39 +129,24 @@ def cited_definitions() -> set[Definition]:
     return cited
 
 
-def index(told: set[str]) -> str:
-    cited, parts = cited_definitions(), list[str]()
+def index(rest: str) -> str:
+    cited, lines = cited_definitions(), list[str]()
     files = {crate: sorted(glob.glob(f"crates/{crate}/specs/*.antt")) for crate in needs_of()}
-    groups = {file: groups_of(text_of(file)) for of_crate in files.values() for file in of_crate}
     owners: dict[str, set[str]] = {}
-    for file, of_file in groups.items():
-        for name in (name for group in of_file for name in group.names):
-            owners.setdefault(name, set()).add(file.split("/")[1])
+    for crate, file in ((crate, file) for crate, of_crate in files.items() for file in of_crate):
+        for name in names_of(file):
+            owners.setdefault(name, set()).add(crate)
     for crate, of_crate in files.items():
-        lines: list[str] = []
+        told = told_by_hand(rest, crate, owners)
         for file in of_crate:
             module = os.path.basename(file).removesuffix(".antt")
             if module.startswith("Worked"):
                 continue
-            known = {name for name in told if crate in THEOREM or owners.get(name) == {crate}}
-            bullets: list[str] = []
-            leaned_on = False
-            for group in reversed(groups[file]):
-                named = any(Definition(crate, module, it) in cited and it not in known for it in group.names)
-                shown = named or (leaned_on and group.names != [])
-                if shown:
-                    bullets.insert(0, bullet(group.names, group.comment))
-                leaned_on = shown and group.leans()
-            if bullets:
-                lines += ["", f"`{module}.antt`:", "", *bullets]
-        if lines:
-            parts += ["", f"## {crate}", *lines]
-    return "\n".join(parts[1:])
-
-
-def bullet(names: list[str], comment: str) -> str:
-    told = ", ".join(f"`{it}`" for it in names)
-    return wrapped(f"{told}: {comment}" if comment else told, "- ", "  ")
+            shown = [it for it in names_of(file) if Definition(crate, module, it) in cited and it not in told]
+            if shown:
+                names = ", ".join(f"`{it}`" for it in shown)
+                lines.append(wrapped(f"`{file}`. {sentence_of(file)}: {names}", "- ", "  "))
+    return "\n".join(lines)
 
 
 # ---- the pages
@@ -202,8 +162,14 @@ def with_part(page: str, name: str, made: Callable[[str], str]) -> str:
     return f"{before}{begin}\n{made(before + after)}\n\n{end}{after}"
 
 
-def told_by_hand(rest: str) -> set[str]:
-    return {word for told in re.findall(r"`([^`]*)`", rest) for word in WORD.findall(told)}
+def told_by_hand(rest: str, crate: str, owners: dict[str, set[str]]) -> set[str]:
+    """The definitions of a crate that the rest of the page tells."""
+    told: set[str] = set()
+    for block in re.split(r"\n(?=- )|\n\n", rest):
+        names = {name for it in re.findall(r"`([^`]*)`", block) for name in WORD.findall(it)}
+        own = crate in THEOREM or crate in names
+        told.update(name for name in names if own or owners.get(name) == {crate})
+    return told
 
 
 def main() -> int:
@@ -213,7 +179,7 @@ def main() -> int:
         return 2
     made: dict[str, Callable[[str], str]] = {
         "docs/ARCHITECTURE.md": lambda page: with_part(page, "graph", lambda _: graph()),
-        "docs/DEFINITIONS.md": lambda page: with_part(page, "index", lambda rest: index(told_by_hand(rest))),
+        "docs/DEFINITIONS.md": lambda page: with_part(page, "index", index),
     }
     faults = 0
     for file, make in made.items():

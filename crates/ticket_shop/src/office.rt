@@ -347,7 +347,6 @@ fn ask_desk<L: Ledger, M: Medium + Drop, R: Wait>(
 }
 // guide: end
 
-// guide: medium
 /// An empty medium that this mishap will strike, with the meter.
 fn empty_medium(
     alloc: Global,
@@ -359,7 +358,6 @@ fn empty_medium(
     inner.arm(mishap);
     Ok(Metered { inner, meter })
 }
-// guide: end
 
 /// Prints the text of an entry.
 fn print_entry(

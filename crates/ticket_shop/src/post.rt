@@ -20,7 +20,6 @@ impl Post {
         self.lot
     }
 
-    // guide: post
     /// Draws one of the statements, as often as there are statements. So some arrive twice, some
     /// never, and in any order.
     pub fn carry(
@@ -35,5 +34,4 @@ impl Post {
         }
         Ok(arrived)
     }
-    // guide: end
 }

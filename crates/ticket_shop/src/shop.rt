@@ -93,7 +93,6 @@ impl<A: Ledger + Send + Sync, B: Ledger + Send + Sync, C: Ledger + Send + Sync> 
         at_south: &[Errand],
         at_web: &[Errand],
     ) -> Result<(), ShopFault> {
-        // guide: threads
         let north = &mut self.north;
         let south = &mut self.south;
         let web = &mut self.web;
@@ -108,7 +107,6 @@ impl<A: Ledger + Send + Sync, B: Ledger + Send + Sync, C: Ledger + Send + Sync> 
                 )
             },
         );
-        // guide: end
         of_north.and(of_south).and(of_web)
     }
 
@@ -200,7 +198,6 @@ fn judge_all<R: Print>(
     // guide: end
 }
 
-// guide: verdict
 /// Judges a trace, and prints the verdict on it.
 fn print_verdict(
     rt: &impl Print,
@@ -214,4 +211,3 @@ fn print_verdict(
     }
     Ok(())
 }
-// guide: end
