@@ -2,9 +2,10 @@
 use Rattle.std.proofs.Common.{◌≡◌, Bool, false, List, [], ◌∷◌, ◌++◌, refl, arith, Option, Some, None, All}
 use Rattle.std.proofs.lemmas.Bool.{le-ltb}
 use Rattle.std.proofs.lemmas.Int.{ints}
-use Rattle.std.specs.Prelude.{ℤ, pos, negsuc, ◌≤ℤ◌, int_lt, ◌||◌}
+use Rattle.std.specs.Prelude.{ℤ, pos, negsuc, ◌≤ℤ◌, int_lt, ◌||◌, Result, Ok, Err, IfErr}
 use Rattle.field_bounds.specs.declared.id.SiteNo.{SiteNo}
 use Rattle.field_bounds.specs.declared.id.FieldNo.{FieldNo}
+use Rattle.field_bounds.specs.declared.entry.Entry.{Entry}
 use Rattle.field_bounds.specs.Schema.{SchemaValue}
 use Rattle.field_bounds.specs.Limits.{IsSchema}
 use Rattle.field_bounds.specs.Effects.{fresh}
@@ -13,10 +14,10 @@ use Rattle.field_bounds.specs.Central.{own}
 use Rattle.world_steps.specs.declared.step.WorldStep.{WorldStep}
 use Rattle.world_steps.specs.World.{StepFits, trace_by}
 use Rattle.reaching_steps.specs.declared.fault.ReachFault.{ReachFault}
-use Rattle.reaching_steps.specs.declared.fault.ReachFault.TheVariants.{Outside}
+use Rattle.reaching_steps.specs.declared.fault.ReachFault.TheVariants.{NoMemory, NoSite, NoField, NotUp, InFlight, Unstated, Tightened, Numbers, Outside}
 use Rattle.reaching_steps.specs.Reach.{first_fault, fault_if, lies_outside, reach_fault, reach_steps}
 use Rattle.reaching_steps.specs.Tight.{hindrances, IsUnhindered, LiesWithin}
-use Rattle.reaching_steps.specs.Body.{Does}
+use Rattle.reaching_steps.specs.Body.{Does, Explains}
 use Rattle.reaching_steps.proofs.Growing.{does}
 
 not_below : (x y : ℤ) → y ≤ℤ x → int_lt x y ≡ false
@@ -39,18 +40,43 @@ behind (Some fault ∷ rest) last h none = cc
 unfaulted : (b : Bool) (fault : ReachFault) → b ≡ false → fault_if b fault ≡ None
 unfaulted b fault h = rw h refl
 
+-- where nothing stands in the way of a value within, no fault holds
+unhindered_clear : (schema : SchemaValue) (t : List Entry) (site : SiteNo) (field : FieldNo) (target : ℤ)
+    → IsUnhindered schema t site field → LiesWithin schema t site field target → reach_fault schema t site field target ≡ None
+unhindered_clear schema t site field target free within =
+    let interval = interval_at (place schema site.0 (fresh schema site.0) (own site.0 t)) field in
+    behind (hindrances schema t site field) (fault_if (lies_outside interval target) (Outside interval.0 interval.1)) free
+    (unfaulted (lies_outside interval target) (Outside interval.0 interval.1)
+    (neither (int_lt target interval.0) (int_lt interval.1 target) (not_below target interval.0 within.0)
+    (not_below interval.1 target within.1)))
+
+-- a fault that is told where none holds is want of memory
+memory_alone : (fault : ReachFault) (first : Option ReachFault) → Explains fault first → first ≡ None → fault ≡ NoMemory
+memory_alone NoMemory first told none = refl
+memory_alone NoSite first told none = cc
+memory_alone NoField first told none = cc
+memory_alone (NotUp site) first told none = cc
+memory_alone (InFlight site) first told none = cc
+memory_alone (Unstated site) first told none = cc
+memory_alone Tightened first told none = cc
+memory_alone (Numbers site) first told none = cc
+memory_alone (Outside lo hi) first told none = cc
+
+pub only_memory : {T : Type 0} (r : Result T ReachFault) (schema : SchemaValue) (t : List Entry) (site : SiteNo) (field : FieldNo)
+    (target : ℤ)
+    → IfErr r (λ fault. Explains fault (reach_fault schema t site field target))
+    → IfErr r (λ fault. IsUnhindered schema t site field → LiesWithin schema t site field target → fault ≡ NoMemory)
+only_memory (Ok taken) schema t site field target told = tt
+only_memory (Err fault) schema t site field target told =
+    λ free within.
+    memory_alone fault (reach_fault schema t site field target) told (unhindered_clear schema t site field target free within)
+
 module _ (schema : SchemaValue) (good : IsSchema schema) (steps : List WorldStep) (fit : All (StepFits schema) steps) (site : SiteNo)
     (field : FieldNo) (target : ℤ)
     (free : IsUnhindered schema (trace_by schema steps) site field)
     (within : LiesWithin schema (trace_by schema steps) site field target) where
   clear : reach_fault schema (trace_by schema steps) site field target ≡ None
-  clear =
-      let interval = interval_at (place schema site.0 (fresh schema site.0) (own site.0 (trace_by schema steps))) field in
-      behind (hindrances schema (trace_by schema steps) site field)
-      (fault_if (lies_outside interval target) (Outside interval.0 interval.1)) free
-      (unfaulted (lies_outside interval target) (Outside interval.0 interval.1)
-      (neither (int_lt target interval.0) (int_lt interval.1 target) (not_below target interval.0 within.0)
-      (not_below interval.1 target within.1)))
+  clear = unhindered_clear schema (trace_by schema steps) site field target free within
 
   pub value_is_reached : (more : List WorldStep) × Does (record { schema = schema; steps = steps }) site field target more
   value_is_reached = (

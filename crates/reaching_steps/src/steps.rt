@@ -7,6 +7,8 @@ ghost use Rattle.world_steps.specs.World.{StepFits, trace_by};
 ghost use Rattle.world_steps.specs.View.{trace_of};
 ghost use Rattle.reaching_steps.specs.Reach.{steps_of_tasks, over_sites, aborts, restates, delivers, passes_on, moves, move_tasks, tasks, reach_steps, reach_fault, IsFine};
 ghost use Rattle.reaching_steps.specs.Body.{Explains, Grew, Does};
+ghost use Rattle.reaching_steps.specs.Tight.{IsUnhindered, LiesWithin};
+ghost use Rattle.reaching_steps.specs.declared.fault.ReachFault.TheVariants.{NoMemory};
 
 use crate::fault::ReachFault;
 use crate::faults::fault_of;
@@ -394,8 +396,9 @@ fn reach_on(
 /// and where there are steps none holds (`clear`).
 ///
 /// Taken after the world's own steps, they leave the named site as it is, and the target is the
-/// committed value (`does`). As every value from lo to hi of the interval that the named site reads
-/// is such a target, an interval that leaves one out would be wrong in some run.
+/// committed value (`does`). Where no fault but Outside stands in the way, every value from lo to hi
+/// of the interval that the named site reads is such a target, unless memory is wanting (`tight`):
+/// so an interval that leaves one out would be wrong in some run.
 ///
 /// The site is tried on a world of its own. Costs taking the world's steps once more, reading the
 /// trace once for each site and for each step that is told, and, for each two sites, what took
@@ -414,6 +417,9 @@ pub fn reach(
     ensures steps { IfOk result (λ taken. taken.items
         ≡ reach_steps world.now.schema world.now.steps site field target) }
     ensures does { IfOk result (λ taken. Does world.now site field target taken.items) }
+    ensures tight { IfErr result (λ fault. IsUnhindered world.now.schema (trace_of world.now)
+        site field → LiesWithin world.now.schema (trace_of world.now) site field target
+        → fault ≡ NoMemory) }
 {
     let Ok(mut trial) = Trial::new(alloc, world) else {
         return Err(ReachFault::NoMemory);

@@ -1,4 +1,5 @@
 -- One more step of a world.
+use Rattle.std.specs.Prelude.{Result, Ok, Err, OnOk}
 use Rattle.std.proofs.Common.{◌≡◌, ℕ, ◌+◌, ◌<◌, List, [], ◌∷◌, ◌++◌, length, take, drop, reverse, sym, ap, subst, ◌∙◌, arith, Option, Some, None, All}
 use Rattle.std.proofs.lemmas.List.{reverse-append, length-append}
 use Rattle.std.proofs.lemmas.List.Elements.{All-push, All-tail, All-head}
@@ -182,6 +183,11 @@ pub one_store_after : (schema : SchemaValue) (steps more : List WorldStep) (step
 one_store_after schema steps more step good fit fits is =
     subst (λ (l : List WorldStep). IsOneStore schema (trace_by schema l)) (sym is)
     (one_store_of schema good (steps ++ step ∷ []) (All-push (StepFits schema) steps step fit fits))
+
+-- what follows where there is a value
+pub part_of : {T E P Q : Type 0} → (r : Result T E) → OnOk r P → (P → Q) → OnOk r Q
+part_of (Ok x) is f = f is
+part_of (Err e) is f = tt
 
 -- the site of a step is one of the world's
 pub step_known : (schema : SchemaValue) (steps : List WorldStep) (sites : List SiteValue) (trace : List Entry) (told : List Statement)

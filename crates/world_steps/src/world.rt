@@ -99,14 +99,37 @@ impl World {
     /// statement has makes no entry. The luck is armed for this step alone. The error is want of
     /// memory, and then nothing has changed.
     ///
-    /// The trace after it, as after every list of steps, is a run of one central escrow store, with
-    /// all that `trace` says of it (`one_store`).
+    /// The trace after it, as after every list of steps, is a run of one central escrow store: each
+    /// part of that theorem is a clause, of the name that it has at `trace`.
     ///
     /// Costs what the site's `apply` costs, and amortized pushes of the entry, of the statement and
     /// of what the entry doesn't tell of the step, which are kept: one byte, 8 more for the number
     /// of a delivery, and 8 more for luck that is torn. Nothing else grows with the trace.
     #[inline(always)]
     pub fn step(&mut self, alloc: Global, step: &WorldStep) -> Result<StepReply, AllocError>
+        requires fits { StepFits self.old.schema step.now }
+        ensures steps { OnOk result (self.new ≡ record self.old {
+          steps =
+              self.old.steps ++ step.now ∷ [];
+        }) }
+        ensures answers { IfOk result (λ reply. Answers reply self.old step.now self.new) }
+        ensures sound { OnOk result (IsSound self.new.schema (trace_of self.new)) }
+        ensures central { OnOk result (IsCentral self.new.schema (trace_of self.new)) }
+        ensures conserved { OnOk result (IsConservedThroughout self.new.schema
+            (trace_of self.new)) }
+        ensures bounded { OnOk result (IsBoundedThroughout self.new.schema (trace_of self.new)) }
+        ensures outcomes { OnOk result (OutcomesAreBoundedThroughout self.new.schema
+            (trace_of self.new)) }
+        ensures tighter { OnOk result (BoundsOnlyTighten self.new.schema (trace_of self.new)) }
+        ensures none_strange { OnOk result (NoneStrange (trace_of self.new)) }
+        ensures err { OnErr result (self.new ≡ self.old) }
+    {
+        self.take_step(alloc, step)
+    }
+
+    /// Takes one step: the trace after it is one of a central store, in all its parts.
+    #[inline(always)]
+    fn take_step(&mut self, alloc: Global, step: &WorldStep) -> Result<StepReply, AllocError>
         requires fits { StepFits self.old.schema step.now }
         ensures steps { OnOk result (self.new ≡ record self.old {
           steps =

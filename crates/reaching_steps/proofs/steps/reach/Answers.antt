@@ -5,6 +5,7 @@ use Rattle.world_steps.specs.World.{StepFits}
 use Rattle.world_steps.specs.View.{WorldValue, trace_of}
 use Rattle.reaching_steps.specs.Reach.{reach_fault, reach_steps}
 use Rattle.reaching_steps.specs.Body.{Explains, Does}
+use Rattle.reaching_steps.proofs.Tightest.{only_memory}
 use Rattle.reaching_steps.proofs.steps.reach.Goals as goal
 
 pub reach_on-requires : goal.reach_on-requires
@@ -34,4 +35,6 @@ returns c =
           fault;
       steps = subst (λ (x : WorldValue). IfOk r (λ taken. taken.items ≡ reach_steps x.schema x.steps site field target)) same steps;
       does = subst (λ (x : WorldValue). IfOk r (λ taken. Does x site field target taken.items)) same does;
+      tight = only_memory r c.args.world.now.schema (trace_of c.args.world.now) site field target
+          (subst (λ (x : WorldValue). IfErr r (λ fault. Explains fault (reach_fault x.schema (trace_of x) site field target))) same fault);
     }
