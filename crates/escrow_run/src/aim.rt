@@ -9,7 +9,7 @@ use field_bounds::{FieldNo, SiteNo};
 use reaching_steps::ReachFault;
 
 /// What a line reaches for: a value of a field, by steps at other sites than this one.
-#[derive(Clone, Copy, Debug)]
+#[derive(Clone, Copy)]
 pub(crate) struct Aim {
     pub(crate) site: SiteNo,
     pub(crate) field: FieldNo,

@@ -15,7 +15,7 @@ use std::alloc::{AllocError, Global};
 use world_steps::{Luck, World, WorldStep};
 
 /// The field that a line levels, and the kind of its rights.
-#[derive(Clone, Copy, Debug)]
+#[derive(Clone, Copy)]
 pub(crate) struct Level {
     pub(crate) field: FieldNo,
     pub(crate) kind: Kind,

@@ -25,7 +25,7 @@ use line_words::Words;
 use world_steps::{Luck, World, WorldStep, step_fits};
 
 /// What a line asks.
-#[derive(Clone, Copy, Debug)]
+#[derive(Clone, Copy)]
 pub(crate) enum Line {
     /// A step.
     Step(WorldStep),
