@@ -3,7 +3,7 @@
 #![tactic(auto)]
 
 use clap::error::ErrorKind;
-use clap::{Arg, ArgAction, Command, Error};
+use clap::{Arg, ArgAction, ArgMatches, Command, Error};
 use escrow_script::{AuditEnd, ScriptFault, Watched, audit_text, run_script, work_text};
 use std::alloc::{AllocError, Global};
 use std::process::ExitCode;
@@ -161,43 +161,53 @@ enum Task {
     Audit { fields: bool },
 }
 
-fn program<'a>(alloc: Global) -> Result<Command<'a>, AllocError> {
-    let run = Command::new(alloc, "run")
+fn run_command<'a>(alloc: Global) -> Command<'a> {
+    Command::new(alloc, "run")
         .about(RUN_ABOUT)
-        .after_help(RUN_EXAMPLE);
-    let work = Command::new(alloc, "work")
+        .after_help(RUN_EXAMPLE)
+}
+
+fn work_command<'a>(alloc: Global) -> Command<'a> {
+    Command::new(alloc, "work")
         .about(WORK_ABOUT)
-        .after_help(WORK_EXAMPLE);
-    let fields = Arg::new(alloc, "fields")
+        .after_help(WORK_EXAMPLE)
+}
+
+fn fields_arg<'a>(alloc: Global) -> Arg<'a> {
+    Arg::new(alloc, "fields")
         .long("fields")
         .help(FIELDS_HELP)
-        .action(ArgAction::SetTrue);
-    let audit = Command::new(alloc, "audit")
+        .action(ArgAction::SetTrue)
+}
+
+fn audit_command<'a>(alloc: Global) -> Result<Command<'a>, AllocError> {
+    Command::new(alloc, "audit")
         .about(AUDIT_ABOUT)
         .after_help(AUDIT_EXAMPLE)
-        .arg(fields)?;
-    Command::new(alloc, "escrow")
+        .arg(fields_arg(alloc))
+}
+
+// The command with a subcommand, where that could be made.
+fn with_part<'a>(
+    whole: Command<'a>,
+    part: Result<Command<'a>, AllocError>,
+) -> Result<Command<'a>, AllocError> {
+    whole.subcommand(part?)
+}
+
+fn program<'a>(alloc: Global) -> Result<Command<'a>, AllocError> {
+    let whole = Command::new(alloc, "escrow")
         .about(ABOUT)
         .after_help(EXAMPLE)
         .subcommand_required(true)
         .arg_required_else_help(true)
-        .subcommand(run)?
-        .subcommand(work)?
-        .subcommand(audit)
+        .subcommand(run_command(alloc))?
+        .subcommand(work_command(alloc))?;
+    with_part(whole, audit_command(alloc))
 }
 
-fn read_task(rt: &(impl Env + AllocGlobal)) -> Result<Task, Error> {
-    let alloc = rt.alloc();
-    let mut command = program(alloc)?;
-    let words: Vec<String> = match env::args(rt) {
-        Ok(words) => words.collect(alloc)?,
-        Err(fault) if fault.kind() == io::ErrorKind::OutOfMemory => return Err(AllocError.into()),
-        Err(_) => {
-            let words = "invalid UTF-8 was detected in one or more arguments";
-            return Err(command.error(ErrorKind::InvalidValue, words)?);
-        }
-    };
-    let matches = command.try_get_matches_from(words.as_slice())?;
+// The task that the words of a command line ask for.
+fn task_of(alloc: Global, matches: &ArgMatches<'_>) -> Result<Task, Error> {
     match matches.subcommand() {
         Some(("run", _)) => Ok(Task::Run),
         Some(("work", _)) => Ok(Task::Work),
@@ -206,6 +216,29 @@ fn read_task(rt: &(impl Env + AllocGlobal)) -> Result<Task, Error> {
         }),
         _ => Err(program(alloc)?.error(ErrorKind::MissingSubcommand, "no subcommand")?),
     }
+}
+
+// The words of the command line.
+fn read_words(
+    rt: &(impl Env + AllocGlobal),
+    command: &mut Command<'_>,
+) -> Result<Vec<String>, Error> {
+    match env::args(rt) {
+        Ok(words) => Ok(words.collect(rt.alloc())?),
+        Err(fault) if fault.kind() == io::ErrorKind::OutOfMemory => Err(AllocError.into()),
+        Err(_) => {
+            let words = "invalid UTF-8 was detected in one or more arguments";
+            Err(command.error(ErrorKind::InvalidValue, words)?)
+        }
+    }
+}
+
+fn read_task(rt: &(impl Env + AllocGlobal)) -> Result<Task, Error> {
+    let alloc = rt.alloc();
+    let mut command = program(alloc)?;
+    let words = read_words(rt, &mut command)?;
+    let matches = command.try_get_matches_from(words.as_slice())?;
+    task_of(alloc, &matches)
 }
 
 fn status_of(fault: ScriptFault) -> u8 {

@@ -116,18 +116,23 @@ fn show_world(rt: &impl Print, world: &World, states: &[FieldState]) -> io::Resu
     show_states(rt, &world.schema, states)
 }
 
-/// Checks the logs of all sites of a world together, and shows where each field stands by them. They
-/// are read without their locks.
-pub(crate) fn check(rt: &HostRuntime, folders: &[String]) -> Result<(), Fault> {
+// Checks the logs of all sites, and shows where each field stands by them.
+fn check_logs(rt: &HostRuntime, world: &World) -> Result<(), Fault> {
     let alloc = rt.alloc();
-    let world = read_world(rt, folders)?;
-    let logs = read_logs(rt, &world)?;
+    let logs = read_logs(rt, world)?;
     let states = match check_world(alloc, &world.schema, logs.as_slice()) {
         Ok(states) => states,
-        Err(fault) => return Err(logs_fault(alloc, &world, fault)),
+        Err(fault) => return Err(logs_fault(alloc, world, fault)),
     };
-    match show_world(rt, &world, states.as_slice()) {
+    match show_world(rt, world, states.as_slice()) {
         Ok(()) => Ok(()),
         Err(_) => Err(Fault::Write),
     }
+}
+
+/// Checks the logs of all sites of a world together, and shows where each field stands by them. They
+/// are read without their locks.
+pub(crate) fn check(rt: &HostRuntime, folders: &[String]) -> Result<(), Fault> {
+    let world = read_world(rt, folders)?;
+    check_logs(rt, &world)
 }

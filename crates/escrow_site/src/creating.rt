@@ -98,6 +98,15 @@ fn sync_folder(rt: &HostRuntime, folder: &str) -> Result<(), Fault> {
     }
 }
 
+// Makes a site's folder with its files, and makes them safe from a stop of the machine.
+fn make_site(rt: &HostRuntime, paths: &Paths, identity: &Identity) -> Result<(), Fault> {
+    let folder = paths.folder.as_str();
+    make_folder(rt, paths)?;
+    write_files(rt, paths, identity)?;
+    sync_folder(rt, folder)?;
+    sync_folder(rt, parent_of(folder))
+}
+
 /// Makes the folder of a site, with a log of no records, and makes it safe from a stop of the machine. A
 /// fault may leave a part of it.
 pub(crate) fn create(
@@ -108,8 +117,5 @@ pub(crate) fn create(
 ) -> Result<(), Fault> {
     let identity = read_schema(rt, schema, number)?;
     let paths = Paths::new(rt.alloc(), folder)?;
-    make_folder(rt, &paths)?;
-    write_files(rt, &paths, &identity)?;
-    sync_folder(rt, folder)?;
-    sync_folder(rt, parent_of(folder))
+    make_site(rt, &paths, &identity)
 }

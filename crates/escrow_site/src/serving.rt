@@ -7,7 +7,7 @@ use crate::unsynced::UnsyncedFile;
 use file_medium::{HostFile, LogFile};
 use log_stand::{Stand, stand_of};
 use named_log::{NameFault, NamedLog};
-use script_input::{Sink, Watched};
+use script_input::{Sink, Source, Watched};
 use site_folder::{Identity, log_name};
 use site_service::{NoTrace, OpenFault, ServeFault, Service, serve};
 use site_tasks::Serving;
@@ -28,6 +28,17 @@ fn open_named<F: LogFile + Drop>(
     }
 }
 
+// How far the log has come that a file holds.
+fn stand_in(
+    alloc: Global,
+    paths: &Paths,
+    identity: &Identity,
+    bytes: &[u8],
+) -> Result<Stand, Fault> {
+    let records = behind_name(alloc, paths, identity, bytes)?;
+    Ok(stand_of(alloc, records)?)
+}
+
 // Refuses a log that is older than was seen of it before. It stays as it is.
 fn check_age(
     rt: &HostRuntime,
@@ -37,10 +48,7 @@ fn check_age(
 ) -> Result<(), Fault> {
     let alloc = rt.alloc();
     let bytes = read_file(rt, paths.log.as_str(), Why::NoLog)?;
-    let stand = stand_of(
-        alloc,
-        behind_name(alloc, paths, identity, bytes.as_slice())?,
-    )?;
+    let stand = stand_in(alloc, paths, identity, bytes.as_slice())?;
     if stand.is_before(seen) {
         let why = Why::Old(stand.epoch, stand.length);
         return Err(refused(alloc, paths.log.as_str(), why));
@@ -111,7 +119,23 @@ fn serve_fault(alloc: Global, path: &str, fault: ServeFault) -> Fault {
     }
 }
 
-// Opens the site over a log, and serves it to the end of the input.
+// Writes the first line of all, and serves the site to the end of the input.
+fn serve_streams<F: LogFile, T: LogFile, R: Source, W: Sink>(
+    alloc: Global,
+    paths: &Paths,
+    service: &mut Service<F>,
+    trace: &mut T,
+    reader: &mut R,
+    writer: &mut W,
+) -> Result<(), Fault> {
+    write_ready(alloc, service, writer)?;
+    match serve(alloc, service, trace, reader, writer) {
+        Ok(()) => Ok(()),
+        Err(fault) => Err(serve_fault(alloc, failed_file(paths, service), fault)),
+    }
+}
+
+// Opens the site over a log, and serves it over standard input and output.
 fn serve_log<F: LogFile + Drop, T: LogFile>(
     rt: &HostRuntime,
     paths: &Paths,
@@ -123,11 +147,7 @@ fn serve_log<F: LogFile + Drop, T: LogFile>(
     let mut service = open_service(alloc, paths, identity, log, trace)?;
     let mut reader = Watched::new(rt.stdin());
     let mut writer = Watched::new(rt.stdout());
-    write_ready(alloc, &service, &mut writer)?;
-    match serve(alloc, &mut service, trace, &mut reader, &mut writer) {
-        Ok(()) => Ok(()),
-        Err(fault) => Err(serve_fault(alloc, failed_file(paths, &service), fault)),
-    }
+    serve_streams(alloc, paths, &mut service, trace, &mut reader, &mut writer)
 }
 
 // Serves the site over its files, unless the log is another one.
@@ -160,19 +180,39 @@ fn serve_unsynced(
     serve_files(rt, paths, identity, UnsyncedFile::new(file), trace)
 }
 
+// The trace of a locked log, which is refused where it is older than was seen before.
+fn trace_beside(
+    rt: &HostRuntime,
+    paths: &Paths,
+    identity: &Identity,
+    how: Serving,
+) -> Result<Option<HostFile>, Fault> {
+    if let Some(seen) = how.not_before {
+        check_age(rt, paths, identity, seen)?;
+    }
+    trace_for(rt, paths, identity, how.is_traced)
+}
+
+// Serves the site over its log and its trace.
+fn serve_site(
+    rt: &HostRuntime,
+    paths: &Paths,
+    identity: &Identity,
+    how: Serving,
+) -> Result<(), Fault> {
+    let file = lock_log(rt, paths)?;
+    let trace = trace_beside(rt, paths, identity, how)?;
+    if how.is_synced {
+        serve_files(rt, paths, identity, file, trace)
+    } else {
+        serve_unsynced(rt, paths, identity, file, trace)
+    }
+}
+
 /// Serves the site of a folder over standard input and output, to the end of the input. Where it
 /// isn't synced, what is answered may be lost by a stop of the machine.
 pub(crate) fn serve_folder(rt: &HostRuntime, folder: &str, how: Serving) -> Result<(), Fault> {
     let paths = Paths::new(rt.alloc(), folder)?;
     let identity = read_site(rt, &paths)?;
-    let file = lock_log(rt, &paths)?;
-    if let Some(seen) = how.not_before {
-        check_age(rt, &paths, &identity, seen)?;
-    }
-    let trace = trace_for(rt, &paths, &identity, how.is_traced)?;
-    if how.is_synced {
-        serve_files(rt, &paths, &identity, file, trace)
-    } else {
-        serve_unsynced(rt, &paths, &identity, file, trace)
-    }
+    serve_site(rt, &paths, &identity, how)
 }

@@ -154,18 +154,27 @@ fn show_site(rt: &impl Print, identity: &Identity, world: &str, shown: &Shown) -
     println!(rt; "length {}", shown.length)
 }
 
-/// Shows what the log of a folder stands for. It is read without its lock.
-pub(crate) fn show(rt: &HostRuntime, folder: &str) -> Result<(), Fault> {
-    let alloc = rt.alloc();
-    let paths = Paths::new(alloc, folder)?;
-    let identity = read_site(rt, &paths)?;
-    let shown = read_records(rt, &paths, &identity)?;
-    let world = identity.world(alloc)?;
-    if show_site(rt, &identity, world.as_str(), &shown).is_err() {
-        return Err(Fault::Write);
-    }
-    match show_fields(rt, identity.schema(), &shown.standing) {
+// Shows who the folder belongs to, and what its log stands for.
+fn show_log(rt: &impl Print, identity: &Identity, world: &str, shown: &Shown) -> io::Result<()>
+    requires fields { length shown.now.standing.rights ≡ length identity.now.schema.fields }
+{
+    show_site(rt, identity, world, shown)?;
+    show_fields(rt, identity.schema(), &shown.standing)
+}
+
+// Shows what the log of a site stands for.
+fn show_folder(rt: &HostRuntime, paths: &Paths, identity: &Identity) -> Result<(), Fault> {
+    let shown = read_records(rt, paths, identity)?;
+    let world = identity.world(rt.alloc())?;
+    match show_log(rt, identity, world.as_str(), &shown) {
         Ok(()) => Ok(()),
         Err(_) => Err(Fault::Write),
     }
+}
+
+/// Shows what the log of a folder stands for. It is read without its lock.
+pub(crate) fn show(rt: &HostRuntime, folder: &str) -> Result<(), Fault> {
+    let paths = Paths::new(rt.alloc(), folder)?;
+    let identity = read_site(rt, &paths)?;
+    show_folder(rt, &paths, &identity)
 }

@@ -51,6 +51,47 @@ fn end_at(
     }
 }
 
+// The trace in the bytes of a file that begins with this name, and where it is cut back to a log.
+fn kept_trace(
+    alloc: Global,
+    paths: &Paths,
+    schema: &Schema,
+    records: &[Record],
+    bytes: &[u8],
+    name: &[u8],
+) -> Result<KeptTrace, Fault> {
+    let Some(text) = bytes.strip_prefix(name) else {
+        return Err(refused(alloc, paths.trace.as_str(), Why::OtherTrace));
+    };
+    let trace = entries_behind(alloc, paths, schema, text)?;
+    let end = end_at(alloc, paths, &trace, records)?;
+    Ok(KeptTrace {
+        trace,
+        end,
+        name: name.len(),
+        length: bytes.len(),
+    })
+}
+
+// The trace in the bytes of a site's file, and where it is cut back to its log.
+fn site_trace(
+    alloc: Global,
+    paths: &Paths,
+    identity: &Identity,
+    records: &[Record],
+    bytes: &[u8],
+) -> Result<KeptTrace, Fault> {
+    let name = trace_name(alloc, identity)?;
+    kept_trace(
+        alloc,
+        paths,
+        identity.schema(),
+        records,
+        bytes,
+        name.as_slice(),
+    )
+}
+
 /// The trace of a folder, and where it is cut back to the folder's log. Both are read without locks,
 /// the log first: so the trace of a site that is being served isn't behind it.
 pub(crate) fn read_kept_trace(
@@ -61,18 +102,13 @@ pub(crate) fn read_kept_trace(
     let alloc = rt.alloc();
     let log = read_log(rt, paths, identity)?;
     let bytes = read_file(rt, paths.trace.as_str(), Why::NoTrace)?;
-    let name = trace_name(alloc, identity)?;
-    let Some(text) = bytes.strip_prefix(name.as_slice()) else {
-        return Err(refused(alloc, paths.trace.as_str(), Why::OtherTrace));
-    };
-    let trace = entries_behind(alloc, paths, identity.schema(), text)?;
-    let end = end_at(alloc, paths, &trace, log.records.as_slice())?;
-    Ok(KeptTrace {
-        trace,
-        end,
-        name: name.len(),
-        length: bytes.len(),
-    })
+    site_trace(
+        alloc,
+        paths,
+        identity,
+        log.records.as_slice(),
+        bytes.as_slice(),
+    )
 }
 
 // Writes a file, in place of one that is there, and makes it safe from a stop of the machine.
@@ -135,6 +171,17 @@ fn cut_back(
     }
 }
 
+// Cuts the file of the trace back to the folder's log.
+fn settle_trace(
+    rt: &HostRuntime,
+    paths: &Paths,
+    identity: &Identity,
+    file: &mut HostFile,
+) -> Result<(), Fault> {
+    let kept = read_kept_trace(rt, paths, identity)?;
+    cut_back(rt.alloc(), paths, file, &kept)
+}
+
 // The trace of the folder, opened, locked and cut back to the folder's log; it is made where the log
 // holds no records yet.
 fn lock_trace(rt: &HostRuntime, paths: &Paths, identity: &Identity) -> Result<HostFile, Fault> {
@@ -142,8 +189,7 @@ fn lock_trace(rt: &HostRuntime, paths: &Paths, identity: &Identity) -> Result<Ho
         make_trace(rt, paths, identity)?;
     }
     let mut file = open_trace(rt, paths)?;
-    let kept = read_kept_trace(rt, paths, identity)?;
-    cut_back(rt.alloc(), paths, &mut file, &kept)?;
+    settle_trace(rt, paths, identity, &mut file)?;
     Ok(file)
 }
 

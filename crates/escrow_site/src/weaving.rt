@@ -82,12 +82,16 @@ fn write_trace<W: Sink>(
     write_piece(writer, &mut text)
 }
 
+// Weaves the sites, and writes the trace.
+fn weave_sites(rt: &HostRuntime, world: &World) -> Result<(), Fault> {
+    let trace = read_weave(rt, world)?;
+    let mut writer = Watched::new(rt.stdout());
+    write_trace(rt.alloc(), &mut writer, world, trace.as_slice())
+}
+
 /// Writes one trace of all sites of a world: the header line, and an entry a line, as an audit reads
 /// them. The folders are read without their locks, and nothing is written before all are read.
 pub(crate) fn weave_folders(rt: &HostRuntime, folders: &[String]) -> Result<(), Fault> {
-    let alloc = rt.alloc();
     let world = read_world(rt, folders)?;
-    let trace = read_weave(rt, &world)?;
-    let mut writer = Watched::new(rt.stdout());
-    write_trace(alloc, &mut writer, &world, trace.as_slice())
+    weave_sites(rt, &world)
 }

@@ -130,51 +130,66 @@ fn folders_arg<'a>(alloc: Global) -> Arg<'a> {
         .action(ArgAction::Append)
 }
 
-fn create_command<'a>(alloc: Global) -> Result<Command<'a>, AllocError> {
-    let schema = Arg::new(alloc, "schema")
+fn schema_arg<'a>(alloc: Global) -> Arg<'a> {
+    Arg::new(alloc, "schema")
         .long("schema")
         .value_name("FILE")
         .help("The file that holds the header")
         .required(true)
-        .action(ArgAction::Set);
-    let site = Arg::new(alloc, "site")
+        .action(ArgAction::Set)
+}
+
+fn site_arg<'a>(alloc: Global) -> Arg<'a> {
+    Arg::new(alloc, "site")
         .long("site")
         .value_name("N")
         .help("The number of the site")
         .required(true)
         .action(ArgAction::Set)
-        .value_parser(ValueParser::unsigned(0, u64::MAX));
+        .value_parser(ValueParser::unsigned(0, u64::MAX))
+}
+
+fn create_command<'a>(alloc: Global) -> Result<Command<'a>, AllocError> {
     Command::new(alloc, "create")
         .about(CREATE_ABOUT)
         .after_help(CREATE_EXAMPLE)
         .arg(folder_arg(alloc))?
-        .arg(schema)?
-        .arg(site)
+        .arg(schema_arg(alloc))?
+        .arg(site_arg(alloc))
 }
 
-fn serve_command<'a>(alloc: Global) -> Result<Command<'a>, AllocError> {
-    let trace = Arg::new(alloc, "trace")
+fn trace_arg<'a>(alloc: Global) -> Arg<'a> {
+    Arg::new(alloc, "trace")
         .long("trace")
         .help(TRACE_HELP)
-        .action(ArgAction::SetTrue);
-    let no_sync = Arg::new(alloc, "no-sync")
+        .action(ArgAction::SetTrue)
+}
+
+fn no_sync_arg<'a>(alloc: Global) -> Arg<'a> {
+    Arg::new(alloc, "no-sync")
         .long("no-sync")
         .help(NO_SYNC_HELP)
-        .action(ArgAction::SetTrue);
-    let not_before = Arg::new(alloc, "not-before")
+        .action(ArgAction::SetTrue)
+}
+
+fn not_before_arg<'a>(alloc: Global) -> Arg<'a> {
+    Arg::new(alloc, "not-before")
         .long("not-before")
         .value_names(NOT_BEFORE_NAMES)
         .num_args(2)
         .help(NOT_BEFORE_HELP)
         .action(ArgAction::Set)
-        .value_parser(ValueParser::unsigned(0, u64::MAX));
+        .value_parser(ValueParser::unsigned(0, u64::MAX))
+}
+
+fn serve_command<'a>(alloc: Global) -> Result<Command<'a>, AllocError> {
     Command::new(alloc, "serve")
         .about(SERVE_ABOUT)
         .after_help(SERVE_EXAMPLE)
         .arg(folder_arg(alloc))?
-        .arg(trace)?
-        .arg(no_sync)?
-        .arg(not_before)
+        .arg(trace_arg(alloc))?
+        .arg(no_sync_arg(alloc))?
+        .arg(not_before_arg(alloc))
 }
 
 fn show_command<'a>(alloc: Global) -> Result<Command<'a>, AllocError> {
@@ -204,18 +219,26 @@ fn weave_command<'a>(alloc: Global) -> Result<Command<'a>, AllocError> {
         .arg(folders_arg(alloc))
 }
 
+// The command with a subcommand, where that could be made.
+fn with_part<'a>(
+    whole: Command<'a>,
+    part: Result<Command<'a>, AllocError>,
+) -> Result<Command<'a>, AllocError> {
+    whole.subcommand(part?)
+}
+
 fn program<'a>(alloc: Global) -> Result<Command<'a>, AllocError> {
-    Command::new(alloc, "escrow_site")
+    let whole = Command::new(alloc, "escrow_site")
         .about(ABOUT)
         .after_help(EXAMPLE)
         .subcommand_required(true)
-        .arg_required_else_help(true)
-        .subcommand(create_command(alloc)?)?
-        .subcommand(serve_command(alloc)?)?
-        .subcommand(show_command(alloc)?)?
-        .subcommand(check_command(alloc)?)?
-        .subcommand(settle_command(alloc)?)?
-        .subcommand(weave_command(alloc)?)
+        .arg_required_else_help(true);
+    let whole = with_part(whole, create_command(alloc))?;
+    let whole = with_part(whole, serve_command(alloc))?;
+    let whole = with_part(whole, show_command(alloc))?;
+    let whole = with_part(whole, check_command(alloc))?;
+    let whole = with_part(whole, settle_command(alloc))?;
+    with_part(whole, weave_command(alloc))
 }
 
 // The text of an argument, or none where it isn't given, which clap refuses if it is required.
