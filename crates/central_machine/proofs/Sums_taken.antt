@@ -1,5 +1,5 @@
--- What one effect of a site does to the sums of all fields.
-use Rattle.std.proofs.Common.{◌≡◌, ◌≢◌, ℕ, ◌+◌, ◌-◌, ◌<◌, ◌≤◌, true, List, ◌∷◌, refl, sym, ◌∙◌, ap, arith, subst, Option, Some, None}
+-- What one effect of a site does to the sums of the fields of a window.
+use Rattle.std.proofs.Common.{◌≡◌, ◌≢◌, ℕ, ◌+◌, ◌-◌, ◌<◌, ◌≤◌, true, ◌&&◌, eqb, List, ◌∷◌, refl, sym, ◌∙◌, ap, arith, subst, Option, Some, None}
 use Rattle.std.proofs.lemmas.Int.{ints}
 use Rattle.std.specs.Prelude.{unsigned_abs}
 use Rattle.field_bounds.specs.declared.kind.Kind.{Kind}
@@ -7,7 +7,7 @@ use Rattle.field_bounds.specs.declared.kind.Kind.TheVariants.{Lower, Raise}
 use Rattle.field_bounds.specs.declared.effect.Effect.{Effect}
 use Rattle.field_bounds.specs.declared.effect.Effect.TheVariants.{Begins, Grants, Commits, Aborts, Gives, Accepts, Stops}
 use Rattle.field_bounds.specs.declared.entry.Entry.{Entry}
-use Rattle.field_bounds.specs.Kind.{other, kind_of}
+use Rattle.field_bounds.specs.Kind.{other, kind_of, same_kind}
 use Rattle.field_bounds.specs.Schema.{SchemaValue}
 use Rattle.field_bounds.specs.Limits.{IsSchema}
 use Rattle.field_bounds.specs.Effects.{Base, with_effect, held_rights}
@@ -22,7 +22,7 @@ use Rattle.central_machine.specs.Amounts.{amount, has_slot, capped_sum}
 use Rattle.central_machine.specs.Sums.{AreSums, SettlesDoubt, ClosesAll, SumsTake}
 use Rattle.central_machine.proofs.Small.{all_narrow}
 use Rattle.central_machine.proofs.Opened.{AreOpen, taken_at}
-use Rattle.central_machine.proofs.Ending.{capped_here}
+use Rattle.central_machine.proofs.Windows.{capped_there}
 use Rattle.central_machine.proofs.Moves.{opened_by, closed_by, committed_by, given_up_by}
 use Rattle.central_machine.proofs.Sums_more.{Moved}
 
@@ -99,8 +99,9 @@ module _ (schema : SchemaValue) (good : IsSchema schema) (w : Window) (t : List 
 
   module _ (base : Base) (es : List Effect) (rows : List OpenTransaction) (are : AreOpen es rows) where
     -- the sums move by what the effect moves
-    pub moves_by : (d : Effect) (m : FieldSums) → d ≢ Stops → IsLawful schema base (d ∷ es) → SumsTake (Some d) rows n m
-        → Moved w n m (λ f k. opened_by f k d) (λ f k. closed_by f k es d) (λ f k. committed_by f k es d) (λ f k. given_up_by f k d)
+    pub moves_by : (d : Effect) (m : FieldSums) → d ≢ Stops → IsLawful schema base (d ∷ es) → SumsTake w (Some d) rows n m
+        → Moved w n m (λ f k. opened_by (w.first + f) k d) (λ f k. closed_by (w.first + f) k es d)
+        (λ f k. committed_by (w.first + f) k es d) (λ f k. given_up_by (w.first + f) k d)
     moves_by (Begins txn) m plain lawful took =
         subst (λ x. Moved w n x (λ f k. 0) (λ f k. 0) (λ f k. 0) (λ f k. 0)) (sym took) still
     moves_by (Gives (Some to) field kind size) m plain lawful took =
@@ -116,12 +117,18 @@ module _ (schema : SchemaValue) (good : IsSchema schema) (w : Window) (t : List 
           cut_places = λ g. ap (λ a. has_slot a g) (took.closes.rest.cut ∙ took.moves.cut_same);
           room = λ f k l.
               let fits = room_small f k l in
-              ap (λ a. amount a f k) took.closes.rest.room ∙ took.moves.room f k (is.room_in f l) (omega (arith, fits))
-              ∙ rw (taken f (other k), taken f k) refl;
+              ap (λ a. amount a f k) took.closes.rest.room ∙ took.moves.room f k l (is.room_in f l) (omega (arith, fits))
+              ∙ rw (taken (w.first + f) (other k), taken (w.first + f) k) refl;
           aside = λ f k l.
               let fits = aside_small f k l in
               let same = ap (λ a. amount a f k) took.moves.aside_same in
-              omega (arith, fits, same, taken f k, took.closes.less f k (ap (λ a. has_slot a f) took.moves.aside_same ∙ is.aside_in f l));
+              omega (
+                arith,
+                fits,
+                same,
+                taken (w.first + f) k,
+                took.closes.less f k l (ap (λ a. has_slot a f) took.moves.aside_same ∙ is.aside_in f l),
+              );
           cut = λ f k l. let fits = cut_fits f k l in
               ap (λ a. amount a f k) (took.closes.rest.cut ∙ took.moves.cut_same) ∙ no_cut (amount n.cut f k) fits;
         }
@@ -134,7 +141,7 @@ module _ (schema : SchemaValue) (good : IsSchema schema) (w : Window) (t : List 
           room = λ f k l. ap (λ a. amount a f k) took.rest.room ∙ no_more (amount n.room f k) (room_small f k l);
           aside = λ f k l.
               let fits = aside_small f k l in
-              omega (arith, fits, taken f k, took.less f k (is.aside_in f l));
+              omega (arith, fits, taken (w.first + f) k, took.less f k l (is.aside_in f l));
           cut = λ f k l. ap (λ a. amount a f k) took.rest.cut ∙ no_cut (amount n.cut f k) (cut_fits f k l);
         }
     moves_by (Gives None field kind size) m plain lawful took =
@@ -146,8 +153,8 @@ module _ (schema : SchemaValue) (good : IsSchema schema) (w : Window) (t : List 
           aside = λ f k l. ap (λ a. amount a f k) took.aside_same ∙ no_more (amount n.aside f k) (aside_small f k l);
           cut = λ f k l.
               let fits = cut_fits f k l in
-              took.cut.put f k (is.cut_in f l)
-              ∙ capped_here (λ g j. amount n.cut g j) field.0 f kind k size (omega (arith, fits));
+              took.cut.more f k l (is.cut_in f l)
+              ∙ capped_there (amount n.cut f k) size (eqb field.0 (w.first + f) && same_kind kind k) (omega (arith, fits));
         }
     moves_by (Grants txn field change) m plain lawful took =
         record {
@@ -157,15 +164,16 @@ module _ (schema : SchemaValue) (good : IsSchema schema) (w : Window) (t : List 
           room = λ f k l. ap (λ a. amount a f k) took.rest.room ∙ no_more (amount n.room f k) (room_small f k l);
           aside = λ f k l.
               let fits = aside_small f k l in
-              took.more.put f k (is.aside_in f l)
-              ∙ capped_here (λ g j. amount n.aside g j) field.0 f (kind_of change) k (unsigned_abs change) (omega (arith, fits))
+              took.more.more f k l (is.aside_in f l)
+              ∙ capped_there (amount n.aside f k) (unsigned_abs change) (eqb field.0 (w.first + f) && same_kind (kind_of change) k)
+              (omega (arith, fits))
               ∙ none_less _;
           cut = λ f k l. ap (λ a. amount a f k) took.rest.cut ∙ no_cut (amount n.cut f k) (cut_fits f k l);
         }
 
     -- what was in doubt and is kept moves the room and the cut
-    pub settled_by : (d : Option Effect) (m : FieldSums) → IsLawful schema base (with_effect true d es) → SettlesDoubt d rows n m
-        → Settled w n m (λ f k. committed_in_doubt f k es d) (λ f k. given_in_doubt f k d)
+    pub settled_by : (d : Option Effect) (m : FieldSums) → IsLawful schema base (with_effect true d es) → SettlesDoubt w d rows n m
+        → Settled w n m (λ f k. committed_in_doubt (w.first + f) k es d) (λ f k. given_in_doubt (w.first + f) k d)
     settled_by None m lawful took = subst (λ x. Settled w n x (λ f k. 0) (λ f k. 0)) (sym took) unsettled
     settled_by (Some (Begins txn)) m lawful took = subst (λ x. Settled w n x (λ f k. 0) (λ f k. 0)) (sym took) unsettled
     settled_by (Some (Grants txn field change)) m lawful took = subst (λ x. Settled w n x (λ f k. 0) (λ f k. 0)) (sym took) unsettled
@@ -183,7 +191,7 @@ module _ (schema : SchemaValue) (good : IsSchema schema) (w : Window) (t : List 
           aside_same = took.aside_same;
           room = λ f k l.
               let fits = room_small f k l in
-              took.room f k (is.room_in f l) (omega (arith, fits)) ∙ rw (taken f (other k), taken f k) refl;
+              took.room f k l (is.room_in f l) (omega (arith, fits)) ∙ rw (taken (w.first + f) (other k), taken (w.first + f) k) refl;
           cut = λ f k l. ap (λ a. amount a f k) took.cut_same ∙ no_cut (amount n.cut f k) (cut_fits f k l);
         }
     settled_by (Some (Gives None field kind size)) m lawful took =
@@ -194,16 +202,18 @@ module _ (schema : SchemaValue) (good : IsSchema schema) (w : Window) (t : List 
           room = λ f k l. ap (λ a. amount a f k) took.room_same ∙ no_more (amount n.room f k) (room_small f k l);
           cut = λ f k l.
               let fits = cut_fits f k l in
-              took.cut.put f k (is.cut_in f l)
-              ∙ capped_here (λ g j. amount n.cut g j) field.0 f kind k size (omega (arith, fits));
+              took.cut.more f k l (is.cut_in f l)
+              ∙ capped_there (amount n.cut f k) size (eqb field.0 (w.first + f) && same_kind kind k) (omega (arith, fits));
         }
 
     -- and the stop behind it closes all that the site holds
-    pub stops_all : (d : Option Effect) (x : Numbers) (mid m : FieldSums) → w.count ≤ x.stride
-        → ((f : ℕ) (k : Kind) → f < w.count → amount x.held f k ≡ held_rights f k es)
-        → Settled w n mid (λ f k. committed_in_doubt f k es d) (λ f k. given_in_doubt f k d) → ClosesAll mid m x
-        → Moved w n m (λ f k. 0) (λ f k. held_rights f k es) (λ f k. committed_in_doubt f k es d) (λ f k. given_in_doubt f k d)
-    stops_all d x mid m wide holds first then = record {
+    pub stops_all : (d : Option Effect) (x : Numbers) (mid m : FieldSums)
+        → ((f : ℕ) (k : Kind) → f < w.count → amount x.held (w.first + f) k ≡ held_rights (w.first + f) k es)
+        → Settled w n mid (λ f k. committed_in_doubt (w.first + f) k es d) (λ f k. given_in_doubt (w.first + f) k d)
+        → ClosesAll w mid m x
+        → Moved w n m (λ f k. 0) (λ f k. held_rights (w.first + f) k es) (λ f k. committed_in_doubt (w.first + f) k es d)
+        (λ f k. given_in_doubt (w.first + f) k d)
+    stops_all d x mid m holds first then = record {
       room_places = λ g. ap (λ a. has_slot a g) then.rest.room ∙ first.room_places g;
       aside_places = λ g. then.places g ∙ ap (λ a. has_slot a g) first.aside_same;
       cut_places = λ g. ap (λ a. has_slot a g) then.rest.cut ∙ first.cut_places g;
@@ -216,7 +226,7 @@ module _ (schema : SchemaValue) (good : IsSchema schema) (w : Window) (t : List 
             fits,
             same,
             holds f k l,
-            then.less f k (omega (arith, l, wide)) (ap (λ a. has_slot a f) first.aside_same ∙ is.aside_in f l),
+            then.less f k l (ap (λ a. has_slot a f) first.aside_same ∙ is.aside_in f l),
           );
       cut = λ f k l. ap (λ a. amount a f k) then.rest.cut ∙ first.cut f k l;
     }

@@ -25,90 +25,106 @@ pub struct FieldSums {
     pub cut: Amounts,
 }
 
-/// Adds to an amount.
-fn grow(amounts: &mut Amounts, place: usize, kind: Kind, size: u64)
-    ensures { Grows amounts.old amounts.new place kind size }
+/// Adds to the amount at a place.
+fn grow_at(amounts: &mut Amounts, place: usize, kind: Kind, size: u64)
+    ensures { IsPut amounts.old amounts.new place kind
+        (capped_sum (amount amounts.old place kind + size)) }
 {
     let more = amounts.at(place, kind).saturating_add(size);
     amounts.put(place, kind, more);
 }
 
-/// Takes from an amount.
-fn shrink(amounts: &mut Amounts, place: usize, kind: Kind, size: u64)
-    ensures { Shrinks amounts.old amounts.new place kind size }
+/// Takes from the amount at a place.
+fn shrink_at(amounts: &mut Amounts, place: usize, kind: Kind, size: u64)
+    ensures { IsPut amounts.old amounts.new place kind (amount amounts.old place kind - size) }
 {
     let left = amounts.at(place, kind).saturating_sub(size);
     amounts.put(place, kind, left);
 }
 
+/// Adds to the amount of a field, if it lies in the window.
+fn grow(amounts: &mut Amounts, window: Window, field: FieldNo, kind: Kind, size: u64)
+    ensures { Grows window amounts.old amounts.new field.0 kind size }
+{
+    match window.place(field) {
+        Some(place) => grow_at(amounts, usize::from(place), kind, size),
+        None => {}
+    }
+}
+
+/// Takes from the amount of a field, if it lies in the window.
+fn shrink(amounts: &mut Amounts, window: Window, field: FieldNo, kind: Kind, size: u64)
+    ensures { Shrinks window amounts.old amounts.new field.0 kind size }
+{
+    match window.place(field) {
+        Some(place) => shrink_at(amounts, usize::from(place), kind, size),
+        None => {}
+    }
+}
+
 /// Takes the size of an escrow, of its kind.
-fn take_one(amounts: &mut Amounts, escrow: Escrow)
-    ensures { IsPut amounts.old amounts.new escrow.field.0 (kind_of escrow.change)
-        (amount amounts.old escrow.field.0 (kind_of escrow.change) - unsigned_abs escrow.change) }
+fn take_one(amounts: &mut Amounts, window: Window, escrow: Escrow)
+    ensures { Shrinks window amounts.old amounts.new escrow.field.0 (kind_of escrow.change)
+        (unsigned_abs escrow.change) }
 {
     let size = escrow.change.unsigned_abs();
-    shrink(
-        amounts,
-        usize::from(escrow.field.0),
-        Kind::of(escrow.change),
-        size,
-    );
+    shrink(amounts, window, escrow.field, Kind::of(escrow.change), size);
 }
 
 /// Adds the size of an escrow, to the other kind.
-fn add_one(amounts: &mut Amounts, escrow: Escrow)
-    ensures { IsPut amounts.old amounts.new escrow.field.0 (other (kind_of escrow.change))
-        (capped_sum (amount amounts.old escrow.field.0 (other (kind_of escrow.change))
-        + unsigned_abs escrow.change)) }
+fn add_one(amounts: &mut Amounts, window: Window, escrow: Escrow)
+    ensures { Grows window amounts.old amounts.new escrow.field.0 (other (kind_of escrow.change))
+        (unsigned_abs escrow.change) }
 {
     let size = escrow.change.unsigned_abs();
-    grow(
-        amounts,
-        usize::from(escrow.field.0),
-        Kind::of(escrow.change).other(),
-        size,
-    );
+    let kind = Kind::of(escrow.change).other();
+    grow(amounts, window, escrow.field, kind, size);
 }
 
 /// Takes the sizes of escrows, each of its kind.
-fn take_all(amounts: &mut Amounts, escrows: &[Escrow])
-    ensures less { (f : ℕ) (k : Kind) → has_slot amounts.old f ≡ true →
-        amount amounts.new f k ≡ amount amounts.old f k - sizes_taken f k escrows.now }
+fn take_all(amounts: &mut Amounts, window: Window, escrows: &[Escrow])
+    ensures less { (f : ℕ) (k : Kind) → f < window.count → has_slot amounts.old f ≡ true →
+        amount amounts.new f k
+        ≡ amount amounts.old f k - sizes_taken (window.first + f) k escrows.now }
     ensures places { (g : ℕ) → has_slot amounts.new g ≡ has_slot amounts.old g }
 {
     for escrow in escrows {
-        take_one(amounts, *escrow);
+        take_one(amounts, window, *escrow);
     }
 }
 
 /// Adds the sizes of escrows, each to the other kind.
-fn add_all(amounts: &mut Amounts, escrows: &[Escrow])
-    ensures more { (f : ℕ) (k : Kind) → has_slot amounts.old f ≡ true →
+fn add_all(amounts: &mut Amounts, window: Window, escrows: &[Escrow])
+    ensures more { (f : ℕ) (k : Kind) → f < window.count → has_slot amounts.old f ≡ true →
         amount amounts.old f k ≤ 18446744073709551615 → amount amounts.new f k
-        ≡ capped_sum (amount amounts.old f k + sizes_taken f (other k) escrows.now) }
+        ≡ capped_sum (amount amounts.old f k
+        + sizes_taken (window.first + f) (other k) escrows.now) }
     ensures places { (g : ℕ) → has_slot amounts.new g ≡ has_slot amounts.old g }
 {
     for escrow in escrows {
-        add_one(amounts, *escrow);
+        add_one(amounts, window, *escrow);
     }
 }
 
-/// Takes what a site holds of a kind at a place.
-fn take_held(amounts: &mut Amounts, held: &Amounts, place: usize, kind: Kind)
-    ensures { Shrinks amounts.old amounts.new place kind (amount held.now place kind) }
+/// Takes from the amount at a place what a site holds of the field there, of a kind.
+fn take_held(amounts: &mut Amounts, held: &Amounts, window: Window, place: u16, kind: Kind)
+    ensures { IsPut amounts.old amounts.new place kind
+        (amount amounts.old place kind - amount held.now (window.first + place) kind) }
 {
-    shrink(amounts, place, kind, held.at(place, kind));
+    let field = usize::from(window.first) + usize::from(place);
+    shrink_at(amounts, usize::from(place), kind, held.at(field, kind));
 }
 
-/// Takes all that a site holds at so many places.
-fn take_all_held(amounts: &mut Amounts, held: &Amounts, places: u16)
-    ensures less { (f : ℕ) (k : Kind) → f < places → has_slot amounts.old f ≡ true →
-        amount amounts.new f k ≡ amount amounts.old f k - amount held.now f k }
+/// Takes all that a site holds of the fields of a window.
+fn take_all_held(amounts: &mut Amounts, held: &Amounts, window: Window)
+    ensures less { (f : ℕ) (k : Kind) → f < window.count → has_slot amounts.old f ≡ true →
+        amount amounts.new f k
+        ≡ amount amounts.old f k - amount held.now (window.first + f) k }
     ensures places { (g : ℕ) → has_slot amounts.new g ≡ has_slot amounts.old g }
 {
-    for place in 0..places {
-        take_held(amounts, held, usize::from(place), Kind::Lower);
-        take_held(amounts, held, usize::from(place), Kind::Raise);
+    for place in 0..window.count {
+        take_held(amounts, held, window, place, Kind::Lower);
+        take_held(amounts, held, window, place, Kind::Raise);
     }
 }
 
@@ -128,54 +144,49 @@ impl FieldSums {
     }
 
     /// Escrows are committed: the room moves from their kind to the other.
-    fn commit(&mut self, escrows: &[Escrow])
-        ensures { Moves self.old self.new escrows.now }
+    fn commit(&mut self, window: Window, escrows: &[Escrow])
+        ensures { Moves window self.old self.new escrows.now }
     {
-        add_all(&mut self.room, escrows);
-        take_all(&mut self.room, escrows);
+        add_all(&mut self.room, window, escrows);
+        take_all(&mut self.room, window, escrows);
     }
 
     /// Escrows aren't open any more.
-    fn close(&mut self, escrows: &[Escrow])
-        ensures { Closes self.old self.new escrows.now }
+    fn close(&mut self, window: Window, escrows: &[Escrow])
+        ensures { Closes window self.old self.new escrows.now }
     {
-        take_all(&mut self.aside, escrows);
+        take_all(&mut self.aside, window, escrows);
     }
 
     /// Escrows are committed, and aren't open any more.
-    fn commit_and_close(&mut self, escrows: &[Escrow])
-        ensures { CommitsAndCloses self.old self.new escrows.now }
+    fn commit_and_close(&mut self, window: Window, escrows: &[Escrow])
+        ensures { CommitsAndCloses window self.old self.new escrows.now }
     {
-        self.commit(escrows);
-        self.close(escrows);
+        self.commit(window, escrows);
+        self.close(window, escrows);
     }
 
     /// An escrow is open.
-    fn set_aside(&mut self, field: FieldNo, change: i64)
-        ensures { SetAside self.old self.new field.0 change }
+    fn set_aside(&mut self, window: Window, field: FieldNo, change: i64)
+        ensures { SetAside window self.old self.new field.0 change }
     {
         let size = change.unsigned_abs();
-        grow(
-            &mut self.aside,
-            usize::from(field.0),
-            Kind::of(change),
-            size,
-        );
+        grow(&mut self.aside, window, field, Kind::of(change), size);
     }
 
     /// Rights are given up for good.
-    fn tighten(&mut self, field: FieldNo, kind: Kind, size: u64)
-        ensures { Tightens self.old self.new field.0 kind size }
+    fn tighten(&mut self, window: Window, field: FieldNo, kind: Kind, size: u64)
+        ensures { Tightens window self.old self.new field.0 kind size }
     {
-        grow(&mut self.cut, usize::from(field.0), kind, size);
+        grow(&mut self.cut, window, field, kind, size);
     }
 
     /// What was in doubt and is kept takes effect, but for the end of its escrows.
-    fn settle(&mut self, journal: &Journal, effect: Option<Effect>)
-        ensures { SettlesDoubt effect journal.now.rows.items self.old self.new }
+    fn settle(&mut self, window: Window, journal: &Journal, effect: Option<Effect>)
+        ensures { SettlesDoubt window effect journal.now.rows.items self.old self.new }
     {
         match effect {
-            Some(Effect::Commits { txn }) => self.commit(journal.escrows_or_none(txn)),
+            Some(Effect::Commits { txn }) => self.commit(window, journal.escrows_or_none(txn)),
             Some(
                 Effect::Gives {
                     to: None,
@@ -183,20 +194,22 @@ impl FieldSums {
                     kind,
                     amount,
                 },
-            ) => self.tighten(field, kind, amount),
+            ) => self.tighten(window, field, kind, amount),
             _ => {}
         }
     }
 
     /// Takes in one more effect, of a site where these transactions are open. The end of one costs
     /// a look through them, and a step for each of its escrows.
-    fn take(&mut self, journal: &Journal, effect: Option<Effect>)
-        ensures { SumsTake effect journal.now.rows.items self.old self.new }
+    fn take(&mut self, window: Window, journal: &Journal, effect: Option<Effect>)
+        ensures { SumsTake window effect journal.now.rows.items self.old self.new }
     {
         match effect {
-            Some(Effect::Grants { field, change, .. }) => self.set_aside(field, change),
-            Some(Effect::Commits { txn }) => self.commit_and_close(journal.escrows_or_none(txn)),
-            Some(Effect::Aborts { txn }) => self.close(journal.escrows_or_none(txn)),
+            Some(Effect::Grants { field, change, .. }) => self.set_aside(window, field, change),
+            Some(Effect::Commits { txn }) => {
+                self.commit_and_close(window, journal.escrows_or_none(txn))
+            }
+            Some(Effect::Aborts { txn }) => self.close(window, journal.escrows_or_none(txn)),
             Some(
                 Effect::Gives {
                     to: None,
@@ -204,36 +217,37 @@ impl FieldSums {
                     kind,
                     amount,
                 },
-            ) => self.tighten(field, kind, amount),
+            ) => self.tighten(window, field, kind, amount),
             _ => {}
         }
     }
 
     /// Nothing that a site holds is open any more. Costs a step for each field of the window.
-    fn close_all(&mut self, numbers: &Numbers)
-        ensures { ClosesAll self.old self.new numbers.now }
+    fn close_all(&mut self, window: Window, numbers: &Numbers)
+        ensures { ClosesAll window self.old self.new numbers.now }
     {
-        take_all_held(&mut self.aside, &numbers.held, numbers.stride);
+        take_all_held(&mut self.aside, &numbers.held, window);
     }
 
     /// Takes in a reply with what it puts into effect, at a site of these numbers where this is in
     /// doubt. After a restart nothing is held there.
     pub fn after(
         &mut self,
+        window: Window,
         numbers: &Numbers,
         doubt: Option<Effect>,
         effect: Option<Effect>,
         reply: Reply,
     )
-        ensures { SumsAfter effect reply doubt numbers.now self.old self.new }
+        ensures { SumsAfter window effect reply doubt numbers.now self.old self.new }
     {
         match reply {
             Reply::Restarted { last, .. } => {
-                self.settle(&numbers.journal, settled(last, doubt));
-                self.close_all(numbers);
+                self.settle(window, &numbers.journal, settled(last, doubt));
+                self.close_all(window, numbers);
             }
             Reply::Unsure => {}
-            _ => self.take(&numbers.journal, effect),
+            _ => self.take(window, &numbers.journal, effect),
         }
     }
 }

@@ -1,17 +1,23 @@
 //! The rules on fields that one central store keeps, tested by the sums of a front.
 
-ghost use Rattle.std.specs.Prelude.{◌≡◌, ℕ, ◌+◌, ◌<◌, ◌&&◌, int_le, List, length};
+ghost use Rattle.std.specs.Prelude.{◌≡◌, ℕ, ◌+◌, ◌<◌, ◌&&◌, int_le, if◌then◌else◌, true, List, length};
+ghost use Rattle.field_bounds.specs.declared.kind.Kind.{Kind};
 ghost use Rattle.field_bounds.specs.declared.entry.Entry.{Entry};
 ghost use Rattle.field_bounds.specs.Schema.{SchemaValue};
 ghost use Rattle.field_bounds.specs.Central.{committed_value};
-ghost use Rattle.central_rules.specs.Verdict.{within_bound, test_of};
-ghost use Rattle.central_rules.specs.declared.verdict.Rule.TheVariants.{Grant, Interval};
-ghost use Rattle.central_machine.specs.Sums.{AreSums, IsWhole};
+ghost use Rattle.field_bounds.specs.Effects.{fresh, share};
+ghost use Rattle.field_bounds.specs.Central.{at_site};
+ghost use Rattle.central_rules.specs.Verdict.{within_bound, true_share};
+ghost use Rattle.central_rules.specs.declared.verdict.Rule.TheVariants.{Grant, Shortage, Interval};
+ghost use Rattle.central_machine.specs.Amounts.{amount};
+ghost use Rattle.central_machine.specs.Sums.{is_in, AreSums, IsWindow};
+ghost use Rattle.central_machine.specs.Parts.{window_test};
 
+use crate::amounts::Amounts;
 use crate::field_sums::FieldSums;
 use crate::window::Window;
 use central_rules::{Bounds, bounds_of, has, lies_between};
-use field_bounds::{Command, Entry, FieldNo, Kind, Reply, Schema};
+use field_bounds::{Command, Entry, FieldNo, Kind, Refusal, Reply, Schema};
 
 /// Bounds with the floor as the value.
 fn at_floor(bounds: Bounds) -> Bounds
@@ -21,6 +27,65 @@ fn at_floor(bounds: Bounds) -> Bounds
         floor: bounds.floor,
         ceiling: bounds.ceiling,
         value: bounds.floor,
+    }
+}
+
+/// Whether a number is told rightly as a site's share of a kind, less than was asked. Of a field
+/// that doesn't lie in the window nothing is told.
+fn is_share(
+    free: &Amounts,
+    window: Window,
+    field: FieldNo,
+    kind: Kind,
+    asked: u64,
+    told: u64,
+) -> bool
+    ensures { (schema : SchemaValue) (t : List Entry) (s : ℕ) → IsWindow schema window →
+        ((f : ℕ) (k : Kind) → f < length schema.fields →
+        amount free.now f k ≡ share (fresh schema s) f k (at_site schema t s)) →
+        result ≡ (if is_in window field.0 then true_share schema t s field kind asked told
+        else true) }
+{
+    match window.place(field) {
+        Some(_) => told == free.at(usize::from(field.0), kind) && told < asked,
+        None => true,
+    }
+}
+
+/// Whether an entry keeps the rule on shortages in a window: it names its site's share, which is
+/// less than was asked.
+pub fn shortage_holds(free: &Amounts, window: Window, entry: &Entry) -> bool
+    ensures { (schema : SchemaValue) (t : List Entry) → IsWindow schema window →
+        ((f : ℕ) (k : Kind) → f < length schema.fields → amount free.now f k
+        ≡ share (fresh schema entry.now.site.0) f k (at_site schema t entry.now.site.0)) →
+        result ≡ window_test schema window t entry.now Shortage }
+{
+    let Reply::Refused(Refusal::Short { share }) = entry.reply else {
+        return true;
+    };
+    match entry.command {
+        Command::Escrow { field, change, .. } => {
+            let asked = change.unsigned_abs();
+            is_share(free, window, field, Kind::of(change), asked, share)
+        }
+        Command::Give {
+            field,
+            kind,
+            amount,
+            ..
+        } => is_share(free, window, field, kind, amount, share),
+        Command::Spare {
+            field,
+            kind,
+            want,
+            ..
+        } => is_share(free, window, field, kind, want, share),
+        Command::Tighten {
+            field,
+            kind,
+            amount,
+        } => is_share(free, window, field, kind, amount, share),
+        _ => true,
     }
 }
 
@@ -53,11 +118,12 @@ impl FieldSums {
         lies_between(lo, hi, &from_floor, above, 0)
     }
 
-    /// Whether an entry keeps the rule on grants: what is granted or given up on a field is allowed
-    /// by the infimum or the supremum.
+    /// Whether an entry keeps the rule on grants in a window: what is granted or given up on a field
+    /// is allowed by the infimum or the supremum.
     pub fn grant_holds(&self, window: Window, entry: &Entry) -> bool
-        ensures { (schema : SchemaValue) (t : List Entry) → IsWhole schema window →
-            AreSums schema window t self.now → result ≡ test_of schema t entry.now Grant }
+        ensures { (schema : SchemaValue) (t : List Entry) → IsWindow schema window →
+            AreSums schema window t self.now →
+            result ≡ window_test schema window t entry.now Grant }
     {
         match (entry.command, entry.reply) {
             (Command::Escrow { field, change, .. }, Reply::Granted) => {
@@ -86,12 +152,12 @@ impl FieldSums {
         }
     }
 
-    /// Whether an entry keeps the rule on intervals: one that was read of a field holds its
-    /// committed value.
+    /// Whether an entry keeps the rule on intervals in a window: one that was read of a field holds
+    /// its committed value.
     pub fn interval_holds(&self, window: Window, schema: &Schema, entry: &Entry) -> bool
-        ensures { (t : List Entry) → IsWhole schema.now window →
+        ensures { (t : List Entry) → IsWindow schema.now window →
             AreSums schema.now window t self.now →
-            result ≡ test_of schema.now t entry.now Interval }
+            result ≡ window_test schema.now window t entry.now Interval }
     {
         match (entry.command, entry.reply) {
             (Command::Read { field }, Reply::Between { lo, hi }) => {

@@ -6,15 +6,18 @@
 #![tactic(auto)]
 
 mod amounts;
-mod faults;
+mod field_faults;
 mod field_sums;
 mod field_tests;
+mod joined;
 mod journal;
 mod judging;
 mod numbers;
 mod owed;
+mod part;
 mod parts;
 mod running;
+mod site_faults;
 mod site_totals;
 mod statements;
 mod totals;

@@ -1,51 +1,49 @@
 //! The judge in parts, each in a thread.
 
-ghost use Rattle.std.specs.Prelude.{◌≡◌, ◌↔◌, ℕ, IfOk, List, reverse};
-ghost use Rattle.field_bounds.specs.declared.entry.Entry.{Entry};
+ghost use Rattle.std.specs.Prelude.{◌≡◌, ◌↔◌, ℕ, IfOk, reverse};
 ghost use Rattle.field_bounds.specs.Central.{IsSound, IsCentral};
 ghost use Rattle.central_rules.specs.declared.verdict.Rule.{Rule};
 ghost use Rattle.central_rules.specs.declared.verdict.Verdict.TheVariants.{Legal, Illegal};
-ghost use Rattle.central_rules.specs.Verdict.{IsFirstBad, verdict_of, verdict_back};
-ghost use Rattle.central_machine.specs.Totals.{AreTotals};
-ghost use Rattle.central_machine.specs.Parts.{rule_named};
+ghost use Rattle.central_rules.specs.Verdict.{IsFirstBad, verdict_of};
+ghost use Rattle.central_machine.specs.Parts.{AreRestFaults, AreFieldFaults, AreFaults};
 
-use crate::faults::{earliest, faults_of, first_is_at};
+use crate::field_faults::field_faults;
+use crate::joined::earliest;
 use crate::judging::length_of;
-use crate::totals::Totals;
-use central_rules::{Rule, Verdict};
+use crate::part::Fault;
+use crate::site_faults::rest_faults;
+use central_rules::Verdict;
 use field_bounds::{Entry, Schema};
 use std::alloc::{AllocError, Global};
-use std::thread::Threads;
+use std::thread::{Threads, join};
 
-/// The totals of all sites over a front.
-fn totals_of(alloc: Global, schema: &Schema, front: &[Entry]) -> Result<Totals, AllocError>
-    ensures { IfOk result (λ totals. verdict_back schema.now (reverse front.now) ≡ Legal →
-        AreTotals schema.now (reverse front.now) totals) }
+/// What all parts find first.
+fn faults_of(
+    rt: &(impl Threads + Sync),
+    alloc: Global,
+    schema: &Schema,
+    entries: &[Entry],
+) -> Result<Vec<Option<Fault>>, AllocError>
+    ensures { IfOk result (λ faults. AreFaults schema.now entries.now faults.items) }
 {
-    let _few = length_of(front);
-    let mut totals = Totals::new(alloc, schema)?;
-    for entry in front {
-        totals.step(alloc, schema, entry)?;
-    }
-    Ok(totals)
+    let (of_fields, of_rest) = join(
+        rt,
+        || -> Result<Vec<Option<Fault>>, AllocError>
+            ensures { IfOk result (λ faults. AreFieldFaults schema.entry.now entries.entry.now
+                faults.items) }
+        { field_faults(rt, alloc, schema, entries) },
+        || -> Result<Vec<Option<Fault>>, AllocError>
+            ensures { IfOk result (λ faults. AreRestFaults schema.entry.now entries.entry.now
+                faults.items) }
+        { rest_faults(rt, alloc, schema, entries) },
+    );
+    let fields = of_fields?;
+    let mut faults = of_rest?;
+    faults.extend_from_slice(&fields)?;
+    Ok(faults)
 }
 
-/// The rule that a bad entry breaks first, of which it is known whether it takes in a statement
-/// that wasn't issued.
-fn rule_of(totals: &Totals, schema: &Schema, entry: &Entry, untold: bool) -> Rule
-    ensures { (t : List Entry) → AreTotals schema.now t totals.now →
-        result ≡ rule_named schema.now t entry.now untold }
-{
-    if entry.site.0 >= schema.sites() {
-        return Rule::Site;
-    }
-    if let Some(rule) = totals.field_broken(schema, entry) {
-        return rule;
-    }
-    if untold { Rule::Statement } else { Rule::Reply }
-}
-
-/// The verdict on entries, by the parts.
+/// The verdict on entries, by what the parts find first.
 fn judge_parts(
     rt: &(impl Threads + Sync),
     alloc: Global,
@@ -55,32 +53,35 @@ fn judge_parts(
     ensures verdict { IfOk result (λ verdict. verdict ≡ verdict_of schema.now entries.now) }
 {
     let _sites = schema.sites();
+    let _few = length_of(entries);
     let faults = faults_of(rt, alloc, schema, entries)?;
-    let Some(place) = earliest(&faults) else {
-        return Ok(Verdict::Legal);
-    };
-    let Some(entry) = entries.get(place) else {
-        return Ok(Verdict::Legal);
-    };
-    let totals = totals_of(alloc, schema, &entries[..place])?;
-    let rule = rule_of(&totals, schema, entry, first_is_at(&faults, place));
-    let at = (place + 1) as u64;
-    Ok(Verdict::Illegal { at, rule })
+    match earliest(&faults) {
+        Some(fault) => {
+            Ok(Verdict::Illegal {
+                at: (fault.place + 1) as u64,
+                rule: fault.rule,
+            })
+        }
+        None => Ok(Verdict::Legal),
+    }
 }
 
 /// The verdict on entries, the oldest first, as `judge` answers it, with the work done by threads.
-/// The rules Site and Statement are one part, in a thread of its own, and Reply at each site is one
-/// more, over that site's own entries, whose places are listed once. Where no part finds a fault
-/// the entries are legal, since the rules on fields follow from the others. Else these are looked
-/// at, on the field that is named, at the one entry that was found.
+/// The fields are divided into windows, of which each is a part that goes once over the entries and
+/// tests the rules Grant, Shortage and Interval on its fields. The rules Site and Statement are one
+/// part more, and Reply at each site is one, over that site's own entries, whose places are listed
+/// once. No part leaves out a rule because another holds. The verdict is the least place that a
+/// part tells, and of the rules told there the first in their order.
 ///
 /// It is Legal exactly where the trace is sound and central (`legal`); else `at` is the first bad
 /// entry, and `rule` the first rule that it breaks over the front before it (`illegal`). Over a
 /// sound trace it is Legal (`sound`).
 ///
-/// The error is want of memory. Takes time as `judge` does, divided among the threads but for one
-/// step for each entry that lists the places, and at illegal entries once more for the entries
-/// before the bad one. Takes memory as `judge` does, and a number for each entry.
+/// The error is want of memory. There are as many windows as processors, or one for each field; a
+/// window takes time as `judge` does but for the look-ups of statements and replies, and memory, of
+/// each kind, for three numbers for each of its fields, three for each site and field, and two for
+/// each two sites and a field. The other parts take time and memory as `judge` does, and a number
+/// for each entry.
 ///
 /// Source: O'Neil 1986 for the central store, this project for the judge and its parts.
 pub fn judge_fields(

@@ -5,11 +5,13 @@ ghost use Rattle.field_bounds.specs.declared.entry.Entry.{Entry};
 ghost use Rattle.field_bounds.specs.Schema.{SchemaValue};
 ghost use Rattle.central_rules.specs.declared.verdict.Verdict.TheVariants.{Legal};
 ghost use Rattle.central_rules.specs.declared.verdict.Rule.TheVariants.{Statement as Told};
-ghost use Rattle.central_rules.specs.Verdict.{broken_rule, verdict_back, test_of};
+ghost use Rattle.central_rules.specs.Verdict.{broken_rule, first_broken, verdict_back, test_of};
 ghost use Rattle.central_machine.specs.Totals.{AreRunning};
+ghost use Rattle.central_machine.specs.Parts.{field_tests};
 
 use crate::statements;
 use crate::totals::Totals;
+use crate::window::Window;
 use central_rules::Rule;
 use field_bounds::{Entry, Schema};
 use statement_set::StatementSet;
@@ -28,7 +30,7 @@ impl Running {
         ensures { IfOk result (λ made. AreRunning schema.now [] made) }
     {
         Ok(Running {
-            totals: Totals::new(alloc, schema)?,
+            totals: Totals::new(alloc, schema, Window::whole(schema))?,
             issued: StatementSet::new(alloc),
         })
     }
@@ -41,6 +43,16 @@ impl Running {
         statements::holds(&self.issued, entry)
     }
 
+    /// The first of the rules Grant, Shortage and Interval that the next entry breaks, each by its
+    /// own test.
+    fn field_rule(&self, schema: &Schema, entry: &Entry) -> Option<Rule>
+        requires site_in { entry.now.site.0 < schema.now.sites }
+        ensures { (t : List Entry) → AreRunning schema.now t self.now →
+            result ≡ first_broken (field_tests schema.now t entry.now) }
+    {
+        self.totals.field_broken(schema, entry)
+    }
+
     /// The first rule that the next entry breaks: each of the six is tested by what the totals tell,
     /// and none is left out because of another.
     fn broken_rule(&self, schema: &Schema, entry: &Entry) -> Option<Rule>
@@ -50,7 +62,7 @@ impl Running {
         if entry.site.0 >= schema.sites() {
             return Some(Rule::Site);
         }
-        if let Some(rule) = self.totals.field_broken(schema, entry) {
+        if let Some(rule) = self.field_rule(schema, entry) {
             return Some(rule);
         }
         if !self.statement_holds(entry) {

@@ -77,7 +77,7 @@ fn end_of(verdict: Verdict) -> AuditEnd
     }
 }
 
-// The verdict on entries, field by field or in one pass.
+// The verdict on entries, by windows of fields in threads, or in one pass.
 fn verdict(
     rt: &(impl Threads + Sync),
     alloc: Global,
@@ -161,8 +161,8 @@ fn answer<R: Source>(
 /// Reader and writer tell the contract how their calls end, and how many failed; `Watched::new`
 /// makes such ones of std's. No call is made again after one that failed.
 ///
-/// With `fields` the entries are judged field by field, by threads, and else in one pass: the
-/// answer is the same.
+/// With `fields` the entries are judged in parts by threads, the rules on fields by windows of
+/// fields, and else in one pass: the answer is the same.
 ///
 /// Costs 128 KiB for input and memory for the entries and for the judge, and time in proportion to
 /// the input.

@@ -6,7 +6,7 @@ use Rattle.central_machine.proofs.field_sums.FieldSums.after.Goals as goal
 
 pub returns-in-Restarted : goal.returns-in-Restarted
 returns-in-Restarted c =
-    let first = subst (λ (d : Option Effect). SettlesDoubt d c.args.numbers.now.journal.rows.items c.args.self.now c.settle.new.self)
+    let first = subst (λ (d : Option Effect). SettlesDoubt c.args.window d c.args.numbers.now.journal.rows.items c.args.self.now c.settle.new.self)
     c.settled.ensures c.settle.ensures in
-    subst (λ (r : Reply). SumsAfter c.args.effect r c.args.doubt c.args.numbers.now c.args.self.now c.close_all.new.self)
+    subst (λ (r : Reply). SumsAfter c.args.window c.args.effect r c.args.doubt c.args.numbers.now c.args.self.now c.close_all.new.self)
     (sym c.in-Restarted.is) (c.settle.new.self, first, c.close_all.ensures)
