@@ -2,10 +2,10 @@
 
 from __future__ import annotations
 
-import asyncio
-from typing import Any, Optional, TypeVar, cast
+from typing import Optional, TypeVar, cast
 
 from .calls import Call, Kept
+from .desk import Ask
 from .errors import Down, Interrupted, Unknown
 from .pipeline import Pipeline
 from .values import Outcome
@@ -20,6 +20,7 @@ def ask(pipeline: Pipeline, call: Call[T]) -> T:
     call.waiter = waiter
     pipeline.submit((call,))
     pipeline.flush()
+    pipeline.reading.want()
     return cast(T, waiter.wait())
 
 
@@ -46,47 +47,12 @@ def unknown(pipeline: Pipeline, fault: Exception, id: Optional[str] = None) -> U
     return told
 
 
-class AsyncAsk:
-    """How tasks of one event loop ask: their lines go out together, once each has had its turn."""
-
-    __slots__ = ("_pipeline", "_loop", "_gathered")
-
-    def __init__(self, pipeline: Pipeline) -> None:
-        self._pipeline = pipeline
-        self._loop: Optional[asyncio.AbstractEventLoop] = None
-        self._gathered: list[Call[Any]] = []
-
-    def __call__(self, call: Call[T]) -> asyncio.Future[T]:
-        """Asks: the answer to await. It raises what it is, or `Interrupted` where a stop left it out."""
-        loop = asyncio.get_running_loop()
-        if loop is not self._loop:
-            self._join(loop)
-        future: asyncio.Future[T] = asyncio.Future(loop=loop)
-        call.waiter = future
-        gathered = self._gathered
-        gathered.append(call)
-        if len(gathered) == 1:
-            loop.call_soon(self._send)
-        return future
-
-    def _join(self, loop: asyncio.AbstractEventLoop) -> None:
-        if self._loop is not None and not self._loop.is_closed():
-            raise RuntimeError("an AsyncSite belongs to one event loop: make another for this one")
-        self._loop = loop
-        self._gathered = []
-
-    def _send(self) -> None:
-        gathered, self._gathered = self._gathered, []
-        self._pipeline.submit(gathered)
-        self._pipeline.flush()
-
-
-async def async_kept(pipeline: Pipeline, ask_: AsyncAsk, id: str) -> Outcome:
+async def async_kept(pipeline: Pipeline, ask_: Ask, id: str) -> Outcome:
     """As `kept`."""
     return await async_ask_behind_stop(pipeline, ask_, Kept(id), id)
 
 
-async def async_ask_behind_stop(pipeline: Pipeline, ask_: AsyncAsk, call: Call[T], id: Optional[str] = None) -> T:
+async def async_ask_behind_stop(pipeline: Pipeline, ask_: Ask, call: Call[T], id: Optional[str] = None) -> T:
     """As `ask_behind_stop`."""
     while True:
         try:

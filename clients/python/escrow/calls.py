@@ -8,7 +8,7 @@ from typing import ClassVar, Generic, Optional, Protocol, TypeVar
 
 from .errors import Faulty, Unknown, refused
 from .values import Command, Outcome
-from .waiters import Waiter
+from .waiters import Awaited
 
 T = TypeVar("T")
 ARROW = " -> "
@@ -39,7 +39,7 @@ class Standing(enum.Enum):
     ENDED = enum.auto()
 
 
-class Call(Generic[T]):
+class Call(Awaited, Generic[T]):
     """Lines that go out together, and who waits for what their answers mean.
 
     `plan` is asked in the order of the lines, under the pipeline's lock. It leaves in `text` the lines, and in
@@ -47,13 +47,10 @@ class Call(Generic[T]):
     none.
     """
 
-    __slots__ = ("waiter", "text", "expected", "result", "began")
+    __slots__ = ("text", "expected", "began")
 
-    waiter: Optional[Waiter]
     text: str
     expected: str
-    result: object
-    """What the answers mean, or the exception to raise."""
     began: float
 
     command: ClassVar[Command]
@@ -92,11 +89,11 @@ class Call(Generic[T]):
             replies.append(_reply(buffer[at:end], line))
             at = end + 1
         try:
-            self.result = self.told(replies)
+            self.answer = self.told(replies)
         except Faulty:
             raise
         except Exception as fault:
-            self.result = fault
+            self.answer = fault
         return at
 
 
@@ -159,30 +156,35 @@ _FIRST = {
 class Shape:
     """What the lines of one change of a field, and their answers, have in common: the pieces between the ids."""
 
-    __slots__ = ("asked_1", "asked_2", "told_1", "told_2", "told_3")
+    __slots__ = ("asked", "told")
 
     def __init__(self, number: int, field: str, change: int) -> None:
-        self.asked_1 = f"{number} begin\n{number} escrow "
-        self.asked_2 = f" {field} {change}\n{number} commit "
-        self.told_1 = f"{number} begin -> begun "
-        self.told_2 = f"\n{number} escrow "
-        self.told_3 = f" {field} {change} -> granted\n{number} commit "
+        self.asked = (f"{number} begin\n{number} escrow ", f" {field} {change}\n{number} commit ", "\n")
+        self.told = (
+            f"{number} begin -> begun ",
+            f"\n{number} escrow ",
+            f" {field} {change} -> granted\n{number} commit ",
+            " -> committed\n",
+        )
 
 
 class Change(Call[None]):
     """A transaction of one change, in one trip: begin, escrow and commit. `id` is that of the last try."""
 
-    __slots__ = ("id", "_shape")
+    __slots__ = ("id", "shape")
     command = Command.CHANGE
 
     def __init__(self, shape: Shape) -> None:
-        self._shape = shape
+        self.shape = shape
+
+    @property
+    def text(self) -> str:  # type: ignore[override]
+        """The lines."""
+        return self.id.join(self.shape.asked)
 
     def plan(self, run: Run) -> None:
-        own = self.id = run.new_id()
-        shape = self._shape
-        self.text = f"{shape.asked_1}{own}{shape.asked_2}{own}\n"
-        self.expected = f"{shape.told_1}{own}{shape.told_2}{own}{shape.told_3}{own} -> committed\n"
+        self.id = run.new_id()
+        self.expected = self.id.join(self.shape.told)
 
     def told(self, replies: Sequence[Reply]) -> None:
         _begun(replies[0], self.id)

@@ -2,19 +2,22 @@
 
 from __future__ import annotations
 
+import asyncio
 import itertools
 import os
 import select
 import threading
 import time
 from collections import deque
-from collections.abc import Callable, Iterable
+from collections.abc import Callable, Sequence
 from dataclasses import dataclass, field
-from typing import Any, Optional, Protocol
+from typing import Any, Optional, Protocol, cast
 
-from .calls import Call, Shape, Standing
+from .calls import Call, Change, Shape, Standing
+from .desk import Desk
 from .errors import Down, EpochFull, EscrowError, Faulty, Interrupted, Lost, Over, Refusal, Refused, Short, Unknown, gone
 from .numbers import change_of, read_id
+from .reading import Reading
 from .values import Command, Kind, Share, Spared, Statement
 from .waiters import settle
 
@@ -106,6 +109,8 @@ class Pipeline:
         self._to = -1
         self._writing = threading.Lock()
         self._full = threading.Event()  # the pipe took less than there was
+        self.reading = Reading(self)
+        self._desks: list[Desk] = []
 
     # What callers do.
 
@@ -126,14 +131,46 @@ class Pipeline:
             self.shapes[field, change] = shape
         return shape
 
-    def submit(self, calls: Iterable[Call[Any]]) -> None:
+    def desk(self, loop: asyncio.AbstractEventLoop) -> Desk:
+        """Where the tasks of this loop ask."""
+        with self.lock:
+            self._desks = [it for it in self._desks if not it.loop.is_closed()]
+            for it in self._desks:
+                if it.loop is loop:
+                    return it
+            self._desks.append(Desk(loop, self))
+            return self._desks[-1]
+
+    def waits_for(self, desk: Desk) -> bool:
+        """Whether answers go to tasks of this loop alone, and are wanted still. Only under the lock."""
+        calls = itertools.chain(self._pending, self._waiting, self._deferred)
+        return self.dead is None and all(call.waiter is desk or call.waiter is None for call in calls)
+
+    def submit(self, calls: Sequence[Call[Any]]) -> None:
         """Puts the lines of calls behind those of others, or keeps them until it can. Then `flush`."""
         with self.lock:
+            if self.up and set(map(type, calls)) == _CHANGES and self._numbers + len(calls) <= self.numbers:
+                self._queue_changes(cast(Sequence[Change], calls))
+                return
             for call in calls:
-                if self.up and not call.opens:
-                    self.queue(call)
-                else:
-                    self._place(call)
+                self._place(call)
+
+    def _queue_changes(self, changes: Sequence[Change]) -> None:
+        """As `queue` of each, where nothing can be wrong with any."""
+        prefix, number, texts = self._prefix, self._numbers, []
+        for call in changes:
+            number += 1
+            own = call.id = f"{prefix}{number}"
+            shape = call.shape
+            texts.append(own.join(shape.asked))
+            call.expected = own.join(shape.told)
+        self._numbers = number
+        if self._watch is not None:
+            began = self._began = self._began if self._out else time.perf_counter()
+            for call in changes:
+                call.began = began
+        self._pending.extend(changes)
+        self._out += texts
 
     def _place(self, call: Call[Any]) -> None:
         if self.dead is not None:
@@ -179,7 +216,7 @@ class Pipeline:
 
     def fail(self, call: Call[Any], fault: Exception) -> None:
         """It isn't asked, or wasn't answered: who waits is told why. Only under the lock."""
-        call.result = fault
+        call.answer = fault
         settle((call,))
         if call.command is not Command.KEPT:
             self.missed(fault)
@@ -213,6 +250,11 @@ class Pipeline:
     def begun(self) -> int:
         """How many transactions this process was asked to begin."""
         return self._numbers
+
+    @property
+    def under_way(self) -> int:
+        """How many calls the process has to answer."""
+        return len(self._pending)
 
     @property
     def unanswered(self) -> int:
@@ -263,11 +305,12 @@ class Pipeline:
 
     # What comes back.
 
-    def feed(self, piece: bytes) -> None:
-        """Hands answers to who waits for them. Raises `Faulty` where they fit no line."""
+    def take(self, piece: bytes) -> tuple[list[Call[Any]], Optional[Faulty]]:
+        """The calls that are answered by what came, in their order, and what doesn't fit any line. Only by who reads.
+        """
         buffer, at = self._rest + piece.decode("ascii", "replace"), 0
         done: list[Call[Any]] = []
-        pending = self._pending
+        pending, fault = self._pending, None
         try:
             while at < len(buffer):
                 if not pending:
@@ -275,24 +318,20 @@ class Pipeline:
                 call = pending[0]
                 expected = call.expected
                 if expected and buffer.startswith(expected, at):
-                    call.result = None
+                    call.answer = None
                     at += len(expected)
                 else:
                     end = call.take(buffer, at)
                     if end < 0:
                         break
-                    self._notice(call.result)
+                    self._notice(call.answer)
                     at = end
                 done.append(pending.popleft())
-        finally:
-            self._rest = buffer[at:]
-            self._settle(done)
-
-    def _settle(self, done: list[Call[Any]]) -> None:
+        except Faulty as faulty:
+            fault = faulty
+        self._rest = buffer[at:]
         self.counts.answers += len(done)
-        settle(done)
-        if self._watch is not None:
-            self._tell(done, self._watch)
+        return done, fault
 
     def _notice(self, told: object) -> None:
         if isinstance(told, Refused):
@@ -302,12 +341,16 @@ class Pipeline:
         elif isinstance(told, Statement):
             self._issued(told)
 
-    def _tell(self, done: list[Call[Any]], watch: Watch) -> None:
+    def tell(self, done: list[Call[Any]]) -> None:
+        """Has counted what was answered."""
+        watch = self._watch
+        if watch is None:
+            return
         now = time.perf_counter()
         for (command, began), calls in itertools.groupby(done, _turn):
             watch.answered(command.value, now - began, sum(1 for _ in calls))
         for call in done:
-            told = call.result
+            told = call.answer
             if isinstance(told, Refused):
                 watch.refused(call.command.value, int(told.number), told.reason)
             if isinstance(told, Short):
@@ -383,10 +426,11 @@ class Pipeline:
             self._deferred.clear()
             for call in unasked:
                 self._turn_away(call, self.dead)
+        self.reading.take_back()
 
     def let_go(self) -> None:
         """This is a fork of the client: it has no site. Takes no lock, for whoever held one isn't here."""
-        self.lock, self._writing = threading.Lock(), threading.Lock()
+        self.lock, self._writing, self.reading.turn = threading.Lock(), threading.Lock(), None
         self.up, self.dead = False, Down("a fork of the client doesn't have its site: make one in it")
         self._out = []
         self._close()
@@ -399,6 +443,7 @@ class Pipeline:
                 self._turn_away(call, why)
 
 
+_CHANGES = {Change}
 _MISSED: dict[type[Exception], str] = {Down: "down", Lost: "lost", Over: "over", Unknown: "unknown"}
 _SIDES = {Kind.LOWER: "lower", Kind.RAISE: "raise_"}
 

@@ -9,8 +9,9 @@ import weakref
 from collections.abc import Callable
 from typing import Optional
 
-from .asking import AsyncAsk, ask, ask_behind_stop, async_ask_behind_stop, async_kept, kept
+from .asking import ask, ask_behind_stop, async_ask_behind_stop, async_kept, kept
 from .calls import Change, Kept, Line
+from .desk import Desks
 from .errands import Errands
 from .errors import Down, Interrupted
 from .numbers import amount_of, read_id, site_of
@@ -285,7 +286,7 @@ class AsyncSite:
         self.site = site
         self._pipeline = site.pipeline
         self._shapes = site.pipeline.shapes
-        self._ask = AsyncAsk(site.pipeline)
+        self._ask = Desks(site.pipeline).ask
 
     def transaction(self, seconds: Optional[float] = None) -> AsyncTransaction:
         """As `Site.transaction`, for `async with`."""

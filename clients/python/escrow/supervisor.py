@@ -31,8 +31,6 @@ LOOK = 0.5
 """Seconds between two looks for calls that have waited too long, where a start takes long."""
 A_WHILE = 1.0
 """So many seconds a process stands for a while."""
-AT_ONCE = 1 << 18
-"""How many bytes of answers one read takes."""
 
 
 class Backoff(NamedTuple):
@@ -124,6 +122,7 @@ class Supervisor:
             self._stood.set()
             self._over.set()
             self._pipeline.wake_writer()
+            self._pipeline.reading.close()
 
     def _keep_running(self) -> Optional[Down]:
         """One process after another: why there is no hope, or None where it was closed."""
@@ -161,7 +160,7 @@ class Supervisor:
         try:
             if self._stands(process.stdin, process.stdout):
                 answers, began = self._pipeline.counts.answers, time.monotonic()
-                self._read(process.stdout.fileno())
+                self._pipeline.reading.read(process.stdout.fileno())
                 got_on = self._pipeline.counts.answers > answers or time.monotonic() - began > A_WHILE
         except Faulty as faulty:
             why = str(faulty)
@@ -199,10 +198,6 @@ class Supervisor:
         self._started()
         self._stood.set()
         return True
-
-    def _read(self, back: int) -> None:
-        while piece := os.read(back, AT_ONCE):
-            self._pipeline.feed(piece)
 
     def _end(self, process: subprocess.Popen[bytes], why: str) -> None:
         assert process.stdin and process.stdout and process.stderr

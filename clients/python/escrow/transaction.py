@@ -6,8 +6,9 @@ import enum
 from types import TracebackType
 from typing import Optional
 
-from .asking import AsyncAsk, ask, async_kept, kept
+from .asking import ask, async_kept, kept
 from .calls import Abort, Call, Commit, First, GiveBack, Later, Run
+from .desk import Ask
 from .errands import Entry, Errands
 from .errors import Down, Interrupted, Lost, Over, Refused, gone
 from .numbers import amount_of, change_of
@@ -209,7 +210,7 @@ class Transaction(BaseTransaction):
 class AsyncTransaction(BaseTransaction):
     """A transaction of a task, for `async with`: as `Transaction`, awaited."""
 
-    def __init__(self, pipeline: Pipeline, clock: Errands, seconds: Optional[float], asks: AsyncAsk) -> None:
+    def __init__(self, pipeline: Pipeline, clock: Errands, seconds: Optional[float], asks: Ask) -> None:
         super().__init__(pipeline, clock, seconds)
         self._ask = asks
 

@@ -3,9 +3,10 @@
 from __future__ import annotations
 
 import asyncio
+import contextvars
 import threading
-from collections.abc import Iterable
-from typing import Any, Protocol, Union
+from collections.abc import Callable, Iterable, Sequence
+from typing import Any, Optional, Protocol, Union, cast
 
 
 class ThreadWaiter:
@@ -33,42 +34,86 @@ class ThreadWaiter:
         return told
 
 
-Waiter = Union[ThreadWaiter, "asyncio.Future[Any]"]
+class Awaited:
+    """What a task awaits in place of a future: the task yields it, and is woken once, by `wake_all` or by `cancel`.
+
+    It has what `asyncio` asks of an object like a future, and saves a turn of the loop: the task goes on inside
+    `wake_all`, where a future would have it called later.
+    """
+
+    __slots__ = ("waiter", "answer", "wake", "_asyncio_future_blocking", "context", "_message")
+
+    waiter: Optional[Waiter]
+    answer: object
+    """What the answers mean, or the exception to raise."""
+    wake: Optional[Callable[[Any], object]]
+    """Goes on with the task: None before it waits, and once it was woken."""
+    _asyncio_future_blocking: bool
+    context: Optional[contextvars.Context]
+    _message: Optional[Any]
+
+    def get_loop(self) -> asyncio.AbstractEventLoop:
+        """The loop of the task."""
+        return cast(TaskWaiter, self.waiter).loop
+
+    def add_done_callback(
+        self, wake: Callable[[Any], object], *, context: Optional[contextvars.Context] = None
+    ) -> None:
+        """The task waits from now on."""
+        self.wake, self.context = wake, contextvars.copy_context() if context is None else context
+
+    def result(self) -> None:
+        """Asked by the task that is woken. Raises `CancelledError` where it was cancelled."""
+        if self.context is None:
+            raise asyncio.CancelledError(*(() if self._message is None else (self._message,)))
+
+    def cancel(self, msg: Optional[Any] = None) -> bool:
+        """The task is cancelled: it doesn't wait any more. False where it doesn't wait."""
+        wake, context = self.wake, self.context
+        if wake is None:
+            return False
+        self.wake, self.context, self._message = None, None, msg
+        self.get_loop().call_soon(wake, self, context=context)
+        return True
 
 
-class Answered(Protocol):
-    """A call with its result."""
+class TaskWaiter(Protocol):
+    """For whom a task waits: the desk of its event loop."""
 
-    waiter: Any
-    result: object
+    loop: asyncio.AbstractEventLoop
+
+    def wake(self, calls: Sequence[Awaited]) -> None:
+        """Wakes the tasks of these calls. Called in the loop."""
 
 
-def settle(done: Iterable[Answered]) -> None:
-    """Hands the results over: at once to threads, and in one turn to each event loop."""
-    turns: dict[asyncio.AbstractEventLoop, list[Answered]] = {}
+Waiter = Union[ThreadWaiter, TaskWaiter]
+
+
+def settle(done: Iterable[Awaited]) -> None:
+    """Hands the answers over: at once to threads, and in one turn to each event loop."""
+    turns: dict[TaskWaiter, list[Awaited]] = {}
     for call in done:
         waiter = call.waiter
         if type(waiter) is ThreadWaiter:
-            waiter.settle(call.result)
+            waiter.settle(call.answer)
         elif waiter is not None:
-            loop = waiter.get_loop()
-            if loop in turns:
-                turns[loop].append(call)
-            else:
-                turns[loop] = [call]
-    for loop, turn in turns.items():
+            turns.setdefault(cast(TaskWaiter, waiter), []).append(call)
+    for desk, turn in turns.items():
         try:
-            loop.call_soon_threadsafe(_wake, turn)
+            desk.loop.call_soon_threadsafe(desk.wake, turn)
         except RuntimeError:  # the loop is closed, and nobody waits
             pass
 
 
-def _wake(turn: Iterable[Answered]) -> None:
-    for call in turn:
-        future, told = call.waiter, call.result
-        if future.done():
-            continue
-        if told is not None and isinstance(told, Exception):
-            future.set_exception(told)
-        else:
-            future.set_result(told)
+def wake_all(calls: Sequence[Awaited], loop: asyncio.AbstractEventLoop) -> None:
+    """Wakes the tasks of these calls, one after another, in their loop."""
+    left = iter(calls)
+    try:
+        for call in left:
+            wake = call.wake
+            if wake is not None:
+                call.wake = None
+                call.context.run(wake, call)  # type: ignore[union-attr]
+    except BaseException:  # a task ends the loop by it: the others go on where it runs again
+        loop.call_soon(wake_all, list(left), loop)
+        raise

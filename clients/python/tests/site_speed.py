@@ -3,8 +3,9 @@
     site_speed.py [SECONDS [TURNS [FOLDER]]]
 
 Each turn of SECONDS (2) runs each row once, TURNS (5) times; printed are medians, with the least and the greatest. FOLDER is where the
-logs are kept: the disk that is measured. `alone` is the program, driven by one loop that has 64 changes under way and reads no
-answer: as `bench/store.py` of the repository does. `python` is how long this process computed for a change.
+logs are kept: the disk that is measured. `alone` is the row `site 64 deep` of `bench/store.py` of the repository: one loop that has
+64 changes under way and reads no answer. `times alone` is the median of the ratios to it within a turn. `python` is how long this
+process computed for a change. Last comes what the tasks alone cost: 64 that wait for futures which a loop sets, with no site.
 """
 
 from __future__ import annotations
@@ -12,19 +13,23 @@ from __future__ import annotations
 import asyncio
 import os
 import statistics
-import subprocess
 import sys
 import tempfile
 import time
-from collections.abc import Callable
+from collections.abc import Awaitable, Callable
 from typing import NamedTuple
 
-from programs import escrow_site
+from programs import TOP, escrow_site
 import escrow
+from escrow.metrics import Metrics
+
+sys.path.insert(0, os.path.join(TOP, "bench"))
+import store  # noqa: E402
 
 MOST = 10**15
 WORLD = escrow.Schema(1, (escrow.Field("stock", 0, MOST, MOST // 2),))
 DEEP = 64
+ALONE = f"alone, {DEEP} deep"
 
 
 class Rate(NamedTuple):
@@ -34,14 +39,28 @@ class Rate(NamedTuple):
     python: float
 
 
-def served(place: str, tasks: int, seconds: float) -> Rate:
-    """So many tasks, each with one change under way."""
+Sell = Callable[[escrow.AsyncSite], Awaitable[object]]
+
+
+async def change(shop: escrow.AsyncSite) -> None:
+    """Sells one in one trip."""
+    await shop.change("stock", -1)
+
+
+async def transaction(shop: escrow.AsyncSite) -> None:
+    """Sells one in two trips."""
+    async with shop.transaction() as t:
+        await t.lower("stock", 1)
+
+
+def served(place: str, tasks: int, seconds: float, sell: Sell = change, metrics: bool = False) -> Rate:
+    """So many tasks, each with one sale under way."""
     done = 0
 
     async def sells(shop: escrow.AsyncSite, end: float) -> None:
         nonlocal done
         while time.perf_counter() < end:
-            await shop.change("stock", -1)
+            await sell(shop)
             done += 1
 
     async def all_sell(site: escrow.Site) -> None:
@@ -50,52 +69,81 @@ def served(place: str, tasks: int, seconds: float) -> Rate:
 
     folder = os.path.join(place, "client")
     escrow.create(folder, WORLD, 0, program=escrow_site())
-    with escrow.Site(folder, program=escrow_site()) as site:
+    with escrow.Site(folder, program=escrow_site(), metrics=Metrics(0) if metrics else None) as site:
         began, computed = time.perf_counter(), time.process_time()
         asyncio.run(all_sell(site))
         return Rate(done / (time.perf_counter() - began), (time.process_time() - computed) / done * 1e6)
 
 
 def alone(place: str, seconds: float) -> Rate:
-    """The program without a client."""
-    folder = os.path.join(place, "alone")
-    escrow.create(folder, WORLD, 0, program=escrow_site())
-    pipe = subprocess.PIPE
-    with subprocess.Popen([escrow_site(), "serve", folder], stdin=pipe, stdout=pipe, bufsize=0) as process:
-        assert process.stdin is not None and process.stdout is not None
-        process.stdout.readline(), process.stdout.readline()
-        sent, answered, began, computed = 0, 0, time.perf_counter(), time.process_time()
-        while time.perf_counter() < began + seconds:
-            upto = answered // 3 + DEEP
-            text = b"".join(b"0 begin\n0 escrow 1.%d stock -1\n0 commit 1.%d\n" % (it, it) for it in range(sent + 1, upto + 1))
-            process.stdin.write(text)
-            sent = upto
-            answered += os.read(process.stdout.fileno(), 1 << 20).count(b"\n")
-        took, computed = time.perf_counter() - began, time.process_time() - computed
-        process.kill()
-    return Rate(answered / 3 / took, computed / (answered / 3) * 1e6)
+    """The program, driven by `bench/store.py`."""
+    store.MOST = int(600_000 * max(1.0, seconds))
+    row = next(row for row in store.site_rows(place) if row.name == f"site {DEEP} deep")
+    computed = time.process_time()
+    changes = row.measure(seconds)
+    return Rate(changes, (time.process_time() - computed) / (changes * seconds) * 1e6)
+
+
+def futures(seconds: float) -> Rate:
+    """Tasks that wait for futures, all of which are set in each turn of the loop."""
+    done = 0
+    waiting: list[asyncio.Future[None]] = []
+
+    async def waits(loop: asyncio.AbstractEventLoop, end: float) -> None:
+        nonlocal done
+        while time.perf_counter() < end:
+            future = loop.create_future()
+            waiting.append(future)
+            await future
+            done += 1
+
+    async def all_wait() -> None:
+        loop, end = asyncio.get_running_loop(), time.perf_counter() + seconds
+
+        def answer() -> None:
+            for future in waiting:
+                future.set_result(None)
+            waiting.clear()
+            loop.call_soon(answer)
+
+        loop.call_soon(answer)
+        await asyncio.gather(*(waits(loop, end) for _ in range(DEEP)))
+
+    began, computed = time.perf_counter(), time.process_time()
+    asyncio.run(all_wait())
+    return Rate(done / (time.perf_counter() - began), (time.process_time() - computed) / done * 1e6)
+
+
+def tell(told: dict[str, list[Rate]]) -> None:
+    """Prints a line for each row."""
+    print(f"load {os.getloadavg()[0]:.1f} on {os.cpu_count()} processors")
+    for name, rates in told.items():
+        changes = sorted(rate.changes for rate in rates)
+        python = statistics.median(rate.python for rate in rates)
+        times = statistics.median(rate.changes / other.changes for rate, other in zip(rates, told[ALONE]))
+        spread = f"{changes[0]:,.0f} to {changes[-1]:,.0f}"
+        print(f"{name:24} {statistics.median(changes):10,.0f} a second, {spread}; {times:.2f} times alone; {python:.1f} us of python")
 
 
 def main() -> None:
     """Runs all turns, and prints a line for each row."""
     seconds, turns = float((sys.argv[1:2] or ["2"])[0]), int((sys.argv[2:3] or ["5"])[0])
     rows: dict[str, Callable[[str], Rate]] = {
-        f"alone, {DEEP} deep": lambda place: alone(place, seconds),
+        ALONE: lambda place: alone(place, seconds),
         "1 task": lambda place: served(place, 1, seconds),
         "8 tasks": lambda place: served(place, 8, seconds),
         "64 tasks": lambda place: served(place, 64, seconds),
+        "64 tasks, metrics": lambda place: served(place, 64, seconds, metrics=True),
+        "64 tasks, transactions": lambda place: served(place, 64, seconds, transaction),
         "512 tasks": lambda place: served(place, 512, seconds),
+        "64 tasks, no site": lambda place: futures(seconds),
     }
     told: dict[str, list[Rate]] = {name: [] for name in rows}
     for _ in range(turns):
         for name, row in rows.items():
             with tempfile.TemporaryDirectory(prefix="escrow-speed-", dir=next(iter(sys.argv[3:4]), None)) as place:
                 told[name].append(row(place))
-    for name, rates in told.items():
-        changes = sorted(rate.changes for rate in rates)
-        python = statistics.median(rate.python for rate in rates)
-        middle = statistics.median(changes)
-        print(f"{name:16} {middle:10,.0f} a second, {changes[0]:,.0f} to {changes[-1]:,.0f}; {python:.1f} us of python a change")
+    tell(told)
 
 
 if __name__ == "__main__":
