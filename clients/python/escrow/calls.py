@@ -169,27 +169,43 @@ class Shape:
 
 
 class Change(Call[None]):
-    """A transaction of one change, in one trip: begin, escrow and commit. `id` is that of the last try."""
+    """A transaction of one change, in one trip: begin, escrow and commit. `id` is that of the last try.
+
+    Whoever makes it sets `shape`: a class without `__init__` is made in half the time.
+    """
 
     __slots__ = ("id", "shape")
     command = Command.CHANGE
 
-    def __init__(self, shape: Shape) -> None:
-        self.shape = shape
+    id: str
+    shape: Shape
 
     @property
     def text(self) -> str:  # type: ignore[override]
         """The lines."""
         return self.id.join(self.shape.asked)
 
+    @property
+    def expected(self) -> str:  # type: ignore[override]
+        """The answers where nothing is refused."""
+        return self.id.join(self.shape.told)
+
     def plan(self, run: Run) -> None:
         self.id = run.new_id()
-        self.expected = self.id.join(self.shape.told)
 
     def told(self, replies: Sequence[Reply]) -> None:
         _begun(replies[0], self.id)
         replies[1].words("granted")
         replies[2].words("committed")
+
+
+class Changes(Call[None]):
+    """Changes of tasks of one loop that went out together: where none is refused, their answers are one text."""
+
+    __slots__ = ("calls",)
+    command = Command.CHANGE
+
+    calls: Sequence[Change]
 
 
 def _begun(reply: Reply, own: str) -> None:

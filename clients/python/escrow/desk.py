@@ -6,10 +6,10 @@ import types
 from asyncio import AbstractEventLoop, get_running_loop
 from collections.abc import Awaitable, Generator, Sequence
 from time import perf_counter
-from typing import TYPE_CHECKING, Any, Optional, Protocol, TypeVar, cast
+from typing import TYPE_CHECKING, Any, Optional, Protocol, TypeVar
 
 from .calls import Call
-from .waiters import Awaited, wake_all
+from .waiters import Awaited
 
 if TYPE_CHECKING:
     from .pipeline import Pipeline
@@ -29,12 +29,16 @@ class Ask(Protocol):
 class Desk:
     """Where the tasks of one event loop ask: their lines go out together, once each has had its turn."""
 
-    __slots__ = ("loop", "gathered", "_pipeline", "_pace", "_held")
+    __slots__ = ("loop", "gathered", "wakes", "can_read", "_pipeline", "_pace", "_held")
 
     def __init__(self, loop: AbstractEventLoop, pipeline: Pipeline) -> None:
         self.loop = loop
         self.gathered: list[Call[Any]] = []
         """Calls that haven't gone out."""
+        self.wakes = False
+        """Whether it wakes tasks, and sends behind that."""
+        self.can_read = True
+        """Whether the loop watches pipes, as far as is known."""
         self._pipeline, self._pace = pipeline, Pace()
         self._held = False  # what has gathered waits for more answers
 
@@ -53,8 +57,22 @@ class Desk:
     def wake(self, calls: Sequence[Awaited]) -> None:
         """Wakes the tasks of these calls, and has go out what they ask then."""
         self._held = False
-        wake_all(calls, self.loop)
+        self._go_on(calls)
         self.send()
+
+    def _go_on(self, calls: Sequence[Awaited]) -> None:
+        left, self.wakes = iter(calls), True
+        try:
+            for call in left:
+                wake = call.wake
+                if wake is not None:
+                    call.wake = None
+                    call.context.run(wake, call)  # type: ignore[union-attr]
+        except BaseException:  # a task ends the loop by it: the others go on where it runs again
+            self.loop.call_soon(self.wake, list(left))
+            raise
+        finally:
+            self.wakes = False
 
     def answer(self, calls: Sequence[Awaited]) -> None:
         """As `wake`, where the loop itself reads. What the tasks ask goes out in two parts, where that pays; where it
@@ -63,10 +81,15 @@ class Desk:
         parts_pay = self._pace.comes(many, others)
         if others and not parts_pay:
             self._held = True
-            wake_all(calls, self.loop)
+            self._go_on(calls)
         elif not others and parts_pay and many >= FEW:
-            self.wake(calls[: many // 2])
-            self.wake(calls[many // 2 :])
+            rest = calls[many // 2 :]
+            try:
+                self.wake(calls[: many // 2])
+            except BaseException:
+                self.loop.call_soon(self.wake, rest)
+                raise
+            self.wake(rest)
         else:
             self.wake(calls)
         self._pace.went_on(many)
@@ -121,16 +144,16 @@ class Desks:
         desk, loop = self._desk, get_running_loop()
         if desk is None or desk.loop is not loop:
             desk = self._join(loop)
-        call.waiter, call.wake, call._asyncio_future_blocking = desk, None, True
+        call.waiter, call.answer, call.wake, call._asyncio_future_blocking = desk, None, None, True
         gathered = desk.gathered
         gathered.append(call)
-        if len(gathered) == 1:
+        if len(gathered) == 1 and not desk.wakes:
             loop.call_soon(desk.send)
         yield call
         told = call.answer
         if told is not None and isinstance(told, Exception):
             raise told
-        return cast(T, told)
+        return told  # type: ignore[return-value]
 
     def _join(self, loop: AbstractEventLoop) -> Desk:
         if self._desk is not None and not self._desk.loop.is_closed():

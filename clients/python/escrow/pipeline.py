@@ -13,7 +13,7 @@ from collections.abc import Callable, Sequence
 from dataclasses import dataclass, field
 from typing import Any, Optional, Protocol, cast
 
-from .calls import Call, Change, Shape, Standing
+from .calls import Call, Change, Changes, Shape, Standing
 from .desk import Desk
 from .errors import Down, EpochFull, EscrowError, Faulty, Interrupted, Lost, Over, Refusal, Refused, Short, Unknown, gone
 from .numbers import change_of, read_id
@@ -85,7 +85,9 @@ class Pipeline:
         self.counts = Counts()
         self.lock = threading.Lock()
         self._fields, self._issued, self._watch = fields, issued, watch
-        self.shapes: dict[tuple[str, int], Shape] = {}
+        self.shapes: dict[str, dict[int, Shape]] = {}
+        """By the field and the change."""
+        self._shapes_kept = 0
         # The process, as it now stands.
         self.up = False
         self.dead: Optional[Down] = None
@@ -100,6 +102,8 @@ class Pipeline:
         self._ending = False  # its input is to end, once all that was asked is written
         # The calls.
         self._pending: deque[Call[Any]] = deque()  # not answered yet, in the order of the lines
+        self._asked = 0  # calls that went out: changed under the lock
+        self._done = 0  # of them, those that have ended: changed by who reads
         self._waiting: deque[Call[Any]] = deque()  # wait for a place
         self._deferred: list[Call[Any]] = []  # wait until the site stands
         # The pipe.
@@ -123,12 +127,16 @@ class Pipeline:
     def shape(self, field: str, change: int) -> Shape:
         """What the lines of such a change have in common, kept in `shapes`. Raises `Refused` or `ValueError` where it
         is none."""
-        shape = self.shapes.get((field, change))
+        shapes = self.shapes.setdefault(self.known(field), {})
+        shape = shapes.get(change)
         if shape is None:
-            shape = Shape(self.number, self.known(field), change_of(change))
-            if len(self.shapes) >= SHAPES:
-                self.shapes.clear()
-            self.shapes[field, change] = shape
+            shape = Shape(self.number, field, change_of(change))
+            if self._shapes_kept >= SHAPES:
+                self._shapes_kept = 0
+                for it in tuple(self.shapes.values()):
+                    it.clear()
+            self._shapes_kept += 1
+            shapes[change] = shape
         return shape
 
     def desk(self, loop: asyncio.AbstractEventLoop) -> Desk:
@@ -149,38 +157,45 @@ class Pipeline:
     def submit(self, calls: Sequence[Call[Any]]) -> None:
         """Puts the lines of calls behind those of others, or keeps them until it can. Then `flush`."""
         with self.lock:
-            if self.up and set(map(type, calls)) == _CHANGES and self._numbers + len(calls) <= self.numbers:
-                self._queue_changes(cast(Sequence[Change], calls))
-                return
-            for call in calls:
-                self._place(call)
+            if len(calls) > 1 and set(map(type, calls)) == _CHANGES and self._can_begin(len(calls)):
+                self._queue_changes(cast("Sequence[Change]", calls))
+            else:
+                for call in calls:
+                    self._place(call)
+
+    def _can_begin(self, many: int) -> bool:
+        return self.up and self._numbers + many <= self.numbers
 
     def _queue_changes(self, changes: Sequence[Change]) -> None:
-        """As `queue` of each, where nothing can be wrong with any."""
-        prefix, number, texts = self._prefix, self._numbers, []
+        """As `queue` of each, where nothing can be wrong with any, and one loop asks."""
+        prefix, number, asked, told = self._prefix, self._numbers, [], []
         for call in changes:
             number += 1
             own = call.id = f"{prefix}{number}"
             shape = call.shape
-            texts.append(own.join(shape.asked))
-            call.expected = own.join(shape.told)
+            asked.append(own.join(shape.asked))
+            told.append(own.join(shape.told))
         self._numbers = number
         if self._watch is not None:
             began = self._began = self._began if self._out else time.perf_counter()
             for call in changes:
                 call.began = began
-        self._pending.extend(changes)
-        self._out += texts
+        together = Changes()
+        together.waiter, together.calls, together.expected = changes[0].waiter, changes, "".join(told)
+        self._pending.append(together)
+        self._asked += len(changes)
+        self._out += asked
 
     def _place(self, call: Call[Any]) -> None:
-        if self.dead is not None:
+        if self.up:
+            if call.opens and self.open >= PLACES:
+                self._waiting.append(call)
+            else:
+                self.queue(call)
+        elif self.dead is not None:
             self._turn_away(call, self.dead)
-        elif not self.up:
-            self._keep(call)
-        elif call.opens and self.open >= PLACES:
-            self._waiting.append(call)
         else:
-            self.queue(call)
+            self._keep(call)
 
     def _keep(self, call: Call[Any]) -> None:
         if call.bound:  # its transaction has ended with the process
@@ -203,6 +218,7 @@ class Pipeline:
         if self._watch is not None:
             call.began = self._began = self._began if self._out else time.perf_counter()
         self._pending.append(call)
+        self._asked += 1
         self._out.append(call.text)
         if call.opens:
             self.open += 1
@@ -254,12 +270,12 @@ class Pipeline:
     @property
     def under_way(self) -> int:
         """How many calls the process has to answer."""
-        return len(self._pending)
+        return self._asked - self._done
 
     @property
     def unanswered(self) -> int:
         """How many calls wait."""
-        return len(self._pending) + len(self._deferred) + len(self._waiting)
+        return self.under_way + len(self._deferred) + len(self._waiting)
 
     # What the pipe takes.
 
@@ -318,20 +334,34 @@ class Pipeline:
                 call = pending[0]
                 expected = call.expected
                 if expected and buffer.startswith(expected, at):
-                    call.answer = None
                     at += len(expected)
+                    if type(call) is Changes:
+                        done += call.calls
+                    else:
+                        call.answer = None
+                        done.append(call)
+                elif type(call) is Changes:
+                    self._part(call)
+                    continue
                 else:
                     end = call.take(buffer, at)
                     if end < 0:
                         break
                     self._notice(call.answer)
                     at = end
-                done.append(pending.popleft())
+                    done.append(call)
+                pending.popleft()
         except Faulty as faulty:
             fault = faulty
         self._rest = buffer[at:]
+        self._done += len(done)
         self.counts.answers += len(done)
         return done, fault
+
+    def _part(self, first: Changes) -> None:
+        """Not all of these are answered well, or not yet: each waits by itself."""
+        self._pending.popleft()
+        self._pending.extendleft(reversed(first.calls))
 
     def _notice(self, told: object) -> None:
         if isinstance(told, Refused):
@@ -341,22 +371,23 @@ class Pipeline:
         elif isinstance(told, Statement):
             self._issued(told)
 
-    def tell(self, done: list[Call[Any]]) -> None:
-        """Has counted what was answered."""
+    def tell(self, done: Sequence[Call[Any]]) -> None:
+        """Has counted what was answered: calls of one kind that went out and came back together at once."""
         watch = self._watch
         if watch is None:
             return
-        now = time.perf_counter()
-        for (command, began), calls in itertools.groupby(done, _turn):
-            watch.answered(command.value, now - began, sum(1 for _ in calls))
+        now, first, count = time.perf_counter(), None, 0
         for call in done:
-            told = call.answer
-            if isinstance(told, Refused):
-                watch.refused(call.command.value, int(told.number), told.reason)
-            if isinstance(told, Short):
-                watch.shared(told.field, **{_SIDES[told.kind]: told.share})
-            elif isinstance(told, Share):
-                watch.shared(call.field, told.lower, told.raise_)
+            if first is not None and call.began == first.began and call.command is first.command:
+                count += 1
+            else:
+                if first is not None:
+                    watch.answered(first.command.value, now - first.began, count)
+                first, count = call, 1
+            if call.answer is not None:
+                _tell_answer(call, watch)
+        if first is not None:
+            watch.answered(first.command.value, now - first.began, count)
         watch.waits(self.unanswered)
         watch.holds(self.open)
 
@@ -399,8 +430,12 @@ class Pipeline:
     def fall(self) -> None:
         """The process has ended, and was read to its end: calls are made again, or told that they were interrupted."""
         with self.lock:
-            interrupted, waiting = list(self._pending), list(self._waiting)
+            interrupted: list[Call[Any]] = []
+            for call in self._pending:
+                interrupted += call.calls if type(call) is Changes else (call,)
+            waiting = list(self._waiting)
             self._pending.clear()
+            self._done = self._asked
             self._waiting.clear()
             self.counts.stops += 1
             self.counts.interrupted += len(interrupted)
@@ -448,5 +483,11 @@ _MISSED: dict[type[Exception], str] = {Down: "down", Lost: "lost", Over: "over",
 _SIDES = {Kind.LOWER: "lower", Kind.RAISE: "raise_"}
 
 
-def _turn(call: Call[Any]) -> tuple[Command, float]:
-    return call.command, call.began
+def _tell_answer(call: Call[Any], watch: Watch) -> None:
+    told = call.answer
+    if isinstance(told, Refused):
+        watch.refused(call.command.value, int(told.number), told.reason)
+    if isinstance(told, Short):
+        watch.shared(told.field, **{_SIDES[told.kind]: told.share})
+    elif isinstance(told, Share):
+        watch.shared(call.field, told.lower, told.raise_)

@@ -77,7 +77,7 @@ class Reading:
         if fault is not None:
             raise fault
         desk = done[-1].waiter if done else None
-        if type(desk) is Desk and all(call.waiter is desk for call in done):
+        if type(desk) is Desk and desk.can_read and all(call.waiter is desk for call in done):
             self._calm = self._calm + 1 if desk is self._last else 1
             self._last = desk
         else:
@@ -127,8 +127,12 @@ class Turn:
         self._back = io.FileIO(os.dup(back))  # the loop looks at it until it has heard that its turn is over
 
     def begin(self) -> None:
-        """Begins to read. In the loop."""
-        self.desk.loop.add_reader(self._back.fileno(), self._read)
+        """Begins to read, where the loop can. In the loop."""
+        try:
+            self.desk.loop.add_reader(self._back.fileno(), self._read)
+        except NotImplementedError:
+            self.desk.can_read = False
+            self._reading.take_back()
 
     def over(self) -> None:
         """The loop is to read no more."""
@@ -138,7 +142,8 @@ class Turn:
             self._back.close()
 
     def _end(self) -> None:
-        self.desk.loop.remove_reader(self._back.fileno())
+        if self.desk.can_read:
+            self.desk.loop.remove_reader(self._back.fileno())
         self._back.close()
         self.desk.wake(())
 

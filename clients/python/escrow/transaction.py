@@ -25,6 +25,7 @@ class State(enum.Enum):
     EXPIRED = "expired"
 
 
+_NEW, _OPEN = State.NEW, State.OPEN
 _WHY = {
     State.ENDED: "the transaction has ended: it was committed or aborted",
     State.EXPIRED: "the transaction has ended: its time was up",
@@ -93,8 +94,9 @@ class BaseTransaction:
         return over
 
     def _check(self) -> None:
-        if self._state in _WHY:
-            raise Over(_WHY[self._state])
+        state = self._state
+        if state is not _NEW and state is not _OPEN:
+            raise Over(_WHY[state])
 
     # What the calls of both kinds have in common.
 

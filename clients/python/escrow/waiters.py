@@ -6,7 +6,7 @@ import asyncio
 import contextvars
 import threading
 from collections.abc import Callable, Iterable, Sequence
-from typing import Any, Optional, Protocol, Union, cast
+from typing import Any, Optional, Protocol, Union
 
 
 class ThreadWaiter:
@@ -35,10 +35,10 @@ class ThreadWaiter:
 
 
 class Awaited:
-    """What a task awaits in place of a future: the task yields it, and is woken once, by `wake_all` or by `cancel`.
+    """What a task awaits in place of a future: the task yields it, and is woken once, by its desk or by `cancel`.
 
-    It has what `asyncio` asks of an object like a future, and saves a turn of the loop: the task goes on inside
-    `wake_all`, where a future would have it called later.
+    It has what `asyncio` asks of an object like a future, and saves a turn of the loop: the task goes on as the answers
+    are read, where a future would have it called later.
     """
 
     __slots__ = ("waiter", "answer", "wake", "_asyncio_future_blocking", "context", "_message")
@@ -54,7 +54,7 @@ class Awaited:
 
     def get_loop(self) -> asyncio.AbstractEventLoop:
         """The loop of the task."""
-        return cast(TaskWaiter, self.waiter).loop
+        return self.waiter.loop  # type: ignore[union-attr]
 
     def add_done_callback(
         self, wake: Callable[[Any], object], *, context: Optional[contextvars.Context] = None
@@ -94,26 +94,12 @@ def settle(done: Iterable[Awaited]) -> None:
     turns: dict[TaskWaiter, list[Awaited]] = {}
     for call in done:
         waiter = call.waiter
-        if type(waiter) is ThreadWaiter:
+        if isinstance(waiter, ThreadWaiter):
             waiter.settle(call.answer)
         elif waiter is not None:
-            turns.setdefault(cast(TaskWaiter, waiter), []).append(call)
+            turns.setdefault(waiter, []).append(call)
     for desk, turn in turns.items():
         try:
             desk.loop.call_soon_threadsafe(desk.wake, turn)
         except RuntimeError:  # the loop is closed, and nobody waits
             pass
-
-
-def wake_all(calls: Sequence[Awaited], loop: asyncio.AbstractEventLoop) -> None:
-    """Wakes the tasks of these calls, one after another, in their loop."""
-    left = iter(calls)
-    try:
-        for call in left:
-            wake = call.wake
-            if wake is not None:
-                call.wake = None
-                call.context.run(wake, call)  # type: ignore[union-attr]
-    except BaseException:  # a task ends the loop by it: the others go on where it runs again
-        loop.call_soon(wake_all, list(left), loop)
-        raise

@@ -213,9 +213,9 @@ class PipeTest(SiteTest):
 
     def test_lines_keep_their_order_where_the_pipe_takes_a_part(self) -> None:
         site, write = self.site(), os.write
-        calls = [Change(site.pipeline.shape("stock", change)) for change in (-1, -2)]
-        for call in calls:
-            call.waiter = ThreadWaiter()
+        calls = [Change(), Change()]
+        for call, change in zip(calls, (-1, -2)):
+            call.shape, call.waiter = site.pipeline.shape("stock", change), ThreadWaiter()
         later = [calls[1]]
 
         def takes_a_part(to: int, piece: bytes) -> int:

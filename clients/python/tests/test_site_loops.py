@@ -16,9 +16,11 @@ from typing import Any
 from programs import LARGE, SHOP, Killer, SiteTest, commits, escrow_site, kill, pid_of, wait_until
 import escrow
 from escrow import Outcome, Refusal
-from escrow.desk import Pace
+from escrow.calls import Change
+from escrow.desk import Desk, Pace
 from escrow.metrics import Metrics, text_of
-from escrow.waiters import Awaited, wake_all
+from escrow.pipeline import Pipeline
+from escrow.waiters import Awaited
 
 FAKE = os.path.join(os.path.dirname(os.path.abspath(__file__)), "fake_site.py")
 WIDE = 64
@@ -114,6 +116,18 @@ class TurnTest(SiteTest):
         site.close()
         self.assertEqual(len(set(told)), 8 * WIDE)
         self.assertEqual((set(commits(site.folder, LARGE)), site.last_status), (set(told), 0))
+
+    def test_a_loop_that_watches_no_pipe(self) -> None:
+        site, told = self.site(LARGE), list[str]()
+
+        async def calls() -> None:
+            with unittest.mock.patch.object(asyncio.get_running_loop(), "add_reader", side_effect=NotImplementedError):
+                await sell(escrow.AsyncSite(site), 20, told)
+            await until(lambda: not is_lent(site))
+
+        asyncio.run(calls())
+        site.close()
+        self.assertEqual((len(told), set(told)), (20 * WIDE, set(commits(site.folder, LARGE))))
 
     def test_two_loops_and_a_thread_at_once(self) -> None:
         site = self.site(LARGE)
@@ -262,6 +276,31 @@ class AnswerTest(SiteTest):
         ):
             self.assertIn(line + "\n", text_of([metrics]))
 
+    def test_answers_that_come_in_pieces(self) -> None:
+        told, refusal = [], "0 escrow 7.2 stock -9 -> refused 7 short 5\n0 commit 7.2 -> committed\n"
+        for size in (1, 2, 50, 70, 1000):
+            line = Pipeline(0, frozenset({"stock"}), lambda _: None, None)
+            back, to = os.pipe()
+            line.stand(7, to)
+            calls = [Change() for _ in range(4)]
+            for call, amount in zip(calls, (-1, -9, -1, 2)):
+                call.shape, call.waiter = line.shape("stock", amount), None
+            line.submit(calls)
+            line.flush()
+            asked = os.read(back, 1 << 16).decode()
+            well = "".join(call.expected for call in calls)
+            answers = (well[: well.index("0 escrow 7.2")] + refusal + well[well.index("0 begin -> begun 7.3") :]).encode()
+            pieces = [line.take(answers[at : at + size]) for at in range(0, len(answers), size)]
+            self.assertEqual([call for done, _ in pieces for call in done], calls)
+            self.assertEqual([fault for _, fault in pieces if fault], [])
+            self.assertEqual((asked, line.unanswered), ("".join(call.text for call in calls), 0))
+            told.append([type(call.answer) for call in calls])
+            self.assertEqual(line.take(b"0 begin -> begun 7.9\n")[1].__class__.__name__, "Faulty")
+            line.detach()
+            line.reading.close()
+            os.close(back)
+        self.assertEqual(told, [[type(None), escrow.Short, type(None), type(None)]] * 5)
+
     def test_who_waits_too_long_goes_on(self) -> None:
         site = self.site()
 
@@ -316,14 +355,23 @@ class AnswerTest(SiteTest):
 
             return wake
 
-        calls = [Awaited() for _ in range(4)]
-        for at, call in enumerate(calls):
-            call.add_done_callback(wakes(at))
-        calls[2].wake = None  # it was cancelled
+        def calls(many: int) -> list[Awaited]:
+            made = [Awaited() for _ in range(many)]
+            for at, call in enumerate(made):
+                call.add_done_callback(wakes(at))
+            made[2].wake = None  # it was cancelled
+            return made
+
+        desk = Desk(loop, Pipeline(0, frozenset(), lambda _: None, None))
         with self.assertRaises(KeyboardInterrupt):
-            wake_all(calls, loop)
+            desk.wake(calls(4))
         loop.run_until_complete(asyncio.sleep(0))
         self.assertEqual(woken, [0, 1, 3])
+        woken.clear()
+        with unittest.mock.patch.object(Pace, "comes", lambda *_: True), self.assertRaises(KeyboardInterrupt):
+            desk.answer(calls(20))  # in two parts
+        loop.run_until_complete(asyncio.sleep(0))
+        self.assertEqual(sorted(woken), [0, 1, *range(3, 20)])
 
 
 class PaceTest(SiteTest):
