@@ -10,6 +10,7 @@ ghost use Rattle.central_machine.specs.Parts.{IsFault, AreFieldFaults};
 
 use crate::judging::length_of;
 use crate::part::Fault;
+use crate::threads::least_parts;
 use crate::totals::Totals;
 use crate::window::{Window, windows_of};
 use field_bounds::{Entry, Schema};
@@ -75,7 +76,7 @@ fn windows_faults(
     let count = windows.len();
     let made: Result<Vec<Option<Fault>>, AllocError> = (0..count)
         .into_par_iter()
-        .with_min_len(1)
+        .with_min_len(least_parts(entries.len(), count))
         .map(
             |number: usize| -> Result<Option<Fault>, AllocError>
                 ensures { IfOk result (λ fault. (w : Window) →
@@ -88,21 +89,25 @@ fn windows_faults(
     made
 }
 
-/// How many fields a window has, so that there are as many windows as threads, or one for each
-/// field.
-fn window_size(schema: &Schema, threads: usize) -> u16
+/// How many fields a window has, so that there are so many windows, or one for each field.
+fn window_size(schema: &Schema, windows: usize) -> u16
     ensures { 0 < result }
 {
     let fields = schema.fields();
-    if threads == 0 || threads >= usize::from(fields) {
+    if windows == 0 || windows >= usize::from(fields) {
         return 1;
     }
-    let threads = threads as u16;
-    (fields - 1) / threads + 1
+    let windows = windows as u16;
+    (fields - 1) / windows + 1
 }
 
-/// What the windows of all fields find first, with a window for each thread that the processors
-/// keep busy.
+/// How many windows there are at most: with the other parts they keep the processors busy.
+fn window_count(threads: usize) -> usize {
+    threads.saturating_sub(1).max(1)
+}
+
+/// What the windows of all fields find first: a window for each processor but one, which the other
+/// parts have.
 pub fn field_faults(
     rt: &(impl Threads + Sync),
     alloc: Global,
@@ -111,7 +116,7 @@ pub fn field_faults(
 ) -> Result<Vec<Option<Fault>>, AllocError>
     ensures { IfOk result (λ faults. AreFieldFaults schema.now entries.now faults.items) }
 {
-    let size = window_size(schema, current_num_threads(rt));
+    let size = window_size(schema, window_count(current_num_threads(rt)));
     let windows = windows_of(alloc, schema, size)?;
     windows_faults(rt, alloc, schema, entries, &windows)
 }

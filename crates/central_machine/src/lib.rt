@@ -20,6 +20,7 @@ mod running;
 mod site_faults;
 mod site_totals;
 mod statements;
+mod threads;
 mod totals;
 mod window;
 

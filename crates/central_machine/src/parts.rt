@@ -12,10 +12,11 @@ use crate::joined::earliest;
 use crate::judging::length_of;
 use crate::part::Fault;
 use crate::site_faults::rest_faults;
+use crate::threads::both;
 use central_rules::Verdict;
 use field_bounds::{Entry, Schema};
 use std::alloc::{AllocError, Global};
-use std::thread::{Threads, join};
+use std::thread::Threads;
 
 /// What all parts find first.
 fn faults_of(
@@ -26,8 +27,9 @@ fn faults_of(
 ) -> Result<Vec<Option<Fault>>, AllocError>
     ensures { IfOk result (λ faults. AreFaults schema.now entries.now faults.items) }
 {
-    let (of_fields, of_rest) = join(
+    let (of_fields, of_rest) = both(
         rt,
+        entries.len(),
         || -> Result<Vec<Option<Fault>>, AllocError>
             ensures { IfOk result (λ faults. AreFieldFaults schema.entry.now entries.entry.now
                 faults.items) }
@@ -77,11 +79,11 @@ fn judge_parts(
 /// entry, and `rule` the first rule that it breaks over the front before it (`illegal`). Over a
 /// sound trace it is Legal (`sound`).
 ///
-/// The error is want of memory. There are as many windows as processors, or one for each field; a
-/// window takes time as `judge` does but for the look-ups of statements and replies, and memory, of
-/// each kind, for three numbers for each of its fields, three for each site and field, and two for
-/// each two sites and a field. The other parts take time and memory as `judge` does, and a number
-/// for each entry.
+/// The error is want of memory. There is a window for each processor but one, or one for each field;
+/// a window takes time as `judge` does but for the look-ups of statements and replies, and memory,
+/// of each kind, for three numbers for each of its fields, three for each site and field, and two
+/// for each two sites and a field. The other parts take time and memory as `judge` does, and a
+/// number for each entry. Over fewer than 50 entries the parts take turns in the caller's thread.
 ///
 /// Source: O'Neil 1986 for the central store, this project for the judge and its parts.
 pub fn judge_fields(

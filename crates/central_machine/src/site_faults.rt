@@ -13,13 +13,14 @@ use crate::judging::length_of;
 use crate::part::Fault;
 use crate::site_totals::SiteTotals;
 use crate::statements;
+use crate::threads::{both, least_parts};
 use crate::totals::reply_fits;
 use central_rules::Rule;
 use field_bounds::{Entry, Schema, SiteNo};
 use rayon::prelude::*;
 use statement_set::StatementSet;
 use std::alloc::{AllocError, Global};
-use std::thread::{Threads, join};
+use std::thread::Threads;
 
 /// The places of the entries of one site, in order.
 #[derive(Drop)]
@@ -188,7 +189,7 @@ fn listed_faults(
     let count = usize::from(schema.sites());
     let made: Result<Vec<Option<Fault>>, AllocError> = (0..count)
         .into_par_iter()
-        .with_min_len(1)
+        .with_min_len(least_parts(entries.len(), count))
         .map(
             |site: usize| -> Result<Option<Fault>, AllocError>
                 ensures { IfOk result (λ fault. AreAllNumbers entries.entry.now
@@ -227,8 +228,9 @@ pub fn rest_faults(
 ) -> Result<Vec<Option<Fault>>, AllocError>
     ensures { IfOk result (λ faults. AreRestFaults schema.now entries.now faults.items) }
 {
-    let (of_statements, of_sites) = join(
+    let (of_statements, of_sites) = both(
         rt,
+        entries.len(),
         || -> Result<Option<Fault>, AllocError>
             ensures { IfOk result (λ fault. IsFault schema.entry.now entries.entry.now Statements
                 fault) }
