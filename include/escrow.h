@@ -52,7 +52,10 @@ enum {
                               before: this never came */
     ESCROW_DOWN = 12,      /* the site is down: ask it to restart */
     ESCROW_NO_FIELD = 13,  /* the schema has no field of this number */
-    ESCROW_PAST_END = 14   /* the log has fewer bytes than that */
+    ESCROW_PAST_END = 14,  /* the log has fewer bytes than that */
+    ESCROW_TOO_LONG = 15,  /* the script has more than 1,000,000 lines or 268,435,456 bytes */
+    ESCROW_BAD_ENTRY = 16, /* a line of the trace is no entry */
+    ESCROW_ILLEGAL = 17    /* an entry of the trace breaks a rule */
 };
 
 /* The most bytes of an entry's text. */
@@ -165,6 +168,19 @@ uint32_t escrow_site_interval(escrow_handle *handle, uint16_t field, int64_t *lo
 /* *lower and *raise are the site's free rights on the field: what a share answers.
  * ESCROW_CLOSED, ESCROW_DOWN, ESCROW_NO_FIELD; they are then as they were. */
 uint32_t escrow_site_share(escrow_handle *handle, uint16_t field, uint64_t *lower, uint64_t *raise);
+
+/* ---- two calls that keep nothing */
+
+/* Runs a script in a world of its own, as `escrow run` does, and writes what answers it to `out`: *needed bytes. Where
+ * there is less room for them nothing is written, and *needed tells how much there has to be.
+ * ESCROW_NO_ROOM; ESCROW_NO_SCHEMA, ESCROW_TOO_LONG, ESCROW_NO_MEMORY, at which *needed is 0. */
+uint32_t escrow_run_text(const uint8_t *script, size_t script_length, uint8_t *out, size_t room, size_t *needed);
+
+/* Judges a trace under a header: the entries of all sites of a world as text, in the order of one central store, each with
+ * a line feed behind it. ESCROW_DONE: it is a run of one central store, in which each reply was owed. ESCROW_ILLEGAL: entry
+ * *at, counted from 1, is the first that breaks a rule. ESCROW_BAD_ENTRY: line *at is the first that is no entry, or has no
+ * line feed behind it. ESCROW_NO_SCHEMA, ESCROW_NO_MEMORY. *at is 0 at the others. */
+uint32_t escrow_judge(const uint8_t *header, size_t header_length, const uint8_t *trace, size_t trace_length, uint64_t *at);
 
 #ifdef __cplusplus
 }

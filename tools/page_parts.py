@@ -48,7 +48,7 @@ def wrapped(text: str, first: str = "", rest: str = "") -> str:
 
 def needs_of() -> dict[str, list[str]]:
     lines = [line for line in text_of("crates.txt").splitlines() if line and not line.startswith("#")]
-    return {crate: needs.split() for crate, _, needs in (line.partition(":") for line in lines)}
+    return {head.split()[0]: needs.split() for head, _, needs in (line.partition(":") for line in lines)}
 
 
 def cited_proofs(crate: str) -> set[str]:
@@ -102,7 +102,8 @@ def exported(crate: str) -> set[str]:
 
 
 def public_parts(text: str, names: set[str]) -> Iterator[str]:
-    """What of a source the crate exports by these names, laws left out: clauses, traits, what a type is seen as."""
+    """What of a source the crate exports by these names or to C, laws left out: clauses, traits, what a type is seen as."""
+    yield from re.findall(r'^pub extern "C" fn (?:.|\n)*?^\{$', text, re.M)
     for item in re.findall(r"^(?:pub (?:const )?fn|pub trait|impl)\b(?:.|\n)*?^(?:\{\}|\})", text, re.M):
         if item.endswith("{}") or names.isdisjoint(WORD.findall(item.partition("{")[0])):
             continue

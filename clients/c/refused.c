@@ -112,6 +112,30 @@ static long open_through(escrow_handle *handle, const uint8_t *log, size_t lengt
     return count;
 }
 
+/* Runs a script and judges what it answers, each growth refused in turn. */
+static long texts_through(void) {
+    static const char script[] = "{\"sites\":2,\"fields\":[{\"name\":\"stock\",\"floor\":0,\"ceiling\":100,\"value\":40}]}\n"
+                                 "0 begin\n0 escrow 0.1 stock -20\n0 commit 0.1\n1 give 0 stock lower 5\ndeliver 1\n0 restart\n";
+    uint8_t out[1024];
+    size_t needed = 0, header = strcspn(script, "\n");
+    uint64_t at;
+    long count = 0;
+    for (refuse_at = 1;; refuse_at++, count++) {
+        seen = refused = 0;
+        uint32_t status = escrow_run_text((const uint8_t *)script, sizeof script - 1, out, sizeof out, &needed);
+        if (!refused && !status) break;
+        if (status != ESCROW_NO_MEMORY || needed) fail("refused, and another status", "run_text");
+    }
+    for (refuse_at = 1;; refuse_at++, count++) {
+        seen = refused = 0;
+        uint32_t status = escrow_judge((const uint8_t *)script, header, out + header + 1, needed - header - 1, &at);
+        if (!refused && !status) break;
+        if (status != ESCROW_NO_MEMORY || at) fail("refused, and another status", "judge");
+    }
+    refuse_at = 0;
+    return count;
+}
+
 int main(int count, char **words) {
     long rounds = count > 1 ? atol(words[1]) : 200, told = 0, opened = 0;
     escrow_handle site = {0}, twin = {0};
@@ -138,6 +162,6 @@ int main(int count, char **words) {
     free(log);
     escrow_site_close(&site);
     escrow_site_close(&twin);
-    printf("%ld growths refused in lines, %ld in openings\n", told, opened);
+    printf("%ld growths refused in lines, %ld in openings, %ld in texts\n", told, opened, texts_through());
     return 0;
 }

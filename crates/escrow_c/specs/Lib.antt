@@ -1,3 +1,4 @@
 pub mod Status
 pub mod Numbers
 pub mod Asking
+pub mod Texts

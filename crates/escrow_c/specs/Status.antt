@@ -65,6 +65,18 @@ no_field = 13
 abbrev pub past_end : ℕ
 past_end = 14
 
+-- The script is longer than a run reads.
+abbrev pub too_long : ℕ
+too_long = 15
+
+-- A line of the trace is no entry.
+abbrev pub bad_entry : ℕ
+bad_entry = 16
+
+-- An entry of the trace breaks a rule.
+abbrev pub illegal : ℕ
+illegal = 17
+
 -- The status of a site that isn't opened.
 abbrev pub opening_status : OpeningFault → ℕ
 opening_status openings.NoMemory = no_memory

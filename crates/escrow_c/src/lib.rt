@@ -7,12 +7,16 @@ ghost use Rattle.entry_text.specs.Lines.{max_line};
 ghost use Rattle.escrow_c.specs.Status.{done, closed, no_room};
 ghost use Rattle.escrow_c.specs.Numbers.{command_of};
 ghost use Rattle.escrow_c.specs.Asking.{IsOpened, FailsToOpen, Asks, FailsToAsk, DoesLine, TellsLine, FailsAt, Copies, FailsToCopy, HasLength, LiesBetween, HasNoInterval, HasShare, HasNoShare};
+ghost use Rattle.escrow_c.specs.Texts.{AnswersScript, NeedsRoom, IsUnanswered, Judges};
 
 mod answer;
 mod ask;
 mod calls;
+mod judging;
 mod laws;
+mod script;
 mod status;
+mod trace;
 
 use answer::Answer;
 use ask::{Ask, command_of};
@@ -20,7 +24,9 @@ use calls::{
     ask_session, bad_line, copy_log, do_line, look_between, look_share, open_boxed, tell_line,
 };
 use entry_text::MAX_LINE;
+use judging::judge_trace;
 pub use laws::{commands_have_numbers, numbers_tell_replies};
+use script::{answers_to, fill, script_status};
 use site_handle::Handle;
 use status::{CLOSED, DONE, IS_OPEN, NO_COMMAND, NO_ROOM, opening_status};
 use std::alloc::Global;
@@ -258,4 +264,40 @@ pub extern "C" fn escrow_site_share(
     let status = look_share(&held, field, lower, raise);
     handle.put(alloc, held);
     status
+}
+
+/// Runs a script in a world of its own, as `escrow run` does, and writes what answers it to `out`.
+/// `needed` is how many bytes the answers have, also where there is too little room for them, which
+/// is `NO_ROOM`; else it is 0. Nothing is kept between calls.
+#[unsafe(no_mangle)]
+pub extern "C" fn escrow_run_text(
+    alloc: Global,
+    script: &[u8],
+    out: &mut [u8],
+    needed: &mut usize,
+) -> u32
+    ensures done { result ≡ done → AnswersScript script.now (take needed.new out.new) }
+    ensures room { result ≡ no_room → NeedsRoom script.now (length out.old) needed.new }
+    ensures fails { result ≢ done → result ≢ no_room → IsUnanswered script.now result }
+    ensures none { result ≢ done → result ≢ no_room → needed.new ≡ 0 }
+    ensures untouched { result ≢ done → out.new ≡ out.old }
+{
+    *needed = 0;
+    match answers_to(alloc, script) {
+        Ok(answers) => fill(answers.as_slice(), out, needed),
+        Err(fault) => script_status(fault),
+    }
+}
+
+/// Judges a trace under a header: entries as text, a line for each, of all sites. `DONE`: they are a
+/// run of one central store, in which each reply was owed. `ILLEGAL`: entry `at`, counted from 1, is
+/// the first that breaks a rule. `BAD_ENTRY`: line `at` is the first that is no entry. Else `at` is
+/// 0.
+#[unsafe(no_mangle)]
+pub extern "C" fn escrow_judge(alloc: Global, header: &[u8], trace: &[u8], at: &mut u64) -> u32
+    ensures { Judges header.now trace.now result at.new }
+{
+    let judgement = judge_trace(alloc, header, trace);
+    *at = judgement.at;
+    judgement.status
 }

@@ -36,6 +36,13 @@ pub const NO_FIELD: u32 = 13;
 /// The log has fewer bytes than that.
 pub const PAST_END: u32 = 14;
 
+/// The script is longer than a run reads.
+pub const TOO_LONG: u32 = 15;
+/// A line of the trace is no entry.
+pub const BAD_ENTRY: u32 = 16;
+/// An entry of the trace breaks a rule.
+pub const ILLEGAL: u32 = 17;
+
 /// The status of a site that isn't opened.
 pub fn opening_status(fault: OpeningFault) -> u32
     ensures { result ≡ opening_status fault }

@@ -1,0 +1,54 @@
+//! The entries of a trace as text.
+
+ghost use Rattle.std.specs.Prelude.{◌≡◌, ◌≢◌, ◌++◌, ◌∷◌, All, MatchOption, IfOk, IfErr};
+ghost use Rattle.escrow_c.specs.Texts.{lines_text, TellsBadLine};
+
+use entry_text::read_entry;
+use field_bounds::{Entry, Schema};
+use memchr::memchr;
+use std::alloc::Global;
+
+/// Why a text isn't read as entries.
+#[derive(Clone, Copy, Debug)]
+pub(crate) enum TraceFault {
+    /// Memory is wanting.
+    NoMemory,
+    /// This line, counted from 1, is the first that is no entry.
+    BadEntry(u64),
+}
+
+// The bytes before the first LF, and those after it, or None where there is no LF.
+fn split_line(bytes: &[u8]) -> Option<(&[u8], &[u8])>
+    ensures parts { MatchOption result (All (λ b. b ≢ 10) bytes.now)
+        (λ parts. bytes.now ≡ parts.0.now ++ 10 ∷ parts.1.now) }
+{
+    let at = memchr(b'\n', bytes)?;
+    Some((&bytes[..at], &bytes[at + 1..]))
+}
+
+/// The entries of which a text is the lines.
+pub(crate) fn entries_of(
+    alloc: Global,
+    schema: &Schema,
+    text: &[u8],
+) -> Result<Vec<Entry>, TraceFault>
+    ensures ok { IfOk result (λ entries. text.now ≡ lines_text schema.now entries.items) }
+    ensures err { IfErr result (TellsBadLine schema.now text.now) }
+{
+    let mut entries = Vec::new(alloc);
+    let mut rest = text;
+    'lines: while let Some((line, behind)) = split_line(rest) {
+        let Some(entry) = read_entry(schema, line) else {
+            return Err(TraceFault::BadEntry(entries.len() as u64 + 1));
+        };
+        if entries.push(entry).is_err() {
+            return Err(TraceFault::NoMemory);
+        }
+        rest = behind;
+    }
+    if rest.is_empty() {
+        Ok(entries)
+    } else {
+        Err(TraceFault::BadEntry(entries.len() as u64 + 1))
+    }
+}
