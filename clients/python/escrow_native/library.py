@@ -1,0 +1,67 @@
+"""The calls of include/escrow.h, by ctypes."""
+
+from __future__ import annotations
+
+import ctypes
+import os
+from ctypes import POINTER, c_bool, c_char_p, c_int64, c_size_t, c_uint16, c_uint32, c_uint64, c_void_p
+from pathlib import Path
+
+TEXT = 256
+"""The most bytes of an entry's text."""
+
+STATUS = (
+    "done", "out of memory", "the site is closed", "the site is open already", "the header tells no schema",
+    "the schema has no such site", "a line of the log is no record of this site", "no line", "no command",
+    "a command of another site", "no room", "carried out, and not told", "the site is down", "no such field",
+    "the log has fewer bytes",
+)  # fmt: skip
+
+
+class Handle(ctypes.Structure):
+    """A handle to a site, or to none."""
+
+    _fields_ = [("at", c_void_p), ("full", c_bool)]
+
+
+class Ask(ctypes.Structure):
+    """A command in numbers."""
+
+    _fields_ = [
+        ("kind", c_uint32), ("right", c_uint32), ("epoch", c_uint32), ("number", c_uint32), ("field", c_uint16),
+        ("from_", c_uint16), ("to", c_uint16), ("amount", c_uint64), ("change", c_int64),
+    ]  # fmt: skip
+
+
+class Answer(ctypes.Structure):
+    """A reply in numbers."""
+
+    _fields_ = [
+        ("kind", c_uint32), ("code", c_uint32), ("first", c_uint64), ("second", c_uint64), ("low", c_int64),
+        ("high", c_int64),
+    ]  # fmt: skip
+
+
+_SITE = POINTER(Handle)
+_CALLS = {
+    "escrow_site_open": [_SITE, c_char_p, c_size_t, c_uint16, c_char_p, c_size_t, POINTER(c_size_t), POINTER(c_uint64)],
+    "escrow_site_close": [_SITE],
+    "escrow_site_ask": [_SITE, POINTER(Ask), POINTER(Answer)],
+    "escrow_site_do": [_SITE, c_char_p, c_size_t, POINTER(Answer)],
+    "escrow_site_tell": [_SITE, c_char_p, c_size_t, c_char_p, c_size_t, POINTER(c_size_t)],
+    "escrow_site_log_length": [_SITE, POINTER(c_size_t)],
+    "escrow_site_log": [_SITE, c_size_t, c_char_p, c_size_t, POINTER(c_size_t)],
+    "escrow_site_interval": [_SITE, c_uint16, POINTER(c_int64), POINTER(c_int64)],
+    "escrow_site_share": [_SITE, c_uint16, POINTER(c_uint64), POINTER(c_uint64)],
+}
+
+
+def load() -> ctypes.CDLL:
+    """The library. `OSError` where it isn't there."""
+    top = Path(__file__).resolve().parents[3]
+    path = os.environ.get("ESCROW_LIBRARY") or top / "crates" / "escrow_c" / "out" / "libescrow_c.so"
+    library = ctypes.CDLL(str(path))
+    for name, words in _CALLS.items():
+        call = getattr(library, name)
+        call.argtypes, call.restype = words, c_uint32
+    return library
