@@ -1,37 +1,72 @@
 -- What the calls of a session do.
-use Rattle.std.proofs.Common.{◌≡◌, ℕ, List, [], Some, sym, ap, ◌∙◌, subst}
+use Rattle.std.proofs.Common.{◌≡◌, ℕ, List, [], Option, Some, None, refl, sym, ap, ◌∙◌, subst}
 use Rattle.field_bounds.specs.Schema.{SchemaValue}
 use Rattle.field_bounds.specs.declared.id.SiteNo.{SiteNo}
 use Rattle.field_bounds.specs.declared.entry.Command.{Command}
 use Rattle.field_bounds.specs.declared.entry.Reply.{Reply}
-use Rattle.entry_text.specs.Spelling.{entry_text}
-use Rattle.site_step.specs.Site.{SiteValue, Applies, Opens, entry_of}
+use Rattle.field_bounds.specs.declared.entry.Reply.TheVariants.{Begun, Granted, Committed, Aborted, Given, Stated, Spared, Tightened, Accepted, Between, Shares, Restarted, Unsure, StillDown, Refused}
+use Rattle.field_bounds.specs.declared.entry.Last.{Last}
+use Rattle.field_bounds.specs.declared.entry.Last.TheVariants.{Nothing}
+use Rattle.kept_records.specs.declared.record.Record.{Record}
+use Rattle.kept_state.specs.Doubt.{found_of}
+use Rattle.site_step.specs.Calls.{IsSure}
+use Rattle.site_step.specs.Site.{SiteValue, Applies, Opens, Logs, RestartsOver, doubt_from}
+use Rattle.site_step.proofs.Lasting.{call_is_sure}
 use Rattle.site_step.specs.Opening.{TellsLine, IsFirstBad}
 use Rattle.site_step.specs.declared.site.opening.OpenFault.{OpenFault}
 use Rattle.site_step.specs.declared.site.opening.OpenFault.TheVariants.{Line}
 use Rattle.kept_records.specs.declared.medium.Mishap.TheVariants.{Never}
 use Rattle.script_input.specs.Lines.{last_part}
-use Rattle.site_service.specs.Service.{Grows}
 use Rattle.site_service.proofs.Whole.{grows_by, whole_opened}
 use Rattle.site_handle.specs.Session.{IsSoundSession, Answers}
 
--- a session whose site went on
-pub sound_by : (schema : SchemaValue) (before later : SiteValue) → IsSoundSession schema before → Grows before later
-    → IsSoundSession schema later
-sound_by schema before later sound grows = record { own = sound.own ∙ sym grows.schema; whole = grows.whole }
+-- what is in doubt behind an answer that isn't
+clear_after : (reply : Reply) (rs : List Record) (doubt : Option ℕ) → IsSure reply → doubt ≡ None → doubt_from reply rs doubt ≡ None
+clear_after Unsure rs doubt sure is = absurd (sure.0 refl)
+clear_after StillDown rs doubt sure is = absurd (sure.1 refl)
+clear_after (Restarted epoch found) rs doubt sure is = refl
+clear_after (Refused refusal) rs doubt sure is = is
+clear_after (Begun txn) rs doubt sure is = is
+clear_after Granted rs doubt sure is = is
+clear_after Committed rs doubt sure is = is
+clear_after Aborted rs doubt sure is = is
+clear_after (Given total) rs doubt sure is = is
+clear_after (Stated total) rs doubt sure is = is
+clear_after (Spared amount total) rs doubt sure is = is
+clear_after (Tightened total) rs doubt sure is = is
+clear_after (Accepted gain) rs doubt sure is = is
+clear_after (Between lo hi) rs doubt sure is = is
+clear_after (Shares lower raise) rs doubt sure is = is
 
-pub answers_by : (schema : SchemaValue) (before later : SiteValue) (command : Command) (reply : Reply) → IsSoundSession schema before
-    → Applies before command reply later → Answers before command reply later
-answers_by schema before later command reply sound applies =
-    record { applies = applies; grows = grows_by before later command reply applies sound.whole }
+-- what a restart finds where nothing is in doubt
+nothing_found : (reply : Reply) (rs : List Record) (doubt : Option ℕ) (rest : List ℕ) → doubt ≡ None → RestartsOver reply rs doubt rest
+    → (epoch : ℕ) (found : Last) → reply ≡ Restarted epoch found → found ≡ Nothing
+nothing_found reply rs doubt rest clear over epoch found is =
+    (subst (λ (r : Reply). RestartsOver r rs doubt rest) is over).1 ∙ ap (λ (d : Option ℕ). found_of d rs) clear
 
--- the text of an entry, of a site that has gone on
-pub told_by : (before later : SiteValue) (command : Command) (reply : Reply) (text : List ℕ) → Applies before command reply later
-    → text ≡ entry_text later.schema (entry_of later command reply) → text ≡ entry_text before.schema (entry_of before command reply)
-told_by before later command reply text applies told =
-    let spelled : SchemaValue → SiteNo → List ℕ =
-    λ (s : SchemaValue) (n : SiteNo). entry_text s (record { site = n; command = command; reply = reply }) in
-    told ∙ ap (λ (s : SchemaValue). spelled s later.site) applies.same.schema ∙ ap (λ (n : SiteNo). spelled before.schema n) applies.same.site
+module _ (schema : SchemaValue) (before later : SiteValue) (command : Command) (reply : Reply) (sound : IsSoundSession schema before)
+    (applies : Applies before command reply later) where
+  sure : IsSure reply
+  sure = call_is_sure before later sound.whole.records [] command reply sound.whole.log sound.whole.never applies
+
+  logs : Logs before command reply later sound.whole.records
+  logs = applies.logs sound.whole.records [] sound.whole.log
+
+  pub answers_by : Answers before command reply later
+  answers_by = record {
+    applies = applies;
+    grows = grows_by before later command reply applies sound.whole;
+    sure = sure;
+    nothing = nothing_found reply sound.whole.records before.doubt logs.rest sound.clear logs.restarts;
+  }
+
+  -- a session whose site went on
+  pub sound_by : IsSoundSession schema later
+  sound_by = record {
+    own = sound.own ∙ sym applies.same.schema;
+    whole = answers_by.grows.whole;
+    clear = logs.doubt ∙ clear_after reply sound.whole.records before.doubt sure sound.clear;
+  }
 
 -- a session over whole lines, of a copy of the schema and of the bytes
 pub opened_by : (schema own : SchemaValue) (number : SiteNo) (lines bytes : List ℕ) (site : SiteValue) → own ≡ schema → bytes ≡ lines
@@ -39,7 +74,7 @@ pub opened_by : (schema own : SchemaValue) (number : SiteNo) (lines bytes : List
 opened_by schema own number lines bytes site same copied whole opens never =
     let here : Opens schema number lines 0 site = subst (λ (held : List ℕ). Opens schema number held 0 site) copied
     (subst (λ (s : SchemaValue). Opens s number bytes 0 site) same opens) in
-    record { own = sym here.schema; whole = whole_opened schema number lines 0 site here whole never }
+    record { own = sym here.schema; whole = whole_opened schema number lines 0 site here whole never; clear = here.doubt }
 
 -- the first bad line, by copies
 pub bad_by : (schema own : SchemaValue) (s : ℕ) (lines bytes : List ℕ) (fault : OpenFault) (n : ℕ) → own ≡ schema → bytes ≡ lines

@@ -1,12 +1,16 @@
 -- A site that is held for a host, and what its calls do (this project).
-use Rattle.std.specs.Prelude.{◌≡◌, ◌≤◌, ℕ, List, take, drop, length, Ok, Err}
+use Rattle.std.specs.Prelude.{◌≡◌, ◌≤◌, ℕ, List, take, drop, length, None, Ok, Err}
 use Rattle.field_bounds.specs.Schema.{SchemaValue}
 use Rattle.field_bounds.specs.Header.{schema_of}
 use Rattle.field_bounds.specs.declared.fault.SchemaFault.{SchemaFault}
 use Rattle.field_bounds.specs.declared.entry.Command.{Command}
 use Rattle.field_bounds.specs.declared.entry.Reply.{Reply}
+use Rattle.field_bounds.specs.declared.entry.Reply.TheVariants.{Restarted}
+use Rattle.field_bounds.specs.declared.entry.Last.{Last}
+use Rattle.field_bounds.specs.declared.entry.Last.TheVariants.{Nothing}
 use Rattle.entry_text.specs.Spelling.{entry_text}
 use Rattle.site_step.specs.Site.{SiteValue, Applies, Opens, entry_of}
+use Rattle.site_step.specs.Calls.{IsSure}
 use Rattle.site_step.specs.Opening.{IsFirstBad}
 use Rattle.site_service.specs.Answers.{Asks}
 use Rattle.site_service.specs.Opening.{AreLines}
@@ -17,10 +21,11 @@ use Rattle.site_handle.specs.declared.fault.OpeningFault.TheVariants as openings
 use Rattle.site_handle.specs.declared.fault.CallFault.{CallFault}
 use Rattle.site_handle.specs.declared.fault.CallFault.TheVariants as calls
 
--- What holds of every session: its schema is the site's, and the log is whole lines.
+-- What holds of every session: its schema is the site's, the log is whole lines, and no answer is in doubt.
 pub record IsSoundSession (schema : SchemaValue) (v : SiteValue) : Type 0 where
   pub own : schema ≡ v.schema
   pub whole : IsWhole v
+  pub clear : v.doubt ≡ None
 
 -- ---- opening
 
@@ -76,10 +81,13 @@ TellsBadLine schema number lines openings.NoSite = ⊥
 
 -- ---- asking
 
--- The site answered a command by one step, and its log has only grown at its end.
+-- The site answered a command by one step, and its log has only grown at its end. The answer isn't in doubt, no restart fails, and one
+-- that goes well finds nothing in doubt.
 pub record Answers (before : SiteValue) (command : Command) (reply : Reply) (later : SiteValue) : Type 0 where
   pub applies : Applies before command reply later
   pub grows : Grows before later
+  pub sure : IsSure reply
+  pub nothing : (epoch : ℕ) (found : Last) → reply ≡ Restarted epoch found → found ≡ Nothing
 
 -- The site carried out the command that a line asks of it, and answered with this reply.
 pub record Does (before : SiteValue) (line : List ℕ) (reply : Reply) (later : SiteValue) : Type 0 where
