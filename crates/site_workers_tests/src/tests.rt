@@ -10,8 +10,9 @@ use kept_records::MemoryMedium;
 use site_desk::{Blank, Desk, FreeGate, Gate, Receipt};
 use site_workers::inbox::{admit, hire, open_inbox, put};
 use site_workers::{Inbox, Letter, Way, WorkFault, carry, run_workers, scripts_fit};
-use std::alloc::{AllocError, Global};
+use std::alloc::Global;
 use std::marker::Brand;
+use std::process::Abort;
 use std::sync::Wait;
 use std::sync::atomic::{AtomicU64, Ordering};
 use std::sync::ledger::Ledger;
@@ -32,86 +33,112 @@ fn gift(to: u16) -> Command {
 }
 
 /// A script of so many such gifts.
-fn gifts(alloc: Global, to: u16, count: usize) -> Result<Vec<Command>, AllocError> {
-    vec![in alloc; gift(to); count]
+fn gifts(rt: &impl Abort, alloc: Global, to: u16, count: usize) -> Vec<Command> {
+    vec![in alloc; gift(to); count].expect(rt, "memory")
 }
 
-fn begin(alloc: Global) -> Result<Vec<Command>, AllocError> {
-    Ok(vec![in alloc; Command::Begin]?)
+/// A script of this one command.
+fn only(rt: &impl Abort, alloc: Global, command: Command) -> Vec<Command> {
+    vec![in alloc; command; 1].expect(rt, "memory")
 }
 
-/// What a run gives where memory is ample and the scripts fit.
-fn run<R: Threads + Wait + Sync, G: Gate>(
+/// The two sites.
+fn two(rt: &impl Abort, alloc: Global) -> Schema {
+    stock_of_two(alloc).expect(rt, "memory")
+}
+
+/// How a run of these scripts ends, which fit.
+fn run<R: Abort + Threads + Wait + Sync, G: Gate>(
     rt: &R,
     alloc: Global,
-    schema: Option<Schema>,
+    schema: &Schema,
     scripts: Vec<Vec<Command>>,
     gate: &G,
-) -> Option<Result<Vec<Vec<Entry>>, WorkFault>> {
-    let schema = schema?;
-    if !scripts_fit(&schema, scripts.as_slice()) {
-        return None;
-    }
-    Some(run_workers(rt, alloc, &schema, scripts, gate))
+) -> Result<Vec<Vec<Entry>>, WorkFault> {
+    assert!(rt; scripts_fit(schema, scripts.as_slice()));
+    run_workers(rt, alloc, schema, scripts, gate)
 }
 
-/// Whether a run gave so many histories of so many entries.
-fn gives(answer: Option<Result<Vec<Vec<Entry>>, WorkFault>>, sites: usize, entries: usize) -> bool {
-    match answer {
-        Some(Ok(histories)) => {
-            histories.len() == sites && histories.iter().all(|history| history.len() == entries)
-        }
+/// The same of a script for each of two sites.
+fn run_two<R: Abort + Threads + Wait + Sync, G: Gate>(
+    rt: &R,
+    alloc: Global,
+    zero: Vec<Command>,
+    one: Vec<Command>,
+    gate: &G,
+) -> Result<Vec<Vec<Entry>>, WorkFault> {
+    let schema = two(rt, alloc);
+    let scripts = Vec::from_array(alloc, [zero, one]).expect(rt, "memory");
+    run(rt, alloc, &schema, scripts, gate)
+}
+
+/// Whether there are so many histories of so many entries.
+fn are_long(histories: &[Vec<Entry>], sites: usize, entries: usize) -> bool {
+    histories.len() == sites && histories.iter().all(|history| history.len() == entries)
+}
+
+/// Two sites whose run of these scripts ends well have histories of so many entries.
+fn assert_two<R: Abort + Threads + Wait + Sync, G: Gate>(
+    rt: &R,
+    alloc: Global,
+    zero: Vec<Command>,
+    one: Vec<Command>,
+    gate: &G,
+    entries: usize,
+) {
+    let histories = run_two(rt, alloc, zero, one, gate).expect(rt, "a run");
+    assert!(rt; are_long(&histories, 2, entries));
+}
+
+const GIVEN: Entry = entry!(0 give 1 stock lower 5 -> given 5);
+
+const ACCEPTED: Entry = entry!(1 accept 0 1 stock lower 5 -> accepted 5);
+
+/// Whether site 0 gave and site 1 accepted, and nothing else was done.
+fn are_told(histories: &[Vec<Entry>]) -> bool {
+    match histories {
+        [zero, one] => zero.as_slice() == [GIVEN].as_slice()
+            && one.as_slice() == [ACCEPTED].as_slice(),
         _ => false,
     }
 }
 
 #[test]
-fn a_gift_comes_to_its_receiver(rt: HostRuntime) -> Result<(), AllocError> {
+fn a_gift_comes_to_its_receiver(rt: HostRuntime) {
     let alloc = rt.alloc();
-    let given = entry!(0 give 1 stock lower 5 -> given 5);
-    let accepted = entry!(1 accept 0 1 stock lower 5 -> accepted 5);
-    let scripts = vec![in alloc; vec![in alloc; given.command]?, Vec::new(alloc)]?;
-    let answer = run(&rt, alloc, stock_of_two(alloc), scripts, &FreeGate);
-    let as_told = match answer {
-        Some(Ok(histories)) => match histories.as_slice() {
-            [zero, one] => zero.as_slice() == [given].as_slice()
-                && one.as_slice() == [accepted].as_slice(),
-            _ => false,
-        },
-        _ => false,
-    };
-    assert!(&rt; as_told);
-    Ok(())
+    let zero = only(&rt, alloc, GIVEN.command);
+    let histories = run_two(&rt, alloc, zero, Vec::new(alloc), &FreeGate).expect(&rt, "a run");
+    assert!(&rt; are_told(&histories));
 }
 
 /// What site 0 states when it has given 5 rights to lower to site 1.
 const FIVE: Statement = statement!(0 1 stock lower 5);
 
 #[test]
-fn gifts_go_both_ways(rt: HostRuntime) -> Result<(), AllocError> {
+fn gifts_go_both_ways(rt: HostRuntime) {
     let alloc = rt.alloc();
-    let scripts = vec![in alloc; gifts(alloc, 1, 10)?, gifts(alloc, 0, 10)?]?;
-    let answer = run(&rt, alloc, stock_of_two(alloc), scripts, &FreeGate);
-    assert!(&rt; gives(answer, 2, 20));
-    Ok(())
+    let zero = gifts(&rt, alloc, 1, 10);
+    let one = gifts(&rt, alloc, 0, 10);
+    assert_two(&rt, alloc, zero, one, &FreeGate, 20);
+}
+
+/// A script for each of sixteen sites, which gives to the next one.
+fn ring(rt: &impl Abort, alloc: Global) -> Vec<Vec<Command>> {
+    let mut scripts = Vec::new(alloc);
+    for site in 0..16u16 {
+        let script = gifts(rt, alloc, (site + 1) % 16, 200);
+        scripts.push(script).expect(rt, "memory");
+    }
+    scripts
 }
 
 #[test]
-fn sixteen_sites_give_in_a_ring(rt: HostRuntime) -> Result<(), AllocError> {
+fn sixteen_sites_give_in_a_ring(rt: HostRuntime) {
     let alloc = rt.alloc();
-    let mut scripts = Vec::new(alloc);
-    for site in 0..16u16 {
-        scripts.push(gifts(alloc, (site + 1) % 16, 200)?)?;
-    }
-    let answer = run(
-        &rt,
-        alloc,
-        schema_of(alloc, STOCK_OF_SIXTEEN),
-        scripts,
-        &FreeGate,
-    );
-    assert!(&rt; gives(answer, 16, 400));
-    Ok(())
+    let schema = schema_of(alloc, STOCK_OF_SIXTEEN).expect(&rt, "a schema");
+    let scripts = ring(&rt, alloc);
+    let histories = run(&rt, alloc, &schema, scripts, &FreeGate).expect(&rt, "a run");
+    assert!(&rt; are_long(&histories, 16, 400));
 }
 
 /// A gate at which the first calls of two sites meet.
@@ -128,14 +155,17 @@ impl Gate for Both {
     fn answered(&self, _site: SiteNo, _call: u64) {}
 }
 
+/// Two sites each answer a begin at this gate.
+fn assert_two_begin<R: Abort + Threads + Wait + Sync, G: Gate>(rt: &R, alloc: Global, gate: &G) {
+    let zero = only(rt, alloc, Command::Begin);
+    let one = only(rt, alloc, Command::Begin);
+    assert_two(rt, alloc, zero, one, gate, 1);
+}
+
 #[test]
-fn two_sites_work_at_the_same_time(rt: HostRuntime) -> Result<(), AllocError> {
-    let alloc = rt.alloc();
-    let scripts = vec![in alloc; begin(alloc)?, begin(alloc)?]?;
+fn two_sites_work_at_the_same_time(rt: HostRuntime) {
     let gate = Both(Meeting::new());
-    let answer = run(&rt, alloc, stock_of_two(alloc), scripts, &gate);
-    assert!(&rt; gives(answer, 2, 1));
-    Ok(())
+    assert_two_begin(&rt, rt.alloc(), &gate);
 }
 
 /// A gate whose first call at site 0 waits until site 1's first call was answered, as long as it takes
@@ -160,15 +190,11 @@ impl Gate for After {
 }
 
 #[test]
-fn one_site_waits_for_another(rt: HostRuntime) -> Result<(), AllocError> {
-    let alloc = rt.alloc();
-    let scripts = vec![in alloc; begin(alloc)?, begin(alloc)?]?;
+fn one_site_waits_for_another(rt: HostRuntime) {
     let gate = After {
         answered: AtomicU64::new(0),
     };
-    let answer = run(&rt, alloc, stock_of_two(alloc), scripts, &gate);
-    assert!(&rt; gives(answer, 2, 1));
-    Ok(())
+    assert_two_begin(&rt, rt.alloc(), &gate);
 }
 
 /// A gate that turns site 0's third call away.
@@ -185,63 +211,68 @@ impl Gate for Third {
 }
 
 #[test]
-fn a_worker_that_is_turned_away_ends_the_run(rt: HostRuntime) -> Result<(), AllocError> {
+fn a_worker_that_is_turned_away_ends_the_run(rt: HostRuntime) {
     let alloc = rt.alloc();
-    let scripts = vec![in alloc; gifts(alloc, 1, 10)?, gifts(alloc, 0, 10)?]?;
-    let answer = run(&rt, alloc, stock_of_two(alloc), scripts, &Third);
-    let turned = match answer {
-        Some(Err(fault)) => fault == WorkFault::GateTurns,
-        _ => false,
-    };
-    assert!(&rt; turned);
-    Ok(())
+    let zero = gifts(&rt, alloc, 1, 10);
+    let one = gifts(&rt, alloc, 0, 10);
+    let fault = run_two(&rt, alloc, zero, one, &Third).err();
+    assert_eq!(&rt; fault, Some(WorkFault::GateTurns));
+}
+
+/// Whether gifts at site 0 and so many scripts of a begin fit.
+fn fits_with(rt: &impl Abort, alloc: Global, schema: &Schema, begins: u64) -> bool {
+    let mut scripts = Vec::new(alloc);
+    let script = gifts(rt, alloc, 1, 10);
+    scripts.push(script).expect(rt, "memory");
+    for _ in 0..begins {
+        let script = only(rt, alloc, Command::Begin);
+        scripts.push(script).expect(rt, "memory");
+    }
+    scripts_fit(schema, scripts.as_slice())
+}
+
+/// Whether a begin at site 0 and at site 1 a begin and an accept fit.
+fn fits_with_accept(rt: &impl Abort, alloc: Global, schema: &Schema) -> bool {
+    let zero = only(rt, alloc, Command::Begin);
+    let accepts = [Command::Begin, Command::Accept(FIVE)];
+    let one = Vec::from_array(alloc, accepts).expect(rt, "memory");
+    let scripts = Vec::from_array(alloc, [zero, one]).expect(rt, "memory");
+    scripts_fit(schema, scripts.as_slice())
 }
 
 #[test]
-fn which_scripts_fit(rt: HostRuntime) -> Result<(), AllocError> {
+fn which_scripts_fit(rt: HostRuntime) {
     let alloc = rt.alloc();
-    let schema = stock_of_two(alloc);
-    assert!(&rt; schema.is_some());
-    let schema = schema.unwrap();
-    let mut scripts = vec![in alloc; gifts(alloc, 1, 10)?]?;
-    assert!(&rt; !scripts_fit(&schema, scripts.as_slice()));
-    scripts.push(begin(alloc)?)?;
-    assert!(&rt; scripts_fit(&schema, scripts.as_slice()));
-    scripts.push(begin(alloc)?)?;
-    assert!(&rt; !scripts_fit(&schema, scripts.as_slice()));
-    let accepts = vec![in alloc; Command::Begin, Command::Accept(FIVE)]?;
-    let scripts = vec![in alloc; begin(alloc)?, accepts]?;
-    assert!(&rt; !scripts_fit(&schema, scripts.as_slice()));
-    Ok(())
+    let schema = two(&rt, alloc);
+    let fit = [
+        fits_with(&rt, alloc, &schema, 0),
+        fits_with(&rt, alloc, &schema, 1),
+        fits_with(&rt, alloc, &schema, 2),
+        fits_with_accept(&rt, alloc, &schema),
+    ];
+    assert_eq!(&rt; fit, [false, true, false, false]);
 }
 
 /// What a courier of site 1 of two makes of its mail.
-fn carried<L: Ledger, R: Wait>(
+fn carried<L: Ledger, R: Abort + Wait>(
     rt: &R,
     alloc: Global,
     blank: Blank,
     mail: Mail,
-) -> Option<Result<Vec<Receipt>, WorkFault>>
+) -> Result<Vec<Receipt>, WorkFault>
     requires name { blank.name ≡ L.name }
     requires parts { blank.parts ≡ L.parts }
     requires some { 0 < blank.parts }
 {
-    let schema = stock_of_two(alloc)?;
-    if schema.sites() < 2 {
-        return None;
-    }
+    let schema = two(rt, alloc);
+    assert!(rt; schema.sites() == 2);
     let medium = MemoryMedium::new(Vec::new(alloc));
-    let (desk, mut passes) = Desk::<L, MemoryMedium>::new(
-        alloc,
-        blank,
-        &schema,
-        SiteNo(1),
-        medium,
-    ).ok()?;
-    let mut pass = passes.pop()?;
+    let opened = Desk::<L, MemoryMedium>::new(alloc, blank, &schema, SiteNo(1), medium);
+    let (desk, mut passes) = opened.expect(rt, "a desk");
+    let mut pass = passes.pop().expect(rt, "a pass");
     let Mail { inbox, way } = mail;
     let mut way = way;
-    Some(carry(rt, alloc, &inbox, &mut way, &schema, &desk, &mut pass))
+    carry(rt, alloc, &inbox, &mut way, &schema, &desk, &mut pass)
 }
 
 /// A courier's end of its inbox.
@@ -267,33 +298,27 @@ fn mail_of_one<R: Wait>(rt: &R, alloc: Global, both: bool) -> Option<Mail> {
     Some(Mail { inbox, way })
 }
 
+/// Whether there is one receipt, of an accept of 5 rights.
+fn is_accepted(receipts: &[Receipt]) -> bool {
+    match receipts {
+        [receipt] => receipt.entry().reply == reply!(accepted 5),
+        _ => false,
+    }
+}
+
 #[test]
 fn a_courier_accepts_what_is_stated(rt: HostRuntime) {
     let alloc = rt.alloc();
-    let mail = mail_of_one(&rt, alloc, true);
-    assert!(&rt; mail.is_some());
-    let answer = carried::<Brand, _>(&rt, alloc, Blank::new(1), mail.unwrap());
-    let accepted = match answer {
-        Some(Ok(receipts)) => {
-            receipts.len() == 1
-                && receipts
-                    .get(0)
-                    .is_some_and(|receipt| { receipt.entry().reply == reply!(accepted 5) })
-        }
-        _ => false,
-    };
-    assert!(&rt; accepted);
+    let mail = mail_of_one(&rt, alloc, true).expect(&rt, "mail");
+    let answer = carried::<Brand, _>(&rt, alloc, Blank::new(1), mail);
+    let receipts = answer.expect(&rt, "receipts");
+    assert!(&rt; is_accepted(&receipts));
 }
 
 #[test]
 fn a_courier_whose_inbox_is_closed_early_tells_it(rt: HostRuntime) {
     let alloc = rt.alloc();
-    let mail = mail_of_one(&rt, alloc, false);
-    assert!(&rt; mail.is_some());
-    let answer = carried::<Brand, _>(&rt, alloc, Blank::new(1), mail.unwrap());
-    let lost = match answer {
-        Some(Err(fault)) => fault == WorkFault::Lost { site: SiteNo(1) },
-        _ => false,
-    };
-    assert!(&rt; lost);
+    let mail = mail_of_one(&rt, alloc, false).expect(&rt, "mail");
+    let fault = carried::<Brand, _>(&rt, alloc, Blank::new(1), mail).err();
+    assert_eq!(&rt; fault, Some(WorkFault::Lost { site: SiteNo(1) }));
 }
