@@ -1,42 +1,56 @@
-use check_kit::{FIRST, STOCK, STOCK_OF_TWO};
+use check_kit::{FIRST, STOCK, STOCK_OF_TWO, schema_of};
 use entry_text::*;
 use field_bounds::{
     Command, Entry, FieldNo, Kind, Last, Refusal, Reply, Schema, SiteNo, Statement, TxnId,
 };
 use std::alloc::{AllocError, Global};
 use std::process::Abort;
-use std::test::Fail;
 
-fn stock(rt: &impl Abort, alloc: Global) -> Result<Schema, Fail> {
-    let schema = Schema::from_header(alloc, STOCK_OF_TWO.as_bytes())?;
+/// The schema that the rows are read by.
+fn stock(rt: &impl Abort, alloc: Global) -> Schema {
+    let schema = schema_of(alloc, STOCK_OF_TWO).expect(rt, "a schema");
     assert!(rt; schema.sites() == 2);
-    Ok(schema)
+    schema
 }
 
 /// The line is read as the command at the site, which is written as the line.
 fn is_command(alloc: Global, schema: &Schema, line: &str, site: u16, command: Command) -> bool {
     let site = SiteNo(site);
-    if read_command(schema, line.as_bytes()) != Some((site, command)) {
-        return false;
-    }
-    match write_command(alloc, schema, site, command) {
+    read_command(schema, line.as_bytes()) == Some((site, command))
+        && is_text(write_command(alloc, schema, site, command), line)
+}
+
+/// Whether this was written.
+fn is_text(written: Result<String, AllocError>, line: &str) -> bool {
+    match written {
         Ok(text) => text.as_str() == line,
         Err(_) => false,
     }
 }
 
 /// Each line is read as the command at the site, which is written as the line.
-fn assert_commands(rt: &impl Abort, alloc: Global, schema: &Schema, rows: &[(&str, u16, Command)]) {
+fn assert_commands(rt: &impl Abort, alloc: Global, rows: &[(&str, u16, Command)]) {
+    let schema = stock(rt, alloc);
     for (line, site, command) in rows {
-        assert!(rt; is_command(alloc, schema, *line, *site, *command), "{line}");
+        assert_row(
+            rt,
+            *line,
+            is_command(alloc, &schema, *line, *site, *command),
+        );
     }
 }
 
 /// None of the lines is a command's.
-fn assert_no_commands(rt: &impl Abort, schema: &Schema, lines: &[&str]) {
+fn assert_no_commands(rt: &impl Abort, alloc: Global, lines: &[&str]) {
+    let schema = stock(rt, alloc);
     for line in lines {
-        assert!(rt; read_command(schema, line.as_bytes()).is_none(), "{line}");
+        assert_row(rt, *line, read_command(&schema, line.as_bytes()).is_none());
     }
+}
+
+/// The row of this line is as told.
+fn assert_row(rt: &impl Abort, line: &str, as_told: bool) {
+    assert!(rt; as_told, "{line}");
 }
 
 /// The line is read as the entry of a begin at site 0 with the reply, which is written as the line.
@@ -46,16 +60,9 @@ fn is_reply(alloc: Global, schema: &Schema, line: &str, reply: Reply) -> bool {
         command: Command::Begin,
         reply,
     };
-    if read_entry(schema, line.as_bytes()) != Some(entry) {
-        return false;
-    }
-    if !is_appended(alloc, line, reply) {
-        return false;
-    }
-    match write_entry(alloc, schema, entry) {
-        Ok(text) => text.as_str() == line,
-        Err(_) => false,
-    }
+    read_entry(schema, line.as_bytes()) == Some(entry)
+        && is_appended(alloc, line, reply)
+        && is_text(write_entry(alloc, schema, entry), line)
 }
 
 /// Behind a begin at site 0 and an arrow, the reply makes the line.
@@ -68,19 +75,19 @@ fn is_appended(alloc: Global, line: &str, reply: Reply) -> bool {
 }
 
 /// Each line is read as the entry with the reply, which is written as the line.
-fn assert_replies(rt: &impl Abort, alloc: Global, schema: &Schema, rows: &[(&str, Reply)]) {
+fn assert_replies(rt: &impl Abort, alloc: Global, rows: &[(&str, Reply)]) {
+    let schema = stock(rt, alloc);
     for (line, reply) in rows {
-        assert!(rt; is_reply(alloc, schema, *line, *reply), "{line}");
+        assert_row(rt, *line, is_reply(alloc, &schema, *line, *reply));
     }
 }
 
 /// The same with refusals as the replies.
-fn assert_refusals(rt: &impl Abort, alloc: Global, schema: &Schema, rows: &[(&str, Refusal)]) {
+fn assert_refusals(rt: &impl Abort, alloc: Global, rows: &[(&str, Refusal)]) {
+    let schema = stock(rt, alloc);
     for (line, refusal) in rows {
-        assert!(rt;
-            is_reply(alloc, schema, *line, Reply::Refused(*refusal)),
-            "{line}"
-        );
+        let reply = Reply::Refused(*refusal);
+        assert_row(rt, *line, is_reply(alloc, &schema, *line, reply));
     }
 }
 
@@ -101,10 +108,8 @@ const COMMANDS: [(&str, u16, Command); 5] = [
 ];
 
 #[test]
-fn spells_commands(rt: HostRuntime) -> Result<(), Fail> {
-    let schema = stock(&rt, rt.alloc())?;
-    assert_commands(&rt, rt.alloc(), &schema, &COMMANDS);
-    Ok(())
+fn spells_commands(rt: HostRuntime) {
+    assert_commands(&rt, rt.alloc(), &COMMANDS);
 }
 
 const GIFTS: [(&str, u16, Command); 5] = [
@@ -160,10 +165,8 @@ const GIFTS: [(&str, u16, Command); 5] = [
 ];
 
 #[test]
-fn spells_gifts(rt: HostRuntime) -> Result<(), Fail> {
-    let schema = stock(&rt, rt.alloc())?;
-    assert_commands(&rt, rt.alloc(), &schema, &GIFTS);
-    Ok(())
+fn spells_gifts(rt: HostRuntime) {
+    assert_commands(&rt, rt.alloc(), &GIFTS);
 }
 
 /// A read and a share of each field.
@@ -189,10 +192,8 @@ const OF_FIELDS: [(&str, u16, Command); 6] = [
 ];
 
 #[test]
-fn spells_fields(rt: HostRuntime) -> Result<(), Fail> {
-    let schema = stock(&rt, rt.alloc())?;
-    assert_commands(&rt, rt.alloc(), &schema, &OF_FIELDS);
-    Ok(())
+fn spells_fields(rt: HostRuntime) {
+    assert_commands(&rt, rt.alloc(), &OF_FIELDS);
 }
 
 fn assert_fields(rt: &impl Abort, schema: &Schema) {
@@ -220,13 +221,12 @@ fn assert_numbers(rt: &impl Abort) {
 }
 
 #[test]
-fn reads_words(rt: HostRuntime) -> Result<(), Fail> {
-    let schema = stock(&rt, rt.alloc())?;
+fn reads_words(rt: HostRuntime) {
+    let schema = stock(&rt, rt.alloc());
     assert_fields(&rt, &schema);
     assert_kinds(&rt);
     assert_txns(&rt);
     assert_numbers(&rt);
-    Ok(())
 }
 
 /// Two sites, on one field with a name as long as a field's may be.
@@ -262,42 +262,35 @@ fn assert_longest_is_read(rt: &impl Abort, schema: &Schema) {
 }
 
 #[test]
-fn longest_entry_is_a_line(rt: HostRuntime) -> Result<(), Fail> {
+fn longest_entry_is_a_line(rt: HostRuntime) {
     texts_are_lines();
-    let schema = Schema::from_header(rt.alloc(), LONG_OF_TWO.as_bytes())?;
-    let text = write_entry(rt.alloc(), &schema, LONGEST_ENTRY)?;
-    assert_longest(&rt, &text);
+    let schema = schema_of(rt.alloc(), LONG_OF_TWO).expect(&rt, "a schema");
+    let text = write_entry(rt.alloc(), &schema, LONGEST_ENTRY).expect(&rt, "memory");
+    assert_longest(&rt, text.as_str());
     assert_longest_is_read(&rt, &schema);
-    Ok(())
 }
 
-#[test]
-fn refuses_other_commands(rt: HostRuntime) -> Result<(), Fail> {
-    let schema = stock(&rt, rt.alloc())?;
-    assert_no_commands(
-        &rt,
-        &schema,
-        &[
-            "",
-            "00 begin",
-            "0  begin",
-            "65536 begin",
-            "0 escrow 0.1 stock -0",
-            "0 escrow 0.01 stock 1",
-        ],
-    );
-    Ok(())
-}
+/// Lines that no command has.
+const NO_COMMANDS: [&str; 6] = [
+    "",
+    "00 begin",
+    "0  begin",
+    "65536 begin",
+    "0 escrow 0.1 stock -0",
+    "0 escrow 0.01 stock 1",
+];
 
 #[test]
-fn refuses_other_fields(rt: HostRuntime) -> Result<(), Fail> {
-    let schema = stock(&rt, rt.alloc())?;
-    assert_no_commands(
-        &rt,
-        &schema,
-        &["0 read #0", "0 read #65536", "0 read stock ", "0 read sock"],
-    );
-    Ok(())
+fn refuses_other_commands(rt: HostRuntime) {
+    assert_no_commands(&rt, rt.alloc(), &NO_COMMANDS);
+}
+
+/// Lines that no command has.
+const NO_FIELDS: [&str; 4] = ["0 read #0", "0 read #65536", "0 read stock ", "0 read sock"];
+
+#[test]
+fn refuses_other_fields(rt: HostRuntime) {
+    assert_no_commands(&rt, rt.alloc(), &NO_FIELDS);
 }
 
 const LATEST: TxnId = TxnId {
@@ -324,33 +317,28 @@ const REPLIES: [(&str, Reply); 6] = [
 ];
 
 #[test]
-fn spells_replies(rt: HostRuntime) -> Result<(), Fail> {
-    let schema = stock(&rt, rt.alloc())?;
-    assert_replies(&rt, rt.alloc(), &schema, &REPLIES);
-    assert!(rt; read_entry(&schema, b"0 begin->granted").is_none());
-    Ok(())
+fn spells_replies(rt: HostRuntime) {
+    assert_replies(&rt, rt.alloc(), &REPLIES);
+    assert_no_entries(&rt, rt.alloc(), &["0 begin->granted"]);
 }
 
+/// Lines that no command has.
+const NO_GIFTS: [&str; 10] = [
+    "0 give 65536 stock lower 1",
+    "0 give 1 stock lower 18446744073709551616",
+    "0 restate 1 stock",
+    "0 spare 1 stock raise",
+    "0 spare 1 stock raise 18446744073709551616",
+    "0 tighten stock lower",
+    "0 tighten 1 stock lower 5",
+    "0 tighten stock lower -5",
+    "0 tighten stock lower 18446744073709551616",
+    "0 accept 0 1 stock rise 30",
+];
+
 #[test]
-fn refuses_other_gifts(rt: HostRuntime) -> Result<(), Fail> {
-    let schema = stock(&rt, rt.alloc())?;
-    assert_no_commands(
-        &rt,
-        &schema,
-        &[
-            "0 give 65536 stock lower 1",
-            "0 give 1 stock lower 18446744073709551616",
-            "0 restate 1 stock",
-            "0 spare 1 stock raise",
-            "0 spare 1 stock raise 18446744073709551616",
-            "0 tighten stock lower",
-            "0 tighten 1 stock lower 5",
-            "0 tighten stock lower -5",
-            "0 tighten stock lower 18446744073709551616",
-            "0 accept 0 1 stock rise 30",
-        ],
-    );
-    Ok(())
+fn refuses_other_gifts(rt: HostRuntime) {
+    assert_no_commands(&rt, rt.alloc(), &NO_GIFTS);
 }
 
 const GIFT_REPLIES: [(&str, Reply); 5] = [
@@ -373,10 +361,8 @@ const GIFT_REPLIES: [(&str, Reply); 5] = [
 ];
 
 #[test]
-fn spells_gift_replies(rt: HostRuntime) -> Result<(), Fail> {
-    let schema = stock(&rt, rt.alloc())?;
-    assert_replies(&rt, rt.alloc(), &schema, &GIFT_REPLIES);
-    Ok(())
+fn spells_gift_replies(rt: HostRuntime) {
+    assert_replies(&rt, rt.alloc(), &GIFT_REPLIES);
 }
 
 const GIFT_REFUSALS: [(&str, Refusal); 3] = [
@@ -389,10 +375,8 @@ const GIFT_REFUSALS: [(&str, Refusal); 3] = [
 ];
 
 #[test]
-fn spells_gift_refusals(rt: HostRuntime) -> Result<(), Fail> {
-    let schema = stock(&rt, rt.alloc())?;
-    assert_refusals(&rt, rt.alloc(), &schema, &GIFT_REFUSALS);
-    Ok(())
+fn spells_gift_refusals(rt: HostRuntime) {
+    assert_refusals(&rt, rt.alloc(), &GIFT_REFUSALS);
 }
 
 const STATEMENT_REFUSALS: [(&str, Refusal); 3] = [
@@ -405,10 +389,8 @@ const STATEMENT_REFUSALS: [(&str, Refusal); 3] = [
 ];
 
 #[test]
-fn spells_statement_refusals(rt: HostRuntime) -> Result<(), Fail> {
-    let schema = stock(&rt, rt.alloc())?;
-    assert_refusals(&rt, rt.alloc(), &schema, &STATEMENT_REFUSALS);
-    Ok(())
+fn spells_statement_refusals(rt: HostRuntime) {
+    assert_refusals(&rt, rt.alloc(), &STATEMENT_REFUSALS);
 }
 
 const REFUSALS: [(&str, Refusal); 5] = [
@@ -426,10 +408,8 @@ const REFUSALS: [(&str, Refusal); 5] = [
 ];
 
 #[test]
-fn spells_refusals(rt: HostRuntime) -> Result<(), Fail> {
-    let schema = stock(&rt, rt.alloc())?;
-    assert_refusals(&rt, rt.alloc(), &schema, &REFUSALS);
-    Ok(())
+fn spells_refusals(rt: HostRuntime) {
+    assert_refusals(&rt, rt.alloc(), &REFUSALS);
 }
 
 const REFUSALS_AT_LIMITS: [(&str, Refusal); 3] = [
@@ -442,10 +422,8 @@ const REFUSALS_AT_LIMITS: [(&str, Refusal); 3] = [
 ];
 
 #[test]
-fn spells_refusals_at_limits(rt: HostRuntime) -> Result<(), Fail> {
-    let schema = stock(&rt, rt.alloc())?;
-    assert_refusals(&rt, rt.alloc(), &schema, &REFUSALS_AT_LIMITS);
-    Ok(())
+fn spells_refusals_at_limits(rt: HostRuntime) {
+    assert_refusals(&rt, rt.alloc(), &REFUSALS_AT_LIMITS);
 }
 
 const RESTARTS: [(&str, Reply); 6] = [
@@ -476,36 +454,32 @@ const RESTARTS: [(&str, Reply); 6] = [
 ];
 
 #[test]
-fn spells_restarts(rt: HostRuntime) -> Result<(), Fail> {
-    let schema = stock(&rt, rt.alloc())?;
-    assert!(rt; is_command(rt.alloc(), &schema, "0 restart", 0, Command::Restart));
-    assert_replies(&rt, rt.alloc(), &schema, &RESTARTS);
-    Ok(())
+fn spells_restarts(rt: HostRuntime) {
+    assert_commands(&rt, rt.alloc(), &[("0 restart", 0, Command::Restart)]);
+    assert_replies(&rt, rt.alloc(), &RESTARTS);
 }
 
 /// None of the lines is an entry's.
-fn assert_no_entries(rt: &impl Abort, schema: &Schema, lines: &[&str]) {
+fn assert_no_entries(rt: &impl Abort, alloc: Global, lines: &[&str]) {
+    let schema = stock(rt, alloc);
     for line in lines {
-        assert!(rt; read_entry(schema, line.as_bytes()).is_none(), "{line}");
+        assert_row(rt, *line, read_entry(&schema, line.as_bytes()).is_none());
     }
 }
 
+/// Lines that no entry has.
+const NO_RESTARTS: [&str; 5] = [
+    "0 begin -> restarted 1",
+    "0 begin -> restarted 1 Kept",
+    "0 begin -> restarted 4294967296 kept",
+    "0 begin -> still  down",
+    "0 begin -> refused 01 down",
+];
+
 #[test]
-fn refuses_other_restarts(rt: HostRuntime) -> Result<(), Fail> {
-    let schema = stock(&rt, rt.alloc())?;
-    assert_no_commands(&rt, &schema, &["0 restart 1"]);
-    assert_no_entries(
-        &rt,
-        &schema,
-        &[
-            "0 begin -> restarted 1",
-            "0 begin -> restarted 1 Kept",
-            "0 begin -> restarted 4294967296 kept",
-            "0 begin -> still  down",
-            "0 begin -> refused 01 down",
-        ],
-    );
-    Ok(())
+fn refuses_other_restarts(rt: HostRuntime) {
+    assert_no_commands(&rt, rt.alloc(), &["0 restart 1"]);
+    assert_no_entries(&rt, rt.alloc(), &NO_RESTARTS);
 }
 
 /// Appends the entry of the first begin at site 1, and again.
@@ -520,13 +494,11 @@ fn append_twice(out: &mut Vec<u8>, schema: &Schema) -> Result<(), AllocError> {
 }
 
 #[test]
-fn appends_entries(rt: HostRuntime) -> Result<(), Fail> {
-    let alloc = rt.alloc();
-    let schema = stock(&rt, alloc)?;
-    let mut out = vec![in alloc; b'#']?;
-    append_twice(&mut out, &schema)?;
+fn appends_entries(rt: HostRuntime) {
+    let schema = stock(&rt, rt.alloc());
+    let mut out = vec![in rt.alloc(); b'#'; 1].expect(&rt, "memory");
+    append_twice(&mut out, &schema).expect(&rt, "memory");
     assert!(rt; out.as_slice() == b"#1 begin -> begun 0.11 begin -> begun 0.1".as_slice());
-    Ok(())
 }
 
 /// Appends the entry of an acceptance at site 1 of 5 lowering rights on this field.
@@ -545,18 +517,21 @@ fn append_acceptance(out: &mut Vec<u8>, schema: &Schema, field: FieldNo) -> Resu
     append_entry(out, schema, entry)
 }
 
-#[test]
-fn appends_acceptances(rt: HostRuntime) -> Result<(), Fail> {
-    let alloc = rt.alloc();
-    let schema = stock(&rt, alloc)?;
-    let mut out = Vec::new(alloc);
-    append_acceptance(&mut out, &schema, STOCK)?;
+/// Appends that of the stock, and behind a stroke that of a field that there is not.
+fn append_both(out: &mut Vec<u8>, schema: &Schema) -> Result<(), AllocError> {
+    append_acceptance(out, schema, STOCK)?;
     out.push(b'/')?;
-    append_acceptance(&mut out, &schema, FieldNo(300))?;
-    let named = b"1 accept 0 1 stock lower 25 -> accepted 5/";
-    let unnamed = b"1 accept 0 1 #300 lower 25 -> accepted 5";
-    assert!(rt; out.starts_with(named.as_slice()));
-    assert!(rt; out.ends_with(unnamed.as_slice()));
-    assert!(rt; out.len() == named.len() + unnamed.len());
-    Ok(())
+    append_acceptance(out, schema, FieldNo(300))
+}
+
+/// The two, and the stroke between them.
+const BOTH: &str =
+    "1 accept 0 1 stock lower 25 -> accepted 5/1 accept 0 1 #300 lower 25 -> accepted 5";
+
+#[test]
+fn appends_acceptances(rt: HostRuntime) {
+    let schema = stock(&rt, rt.alloc());
+    let mut out = Vec::new(rt.alloc());
+    append_both(&mut out, &schema).expect(&rt, "memory");
+    assert!(rt; out.as_slice() == BOTH.as_bytes());
 }
