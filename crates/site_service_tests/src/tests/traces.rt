@@ -1,6 +1,6 @@
 //! The trace of a worked run: each of its writes and syncs fails in turn, and each sync of the log.
 
-use super::turns::{assert_front, serve_batches, text_behind};
+use super::turns::{assert_front, assert_text};
 use super::*;
 
 /// What the log holds behind the opening and each batch.
@@ -11,14 +11,6 @@ const LOGS: [&str; 4] = [
     "R 1\nC 1 1 0 -5\nG 1 0 l 4\nC 1 2 0 -3\n",
 ];
 
-/// The run over these files, or None where the service isn't opened.
-fn traced_run(alloc: Global, log: &mut MemoryFile, trace: &mut MemoryFile) -> Option<Told> {
-    match open_traced(alloc, log, trace) {
-        Ok(mut service) => Some(serve_batches(alloc, &mut service, trace)),
-        Err(_) => None,
-    }
-}
-
 /// What is safe of a log behind so many batches that were let out, or where the service isn't opened.
 fn log_behind(count: Option<usize>) -> &'static str {
     match count {
@@ -27,33 +19,45 @@ fn log_behind(count: Option<usize>) -> &'static str {
     }
 }
 
-/// Tests that exactly the first so many batches were let out, or that the service wasn't opened.
+/// Tests that exactly the first so many batches are let out.
+fn assert_let_out_of(
+    rt: &impl Abort,
+    alloc: Global,
+    log: &mut MemoryFile,
+    trace: &mut MemoryFile,
+    count: usize,
+) {
+    let mut service = open_traced(rt, alloc, log, &mut *trace).expect(rt, "opened");
+    assert_front(rt, alloc, &mut service, trace, count);
+}
+
+/// The same, or that the service isn't opened.
 fn assert_run(
     rt: &impl Abort,
     alloc: Global,
-    told: &Option<Told>,
+    log: &mut MemoryFile,
+    trace: &mut MemoryFile,
     count: Option<usize>,
-) -> Result<(), AllocError> {
-    match (told, count) {
-        (Some(told), Some(count)) => assert_front(rt, alloc, told, count),
-        (None, None) => Ok(()),
-        (_, _) => panic!(rt; "not as told"),
+) {
+    match count {
+        Some(count) => assert_let_out_of(rt, alloc, log, trace, count),
+        None => assert!(rt; open_traced(rt, alloc, log, trace).is_err()),
     }
 }
 
 /// Tests that the answers of the opening and of so many batches are safe in a trace, and no others.
-fn assert_traced(
-    rt: &impl Abort,
-    alloc: Global,
-    trace: &MemoryFile,
-    batches: Option<usize>,
-) -> Result<(), AllocError> {
-    let wanted = match batches {
-        Some(count) => text_behind(alloc, count)?,
-        None => String::new(alloc),
-    };
-    assert!(rt; trace.safe() == wanted.as_bytes());
-    Ok(())
+fn assert_traced(rt: &impl Abort, alloc: Global, safe: &[u8], batches: Option<usize>) {
+    match batches {
+        Some(count) => assert_text(rt, alloc, safe, count),
+        None => assert_eq!(rt; safe.len(), 0),
+    }
+}
+
+/// An empty file of which this call fails.
+fn file_under(alloc: Global, call: FileCall, good: u64) -> MemoryFile {
+    let mut file = empty_file(alloc);
+    file.arm(FileMishap { call, good });
+    file
 }
 
 /// Which batches are let out where this call of the trace fails; None where the service isn't opened.
@@ -72,21 +76,14 @@ const TRACE_ROWS: [(FileCall, u64, Option<usize>); 10] = [
 
 // The log has nothing of a batch that the trace hasn't got.
 #[test]
-fn each_call_of_a_trace_fails_in_turn(rt: HostRuntime) -> Result<(), Fail> {
-    let alloc = rt.alloc();
+fn each_call_of_a_trace_fails_in_turn(rt: HostRuntime) {
     for (call, good, count) in &TRACE_ROWS {
-        let mut log = file_of(alloc, b"")?;
-        let mut trace = file_of(alloc, b"")?;
-        trace.arm(FileMishap {
-            call: *call,
-            good: *good,
-        });
-        let told = traced_run(alloc, &mut log, &mut trace);
-        assert_run(&rt, alloc, &told, *count)?;
-        assert_traced(&rt, alloc, &trace, *count)?;
+        let mut log = empty_file(rt.alloc());
+        let mut trace = file_under(rt.alloc(), *call, *good);
+        assert_run(&rt, rt.alloc(), &mut log, &mut trace, *count);
+        assert_traced(&rt, rt.alloc(), trace.safe(), *count);
         assert!(rt; log.bytes() == log_behind(*count).as_bytes());
     }
-    Ok(())
 }
 
 /// Which sync of the log fails; the batches that are let out; and those whose answers the trace has,
@@ -101,19 +98,12 @@ const LOG_ROWS: [(u64, Option<usize>, Option<usize>); 5] = [
 
 // The trace has the answers of the batch that the log failed to get.
 #[test]
-fn a_trace_is_ahead_of_a_log_that_fails(rt: HostRuntime) -> Result<(), Fail> {
-    let alloc = rt.alloc();
+fn a_trace_is_ahead_of_a_log_that_fails(rt: HostRuntime) {
     for (good, count, traced) in &LOG_ROWS {
-        let mut log = file_of(alloc, b"")?;
-        let mut trace = file_of(alloc, b"")?;
-        log.arm(FileMishap {
-            call: FileCall::Sync,
-            good: *good,
-        });
-        let told = traced_run(alloc, &mut log, &mut trace);
-        assert_run(&rt, alloc, &told, *count)?;
-        assert_traced(&rt, alloc, &trace, *traced)?;
+        let mut log = file_under(rt.alloc(), FileCall::Sync, *good);
+        let mut trace = empty_file(rt.alloc());
+        assert_run(&rt, rt.alloc(), &mut log, &mut trace, *count);
+        assert_traced(&rt, rt.alloc(), trace.safe(), *traced);
         assert!(rt; log.safe() == log_behind(*count).as_bytes());
     }
-    Ok(())
 }

@@ -70,7 +70,7 @@ const ROWS: [Row; 12] = [
 ];
 
 /// The answer of the opening, and those of the first so many batches.
-pub(crate) fn text_behind(alloc: Global, count: usize) -> Result<String, AllocError> {
+fn text_behind(alloc: Global, count: usize) -> Result<String, AllocError> {
     let mut text = joined(alloc, &[FRESH])?;
     for (_lines, answers) in BATCHES.iter().take(count) {
         text.push_str(*answers)?;
@@ -78,22 +78,31 @@ pub(crate) fn text_behind(alloc: Global, count: usize) -> Result<String, AllocEr
     Ok(text)
 }
 
-/// The lines of the first so many records, and that of the restart behind them.
-fn log_behind(alloc: Global, count: usize) -> Result<String, AllocError> {
+/// Tests that these are the answer of the opening and those of the first so many batches.
+pub(crate) fn assert_text(rt: &impl Abort, alloc: Global, bytes: &[u8], count: usize) {
+    let wanted = text_behind(alloc, count).expect(rt, "memory");
+    assert_eq!(rt; str::from_utf8(bytes), Ok(wanted.as_str()));
+}
+
+/// The lines of the first so many records.
+fn records_behind(alloc: Global, count: usize) -> Result<String, AllocError> {
     let mut log = String::new(alloc);
     for (record, _found) in FOUND.iter().skip(1).take(count) {
         log.push_str(*record)?;
     }
-    if count == 0 {
-        log.push_str("R 1\n")?;
-    } else {
-        log.push_str("R 2\n")?;
-    }
     Ok(log)
 }
 
+/// Tests that these are the lines of the first so many records, and that of the restart behind them.
+fn assert_log(rt: &impl Abort, alloc: Global, bytes: &[u8], count: usize) {
+    let mut wanted = records_behind(alloc, count).expect(rt, "memory");
+    let restart = if count == 0 { "R 1\n" } else { "R 2\n" };
+    wanted.push_str(restart).expect(rt, "memory");
+    assert!(rt; bytes == wanted.as_bytes());
+}
+
 /// Serves the three batches, and tells them to a trace.
-pub(crate) fn serve_batches<F: LogFile, T: LogFile>(
+fn serve_batches<F: LogFile, T: LogFile>(
     alloc: Global,
     service: &mut Service<F>,
     trace: &mut T,
@@ -103,69 +112,77 @@ pub(crate) fn serve_batches<F: LogFile, T: LogFile>(
     serve_traced(alloc, service, trace, two.chain(third.0.as_bytes()))
 }
 
-/// Tests that exactly the first so many batches were let out.
-pub(crate) fn assert_front(
+/// How the serving of the batches ends where the first so many are let out.
+fn end_behind(count: usize) -> Result<(), ServeFault> {
+    if count < BATCHES.len() {
+        Err(ServeFault::Device)
+    } else {
+        Ok(())
+    }
+}
+
+/// Serves the three batches, and tests that exactly the first so many are let out.
+pub(crate) fn assert_front<F: LogFile, T: LogFile>(
     rt: &impl Abort,
     alloc: Global,
-    told: &Told,
+    service: &mut Service<F>,
+    trace: &mut T,
     count: usize,
-) -> Result<(), AllocError> {
-    let wanted = text_behind(alloc, count)?;
-    assert_eq!(rt; str::from_utf8(told.1.as_slice()), Ok(wanted.as_str()));
-    if count < BATCHES.len() {
-        assert_eq!(rt; told.0, Err(ServeFault::Device));
-    } else {
-        assert_eq!(rt; told.0, Ok(()));
-    }
-    Ok(())
+) {
+    let told = serve_batches(alloc, service, trace);
+    assert_eq!(rt; told.0, end_behind(count));
+    assert_text(rt, alloc, told.1.as_slice(), count);
 }
 
 /// Tests that nothing is let out any more.
 fn assert_lost<F: LogFile>(rt: &impl Abort, alloc: Global, service: &mut Service<F>) {
     assert!(rt; service.is_lost());
     assert_eq!(rt; service.settle(), Err(Device));
-    let (end, out) = let_out(alloc, service);
-    assert_eq!(rt; end, Err(ServeFault::Device));
-    assert_eq!(rt; out.len(), 0);
+    assert_let_out(rt, alloc, service, Err(ServeFault::Device), "");
 }
 
 /// Tests that a failed batch isn't let out, now or later, and that all before it is.
-fn assert_let_out<F: LogFile>(
+fn assert_batches<F: LogFile>(
     rt: &impl Abort,
     alloc: Global,
     service: &mut Service<F>,
     count: usize,
-) -> Result<(), AllocError> {
-    let told = serve_batches(alloc, service, &mut NoTrace);
-    assert_front(rt, alloc, &told, count)?;
+) {
+    assert_front(rt, alloc, service, &mut NoTrace, count);
     if count < BATCHES.len() {
         assert_lost(rt, alloc, service);
     }
-    Ok(())
 }
 
 /// The run of a row over a file.
-fn assert_row(
+fn assert_row(rt: &impl Abort, alloc: Global, file: &mut MemoryFile, count: usize) {
+    let mut service = open_over(rt, alloc, file).expect(rt, "opened");
+    assert_batches(rt, alloc, &mut service, count);
+}
+
+/// The same of a row whose service may not be opened.
+fn assert_opened_or_not(
     rt: &impl Abort,
     alloc: Global,
     file: &mut MemoryFile,
     count: Option<usize>,
-) -> Result<(), AllocError> {
-    match (open_over(alloc, file), count) {
-        (Ok(mut service), Some(count)) => assert_let_out(rt, alloc, &mut service, count),
-        (Err(fault), None) => {
-            assert_eq!(rt; fault, OpenFault::Device);
-            Ok(())
+) {
+    match count {
+        Some(count) => assert_row(rt, alloc, file, count),
+        None => {
+            let fault = open_over(rt, alloc, file).err();
+            assert_eq!(rt; fault, Some(OpenFault::Device));
         }
-        (_, _) => panic!(rt; "not as told"),
     }
 }
 
-/// Serves a look and two questions over a file.
-fn serve_again(alloc: Global, file: &mut MemoryFile) -> Result<Told, OpenFault> {
-    let mut service = open_over(alloc, file)?;
-    let lines = b"0 share stock\nkept 1.1\nkept 1.2\n";
-    Ok(serve_all(alloc, &mut service, lines.as_slice()))
+/// A look and two questions.
+const LOOK: &str = "0 share stock\nkept 1.1\nkept 1.2\n";
+
+/// Tests what they are answered over a file.
+fn assert_look(rt: &impl Abort, alloc: Global, file: &mut MemoryFile, text: &str) {
+    let mut service = open_over(rt, alloc, file).expect(rt, "opened");
+    assert_serves(rt, alloc, &mut service, LOOK.as_bytes(), text);
 }
 
 /// What is answered over the first so many records.
@@ -178,12 +195,10 @@ fn found_behind(count: usize) -> &'static str {
 }
 
 /// Tests that a service over these bytes finds so many records, and nothing of a torn one.
-fn assert_found(rt: &impl Abort, alloc: Global, bytes: &[u8], count: usize) -> Result<(), Fail> {
-    let mut file = file_of(alloc, bytes)?;
-    assert_told(rt, &serve_again(alloc, &mut file)?, found_behind(count));
-    let wanted = log_behind(alloc, count)?;
-    assert!(rt; file.safe() == wanted.as_bytes());
-    Ok(())
+fn assert_found(rt: &impl Abort, alloc: Global, bytes: &[u8], count: usize) {
+    let mut file = file_of(rt, alloc, bytes);
+    assert_look(rt, alloc, &mut file, found_behind(count));
+    assert_log(rt, alloc, file.safe(), count);
 }
 
 /// Tests that each record of an answer that was let out is among those that are safe.
@@ -195,33 +210,36 @@ fn assert_none_lost(rt: &impl Abort, count: Option<usize>, safe: usize) {
     }
 }
 
+/// Tests what the process and the machine leave of a run over this file.
+fn assert_left(rt: &impl Abort, alloc: Global, file: &mut MemoryFile, row: &Row) {
+    let (_call, _good, count, held, safe) = *row;
+    assert_opened_or_not(rt, alloc, &mut *file, count);
+    assert_none_lost(rt, count, safe);
+    assert_found(rt, alloc, file.bytes(), held);
+    assert_found(rt, alloc, file.safe(), safe);
+}
+
 // What the process leaves is the file, and what the machine leaves is at least what is safe.
 #[test]
-fn each_write_and_each_sync_fails_in_turn(rt: HostRuntime) -> Result<(), Fail> {
-    let alloc = rt.alloc();
-    for (call, good, count, held, safe) in &ROWS {
-        let mut file = file_of(alloc, b"")?;
+fn each_write_and_each_sync_fails_in_turn(rt: HostRuntime) {
+    for row in &ROWS {
+        let mut file = empty_file(rt.alloc());
         file.limit_writes(7);
         file.arm(FileMishap {
-            call: *call,
-            good: *good,
+            call: row.0,
+            good: row.1,
         });
-        assert_row(&rt, alloc, &mut file, *count)?;
-        assert_none_lost(&rt, *count, *safe);
-        assert_found(&rt, alloc, file.bytes(), *held)?;
-        assert_found(&rt, alloc, file.safe(), *safe)?;
+        assert_left(&rt, rt.alloc(), &mut file, row);
     }
-    Ok(())
 }
 
 // The third batch finds room for a part of its first record alone.
 #[test]
-fn a_full_device_lets_nothing_out(rt: HostRuntime) -> Result<(), Fail> {
-    let alloc = rt.alloc();
-    let mut file = file_of(alloc, b"")?;
+fn a_full_device_lets_nothing_out(rt: HostRuntime) {
+    let mut file = empty_file(rt.alloc());
     file.limit_length(20);
-    assert_row(&rt, alloc, &mut file, Some(2))?;
+    assert_row(&rt, rt.alloc(), &mut file, 2);
     assert!(rt; file.bytes() == "R 1\nC 1 1 0 -5\nG 1 0".as_bytes());
-    assert_found(&rt, alloc, file.bytes(), 2)?;
-    assert_found(&rt, alloc, file.safe(), 2)
+    assert_found(&rt, rt.alloc(), file.bytes(), 2);
+    assert_found(&rt, rt.alloc(), file.safe(), 2);
 }
