@@ -1,22 +1,24 @@
 /* A site of escrow inside a program: libescrow_c.a, built by `rt lib` in crates/escrow_c.
  *
- * A site holds rights to lower and to raise quantities, so that no field passes its bounds, whatever other sites do at
- * the same time. What it answered stands in its log, which the caller keeps: it opens the site over the bytes that it
- * has, asks, takes what was added to the log, writes and syncs that, and only then lets the answer out. The site itself
- * reads no file and has no clock and no thread. docs/EMBEDDING.md tells what is proved of these calls, and shows a host.
+ * A site holds rights to lower and to raise quantities, so that no field passes its bounds, whatever other sites do
+ * at the same time. What it answered stands in its log, which the caller keeps: it opens the site over the bytes that
+ * it has, asks, takes what was added to the log, writes and syncs that, and only then lets the answer out. The site
+ * itself reads no file and has no clock and no thread. docs/EMBEDDING.md tells what is proved of these calls, and
+ * shows a host.
  *
  * Of every call the caller has to see to this; nothing checks it:
  * - a pointer is to memory of its type, is aligned to it, and isn't null, also where its length is 0;
  * - a pointer and the size behind it are so many bytes;
  * - what a pointer that isn't const is to overlaps nothing else of the call;
- * - a handle is {0} or what a call left of it, is never copied, and never read or written by the caller;
+ * - a handle is {0} or what a call left of it, and never read or written by the caller; of its copies one alone is
+ *   used;
  * - one call at a time has a handle, on any thread: a lock, or a join, stands between two;
  * - malloc, realloc and free are one allocator, which aligns to 16; no call is made from a signal handler, nor in the
  *   child of a fork of a program with threads. A call takes some 30 kB of stack.
  *
  * Quantities are whole numbers of a field's own units; rights are counted in the same. A text is bytes without a line
- * feed and without a 0 at its end, as docs/FORMATS.md spells it. Numbers are those of one machine: nothing here is meant
- * for a file or a wire but the log, the lines and their entries.
+ * feed and without a 0 at its end, as docs/FORMATS.md spells it. Numbers are those of one machine: nothing here is
+ * meant for a file or a wire but the log, the lines and their entries.
  */
 #ifndef ESCROW_H
 #define ESCROW_H
@@ -47,7 +49,7 @@ enum {
     ESCROW_NO_LINE = 7,    /* the bytes aren't UTF-8, have a line feed, or are more than 256 */
     ESCROW_NO_COMMAND = 8, /* the line, or the numbers, spell no command under the schema */
     ESCROW_OTHER_SITE = 9, /* the line spells a command of another site */
-    ESCROW_NO_ROOM = 10,   /* there are fewer bytes of room than ESCROW_TEXT */
+    ESCROW_NO_ROOM = 10,   /* there is too little room for the answer; nothing was done */
     ESCROW_UNTOLD = 11,    /* the command was carried out, and malloc refused the room for its text, which was taken
                               before: this never came */
     ESCROW_DOWN = 12,      /* the site is down: ask it to restart */
@@ -64,8 +66,8 @@ enum { ESCROW_TEXT = 256 };
 /* The kinds of commands. Behind each stand the members that it names; the others aren't looked at. */
 enum {
     ESCROW_BEGIN = 1,    /* opens a transaction */
-    ESCROW_ESCROW = 2,   /* epoch, number, field, change: sets aside the rights for a change of a field, for a transaction:
-                            below 0 to lower it, above 0 to raise it */
+    ESCROW_ESCROW = 2,   /* epoch, number, field, change: sets aside, for a transaction, the rights for a change of a
+                            field: below 0 to lower it, above 0 to raise it */
     ESCROW_COMMIT = 3,   /* epoch, number: makes the changes of a transaction permanent */
     ESCROW_ABORT = 4,    /* epoch, number: gives the rights of a transaction back */
     ESCROW_GIVE = 5,     /* to, field, right, amount: gives free rights to another site */
@@ -107,10 +109,11 @@ enum {
     ESCROW_ACCEPTED = 9,   /* how many rights the statement told that weren't accepted before */
     ESCROW_BETWEEN = 10,   /* low and high are the least and the greatest value */
     ESCROW_SHARES = 11,    /* the free rights to lower and to raise */
-    ESCROW_RESTARTED = 12, /* the new epoch; code is 0, and at a site of this library never 1 or 2 */
-    ESCROW_UNSURE = 13,    /* never, at a site of this library */
-    ESCROW_STILL_DOWN = 14, /* never, at a site of this library */
-    ESCROW_REFUSED = 15    /* code is the number of the refusal; first is what it tells: 7 the share, 9 the total, 11 the room */
+    ESCROW_RESTARTED = 12, /* the new epoch; code is 0, since nothing was in doubt */
+    ESCROW_UNSURE = 13,    /* never, at a site of this library: its log in memory doesn't fail */
+    ESCROW_STILL_DOWN = 14, /* never, for that reason */
+    ESCROW_REFUSED = 15    /* code is the number of the refusal; first is what it tells: of 7 the share, of 9 the total,
+                              of 11 the room */
 };
 
 /* A reply in numbers. */
@@ -123,14 +126,14 @@ typedef struct {
     int64_t high;
 } escrow_answer;
 
-/* Opens site `site` of the schema that the header tells (one line of JSON, without its line feed) over what the caller
- * kept of its log. What stands behind the last line feed of it was torn off, and doesn't count: *kept is how many bytes
- * do, and the caller cuts its log there before it adds to it. Over an empty log the site is up, over any other it is down
- * until it is asked to restart. The header and the log aren't needed behind the call.
+/* Opens site `site` of the schema that the header tells (one line of JSON, without its line feed) over what the
+ * caller kept of its log. What stands behind the last line feed of it was torn off, and doesn't count: *kept is how
+ * many bytes do, and the caller cuts its log there before it adds to it. Over an empty log the site is up, over any
+ * other it is down until it is asked to restart. The header and the log aren't needed behind the call.
  *
- * ESCROW_IS_OPEN, ESCROW_NO_SCHEMA, ESCROW_NO_SITE, ESCROW_NO_MEMORY. ESCROW_BAD_LOG: *line is the first line of the log,
- * counted from 1, that isn't what a site of this header and number left; else it is 0. *kept is 0 but at ESCROW_DONE.
- * Takes a pass over the log, and memory for its bytes. */
+ * ESCROW_IS_OPEN, ESCROW_NO_SCHEMA, ESCROW_NO_SITE, ESCROW_NO_MEMORY. ESCROW_BAD_LOG: *line is the first line of the
+ * log, counted from 1, that isn't what a site of this header and number left; else it is 0. *kept is 0 but at
+ * ESCROW_DONE. Takes a pass over the log, and memory for its bytes. */
 uint32_t escrow_site_open(escrow_handle *handle, const uint8_t *header, size_t header_length, uint16_t site,
                           const uint8_t *log, size_t log_length, size_t *kept, uint64_t *line);
 
@@ -138,22 +141,22 @@ uint32_t escrow_site_open(escrow_handle *handle, const uint8_t *header, size_t h
  * ESCROW_CLOSED: there was none, and nothing was freed. */
 uint32_t escrow_site_close(escrow_handle *handle);
 
-/* Asks the site a command in numbers. *answer is the reply that it owes, and its log has grown by the command's record,
- * where it leaves one: the caller takes it by escrow_site_log, writes and syncs it, and only then tells anybody.
- * ESCROW_CLOSED, ESCROW_NO_COMMAND, ESCROW_NO_MEMORY; *answer is then as it was. A refusal is an answer. */
+/* Asks the site a command in numbers. *answer is the reply that it owes, and its log has grown by the command's
+ * record, where it leaves one: the caller takes it by escrow_site_log, writes and syncs it, and only then tells
+ * anybody. ESCROW_CLOSED, ESCROW_NO_COMMAND, ESCROW_NO_MEMORY; *answer is then as it was. A refusal is an answer. */
 uint32_t escrow_site_ask(escrow_handle *handle, const escrow_ask *ask, escrow_answer *answer);
 
-/* The same of a command that a line spells, as `0 escrow 0.1 stock -20`.
- * ESCROW_CLOSED, ESCROW_NO_LINE, ESCROW_NO_COMMAND, ESCROW_OTHER_SITE, ESCROW_NO_MEMORY. */
+/* The same of a command that a line spells, as `0 escrow 0.1 stock -20`. ESCROW_CLOSED, ESCROW_NO_LINE,
+ * ESCROW_NO_COMMAND, ESCROW_OTHER_SITE, ESCROW_NO_MEMORY. */
 uint32_t escrow_site_do(escrow_handle *handle, const uint8_t *line, size_t line_length, escrow_answer *answer);
 
-/* The same, and answers by the text of the entry, as `0 escrow 0.1 stock -20 -> granted`: *length bytes of it, in room of
- * at least ESCROW_TEXT bytes. What stands behind them in the room isn't told.
- * Besides the faults of escrow_site_do: ESCROW_NO_ROOM, ESCROW_UNTOLD. *length is 0 but at ESCROW_DONE. */
+/* The same, and answers by the text of the entry, as `0 escrow 0.1 stock -20 -> granted`: *length bytes of it, in
+ * room of at least ESCROW_TEXT bytes. What stands behind them in the room isn't told. Besides the faults of
+ * escrow_site_do: ESCROW_NO_ROOM, ESCROW_UNTOLD. *length is 0 but at ESCROW_DONE. */
 uint32_t escrow_site_tell(escrow_handle *handle, const uint8_t *line, size_t line_length, uint8_t *text, size_t room,
                           size_t *length);
 
-/* *length is how many bytes the log has; from the *kept of the opening on it only grows, at its end.
+/* Tells by *length how many bytes the log has; from the *kept of the opening on it only grows, at its end.
  * ESCROW_CLOSED; *length is then 0. */
 uint32_t escrow_site_log_length(escrow_handle *handle, size_t *length);
 
@@ -161,26 +164,27 @@ uint32_t escrow_site_log_length(escrow_handle *handle, size_t *length);
  * room behind them stays as it was. ESCROW_CLOSED, ESCROW_PAST_END; *copied is then 0. */
 uint32_t escrow_site_log(escrow_handle *handle, size_t from, uint8_t *out, size_t room, size_t *copied);
 
-/* *low and *high are the least and the greatest value that the field's committed value can have, as far as this site
- * knows: what a read answers. ESCROW_CLOSED, ESCROW_DOWN, ESCROW_NO_FIELD; they are then as they were. */
+/* Tells by *low and *high the least and the greatest value that the field's committed value can have, as far as this
+ * site knows: what a read answers. ESCROW_CLOSED, ESCROW_DOWN, ESCROW_NO_FIELD; they are then as they were. */
 uint32_t escrow_site_interval(escrow_handle *handle, uint16_t field, int64_t *low, int64_t *high);
 
-/* *lower and *raise are the site's free rights on the field: what a share answers.
- * ESCROW_CLOSED, ESCROW_DOWN, ESCROW_NO_FIELD; they are then as they were. */
+/* Tells by *lower and *raise the site's free rights on the field: what a share answers. ESCROW_CLOSED, ESCROW_DOWN,
+ * ESCROW_NO_FIELD; they are then as they were. */
 uint32_t escrow_site_share(escrow_handle *handle, uint16_t field, uint64_t *lower, uint64_t *raise);
 
 /* ---- two calls that keep nothing */
 
-/* Runs a script in a world of its own, as `escrow run` does, and writes what answers it to `out`: *needed bytes. Where
- * there is less room for them nothing is written, and *needed tells how much there has to be.
- * ESCROW_NO_ROOM; ESCROW_NO_SCHEMA, ESCROW_TOO_LONG, ESCROW_NO_MEMORY, at which *needed is 0. */
+/* Runs a script in a world of its own, as `escrow run` does, and writes what answers it to `out`: *needed bytes.
+ * Where there is less room for them nothing is written, and *needed tells how much there has to be. ESCROW_NO_ROOM;
+ * ESCROW_NO_SCHEMA, ESCROW_TOO_LONG, ESCROW_NO_MEMORY, at which *needed is 0. */
 uint32_t escrow_run_text(const uint8_t *script, size_t script_length, uint8_t *out, size_t room, size_t *needed);
 
-/* Judges a trace under a header: the entries of all sites of a world as text, in the order of one central store, each with
- * a line feed behind it. ESCROW_DONE: it is a run of one central store, in which each reply was owed. ESCROW_ILLEGAL: entry
- * *at, counted from 1, is the first that breaks a rule. ESCROW_BAD_ENTRY: line *at is the first that is no entry, or has no
- * line feed behind it. ESCROW_NO_SCHEMA, ESCROW_NO_MEMORY. *at is 0 at the others. */
-uint32_t escrow_judge(const uint8_t *header, size_t header_length, const uint8_t *trace, size_t trace_length, uint64_t *at);
+/* Judges a trace under a header: the entries of all sites of a world as text, in the order of one central store, each
+ * with a line feed behind it. ESCROW_DONE: it is a run of one central store, in which each reply was owed.
+ * ESCROW_ILLEGAL: entry *at, counted from 1, is the first that breaks a rule. ESCROW_BAD_ENTRY: line *at is the first
+ * that is no entry, or has no line feed behind it. ESCROW_NO_SCHEMA, ESCROW_NO_MEMORY. *at is 0 at the others. */
+uint32_t escrow_judge(const uint8_t *header, size_t header_length, const uint8_t *trace, size_t trace_length,
+                      uint64_t *at);
 
 #ifdef __cplusplus
 }

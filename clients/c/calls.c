@@ -16,8 +16,10 @@ static void expect(int is_so, const char *what, int line) {
 }
 #define EXPECT(it) expect((it), #it, __LINE__)
 
-static uint32_t open_site(escrow_handle *handle, const char *told, uint16_t site, const char *log, size_t *kept, uint64_t *line) {
-    return escrow_site_open(handle, (const uint8_t *)told, strlen(told), site, (const uint8_t *)log, strlen(log), kept, line);
+static uint32_t open_site(escrow_handle *handle, const char *told, uint16_t site, const char *log, size_t *kept,
+                          uint64_t *line) {
+    return escrow_site_open(handle, (const uint8_t *)told, strlen(told), site, (const uint8_t *)log, strlen(log), kept,
+                            line);
 }
 
 /* Whether a line is told with this status and this text. */
@@ -33,8 +35,8 @@ static int has_log(escrow_handle *handle, const char *text) {
     uint8_t room[4096];
     size_t copied, length;
     memset(room, 1, sizeof room);
-    return !escrow_site_log(handle, 0, room, sizeof room, &copied) && !escrow_site_log_length(handle, &length) && length == copied
-        && copied == strlen(text) && !memcmp(room, text, copied) && room[copied] == 1;
+    return !escrow_site_log(handle, 0, room, sizeof room, &copied) && !escrow_site_log_length(handle, &length) &&
+           length == copied && copied == strlen(text) && !memcmp(room, text, copied) && room[copied] == 1;
 }
 
 static void of_a_closed_handle(void) {
@@ -80,11 +82,13 @@ static void of_numbers(escrow_handle *handle) {
     EXPECT(escrow_site_ask(handle, &ask, &answer) == ESCROW_DONE && answer.kind == ESCROW_BEGUN);
     EXPECT(answer.code == 0 && answer.first == 0 && answer.second == 1 && answer.low == 0 && answer.high == 0);
     ask = (escrow_ask){.kind = ESCROW_ESCROW, .number = 1, .change = -21};
-    EXPECT(!escrow_site_ask(handle, &ask, &answer) && answer.kind == ESCROW_REFUSED && answer.code == 7 && answer.first == 20);
+    EXPECT(!escrow_site_ask(handle, &ask, &answer) && answer.kind == ESCROW_REFUSED && answer.code == 7 &&
+           answer.first == 20);
     ask.change = -20;
     EXPECT(!escrow_site_ask(handle, &ask, &answer) && answer.kind == ESCROW_GRANTED && answer.first == 0);
     ask = (escrow_ask){.kind = ESCROW_READ, .field = 0, .right = 9};
-    EXPECT(!escrow_site_ask(handle, &ask, &answer) && answer.kind == ESCROW_BETWEEN && answer.low == 20 && answer.high == 70);
+    EXPECT(!escrow_site_ask(handle, &ask, &answer) && answer.kind == ESCROW_BETWEEN && answer.low == 20 &&
+           answer.high == 70);
     ask = (escrow_ask){.kind = ESCROW_COMMIT, .number = 1};
     EXPECT(has_log(handle, "") && !escrow_site_ask(handle, &ask, &answer) && answer.kind == ESCROW_COMMITTED);
     EXPECT(has_log(handle, "C 0 1 0 -20\n"));
@@ -109,7 +113,8 @@ static void of_lines(escrow_handle *handle) {
     long_line[257] = 0;
     EXPECT(tells(handle, "0 spare 1 stock raise 9", ESCROW_DONE, "0 spare 1 stock raise 9 -> spared 9 16"));
     EXPECT(tells(handle, "0 tighten stock lower 1", ESCROW_DONE, "0 tighten stock lower 1 -> tightened 1"));
-    EXPECT(tells(handle, "0 restate 1 stock lower", ESCROW_DONE, "0 restate 1 stock lower -> refused 15 nothing given"));
+    EXPECT(
+        tells(handle, "0 restate 1 stock lower", ESCROW_DONE, "0 restate 1 stock lower -> refused 15 nothing given"));
     EXPECT(tells(handle, "1 begin", ESCROW_OTHER_SITE, ""));
     EXPECT(tells(handle, "0 sell stock", ESCROW_NO_COMMAND, ""));
     EXPECT(tells(handle, "0 begin\n", ESCROW_NO_LINE, ""));
@@ -119,7 +124,8 @@ static void of_lines(escrow_handle *handle) {
     EXPECT(tells(handle, "", ESCROW_NO_COMMAND, ""));
     uint8_t room[ESCROW_TEXT - 1];
     size_t length = 5;
-    EXPECT(escrow_site_tell(handle, (const uint8_t *)"0 begin", 7, room, sizeof room, &length) == ESCROW_NO_ROOM && length == 0);
+    EXPECT(escrow_site_tell(handle, (const uint8_t *)"0 begin", 7, room, sizeof room, &length) == ESCROW_NO_ROOM &&
+           length == 0);
     EXPECT(tells(handle, "0 begin", ESCROW_DONE, "0 begin -> begun 0.2"));
 }
 

@@ -16,10 +16,11 @@ static size_t safe; /* so many bytes of the log are in the file, and synced */
 static int settle(void) {
     uint8_t piece[65536];
     size_t copied, had = safe;
-    while (!escrow_site_log(&site, safe, piece, sizeof piece, &copied) && copied) {
+    do {
+        if (escrow_site_log(&site, safe, piece, sizeof piece, &copied)) return 0;
         if (write(file, piece, copied) != (ssize_t)copied) return 0;
         safe += copied;
-    }
+    } while (copied);
     return safe == had || !fdatasync(file);
 }
 
@@ -30,7 +31,7 @@ static int answer(const char *line, size_t length) {
     uint32_t status = escrow_site_tell(&site, (const uint8_t *)line, length, text, sizeof text, &told);
     if (status == ESCROW_UNTOLD || !settle()) return 0;
     if (status) printf("status %u\n", status);
-    else printf("%.*s\n", (int)told, (const char *)text);
+    if (!status) printf("%.*s\n", (int)told, (const char *)text);
     return !fflush(stdout);
 }
 

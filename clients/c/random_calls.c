@@ -2,10 +2,10 @@
  *
  *     random_calls COUNT SEED SCRIPT ANSWERS
  *
- * makes COUNT calls at three sites, by numbers and by lines, with statements that are carried late, twice or never, with
- * lines that ask nothing, and with sites that are closed and opened over their logs with a torn end. SCRIPT gets the same
- * as lines, and ANSWERS what a run of that script has to write, spelled from what the library answered. Status 1 where an
- * answer contradicts another; else who called compares ANSWERS with what `escrow run` writes. */
+ * makes some COUNT calls at three sites, by numbers and by lines, with statements that come late, twice or never,
+ * with lines that ask nothing, and with sites that are closed and opened over their logs with a torn end. SCRIPT gets
+ * the same as lines, and ANSWERS what a run of that script has to write, spelled from what the library answered. Status
+ * 1 where an answer contradicts another; else who called compares ANSWERS with what `escrow run` writes. */
 #include "../../include/escrow.h"
 #include <inttypes.h>
 #include <stdio.h>
@@ -86,12 +86,13 @@ static void open_site(uint16_t number, size_t torn) {
     size_t kept, copied, length = at->length;
     uint64_t line;
     keep(at, (const uint8_t *)"C 0 1 0 -2", torn);
-    uint32_t status = escrow_site_open(&at->handle, (const uint8_t *)header, sizeof header - 1, number, at->log, at->length,
-                                       &kept, &line);
+    uint32_t status = escrow_site_open(&at->handle, (const uint8_t *)header, sizeof header - 1, number, at->log,
+                                       at->length, &kept, &line);
     if (status || kept != length || line) fail("not opened", status);
     at->length = kept;
     uint8_t *back = malloc(kept + 1);
-    if (!back || escrow_site_log(&at->handle, 0, back, kept + 1, &copied) || copied != kept || memcmp(back, at->log, kept))
+    if (!back || escrow_site_log(&at->handle, 0, back, kept + 1, &copied) || copied != kept ||
+        memcmp(back, at->log, kept))
         fail("another log", copied);
     free(back);
 }
@@ -103,31 +104,49 @@ static int field_text(char *out, uint16_t field) {
 }
 
 static void spell(char *out, uint16_t number, const escrow_ask *ask) {
-    static const char *const words[] = {"",       "begin",  "escrow", "commit", "abort", "give",   "restate",
-                                        "spare",  "tighten", "accept", "read",   "share", "restart"};
+    static const char *const words[] = {"",      "begin",   "escrow", "commit", "abort", "give",   "restate",
+                                        "spare", "tighten", "accept", "read",   "share", "restart"};
     out += sprintf(out, "%u %s", number, words[ask->kind]);
     if (ask->kind >= ESCROW_ESCROW && ask->kind <= ESCROW_ABORT) out += sprintf(out, " %u.%u", ask->epoch, ask->number);
     if (ask->kind == ESCROW_ACCEPT) out += sprintf(out, " %u", ask->from);
-    if (ask->kind >= ESCROW_GIVE && ask->kind <= ESCROW_ACCEPT && ask->kind != ESCROW_TIGHTEN) out += sprintf(out, " %u", ask->to);
-    if (ask->kind == ESCROW_BEGIN || ask->kind == ESCROW_COMMIT || ask->kind == ESCROW_ABORT || ask->kind == ESCROW_RESTART) return;
+    if (ask->kind >= ESCROW_GIVE && ask->kind <= ESCROW_ACCEPT && ask->kind != ESCROW_TIGHTEN)
+        out += sprintf(out, " %u", ask->to);
+    if (ask->kind == ESCROW_BEGIN || ask->kind == ESCROW_COMMIT || ask->kind == ESCROW_ABORT ||
+        ask->kind == ESCROW_RESTART)
+        return;
     *out++ = ' ';
     out += field_text(out, ask->field);
     if (ask->kind == ESCROW_ESCROW) out += sprintf(out, " %" PRId64, ask->change);
     if (ask->kind >= ESCROW_GIVE && ask->kind <= ESCROW_ACCEPT) out += sprintf(out, " %s", kinds[ask->right]);
-    if (ask->kind >= ESCROW_GIVE && ask->kind <= ESCROW_ACCEPT && ask->kind != ESCROW_RESTATE) sprintf(out, " %" PRIu64, ask->amount);
+    if (ask->kind >= ESCROW_GIVE && ask->kind <= ESCROW_ACCEPT && ask->kind != ESCROW_RESTATE)
+        sprintf(out, " %" PRIu64, ask->amount);
 }
 
 static void spell_refusal(char *out, const escrow_answer *answer) {
-    static const char *const words[] = {"",          "down",          "no site",        "no field",     "no transaction", "zero",
-                                        "too large", "short",         "self gift",      "ledger full",  "not yours",      "forged",
-                                        "too many open", "too many escrows", "numbers full", "nothing given"};
+    static const char *const words[] = {"",
+                                        "down",
+                                        "no site",
+                                        "no field",
+                                        "no transaction",
+                                        "zero",
+                                        "too large",
+                                        "short",
+                                        "self gift",
+                                        "ledger full",
+                                        "not yours",
+                                        "forged",
+                                        "too many open",
+                                        "too many escrows",
+                                        "numbers full",
+                                        "nothing given"};
     out += sprintf(out, "refused %u %s", answer->code, words[answer->code]);
     if (answer->code == 7 || answer->code == 9 || answer->code == 11) sprintf(out, " %" PRIu64, answer->first);
 }
 
 static void spell_reply(char *out, const escrow_answer *answer) {
-    static const char *const words[] = {"",        "begun",     "granted",  "committed", "aborted", "given",    "stated",    "spared",
-                                        "tightened", "accepted", "between", "share",     "restarted", "unsure", "still down"};
+    static const char *const words[] = {"",        "begun",  "granted",   "committed", "aborted",
+                                        "given",   "stated", "spared",    "tightened", "accepted",
+                                        "between", "share",  "restarted", "unsure",    "still down"};
     static const char *const found[] = {"nothing", "kept", "lost"};
     if (answer->kind == ESCROW_REFUSED) {
         spell_refusal(out, answer);
@@ -151,12 +170,15 @@ static void spell_reply(char *out, const escrow_answer *answer) {
 /* ---- the calls */
 
 /* What a look answers has to be what the command answers. */
-static void look(site *at, const escrow_ask *ask, const escrow_answer *answer, uint32_t status, int64_t low, int64_t high) {
+static void look(site *at, const escrow_ask *ask, const escrow_answer *answer, uint32_t status, int64_t low,
+                 int64_t high) {
     if (answer->kind == ESCROW_REFUSED) {
-        if (status != (answer->code == 1 ? ESCROW_DOWN : ESCROW_NO_FIELD)) fail("another refusal than a look's", status);
+        if (status != (answer->code == 1 ? ESCROW_DOWN : ESCROW_NO_FIELD))
+            fail("another refusal than a look's", status);
     } else if (ask->kind == ESCROW_READ && (status || low != answer->low || high != answer->high)) {
         fail("another interval than a look's", status);
-    } else if (ask->kind == ESCROW_SHARE && (status || (uint64_t)low != answer->first || (uint64_t)high != answer->second)) {
+    } else if (ask->kind == ESCROW_SHARE &&
+               (status || (uint64_t)low != answer->first || (uint64_t)high != answer->second)) {
         fail("another share than a look's", status);
     }
     (void)at;
@@ -238,21 +260,38 @@ static void call(uint16_t number, const escrow_ask *ask) {
 
 /* A line that asks nothing: the site says so, and is as it was. */
 static void call_badly(uint16_t number) {
-    static const char *const lines[] = {"",          "begin",          "0 begin ",       "0  begin",         "0 sell 0.1 stock -1", "x",
-                                        "0 read",    "0 read #1",      "0 escrow 0.1 stock 01", "9 begin",   "0 give 1 stock lower -1", "0 begin\r",
-                                        "0 commit 1", "\xff\xfe",      "0 tighten stock down 1"};
+    static const char *const lines[] = {"",
+                                        "begin",
+                                        "0 begin ",
+                                        "0  begin",
+                                        "0 sell 0.1 stock -1",
+                                        "x",
+                                        "0 read",
+                                        "0 read #1",
+                                        "0 escrow 0.1 stock 01",
+                                        "9 begin",
+                                        "0 give 1 stock lower -1",
+                                        "0 begin\r",
+                                        "0 commit 1",
+                                        "\xff\xfe",
+                                        "0 tighten stock down 1"};
     char line[LINE];
     uint8_t text[ESCROW_TEXT];
     escrow_answer answer;
     size_t length;
     uint64_t which = draw(sizeof lines / sizeof *lines + 1);
-    if (which == sizeof lines / sizeof *lines) memset(line, 'a', 300), line[300] = 0;
-    else strcpy(line, lines[which]);
+    if (which == sizeof lines / sizeof *lines)
+        memset(line, 'a', 300), line[300] = 0;
+    else
+        strcpy(line, lines[which]);
     size_t count = strlen(line);
-    uint32_t status = draw(2) ? escrow_site_do(&sites[number].handle, (const uint8_t *)line, count, &answer)
-                              : escrow_site_tell(&sites[number].handle, (const uint8_t *)line, count, text, sizeof text, &length);
-    if (status != ESCROW_NO_LINE && status != ESCROW_NO_COMMAND && status != ESCROW_OTHER_SITE) fail("a bad line was asked", which);
-    if ((status == ESCROW_NO_LINE) != (count > 256 || (unsigned char)line[0] == 0xff)) fail("another fault of a line", status);
+    uint32_t status =
+        draw(2) ? escrow_site_do(&sites[number].handle, (const uint8_t *)line, count, &answer)
+                : escrow_site_tell(&sites[number].handle, (const uint8_t *)line, count, text, sizeof text, &length);
+    if (status != ESCROW_NO_LINE && status != ESCROW_NO_COMMAND && status != ESCROW_OTHER_SITE)
+        fail("a bad line was asked", which);
+    if ((status == ESCROW_NO_LINE) != (count > 256 || (unsigned char)line[0] == 0xff))
+        fail("another fault of a line", status);
     fprintf(script, "%s\n", line);
     fprintf(answers, "bad line\n");
 }
@@ -283,33 +322,45 @@ static uint64_t draw_amount(void) {
 }
 
 static uint32_t draw_kind(void) {
-    static const uint8_t shares[][2] = {{ESCROW_BEGIN, 34}, {ESCROW_ESCROW, 68}, {ESCROW_COMMIT, 98}, {ESCROW_ABORT, 106},
-                                        {ESCROW_GIVE, 118}, {ESCROW_RESTATE, 124}, {ESCROW_SPARE, 132}, {ESCROW_READ, 144},
-                                        {ESCROW_SHARE, 154}};
+    static const uint8_t shares[][2] = {{ESCROW_BEGIN, 34},  {ESCROW_ESCROW, 68}, {ESCROW_COMMIT, 98},
+                                        {ESCROW_ABORT, 106}, {ESCROW_GIVE, 118},  {ESCROW_RESTATE, 124},
+                                        {ESCROW_SPARE, 132}, {ESCROW_READ, 144},  {ESCROW_SHARE, 154}};
     uint64_t drawn = draw(154);
     size_t place = 0;
     while (drawn >= shares[place][1]) place++;
     return shares[place][0];
 }
 
-/* A command of a site, which isn't an acceptance. */
+/* Makes a call that is a line of the script as well. */
+static void call_line(uint16_t number, const escrow_ask *ask) {
+    char line[LINE];
+    spell(line, number, ask);
+    fprintf(script, "%s\n", line);
+    call(number, ask);
+}
+
+/* A command of a site, which isn't an acceptance; now and then one transaction sets aside until it may no more. */
 static void call_any(uint16_t number) {
-    escrow_ask ask = {.kind = draw_kind(), .right = (uint32_t)draw(2), .to = (uint16_t)(draw(30) ? draw(SITES) : SITES + draw(3)),
-                      .field = (uint16_t)(draw(40) ? draw(FIELDS) : FIELDS + draw(3)), .amount = draw_amount(), .change = draw_change()};
+    escrow_ask ask = {.kind = draw_kind(),
+                      .right = (uint32_t)draw(2),
+                      .to = (uint16_t)(draw(30) ? draw(SITES) : SITES + draw(3)),
+                      .field = (uint16_t)(draw(40) ? draw(FIELDS) : FIELDS + draw(3)),
+                      .amount = draw_amount(),
+                      .change = draw_change()};
     if (!draw(4000)) ask.kind = ESCROW_RESTART;
     if (!draw(20000)) ask = (escrow_ask){.kind = ESCROW_TIGHTEN, .right = ask.right, .amount = 1 + draw(3), .field = 0};
     draw_txn(&sites[number], &ask);
-    char line[LINE];
-    spell(line, number, &ask);
-    fprintf(script, "%s\n", line);
-    call(number, &ask);
+    int times = ask.kind == ESCROW_ESCROW && !draw(400) ? 17 : 1;
+    if (times > 1) ask.change = draw(2) ? 1 : -1;
+    while (times--) call_line(number, &ask);
 }
 
 /* A statement comes to its receiver, late or again. */
 static void deliver(void) {
     size_t place = draw(3) ? issues - 1 - draw(issues < 20 ? issues : 20) : draw(issues);
     statement it = issued[place];
-    escrow_ask ask = {.kind = ESCROW_ACCEPT, .right = it.right, .field = it.field, .from = it.from, .to = it.to, .amount = it.total};
+    escrow_ask ask = {
+        .kind = ESCROW_ACCEPT, .right = it.right, .field = it.field, .from = it.from, .to = it.to, .amount = it.total};
     fprintf(script, "deliver %zu\n", place + 1);
     call(it.to, &ask);
 }
@@ -318,12 +369,12 @@ static void deliver(void) {
 static void reopen(uint16_t number) {
     escrow_ask ask = {.kind = ESCROW_RESTART};
     int64_t low, high;
-    if (escrow_site_close(&sites[number].handle) || escrow_site_close(&sites[number].handle) != ESCROW_CLOSED) fail("not closed", number);
+    if (escrow_site_close(&sites[number].handle) || escrow_site_close(&sites[number].handle) != ESCROW_CLOSED)
+        fail("not closed", number);
     open_site(number, draw(11));
     uint32_t status = escrow_site_interval(&sites[number].handle, 0, &low, &high);
     if (status != (sites[number].length ? ESCROW_DOWN : ESCROW_DONE)) fail("up before its restart", status);
-    fprintf(script, "%u restart\n", number);
-    call(number, &ask);
+    call_line(number, &ask);
 }
 
 int main(int count, char **words) {
@@ -339,10 +390,14 @@ int main(int count, char **words) {
     for (uint64_t made = 0; made < calls; made++) {
         uint16_t at = (uint16_t)draw(SITES);
         uint64_t drawn = draw(100);
-        if (!draw(calls / 20 + 1)) reopen(at);
-        else if (!drawn) call_badly(at);
-        else if (drawn < 20 && issues) deliver();
-        else call_any(at);
+        if (!draw(calls / 20 + 1))
+            reopen(at);
+        else if (!drawn)
+            call_badly(at);
+        else if (drawn < 20 && issues)
+            deliver();
+        else
+            call_any(at);
     }
     for (number = 0; number < SITES; number++) {
         if (escrow_site_close(&sites[number].handle)) fail("not closed", number);

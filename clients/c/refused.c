@@ -1,15 +1,30 @@
 /* Every growth of memory refused in turn: each call of a site answers ESCROW_NO_MEMORY then, and the site is as it was,
- * beside a twin of which nothing was refused. To be linked with --wrap=malloc --wrap=realloc. Status 1 where it isn't so. */
+ * beside a twin of which nothing was refused. To be linked with --wrap=malloc --wrap=realloc. Status 1 where it isn't
+ * so. */
 #include "../../include/escrow.h"
 #include <stdio.h>
 #include <stdlib.h>
 #include <string.h>
 
-static const char header[] = "{\"sites\":3,\"fields\":[{\"name\":\"stock\",\"floor\":0,\"ceiling\":9000,\"value\":4000},"
-                             "{\"name\":\"seats\",\"floor\":0,\"ceiling\":60,\"value\":30}]}";
-static const char *const rows[] = {"begin", "escrow %s stock -3", "escrow %s seats 1", "escrow %s stock 2", "commit %s", "give 1 stock lower 4",
-                                   "spare 2 seats raise 5", "restate 1 stock lower", "accept 1 0 stock raise 6", "tighten stock raise 1",
-                                   "read stock", "share seats", "begin", "escrow %s stock -1", "abort %s", "sell 1"};
+static const char header[] =
+    "{\"sites\":3,\"fields\":[{\"name\":\"stock\",\"floor\":0,\"ceiling\":9000,\"value\":4000},"
+    "{\"name\":\"seats\",\"floor\":0,\"ceiling\":60,\"value\":30}]}";
+static const char *const rows[] = {"begin",
+                                   "escrow %s stock -3",
+                                   "escrow %s seats 1",
+                                   "escrow %s stock 2",
+                                   "commit %s",
+                                   "give 1 stock lower 4",
+                                   "spare 2 seats raise 5",
+                                   "restate 1 stock lower",
+                                   "accept 1 0 stock raise 6",
+                                   "tighten stock raise 1",
+                                   "read stock",
+                                   "share seats",
+                                   "begin",
+                                   "escrow %s stock -1",
+                                   "abort %s",
+                                   "sell 1"};
 enum { ROWS = sizeof rows / sizeof *rows };
 
 void *__real_malloc(size_t);
@@ -26,9 +41,13 @@ static int is_refused(void) {
     return 1;
 }
 
-void *__wrap_malloc(size_t bytes) { return is_refused() ? 0 : __real_malloc(bytes); }
+void *__wrap_malloc(size_t bytes) {
+    return is_refused() ? 0 : __real_malloc(bytes);
+}
 
-void *__wrap_realloc(void *block, size_t bytes) { return is_refused() ? 0 : __real_realloc(block, bytes); }
+void *__wrap_realloc(void *block, size_t bytes) {
+    return is_refused() ? 0 : __real_realloc(block, bytes);
+}
 
 static void fail(const char *why, const char *where) {
     fprintf(stderr, "refused: %s: %s\n", why, where);
@@ -51,8 +70,10 @@ static int are_same(escrow_handle *one, escrow_handle *other) {
     for (uint16_t field = 0; field < 2; field++) {
         int64_t sums[4] = {0};
         uint64_t shares[4] = {0};
-        same &= escrow_site_interval(one, field, &sums[0], &sums[1]) == escrow_site_interval(other, field, &sums[2], &sums[3]);
-        same &= escrow_site_share(one, field, &shares[0], &shares[1]) == escrow_site_share(other, field, &shares[2], &shares[3]);
+        same &= escrow_site_interval(one, field, &sums[0], &sums[1]) ==
+                escrow_site_interval(other, field, &sums[2], &sums[3]);
+        same &= escrow_site_share(one, field, &shares[0], &shares[1]) ==
+                escrow_site_share(other, field, &shares[2], &shares[3]);
         same &= sums[0] == sums[2] && sums[1] == sums[3] && shares[0] == shares[2] && shares[1] == shares[3];
     }
     free(bytes);
@@ -63,12 +84,13 @@ static int are_same(escrow_handle *one, escrow_handle *other) {
 /* Tells a line; `text` has no room to fail for. */
 static uint32_t tell(escrow_handle *handle, const char *line, char *text) {
     size_t length;
-    uint32_t status = escrow_site_tell(handle, (const uint8_t *)line, strlen(line), (uint8_t *)text, ESCROW_TEXT, &length);
+    uint32_t status =
+        escrow_site_tell(handle, (const uint8_t *)line, strlen(line), (uint8_t *)text, ESCROW_TEXT, &length);
     text[length] = 0;
     return status;
 }
 
-/* Tells a line at a site of which each growth is refused in turn, until none is left to refuse, and then at its twin. */
+/* Tells a line at a site of which each growth is refused in turn, until none is left, and then at its twin. */
 static long tell_through(escrow_handle *site, escrow_handle *twin, const char *line, char *text) {
     char twins[ESCROW_TEXT + 1];
     long count = 0;
@@ -114,8 +136,9 @@ static long open_through(escrow_handle *handle, const uint8_t *log, size_t lengt
 
 /* Runs a script and judges what it answers, each growth refused in turn. */
 static long texts_through(void) {
-    static const char script[] = "{\"sites\":2,\"fields\":[{\"name\":\"stock\",\"floor\":0,\"ceiling\":100,\"value\":40}]}\n"
-                                 "0 begin\n0 escrow 0.1 stock -20\n0 commit 0.1\n1 give 0 stock lower 5\ndeliver 1\n0 restart\n";
+    static const char script[] =
+        "{\"sites\":2,\"fields\":[{\"name\":\"stock\",\"floor\":0,\"ceiling\":100,\"value\":40}]}\n"
+        "0 begin\n0 escrow 0.1 stock -20\n0 commit 0.1\n1 give 0 stock lower 5\ndeliver 1\n0 restart\n";
     uint8_t out[1024];
     size_t needed = 0, header = strcspn(script, "\n");
     uint64_t at;

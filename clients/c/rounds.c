@@ -6,7 +6,8 @@
 #include <string.h>
 #include <time.h>
 
-static const char header[] = "{\"sites\":1,\"fields\":[{\"name\":\"stock\",\"floor\":0,\"ceiling\":1000000,\"value\":500000}]}";
+static const char header[] =
+    "{\"sites\":1,\"fields\":[{\"name\":\"stock\",\"floor\":0,\"ceiling\":1000000,\"value\":500000}]}";
 
 static double now(void) {
     struct timespec at;
@@ -18,7 +19,8 @@ static int round_by_numbers(escrow_handle *site, int64_t change) {
     escrow_answer answer;
     escrow_ask ask = {.kind = ESCROW_BEGIN};
     if (escrow_site_ask(site, &ask, &answer) || answer.kind != ESCROW_BEGUN) return 0;
-    ask = (escrow_ask){.kind = ESCROW_ESCROW, .epoch = (uint32_t)answer.first, .number = (uint32_t)answer.second, .change = change};
+    ask = (escrow_ask){
+        .kind = ESCROW_ESCROW, .epoch = (uint32_t)answer.first, .number = (uint32_t)answer.second, .change = change};
     if (escrow_site_ask(site, &ask, &answer) || answer.kind != ESCROW_GRANTED) return 0;
     ask.kind = ESCROW_COMMIT;
     return !escrow_site_ask(site, &ask, &answer) && answer.kind == ESCROW_COMMITTED;
@@ -44,7 +46,8 @@ static void measure(const char *how, long rounds, int (*round)(escrow_handle *, 
     size_t kept, length;
     uint64_t line;
     long right = 0;
-    if (escrow_site_open(&site, (const uint8_t *)header, sizeof header - 1, 0, (const uint8_t *)"", 0, &kept, &line)) exit(1);
+    if (escrow_site_open(&site, (const uint8_t *)header, sizeof header - 1, 0, (const uint8_t *)"", 0, &kept, &line))
+        exit(1);
     double began = now();
     for (long made = 0; made < rounds; made++) right += round(&site, made % 2 ? 20 : -20);
     double took = now() - began;

@@ -1,5 +1,5 @@
-/* The two calls that keep nothing: texts SCRIPT RAN runs a script, of which RAN is what `escrow run` writes, and has the
- * entries judged; then it breaks the trace. Status 1 where anything isn't as it has to be. */
+/* The two calls that keep nothing: texts SCRIPT RAN runs a script, of which RAN is what `escrow run` writes, and has
+ * the entries judged; then it breaks the trace. Status 1 where anything isn't as it has to be. */
 #include "../../include/escrow.h"
 #include <inttypes.h>
 #include <stdio.h>
@@ -32,9 +32,11 @@ static void run_script(text script, text ran) {
     uint8_t *out = malloc(ran.length + 1);
     if (!out) exit(2);
     memset(out, 7, ran.length + 1);
-    EXPECT(escrow_run_text(script.bytes, script.length, out, ran.length - 1, &needed) == ESCROW_NO_ROOM && needed == ran.length);
+    EXPECT(escrow_run_text(script.bytes, script.length, out, ran.length - 1, &needed) == ESCROW_NO_ROOM &&
+           needed == ran.length);
     EXPECT(out[0] == 7);
-    EXPECT(escrow_run_text(script.bytes, script.length, out, ran.length + 1, &needed) == ESCROW_DONE && needed == ran.length);
+    EXPECT(escrow_run_text(script.bytes, script.length, out, ran.length + 1, &needed) == ESCROW_DONE &&
+           needed == ran.length);
     EXPECT(!memcmp(out, ran.bytes, ran.length) && out[ran.length] == 7);
     EXPECT(escrow_run_text(script.bytes, 3, out, ran.length, &needed) == ESCROW_NO_SCHEMA && needed == 0);
     free(out);

@@ -6,7 +6,8 @@
 
 enum { THREADS = 4 };
 
-static const char header[] = "{\"sites\":4,\"fields\":[{\"name\":\"stock\",\"floor\":0,\"ceiling\":1000000,\"value\":500000}]}";
+static const char header[] =
+    "{\"sites\":4,\"fields\":[{\"name\":\"stock\",\"floor\":0,\"ceiling\":1000000,\"value\":500000}]}";
 static long rounds = 20000;
 static escrow_handle shared;
 static pthread_mutex_t lock = PTHREAD_MUTEX_INITIALIZER;
@@ -14,7 +15,9 @@ static pthread_mutex_t lock = PTHREAD_MUTEX_INITIALIZER;
 static void open_site(escrow_handle *handle, uint16_t number) {
     size_t kept;
     uint64_t line;
-    if (escrow_site_open(handle, (const uint8_t *)header, sizeof header - 1, number, (const uint8_t *)"", 0, &kept, &line)) exit(1);
+    if (escrow_site_open(handle, (const uint8_t *)header, sizeof header - 1, number, (const uint8_t *)"", 0, &kept,
+                         &line))
+        exit(1);
 }
 
 static long round_of(escrow_handle *handle, long made) {

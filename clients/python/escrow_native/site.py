@@ -28,6 +28,7 @@ from escrow import (
 
 from .library import STATUS, TEXT, Answer, Ask, Handle, load
 
+PathLike = Union[str, "os.PathLike[str]"]
 BEGIN, ESCROW, COMMIT, ABORT, GIVE, RESTATE, SPARE, TIGHTEN, ACCEPT, READ, SHARE, RESTART = range(1, 13)
 REFUSED = 15
 _WORDS = (
@@ -35,7 +36,7 @@ _WORDS = (
     "restart",
 )  # fmt: skip
 _RIGHTS = (Kind.LOWER, Kind.RAISE)
-_CLASSES = {Refusal.SHORT: Short, Refusal.FORGED: Forged, Refusal.NOTHING_GIVEN: NothingGiven, Refusal.NO_TRANSACTION: Over}
+_CLASSES = {Refusal.SHORT: Short, Refusal.FORGED: Forged, Refusal.NOTHING_GIVEN: NothingGiven}
 _TELLING = (Refusal.SHORT, Refusal.LEDGER_FULL, Refusal.FORGED)
 
 
@@ -79,7 +80,7 @@ class Transaction:
 class Site:
     """One site over one file, for the threads of this process: a lock stands between their calls."""
 
-    def __init__(self, schema: Union[str, os.PathLike[str]], number: int, path: Union[str, os.PathLike[str]], *, sync: bool = True) -> None:
+    def __init__(self, schema: PathLike, number: int, path: PathLike, *, sync: bool = True) -> None:
         """Opens the site of this number over a log, which is made where there is none, and restarts it.
 
         `schema` is the header, or the path of a file that begins with it. `sync=False` doesn't sync the file: a stop of
@@ -124,7 +125,8 @@ class Site:
     def _write_added(self) -> None:
         had, copied = self._had, self._copied
         while True:
-            self._done(self._library.escrow_site_log(self._handle, self._had, self._room, len(self._room), ctypes.byref(copied)))
+            room, copied_at = self._room, ctypes.byref(copied)
+            self._done(self._library.escrow_site_log(self._handle, self._had, room, len(room), copied_at))
             if not copied.value:
                 break
             piece = memoryview(self._room)[: copied.value]
@@ -254,7 +256,7 @@ class Site:
         self.close()
 
 
-def _header(schema: Union[str, os.PathLike[str]]) -> bytes:
+def _header(schema: PathLike) -> bytes:
     text = schema if isinstance(schema, str) and schema.lstrip().startswith("{") else Path(schema).read_text("utf-8")
     return text.split("\n", 1)[0].encode()
 
@@ -266,7 +268,7 @@ def _whole(file: int) -> bytes:
     return b"".join(pieces)
 
 
-def _sync_folder(path: Union[str, os.PathLike[str]]) -> None:
+def _sync_folder(path: PathLike) -> None:
     """Makes the name of a new file safe."""
     folder = os.open(os.path.dirname(os.path.abspath(path)), os.O_RDONLY | os.O_DIRECTORY)
     try:
