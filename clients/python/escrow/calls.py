@@ -200,12 +200,28 @@ class Change(Call[None]):
 
 
 class Changes(Call[None]):
-    """Changes of tasks of one loop that went out together: where none is refused, their answers are one text."""
+    """Changes of tasks of one loop that go out together: where none is refused, their answers are one text."""
 
     __slots__ = ("calls",)
     command = Command.CHANGE
 
-    calls: Sequence[Change]
+    def __init__(self, changes: Sequence[Change], ids: Sequence[str]) -> None:
+        for change, id in zip(changes, ids):
+            change.id = id
+        self.calls, self.waiter = changes, changes[0].waiter
+        shapes = [change.shape for change in changes]
+        self.text = _between(ids, shapes[0].asked, [shape.asked[1] for shape in shapes])
+        self.expected = _between(ids, shapes[0].told, [shape.told[2] for shape in shapes])
+
+
+def _between(ids: Sequence[str], pieces: Sequence[str], own: Sequence[str]) -> str:
+    """Each id between these pieces, the last but one of which is each one's own: a join of all, which is the fastest."""
+    count = 2 * len(pieces) - 1
+    texts = [pieces[at // 2] for at in range(count)] * len(ids)
+    for at in range(1, count, 2):
+        texts[at::count] = ids
+    texts[count - 3 :: count] = own
+    return "".join(texts)
 
 
 def _begun(reply: Reply, own: str) -> None:

@@ -2,14 +2,13 @@
 
 from __future__ import annotations
 
-import types
 from asyncio import AbstractEventLoop, get_running_loop
-from collections.abc import Awaitable, Generator, Sequence
+from collections.abc import Awaitable, Sequence
 from time import perf_counter
-from typing import TYPE_CHECKING, Any, Optional, Protocol, TypeVar
+from typing import TYPE_CHECKING, Any, Optional, Protocol, TypeVar, cast
 
 from .calls import Call
-from .waiters import Awaited
+from .waiters import Awaited, result_of
 
 if TYPE_CHECKING:
     from .pipeline import Pipeline
@@ -17,6 +16,8 @@ if TYPE_CHECKING:
 T = TypeVar("T")
 FEW = 16
 """So few tasks always ask together."""
+TRIALS, TRIAL, STAY = 8, 16, 1024
+"""So many trials of a way of sending follow one another, each of so many reads, and for so many one stays."""
 
 
 class Ask(Protocol):
@@ -29,7 +30,7 @@ class Ask(Protocol):
 class Desk:
     """Where the tasks of one event loop ask: their lines go out together, once each has had its turn."""
 
-    __slots__ = ("loop", "gathered", "wakes", "can_read", "_pipeline", "_pace", "_held")
+    __slots__ = ("loop", "gathered", "wakes", "can_read", "_pipeline", "_pace", "_held", "_ended")
 
     def __init__(self, loop: AbstractEventLoop, pipeline: Pipeline) -> None:
         self.loop = loop
@@ -41,16 +42,15 @@ class Desk:
         """Whether the loop watches pipes, as far as is known."""
         self._pipeline, self._pace = pipeline, Pace()
         self._held = False  # what has gathered waits for more answers
+        self._ended = loop.create_future()  # a woken task asks it whether to go on
+        self._ended.set_result(None)
 
     def send(self) -> None:
         """Has all go out that has gathered, unless it is held."""
         gathered = self.gathered
         if gathered and not self._held:
             self.gathered = []
-            was_idle = self._pipeline.under_way == 0
             self._pipeline.submit(gathered)
-            if was_idle:
-                self._pace.goes()
             self._pipeline.flush()
             self._pipeline.reading.want(self)
 
@@ -61,13 +61,13 @@ class Desk:
         self.send()
 
     def _go_on(self, calls: Sequence[Awaited]) -> None:
-        left, self.wakes = iter(calls), True
+        left, ended, self.wakes = iter(calls), self._ended, True
         try:
             for call in left:
                 wake = call.wake
                 if wake is not None:
                     call.wake = None
-                    call.context.run(wake, call)  # type: ignore[union-attr]
+                    call.context.run(wake, ended)
         except BaseException:  # a task ends the loop by it: the others go on where it runs again
             self.loop.call_soon(self.wake, list(left))
             raise
@@ -77,12 +77,11 @@ class Desk:
     def answer(self, calls: Sequence[Awaited]) -> None:
         """As `wake`, where the loop itself reads. What the tasks ask goes out in two parts, where that pays; where it
         doesn't, it waits for that of tasks whose answers are still to come, which keep the program at work."""
-        many, others = len(calls), self._pipeline.under_way
-        parts_pay = self._pace.comes(many, others)
-        if others and not parts_pay:
+        many, others, parts = len(calls), self._pipeline.under_way, self._pace.comes(len(calls))
+        if others and not parts:
             self._held = True
             self._go_on(calls)
-        elif not others and parts_pay and many >= FEW:
+        elif not others and parts and many >= FEW:
             rest = calls[many // 2 :]
             try:
                 self.wake(calls[: many // 2])
@@ -92,71 +91,78 @@ class Desk:
             self.wake(rest)
         else:
             self.wake(calls)
-        self._pace.went_on(many)
+        if not self._pipeline.under_way:
+            self._pace.rests()
 
 
 class Pace:
     """Whether lines go out in two parts: the program takes one, while tasks go on with the answers of the other.
 
-    Each part costs a sync of its own. So it pays only where tasks take longer to go on than the program to answer.
+    Each part costs a sync of its own, so it depends on the disk, on the program and on the tasks which is faster. Both
+    are measured, a few reads each in turn, so that what else the machine does falls on both alike; then the faster one
+    stays for a while. Where two parts halve the rate, as over a slow disk, that costs three answers of a hundred. Time
+    in which nothing is asked counts for neither.
     """
 
-    __slots__ = ("_trip", "_each", "_sent", "_came")
+    __slots__ = ("parts", "_trials", "_left", "_answers", "_seconds", "_since")
 
     def __init__(self) -> None:
-        self._trip = 0.0  # seconds of the last answer
-        self._each = 0.0  # seconds that a task takes to go on, of late
-        self._sent = 0.0  # when lines last went out to a program that had nothing to do, and aren't answered
-        self._came = 0.0  # when answers last came
+        self.parts = False
+        """Whether they go out in two parts now."""
+        self._trials, self._left = TRIALS, TRIAL  # so many trials are left, and reads of this one
+        self._answers, self._seconds = [0, 0], [0.0, 0.0]  # what came in all trials, and how long it took: by `parts`
+        self._since: Optional[float] = None  # when answers last came, where others were to come
 
-    def goes(self) -> None:
-        """Lines go out to a program that has nothing to do."""
-        self._sent = perf_counter()
-
-    def comes(self, many: int, others: int) -> bool:
-        """Answers have come for so many tasks, while so many others wait: whether two parts pay."""
+    def comes(self, many: int) -> bool:
+        """So many answers have come: whether what their tasks ask goes out in two parts."""
         now = perf_counter()
-        if others:
-            self._trip = now - self._came
-        elif self._sent:
-            self._trip = now - self._sent
-        self._sent, self._came = 0.0, now
-        return self._trip < (many + others) * self._each
+        if self._since is not None:
+            self._answers[self.parts] += many
+            self._seconds[self.parts] += now - self._since
+        self._since = now
+        self._left -= 1
+        if self._left == 0:
+            self._change()
+        return self.parts
 
-    def went_on(self, many: int) -> None:
-        """So many tasks have gone on since."""
-        if many:
-            self._each += ((perf_counter() - self._came) / many - self._each) / 8
+    def rests(self) -> None:
+        """Nothing is under way: no answer comes, until somebody asks."""
+        self._since = None
+
+    def _change(self) -> None:
+        self._trials -= 1
+        if self._trials == 0:
+            (one, two), (one_took, two_took) = self._answers, self._seconds
+            self.parts, self._left = two * one_took > one * two_took, STAY
+            return
+        if self._trials < 0:
+            self._trials, self._answers, self._seconds = TRIALS, [0, 0], [0.0, 0.0]
+        self.parts, self._left = not self.parts, TRIAL
 
 
 class Desks:
     """The desk of the event loop whose tasks ask: an `AsyncSite` has one loop."""
 
-    __slots__ = ("_pipeline", "_desk")
+    __slots__ = ("_pipeline", "desk")
 
     def __init__(self, pipeline: Pipeline) -> None:
         self._pipeline = pipeline
-        self._desk: Optional[Desk] = None
+        self.desk: Optional[Desk] = None
+        """The last one that was asked for."""
 
-    @types.coroutine
-    def ask(self, call: Call[T]) -> Generator[Awaited, None, T]:
+    def here(self) -> Desk:
+        """That of the running loop."""
+        loop = get_running_loop()
+        if self.desk is None or self.desk.loop is not loop:
+            if self.desk is not None and not self.desk.loop.is_closed():
+                raise RuntimeError("an AsyncSite belongs to one event loop: make another for this one")
+            self.desk = self._pipeline.desk(loop)
+        return self.desk
+
+    async def ask(self, call: Call[T]) -> T:
         """Asks, and waits for the answer. Raises what it is, or `Interrupted` where a stop left it out."""
-        desk, loop = self._desk, get_running_loop()
-        if desk is None or desk.loop is not loop:
-            desk = self._join(loop)
-        call.waiter, call.answer, call.wake, call._asyncio_future_blocking = desk, None, None, True
-        gathered = desk.gathered
-        gathered.append(call)
-        if len(gathered) == 1 and not desk.wakes:
-            loop.call_soon(desk.send)
-        yield call
-        told = call.answer
-        if told is not None and isinstance(told, Exception):
-            raise told
-        return told  # type: ignore[return-value]
-
-    def _join(self, loop: AbstractEventLoop) -> Desk:
-        if self._desk is not None and not self._desk.loop.is_closed():
-            raise RuntimeError("an AsyncSite belongs to one event loop: make another for this one")
-        self._desk = self._pipeline.desk(loop)
-        return self._desk
+        desk = self.here()
+        call.answer = None
+        call.waiter = desk
+        await call
+        return cast(T, result_of(call))

@@ -11,7 +11,7 @@ import time
 from collections import deque
 from collections.abc import Callable, Sequence
 from dataclasses import dataclass, field
-from typing import Any, Optional, Protocol, cast
+from typing import Any, NamedTuple, Optional, Protocol, cast
 
 from .calls import Call, Change, Changes, Shape, Standing
 from .desk import Desk
@@ -75,6 +75,17 @@ class Counts:
     """Those of them that were made again."""
 
 
+class Taken(NamedTuple):
+    """What was answered by what came."""
+
+    calls: list[Call[Any]]
+    """In their order."""
+    waiters: set[object]
+    """Who waits for them."""
+    fault: Optional[Faulty]
+    """What doesn't fit any line."""
+
+
 class Pipeline:
     """The order of the lines of one site, over one process after another."""
 
@@ -85,9 +96,8 @@ class Pipeline:
         self.counts = Counts()
         self.lock = threading.Lock()
         self._fields, self._issued, self._watch = fields, issued, watch
-        self.shapes: dict[str, dict[int, Shape]] = {}
+        self.shapes: dict[tuple[str, int], Shape] = {}
         """By the field and the change."""
-        self._shapes_kept = 0
         # The process, as it now stands.
         self.up = False
         self.dead: Optional[Down] = None
@@ -127,16 +137,12 @@ class Pipeline:
     def shape(self, field: str, change: int) -> Shape:
         """What the lines of such a change have in common, kept in `shapes`. Raises `Refused` or `ValueError` where it
         is none."""
-        shapes = self.shapes.setdefault(self.known(field), {})
-        shape = shapes.get(change)
+        shape = self.shapes.get((field, change))
         if shape is None:
-            shape = Shape(self.number, field, change_of(change))
-            if self._shapes_kept >= SHAPES:
-                self._shapes_kept = 0
-                for it in tuple(self.shapes.values()):
-                    it.clear()
-            self._shapes_kept += 1
-            shapes[change] = shape
+            shape = Shape(self.number, self.known(field), change_of(change))
+            if len(self.shapes) >= SHAPES:
+                self.shapes.clear()
+            self.shapes[field, change] = shape
         return shape
 
     def desk(self, loop: asyncio.AbstractEventLoop) -> Desk:
@@ -168,23 +174,17 @@ class Pipeline:
 
     def _queue_changes(self, changes: Sequence[Change]) -> None:
         """As `queue` of each, where nothing can be wrong with any, and one loop asks."""
-        prefix, number, asked, told = self._prefix, self._numbers, [], []
-        for call in changes:
-            number += 1
-            own = call.id = f"{prefix}{number}"
-            shape = call.shape
-            asked.append(own.join(shape.asked))
-            told.append(own.join(shape.told))
-        self._numbers = number
+        prefix, first = self._prefix, self._numbers + 1
+        self._numbers += len(changes)
+        ids = [f"{prefix}{number}" for number in range(first, first + len(changes))]
+        together = Changes(changes, ids)
         if self._watch is not None:
             began = self._began = self._began if self._out else time.perf_counter()
             for call in changes:
                 call.began = began
-        together = Changes()
-        together.waiter, together.calls, together.expected = changes[0].waiter, changes, "".join(told)
         self._pending.append(together)
         self._asked += len(changes)
-        self._out += asked
+        self._out.append(together.text)
 
     def _place(self, call: Call[Any]) -> None:
         if self.up:
@@ -321,11 +321,11 @@ class Pipeline:
 
     # What comes back.
 
-    def take(self, piece: bytes) -> tuple[list[Call[Any]], Optional[Faulty]]:
-        """The calls that are answered by what came, in their order, and what doesn't fit any line. Only by who reads.
-        """
+    def take(self, piece: bytes) -> Taken:
+        """What came. Only by who reads."""
         buffer, at = self._rest + piece.decode("ascii", "replace"), 0
         done: list[Call[Any]] = []
+        waiters: set[object] = set()
         pending, fault = self._pending, None
         try:
             while at < len(buffer):
@@ -335,6 +335,7 @@ class Pipeline:
                 expected = call.expected
                 if expected and buffer.startswith(expected, at):
                     at += len(expected)
+                    waiters.add(call.waiter)
                     if type(call) is Changes:
                         done += call.calls
                     else:
@@ -349,6 +350,7 @@ class Pipeline:
                         break
                     self._notice(call.answer)
                     at = end
+                    waiters.add(call.waiter)
                     done.append(call)
                 pending.popleft()
         except Faulty as faulty:
@@ -356,7 +358,7 @@ class Pipeline:
         self._rest = buffer[at:]
         self._done += len(done)
         self.counts.answers += len(done)
-        return done, fault
+        return Taken(done, waiters, fault)
 
     def _part(self, first: Changes) -> None:
         """Not all of these are answered well, or not yet: each waits by itself."""

@@ -11,11 +11,10 @@ from typing import TYPE_CHECKING, Any, Optional
 
 from .calls import Call
 from .desk import Desk
-from .errors import Faulty
 from .waiters import settle
 
 if TYPE_CHECKING:
-    from .pipeline import Pipeline
+    from .pipeline import Pipeline, Taken
 
 AT_ONCE = 1 << 16
 """How many bytes of answers one read takes: as many as a pipe holds."""
@@ -67,17 +66,17 @@ class Reading:
         """Reads answers until there are no more, and hands them over. Raises `Faulty` where they fit no line."""
         self._calm = 0
         while piece := os.read(back, AT_ONCE):
-            self._hand_over(*self._pipeline.take(piece))
+            self._hand_over(self._pipeline.take(piece))
             if self._calm >= CALM:
                 self._lend(back)
 
-    def _hand_over(self, done: list[Call[Any]], fault: Optional[Faulty]) -> None:
-        settle(done)
-        self._pipeline.tell(done)
-        if fault is not None:
-            raise fault
-        desk = done[-1].waiter if done else None
-        if type(desk) is Desk and desk.can_read and all(call.waiter is desk for call in done):
+    def _hand_over(self, taken: Taken) -> None:
+        settle(taken.calls)
+        self._pipeline.tell(taken.calls)
+        if taken.fault is not None:
+            raise taken.fault
+        desk = next(iter(taken.waiters)) if len(taken.waiters) == 1 else None
+        if type(desk) is Desk and desk.can_read:
             self._calm = self._calm + 1 if desk is self._last else 1
             self._last = desk
         else:
@@ -162,10 +161,10 @@ class Turn:
         piece = os.read(self._back.fileno(), AT_ONCE)
         if not piece:  # the thread finds that out too
             self.desk.loop.remove_reader(self._back.fileno())
-        done, self.fault = self._pipeline.take(piece)
-        desk = self.desk
-        mine = [call for call in done if call.waiter is desk]
-        if len(mine) < len(done):
+        done, waiters, self.fault = self._pipeline.take(piece)
+        mine, desk = done, self.desk
+        if waiters - {desk}:
+            mine = [call for call in done if call.waiter is desk]
             settle(call for call in done if call.waiter is not desk)
         try:
             self._pipeline.tell(done)

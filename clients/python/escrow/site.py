@@ -6,11 +6,12 @@ import asyncio
 import fcntl
 import os
 import weakref
+from asyncio import get_running_loop
 from collections.abc import Callable
 from typing import Optional
 
 from .asking import ask, ask_behind_stop, async_ask_behind_stop, async_kept, kept
-from .calls import Change, Kept, Line, Shape
+from .calls import Change, Kept, Line
 from .desk import Desks
 from .errands import Errands
 from .errors import Down, Interrupted
@@ -22,8 +23,7 @@ from .steps import GivenKey, Steps, TightenedKey, share
 from .supervisor import Backoff, Orders, Supervisor
 from .transaction import AsyncTransaction, Transaction
 from .values import Command, Interval, Kind, Mark, Outcome, Share, Spared, Statement
-
-_NONE: dict[int, Shape] = {}
+from .waiters import result_of
 
 
 class Site:
@@ -293,7 +293,8 @@ class AsyncSite:
         self.site = site
         self._pipeline = site.pipeline
         self._shapes = site.pipeline.shapes
-        self._ask = Desks(site.pipeline).ask
+        self._desks = Desks(site.pipeline)
+        self._ask = self._desks.ask
 
     def transaction(self, seconds: Optional[float] = None) -> AsyncTransaction:
         """As `Site.transaction`, for `async with`."""
@@ -301,16 +302,24 @@ class AsyncSite:
 
     async def change(self, field: str, change: int) -> str:
         """As `Site.change`."""
-        shape = self._shapes.get(field, _NONE).get(change) or self._pipeline.shape(field, change)
+        shape = self._shapes.get((field, change)) or self._pipeline.shape(field, change)
         while True:
+            desk = self._desks.desk
+            if desk is None or desk.loop is not get_running_loop():
+                desk = self._desks.here()
             call = Change()
-            call.shape = shape
-            try:
-                await self._ask(call)
+            call.shape, call.answer, call.waiter = shape, None, desk
+            await call
+            if call.answer is None or await self._was_made(call):
                 return call.id
-            except Interrupted:
-                if await async_kept(self._pipeline, self._ask, call.id) is Outcome.COMMITTED:
-                    return call.id
+
+    async def _was_made(self, change: Change) -> bool:
+        """Whether it was made, though a stop left its answer out. Raises the answer where there is one."""
+        try:
+            result_of(change)
+        except Interrupted:
+            pass
+        return await async_kept(self._pipeline, self._ask, change.id) is Outcome.COMMITTED
 
     async def give(self, to: int, field: str, kind: Kind, amount: int) -> Statement:
         """As `Site.give`, in a thread."""

@@ -5,7 +5,7 @@ from __future__ import annotations
 import asyncio
 import contextvars
 import threading
-from collections.abc import Callable, Iterable, Sequence
+from collections.abc import Callable, Generator, Iterable, Sequence
 from typing import Any, Optional, Protocol, Union
 
 
@@ -37,50 +37,67 @@ class ThreadWaiter:
 class Awaited:
     """What a task awaits in place of a future: the task yields it, and is woken once, by its desk or by `cancel`.
 
-    It has what `asyncio` asks of an object like a future, and saves a turn of the loop: the task goes on as the answers
-    are read, where a future would have it called later.
+    It has what a task asks of an object like a future, and saves a turn of the loop: the task goes on as the answers
+    are read, where a future would have it called later. Who awaits it sets `answer` to None, and then `waiter`.
     """
 
-    __slots__ = ("waiter", "answer", "wake", "_asyncio_future_blocking", "context", "_message")
+    __slots__ = ("waiter", "answer", "wake", "_asyncio_future_blocking", "context")
 
     waiter: Optional[Waiter]
     answer: object
     """What the answers mean, or the exception to raise."""
     wake: Optional[Callable[[Any], object]]
-    """Goes on with the task: None before it waits, and once it was woken."""
+    """Goes on with the task, which asks a future for how: None once it was woken."""
     _asyncio_future_blocking: bool
-    context: Optional[contextvars.Context]
-    _message: Optional[Any]
+    context: contextvars.Context
 
-    def get_loop(self) -> asyncio.AbstractEventLoop:
-        """The loop of the task."""
-        return self.waiter.loop  # type: ignore[union-attr]
+    get_loop = staticmethod(asyncio.get_running_loop)
+    """The loop of the task that asks this."""
+
+    def __await__(self) -> Generator[Awaited, None, None]:
+        self._asyncio_future_blocking = True
+        return iter((self,))  # type: ignore[return-value]  # it yields once, and needs no frame for it
 
     def add_done_callback(
         self, wake: Callable[[Any], object], *, context: Optional[contextvars.Context] = None
     ) -> None:
-        """The task waits from now on."""
+        """The task waits from now on: so it is asked."""
         self.wake, self.context = wake, contextvars.copy_context() if context is None else context
-
-    def result(self) -> None:
-        """Asked by the task that is woken. Raises `CancelledError` where it was cancelled."""
-        if self.context is None:
-            raise asyncio.CancelledError(*(() if self._message is None else (self._message,)))
+        desk: Any = self.waiter
+        if not desk.gathered and not desk.wakes:
+            desk.loop.call_soon(desk.send)
+        desk.gathered.append(self)
 
     def cancel(self, msg: Optional[Any] = None) -> bool:
         """The task is cancelled: it doesn't wait any more. False where it doesn't wait."""
-        wake, context = self.wake, self.context
+        wake, loop = self.wake, self.waiter.loop  # type: ignore[union-attr]
         if wake is None:
             return False
-        self.wake, self.context, self._message = None, None, msg
-        self.get_loop().call_soon(wake, self, context=context)
+        self.wake, cancelled = None, loop.create_future()
+        cancelled.cancel(msg)
+        loop.call_soon(wake, cancelled, context=self.context)
         return True
+
+
+def result_of(call: Awaited) -> Any:
+    """What it was answered. Raises it where it is an exception."""
+    told = call.answer
+    if isinstance(told, Exception):
+        raise told
+    return told
 
 
 class TaskWaiter(Protocol):
     """For whom a task waits: the desk of its event loop."""
 
     loop: asyncio.AbstractEventLoop
+    gathered: list[Any]
+    """Calls that haven't gone out."""
+    wakes: bool
+    """Whether it wakes tasks, and sends behind that."""
+
+    def send(self) -> None:
+        """Has all go out that has gathered. Called in the loop."""
 
     def wake(self, calls: Sequence[Awaited]) -> None:
         """Wakes the tasks of these calls. Called in the loop."""

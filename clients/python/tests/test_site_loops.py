@@ -3,6 +3,7 @@
 from __future__ import annotations
 
 import asyncio
+import contextvars
 import os
 import random
 import signal
@@ -17,7 +18,7 @@ from programs import LARGE, SHOP, Killer, SiteTest, commits, escrow_site, kill, 
 import escrow
 from escrow import Outcome, Refusal
 from escrow.calls import Change
-from escrow.desk import Desk, Pace
+from escrow.desk import STAY, TRIAL, TRIALS, Desk, Pace
 from escrow.metrics import Metrics, text_of
 from escrow.pipeline import Pipeline
 from escrow.waiters import Awaited
@@ -291,11 +292,11 @@ class AnswerTest(SiteTest):
             well = "".join(call.expected for call in calls)
             answers = (well[: well.index("0 escrow 7.2")] + refusal + well[well.index("0 begin -> begun 7.3") :]).encode()
             pieces = [line.take(answers[at : at + size]) for at in range(0, len(answers), size)]
-            self.assertEqual([call for done, _ in pieces for call in done], calls)
-            self.assertEqual([fault for _, fault in pieces if fault], [])
+            self.assertEqual([call for taken in pieces for call in taken.calls], calls)
+            self.assertEqual([taken.fault for taken in pieces if taken.fault], [])
             self.assertEqual((asked, line.unanswered), ("".join(call.text for call in calls), 0))
             told.append([type(call.answer) for call in calls])
-            self.assertEqual(line.take(b"0 begin -> begun 7.9\n")[1].__class__.__name__, "Faulty")
+            self.assertEqual(line.take(b"0 begin -> begun 7.9\n").fault.__class__.__name__, "Faulty")
             line.detach()
             line.reading.close()
             os.close(back)
@@ -358,7 +359,7 @@ class AnswerTest(SiteTest):
         def calls(many: int) -> list[Awaited]:
             made = [Awaited() for _ in range(many)]
             for at, call in enumerate(made):
-                call.add_done_callback(wakes(at))
+                call.wake, call.context = wakes(at), contextvars.copy_context()
             made[2].wake = None  # it was cancelled
             return made
 
@@ -377,22 +378,42 @@ class AnswerTest(SiteTest):
 class PaceTest(SiteTest):
     """When lines go out."""
 
-    def test_two_parts_pay_where_tasks_take_longer_than_the_program(self) -> None:
-        times = iter([1.0, 1.1, 1.3, 2.0, 2.1, 2.5, 2.6, 3.5, 3.6, 9.0])
-        with unittest.mock.patch("escrow.desk.perf_counter", lambda: next(times)):
-            pace = Pace()
-            pace.goes()
-            self.assertFalse(pace.comes(64, 0))  # nothing is known of tasks
-            pace.went_on(64)  # 0.2 seconds
-            pace.goes()
-            self.assertFalse(pace.comes(64, 0))  # 0.1 seconds, and as yet they seem to take 0.025
-            pace.went_on(64)  # 0.4 seconds
-            pace.goes()
-            self.assertFalse(pace.comes(64, 0))  # 0.9 seconds
-            pace.went_on(0)
-            pace._each = 0.01
-            self.assertTrue(pace.comes(32, 32))  # 0.1 seconds between answers
-            self.assertFalse(pace.comes(32, 32))  # 5.4 seconds
+    def reads(self, pace: Pace, count: int, seconds: Callable[[bool], float]) -> list[bool]:
+        """So many reads of 64 answers, each of which takes so long: whether each was in two parts."""
+        found = []
+        for _ in range(count):
+            self.now += seconds(pace.parts)
+            found.append(pace.parts)
+            with unittest.mock.patch("escrow.desk.perf_counter", lambda: self.now):
+                pace.comes(64)
+        return found
+
+    def setUp(self) -> None:
+        super().setUp()
+        self.now = 100.0
+
+    def test_the_faster_way_stays(self) -> None:
+        pace, trials = Pace(), TRIALS * TRIAL
+        tried = self.reads(pace, trials, lambda parts: 0.09 if parts else 0.1)
+        self.assertEqual((sum(tried), tried[-1]), (trials // 2, True))
+        self.assertEqual(set(self.reads(pace, STAY, lambda parts: 0.2 if parts else 0.1)), {True})
+        self.reads(pace, trials, lambda parts: 0.2 if parts else 0.1)  # the disk is slower now
+        self.assertEqual(set(self.reads(pace, STAY, lambda parts: 0.2 if parts else 0.1)), {False})
+        parts = self.reads(pace, 20 * (trials + STAY), lambda parts: 0.2 if parts else 0.1)
+        self.assertLess(sum(parts) / len(parts), 0.06)  # each of which loses half of its answers
+
+    def test_what_rests_counts_for_neither(self) -> None:
+        pace = Pace()
+
+        def seconds(parts: bool) -> float:
+            if parts:
+                return 0.1
+            pace.rests()
+            return 100.0
+
+        self.reads(pace, TRIAL, lambda parts: 0.09)
+        self.reads(pace, (TRIALS - 1) * TRIAL, seconds)
+        self.assertEqual(set(self.reads(pace, STAY, seconds)), {False})
 
     def test_all_are_answered_whatever_seems_to_pay(self) -> None:
         site, told, chance = self.site(LARGE), list[str](), random.Random(7)
@@ -407,7 +428,7 @@ class PaceTest(SiteTest):
                 await shop.read("seats")
                 await asyncio.sleep(0.001)
 
-        def comes(pace: Pace, many: int, others: int) -> bool:
+        def comes(pace: Pace, many: int) -> bool:
             return chance.random() < 0.5
 
         with unittest.mock.patch.object(Pace, "comes", comes):
