@@ -39,6 +39,12 @@ fn run<R: Read + Drop>(alloc: Global, reader: R) -> (Ended, Vec<u8>) {
     (end, writer.into_inner())
 }
 
+/// Tests how a run ended, and what it wrote.
+fn check_ran(rt: &impl Abort, end: Ended, wanted: Ended, out: &[u8], output: &[u8]) {
+    assert_eq!(rt; end, wanted);
+    assert_eq!(rt; str::from_utf8(out), str::from_utf8(output));
+}
+
 /// Runs over a reader, and tests how the run ends and what it writes.
 fn check_reader<R: Read + Drop>(
     rt: &impl Abort,
@@ -48,8 +54,7 @@ fn check_reader<R: Read + Drop>(
     output: &str,
 ) {
     let (end, out) = run(alloc, reader);
-    assert_eq!(rt; end, wanted, "at {output}");
-    assert_eq!(rt; str::from_utf8(out.as_slice()), Ok(output));
+    check_ran(rt, end, wanted, out.as_slice(), output.as_bytes());
 }
 
 /// A script beside the output that it is to give.
@@ -60,11 +65,11 @@ struct Talk {
 }
 
 impl Talk {
-    fn new(alloc: Global, header: &str) -> Result<Talk, AllocError> {
-        Ok(Talk {
-            input: joined(alloc, &[header, "\n"])?,
-            wanted: joined(alloc, &[header, "\n"])?,
-        })
+    fn new(rt: &impl Abort, alloc: Global, header: &str) -> Talk {
+        Talk {
+            input: joined(alloc, &[header, "\n"]).expect(rt, "memory"),
+            wanted: joined(alloc, &[header, "\n"]).expect(rt, "memory"),
+        }
     }
 
     /// A line whose answer begins with it.
@@ -242,24 +247,17 @@ const SAID: [&[(&str, &str)]; 15] = [
 const TORN: &str =
     "{\"sites\":1,\"fields\":[{\"name\":\"torn\",\"floor\":0,\"ceiling\":10,\"value\":5}]}";
 
-fn check_said(
-    rt: &impl Abort,
-    alloc: Global,
-    header: &str,
-    rows: &[(&str, &str)],
-) -> Result<(), AllocError> {
-    let mut talk = Talk::new(alloc, header)?;
-    talk.all_said(rows)?;
+fn check_said(rt: &impl Abort, alloc: Global, header: &str, rows: &[(&str, &str)]) {
+    let mut talk = Talk::new(rt, alloc, header);
+    talk.all_said(rows).expect(rt, "memory");
     talk.check(rt, alloc);
-    Ok(())
 }
 
 #[test]
-fn answers_deliveries_and_luck(rt: HostRuntime) -> Result<(), AllocError> {
+fn answers_deliveries_and_luck(rt: HostRuntime) {
     for rows in &SAID {
-        check_said(&rt, rt.alloc(), STOCK_OF_TWO, *rows)?;
+        check_said(&rt, rt.alloc(), STOCK_OF_TWO, *rows);
     }
-    Ok(())
 }
 
 /// Lines over a field of that name, each beside what answers it.
@@ -271,8 +269,8 @@ const OVER_TORN: [(&str, &str); 4] = said! {
 };
 
 #[test]
-fn reads_no_field_as_luck(rt: HostRuntime) -> Result<(), AllocError> {
-    check_said(&rt, rt.alloc(), TORN, &OVER_TORN)
+fn reads_no_field_as_luck(rt: HostRuntime) {
+    check_said(&rt, rt.alloc(), TORN, &OVER_TORN);
 }
 
 const BEFORE_COMMIT: [(&str, &str); 2] = [
@@ -292,32 +290,36 @@ const COMMIT_KEPT: [(&str, &str); 3] = [
     ("0 share stock", "share 0 50"),
 ];
 
-/// A script in which a commit is torn behind so many bytes.
-fn torn_commit(alloc: Global, bytes: u64) -> Result<Talk, AllocError> {
-    let mut talk = Talk::new(alloc, STOCK_OF_TWO)?;
-    talk.rows(&BEFORE_COMMIT)?;
-    talk.torn("0 commit 0.1", bytes)?;
-    talk.rows(if bytes < 12 {
-        &COMMIT_LOST
-    } else {
-        &COMMIT_KEPT
-    })?;
-    Ok(talk)
+impl Talk {
+    /// A commit that is torn behind so many bytes. Its record has 12.
+    fn tear_commit(&mut self, bytes: u64) -> Result<(), AllocError> {
+        self.rows(&BEFORE_COMMIT)?;
+        self.torn("0 commit 0.1", bytes)?;
+        self.rows(if bytes < 12 {
+            &COMMIT_LOST
+        } else {
+            &COMMIT_KEPT
+        })
+    }
 }
 
-// The record of the commit has 12 bytes.
+fn check_torn_commit(rt: &impl Abort, alloc: Global, bytes: u64) {
+    let mut talk = Talk::new(rt, alloc, STOCK_OF_TWO);
+    talk.tear_commit(bytes).expect(rt, "memory");
+    talk.check(rt, alloc);
+}
+
 #[test]
-fn keeps_a_commit_that_is_whole(rt: HostRuntime) -> Result<(), AllocError> {
-    let alloc = rt.alloc();
+fn keeps_a_commit_that_is_whole(rt: HostRuntime) {
     for bytes in 0..=13u64 {
-        torn_commit(alloc, bytes)?.check(&rt, alloc);
+        check_torn_commit(&rt, rt.alloc(), bytes);
     }
-    Ok(())
 }
 
 impl Talk {
-    /// As many escrows of one transaction as there may be, and one more.
+    /// A first transaction of as many escrows as there may be, and one more.
     fn escrow_past_the_limit(&mut self) -> Result<(), AllocError> {
+        self.row("0 begin", "begun 0.1")?;
         for _ in 0..16 {
             self.row("0 escrow 0.1 stock -1", "granted")?;
         }
@@ -338,14 +340,11 @@ impl Talk {
 }
 
 #[test]
-fn refuses_past_the_limits(rt: HostRuntime) -> Result<(), AllocError> {
-    let alloc = rt.alloc();
-    let mut talk = Talk::new(alloc, STOCK_OF_TWO)?;
-    talk.row("0 begin", "begun 0.1")?;
-    talk.escrow_past_the_limit()?;
-    talk.begin_past_the_limit()?;
-    talk.check(&rt, alloc);
-    Ok(())
+fn refuses_past_the_limits(rt: HostRuntime) {
+    let mut talk = Talk::new(&rt, rt.alloc(), STOCK_OF_TWO);
+    talk.escrow_past_the_limit().expect(&rt, "memory");
+    talk.begin_past_the_limit().expect(&rt, "memory");
+    talk.check(&rt, rt.alloc());
 }
 
 /// Headers that are refused, and why.
@@ -377,12 +376,11 @@ fn ends_at_a_long_header(rt: HostRuntime) {
 
 // A header is echoed with its CR and, where its LF is missing, with LF.
 #[test]
-fn echoes_a_header(rt: HostRuntime) -> Result<(), AllocError> {
+fn echoes_a_header(rt: HostRuntime) {
     let alloc = rt.alloc();
-    let header = joined(alloc, &[HEADER, "\r"])?;
-    let wanted = joined(alloc, &[HEADER, "\r\n"])?;
+    let header = joined(alloc, &[HEADER, "\r"]).expect(&rt, "memory");
+    let wanted = joined(alloc, &[HEADER, "\r\n"]).expect(&rt, "memory");
     check_reader(&rt, alloc, header.as_bytes(), Ok(()), wanted.as_str());
-    Ok(())
 }
 
 /// Runs over a header, 999,999 bad lines and so many further bytes.
@@ -396,17 +394,11 @@ fn check_lines(rt: &impl Abort, alloc: Global, header: &[u8], more: u64, wanted:
 }
 
 #[test]
-fn keeps_the_limit_of_lines(rt: HostRuntime) -> Result<(), AllocError> {
-    let header = joined(rt.alloc(), &[HEADER, "\n"])?;
-    check_lines(&rt, rt.alloc(), header.as_bytes(), 0, Ok(()));
-    check_lines(
-        &rt,
-        rt.alloc(),
-        header.as_bytes(),
-        1,
-        Err(ScriptFault::TooLong),
-    );
-    Ok(())
+fn keeps_the_limit_of_lines(rt: HostRuntime) {
+    let alloc = rt.alloc();
+    let text = joined(alloc, &[HEADER, "\n"]).expect(&rt, "memory");
+    check_lines(&rt, alloc, text.as_bytes(), 0, Ok(()));
+    check_lines(&rt, alloc, text.as_bytes(), 1, Err(ScriptFault::TooLong));
 }
 
 /// A script of one site, each line beside what answers it.
@@ -419,45 +411,54 @@ const ROW: [(&str, &str); 6] = said! {
     "0 read stock" => "0 read stock -> between 20 20",
 };
 
-/// The input of the row.
-fn row_input(alloc: Global) -> Result<String, AllocError> {
-    let mut input = String::new(alloc);
+/// Adds the lines of the row.
+fn add_lines(input: &mut String) -> Result<(), AllocError> {
     for (line, _) in &ROW {
-        add(&mut input, &[*line, "\n"])?;
+        add(input, &[*line, "\n"])?;
     }
-    Ok(input)
+    Ok(())
 }
 
-/// What answers the whole lines among the first so many bytes of the row.
-fn row_output(alloc: Global, bytes: usize) -> Result<String, AllocError> {
-    let mut output = String::new(alloc);
+/// The input of the row.
+fn row_input(rt: &impl Abort, alloc: Global) -> String {
+    let mut input = String::new(alloc);
+    add_lines(&mut input).expect(rt, "memory");
+    input
+}
+
+/// Adds what answers the whole lines among the first so many bytes of the row.
+fn add_answers(output: &mut String, bytes: usize) -> Result<(), AllocError> {
     let mut left = bytes;
     for (line, answer) in &ROW {
         if left <= line.len() {
-            break;
+            return Ok(());
         }
         left -= line.len() + 1;
-        add(&mut output, &[*answer, "\n"])?;
+        add(output, &[*answer, "\n"])?;
     }
-    Ok(output)
+    Ok(())
+}
+
+/// What answers the whole lines among the first so many bytes of the row.
+fn row_output(rt: &impl Abort, alloc: Global, bytes: usize) -> String {
+    let mut output = String::new(alloc);
+    add_answers(&mut output, bytes).expect(rt, "memory");
+    output
 }
 
 /// Runs over the first so many bytes of the row, behind which every read fails.
-fn check_front(rt: &impl Abort, alloc: Global, front: &[u8]) -> Result<(), AllocError> {
-    let output = row_output(alloc, front.len())?;
+fn check_front(rt: &impl Abort, alloc: Global, front: &[u8]) {
+    let output = row_output(rt, alloc, front.len());
     check_reader(rt, alloc, broken_behind(front), READ_FAULT, output.as_str());
-    Ok(())
 }
 
 #[test]
-fn ends_where_a_read_fails(rt: HostRuntime) -> Result<(), AllocError> {
-    let alloc = rt.alloc();
-    let input = row_input(alloc)?;
+fn ends_where_a_read_fails(rt: HostRuntime) {
+    let input = row_input(&rt, rt.alloc());
     let bytes = input.as_bytes();
     for count in 0..=bytes.len() {
-        check_front(&rt, alloc, &bytes[..count])?;
+        check_front(&rt, rt.alloc(), &bytes[..count]);
     }
-    Ok(())
 }
 
 /// How a run over a text ends whose writer takes so many bytes, and what was taken.
@@ -477,16 +478,13 @@ fn check_rooms(rt: &impl Abort, alloc: Global, input: &[u8], wanted: &[u8]) {
         } else {
             Ok(())
         };
-        assert_eq!(rt; end, fault);
-        assert_eq!(rt; taken.as_slice(), &wanted[..room]);
+        check_ran(rt, end, fault, taken.as_slice(), &wanted[..room]);
     }
 }
 
 #[test]
-fn ends_where_a_write_fails(rt: HostRuntime) -> Result<(), AllocError> {
-    let alloc = rt.alloc();
-    let input = row_input(alloc)?;
-    let wanted = row_output(alloc, input.len())?;
-    check_rooms(&rt, alloc, input.as_bytes(), wanted.as_bytes());
-    Ok(())
+fn ends_where_a_write_fails(rt: HostRuntime) {
+    let input = row_input(&rt, rt.alloc());
+    let wanted = row_output(&rt, rt.alloc(), input.len());
+    check_rooms(&rt, rt.alloc(), input.as_bytes(), wanted.as_bytes());
 }

@@ -9,10 +9,19 @@ use kept_records::{Device, Medium, MediumFault};
 use std::alloc::Global;
 use std::process::Abort;
 
-/// A file in memory that holds these bytes, or None where memory was refused.
-fn file_of(alloc: Global, bytes: &[u8]) -> Option<MemoryFile> {
-    let held = Vec::from_slice(alloc, bytes).ok()?;
-    Some(MemoryFile::new(alloc, held))
+/// A file in memory that holds these bytes.
+fn file_of(rt: &impl Abort, alloc: Global, bytes: &[u8]) -> MemoryFile {
+    MemoryFile::new(alloc, Vec::from_slice(alloc, bytes).expect(rt, "memory"))
+}
+
+/// A medium over this file.
+fn medium_over<F: LogFile + Drop>(
+    rt: &impl Abort,
+    alloc: Global,
+    file: F,
+    durability: Durability,
+) -> FileMedium<F> {
+    FileMedium::new(alloc, file, durability).expect(rt, "a medium")
 }
 
 /// Adds a piece, or None where memory was refused.
@@ -57,123 +66,131 @@ fn is_in_file(medium: &FileMedium<MemoryFile>, bytes: &str, safe: &str) -> bool 
     medium.file().bytes() == bytes.as_bytes() && medium.file().safe() == safe.as_bytes()
 }
 
+/// Whether the medium takes the piece.
+fn adds<M: Medium>(medium: &mut M, piece: &str) -> bool {
+    add(medium, piece) == Some(Ok(()))
+}
+
+/// Whether the device fails to take it.
+fn fails_to_add<M: Medium>(medium: &mut M, piece: &str) -> bool {
+    add(medium, piece) == Some(Err(Device))
+}
+
+/// Whether the medium is cut to so many bytes.
+fn cuts_to<M: Medium>(alloc: Global, medium: &mut M, kept: usize) -> bool {
+    cut_to(alloc, medium, kept) == Some(Ok(()))
+}
+
+/// Whether a read of all meets a fault of the device.
+fn fails_to_read<M: Medium>(alloc: Global, medium: &mut M) -> bool {
+    matches!(medium.read_all(alloc), Err(MediumFault::Device))
+}
+
 /// A piece that takes three writes, a cut and a sync.
-fn assert_each_call(rt: &impl Abort, alloc: Global, medium: &mut FileMedium<MemoryFile>) {
-    assert_eq!(rt; add(medium, "cdefg\n"), Some(Ok(())));
-    assert!(rt; is_held(alloc, medium, "ab\ncdefg\n"));
-    assert!(rt; ends_with(alloc, medium, 4, "efg\n", 9));
-    assert_eq!(rt; cut_to(alloc, medium, 3), Some(Ok(())));
-    assert!(rt; is_held(alloc, medium, "ab\n"));
-    assert_eq!(rt; medium.sync(), Ok(()));
-    assert_eq!(rt; medium.failures(), 0);
-    assert!(rt; !medium.is_lost());
-    assert!(rt; is_in_file(medium, "ab\n", "ab\n"));
+fn each_call(alloc: Global, medium: &mut FileMedium<MemoryFile>) -> [bool; 9] {
+    [
+        adds(medium, "cdefg\n"),
+        is_held(alloc, medium, "ab\ncdefg\n"),
+        ends_with(alloc, medium, 4, "efg\n", 9),
+        cuts_to(alloc, medium, 3),
+        is_held(alloc, medium, "ab\n"),
+        medium.sync() == Ok(()),
+        medium.failures() == 0,
+        !medium.is_lost(),
+        is_in_file(medium, "ab\n", "ab\n"),
+    ]
 }
 
 #[test]
 fn a_file_is_read_whole(rt: HostRuntime) {
-    let alloc = rt.alloc();
-    let Some(mut file) = file_of(alloc, b"ab\ncd") else {
-        panic!(rt; "no file");
-    };
-    match read_whole(alloc, &mut file) {
-        Ok(held) => assert!(&rt; held.as_slice() == b"ab\ncd".as_slice()),
-        Err(_) => panic!(rt; "not read"),
-    }
+    let mut file = file_of(&rt, rt.alloc(), b"ab\ncd");
+    let held = read_whole(rt.alloc(), &mut file).expect(&rt, "read");
+    assert!(&rt; held.as_slice() == b"ab\ncd".as_slice());
 }
 
 #[test]
 fn short_writes_add_the_whole_piece(rt: HostRuntime) {
-    let alloc = rt.alloc();
-    let Some(mut file) = file_of(alloc, b"ab\n") else {
-        panic!(rt; "no file");
-    };
+    let mut file = file_of(&rt, rt.alloc(), b"ab\n");
     file.limit_writes(2);
-    match FileMedium::new(alloc, file, Durability::EachAppend) {
-        Ok(mut medium) => assert_each_call(&rt, alloc, &mut medium),
-        Err(fault) => panic!(rt; "{fault}"),
-    }
+    let mut medium = medium_over(&rt, rt.alloc(), file, Durability::EachAppend);
+    assert_eq!(rt; each_call(rt.alloc(), &mut medium), [true; 9]);
 }
 
 /// The file has room for three bytes more, and once it is cut for as many again.
-fn assert_full(rt: &impl Abort, alloc: Global, medium: &mut FileMedium<MemoryFile>) {
-    assert_eq!(rt; add(medium, "cdefg\n"), Some(Err(Device)));
-    assert!(rt; is_held(alloc, medium, "ab\ncde"));
-    assert!(rt; is_in_file(medium, "ab\ncde", "ab\ncde"));
-    assert_eq!(rt; medium.failures(), 1);
-    assert_eq!(rt; cut_to(alloc, medium, 3), Some(Ok(())));
-    assert_eq!(rt; add(medium, "x\n"), Some(Ok(())));
-    assert!(rt; is_in_file(medium, "ab\nx\n", "ab\nx\n"));
+fn full(alloc: Global, medium: &mut FileMedium<MemoryFile>) -> [bool; 7] {
+    [
+        fails_to_add(medium, "cdefg\n"),
+        is_held(alloc, medium, "ab\ncde"),
+        is_in_file(medium, "ab\ncde", "ab\ncde"),
+        medium.failures() == 1,
+        cuts_to(alloc, medium, 3),
+        adds(medium, "x\n"),
+        is_in_file(medium, "ab\nx\n", "ab\nx\n"),
+    ]
 }
 
 #[test]
 fn a_full_device_keeps_a_front(rt: HostRuntime) {
-    let alloc = rt.alloc();
-    let Some(mut file) = file_of(alloc, b"ab\n") else {
-        panic!(rt; "no file");
-    };
+    let mut file = file_of(&rt, rt.alloc(), b"ab\n");
     file.limit_length(6);
-    match FileMedium::new(alloc, file, Durability::EachAppend) {
-        Ok(mut medium) => assert_full(&rt, alloc, &mut medium),
-        Err(fault) => panic!(rt; "{fault}"),
-    }
+    let mut medium = medium_over(&rt, rt.alloc(), file, Durability::EachAppend);
+    assert_eq!(rt; full(rt.alloc(), &mut medium), [true; 7]);
+}
+
+/// Whether a read of the end meets a fault of the device.
+fn fails_to_read_end<M: Medium>(alloc: Global, medium: &mut M) -> bool {
+    matches!(medium.read_end(alloc, 0), Err(MediumFault::Device))
 }
 
 /// The sync of the append fails, and nothing is answered from there on.
-fn assert_lost(rt: &impl Abort, alloc: Global, medium: &mut FileMedium<MemoryFile>) {
-    assert_eq!(rt; add(medium, "cd\n"), Some(Err(Device)));
-    assert!(rt; medium.is_lost());
-    assert!(rt; matches!(medium.read_all(alloc), Err(MediumFault::Device)));
-    assert!(rt; matches!(medium.read_end(alloc, 0), Err(MediumFault::Device)));
-    assert_eq!(rt; add(medium, "e\n"), Some(Err(Device)));
-    assert_eq!(rt; medium.cut(0), Err(Device));
-    assert_eq!(rt; medium.failures(), 5);
-    assert_eq!(rt; medium.sync(), Err(Device));
-    assert_eq!(rt; medium.failures(), 5);
-    assert!(rt; is_in_file(medium, "ab\ncd\n", "ab\n"));
+fn lost(alloc: Global, medium: &mut FileMedium<MemoryFile>) -> [bool; 10] {
+    [
+        fails_to_add(medium, "cd\n"),
+        medium.is_lost(),
+        fails_to_read(alloc, medium),
+        fails_to_read_end(alloc, medium),
+        fails_to_add(medium, "e\n"),
+        medium.cut(0) == Err(Device),
+        medium.failures() == 5,
+        medium.sync() == Err(Device),
+        medium.failures() == 5,
+        is_in_file(medium, "ab\ncd\n", "ab\n"),
+    ]
 }
 
 #[test]
 fn after_a_failed_sync_nothing_is_answered(rt: HostRuntime) {
-    let alloc = rt.alloc();
-    let Some(mut file) = file_of(alloc, b"ab\n") else {
-        panic!(rt; "no file");
-    };
+    let mut file = file_of(&rt, rt.alloc(), b"ab\n");
     file.arm(FileMishap {
         call: FileCall::Sync,
         good: 1,
     });
-    match FileMedium::new(alloc, file, Durability::EachAppend) {
-        Ok(mut medium) => assert_lost(&rt, alloc, &mut medium),
-        Err(fault) => panic!(rt; "{fault}"),
-    }
+    let mut medium = medium_over(&rt, rt.alloc(), file, Durability::EachAppend);
+    assert_eq!(rt; lost(rt.alloc(), &mut medium), [true; 10]);
 }
 
 /// What is added is safe once the caller has synced, and the second such sync fails.
-fn assert_synced_by_caller(rt: &impl Abort, alloc: Global, medium: &mut FileMedium<MemoryFile>) {
-    assert_eq!(rt; add(medium, "ab\n"), Some(Ok(())));
-    assert_eq!(rt; add(medium, "cd\n"), Some(Ok(())));
-    assert!(rt; is_in_file(medium, "ab\ncd\n", ""));
-    assert_eq!(rt; medium.sync(), Ok(()));
-    assert!(rt; is_in_file(medium, "ab\ncd\n", "ab\ncd\n"));
-    assert_eq!(rt; add(medium, "e\n"), Some(Ok(())));
-    assert_eq!(rt; medium.sync(), Err(Device));
-    assert!(rt; is_in_file(medium, "ab\ncd\ne\n", "ab\ncd\n"));
-    assert!(rt; matches!(medium.read_all(alloc), Err(MediumFault::Device)));
+fn synced_by_caller(alloc: Global, medium: &mut FileMedium<MemoryFile>) -> [bool; 9] {
+    [
+        adds(medium, "ab\n"),
+        adds(medium, "cd\n"),
+        is_in_file(medium, "ab\ncd\n", ""),
+        medium.sync() == Ok(()),
+        is_in_file(medium, "ab\ncd\n", "ab\ncd\n"),
+        adds(medium, "e\n"),
+        medium.sync() == Err(Device),
+        is_in_file(medium, "ab\ncd\ne\n", "ab\ncd\n"),
+        fails_to_read(alloc, medium),
+    ]
 }
 
 #[test]
 fn a_caller_syncs_many_appends(rt: HostRuntime) {
-    let alloc = rt.alloc();
-    let Some(mut file) = file_of(alloc, b"") else {
-        panic!(rt; "no file");
-    };
+    let mut file = file_of(&rt, rt.alloc(), b"");
     file.arm(FileMishap {
         call: FileCall::Sync,
         good: 2,
     });
-    match FileMedium::new(alloc, file, Durability::Caller) {
-        Ok(mut medium) => assert_synced_by_caller(&rt, alloc, &mut medium),
-        Err(fault) => panic!(rt; "{fault}"),
-    }
+    let mut medium = medium_over(&rt, rt.alloc(), file, Durability::Caller);
+    assert_eq!(rt; synced_by_caller(rt.alloc(), &mut medium), [true; 9]);
 }

@@ -7,10 +7,9 @@ use std::process::Abort;
 
 const NAME: &[u8] = b"log of 0\n";
 
-/// A file in memory that holds these bytes, or None where memory was refused.
-fn file_of(alloc: Global, bytes: &[u8]) -> Option<MemoryFile> {
-    let held = Vec::from_slice(alloc, bytes).ok()?;
-    Some(MemoryFile::new(alloc, held))
+/// A file in memory that holds these bytes.
+fn file_of(rt: &impl Abort, alloc: Global, bytes: &[u8]) -> MemoryFile {
+    MemoryFile::new(alloc, Vec::from_slice(alloc, bytes).expect(rt, "memory"))
 }
 
 /// Whether these bytes stand behind the name.
@@ -35,63 +34,61 @@ fn cut_to(
 }
 
 /// What an open of a file of these bytes under the name gives, where it isn't opened.
-fn fault_of(alloc: Global, bytes: &[u8]) -> Option<NameFault> {
-    NamedLog::open(file_of(alloc, bytes)?, NAME).err()
+fn fault_of(rt: &impl Abort, alloc: Global, bytes: &[u8]) -> Option<NameFault> {
+    NamedLog::open(file_of(rt, alloc, bytes), NAME).err()
 }
 
 /// What is read, added, cut and synced stands behind the name.
-fn assert_each_call(rt: &impl Abort, alloc: Global, log: &mut NamedLog<MemoryFile>) {
-    assert!(rt; is_behind(alloc, log, "R 1\n"));
-    assert_eq!(rt; log.write(b"R 2\n"), Ok(4));
-    assert!(rt; is_behind(alloc, log, "R 1\nR 2\n"));
-    assert_eq!(rt; log.sync(), Ok(()));
-    assert_eq!(rt; cut_to(alloc, log, 4), Some(Ok(())));
-    assert!(rt; is_behind(alloc, log, "R 1\n"));
-    assert_eq!(rt; cut_to(alloc, log, 0), Some(Ok(())));
-    assert!(rt; is_behind(alloc, log, ""));
+fn each_call(alloc: Global, log: &mut NamedLog<MemoryFile>) -> [bool; 8] {
+    [
+        is_behind(alloc, log, "R 1\n"),
+        log.write(b"R 2\n") == Ok(4),
+        is_behind(alloc, log, "R 1\nR 2\n"),
+        log.sync() == Ok(()),
+        cut_to(alloc, log, 4) == Some(Ok(())),
+        is_behind(alloc, log, "R 1\n"),
+        cut_to(alloc, log, 0) == Some(Ok(())),
+        is_behind(alloc, log, ""),
+    ]
 }
 
 #[test]
 fn a_log_stands_behind_its_name(rt: HostRuntime) {
-    let alloc = rt.alloc();
-    let Some(file) = file_of(alloc, b"log of 0\nR 1\n") else {
-        panic!(rt; "no file");
-    };
-    match NamedLog::open(file, NAME) {
-        Ok(mut log) => assert_each_call(&rt, alloc, &mut log),
-        Err(fault) => panic!(rt; "{fault}"),
-    }
+    let file = file_of(&rt, rt.alloc(), b"log of 0\nR 1\n");
+    let mut log = NamedLog::open(file, NAME).expect(&rt, "opened");
+    assert_eq!(rt; each_call(rt.alloc(), &mut log), [true; 8]);
 }
 
 #[test]
 fn another_name_is_refused(rt: HostRuntime) {
     let alloc = rt.alloc();
-    assert_eq!(&rt; fault_of(alloc, b"log of 1\nR 1\n"), Some(NameFault::Other));
-    assert_eq!(&rt; fault_of(alloc, b"log of 0"), Some(NameFault::Other));
-    assert_eq!(&rt; fault_of(alloc, b""), Some(NameFault::Other));
-    assert_eq!(&rt; fault_of(alloc, b"log of 0\n"), None);
+    let faults = [
+        fault_of(&rt, alloc, b"log of 1\nR 1\n"),
+        fault_of(&rt, alloc, b"log of 0"),
+        fault_of(&rt, alloc, b""),
+        fault_of(&rt, alloc, b"log of 0\n"),
+    ];
+    let other = Some(NameFault::Other);
+    assert_eq!(&rt; faults, [other, other, other, None]);
 }
 
 /// Its next sync fails, and from there on each write, cut and sync.
-fn assert_lost(rt: &impl Abort, alloc: Global, log: &mut NamedLog<MemoryFile>) {
-    assert_eq!(rt; log.sync(), Err(FileFailed));
-    assert_eq!(rt; log.write(b"R 2\n"), Err(FileFailed));
-    assert_eq!(rt; cut_to(alloc, log, 0), Some(Err(FileFailed)));
-    assert_eq!(rt; log.sync(), Err(FileFailed));
+fn lost(alloc: Global, log: &mut NamedLog<MemoryFile>) -> [bool; 4] {
+    [
+        log.sync() == Err(FileFailed),
+        log.write(b"R 2\n") == Err(FileFailed),
+        cut_to(alloc, log, 0) == Some(Err(FileFailed)),
+        log.sync() == Err(FileFailed),
+    ]
 }
 
 #[test]
 fn a_failed_sync_is_never_forgotten(rt: HostRuntime) {
-    let alloc = rt.alloc();
-    let Some(mut file) = file_of(alloc, b"log of 0\nR 1\n") else {
-        panic!(rt; "no file");
-    };
+    let mut file = file_of(&rt, rt.alloc(), b"log of 0\nR 1\n");
     file.arm(FileMishap {
         call: FileCall::Sync,
         good: 1,
     });
-    match NamedLog::open(file, NAME) {
-        Ok(mut log) => assert_lost(&rt, alloc, &mut log),
-        Err(fault) => panic!(rt; "{fault}"),
-    }
+    let mut log = NamedLog::open(file, NAME).expect(&rt, "opened");
+    assert_eq!(rt; lost(rt.alloc(), &mut log), [true; 4]);
 }

@@ -3,7 +3,6 @@ use field_bounds::{Command, SiteNo, TxnId};
 use reaching_steps::*;
 use std::alloc::Global;
 use std::process::Abort;
-use std::test::Fail;
 use world_steps::{Luck, World, WorldStep, step_fits};
 
 const DELIVER: WorldStep = WorldStep::Deliver {
@@ -33,119 +32,134 @@ fn moves(txn: TxnId, change: i64) -> [WorldStep; 3] {
     ]
 }
 
-/// A world of two sites in which these steps were taken; None where they don't fit.
-fn world_after(alloc: Global, steps: &[WorldStep]) -> Option<World> {
-    let schema = stock_of_two(alloc)?;
-    let mut world = World::new(alloc, schema).ok()?;
+/// A world of two sites in which these steps were taken.
+fn world_after(rt: &impl Abort, alloc: Global, steps: &[WorldStep]) -> World {
+    let schema = stock_of_two(alloc).expect(rt, "memory");
+    let mut world = World::new(alloc, schema).expect(rt, "memory");
     for step in steps {
-        if !step_fits(world.schema(), step) {
-            return None;
-        }
-        world.step(alloc, step).ok()?;
+        assert!(rt; step_fits(world.schema(), step));
+        world.step(alloc, step).expect(rt, "memory");
     }
-    Some(world)
+    world
 }
 
 /// What reach of site 0 answers after these steps.
 fn reached(
+    rt: &impl Abort,
     alloc: Global,
     steps: &[WorldStep],
     target: i64,
-) -> Option<Result<Vec<WorldStep>, ReachFault>> {
-    let world = world_after(alloc, steps)?;
-    Some(reach(alloc, &world, SiteNo(0), STOCK, target))
+) -> Result<Vec<WorldStep>, ReachFault> {
+    let world = world_after(rt, alloc, steps);
+    reach(alloc, &world, SiteNo(0), STOCK, target)
 }
 
-fn takes(alloc: Global, steps: &[WorldStep], target: i64, expected: &[WorldStep]) -> bool {
-    match reached(alloc, steps, target) {
-        Some(Ok(taken)) => *taken == *expected,
-        _ => false,
-    }
+/// It takes these steps.
+fn assert_takes(
+    rt: &impl Abort,
+    alloc: Global,
+    steps: &[WorldStep],
+    target: i64,
+    expected: &[WorldStep],
+) {
+    let taken = reached(rt, alloc, steps, target).expect(rt, "reached");
+    assert!(rt; taken.as_slice() == expected);
 }
 
-fn meets(alloc: Global, steps: &[WorldStep], target: i64, fault: ReachFault) -> bool {
-    match reached(alloc, steps, target) {
-        Some(Err(met)) => met == fault,
-        _ => false,
-    }
+/// It meets this fault.
+fn assert_meets(
+    rt: &impl Abort,
+    alloc: Global,
+    steps: &[WorldStep],
+    target: i64,
+    fault: ReachFault,
+) {
+    assert_eq!(rt; reached(rt, alloc, steps, target).err(), Some(fault));
 }
 
 #[test]
-fn to_both_ends(rt: HostRuntime) -> Result<(), Fail> {
+fn to_both_ends(rt: HostRuntime) {
     let alloc = rt.alloc();
     let down = moves(txn!(0.1), -20);
-    assert!(rt; takes(alloc, &[], 20, &down));
+    assert_takes(&rt, alloc, &[], 20, &down);
     let up = moves(txn!(0.2), 50);
-    assert!(rt; takes(alloc, &down, 70, &up));
+    assert_takes(&rt, alloc, &down, 70, &up);
     let both = [down[0], down[1], down[2], up[0], up[1], up[2]];
-    assert!(rt; takes(alloc, &both, 70, &[]));
-    assert!(rt; meets(alloc, &both, 19, ReachFault::Outside { lo: 20, hi: 70 }));
-    Ok(())
+    assert_takes(&rt, alloc, &both, 70, &[]);
+    assert_meets(
+        &rt,
+        alloc,
+        &both,
+        19,
+        ReachFault::Outside { lo: 20, hi: 70 },
+    );
 }
 
 #[test]
-fn gifts_in_flight(rt: HostRuntime) -> Result<(), Fail> {
+fn gifts_in_flight(rt: HostRuntime) {
     let alloc = rt.alloc();
     let given = at(1, command!(give 0 stock lower 5), Luck::Fine);
     let in_flight = ReachFault::InFlight { from: SiteNo(1) };
-    assert!(rt; meets(alloc, &[given], 20, in_flight));
+    assert_meets(&rt, alloc, &[given], 20, in_flight);
     let outside = ReachFault::Outside { lo: 25, hi: 70 };
-    assert!(rt; meets(alloc, &[given, DELIVER], 24, outside));
-    assert!(rt; takes(alloc, &[given, DELIVER], 25, &moves(txn!(0.1), -15)));
-    Ok(())
+    assert_meets(&rt, alloc, &[given, DELIVER], 24, outside);
+    assert_takes(&rt, alloc, &[given, DELIVER], 25, &moves(txn!(0.1), -15));
 }
 
 #[test]
-fn gifts_that_were_not_told(rt: HostRuntime) -> Result<(), Fail> {
+fn gifts_that_were_not_told(rt: HostRuntime) {
     let alloc = rt.alloc();
     let torn = at(0, command!(give 1 stock lower 5), Luck::Torn(10));
     let restart = at(0, Command::Restart, Luck::Fine);
     let unstated = ReachFault::Unstated { to: SiteNo(1) };
-    assert!(rt; meets(alloc, &[torn, restart], 25, unstated));
+    assert_meets(&rt, alloc, &[torn, restart], 25, unstated);
     let told = at(0, command!(restate 1 stock lower), Luck::Fine);
     let down = moves(txn!(0.1), -25);
     let expected = [DELIVER, down[0], down[1], down[2]];
-    assert!(rt; takes(alloc, &[torn, restart, told], 15, &expected));
-    Ok(())
+    assert_takes(&rt, alloc, &[torn, restart, told], 15, &expected);
 }
 
 #[test]
-fn sites_and_bounds(rt: HostRuntime) -> Result<(), Fail> {
+fn sites_and_bounds(rt: HostRuntime) {
     let alloc = rt.alloc();
     let failed = at(1, Command::Restart, Luck::Torn(0));
-    assert!(rt; meets(alloc, &[failed], 40, ReachFault::NotUp { site: SiteNo(1) }));
+    assert_meets(
+        &rt,
+        alloc,
+        &[failed],
+        40,
+        ReachFault::NotUp { site: SiteNo(1) },
+    );
     let tightened = at(1, command!(tighten stock lower 1), Luck::Fine);
-    assert!(rt; meets(alloc, &[tightened], 40, ReachFault::Tightened));
-    let world = world_after(alloc, &[]);
-    assert!(rt; world.is_some());
-    let world = world.unwrap();
-    let no_site = reach(alloc, &world, SiteNo(2), STOCK, 40);
-    assert!(rt; matches!(no_site, Err(ReachFault::NoSite)));
-    let no_field = reach(alloc, &world, SiteNo(0), NO_FIELD, 40);
-    assert!(rt; matches!(no_field, Err(ReachFault::NoField)));
-    Ok(())
+    assert_meets(&rt, alloc, &[tightened], 40, ReachFault::Tightened);
+    let world = world_after(&rt, alloc, &[]);
+    let no_site = reach(alloc, &world, SiteNo(2), STOCK, 40).err();
+    let no_field = reach(alloc, &world, SiteNo(0), NO_FIELD, 40).err();
+    assert_eq!(rt;
+        [no_site, no_field],
+        [Some(ReachFault::NoSite), Some(ReachFault::NoField)]
+    );
 }
 
 /// Of its 20 rights site 0 spares 10, and is left in doubt: the record of 11 bytes is kept.
 #[test]
-fn spares_in_doubt(rt: HostRuntime) -> Result<(), Fail> {
+fn spares_in_doubt(rt: HostRuntime) {
     let alloc = rt.alloc();
     let torn = at(0, command!(spare 1 stock lower 30), Luck::Torn(11));
     let restart = at(0, Command::Restart, Luck::Fine);
     let unstated = ReachFault::Unstated { to: SiteNo(1) };
-    assert!(rt; meets(alloc, &[torn, restart], 25, unstated));
+    assert_meets(&rt, alloc, &[torn, restart], 25, unstated);
     let told = at(0, command!(restate 1 stock lower), Luck::Fine);
     let down = moves(txn!(0.1), -30);
     let expected = [DELIVER, down[0], down[1], down[2]];
-    assert!(rt; takes(alloc, &[torn, restart, told], 10, &expected));
+    assert_takes(&rt, alloc, &[torn, restart, told], 10, &expected);
     let lost = at(0, command!(spare 1 stock lower 30), Luck::Torn(10));
-    assert!(rt; takes(alloc, &[lost, restart], 20, &moves(txn!(0.1), -20)));
-    Ok(())
+    assert_takes(&rt, alloc, &[lost, restart], 20, &moves(txn!(0.1), -20));
 }
 
 /// Two transactions of site 1 are open: they are aborted, and all its rights are used.
 #[test]
-fn open_transactions_are_aborted(rt: HostRuntime) -> Result<(), Fail> {
+fn open_transactions_are_aborted(rt: HostRuntime) {
     let alloc = rt.alloc();
     let first = moves(txn!(0.1), -10);
     let second = moves(txn!(0.2), -5);
@@ -158,6 +172,5 @@ fn open_transactions_are_aborted(rt: HostRuntime) -> Result<(), Fail> {
         down[1],
         down[2],
     ];
-    assert!(rt; takes(alloc, &open, 20, &expected));
-    Ok(())
+    assert_takes(&rt, alloc, &open, 20, &expected);
 }

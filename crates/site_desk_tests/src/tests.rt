@@ -15,38 +15,32 @@ use std::sync::ledger::Ledger;
 use std::thread;
 use std::thread::Threads;
 
-/// A medium that holds these bytes.
-fn medium_over(alloc: Global, bytes: &[u8]) -> Option<MemoryMedium> {
-    let mut held = Vec::new(alloc);
-    held.extend_from_slice(bytes).ok()?;
-    Some(MemoryMedium::new(held))
-}
-
 /// A desk of one of the two sites over these bytes, with its passes.
 fn desk_over<L: Ledger>(
+    rt: &impl Abort,
     alloc: Global,
     blank: Blank,
     number: u16,
     bytes: &[u8],
-) -> Option<(Desk<L, MemoryMedium>, Vec<Pass<L>>)>
+) -> (Desk<L, MemoryMedium>, Vec<Pass<L>>)
     requires name { blank.name ≡ L.name }
     requires parts { blank.parts ≡ L.parts }
     requires some { 0 < blank.parts }
 {
-    let medium = medium_over(alloc, bytes)?;
-    let schema = stock_of_two(alloc)?;
-    if number >= schema.sites() {
-        return None;
-    }
-    Desk::new(alloc, blank, &schema, SiteNo(number), medium).ok()
+    let held = Vec::from_slice(alloc, bytes).expect(rt, "memory");
+    let schema = stock_of_two(alloc).expect(rt, "memory");
+    assert!(rt; number < schema.sites());
+    let medium = MemoryMedium::new(held);
+    Desk::new(alloc, blank, &schema, SiteNo(number), medium).expect(rt, "a desk")
 }
 
 /// The desk closed with these passes.
 fn closed_with<L: Ledger>(
+    rt: &impl Abort,
     desk: Desk<L, MemoryMedium>,
     passes: Vec<Pass<L>>,
-) -> Option<Closed<MemoryMedium>> {
-    desk.close(passes).ok()
+) -> Closed<MemoryMedium> {
+    desk.close(passes).ok().expect(rt, "closed")
 }
 
 /// What the desk answers to a command, or None where it doesn't. The receipt is added to the
@@ -92,19 +86,19 @@ fn serves_four<L: Ledger, R: Wait>(
 }
 
 /// The closed site of a desk with one pass, and whether it answered the four calls.
-fn closed_after_four<L: Ledger, R: Wait>(
+fn closed_after_four<L: Ledger, R: Abort + Wait>(
     rt: &R,
     alloc: Global,
     blank: Blank,
     receipts: &mut Vec<Receipt>,
-) -> Option<(Closed<MemoryMedium>, bool)>
+) -> (Closed<MemoryMedium>, bool)
     requires name { blank.name ≡ L.name }
     requires parts { blank.parts ≡ L.parts }
     requires some { 0 < blank.parts }
 {
-    let (desk, mut passes) = desk_over::<L>(alloc, blank, 0, &[])?;
+    let (desk, mut passes) = desk_over::<L>(rt, alloc, blank, 0, &[]);
     let served = serves_four(rt, alloc, &desk, &mut passes, receipts);
-    Some((closed_with(desk, passes)?, served))
+    (closed_with(rt, desk, passes), served)
 }
 
 /// The first receipt, from 1, that isn't of site 0 or hasn't the number of its place.
@@ -170,19 +164,19 @@ fn show(alloc: Global, closed: Closed<MemoryMedium>, served: bool, receipts: &[R
 }
 
 /// What a desk of one pass shows after the four calls.
-fn shown_after_four<L: Ledger, R: Wait>(rt: &R, alloc: Global, blank: Blank) -> Option<Shown>
+fn shown_after_four<L: Ledger, R: Abort + Wait>(rt: &R, alloc: Global, blank: Blank) -> Shown
     requires name { blank.name ≡ L.name }
     requires parts { blank.parts ≡ L.parts }
     requires some { 0 < blank.parts }
 {
     let mut receipts = Vec::new(alloc);
-    let (closed, served) = closed_after_four::<L, R>(rt, alloc, blank, &mut receipts)?;
-    Some(show(alloc, closed, served, &receipts))
+    let (closed, served) = closed_after_four::<L, R>(rt, alloc, blank, &mut receipts);
+    show(alloc, closed, served, &receipts)
 }
 
 /// The same of a desk of its own.
-fn four_calls(rt: &impl Wait, alloc: Global) -> Option<Shown> {
-    shown_after_four::<Brand, _>(rt, alloc, Blank::new(1))
+fn four_calls<R: Abort + Wait>(rt: &R, alloc: Global) -> Shown {
+    shown_after_four::<Brand, R>(rt, alloc, Blank::new(1))
 }
 
 /// All four calls were served, and each has its receipt.
@@ -196,17 +190,12 @@ fn assert_four(rt: &impl Abort, shown: &Shown) {
 
 #[test]
 fn four_receipts_of_one_pass(rt: HostRuntime) {
-    match four_calls(&rt, rt.alloc()) {
-        Some(shown) => assert_four(&rt, &shown),
-        None => panic!(&rt; "a call failed"),
-    }
+    assert_four(&rt, &four_calls(&rt, rt.alloc()));
 }
 
 #[test]
 fn a_receipt_is_missing_or_there_twice(rt: HostRuntime) {
-    let Some(shown) = four_calls(&rt, rt.alloc()) else {
-        panic!(&rt; "a call failed");
-    };
+    let shown = four_calls(&rt, rt.alloc());
     let missing = ReceiptFault::Missing {
         site: SiteNo(0),
         number: 3,
@@ -219,27 +208,21 @@ fn a_receipt_is_missing_or_there_twice(rt: HostRuntime) {
     assert_eq!(rt; shown.second_twice, Some(Err(twice)));
 }
 
-/// Whether the site stands on its fresh base.
-fn is_fresh(closed: Closed<MemoryMedium>) -> bool {
-    closed.on_fresh_base()
-}
-
 /// Whether a desk over these bytes that is closed without a call has a fresh base.
-fn is_fresh_at_once<L: Ledger>(alloc: Global, blank: Blank, bytes: &[u8]) -> Option<bool>
+fn is_fresh_at_once<L: Ledger>(rt: &impl Abort, alloc: Global, blank: Blank, bytes: &[u8]) -> bool
     requires name { blank.name ≡ L.name }
     requires parts { blank.parts ≡ L.parts }
     requires some { 0 < blank.parts }
 {
-    let (desk, passes) = desk_over::<L>(alloc, blank, 0, bytes)?;
-    Some(is_fresh(closed_with(desk, passes)?))
+    let (desk, passes) = desk_over::<L>(rt, alloc, blank, 0, bytes);
+    closed_with(rt, desk, passes).on_fresh_base()
 }
 
 #[test]
 fn a_desk_over_a_record_has_no_fresh_base(rt: HostRuntime) {
-    let over_record = is_fresh_at_once::<Brand>(rt.alloc(), Blank::new(1), b"R 1\n");
-    assert_eq!(rt; over_record, Some(false));
-    let over_nothing = is_fresh_at_once::<Brand>(rt.alloc(), Blank::new(1), b"");
-    assert_eq!(rt; over_nothing, Some(true));
+    let over_record = is_fresh_at_once::<Brand>(&rt, rt.alloc(), Blank::new(1), b"R 1\n");
+    let over_nothing = is_fresh_at_once::<Brand>(&rt, rt.alloc(), Blank::new(1), b"");
+    assert_eq!(rt; [over_record, over_nothing], [false, true]);
 }
 
 /// What each gate of this kind lets in: nothing.
@@ -284,21 +267,23 @@ fn both_faults<L: Ledger, R: Wait>(
 }
 
 /// The same of a desk that is opened for it.
-fn turned_then_served<L: Ledger, R: Wait>(rt: &R, alloc: Global, blank: Blank) -> Option<Turned>
+fn turned_then_served<L: Ledger, R: Abort + Wait>(
+    rt: &R,
+    alloc: Global,
+    blank: Blank,
+) -> Option<Turned>
     requires name { blank.name ≡ L.name }
     requires parts { blank.parts ≡ L.parts }
     requires some { 0 < blank.parts }
 {
-    let (desk, mut passes) = desk_over::<L>(alloc, blank, 1, &[])?;
+    let (desk, mut passes) = desk_over::<L>(rt, alloc, blank, 1, &[]);
     both_faults(rt, alloc, &desk, &mut passes)
 }
 
 #[test]
 fn a_gate_turns_a_call_away(rt: HostRuntime) {
-    let Some((turned, served)) = turned_then_served::<Brand, _>(&rt, rt.alloc(), Blank::new(1))
-    else {
-        panic!(&rt; "no desk");
-    };
+    let told = turned_then_served::<Brand, _>(&rt, rt.alloc(), Blank::new(1));
+    let (turned, served) = told.expect(&rt, "a pass");
     assert_eq!(rt; turned, (Some(DeskFault::GateTurns), (0, 0)));
     assert_eq!(rt; served, (None, (1, 1)));
 }

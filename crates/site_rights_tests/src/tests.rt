@@ -1,10 +1,9 @@
-ghost use Rattle.std.specs.Prelude.{◌<◌, length, IfOk};
+ghost use Rattle.std.specs.Prelude.{◌<◌, length};
 
 use field_bounds::{FieldNo, Kind, Schema, SiteNo};
 use site_rights::*;
 use std::alloc::Global;
 use std::process::Abort;
-use std::test::Fail;
 
 const STOCK: FieldNo = FieldNo(0);
 
@@ -15,12 +14,12 @@ const ODD: &str = r#"{"sites":2,"fields":[{"name":"stock","floor":0,"ceiling":10
 const EVEN: &str = r#"{"sites":2,"fields":[{"name":"stock","floor":0,"ceiling":100,"value":40}]}"#;
 
 /// The rights of site 1 of two.
-fn half(rt: &impl Abort, alloc: Global, header: &str) -> Result<Rights, Fail>
-    ensures in_schema { IfOk result (λ rights. 0 < length rights) }
+fn half(rt: &impl Abort, alloc: Global, header: &str) -> Rights
+    ensures in_schema { 0 < length result }
 {
-    let schema = Schema::from_header(alloc, header.as_bytes())?;
+    let schema = Schema::from_header(alloc, header.as_bytes()).expect(rt, "a schema");
     assert!(rt; schema.sites() == 2 && schema.fields() == 1);
-    Ok(Rights::new(alloc, &schema, SiteNo(1))?)
+    Rights::new(alloc, &schema, SiteNo(1)).expect(rt, "memory")
 }
 
 /// The free rights to lower the field and to raise it, and the held and the own ones to lower it.
@@ -58,15 +57,14 @@ fn ended(rights: &mut Rights)
 }
 
 #[test]
-fn second_of_two_sites(rt: HostRuntime) -> Result<(), Fail> {
-    let mut rights = half(&rt, rt.alloc(), ODD)?;
+fn second_of_two_sites(rt: HostRuntime) {
+    let mut rights = half(&rt, rt.alloc(), ODD);
     assert_eq!(rt; standing(&rights), [20, 29, 0, 20]);
     let short = Short { share: 20 };
     assert_eq!(rt; set_aside(&mut rights), (Err(short), Ok(())));
     assert_eq!(rt; standing(&rights), [0, 29, 20, 20]);
     ended(&mut rights);
     assert_eq!(rt; standing(&rights), [5, 39, 5, 10]);
-    Ok(())
 }
 
 /// All free lowering rights leave; how many they were.
@@ -89,11 +87,10 @@ fn filled_up(rights: &mut Rights) -> (u64, u64)
 }
 
 #[test]
-fn rights_leave_and_come(rt: HostRuntime) -> Result<(), Fail> {
-    let mut rights = half(&rt, rt.alloc(), EVEN)?;
+fn rights_leave_and_come(rt: HostRuntime) {
+    let mut rights = half(&rt, rt.alloc(), EVEN);
     assert_eq!(rt; given_away(&mut rights), 20);
     assert_eq!(rt; filled_up(&mut rights), (70, 100));
-    Ok(())
 }
 
 /// What is answered where 21 of 20 free lowering rights are to be given up, and then 5, and 2 more.
@@ -121,10 +118,9 @@ fn left(rights: &Rights) -> [u64; 5]
 }
 
 #[test]
-fn rights_are_given_up(rt: HostRuntime) -> Result<(), Fail> {
-    let mut rights = half(&rt, rt.alloc(), EVEN)?;
+fn rights_are_given_up(rt: HostRuntime) {
+    let mut rights = half(&rt, rt.alloc(), EVEN);
     let short = Short { share: 20 };
     assert_eq!(rt; given_up(&mut rights), (Err(short), Ok(5), Ok(7)));
     assert_eq!(rt; left(&rights), [7, 0, 13, 20, 50]);
-    Ok(())
 }

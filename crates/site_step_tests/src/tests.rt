@@ -12,20 +12,21 @@ use std::process::Abort;
 
 /// What an open of one of the two sites over a medium gives.
 fn opened_over<M: Medium + Drop>(
+    rt: &impl Abort,
     alloc: Global,
     number: u16,
     medium: M,
-) -> Option<Result<Site<M>, (OpenFault, M)>> {
-    let schema = stock_of_two(alloc)?;
-    if number >= schema.sites() {
-        return None;
-    }
-    Some(Site::open(alloc, schema, SiteNo(number), medium))
+) -> Result<Site<M>, (OpenFault, M)> {
+    let schema = stock_of_two(alloc).expect(rt, "memory");
+    assert!(rt; number < schema.sites());
+    Site::open(alloc, schema, SiteNo(number), medium)
 }
 
 /// One of the two sites over a medium.
-fn open_over<M: Medium + Drop>(alloc: Global, number: u16, medium: M) -> Option<Site<M>> {
-    opened_over(alloc, number, medium)?.ok()
+fn open_over<M: Medium + Drop>(rt: &impl Abort, alloc: Global, number: u16, medium: M) -> Site<M> {
+    opened_over(rt, alloc, number, medium)
+        .ok()
+        .expect(rt, "a site")
 }
 
 /// What the site answers, or None where memory was refused.
@@ -67,9 +68,7 @@ fn known_by(site: &Site<MemoryMedium>) -> Known {
 /// One of the two sites, over an empty medium that never fails, answers each command as told: what
 /// it then knows.
 fn known_after(rt: &impl Abort, alloc: Global, number: u16, rows: &[Entry]) -> Known {
-    let Some(mut site) = open_over(alloc, number, MemoryMedium::new(Vec::new(alloc))) else {
-        panic!(rt; "no site");
-    };
+    let mut site = open_over(rt, alloc, number, MemoryMedium::new(Vec::new(alloc)));
     assert_answers(rt, alloc, &mut site, rows);
     known_by(&site)
 }
@@ -102,9 +101,7 @@ fn each_call(rt: HostRuntime) {
 #[test]
 fn a_medium_is_lent(rt: HostRuntime) {
     let alloc = rt.alloc();
-    let Some(mut site) = open_over(alloc, 1, MemoryMedium::new(Vec::new(alloc))) else {
-        panic!(rt; "no site");
-    };
+    let mut site = open_over(&rt, alloc, 1, MemoryMedium::new(Vec::new(alloc)));
     assert_answers(&rt, alloc, &mut site, &EACH_CALL);
     assert!(&rt; site.medium().bytes() == b"C 0 1 0 -20\n".as_slice());
 }

@@ -11,7 +11,8 @@ ghost use Rattle.world_logs.specs.Lost.{known_of, known_records};
 use check_kit::{STOCK_OF_THREE, STOCK_OF_TWO, schema_of};
 use field_bounds::{FieldNo, FieldSpec, Kind, Schema, SiteNo};
 use kept_records::{Record, read_records};
-use std::alloc::{AllocError, Global};
+use std::alloc::Global;
+use std::process::Abort;
 use world_logs::*;
 
 /// Two sites and two fields: the second may lie from -10 to 0, and begins at -10, so that site 0
@@ -131,122 +132,120 @@ fn read_logs(alloc: Global, texts: &[&str]) -> Option<Vec<Vec<Record>>>
     Some(logs)
 }
 
-/// Where each field stands, or None where the logs can't be checked.
+/// Where each field stands.
 fn checked(
+    rt: &impl Abort,
     alloc: Global,
     header: &str,
     texts: &[&str],
-) -> Option<Result<Vec<FieldState>, WorldFault>> {
-    let schema = schema_of(alloc, header)?;
-    let logs = read_logs(alloc, texts)?;
-    if logs.len() != usize::from(schema.sites()) {
-        return None;
-    }
-    Some(check_world(alloc, &schema, logs.as_slice()))
+) -> Result<Vec<FieldState>, WorldFault> {
+    let schema = schema_of(alloc, header).expect(rt, "a schema");
+    let logs = read_logs(alloc, texts).expect(rt, "logs");
+    assert!(rt; logs.len() == usize::from(schema.sites()));
+    check_world(alloc, &schema, logs.as_slice())
+}
+
+/// The first fault of logs that don't account for every right.
+fn assert_refused(rt: &impl Abort, alloc: Global, header: &str, texts: &[&str], fault: WorldFault) {
+    assert_eq!(rt; checked(rt, alloc, header, texts).err(), Some(fault));
 }
 
 /// Where the first field stands.
-fn first_checked(
-    alloc: Global,
-    header: &str,
-    texts: &[&str],
-) -> Option<Result<FieldState, WorldFault>> {
-    match checked(alloc, header, texts)? {
-        Ok(states) => Some(Ok(*states.as_slice().get(0)?)),
-        Err(fault) => Some(Err(fault)),
-    }
+fn assert_accounted(rt: &impl Abort, alloc: Global, texts: &[&str], state: FieldState) {
+    let states = checked(rt, alloc, STOCK_OF_TWO, texts).expect(rt, "accounted");
+    assert_eq!(rt; states.as_slice().get(0), Some(&state));
 }
 
 #[test]
 fn logs_that_account_for_every_right(rt: HostRuntime) {
     for (texts, state) in &ACCOUNTED {
-        assert_eq!(rt;
-            first_checked(rt.alloc(), STOCK_OF_TWO, texts),
-            Some(Ok(*state))
-        );
+        assert_accounted(&rt, rt.alloc(), texts, *state);
     }
 }
 
 #[test]
 fn logs_that_are_refused(rt: HostRuntime) {
     for (texts, fault) in &REFUSED {
-        assert_eq!(rt;
-            first_checked(rt.alloc(), STOCK_OF_TWO, texts),
-            Some(Err(*fault))
-        );
+        assert_refused(&rt, rt.alloc(), STOCK_OF_TWO, texts, *fault);
     }
     for (texts, fault) in &REFUSED_OF_THREE {
-        assert_eq!(rt;
-            first_checked(rt.alloc(), STOCK_OF_THREE, texts),
-            Some(Err(*fault))
-        );
+        assert_refused(&rt, rt.alloc(), STOCK_OF_THREE, texts, *fault);
     }
 }
+
+const OF_TWO_FIELDS: [&str; 2] = ["C 0 1 0 -1 1 4\nT 1 r 1\n", "C 0 1 1 5\nC 0 2 1 -2\n"];
 
 #[test]
 fn each_field_stands_by_itself(rt: HostRuntime) {
     let alloc = rt.alloc();
-    let texts = ["C 0 1 0 -1 1 4\nT 1 r 1\n", "C 0 1 1 5\nC 0 2 1 -2\n"];
-    let states = match checked(alloc, TWO_FIELDS, &texts) {
-        Some(Ok(states)) => states,
-        _ => Vec::new(alloc),
-    };
+    let states = checked(&rt, alloc, TWO_FIELDS, &OF_TWO_FIELDS).expect(&rt, "accounted");
     assert_eq!(rt;
         states.as_slice(),
         [at!(39, 0, 100), at!(-3, -10, -1)].as_slice()
     );
     // The lower field is named first, and both kinds of it before the next.
-    assert_eq!(rt;
-        first_checked(alloc, TWO_FIELDS, &["", "A 0 1 l 1\nA 0 0 r 1\n"]),
-        Some(Err(more!(0, 1, Kind::Raise, 0, 1)))
+    let texts = ["", "A 0 1 l 1\nA 0 0 r 1\n"];
+    assert_refused(
+        &rt,
+        alloc,
+        TWO_FIELDS,
+        &texts,
+        more!(0, 1, Kind::Raise, 0, 1),
     );
 }
 
-/// Whether the logs settle to the schema of this header; None where they don't settle.
-fn settles_to(alloc: Global, header: &str, texts: &[&str], expected: &str) -> Option<bool> {
-    let schema = schema_of(alloc, header)?;
-    let logs = read_logs(alloc, texts)?;
-    if logs.len() != usize::from(schema.sites()) {
-        return None;
-    }
-    let settled = settle_world(alloc, &schema, logs.as_slice()).ok()?;
-    let expected = schema_of(alloc, expected)?;
-    Some(settled == expected)
+/// The schema to which these logs settle.
+fn settled(
+    rt: &impl Abort,
+    alloc: Global,
+    header: &str,
+    texts: &[&str],
+) -> Result<Schema, WorldFault> {
+    let schema = schema_of(alloc, header).expect(rt, "a schema");
+    let logs = read_logs(alloc, texts).expect(rt, "logs");
+    assert!(rt; logs.len() == usize::from(schema.sites()));
+    settle_world(alloc, &schema, logs.as_slice())
 }
+
+/// Whether the logs settle to the schema of this header.
+fn settles_to(
+    rt: &impl Abort,
+    alloc: Global,
+    header: &str,
+    texts: &[&str],
+    expected: &str,
+) -> bool {
+    let settled = settled(rt, alloc, header, texts).expect(rt, "settled");
+    let expected = schema_of(alloc, expected).expect(rt, "a schema");
+    settled == expected
+}
+
+/// A header, the logs of two sites, the header of a schema, and whether they settle to that.
+const SETTLED: [(&str, [&str; 2], &str, bool); 4] = [
+    (STOCK_OF_TWO, ["", ""], STOCK_OF_TWO, true),
+    (
+        STOCK_OF_TWO,
+        ["G 1 0 l 5\n", "A 0 0 l 3\nC 0 1 0 -23\nT 0 r 2\n"],
+        r#"{"sites":2,"fields":[{"name":"stock","floor":0,"ceiling":98,"value":17}]}"#,
+        true,
+    ),
+    (
+        TWO_FIELDS,
+        OF_TWO_FIELDS,
+        r#"{"sites":2,"fields":[{"name":"stock","floor":0,"ceiling":100,"value":39},{"name":"debt","floor":-10,"ceiling":-1,"value":-3}]}"#,
+        true,
+    ),
+    (STOCK_OF_TWO, ["C 0 1 0 -20\n", ""], STOCK_OF_TWO, false),
+];
 
 #[test]
 fn a_world_is_settled(rt: HostRuntime) {
-    let alloc = rt.alloc();
-    assert_eq!(rt;
-        settles_to(alloc, STOCK_OF_TWO, &["", ""], STOCK_OF_TWO),
-        Some(true)
-    );
-    assert_eq!(rt;
-        settles_to(
-            alloc,
-            STOCK_OF_TWO,
-            &["G 1 0 l 5\n", "A 0 0 l 3\nC 0 1 0 -23\nT 0 r 2\n"],
-            r#"{"sites":2,"fields":[{"name":"stock","floor":0,"ceiling":98,"value":17}]}"#
-        ),
-        Some(true)
-    );
-    assert_eq!(rt;
-        settles_to(
-            alloc,
-            TWO_FIELDS,
-            &["C 0 1 0 -1 1 4\nT 1 r 1\n", "C 0 1 1 5\nC 0 2 1 -2\n"],
-            r#"{"sites":2,"fields":[{"name":"stock","floor":0,"ceiling":100,"value":39},{"name":"debt","floor":-10,"ceiling":-1,"value":-3}]}"#
-        ),
-        Some(true)
-    );
-    assert_eq!(rt;
-        settles_to(alloc, STOCK_OF_TWO, &["C 0 1 0 -20\n", ""], STOCK_OF_TWO),
-        Some(false)
-    );
-    assert_eq!(rt;
-        settles_to(alloc, STOCK_OF_TWO, &["", "A 0 0 l 5\n"], STOCK_OF_TWO),
-        None
-    );
+    for (header, texts, expected, wanted) in &SETTLED {
+        let found = settles_to(&rt, rt.alloc(), *header, texts, *expected);
+        assert_eq!(rt; found, *wanted, "{expected}");
+    }
+    let refused = settled(&rt, rt.alloc(), STOCK_OF_TWO, &["", "A 0 0 l 5\n"]);
+    assert!(rt; refused.is_err());
 }
 
 /// The least and the greatest value.
@@ -317,42 +316,42 @@ fn read_known(alloc: Global, texts: &[Option<&str>]) -> Option<Vec<Option<Vec<Re
     Some(logs)
 }
 
-/// Between which values the first field lies, or None where the logs can't be read.
-fn first_bounded(
+/// Between which values each field lies.
+fn bounded(
+    rt: &impl Abort,
     alloc: Global,
     header: &str,
     texts: &[Option<&str>],
-) -> Option<Result<FieldRange, WorldFault>> {
-    let schema = schema_of(alloc, header)?;
-    let logs = read_known(alloc, texts)?;
-    if logs.len() != usize::from(schema.sites()) {
-        return None;
-    }
-    match bound_world(alloc, &schema, logs.as_slice()) {
-        Ok(ranges) => Some(Ok(*ranges.as_slice().get(0)?)),
-        Err(fault) => Some(Err(fault)),
-    }
+) -> Result<Vec<FieldRange>, WorldFault> {
+    let schema = schema_of(alloc, header).expect(rt, "a schema");
+    let logs = read_known(alloc, texts).expect(rt, "logs");
+    assert!(rt; logs.len() == usize::from(schema.sites()));
+    bound_world(alloc, &schema, logs.as_slice())
+}
+
+/// Between which values the first field lies.
+fn assert_bounded(
+    rt: &impl Abort,
+    alloc: Global,
+    header: &str,
+    texts: &[Option<&str>],
+    range: FieldRange,
+) {
+    let ranges = bounded(rt, alloc, header, texts).expect(rt, "bounded");
+    assert_eq!(rt; ranges.as_slice().get(0), Some(&range));
 }
 
 #[test]
 fn lost_logs_leave_a_range(rt: HostRuntime) {
     for (texts, range) in &BOUNDED {
-        assert_eq!(rt;
-            first_bounded(rt.alloc(), STOCK_OF_TWO, texts),
-            Some(Ok(*range))
-        );
+        assert_bounded(&rt, rt.alloc(), STOCK_OF_TWO, texts, *range);
     }
     for (texts, range) in &BOUNDED_OF_THREE {
-        assert_eq!(rt;
-            first_bounded(rt.alloc(), STOCK_OF_THREE, texts),
-            Some(Ok(*range))
-        );
+        assert_bounded(&rt, rt.alloc(), STOCK_OF_THREE, texts, *range);
     }
     for (texts, fault) in &UNBOUNDED {
-        assert_eq!(rt;
-            first_bounded(rt.alloc(), STOCK_OF_THREE, texts),
-            Some(Err(*fault))
-        );
+        let found = bounded(&rt, rt.alloc(), STOCK_OF_THREE, texts).err();
+        assert_eq!(rt; found, Some(*fault));
     }
 }
 
@@ -370,55 +369,52 @@ const WRITTEN: [(&str, &str); 4] = [
     ),
 ];
 
-/// Whether the header of the schema that a header tells is written like this; None where it isn't
-/// written.
-fn is_written(alloc: Global, header: &str, expected: &str) -> Option<bool> {
-    let schema = schema_of(alloc, header)?;
-    let written = write_header(alloc, &schema).ok()?;
-    Some(written.as_str() == expected)
+/// How the header of the schema that a header tells is written.
+fn written(rt: &impl Abort, alloc: Global, header: &str) -> String {
+    let schema = schema_of(alloc, header).expect(rt, "a schema");
+    write_header(alloc, &schema).expect(rt, "memory")
+}
+
+fn assert_written(rt: &impl Abort, alloc: Global, header: &str, expected: &str) {
+    let written = written(rt, alloc, header);
+    assert_eq!(rt; written.as_str(), expected);
 }
 
 #[test]
 fn headers_are_written(rt: HostRuntime) {
     for (header, expected) in &WRITTEN {
-        assert_eq!(rt; is_written(rt.alloc(), *header, *expected), Some(true));
+        assert_written(&rt, rt.alloc(), *header, *expected);
     }
-    assert_eq!(rt;
-        is_written(rt.alloc(), STOCK_OF_TWO, STOCK_OF_THREE),
-        Some(false)
-    );
+    assert!(rt; written(&rt, rt.alloc(), STOCK_OF_TWO).as_str() != STOCK_OF_THREE);
 }
 
 /// A field with a name of 32 bytes and numbers of 16 digits.
-fn longest_field(alloc: Global, number: u16) -> Result<FieldSpec, AllocError> {
-    Ok(FieldSpec {
-        name: format!(in alloc; "a_name_of_thirty_two_bytes_0_{number}")?,
+fn longest_field(rt: &impl Abort, alloc: Global, number: u16) -> FieldSpec {
+    let name = format!(in alloc; "a_name_of_thirty_two_bytes_0_{number}");
+    FieldSpec {
+        name: name.expect(rt, "memory"),
         floor: -1_000_000_000_000_000,
         ceiling: 1_000_000_000_000_000,
         value: -1_000_000_000_000_000,
-    })
+    }
 }
 
 /// As many of them as a schema may have.
-fn longest_fields(alloc: Global) -> Result<Vec<FieldSpec>, AllocError> {
+fn longest_fields(rt: &impl Abort, alloc: Global) -> Vec<FieldSpec> {
     let mut fields = Vec::new(alloc);
     for number in 100..356u16 {
-        fields.push(longest_field(alloc, number)?)?;
+        let field = longest_field(rt, alloc, number);
+        fields.push(field).expect(rt, "memory");
     }
-    Ok(fields)
-}
-
-/// How long the longest header is; None where it isn't written.
-fn longest(alloc: Global) -> Option<usize> {
-    let fields = longest_fields(alloc).ok()?;
-    let schema = Schema::new(alloc, 64, fields).ok()?;
-    let written = write_header(alloc, &schema).ok()?;
-    Some(written.len())
+    fields
 }
 
 // A field has 40 bytes beside its name of 32 and its numbers of 17, 16 and 17 bytes, so 122; 256 of
 // them, 255 commas, and 24 bytes around.
 #[test]
 fn the_longest_header_is_read_back(rt: HostRuntime) {
-    assert_eq!(rt; longest(rt.alloc()), Some(31_511));
+    let fields = longest_fields(&rt, rt.alloc());
+    let schema = Schema::new(rt.alloc(), 64, fields).expect(&rt, "a schema");
+    let written = write_header(rt.alloc(), &schema).expect(&rt, "memory");
+    assert_eq!(rt; written.len(), 31_511);
 }

@@ -2,10 +2,9 @@ mod rows;
 mod stops;
 
 use check_kit::{NO_FIELD, STOCK, command, entry, statement, stock_of_two};
-use field_bounds::{Command, Reply, SiteNo, Statement};
+use field_bounds::{Command, Entry, FieldNo, Reply, SiteNo, Statement};
 use std::alloc::Global;
 use std::process::Abort;
-use std::test::Fail;
 use world_steps::*;
 
 /// Site 0 gives 5 rights to lower the field to site 1.
@@ -31,85 +30,102 @@ fn fine(site: u16, command: Command) -> WorldStep {
     }
 }
 
-/// Takes the step, where it fits. None where it doesn't, or memory was refused.
-fn take_step(alloc: Global, world: &mut World, step: WorldStep) -> Option<StepReply> {
-    if !steps_fit(world.schema(), &[step]) {
+/// Two sites in a world in which nothing was done.
+fn fresh(rt: &impl Abort, alloc: Global) -> World {
+    World::new(alloc, stock_of_two(alloc).expect(rt, "memory")).expect(rt, "memory")
+}
+
+/// Takes the step, which fits.
+fn take_step(rt: &impl Abort, alloc: Global, world: &mut World, step: WorldStep) -> StepReply {
+    assert!(rt; steps_fit(world.schema(), &[step]));
+    world.step(alloc, &step).expect(rt, "memory")
+}
+
+const GIVEN: Entry = entry!(0 give 1 stock lower 5 -> given 5);
+
+/// The free rights of a field at a site of the world; None at a stranger.
+fn share_at(world: &World, site: u16, field: FieldNo) -> Option<(u64, u64)> {
+    if site >= world.schema().sites() {
         return None;
     }
-    world.step(alloc, &step).ok()
+    world.share(SiteNo(site), field)
+}
+
+/// Whether the world is one in which five rights were given.
+fn shows_gift(world: &World) -> [bool; 6] {
+    [
+        world.schema().sites() == 2,
+        world.trace() == [GIVEN].as_slice(),
+        world.issued() == [FIVE].as_slice(),
+        share_at(world, 0, STOCK) == Some((15, 30)),
+        share_at(world, 1, STOCK) == Some((20, 30)),
+        share_at(world, 0, NO_FIELD) == None,
+    ]
 }
 
 #[test]
-fn each_call(rt: HostRuntime) -> Result<(), Fail> {
-    let alloc = rt.alloc();
-    let schema = stock_of_two(alloc);
-    assert!(rt; schema.is_some());
-    let mut world = World::new(alloc, schema.unwrap())?;
-    let given = entry!(0 give 1 stock lower 5 -> given 5);
-    assert_eq!(rt;
-        take_step(alloc, &mut world, DELIVER),
-        Some(StepReply::NoStatement)
-    );
-    assert_eq!(rt;
-        take_step(alloc, &mut world, fine(0, GIVE_FIVE)),
-        Some(StepReply::Made(given))
-    );
-    assert_eq!(rt; world.schema().sites(), 2);
-    assert!(rt; world.trace() == [given].as_slice());
-    assert!(rt; world.issued() == [FIVE].as_slice());
-    assert_eq!(rt; world.share(SiteNo(0), STOCK), Some((15, 30)));
-    assert_eq!(rt; world.share(SiteNo(1), STOCK), Some((20, 30)));
-    assert_eq!(rt; world.share(SiteNo(0), NO_FIELD), None);
-    Ok(())
+fn each_call(rt: HostRuntime) {
+    let mut world = fresh(&rt, rt.alloc());
+    let delivered = take_step(&rt, rt.alloc(), &mut world, DELIVER);
+    assert_eq!(rt; delivered, StepReply::NoStatement);
+    let made = take_step(&rt, rt.alloc(), &mut world, fine(0, GIVE_FIVE));
+    assert_eq!(rt; made, StepReply::Made(GIVEN));
+    assert_eq!(rt; shows_gift(&world), [true; 6]);
 }
 
 #[test]
-fn which_steps_fit(rt: HostRuntime) -> Result<(), Fail> {
-    let alloc = rt.alloc();
-    let schema = stock_of_two(alloc);
-    assert!(rt; schema.is_some());
-    let schema = schema.unwrap();
-    assert!(rt; step_fits(&schema, &fine(1, READ)));
-    assert!(rt; step_fits(&schema, &DELIVER));
-    assert!(rt; !step_fits(&schema, &fine(2, READ)));
-    assert!(rt; !step_fits(&schema, &fine(1, Command::Accept(FIVE))));
-    assert!(rt; steps_fit(&schema, &[]));
-    assert!(rt; steps_fit(&schema, &[fine(1, READ), DELIVER]));
-    assert!(rt; !steps_fit(&schema, &[fine(1, READ), fine(2, READ)]));
-    assert!(rt; !steps_fit(&schema, &[fine(1, Command::Accept(FIVE)), DELIVER]));
-    Ok(())
+fn which_steps_fit(rt: HostRuntime) {
+    let schema = stock_of_two(rt.alloc()).expect(&rt, "memory");
+    let accept = fine(1, Command::Accept(FIVE));
+    let each = [
+        step_fits(&schema, &fine(1, READ)),
+        step_fits(&schema, &DELIVER),
+        step_fits(&schema, &fine(2, READ)),
+        step_fits(&schema, &accept),
+    ];
+    assert_eq!(rt; each, [true, true, false, false]);
+    let all = [
+        steps_fit(&schema, &[]),
+        steps_fit(&schema, &[fine(1, READ), DELIVER]),
+        steps_fit(&schema, &[fine(1, READ), fine(2, READ)]),
+        steps_fit(&schema, &[accept, DELIVER]),
+    ];
+    assert_eq!(rt; all, [true, true, false, false]);
+}
+
+/// Whether five rights were given, and accepted twice.
+fn are_two_deliveries(trace: &[Entry]) -> bool {
+    match trace {
+        [_, first, second] => *first == entry!(1 accept 0 1 stock lower 5 -> accepted 5)
+            && second.reply == Reply::Accepted { gain: 0 },
+        _ => false,
+    }
 }
 
 #[test]
-fn runs_to_the_end(rt: HostRuntime) -> Result<(), Fail> {
-    let alloc = rt.alloc();
-    let schema = stock_of_two(alloc);
-    assert!(rt; schema.is_some());
-    let schema = schema.unwrap();
+fn runs_to_the_end(rt: HostRuntime) {
+    let schema = stock_of_two(rt.alloc()).expect(&rt, "memory");
     let steps = [fine(0, GIVE_FIVE), DELIVER, DELIVER];
     assert!(rt; steps_fit(&schema, &steps));
-    let trace = run_world(alloc, schema, &steps)?;
-    assert_eq!(rt; trace.len(), 3);
-    assert_eq!(rt; trace[1], entry!(1 accept 0 1 stock lower 5 -> accepted 5));
-    assert_eq!(rt; trace[2].reply, Reply::Accepted { gain: 0 });
-    Ok(())
+    let trace = run_world(rt.alloc(), schema, &steps).expect(&rt, "memory");
+    assert!(rt; are_two_deliveries(&trace));
 }
 
 /// A step of a row, and the reply of its entry, or None where it makes none.
 type Told = (WorldStep, Option<Reply>);
 
-/// Whether two sites answer the steps of a row as it tells. None where a step doesn't fit or memory
-/// was refused.
-fn comes(alloc: Global, row: &[Told]) -> Option<bool> {
-    let mut world = World::new(alloc, stock_of_two(alloc)?).ok()?;
-    for (step, expected) in row {
-        let reply = match take_step(alloc, &mut world, *step)? {
-            StepReply::Made(entry) => Some(entry.reply),
-            StepReply::NoStatement => None,
-        };
-        if reply != *expected {
-            return Some(false);
-        }
+/// The reply of the step's entry, or None where it makes none.
+fn reply_of(rt: &impl Abort, alloc: Global, world: &mut World, step: WorldStep) -> Option<Reply> {
+    match take_step(rt, alloc, world, step) {
+        StepReply::Made(entry) => Some(entry.reply),
+        StepReply::NoStatement => None,
     }
-    Some(true)
+}
+
+/// Two sites answer the steps of a row as it tells.
+fn assert_comes(rt: &impl Abort, alloc: Global, row: &[Told]) {
+    let mut world = fresh(rt, alloc);
+    for (step, expected) in row {
+        assert_eq!(rt; reply_of(rt, alloc, &mut world, *step), *expected);
+    }
 }

@@ -1,8 +1,9 @@
 //! Lines that ask nothing.
 
 use super::{HEADER, Talk, check_reader, check_said};
-use check_kit::STOCK_OF_TWO;
+use check_kit::{STOCK_OF_TWO, add};
 use std::alloc::{AllocError, Global};
+use std::process::Abort;
 use stream_kit::Trickle;
 
 /// Lines behind a header of one site, none of which is a command.
@@ -92,30 +93,40 @@ const BAD: [&str; 82] = [
 ];
 
 impl Talk {
-    /// Each bad line, and two that are too long.
-    fn all_bad(&mut self, alloc: Global) -> Result<(), AllocError> {
+    /// Each bad line.
+    fn all_bad(&mut self) -> Result<(), AllocError> {
         for line in &BAD {
             self.bad(*line)?;
         }
-        self.bad("x".repeat(alloc, 257)?.as_str())?;
-        self.bad(" ".repeat(alloc, 70_000)?.as_str())
+        Ok(())
+    }
+
+    /// A line that is too long: this text, so often.
+    fn long(&mut self, rt: &impl Abort, alloc: Global, text: &str, count: usize) {
+        let line = text.repeat(alloc, count).expect(rt, "memory");
+        self.bad(line.as_str()).expect(rt, "memory");
+    }
+
+    /// Each bad line, two that are too long, and a last one that has no LF.
+    fn bad_and_last(&mut self, rt: &impl Abort, alloc: Global) {
+        self.row("0 begin", "begun 0.1").expect(rt, "memory");
+        self.all_bad().expect(rt, "memory");
+        self.long(rt, alloc, "x", 257);
+        self.long(rt, alloc, " ", 70_000);
+        self.row("0 begin", "begun 0.2").expect(rt, "memory");
+        add(&mut self.input, &["0 begin"]).expect(rt, "memory");
+        add(&mut self.wanted, &["0 begin -> begun 0.3\n"]).expect(rt, "memory");
     }
 }
 
 #[test]
-fn answers_bad_lines(rt: HostRuntime) -> Result<(), AllocError> {
+fn answers_bad_lines(rt: HostRuntime) {
     let alloc = rt.alloc();
-    let mut talk = Talk::new(alloc, HEADER)?;
-    talk.row("0 begin", "begun 0.1")?;
-    talk.all_bad(alloc)?;
-    talk.row("0 begin", "begun 0.2")?;
-    // The last line has no LF.
-    talk.input.push_str("0 begin")?;
-    talk.wanted.push_str("0 begin -> begun 0.3\n")?;
+    let mut talk = Talk::new(&rt, alloc, HEADER);
+    talk.bad_and_last(&rt, alloc);
     talk.check(&rt, alloc);
     let reader = Trickle(talk.input.as_bytes());
     check_reader(&rt, alloc, reader, Ok(()), talk.wanted.as_str());
-    Ok(())
 }
 
 /// Lines over two sites, each beside what answers it: refusals, and then lines that ask nothing.
@@ -133,6 +144,6 @@ const OVER_TWO: [(&str, &str); 10] = said! {
 };
 
 #[test]
-fn answers_bad_lines_over_two_sites(rt: HostRuntime) -> Result<(), AllocError> {
-    check_said(&rt, rt.alloc(), STOCK_OF_TWO, &OVER_TWO)
+fn answers_bad_lines_over_two_sites(rt: HostRuntime) {
+    check_said(&rt, rt.alloc(), STOCK_OF_TWO, &OVER_TWO);
 }

@@ -1,8 +1,8 @@
 //! A source and a sink that fail once, and would go on.
 
-use super::{Ended, READ_FAULT, row_input, row_output};
+use super::{Ended, READ_FAULT, check_ran, row_input, row_output};
 use escrow_run::{ScriptFault, Watched, run_script};
-use std::alloc::{AllocError, Global};
+use std::alloc::Global;
 use std::process::Abort;
 use stream_kit::{FailingSource, RefusingSink};
 
@@ -21,27 +21,23 @@ fn check_failing(
     source: &mut FailingSource,
     wanted: Ended,
     bytes: usize,
-) -> Result<(), AllocError> {
+) {
     let (end, out) = run_failing(rt, alloc, source);
-    assert_eq!(rt; end, wanted);
-    assert_eq!(rt; source.failures(), 1);
-    let output = row_output(alloc, bytes)?;
-    assert_eq!(rt; str::from_utf8(out.as_slice()), Ok(output.as_str()));
-    Ok(())
+    let output = row_output(rt, alloc, bytes);
+    check_ran(rt, end, wanted, out.as_slice(), output.as_bytes());
+    assert!(rt; source.failures() == 1);
 }
 
 // Behind each byte of the row a read fails once. It isn't tried again: nothing behind it is read.
 #[test]
-fn reads_no_more_once_a_source_failed(rt: HostRuntime) -> Result<(), AllocError> {
-    let alloc = rt.alloc();
-    let input = row_input(alloc)?;
+fn reads_no_more_once_a_source_failed(rt: HostRuntime) {
+    let input = row_input(&rt, rt.alloc());
     let bytes = input.as_bytes();
     for count in 0..=bytes.len() {
         let mut source = FailingSource::new(bytes, count);
-        check_failing(&rt, alloc, &mut source, READ_FAULT, count)?;
+        check_failing(&rt, rt.alloc(), &mut source, READ_FAULT, count);
         assert_eq!(rt; source.left(), bytes.len() - count);
     }
-    Ok(())
 }
 
 /// How a run over a text ended. No read failed.
@@ -57,28 +53,30 @@ fn check_refusals(rt: &impl Abort, alloc: Global, input: &[u8], wanted: &[u8]) {
     for room in 0..wanted.len() {
         let mut sink = RefusingSink::new(alloc, room);
         let end = run_refused(rt, alloc, input, &mut sink);
-        assert_eq!(rt; end, Err(ScriptFault::Write));
-        assert_eq!(rt; sink.refusals(), 1);
-        assert_eq!(rt; sink.taken(), &wanted[..room]);
+        check_ran(
+            rt,
+            end,
+            Err(ScriptFault::Write),
+            sink.taken(),
+            &wanted[..room],
+        );
+        assert!(rt; sink.refusals() == 1);
     }
 }
 
 // Behind each byte of the row's output a write is refused once. It isn't tried again.
 #[test]
-fn writes_no_more_once_a_sink_refused(rt: HostRuntime) -> Result<(), AllocError> {
-    let alloc = rt.alloc();
-    let input = row_input(alloc)?;
-    let wanted = row_output(alloc, input.len())?;
-    check_refusals(&rt, alloc, input.as_bytes(), wanted.as_bytes());
-    Ok(())
+fn writes_no_more_once_a_sink_refused(rt: HostRuntime) {
+    let input = row_input(&rt, rt.alloc());
+    let wanted = row_output(&rt, rt.alloc(), input.len());
+    check_refusals(&rt, rt.alloc(), input.as_bytes(), wanted.as_bytes());
 }
 
 // The same source goes on in a next run, behind the read that failed.
 #[test]
-fn goes_on_in_the_next_run(rt: HostRuntime) -> Result<(), AllocError> {
-    let alloc = rt.alloc();
-    let input = row_input(alloc)?;
+fn goes_on_in_the_next_run(rt: HostRuntime) {
+    let input = row_input(&rt, rt.alloc());
     let mut source = FailingSource::new(input.as_bytes(), 0);
-    check_failing(&rt, alloc, &mut source, READ_FAULT, 0)?;
-    check_failing(&rt, alloc, &mut source, Ok(()), input.len())
+    check_failing(&rt, rt.alloc(), &mut source, READ_FAULT, 0);
+    check_failing(&rt, rt.alloc(), &mut source, Ok(()), input.len());
 }

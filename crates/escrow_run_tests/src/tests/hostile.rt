@@ -1,7 +1,7 @@
 //! Appends torn at each byte, a header without end, and readers and writers that are interrupted
 //! once.
 
-use super::{Ended, READ_FAULT, Talk, check_reader, check_said, row_input, row_output};
+use super::{Ended, READ_FAULT, Talk, check_ran, check_reader, check_said, row_input, row_output};
 use check_kit::{STOCK_OF_TWO, joined};
 use escrow_run::{ScriptFault, Watched, run_script};
 use field_bounds::SchemaFault;
@@ -23,24 +23,27 @@ const GIFT_KEPT: [(&str, &str); 3] = [
     ("0 share stock", "share 15 30"),
 ];
 
-/// A script in which a gift is torn behind so many bytes.
-fn torn_gift(alloc: Global, bytes: u64) -> Result<Talk, AllocError> {
-    let mut talk = Talk::new(alloc, STOCK_OF_TWO)?;
-    talk.torn("0 give 1 stock lower 5", bytes)?;
-    talk.row("deliver 1", "refused 16 no statement")?;
-    talk.rows(if bytes < 10 { &GIFT_LOST } else { &GIFT_KEPT })?;
-    Ok(talk)
+impl Talk {
+    /// A gift that is torn behind so many bytes. Its record has 10.
+    fn tear_gift(&mut self, bytes: u64) -> Result<(), AllocError> {
+        self.torn("0 give 1 stock lower 5", bytes)?;
+        self.row("deliver 1", "refused 16 no statement")?;
+        self.rows(if bytes < 10 { &GIFT_LOST } else { &GIFT_KEPT })
+    }
 }
 
-// The record of the gift has 10 bytes.
+fn check_torn_gift(rt: &impl Abort, alloc: Global, bytes: u64) {
+    let mut talk = Talk::new(rt, alloc, STOCK_OF_TWO);
+    talk.tear_gift(bytes).expect(rt, "memory");
+    talk.check(rt, alloc);
+}
+
 #[test]
-fn keeps_a_gift_that_is_whole(rt: HostRuntime) -> Result<(), AllocError> {
-    let alloc = rt.alloc();
+fn keeps_a_gift_that_is_whole(rt: HostRuntime) {
     for bytes in 0..=10u64 {
-        torn_gift(alloc, bytes)?.check(&rt, alloc);
+        check_torn_gift(&rt, rt.alloc(), bytes);
     }
-    torn_gift(alloc, 1000)?.check(&rt, alloc);
-    Ok(())
+    check_torn_gift(&rt, rt.alloc(), 1000);
 }
 
 const COMMIT_TORN_FAR_BEHIND: [(&str, &str); 6] = said! {
@@ -53,8 +56,8 @@ const COMMIT_TORN_FAR_BEHIND: [(&str, &str); 6] = said! {
 };
 
 #[test]
-fn keeps_a_commit_torn_far_behind_its_end(rt: HostRuntime) -> Result<(), AllocError> {
-    check_said(&rt, rt.alloc(), STOCK_OF_TWO, &COMMIT_TORN_FAR_BEHIND)
+fn keeps_a_commit_torn_far_behind_its_end(rt: HostRuntime) {
+    check_said(&rt, rt.alloc(), STOCK_OF_TWO, &COMMIT_TORN_FAR_BEHIND);
 }
 
 const FAILED_RESTARTS: [(&str, &str); 4] = said! {
@@ -65,8 +68,8 @@ const FAILED_RESTARTS: [(&str, &str); 4] = said! {
 };
 
 #[test]
-fn restarts_behind_three_failed_restarts(rt: HostRuntime) -> Result<(), AllocError> {
-    check_said(&rt, rt.alloc(), STOCK_OF_TWO, &FAILED_RESTARTS)
+fn restarts_behind_three_failed_restarts(rt: HostRuntime) {
+    check_said(&rt, rt.alloc(), STOCK_OF_TWO, &FAILED_RESTARTS);
 }
 
 #[test]
@@ -99,42 +102,36 @@ fn reads_no_more_once_a_header_is_too_long(rt: HostRuntime) {
     assert_eq!(rt; reader.into_inner().reads, 65_537);
 }
 
+/// Runs over a header line that begins with these spaces, and a begin.
+fn check_spaced(rt: &impl Abort, alloc: Global, spaces: &str) {
+    let input = joined(alloc, &[spaces, STOCK_OF_TWO, "\n0 begin\n"]).expect(rt, "memory");
+    let answers = "\n0 begin -> begun 0.1\n";
+    let wanted = joined(alloc, &[spaces, STOCK_OF_TWO, answers]).expect(rt, "memory");
+    check_reader(rt, alloc, input.as_bytes(), Ok(()), wanted.as_str());
+}
+
 // Where that byte is its LF, the header has 65,536 bytes and is read, and so is what follows.
 #[test]
-fn reads_a_header_of_the_greatest_length(rt: HostRuntime) -> Result<(), AllocError> {
-    let alloc = rt.alloc();
-    let spaces = " ".repeat(alloc, 65_536usize.saturating_sub(STOCK_OF_TWO.len()))?;
-    let input = joined(alloc, &[spaces.as_str(), STOCK_OF_TWO, "\n0 begin\n"])?;
-    let wanted = joined(
-        alloc,
-        &[spaces.as_str(), STOCK_OF_TWO, "\n0 begin -> begun 0.1\n"],
-    )?;
-    check_reader(&rt, alloc, input.as_bytes(), Ok(()), wanted.as_str());
-    Ok(())
+fn reads_a_header_of_the_greatest_length(rt: HostRuntime) {
+    let count = 65_536usize.saturating_sub(STOCK_OF_TWO.len());
+    let spaces = " ".repeat(rt.alloc(), count).expect(&rt, "memory");
+    check_spaced(&rt, rt.alloc(), spaces.as_str());
 }
 
 /// Runs over a text whose read is interrupted once, behind so many bytes.
-fn check_interrupted(
-    rt: &impl Abort,
-    alloc: Global,
-    before: &[u8],
-    behind: &[u8],
-) -> Result<(), AllocError> {
-    let output = row_output(alloc, before.len())?;
+fn check_interrupted(rt: &impl Abort, alloc: Global, before: &[u8], behind: &[u8]) {
+    let output = row_output(rt, alloc, before.len());
     let reader = InterruptedReader::new(before, behind);
     check_reader(rt, alloc, reader, READ_FAULT, output.as_str());
-    Ok(())
 }
 
 #[test]
-fn reads_no_more_once_interrupted(rt: HostRuntime) -> Result<(), AllocError> {
-    let alloc = rt.alloc();
-    let input = row_input(alloc)?;
+fn reads_no_more_once_interrupted(rt: HostRuntime) {
+    let input = row_input(&rt, rt.alloc());
     let bytes = input.as_bytes();
     for count in 0..=bytes.len() {
-        check_interrupted(&rt, alloc, &bytes[..count], &bytes[count..])?;
+        check_interrupted(&rt, rt.alloc(), &bytes[..count], &bytes[count..]);
     }
-    Ok(())
 }
 
 /// How a run over a text ends whose write is interrupted once, and what was taken.
@@ -148,16 +145,19 @@ fn run_interrupted(alloc: Global, text: &[u8], room: usize) -> (Ended, Vec<u8>) 
 fn check_interruptions(rt: &impl Abort, alloc: Global, input: &[u8], wanted: &[u8]) {
     for room in 0..wanted.len() {
         let (end, taken) = run_interrupted(alloc, input, room);
-        assert_eq!(rt; end, Err(ScriptFault::Write));
-        assert_eq!(rt; taken.as_slice(), &wanted[..room]);
+        check_ran(
+            rt,
+            end,
+            Err(ScriptFault::Write),
+            taken.as_slice(),
+            &wanted[..room],
+        );
     }
 }
 
 #[test]
-fn writes_no_more_once_interrupted(rt: HostRuntime) -> Result<(), AllocError> {
-    let alloc = rt.alloc();
-    let input = row_input(alloc)?;
-    let wanted = row_output(alloc, input.len())?;
-    check_interruptions(&rt, alloc, input.as_bytes(), wanted.as_bytes());
-    Ok(())
+fn writes_no_more_once_interrupted(rt: HostRuntime) {
+    let input = row_input(&rt, rt.alloc());
+    let wanted = row_output(&rt, rt.alloc(), input.len());
+    check_interruptions(&rt, rt.alloc(), input.as_bytes(), wanted.as_bytes());
 }

@@ -17,8 +17,8 @@ const UNEVEN: [(&str, &str); 7] = said! {
 
 // Two sites are levelled by one gift, which isn't delivered.
 #[test]
-fn levels_what_a_gift_made_uneven(rt: HostRuntime) -> Result<(), AllocError> {
-    check_said(&rt, rt.alloc(), STOCK_OF_TWO, &UNEVEN)
+fn levels_what_a_gift_made_uneven(rt: HostRuntime) {
+    check_said(&rt, rt.alloc(), STOCK_OF_TWO, &UNEVEN);
 }
 
 const ONE_DOWN: [(&str, &str); 5] = said! {
@@ -33,9 +33,9 @@ const EVEN: [(&str, &str); 1] = [("level stock raise", "level stock raise -> mov
 
 // A site that is down neither gives nor gets.
 #[test]
-fn levels_the_sites_that_are_up(rt: HostRuntime) -> Result<(), AllocError> {
-    check_said(&rt, rt.alloc(), STOCK_OF_THREE, &ONE_DOWN)?;
-    check_said(&rt, rt.alloc(), STOCK_OF_TWO, &EVEN)
+fn levels_the_sites_that_are_up(rt: HostRuntime) {
+    check_said(&rt, rt.alloc(), STOCK_OF_THREE, &ONE_DOWN);
+    check_said(&rt, rt.alloc(), STOCK_OF_TWO, &EVEN);
 }
 
 const NONE_UP: [(&str, &str); 4] = said! {
@@ -47,8 +47,8 @@ const NONE_UP: [(&str, &str); 4] = said! {
 
 // Where all sites are down there is nothing to move.
 #[test]
-fn levels_no_site(rt: HostRuntime) -> Result<(), AllocError> {
-    check_said(&rt, rt.alloc(), STOCK_OF_TWO, &NONE_UP)
+fn levels_no_site(rt: HostRuntime) {
+    check_said(&rt, rt.alloc(), STOCK_OF_TWO, &NONE_UP);
 }
 
 /// The widest field at its ceiling, among three sites: lower 666666666666667, the same, and one
@@ -56,12 +56,38 @@ fn levels_no_site(rt: HostRuntime) -> Result<(), AllocError> {
 const WIDEST_OF_THREE: &str =
     "{\"sites\":3,\"fields\":[{\"name\":\"stock\",\"floor\":-1000000000000000,\"ceiling\":1000000000000000,\"value\":1000000000000000}]}";
 
-/// Adds a gift of so many lowering rights.
-fn add_gift(text: &mut String, from: &str, to: &str, amount: &str) -> Result<(), AllocError> {
-    add(text, &[from, " give ", to, " stock lower ", amount])
-}
-
 impl Talk {
+    /// The same with the numbers spelled.
+    fn carry_spelled(
+        &mut self,
+        number: &str,
+        from: &str,
+        to: &str,
+        amount: &str,
+        total: &str,
+    ) -> Result<(), AllocError> {
+        let gift = [from, " give ", to, " stock lower ", amount];
+        add(&mut self.input, &gift)?;
+        add(&mut self.input, &["\ndeliver ", number, "\n"])?;
+        add(&mut self.wanted, &gift)?;
+        let told = [
+            " -> given ",
+            total,
+            "\n",
+            to,
+            " accept ",
+            from,
+            " ",
+            to,
+            " stock lower ",
+            total,
+            " -> accepted ",
+            amount,
+            "\n",
+        ];
+        add(&mut self.wanted, &told)
+    }
+
     /// A gift of lowering rights with the total so far, and its delivery.
     fn carry(
         &mut self,
@@ -76,18 +102,13 @@ impl Talk {
             Buffer::new(),
             Buffer::new(),
         );
-        let number = of_number.format(number);
-        let amount = of_amount.format(amount);
-        let total = of_total.format(total);
-        add_gift(&mut self.input, from, to, amount)?;
-        add(&mut self.input, &["\ndeliver ", number, "\n"])?;
-        add_gift(&mut self.wanted, from, to, amount)?;
-        add(&mut self.wanted, &[" -> given ", total, "\n"])?;
-        add(
-            &mut self.wanted,
-            &[to, " accept ", from, " ", to, " stock lower ", total],
-        )?;
-        add(&mut self.wanted, &[" -> accepted ", amount, "\n"])
+        self.carry_spelled(
+            of_number.format(number),
+            from,
+            to,
+            of_amount.format(amount),
+            of_total.format(total),
+        )
     }
 }
 
@@ -104,22 +125,28 @@ impl Talk {
         }
         self.carry(1_001, "0", "1", ALL, 500 * ALL)
     }
+
+    /// All rights go to site 0, then to the limit, and then back to it by site 2.
+    fn carry_all(&mut self) -> Result<(), AllocError> {
+        self.carry(1, "1", "0", 666_666_666_666_667, 666_666_666_666_667)?;
+        self.carry(2, "2", "0", 666_666_666_666_666, 666_666_666_666_666)?;
+        self.carry_to_the_limit()?;
+        self.carry(1_002, "1", "2", ALL, ALL)?;
+        self.carry(1_003, "2", "0", ALL, 666_666_666_666_666 + ALL)
+    }
 }
+
+/// How the rights are levelled then.
+const LEVELLED: [(&str, &str); 1] = said! {
+    "level stock lower" => "level stock lower -> moves 2\n0 give 1 stock lower 666666666666667 -> refused 9 ledger full 1000000000000000000\n0 give 2 stock lower 666666666666666 -> given 666666666666666",
+};
 
 // The total of gifts from site 0 to site 1 is as large as one may be, so a gift is refused; the one
 // after it is given.
 #[test]
-fn levels_past_a_refused_gift(rt: HostRuntime) -> Result<(), AllocError> {
-    let mut talk = Talk::new(rt.alloc(), WIDEST_OF_THREE)?;
-    talk.carry(1, "1", "0", 666_666_666_666_667, 666_666_666_666_667)?;
-    talk.carry(2, "2", "0", 666_666_666_666_666, 666_666_666_666_666)?;
-    talk.carry_to_the_limit()?;
-    talk.carry(1_002, "1", "2", ALL, ALL)?;
-    talk.carry(1_003, "2", "0", ALL, 666_666_666_666_666 + ALL)?;
-    talk.said(
-        "level stock lower",
-        "level stock lower -> moves 2\n0 give 1 stock lower 666666666666667 -> refused 9 ledger full 1000000000000000000\n0 give 2 stock lower 666666666666666 -> given 666666666666666",
-    )?;
+fn levels_past_a_refused_gift(rt: HostRuntime) {
+    let mut talk = Talk::new(&rt, rt.alloc(), WIDEST_OF_THREE);
+    talk.carry_all().expect(&rt, "memory");
+    talk.all_said(&LEVELLED).expect(&rt, "memory");
     talk.check(&rt, rt.alloc());
-    Ok(())
 }

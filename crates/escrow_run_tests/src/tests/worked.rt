@@ -2,7 +2,7 @@
 
 use super::{HEADER, Talk};
 use check_kit::STOCK_OF_TWO;
-use std::alloc::{AllocError, Global};
+use std::alloc::Global;
 use std::process::Abort;
 
 /// Two fields of one site.
@@ -198,22 +198,15 @@ const WORKED: [(&str, &[(&str, &str)]); 14] = [
     ),
 ];
 
-fn check_row(
-    rt: &impl Abort,
-    alloc: Global,
-    header: &str,
-    rows: &[(&str, &str)],
-) -> Result<(), AllocError> {
-    let mut talk = Talk::new(alloc, header)?;
-    talk.rows(rows)?;
+fn check_row(rt: &impl Abort, alloc: Global, header: &str, rows: &[(&str, &str)]) {
+    let mut talk = Talk::new(rt, alloc, header);
+    talk.rows(rows).expect(rt, "memory");
     talk.check(rt, alloc);
-    Ok(())
 }
 
 #[test]
-fn answers_worked_rows(rt: HostRuntime) -> Result<(), AllocError> {
+fn answers_worked_rows(rt: HostRuntime) {
     for (header, rows) in &WORKED {
-        check_row(&rt, rt.alloc(), *header, *rows)?;
+        check_row(&rt, rt.alloc(), *header, *rows);
     }
-    Ok(())
 }

@@ -3,7 +3,6 @@
 use super::*;
 use std::fs::{self, File, Files};
 use std::io::ErrorKind;
-use std::test::Fail;
 
 const PATH: &str = "file_medium_tests.log";
 
@@ -25,57 +24,45 @@ fn is_busy(opened: Result<HostFile, OpenLogFault>) -> bool {
     matches!(fault_of(opened), Some(OpenLogFault::Busy))
 }
 
-/// What a file in memory answers, this one does.
-fn assert_answers(rt: &impl Abort, alloc: Global, medium: &mut FileMedium<HostFile>) {
-    assert_eq!(rt; add(medium, "ab\ncd\n"), Some(Ok(())));
-    assert_eq!(rt; cut_to(alloc, medium, 3), Some(Ok(())));
-    assert_eq!(rt; add(medium, "e\n"), Some(Ok(())));
-    assert_eq!(rt; medium.sync(), Ok(()));
-    assert!(rt; is_held(alloc, medium, "ab\ne\n"));
-    assert!(rt; ends_with(alloc, medium, 2, "e\n", 5));
-    assert_eq!(rt; medium.failures(), 0);
+/// Whether this one answers what a file in memory does.
+fn answers(alloc: Global, medium: &mut FileMedium<HostFile>) -> [bool; 7] {
+    [
+        adds(medium, "ab\ncd\n"),
+        cuts_to(alloc, medium, 3),
+        adds(medium, "e\n"),
+        medium.sync() == Ok(()),
+        is_held(alloc, medium, "ab\ne\n"),
+        ends_with(alloc, medium, 2, "e\n", 5),
+        medium.failures() == 0,
+    ]
 }
 
 /// A new log takes what it is given, and meanwhile nobody else opens it.
 fn assert_new<R: Abort + Files<File = File>>(rt: &R, alloc: Global, file: HostFile) {
     assert!(rt; is_busy(open_log(rt, PATH, Opening::Existing)));
-    match FileMedium::new(alloc, file, Durability::EachAppend) {
-        Ok(mut medium) => assert_answers(rt, alloc, &mut medium),
-        Err(fault) => panic!(rt; "{fault}"),
-    }
+    let mut medium = medium_over(rt, alloc, file, Durability::EachAppend);
+    assert_eq!(rt; answers(alloc, &mut medium), [true; 7]);
 }
 
 /// A log that is there holds what it held, and where another hand has changed it the device fails.
-fn assert_held<R: Abort + Files<File = File>>(
-    rt: &R,
-    alloc: Global,
-    medium: &mut FileMedium<HostFile>,
-) -> Result<(), Fail> {
-    assert!(rt; is_held(alloc, medium, "ab\ne\n"));
-    fs::write(rt, PATH, b"ab\nx\n".as_slice())?;
-    assert!(rt; matches!(medium.read_all(alloc), Err(MediumFault::Device)));
-    Ok(())
+fn assert_existing<R: Abort + Files<File = File>>(rt: &R, alloc: Global, file: HostFile) {
+    let mut medium = medium_over(rt, alloc, file, Durability::Caller);
+    assert!(rt; is_held(alloc, &mut medium, "ab\ne\n"));
+    fs::write(rt, PATH, b"ab\nx\n".as_slice()).expect(rt, "written");
+    assert!(rt; fails_to_read(alloc, &mut medium));
 }
 
-/// The same of a medium over this file.
-fn assert_existing<R: Abort + Files<File = File>>(
-    rt: &R,
-    alloc: Global,
-    file: HostFile,
-) -> Result<(), Fail> {
-    match FileMedium::new(alloc, file, Durability::Caller) {
-        Ok(mut medium) => assert_held(rt, alloc, &mut medium),
-        Err(fault) => panic!(rt; "{fault}"),
-    }
+/// The log, opened.
+fn log_of<R: Abort + Files<File = File>>(rt: &R, opening: Opening) -> HostFile {
+    open_log(rt, PATH, opening).ok().expect(rt, "opened")
 }
 
 #[test]
-fn a_file_of_the_system(rt: HostRuntime) -> Result<(), Fail> {
+fn a_file_of_the_system(rt: HostRuntime) {
     let _ = fs::remove_file(&rt, PATH);
     assert!(rt; is_refused(open_log(&rt, PATH, Opening::Existing), ErrorKind::NotFound));
-    assert_new(&rt, rt.alloc(), open_log(&rt, PATH, Opening::New)?);
+    assert_new(&rt, rt.alloc(), log_of(&rt, Opening::New));
     assert!(rt; is_refused(open_log(&rt, PATH, Opening::New), ErrorKind::AlreadyExists));
-    assert_existing(&rt, rt.alloc(), open_log(&rt, PATH, Opening::Existing)?)?;
-    fs::remove_file(&rt, PATH)?;
-    Ok(())
+    assert_existing(&rt, rt.alloc(), log_of(&rt, Opening::Existing));
+    fs::remove_file(&rt, PATH).expect(&rt, "removed");
 }

@@ -16,15 +16,21 @@ fn count_told<M: Medium>(alloc: Global, site: &mut Site<M>, rows: &[Entry]) -> u
     rows.len()
 }
 
-/// The same of site 0, which is opened over this file, and stops then.
-fn count_told_over<F: LogFile + Drop>(alloc: Global, file: F, rows: &[Entry]) -> Option<usize> {
-    let medium = FileMedium::new(alloc, file, Durability::EachAppend).ok()?;
-    let schema = stock_of_two(alloc)?;
-    if schema.sites() == 0 {
-        return None;
-    }
-    let mut site = Site::open(alloc, schema, SiteNo(0), medium).ok()?;
-    Some(count_told(alloc, &mut site, rows))
+/// Site 0, which is opened over this file, answers each row, and stops then.
+fn assert_answers<F: LogFile + Drop>(rt: &impl Abort, alloc: Global, file: F, rows: &[Entry]) {
+    let schema = stock_of_two(alloc).expect(rt, "memory");
+    assert!(rt; schema.sites() == 2);
+    let medium = medium_over(rt, alloc, file, Durability::EachAppend);
+    let mut site = Site::open(alloc, schema, SiteNo(0), medium)
+        .ok()
+        .expect(rt, "a site");
+    assert_eq!(rt; count_told(alloc, &mut site, rows), rows.len());
+}
+
+/// The file answers each row, and then these bytes are safe.
+fn assert_safe(rt: &impl Abort, alloc: Global, file: &mut MemoryFile, rows: &[Entry], safe: &str) {
+    assert_answers(rt, alloc, &mut *file, rows);
+    assert!(rt; file.safe() == safe.as_bytes());
 }
 
 /// The file answers each row, and then these bytes are safe; the site that is opened over them
@@ -36,19 +42,9 @@ fn assert_run(
     first: (&[Entry], &str),
     second: (&[Entry], &str),
 ) {
-    assert_eq!(rt;
-        count_told_over(alloc, &mut *file, first.0),
-        Some(first.0.len())
-    );
-    assert!(rt; file.safe() == first.1.as_bytes());
-    let Some(mut again) = file_of(alloc, file.safe()) else {
-        panic!(rt; "no file");
-    };
-    assert_eq!(rt;
-        count_told_over(alloc, &mut again, second.0),
-        Some(second.0.len())
-    );
-    assert!(rt; again.safe() == second.1.as_bytes());
+    assert_safe(rt, alloc, &mut *file, first.0, first.1);
+    let mut again = file_of(rt, alloc, file.safe());
+    assert_safe(rt, alloc, &mut again, second.0, second.1);
 }
 
 const COMMITTED: [Entry; 3] = [
@@ -66,9 +62,7 @@ const OVER_THE_COMMIT: [Entry; 3] = [
 #[test]
 fn what_was_answered_is_there_again(rt: HostRuntime) {
     let alloc = rt.alloc();
-    let Some(mut file) = file_of(alloc, b"") else {
-        panic!(rt; "no file");
-    };
+    let mut file = file_of(&rt, alloc, b"");
     assert_run(
         &rt,
         alloc,
@@ -95,9 +89,7 @@ const OVER_NOTHING: [Entry; 2] = [
 #[test]
 fn after_a_failed_sync_a_site_stays_down(rt: HostRuntime) {
     let alloc = rt.alloc();
-    let Some(mut file) = file_of(alloc, b"") else {
-        panic!(rt; "no file");
-    };
+    let mut file = file_of(&rt, alloc, b"");
     file.arm(FileMishap {
         call: FileCall::Sync,
         good: 1,
@@ -122,9 +114,7 @@ const OVER_THE_RESTART: [Entry; 2] = [
 #[test]
 fn a_torn_record_is_cut(rt: HostRuntime) {
     let alloc = rt.alloc();
-    let Some(mut file) = file_of(alloc, b"") else {
-        panic!(rt; "no file");
-    };
+    let mut file = file_of(&rt, alloc, b"");
     file.limit_writes(5);
     file.arm(FileMishap {
         call: FileCall::Write,

@@ -49,47 +49,48 @@ fn count_well(alloc: Global, medium: &mut FileMedium<MemoryFile>) -> usize {
     RUN.len()
 }
 
-/// Whether a medium over a file of these bytes tells these.
-fn is_found(alloc: Global, bytes: &[u8], wanted: &str) -> Option<bool> {
-    let file = file_of(alloc, bytes)?;
-    let mut medium = FileMedium::new(alloc, file, Durability::EachAppend).ok()?;
-    Some(is_held(alloc, &mut medium, wanted))
-}
-
-/// A medium over an empty file of short writes, of which one call fails.
-fn medium_under(alloc: Global, mishap: FileMishap) -> Option<FileMedium<MemoryFile>> {
-    let mut file = file_of(alloc, b"")?;
+/// An empty file of short writes, of which one call fails.
+fn file_under(alloc: Global, call: FileCall, good: u64) -> MemoryFile {
+    let mut file = MemoryFile::new(alloc, Vec::new(alloc));
     file.limit_writes(2);
-    file.arm(mishap);
-    FileMedium::new(alloc, file, Durability::EachAppend).ok()
+    file.arm(FileMishap { call, good });
+    file
 }
 
-/// How many calls of the run go well where one fails, and whether then these bytes are found.
-fn outcome(alloc: Global, mishap: FileMishap, wanted: &str) -> Option<(usize, bool)> {
-    let mut medium = medium_under(alloc, mishap)?;
-    let well = count_well(alloc, &mut medium);
-    Some((well, is_found(alloc, medium.file().safe(), wanted)?))
+/// Tests that a medium over a file of these bytes tells these.
+fn assert_found(rt: &impl Abort, alloc: Global, bytes: &[u8], wanted: &str) {
+    let file = file_of(rt, alloc, bytes);
+    let mut medium = medium_over(rt, alloc, file, Durability::EachAppend);
+    assert!(rt; is_held(alloc, &mut medium, wanted));
+}
+
+/// Tests how many calls of the run go well, and what is found then.
+fn assert_row(rt: &impl Abort, alloc: Global, row: &Row) {
+    let (call, good, well, wanted) = *row;
+    let file = file_under(alloc, call, good);
+    let mut medium = medium_over(rt, alloc, file, Durability::EachAppend);
+    assert_eq!(rt; count_well(alloc, &mut medium), well);
+    assert_found(rt, alloc, medium.file().safe(), wanted);
 }
 
 #[test]
 fn each_call_fails_in_turn(rt: HostRuntime) {
-    for (call, good, well, wanted) in &ROWS {
-        let mishap = FileMishap {
-            call: *call,
-            good: *good,
-        };
-        assert_eq!(rt; outcome(rt.alloc(), mishap, *wanted), Some((*well, true)));
+    for row in &ROWS {
+        assert_row(&rt, rt.alloc(), row);
     }
 }
 
 /// Whether a medium is opened where the first such call fails.
 fn is_opened(alloc: Global, call: FileCall) -> bool {
-    medium_under(alloc, FileMishap { call, good: 0 }).is_some()
+    FileMedium::new(alloc, file_under(alloc, call, 0), Durability::EachAppend).is_ok()
 }
 
 #[test]
 fn an_opening_syncs_and_reads(rt: HostRuntime) {
-    assert!(rt; !is_opened(rt.alloc(), FileCall::Sync));
-    assert!(rt; !is_opened(rt.alloc(), FileCall::Read));
-    assert!(rt; is_opened(rt.alloc(), FileCall::Write));
+    let opened = [
+        is_opened(rt.alloc(), FileCall::Sync),
+        is_opened(rt.alloc(), FileCall::Read),
+        is_opened(rt.alloc(), FileCall::Write),
+    ];
+    assert_eq!(rt; opened, [false, false, true]);
 }

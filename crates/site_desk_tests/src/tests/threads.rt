@@ -71,9 +71,10 @@ type Refused = (u64, usize);
 
 /// The desk closed with this pass too, after a close without it was refused.
 fn closed_after_all<L: Ledger>(
+    rt: &impl Abort,
     refused: CloseError<L, MemoryMedium>,
     second: Pass<L>,
-) -> Option<(Refused, Closed<MemoryMedium>)> {
+) -> (Refused, Closed<MemoryMedium>) {
     let CloseError {
         desk,
         mut passes,
@@ -81,18 +82,20 @@ fn closed_after_all<L: Ledger>(
         found: _,
     } = refused;
     let handed_back = passes.len();
-    passes.push(second).ok()?;
-    Some(((length, handed_back), closed_with(desk, passes)?))
+    passes.push(second).expect(rt, "memory");
+    ((length, handed_back), closed_with(rt, desk, passes))
 }
 
 /// The desk closed with all passes, after a close without the last was refused.
 fn closed_at_last<L: Ledger>(
+    rt: &impl Abort,
     desk: Desk<L, MemoryMedium>,
     passes: Vec<Pass<L>>,
-) -> Option<(Refused, Closed<MemoryMedium>)> {
+) -> (Refused, Closed<MemoryMedium>) {
     let mut passes = passes;
-    let second = passes.pop()?;
-    closed_after_all(desk.close(passes).err()?, second)
+    let second = passes.pop().expect(rt, "a pass");
+    let refused = desk.close(passes).err().expect(rt, "refused");
+    closed_after_all(rt, refused, second)
 }
 
 /// What two threads with a pass each leave behind: whether both were served, what a close with one
@@ -124,40 +127,26 @@ fn left_by(
     }
 }
 
-/// Whether two threads were served, and the desk closed behind them.
-fn closed_after_both<L: Ledger + Send + Sync, R: Threads + Wait + Sync>(
-    rt: &R,
-    alloc: Global,
-    blank: Blank,
-    receipts: &mut Vec<Receipt>,
-) -> Option<(bool, (Refused, Closed<MemoryMedium>))>
-    requires name { blank.name ≡ L.name }
-    requires parts { blank.parts ≡ L.parts }
-    requires some { 0 < blank.parts }
-{
-    let (desk, mut passes) = desk_over::<L>(alloc, blank, 0, &[])?;
-    let served = both_begin_and_abort(rt, alloc, &desk, &mut passes, receipts);
-    Some((served, closed_at_last(desk, passes)?))
-}
-
 /// What two threads at a desk of two passes leave behind.
-fn two_threads<L: Ledger + Send + Sync, R: Threads + Wait + Sync>(
+fn two_threads<L: Ledger + Send + Sync, R: Abort + Threads + Wait + Sync>(
     rt: &R,
     alloc: Global,
     blank: Blank,
-) -> Option<Left>
+) -> Left
     requires name { blank.name ≡ L.name }
     requires parts { blank.parts ≡ L.parts }
     requires some { 0 < blank.parts }
 {
     let mut receipts = Vec::new(alloc);
-    let (served, (refused, closed)) = closed_after_both::<L, R>(rt, alloc, blank, &mut receipts)?;
-    Some(left_by(alloc, served, refused, closed, &receipts))
+    let (desk, mut passes) = desk_over::<L>(rt, alloc, blank, 0, &[]);
+    let served = both_begin_and_abort(rt, alloc, &desk, &mut passes, &mut receipts);
+    let (refused, closed) = closed_at_last(rt, desk, passes);
+    left_by(alloc, served, refused, closed, &receipts)
 }
 
 /// The same of a desk of its own.
-fn two_threads_of(rt: &(impl Threads + Wait + Sync), alloc: Global) -> Option<Left> {
-    two_threads::<Brand, _>(rt, alloc, Blank::new(2))
+fn two_threads_of<R: Abort + Threads + Wait + Sync>(rt: &R, alloc: Global) -> Left {
+    two_threads::<Brand, R>(rt, alloc, Blank::new(2))
 }
 
 /// Both threads made a hundred calls each, and each call has its receipt.
@@ -171,10 +160,7 @@ fn assert_left(rt: &impl Abort, left: &Left) {
 
 #[test]
 fn two_threads_call_one_desk(rt: HostRuntime) {
-    match two_threads_of(&rt, rt.alloc()) {
-        Some(left) => assert_left(&rt, &left),
-        None => panic!(&rt; "a call failed"),
-    }
+    assert_left(&rt, &two_threads_of(&rt, rt.alloc()));
 }
 
 /// A gate at which the first calls of two sites meet.
@@ -261,7 +247,7 @@ fn both_begin<L: Ledger + Send + Sync, R: Threads + Wait + Sync>(
 }
 
 /// The same of a desk that is opened for it.
-fn both_begin_there<L: Ledger + Send + Sync, R: Threads + Wait + Sync>(
+fn both_begin_there<L: Ledger + Send + Sync, R: Abort + Threads + Wait + Sync>(
     rt: &R,
     alloc: Global,
     blank: Blank,
@@ -271,17 +257,17 @@ fn both_begin_there<L: Ledger + Send + Sync, R: Threads + Wait + Sync>(
     requires parts { blank.parts ≡ L.parts }
     requires some { 0 < blank.parts }
 {
-    let (desk, mut passes) = desk_over::<L>(alloc, blank, 0, &[])?;
+    let (desk, mut passes) = desk_over::<L>(rt, alloc, blank, 0, &[]);
     both_begin(rt, alloc, &desk, &mut passes, gate)
 }
 
 /// The same of a desk of two passes.
-fn both_begin_of(
-    rt: &(impl Threads + Wait + Sync),
+fn both_begin_of<R: Abort + Threads + Wait + Sync>(
+    rt: &R,
     alloc: Global,
     gate: &Order,
 ) -> Option<(Option<u64>, Option<u64>)> {
-    both_begin_there::<Brand, _>(rt, alloc, Blank::new(2), gate)
+    both_begin_there::<Brand, R>(rt, alloc, Blank::new(2), gate)
 }
 
 #[test]
@@ -294,11 +280,8 @@ fn a_gate_is_passed_under_the_lock_and_told_after_it(rt: HostRuntime) {
     };
     let numbers = both_begin_of(&rt, rt.alloc(), &gate);
     assert_eq!(rt; numbers, Some((Some(1), Some(2))));
-    let told = (
-        gate.early.load(Ordering::SeqCst),
-        gate.late.load(Ordering::SeqCst),
-    );
-    assert_eq!(rt; told, (0, 1));
+    assert_eq!(rt; gate.early.load(Ordering::SeqCst), 0);
+    assert_eq!(rt; gate.late.load(Ordering::SeqCst), 1);
 }
 
 /// The receipt of a read at the gate with the first pass.
@@ -318,33 +301,36 @@ fn read_at<L: Ledger, R: Wait>(
 type Read = (Closed<MemoryMedium>, Option<Receipt>);
 
 /// One read of a desk of its own at the gate.
-fn one_read<L: Ledger, R: Wait>(
+fn one_read<L: Ledger, R: Abort + Wait>(
     rt: &R,
     alloc: Global,
     blank: Blank,
     site: u16,
     gate: &Both,
-) -> Option<Read>
+) -> Read
     requires name { blank.name ≡ L.name }
     requires parts { blank.parts ≡ L.parts }
     requires some { 0 < blank.parts }
 {
-    let (desk, mut passes) = desk_over::<L>(alloc, blank, site, &[])?;
+    let (desk, mut passes) = desk_over::<L>(rt, alloc, blank, site, &[]);
     let receipt = read_at(rt, alloc, &desk, &mut passes, gate);
-    Some((closed_with(desk, passes)?, receipt))
+    (closed_with(rt, desk, passes), receipt)
 }
 
 /// The same of a desk that has the only pass.
-fn one_read_of(rt: &(impl Wait + Sync), alloc: Global, site: u16, gate: &Both) -> Option<Read> {
-    one_read::<Brand, _>(rt, alloc, Blank::new(1), site, gate)
+fn one_read_of<R: Abort + Wait + Sync>(rt: &R, alloc: Global, site: u16, gate: &Both) -> Read {
+    one_read::<Brand, R>(rt, alloc, Blank::new(1), site, gate)
 }
 
 /// The receipt of such a read, without the closed site.
-fn receipt_of(rt: &(impl Wait + Sync), alloc: Global, site: u16, gate: &Both) -> Option<Receipt> {
-    match one_read_of(rt, alloc, site, gate) {
-        Some((_closed, receipt)) => receipt,
-        None => None,
-    }
+fn receipt_of<R: Abort + Wait + Sync>(
+    rt: &R,
+    alloc: Global,
+    site: u16,
+    gate: &Both,
+) -> Option<Receipt> {
+    let (_closed, receipt) = one_read_of(rt, alloc, site, gate);
+    receipt
 }
 
 /// Whether this receipt alone is that of the closed site's entries, and None for no receipt.
@@ -356,19 +342,16 @@ fn verdict_alone(
     Some(check_receipts(alloc, closed, &[receipt?]))
 }
 
-/// Whether the first read's receipt is of its closed site's only entry, and whether the other's is.
-type Verdicts = (
-    Option<Result<(), ReceiptFault>>,
-    Option<Result<(), ReceiptFault>>,
-);
-
-/// The check of both receipts beside the closed site of the first read.
-fn verdicts(alloc: Global, read: Read, foreign: Option<Receipt>) -> Verdicts {
+/// The check of both receipts beside the closed site of the first read: its own is that of the
+/// site's only entry, and the other one isn't.
+fn assert_verdicts(rt: &impl Abort, alloc: Global, read: Read, foreign: Option<Receipt>) {
     let (closed, own) = read;
-    (
-        verdict_alone(alloc, &closed, own),
-        verdict_alone(alloc, &closed, foreign),
-    )
+    assert_eq!(rt; verdict_alone(alloc, &closed, own), Some(Ok(())));
+    let differs = ReceiptFault::Differs {
+        site: SiteNo(1),
+        number: 1,
+    };
+    assert_eq!(rt; verdict_alone(alloc, &closed, foreign), Some(Err(differs)));
 }
 
 #[test]
@@ -382,15 +365,5 @@ fn two_desks_are_called_at_the_same_time(rt: HostRuntime) {
         move || one_read_of(handle, alloc, 0, shared),
         move || receipt_of(handle, alloc, 1, shared),
     );
-    let differs = ReceiptFault::Differs {
-        site: SiteNo(1),
-        number: 1,
-    };
-    match zero {
-        Some(read) => assert_eq!(rt;
-            verdicts(alloc, read, foreign),
-            (Some(Ok(())), Some(Err(differs)))
-        ),
-        None => panic!(&rt; "a read failed"),
-    }
+    assert_verdicts(&rt, alloc, zero, foreign);
 }

@@ -132,10 +132,9 @@ const LAST_EPOCH_UNDER_MISHAPS: [Step; 2] = [
 /// A mishap for cuts doesn't strike where nothing stands behind the last line feed.
 const NOTHING_TO_CUT: [Step; 1] = [(Cut, entry!(0 restart -> restarted 2 nothing))];
 
-/// Site 0 over a medium that holds these bytes.
-fn site_over(alloc: Global, bytes: &str) -> Option<Site<TornMedium>> {
-    let held = Vec::from_slice(alloc, bytes.as_bytes()).ok()?;
-    open_over(alloc, 0, TornMedium::new(held))
+/// A medium that holds these bytes.
+fn medium_over(rt: &impl Abort, alloc: Global, bytes: &str) -> TornMedium {
+    TornMedium::new(Vec::from_slice(alloc, bytes.as_bytes()).expect(rt, "memory"))
 }
 
 /// How many of the answers are as told, from the first on.
@@ -150,10 +149,10 @@ fn count_told(alloc: Global, site: &mut Site<TornMedium>, steps: &[Step]) -> usi
     steps.len()
 }
 
-/// The same of a site over these bytes.
-fn count_told_over(alloc: Global, bytes: &str, steps: &[Step]) -> Option<usize> {
-    let mut site = site_over(alloc, bytes)?;
-    Some(count_told(alloc, &mut site, steps))
+/// The same of site 0 over these bytes.
+fn count_told_over(rt: &impl Abort, alloc: Global, bytes: &str, steps: &[Step]) -> usize {
+    let mut site = open_over(rt, alloc, 0, medium_over(rt, alloc, bytes));
+    count_told(alloc, &mut site, steps)
 }
 
 /// The bytes that a site is opened over, its steps, and how many of them it answers as told: all.
@@ -162,7 +161,7 @@ type Run = (&'static str, &'static [Step], usize);
 /// Each run is answered as told.
 fn assert_runs(rt: &impl Abort, alloc: Global, runs: &[Run]) {
     for (bytes, steps, told) in runs {
-        assert_eq!(rt; count_told_over(alloc, *bytes, *steps), Some(*told));
+        assert_eq!(rt; count_told_over(rt, alloc, *bytes, *steps), *told);
     }
 }
 
@@ -228,14 +227,6 @@ const BAD_LOGS: [(&str, u64); 14] = [
     ("R 1\nS 1 1 20 30\nT 0 l 5\nS 1 1 20 30\n", 4),
 ];
 
-/// A medium that holds these bytes, under a mishap.
-fn medium_over(alloc: Global, bytes: &str, mishap: Mishap) -> Option<TornMedium> {
-    let held = Vec::from_slice(alloc, bytes.as_bytes()).ok()?;
-    let mut medium = TornMedium::new(held);
-    medium.arm(mishap);
-    Some(medium)
-}
-
 /// The fault of an open, and how many failures the medium has that comes back.
 fn fault_of(opened: Result<Site<TornMedium>, (OpenFault, TornMedium)>) -> Option<(OpenFault, u64)> {
     match opened {
@@ -245,15 +236,22 @@ fn fault_of(opened: Result<Site<TornMedium>, (OpenFault, TornMedium)>) -> Option
 }
 
 /// The same of an open of site 0 over these bytes under a mishap.
-fn open_fault(alloc: Global, bytes: &str, mishap: Mishap) -> Option<(OpenFault, u64)> {
-    fault_of(opened_over(alloc, 0, medium_over(alloc, bytes, mishap)?)?)
+fn open_fault(
+    rt: &impl Abort,
+    alloc: Global,
+    bytes: &str,
+    mishap: Mishap,
+) -> Option<(OpenFault, u64)> {
+    let mut medium = medium_over(rt, alloc, bytes);
+    medium.arm(mishap);
+    fault_of(opened_over(rt, alloc, 0, medium))
 }
 
 /// The first bad line of each log is found, and the medium hasn't failed.
 fn assert_bad_logs(rt: &impl Abort, alloc: Global, logs: &[(&str, u64)]) {
     for (bytes, line) in logs {
         assert_eq!(rt;
-            open_fault(alloc, *bytes, Mishap::Never),
+            open_fault(rt, alloc, *bytes, Mishap::Never),
             Some((OpenFault::Line(*line), 0))
         );
     }
@@ -264,7 +262,7 @@ fn faults_of_open(rt: HostRuntime) {
     let alloc = rt.alloc();
     assert_bad_logs(&rt, alloc, &BAD_LOGS);
     assert_eq!(rt;
-        open_fault(alloc, "", Mishap::Read),
+        open_fault(&rt, alloc, "", Mishap::Read),
         Some((OpenFault::Device, 1))
     );
 }

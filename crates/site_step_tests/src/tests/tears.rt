@@ -31,13 +31,16 @@ fn appends_restarts<M: Medium>(medium: &mut M, line: &mut Vec<u8>, below: u32) -
 }
 
 /// Site 0 over a medium, behind the records of the restarts into the epochs below this one.
-pub fn site_behind<M: Medium + Drop>(alloc: Global, medium: M, below: u32) -> Option<Site<M>> {
+pub fn site_behind<M: Medium + Drop>(
+    rt: &impl Abort,
+    alloc: Global,
+    medium: M,
+    below: u32,
+) -> Site<M> {
     let mut line = Vec::new(alloc);
     let mut medium = medium;
-    if !appends_restarts(&mut medium, &mut line, below) {
-        return None;
-    }
-    open_over(alloc, 0, medium)
+    assert!(rt; appends_restarts(&mut medium, &mut line, below));
+    open_over(rt, alloc, 0, medium)
 }
 
 /// Whether each restart into the epochs from the first on and below the end says that nothing was
@@ -90,9 +93,9 @@ fn restart_behind(
 }
 
 /// The same of a site that is opened for it.
-fn torn(alloc: Global, tear: &Tear, bytes: u64) -> Option<After> {
+fn torn(rt: &impl Abort, alloc: Global, tear: &Tear, bytes: u64) -> Option<After> {
     let medium = TornMedium::new(Vec::new(alloc));
-    let mut site = site_behind(alloc, medium, tear.first)?;
+    let mut site = site_behind(rt, alloc, medium, tear.first);
     restart_behind(alloc, &mut site, tear, bytes)
 }
 
@@ -105,6 +108,6 @@ pub fn assert_lengths(
     after: After,
 ) {
     for bytes in lengths.0..lengths.1 {
-        assert_eq!(rt; torn(alloc, tear, bytes), Some(after));
+        assert_eq!(rt; torn(rt, alloc, tear, bytes), Some(after));
     }
 }

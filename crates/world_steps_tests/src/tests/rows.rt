@@ -33,12 +33,10 @@ const REFUSED: [Told; 7] = [
 ];
 
 #[test]
-fn worked_gifts(rt: HostRuntime) -> Result<(), Fail> {
-    let alloc = rt.alloc();
-    assert_eq!(rt; comes(alloc, &PASSED_ON), Some(true));
-    assert_eq!(rt; comes(alloc, &OUT_OF_ORDER), Some(true));
-    assert_eq!(rt; comes(alloc, &REFUSED), Some(true));
-    Ok(())
+fn worked_gifts(rt: HostRuntime) {
+    assert_comes(&rt, rt.alloc(), &PASSED_ON);
+    assert_comes(&rt, rt.alloc(), &OUT_OF_ORDER);
+    assert_comes(&rt, rt.alloc(), &REFUSED);
 }
 
 /// Both bounds are tightened at site 0; what it reads stays as it was.
@@ -60,9 +58,7 @@ const TIGHTENED_ELSEWHERE: [Told; 4] = [
 ];
 
 #[test]
-fn worked_tightenings(rt: HostRuntime) -> Result<(), Fail> {
-    let alloc = rt.alloc();
-    assert_eq!(rt; comes(alloc, &TIGHTENED), Some(true));
-    assert_eq!(rt; comes(alloc, &TIGHTENED_ELSEWHERE), Some(true));
-    Ok(())
+fn worked_tightenings(rt: HostRuntime) {
+    assert_comes(&rt, rt.alloc(), &TIGHTENED);
+    assert_comes(&rt, rt.alloc(), &TIGHTENED_ELSEWHERE);
 }

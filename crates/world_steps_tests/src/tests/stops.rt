@@ -96,23 +96,19 @@ const LUCK_OF_ONE_STEP: [Told; 4] = [
 ];
 
 #[test]
-fn worked_stops(rt: HostRuntime) -> Result<(), Fail> {
-    let alloc = rt.alloc();
-    assert_eq!(rt; comes(alloc, &ABORTED), Some(true));
-    assert_eq!(rt; comes(alloc, &LOST), Some(true));
-    assert_eq!(rt; comes(alloc, &KEPT), Some(true));
-    assert_eq!(rt; comes(alloc, &KEPT_LATE), Some(true));
-    assert_eq!(rt; comes(alloc, &EPOCH_USED), Some(true));
-    Ok(())
+fn worked_stops(rt: HostRuntime) {
+    assert_comes(&rt, rt.alloc(), &ABORTED);
+    assert_comes(&rt, rt.alloc(), &LOST);
+    assert_comes(&rt, rt.alloc(), &KEPT);
+    assert_comes(&rt, rt.alloc(), &KEPT_LATE);
+    assert_comes(&rt, rt.alloc(), &EPOCH_USED);
 }
 
 #[test]
-fn worked_gifts_in_doubt(rt: HostRuntime) -> Result<(), Fail> {
-    let alloc = rt.alloc();
-    assert_eq!(rt; comes(alloc, &GIFT_KEPT), Some(true));
-    assert_eq!(rt; comes(alloc, &TAKEN_IN), Some(true));
-    assert_eq!(rt; comes(alloc, &TAKEN_IN_LATE), Some(true));
-    assert_eq!(rt; comes(alloc, &READ_ELSEWHERE), Some(true));
-    assert_eq!(rt; comes(alloc, &LUCK_OF_ONE_STEP), Some(true));
-    Ok(())
+fn worked_gifts_in_doubt(rt: HostRuntime) {
+    assert_comes(&rt, rt.alloc(), &GIFT_KEPT);
+    assert_comes(&rt, rt.alloc(), &TAKEN_IN);
+    assert_comes(&rt, rt.alloc(), &TAKEN_IN_LATE);
+    assert_comes(&rt, rt.alloc(), &READ_ELSEWHERE);
+    assert_comes(&rt, rt.alloc(), &LUCK_OF_ONE_STEP);
 }
