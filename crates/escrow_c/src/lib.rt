@@ -289,10 +289,10 @@ pub extern "C" fn escrow_run_text(
     }
 }
 
-/// Judges a trace under a header: entries as text, a line for each, of all sites. `DONE`: they are a
-/// run of one central store, in which each reply was owed. `ILLEGAL`: entry `at`, counted from 1, is
-/// the first that breaks a rule. `BAD_ENTRY`: line `at` is the first that is no entry. Else `at` is
-/// 0.
+/// Judges a trace under a header: entries as text, a line for each, of all sites. `DONE`: they are
+/// a run of one central store, in which each reply was owed. `ILLEGAL`: entry `at`, counted from 1,
+/// is the first that breaks a rule. `BAD_ENTRY`: line `at` is the first that is no entry. Else `at`
+/// is 0.
 #[unsafe(no_mangle)]
 pub extern "C" fn escrow_judge(alloc: Global, header: &[u8], trace: &[u8], at: &mut u64) -> u32
     ensures { Judges header.now trace.now result at.new }

@@ -27,7 +27,18 @@ use Rattle.site_handle.specs.contracts.parts.Parts as Parts
 use Rattle.site_handle.specs.contracts.handle.Handle as Handle
 
 abbrev pub E : Bx
-E = record { row = Holder.the_row; laws = holder.the_row_laws; al = record { row = Heap.the_row; laws = heap.the_row_laws; g = ghosts; d = dict; drops = impl [] tnil dnil } }
+E = record {
+  row = Holder.the_row;
+  laws = holder.the_row_laws;
+  al = record {
+    row = Heap.the_row;
+    laws =
+        heap.the_row_laws;
+    g = ghosts;
+    d = dict;
+    drops = impl [] tnil dnil;
+  };
+}
 
 abbrev pub PartsRow : RattleType
 PartsRow = Parts.the_row Holder.the_row Heap.the_row ghosts
@@ -46,13 +57,18 @@ shown p full = vstruct (vcons (ptr_val p) (vcons (vbool full) vnil))
 
 module _ {M : Type 1} {𝓤 : Ura M} (𝓛 : Logic 𝓤) (alloc : Global) (at : Ptr) (full : Bool) where
   abbrev pub Full : Option (Holder.the_row).Denot → Fml
-  Full v = fex (Holder.the_row).Denot (λ x. fsep (feq (Option (Holder.the_row).Denot) v (Some x)) (box_owns (ghosts.dealloc_token alloc) Holder.the_row at x))
+  Full v = fex (Holder.the_row).Denot (λ x. fsep (feq (Option (Holder.the_row).Denot) v (Some x))
+      (box_owns (ghosts.dealloc_token alloc) Holder.the_row at x))
 
   pub opened : (v : Option (Holder.the_row).Denot) → T full → ent 𝓤 (sem 𝓛 (handle_owns alloc at full v)) (sem 𝓛 (Full v))
   opened None t = qed 𝓛 (‵ (handle_owns alloc at full None) ∷ []) ∵ feq_l ! (λ e. absurd (subst (λ (b : Bool). T b) e t))
-  opened (Some x) t = qed 𝓛 (‵ (handle_owns alloc at full (Some x)) ∷ []) ∵ fsplit ! $ drop ! $ feq_i ! (Option (Holder.the_row).Denot) (Some x) (Some x) refl $ fjoin ! $
-      fpack ! (Holder.the_row).Denot (λ y. fsep (feq (Option (Holder.the_row).Denot) (Some x) (Some y)) (box_owns (ghosts.dealloc_token alloc) Holder.the_row at y)) x $ done !
+  opened (Some x) t = qed 𝓛 (‵ (handle_owns alloc at full (Some x)) ∷ []) ∵ fsplit ! $ drop ! $
+      feq_i ! (Option (Holder.the_row).Denot) (Some x) (Some x) refl $ fjoin ! $
+      fpack ! (Holder.the_row).Denot (λ y. fsep (feq (Option (Holder.the_row).Denot) (Some x) (Some y))
+      (box_owns (ghosts.dealloc_token alloc) Holder.the_row at y)) x $ done !
 
-  pub closed : (v : Option (Holder.the_row).Denot) → T (not full) → ent 𝓤 (sem 𝓛 (handle_owns alloc at full v)) (sem 𝓛 (feq (Option (Holder.the_row).Denot) v None))
+  pub closed : (v : Option (Holder.the_row).Denot) → T (not full) →
+      ent 𝓤 (sem 𝓛 (handle_owns alloc at full v)) (sem 𝓛 (feq (Option (Holder.the_row).Denot) v None))
   closed None t = qed 𝓛 (‵ (handle_owns alloc at full None) ∷ []) ∵ drop ! $ feq_i ! (Option (Holder.the_row).Denot) None None refl $ done !
-  closed (Some x) t = qed 𝓛 (‵ (handle_owns alloc at full (Some x)) ∷ []) ∵ fsplit ! $ feq_l ! (λ e. absurd (subst (λ (b : Bool). T (not b)) e t))
+  closed (Some x) t = qed 𝓛 (‵ (handle_owns alloc at full (Some x)) ∷ []) ∵ fsplit ! $
+      feq_l ! (λ e. absurd (subst (λ (b : Bool). T (not b)) e t))

@@ -17,7 +17,8 @@ IsNoLine bytes = (max_line < length bytes) ⊎ ((HasNoLf bytes → ⊥) ⊎ (IsU
 
 -- The line is the text of no command under the schema.
 abbrev pub SpellsNothing : SchemaValue → List ℕ → Type 0
-SpellsNothing schema line = (site : SiteNo) (command : Command) → SiteFits site → CommandFits command → line ≢ command_text schema site command
+SpellsNothing schema line =
+    (site : SiteNo) (command : Command) → SiteFits site → CommandFits command → line ≢ command_text schema site command
 
 -- The line is the text of a command of another site.
 pub record IsOthers (schema : SchemaValue) (number : SiteNo) (line : List ℕ) : Type 0 where

@@ -11,9 +11,9 @@ use std::alloc::Global;
 use std::marker::Model;
 use std::mem;
 
-/// A site that is held by a pointer, or none. In C it is `struct { void *at; bool full; }`, of which
-/// nothing is for C to read or to write, and `{0}` is a handle to none. What it points to is behind
-/// no other handle. Contracts see the site.
+/// A site that is held by a pointer, or none. In C it is `struct { void *at; bool full; }`, of
+/// which nothing is for C to read or to write, and `{0}` is a handle to none. What it points to is
+/// behind no other handle. Contracts see the site.
 ///
 /// Source: this project.
 #[repr(C)]

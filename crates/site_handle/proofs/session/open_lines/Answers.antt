@@ -10,5 +10,6 @@ invariant_of-result c =
 pub returns-in-Err-Line-default-clause-err : goal.returns-in-Err-Line-default-clause-err
 returns-in-Err-Line-default-clause-err c =
     bad_by c.args.schema c.in_ok-own.own c.args.number.0 c.args.lines.now c.new-medium.result.bytes c.in-Err-Line-default.field-0-0
-    c.in-Err-Line-default.line c.in_ok-own.ensures.equal (c.new-medium.ensures.bytes ∙ c.in_ok-from_slice.ensures.items) c.in-Err-Line-default.field-0-0-is
+    c.in-Err-Line-default.line c.in_ok-own.ensures.equal (c.new-medium.ensures.bytes ∙ c.in_ok-from_slice.ensures.items)
+    c.in-Err-Line-default.field-0-0-is
     c.in-Err-Line-default.ensures.line

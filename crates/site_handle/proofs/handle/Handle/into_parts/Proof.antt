@@ -55,27 +55,59 @@ into_parts_spec 𝓤 𝓛 𝓜 𝓡 wired =
     let y : W.Ghost = ((κs, qs, bounds, a, (shut ∷ [], (heap_val ∷ [], tt))), g) in
     let parts : Val = vstruct (vcons (ptr_val h.at) (vcons heap_val vnil)) in
     let at_ty : T (has_ty ty_ptr (ptr_val h.at)) × WT (ptr_val h.at) = ((rawptr_Lawful 𝓛).typed h.at (ptr_val h.at ∷ []) refl).0 in
-    let parts_ty : T (has_ty ty_ptr (ptr_val h.at) && true) × WT parts = (and_tt (has_ty ty_ptr (ptr_val h.at)) at_ty.0, (at_ty.1, (((tt, tt), tt), tt))) in
+    let parts_ty : T (has_ty ty_ptr (ptr_val h.at) && true) × WT parts = (
+      and_tt (has_ty ty_ptr (ptr_val h.at)) at_ty.0,
+      (at_ty.1, (((tt, tt), tt), tt)),
+    ) in
     let Res : RattleType = RS.the_row PartsRow u8 in
-    qed 𝓛 ((‵ ftrue ⊛ ‵ (fsep (HandleRow.own_val h (shut ∷ [])) (fsep ((Heap.the_row).own_val al (heap_val ∷ [])) ftrue))) ∷ raw (emp 𝓤) ∷ []) ∵
+    qed 𝓛 ((‵ ftrue ⊛ ‵ (fsep (HandleRow.own_val h (shut ∷ [])) (fsep ((Heap.the_row).own_val al (heap_val ∷ []))
+    ftrue))) ∷ raw (emp 𝓤) ∷ []) ∵
     split ! $ drop ! $ fsplit3 ! $ fsplit ! $ drop ! $ keep ! (0 ∷ 1 ∷ []) $
     -- [what the handle owns; the heap's handle]
-    enter ! _ _ _ _ _ $ alloc_all ! (λ l. pass_all ! refl (((the_field_loose.lawful 𝓛).typed h (shut ∷ []) are.0).0, ((tt, ((tt, tt), tt)), tt)) $
-    sets ! (of_opd ! (get_in ! (fld ! refl (stop !)) (sub ! 0 refl (whole !)))) refl at_ty $ sets ! (of_opd ! (get_in ! (fld ! refl (stop !)) (sub ! 1 refl (whole !)))) refl (tt, tt) $
+    enter ! _ _ _ _ _ $
+    alloc_all ! (λ l. pass_all ! refl (
+      ((the_field_loose.lawful 𝓛).typed h (shut ∷ []) are.0).0,
+      (
+        (tt, ((tt, tt), tt)),
+        tt,
+      ),
+    ) $
+    sets ! (of_opd ! (get_in ! (fld ! refl (stop !)) (sub ! 0 refl (whole !)))) refl at_ty $
+    sets ! (of_opd ! (get_in ! (fld ! refl (stop !)) (sub ! 1 refl (whole !)))) refl (tt, tt) $
     sets ! (of_opd ! (get ! refl)) refl (tt, tt) $ first ! $ branches ! (get ! refl)
-    (λ full. use1 𝓛 (‵ (Full 𝓛 h.alloc h.at h.full h.value)) (opened 𝓛 h.alloc h.at h.full h.value full) $ fpick ! (λ x. fsplit ! $ feq_l ! (λ e.
+    (λ full. use1 𝓛 (‵ (Full 𝓛 h.alloc h.at h.full h.value)) (opened 𝓛 h.alloc h.at h.full h.value full) $
+    fpick ! (λ x. fsplit ! $ feq_l ! (λ e.
     let made : PartsRow.Denot = record { ptr = h.at; alloc = al; value = x } in
     sets ! (of_opd ! (get ! refl)) refl at_ty $
     sets ! (agg ! (and_then ! (get ! refl) (and_then ! (get ! refl) (no_more !)))) refl parts_ty $
-    sets ! (agg ! (and_then ! (lit ! tt) (and_then ! (get ! refl) (no_more !)))) refl (and_tt (has_ty ty_ptr (ptr_val h.at) && true) parts_ty.0, (record { fits = lit< tt }, (parts_ty.1, tt))) $
+    sets ! (agg ! (and_then ! (lit ! tt) (and_then ! (get ! refl) (no_more !))))
+    refl (and_tt (has_ty ty_ptr (ptr_val h.at) && true) parts_ty.0, (record { fits = lit< tt }, (parts_ty.1, tt))) $
     returns_within ! (W.post y) refl (look_at ! 0 refl) $ free_all ! refl $
-    nothing ! $ move ! (2 ∷ 0 ∷ []) $ fjoin ! $ feq_i ! (List Val) (ptr_val h.at ∷ []) (ptr_val h.at ∷ []) refl $ fjoin ! $ feq_i ! (List Val) (parts ∷ []) (parts ∷ []) refl $ fjoin ! $
-    fpack ! (Valss (RawPtr ∷ Heap.the_row ∷ [])) (within (shape (Parts.the_type Holder.the_row Heap.the_row ghosts)) (h.at, (al, tt)) (parts ∷ [])) (ptr_val h.at ∷ [], (heap_val ∷ [], tt)) $ fjoin ! $
-    use1 𝓛 (‵ (PartsRow.own_val made (parts ∷ []))) (id⊢ 𝓤 _) $ use1 𝓛 (‵ (Res.own_val (Ok made) (live 0 (of_list (parts ∷ [])) ∷ []))) (ok_of 𝓛 PartsRow u8 made parts) $
-    suffices ! _ (ends_at 𝓛 f.ended stayed c y (live 0 (of_list (parts ∷ []))) (Ok made) (tt, (tt, tt)) (tt, (tt, tt))) $ says ! (e, tt) $ nothing ! $ nothing ! $ fjoin ! $ nothing ! $ fjoin ! $ join ! $ nothing ! $ join ! $ done !)))
+    nothing ! $ move ! (2 ∷ 0 ∷ []) $ fjoin ! $ feq_i ! (List Val) (ptr_val h.at ∷ []) (ptr_val h.at ∷ []) refl $
+    fjoin ! $ feq_i ! (List Val) (parts ∷ []) (parts ∷ []) refl $ fjoin ! $
+    fpack ! (Valss (RawPtr ∷ Heap.the_row ∷ [])) (within (shape (Parts.the_type Holder.the_row Heap.the_row ghosts))
+    (h.at, (al, tt)) (parts ∷ [])) (ptr_val h.at ∷ [], (heap_val ∷ [], tt)) $ fjoin ! $
+    use1 𝓛 (‵ (PartsRow.own_val made (parts ∷ []))) (id⊢ 𝓤 _) $
+    use1 𝓛 (‵ (Res.own_val (Ok made) (live 0 (of_list (parts ∷ [])) ∷ []))) (ok_of 𝓛 PartsRow u8 made parts) $
+    suffices ! _ (ends_at 𝓛 f.ended stayed c y (live 0 (of_list (parts ∷ []))) (Ok made) (tt, (tt, tt)) (tt, (tt, tt)))
+    $ says ! (e, tt) $ nothing ! $ nothing ! $ fjoin ! $ nothing ! $ fjoin ! $ join ! $ nothing ! $ join ! $ done !)))
     (λ not_full. skips ! $ exec ! 𝓣.C 𝓣.Λ (env code.Mir.locals l) code.Mir.t-5 (at_ret _ (W.post y)) $
     use1 𝓛 (‵ (feq (Option (Holder.the_row).Denot) h.value None)) (closed 𝓛 h.alloc h.at h.full h.value not_full) $ feq_l ! (λ e.
-    sets ! (agg ! (and_then ! (lit ! tt) (and_then ! (lit ! tt) (no_more !)))) refl (tt, (record { fits = lit< tt }, (record { fits = lit< tt }, tt))) $
+    sets ! (agg ! (and_then ! (lit ! tt) (and_then ! (lit ! tt) (no_more !)))) refl (
+      tt,
+      (
+        record { fits = lit< tt },
+        (record { fits = lit< tt }, tt),
+      ),
+    ) $
     returns ! (look_at ! 0 refl) $ free_all ! refl $ drop ! $
-    owned ! u8 _ (uint_Makes 𝓛 w8) 0 _ (refl, lit< tt) $ use1 𝓛 (‵ (Res.own_val (Err 0) (live 1 (of_list (vint w8 0 ∷ [])) ∷ []))) (err_of 𝓛 PartsRow u8 0 (vint w8 0)) $
-    suffices ! _ (ends_at 𝓛 f.ended stayed c y (live 1 (of_list (vint w8 0 ∷ []))) (Err 0) (tt, (tt, tt)) (tt, (tt, tt))) $ says ! (tt, e) $ nothing ! $ nothing ! $ fjoin ! $ nothing ! $ fjoin ! $ join ! $ nothing ! $ join ! $ done !))))
+    owned ! u8 _ (uint_Makes 𝓛 w8) 0 _ (refl, lit< tt) $
+    use1 𝓛 (‵ (Res.own_val (Err 0) (live 1 (of_list (vint w8 0 ∷ [])) ∷ []))) (err_of 𝓛 PartsRow u8 0 (vint w8 0)) $
+    suffices ! _ (ends_at 𝓛 f.ended stayed c y (live 1 (of_list (vint w8 0 ∷ []))) (Err 0) (tt, (tt, tt)) (
+      tt,
+      (
+        tt,
+        tt,
+      ),
+    )) $ says ! (tt, e) $ nothing ! $ nothing ! $ fjoin ! $ nothing ! $ fjoin ! $ join ! $ nothing ! $ join ! $
+    done !))))
