@@ -19,19 +19,18 @@ fn log_behind(count: Option<usize>) -> &'static str {
     }
 }
 
-/// Tests that exactly the first so many batches are let out.
-fn assert_let_out_of(
+/// Tests that exactly the first so many batches are let out of a service that is to be opened.
+fn assert_opened<F: LogFile>(
     rt: &impl Abort,
     alloc: Global,
-    log: &mut MemoryFile,
+    service: &mut Service<F>,
     trace: &mut MemoryFile,
-    count: usize,
+    count: Option<usize>,
 ) {
-    let mut service = open_traced(rt, alloc, log, &mut *trace).expect(rt, "opened");
-    assert_front(rt, alloc, &mut service, trace, count);
+    assert_front(rt, alloc, service, trace, count.expect(rt, "not opened"));
 }
 
-/// The same, or that the service isn't opened.
+/// Tests that exactly the first so many batches are let out, or that the service isn't opened.
 fn assert_run(
     rt: &impl Abort,
     alloc: Global,
@@ -39,9 +38,9 @@ fn assert_run(
     trace: &mut MemoryFile,
     count: Option<usize>,
 ) {
-    match count {
-        Some(count) => assert_let_out_of(rt, alloc, log, trace, count),
-        None => assert!(rt; open_traced(rt, alloc, log, trace).is_err()),
+    match open_traced(rt, alloc, log, &mut *trace) {
+        Ok(mut service) => assert_opened(rt, alloc, &mut service, trace, count),
+        Err(_) => assert!(rt; count.is_none()),
     }
 }
 
