@@ -1,7 +1,9 @@
 //! Appends torn at each byte, a header without end, and readers and writers that are interrupted
 //! once.
 
-use super::{Ended, READ_FAULT, Talk, check_ran, check_reader, check_said, row_input, row_output};
+use super::{
+    Ended, READ_FAULT, Said, Talk, check_each, check_ran, check_reader, row_input, row_output,
+};
 use check_kit::{STOCK_OF_TWO, joined};
 use escrow_run::{ScriptFault, Watched, run_script};
 use field_bounds::SchemaFault;
@@ -55,11 +57,6 @@ const COMMIT_TORN_FAR_BEHIND: [(&str, &str); 6] = said! {
     "0 share stock" => "0 share stock -> share 0 50",
 };
 
-#[test]
-fn keeps_a_commit_torn_far_behind_its_end(rt: HostRuntime) {
-    check_said(&rt, rt.alloc(), STOCK_OF_TWO, &COMMIT_TORN_FAR_BEHIND);
-}
-
 const FAILED_RESTARTS: [(&str, &str); 4] = said! {
     "0 restart torn 4" => "0 restart -> still down",
     "0 restart torn 4" => "0 restart -> still down",
@@ -67,9 +64,15 @@ const FAILED_RESTARTS: [(&str, &str); 4] = said! {
     "0 restart" => "0 restart -> restarted 4 nothing",
 };
 
+/// A commit is kept that was torn far behind its end, and a site restarts behind three failed restarts.
+const TORN_BEHIND_THE_END: [Said; 2] = [
+    (STOCK_OF_TWO, &COMMIT_TORN_FAR_BEHIND),
+    (STOCK_OF_TWO, &FAILED_RESTARTS),
+];
+
 #[test]
-fn restarts_behind_three_failed_restarts(rt: HostRuntime) {
-    check_said(&rt, rt.alloc(), STOCK_OF_TWO, &FAILED_RESTARTS);
+fn restarts_behind_whole_records(rt: HostRuntime) {
+    check_each(&rt, rt.alloc(), &TORN_BEHIND_THE_END);
 }
 
 #[test]

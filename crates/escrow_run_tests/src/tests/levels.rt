@@ -1,6 +1,6 @@
 //! Lines that level a field, and the gifts that answer them.
 
-use super::{Talk, check_said};
+use super::{Said, Talk, check_each};
 use check_kit::{STOCK_OF_THREE, STOCK_OF_TWO, add};
 use itoa::Buffer;
 use std::alloc::AllocError;
@@ -15,12 +15,6 @@ const UNEVEN: [(&str, &str); 7] = said! {
     "level stock lower" => "level stock lower -> moves 0",
 };
 
-// Two sites are levelled by one gift, which isn't delivered.
-#[test]
-fn levels_what_a_gift_made_uneven(rt: HostRuntime) {
-    check_said(&rt, rt.alloc(), STOCK_OF_TWO, &UNEVEN);
-}
-
 const ONE_DOWN: [(&str, &str); 5] = said! {
     "0 give 1 stock lower 14" => "0 give 1 stock lower 14 -> given 14",
     "deliver 1" => "1 accept 0 1 stock lower 14 -> accepted 14",
@@ -31,13 +25,6 @@ const ONE_DOWN: [(&str, &str); 5] = said! {
 
 const EVEN: [(&str, &str); 1] = [("level stock raise", "level stock raise -> moves 0")];
 
-// A site that is down neither gives nor gets.
-#[test]
-fn levels_the_sites_that_are_up(rt: HostRuntime) {
-    check_said(&rt, rt.alloc(), STOCK_OF_THREE, &ONE_DOWN);
-    check_said(&rt, rt.alloc(), STOCK_OF_TWO, &EVEN);
-}
-
 const NONE_UP: [(&str, &str); 4] = said! {
     "0 restart torn 0" => "0 restart -> still down",
     "1 restart torn 0" => "1 restart -> still down",
@@ -45,10 +32,18 @@ const NONE_UP: [(&str, &str); 4] = said! {
     "level stock raise" => "level stock raise -> moves 0",
 };
 
-// Where all sites are down there is nothing to move.
+/// Two sites are levelled by one gift, which isn't delivered. A site that is down neither gives nor
+/// gets. Where all sites are down there is nothing to move.
+const LEVELS: [Said; 4] = [
+    (STOCK_OF_TWO, &UNEVEN),
+    (STOCK_OF_THREE, &ONE_DOWN),
+    (STOCK_OF_TWO, &EVEN),
+    (STOCK_OF_TWO, &NONE_UP),
+];
+
 #[test]
-fn levels_no_site(rt: HostRuntime) {
-    check_said(&rt, rt.alloc(), STOCK_OF_TWO, &NONE_UP);
+fn levels_the_sites_that_are_up(rt: HostRuntime) {
+    check_each(&rt, rt.alloc(), &LEVELS);
 }
 
 /// The widest field at its ceiling, among three sites: lower 666666666666667, the same, and one

@@ -1,6 +1,6 @@
 //! Rows of commands over one site and over two, each beside its reply.
 
-use super::{HEADER, Talk};
+use super::{HEADER, Said, Talk};
 use check_kit::STOCK_OF_TWO;
 use std::alloc::Global;
 use std::process::Abort;
@@ -18,7 +18,7 @@ const WIDEST: &str =
     "{\"sites\":1,\"fields\":[{\"name\":\"stock\",\"floor\":-1000000000000000,\"ceiling\":1000000000000000,\"value\":1000000000000000}]}";
 
 /// Headers, each with command lines and what is replied to them.
-const WORKED: [(&str, &[(&str, &str)]); 14] = [
+const WORKED: [Said; 14] = [
     (
         HEADER,
         &[
@@ -204,9 +204,13 @@ fn check_row(rt: &impl Abort, alloc: Global, header: &str, rows: &[(&str, &str)]
     talk.check(rt, alloc);
 }
 
+fn check_rows(rt: &impl Abort, alloc: Global, tables: &[Said]) {
+    for (header, rows) in tables {
+        check_row(rt, alloc, *header, *rows);
+    }
+}
+
 #[test]
 fn answers_worked_rows(rt: HostRuntime) {
-    for (header, rows) in &WORKED {
-        check_row(&rt, rt.alloc(), *header, *rows);
-    }
+    check_rows(&rt, rt.alloc(), &WORKED);
 }

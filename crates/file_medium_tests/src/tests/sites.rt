@@ -16,20 +16,25 @@ fn count_told<M: Medium>(alloc: Global, site: &mut Site<M>, rows: &[Entry]) -> u
     rows.len()
 }
 
-/// Site 0, which is opened over this file, answers each row, and stops then.
-fn assert_answers<F: LogFile + Drop>(rt: &impl Abort, alloc: Global, file: F, rows: &[Entry]) {
+/// The same of site 0, which is opened over this file, and stops then.
+fn count_told_over<F: LogFile + Drop>(
+    rt: &impl Abort,
+    alloc: Global,
+    file: F,
+    rows: &[Entry],
+) -> usize {
     let schema = stock_of_two(alloc).expect(rt, "memory");
     assert!(rt; schema.sites() == 2);
     let medium = medium_over(rt, alloc, file, Durability::EachAppend);
     let mut site = Site::open(alloc, schema, SiteNo(0), medium)
         .ok()
         .expect(rt, "a site");
-    assert_eq!(rt; count_told(alloc, &mut site, rows), rows.len());
+    count_told(alloc, &mut site, rows)
 }
 
 /// The file answers each row, and then these bytes are safe.
 fn assert_safe(rt: &impl Abort, alloc: Global, file: &mut MemoryFile, rows: &[Entry], safe: &str) {
-    assert_answers(rt, alloc, &mut *file, rows);
+    assert_eq!(rt; count_told_over(rt, alloc, &mut *file, rows), rows.len());
     assert!(rt; file.safe() == safe.as_bytes());
 }
 
