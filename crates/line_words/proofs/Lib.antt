@@ -4,3 +4,4 @@ pub mod WordLemmas
 pub mod Forms
 pub mod WordKinds
 pub mod Lines
+pub mod FrontLemmas

@@ -14,7 +14,7 @@ use Rattle.std.proofs.lemmas.Str.Parse.{digit_from_value}
 use Rattle.std.proofs.lemmas.Fmt.{decimal_is_IsNumeral}
 use Rattle.line_words.specs.Words.{words, words_of}
 
-abbrev is_space : ℕ → Bool
+abbrev pub is_space : ℕ → Bool
 is_space b = b == 32
 
 -- up to the first space
@@ -65,7 +65,7 @@ words-join w (v ∷ ws) h hs = slice_split_at is_space w 32 (join_with_byte 32 (
 pub join-words : (bytes : List ℕ) → join_with_byte 32 (words bytes) ≡ bytes
 join-words bytes = join_with_byte-slice_split 32 bytes
 
-some_words : (bytes : List ℕ) → words bytes ≡ [] → ⊥
+pub some_words : (bytes : List ℕ) → words bytes ≡ [] → ⊥
 some_words bytes e = omega (arith, length-slice_split is_space bytes, ap length e)
 
 pub is_empty_says : (left : Option (Bor (List ℕ))) (b : Bool) → is_some left ≡ not b → MatchBool b (words_of left ≡ []) (words_of left ≢ [])

@@ -1,6 +1,7 @@
 //! What a line of text is made of: words with one space between them, and numbers.
 #![tactic(auto)]
 
+mod front;
 mod number;
 mod words;
 

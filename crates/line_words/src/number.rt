@@ -4,6 +4,9 @@ ghost use Rattle.std.specs.Prelude.{◌≡◌, ℕ, ◌<◌, ◌^◌, IfSome, So
 ghost use Rattle.std.specs.Int.{w64};
 ghost use Rattle.std.specs.Fmt.{decimal, signed_decimal};
 ghost use Rattle.line_words.specs.Reading.{number_of, negative_of, positive_of, signed_of};
+ghost use Rattle.line_words.specs.Fronts.{below_zero_of, from_zero_of};
+
+use crate::front::number_in_front;
 
 // The greatest i64.
 const GREATEST: u64 = 9_223_372_036_854_775_807;
@@ -28,6 +31,18 @@ pub fn read_number(word: &[u8]) -> Option<u64>
     ensures found { IfSome result (λ n. word.now ≡ decimal n) }
     ensures only { (n : ℕ) → n < 2 ^ 64 → word.now ≡ decimal n → result ≡ Some n }
 {
+    if let Some((number, count)) = number_in_front(word) {
+        if count == word.len() {
+            return Some(number);
+        }
+    }
+    read_tested(word)
+}
+
+// The same, each step tested for what is past u64.
+fn read_tested(word: &[u8]) -> Option<u64>
+    ensures { result ≡ number_of (2 ^ 64) word.now }
+{
     if word.is_empty() || has_leading_zero(word) {
         return None;
     }
@@ -43,12 +58,11 @@ pub fn read_number(word: &[u8]) -> Option<u64>
     Some(value)
 }
 
-/// The number below 0 whose digits these are.
-#[tactic(auto, unfolding(crate::specs::Reading::negative_of))]
-fn negative(digits: &[u8]) -> Option<i64>
-    ensures { result ≡ negative_of digits.now }
+/// The number that is so far below 0.
+#[inline]
+pub(crate) fn below_zero(size: u64) -> Option<i64>
+    ensures { result ≡ below_zero_of size }
 {
-    let size = read_number(digits)?;
     if size == 0 {
         return None;
     }
@@ -58,16 +72,31 @@ fn negative(digits: &[u8]) -> Option<i64>
     Some(-1 - (size - 1) as i64)
 }
 
+/// The number of so many from 0 on.
+#[inline]
+pub(crate) fn from_zero(size: u64) -> Option<i64>
+    ensures { result ≡ from_zero_of size }
+{
+    if size > GREATEST {
+        return None;
+    }
+    Some(size as i64)
+}
+
+/// The number below 0 whose digits these are.
+#[tactic(auto, unfolding(crate::specs::Reading::negative_of))]
+fn negative(digits: &[u8]) -> Option<i64>
+    ensures { result ≡ negative_of digits.now }
+{
+    below_zero(read_number(digits)?)
+}
+
 /// The number from 0 on that the word spells.
 #[tactic(auto, unfolding(crate::specs::Reading::positive_of))]
 fn positive(word: &[u8]) -> Option<i64>
     ensures { result ≡ positive_of word.now }
 {
-    let size = read_number(word)?;
-    if size > GREATEST {
-        return None;
-    }
-    Some(size as i64)
+    from_zero(read_number(word)?)
 }
 
 /// The number with a sign that the word spells, -9,223,372,036,854,775,808 to
