@@ -1,5 +1,6 @@
 pub mod Bytes
 pub mod Spaced
+pub mod AtFront
 pub mod OneWord
 pub mod RecordKinds
 pub mod Listed

@@ -16,12 +16,12 @@ pub line_spaced : (w : List ℕ) (ws : List (List ℕ)) → join_with_byte 32 (w
 line_spaced w [] = sym (append-nil w)
 line_spaced w (v ∷ ws) = ap (λ (l : List ℕ). w ++ 32 ∷ l) (line_spaced v ws)
 
-escrow_words_push : (es : List Escrow) (e : Escrow)
+pub escrow_words_push : (es : List Escrow) (e : Escrow)
     → escrow_words (es ++ e ∷ []) ≡ escrow_words es ++ (decimal e.field.0 ∷ signed_decimal e.change ∷ [])
 escrow_words_push [] e = refl
 escrow_words_push (x ∷ es) e = ap (λ (l : List (List ℕ)). decimal x.field.0 ∷ signed_decimal x.change ∷ l) (escrow_words_push es e)
 
-spaced_two : (v w : List ℕ) → words_spaced (v ∷ w ∷ []) ≡ (32 ∷ v) ++ (32 ∷ w)
+pub spaced_two : (v w : List ℕ) → words_spaced (v ∷ w ∷ []) ≡ (32 ∷ v) ++ (32 ∷ w)
 spaced_two v w = ap (λ (l : List ℕ). (32 ∷ v) ++ (32 ∷ l)) (append-nil w)
 
 -- the words of one more escrow

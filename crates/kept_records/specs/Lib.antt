@@ -8,5 +8,6 @@ pub mod Faults
 pub mod Stands
 pub mod Keeping
 pub mod Cursor
+pub mod Lines
 pub mod ReadingBack
 pub mod Summaries

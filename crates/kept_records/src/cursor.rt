@@ -6,11 +6,13 @@ ghost use Rattle.kept_records.specs.Cursor.{HandsOut, HandsSummary};
 
 use crate::log::line_feed;
 use crate::reading::{LineFault, read_line};
-use crate::record::Record;
+use crate::record::{Escrows, Record};
+use crate::straight::{commit_at, restart_at};
 use crate::summary::Summary;
 use field_bounds::Escrow;
 use std::alloc::{AllocError, Global};
 use std::marker::Model;
+use std::mem;
 
 /// A cursor over the bytes of a log. It hands out one record after another, each read from its line
 /// as it is asked for, and no list of them is made. The memory of a commit's escrows can be given
@@ -59,6 +61,15 @@ impl<'a> Cursor<'a> {
             (λ _. length self.new < length self.old)) }
         ensures stays { OnErr result (self.new ≡ self.old) }
     {
+        if let Some((txn, behind)) = commit_at(&mut self.spare, self.left) {
+            self.left = behind;
+            let escrows = Escrows::new(mem::replace(&mut self.spare, Vec::new(alloc)));
+            return Ok(Some(Record::Commit { txn, escrows }));
+        }
+        if let Some((epoch, behind)) = restart_at(self.left) {
+            self.left = behind;
+            return Ok(Some(Record::Restart { epoch }));
+        }
         let Some(end) = line_feed(self.left) else {
             return Ok(None);
         };

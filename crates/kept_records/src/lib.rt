@@ -11,6 +11,7 @@ mod memory;
 mod reading;
 mod reading_back;
 mod record;
+mod straight;
 mod summary;
 mod summary_reading;
 mod torn;

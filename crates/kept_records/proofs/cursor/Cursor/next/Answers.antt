@@ -1,7 +1,11 @@
-use Rattle.std.proofs.Common.{◌≡◌, ◌+◌, ◌-◌, ℕ, List, [], ◌++◌, ◌∷◌, length, take, drop, Some, None, refl, sym, ap, subst, ◌∙◌}
+use Rattle.std.proofs.Common.{Vec, Global, ◌≡◌, ◌+◌, ◌-◌, ℕ, List, [], ◌++◌, ◌∷◌, length, take, drop, Some, None, refl, sym, ap, subst, ◌∙◌}
 use Rattle.std.proofs.lemmas.List.{take_rest}
 use Rattle.line_words.specs.Words.{words}
+use Rattle.field_bounds.specs.declared.entry.Escrow.{Escrow}
 use Rattle.kept_records.specs.declared.record.Record.{Record}
+use Rattle.kept_records.specs.declared.record.Record.TheVariants.{Commit, Restart}
+use Rattle.kept_records.specs.Cursor.{HandsOut}
+use Rattle.kept_records.specs.Lines.{IsRecordAt}
 use Rattle.kept_records.specs.Text.{text, IsRecord}
 use Rattle.kept_records.specs.Reading.{record_of}
 use Rattle.kept_records.specs.Logs.{HasNoLf, IsBadLine, IsLog}
@@ -10,14 +14,17 @@ use Rattle.kept_records.proofs.Cursors.{kept_behind, fewer}
 use Rattle.kept_records.proofs.Lines.{line_takes, no_record, no_log, regrouped}
 use Rattle.kept_records.proofs.cursor.Cursor.next.Goals as goal
 
-pub returns-in_default-clause-handed : goal.returns-in_default-clause-handed
-returns-in_default-clause-handed c = (subst HasNoLf c.self.view_is (missing 10 c.self.inside.left.now (sym c.in_default.ensures)), refl)
+pub returns-in_default-line_feed-clause-handed : goal.returns-in_default-line_feed-clause-handed
+returns-in_default-line_feed-clause-handed c = (
+  subst HasNoLf c.self.view_is (missing 10 c.self.inside.left.now (sym c.in_default-line_feed.ensures)),
+  c.self.view_is,
+)
 
 pub unreachable-requires : goal.unreachable-requires
 unreachable-requires c =
     let bytes = c.self.inside.left.now in
-    let end = c.in-Some.end in
-    let cut = found 10 bytes end (sym c.in-Some.ensures) in
+    let end = c.in-Some-line_feed.end in
+    let cut = found 10 bytes end (sym c.in-Some-line_feed.ensures) in
     let none : record_of (words (take end bytes)) ≡ None = rw c.in-Err-NoRecord.field-0-is at c.in-Err-NoRecord.ensures in
     let bad : IsBadLine bytes 1 = record {
       before = [];
@@ -44,19 +51,58 @@ handed bytes left end kept same cut is =
     )
 
 pub returns-in-Ok-clause-handed : goal.returns-in-Ok-clause-handed
-returns-in-Ok-clause-handed c = handed c.args.self.now c.self.inside.left.now c.in-Some.end c.in-Ok.kept c.self.view_is
-    (found 10 c.self.inside.left.now c.in-Some.end (sym c.in-Some.ensures)) c.in-Ok.ensures
+returns-in-Ok-clause-handed c = handed c.args.self.now c.self.inside.left.now c.in-Some-line_feed.end c.in-Ok.kept c.self.view_is
+    (found 10 c.self.inside.left.now c.in-Some-line_feed.end (sym c.in-Some-line_feed.ensures)) c.in-Ok.ensures
 
 pub returns-in-Ok-clause-log : goal.returns-in-Ok-clause-log
 returns-in-Ok-clause-log c =
     let left = c.self.inside.left.now in
-    let end = c.in-Some.end in
-    let out = handed c.args.self.now left end c.in-Ok.kept c.self.view_is (found 10 left end (sym c.in-Some.ensures)) c.in-Ok.ensures in
+    let end = c.in-Some-line_feed.end in
+    let out = handed c.args.self.now left end c.in-Ok.kept c.self.view_is (found 10 left end (sym c.in-Some-line_feed.ensures)) c.in-Ok.ensures in
     kept_behind c.args.self.now (take (length left - (end + 1)) (drop (end + 1) left)) c.in-Ok.kept c.requires.log out.0 out.1
 
 pub returns-in-Ok-clause-shorter : goal.returns-in-Ok-clause-shorter
 returns-in-Ok-clause-shorter c =
     let left = c.self.inside.left.now in
-    let end = c.in-Some.end in
-    let out = handed c.args.self.now left end c.in-Ok.kept c.self.view_is (found 10 left end (sym c.in-Some.ensures)) c.in-Ok.ensures in
+    let end = c.in-Some-line_feed.end in
+    let out = handed c.args.self.now left end c.in-Ok.kept c.self.view_is (found 10 left end (sym c.in-Some-line_feed.ensures)) c.in-Ok.ensures in
     fewer c.args.self.now (take (length left - (end + 1)) (drop (end + 1) left)) c.in-Ok.kept out.0
+
+pub returns-in-Some-clause-log : goal.returns-in-Some-clause-log
+returns-in-Some-clause-log c =
+    let kept = Commit c.in-Some.txn c.commit_at.new.held.items in
+    let at : IsRecordAt c.self.inside.left.now kept c.in-Some.behind.now = c.in-Some.ensures in
+    kept_behind c.args.self.now c.in-Some.behind.now kept c.requires.log (sym c.self.view_is ∙ at.parts) at.fits
+
+pub returns-in-Some-clause-shorter : goal.returns-in-Some-clause-shorter
+returns-in-Some-clause-shorter c =
+    let kept = Commit c.in-Some.txn c.commit_at.new.held.items in
+    let at : IsRecordAt c.self.inside.left.now kept c.in-Some.behind.now = c.in-Some.ensures in
+    fewer c.args.self.now c.in-Some.behind.now kept (sym c.self.view_is ∙ at.parts)
+
+pub returns-in-Some-clause-handed : goal.returns-in-Some-clause-handed
+returns-in-Some-clause-handed c =
+    let kept = Commit c.in-Some.txn c.commit_at.new.held.items in
+    let at : IsRecordAt c.self.inside.left.now kept c.in-Some.behind.now = c.in-Some.ensures in
+    let same : c.new-escrows.result ≡ c.commit_at.new.held.items =
+    c.new-escrows.ensures.all ∙ ap (λ (v : Vec Escrow Global). v.items) c.replace.ensures.value in
+    subst (λ (es : List Escrow). HandsOut c.args.self.now (Some (Commit c.in-Some.txn es)) c.in-Some.behind.now) (sym same)
+    (sym c.self.view_is ∙ at.parts, at.fits)
+
+pub returns-in-Some-restart_at-clause-handed : goal.returns-in-Some-restart_at-clause-handed
+returns-in-Some-restart_at-clause-handed c =
+    let kept = Restart c.in-Some-restart_at.epoch in
+    let at : IsRecordAt c.self.inside.left.now kept c.in-Some-restart_at.behind.now = c.in-Some-restart_at.ensures in
+    (sym c.self.view_is ∙ at.parts, at.fits)
+
+pub returns-in-Some-restart_at-clause-log : goal.returns-in-Some-restart_at-clause-log
+returns-in-Some-restart_at-clause-log c =
+    let kept = Restart c.in-Some-restart_at.epoch in
+    let at : IsRecordAt c.self.inside.left.now kept c.in-Some-restart_at.behind.now = c.in-Some-restart_at.ensures in
+    kept_behind c.args.self.now c.in-Some-restart_at.behind.now kept c.requires.log (sym c.self.view_is ∙ at.parts) at.fits
+
+pub returns-in-Some-restart_at-clause-shorter : goal.returns-in-Some-restart_at-clause-shorter
+returns-in-Some-restart_at-clause-shorter c =
+    let kept = Restart c.in-Some-restart_at.epoch in
+    let at : IsRecordAt c.self.inside.left.now kept c.in-Some-restart_at.behind.now = c.in-Some-restart_at.ensures in
+    fewer c.args.self.now c.in-Some-restart_at.behind.now kept (sym c.self.view_is ∙ at.parts)
