@@ -15,4 +15,5 @@ pub mod Pieces
 pub mod Told
 pub mod SummaryLoops
 pub mod Cursors
+pub mod Walks
 pub mod Windows

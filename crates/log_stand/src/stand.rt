@@ -1,10 +1,10 @@
 //! How far a log has come.
 
 ghost use Rattle.std.specs.Prelude.{◌≡◌, ◌↔◌, IsTrue, IfOk};
-ghost use Rattle.kept_records.specs.Stands.{later, greatest};
+ghost use Rattle.kept_records.specs.Stands.{later};
 ghost use Rattle.log_stand.specs.Stand.{IsStandOf};
 
-use kept_records::{Record, read_front};
+use kept_records::{Record, RecordLine, RecordLines};
 use std::alloc::{AllocError, Global};
 
 /// The epoch of a log's last restart, or 0, and the length of its records in bytes.
@@ -40,23 +40,20 @@ fn later(epoch: u32, next: &Record) -> u32
     }
 }
 
-// The epoch of records.
-#[tactic(auto, unfolding(kept_records::specs::Stands::greatest))]
-fn epoch_of(records: &[Record]) -> u32
-    ensures { result ≡ greatest records.now }
-{
-    records.iter().fold(0, |epoch, record| later(epoch, record))
-}
-
 /// How far a log of these bytes has come. A torn end isn't counted, nor what stands behind a line
-/// that is no record. The error is want of memory. Costs a pass over the bytes, and memory for the
-/// records while it is at them.
+/// that is no record. The error is want of memory. Costs a pass over the bytes, and memory for one
+/// record at a time: for a summary, and once for the escrows of a commit.
 pub fn stand_of(alloc: Global, bytes: &[u8]) -> Result<Stand, AllocError>
     ensures stand { IfOk result (IsStandOf bytes.now) }
 {
-    let front = read_front(alloc, bytes)?;
+    let mut epoch = 0;
+    let mut lines = RecordLines::new(alloc, bytes);
+    while let RecordLine::Record(next) = lines.next(alloc)? {
+        epoch = later(epoch, &next);
+        lines.give_back(next);
+    }
     Ok(Stand {
-        epoch: u64::from(epoch_of(front.records.as_slice())),
-        length: front.length as u64,
+        epoch: u64::from(epoch),
+        length: (bytes.len() - lines.left()) as u64,
     })
 }
