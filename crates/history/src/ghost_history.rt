@@ -1,6 +1,6 @@
 //! A history that only proofs see.
 
-ghost use Rattle.std.specs.Prelude.{◌≡◌, ◌+◌, ◌<◌, ◌^◌, ℕ, [], length};
+ghost use Rattle.std.specs.Prelude.{◌≡◌, ◌+◌, ◌<◌, ◌^◌, ℕ, [], ◌∷◌, ◌++◌, length};
 ghost use Rattle.std.proofs.Common.{subst};
 
 use crate::trait_history::History;
@@ -17,6 +17,18 @@ pub struct GhostHistory<T: Drop> {
     list: Unkept<T>,
     ghost counted: { count ≡ length list.items },
     ghost small: { count < 2 ^ 63 },
+}
+
+impl<T: Drop> GhostHistory<T> {
+    /// One more item, behind the others, that stays the caller's. Costs no memory.
+    pub fn note(&mut self, item: &T)
+        requires room { length self.old.list.items + 1 < 2 ^ 63 }
+        ensures items { self.new.list.items ≡ self.old.list.items ++ item.now ∷ [] }
+    {
+        let count = self.count + 1;
+        self.list = self.list.with(item);
+        self.count = count;
+    }
 }
 
 impl<T: Drop> History<T> for GhostHistory<T> {
