@@ -15,7 +15,7 @@ mod standing;
 mod telling;
 
 pub use after::summary_after;
-pub use log::{Replayed, replay};
+pub use log::{Replayed, replay, take_next};
 pub use ranges::{summary_may_be_written, totals_rise};
 pub use resuming::{Resumed, resume};
 pub use standing::Standing;

@@ -23,9 +23,12 @@ pub enum Replayed {
     BreaksRule { number: u64 },
 }
 
-/// Takes in the next record, and answers whether it did. A summary is taken in where it tells what
-/// the standing comes to, which it leaves as it was.
-fn take_next(
+/// Takes in the next record, as `replay` does one after another, and answers whether it did. A
+/// summary is taken in where it tells what the standing comes to, which it leaves as it was; of any
+/// other record the same is said as of `Standing::take_in`. The error is want of memory. Costs one
+/// step for each escrow of the record; and for a summary a pass over the standing, and memory for
+/// another one like it, which is let go.
+pub fn take_next(
     alloc: Global,
     schema: &Schema,
     standing: &mut Standing,
