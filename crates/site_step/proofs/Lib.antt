@@ -8,6 +8,7 @@ pub mod Extents
 pub mod Writes
 pub mod Resumes
 pub mod Restarts
+pub mod Fronts
 pub mod Opens
 mod Calls
 pub mod Lasting

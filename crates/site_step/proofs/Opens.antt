@@ -1,5 +1,5 @@
 -- A site that is opened is sound.
-use Rattle.std.proofs.Common.{◌≡◌, ℕ, ◌<◌, Bool, true, false, List, [], ◌∷◌, ◌++◌, length, drop, refl, sym, ap, subst, ◌∙◌, arith, Option, Some, None}
+use Rattle.std.proofs.Common.{◌≡◌, ℕ, ◌<◌, Bool, true, false, List, [], refl, sym, ap, subst, ◌∙◌, arith, Option, Some, None}
 use Rattle.field_bounds.specs.declared.id.SiteNo.{SiteNo}
 use Rattle.field_bounds.specs.declared.entry.Entry.{Entry}
 use Rattle.field_bounds.specs.declared.entry.Last.TheVariants.{Nothing}
@@ -8,15 +8,13 @@ use Rattle.field_bounds.specs.Limits.{IsSchema}
 use Rattle.field_bounds.specs.Effects.{Base, fresh}
 use Rattle.kept_records.specs.declared.medium.Mishap.{Mishap}
 use Rattle.kept_records.specs.declared.record.Record.{Record}
-use Rattle.kept_records.specs.Logs.{IsLog, AreGoodRecords}
-use Rattle.kept_records.specs.Stands.{greatest, plain, since_summary, given_in, accepted_in, base_stood_for, Lawful, BreaksRule}
+use Rattle.kept_records.specs.Logs.{IsLog}
+use Rattle.kept_records.specs.Stands.{greatest, plain, since_summary, given_in, accepted_in, base_stood_for}
 use Rattle.kept_records.proofs.Summaries.{plain_same, plain_lawful}
 use Rattle.field_bounds.proofs.Sums.{sum_below-same}
-use Rattle.field_bounds.specs.declared.kind.Kind.{Kind}
 use Rattle.field_bounds.specs.Kind.{other}
 use Rattle.std.proofs.lemmas.List.{append-nil}
-use Rattle.kept_records.proofs.Lines.{same_log, no_log}
-use Rattle.kept_records.proofs.Appending.{read_as_log}
+use Rattle.kept_records.proofs.Lines.{same_log}
 use Rattle.kept_state.specs.Keeps.{IsBase, base_of_records}
 use Rattle.kept_state.proofs.Ranges.{opened_in_range}
 use Rattle.kept_state.proofs.Covering.{stands_is_base, fresh_is_base}
@@ -24,8 +22,7 @@ use Rattle.escrow_journal.specs.Journal.{Row}
 use Rattle.site_step.specs.declared.site.opening.Found.{Found}
 use Rattle.site_step.specs.Site.{SiteValue, value_of, base_of, Finds}
 use Rattle.site_step.specs.State.{StandsOn, IsSoundSite, ReachesAll}
-use Rattle.site_step.specs.Opening.{BeginsWith, IsFound}
-use Rattle.site_step.proofs.Resumes.{no_breach}
+use Rattle.site_step.specs.Opening.{IsFound}
 use Rattle.site_step.proofs.Ends.{finds_held}
 use Rattle.site_step.proofs.Holding.{greatest_plain, holds_all}
 
@@ -65,31 +62,12 @@ plain_base schema s base bs is =
       accepted = λ from f k. is.accepted from f k ∙ sym (same.accepted from f k);
     }
 
--- ---- what is no site's log
-
--- the records in front of the first bad line, or all records
-pub front_begins : (bytes : List ℕ) (found : List Record) (n : ℕ) (bad : Option ℕ) → AreGoodRecords bytes found n bad
-    → BeginsWith bytes found
-front_begins bytes found n None front = let log = read_as_log bytes found n front.0 in
-    record { behind = drop n bytes; parts = log.parts; each = log.each }
-front_begins bytes found n (Some line) front =
-    subst (λ (rs : List Record). BeginsWith bytes rs) front.1
-    (record { behind = front.0.line ++ 10 ∷ front.0.behind; parts = front.0.parts; each = front.0.each })
-
--- lawful records that are all there break no rule
-pub breach_spares : (schema : SchemaValue) (s : ℕ) (bytes : List ℕ) (found : List Record) (n m : ℕ) (bad : Option ℕ)
-    → AreGoodRecords bytes found n bad → BreaksRule schema s found m
-    → (rs : List Record) (rest : List ℕ) → IsLog bytes rs rest → Lawful schema s rs → ⊥
-breach_spares schema s bytes found n m None front breach rs rest log lawful =
-    no_breach schema s found m breach (subst (λ (all : List Record). Lawful schema s all) (sym (front.1 rs rest log).0) lawful)
-breach_spares schema s bytes found n m (Some line) front breach rs rest log lawful = no_log bytes line front.0 rs rest log
-
 -- ---- a site over what was found
 
 module _ (schema : SchemaValue) (site : SiteNo) (found : Found) {held bytes : List ℕ} (is : IsFound schema site.0 held found)
     (same : bytes ≡ held) where
   abbrev bs : List Record
-  bs = found.records.items
+  bs = found.based.list.items
 
   base_is : (empty : Bool) → (empty ≡ true → bs ≡ []) → IsBase schema site.0 (base_of_records schema site.0 empty bs) (plain bs)
   base_is true none = subst (λ (rs : List Record). IsBase schema site.0 (fresh schema site.0) (plain rs)) (sym (none refl))

@@ -75,9 +75,9 @@ FailsUnder NoMemory foretold = Unit {0}
 -- What was found is the bytes' log, which is lawful, how far it reaches, and what its records stand for.
 pub record IsFound (schema : SchemaValue) (s : ℕ) (bytes : List ℕ) (found : Found) : Type 0 where
   pub rest : List ℕ
-  pub log : IsLog bytes found.records.items rest
-  pub lawful : Lawful schema s found.records.items
-  pub stands : IsStandingFor schema s found.records.items found.standing
-  pub count : found.extent.count ≡ length (plain found.records.items)
-  pub length_is : found.extent.length ≡ told_length (length (flat_map text found.records.items))
+  pub log : IsLog bytes found.based.list.items rest
+  pub lawful : Lawful schema s found.based.list.items
+  pub stands : IsStandingFor schema s found.based.list.items found.standing
+  pub count : found.extent.count ≡ length (plain found.based.list.items)
+  pub length_is : found.extent.length ≡ told_length (length (flat_map text found.based.list.items))
   pub behind : found.extent.behind ≡ 0

@@ -100,7 +100,7 @@ impl<M: Medium, H: History<Entry>> Site<M, H> {
             Ok(
                 Found {
                     fresh,
-                    records,
+                    based,
                     extent,
                     standing,
                 },
@@ -109,7 +109,7 @@ impl<M: Medium, H: History<Entry>> Site<M, H> {
                 number: site,
                 medium,
                 fresh,
-                based: GhostHistory::of(records),
+                based,
                 history: H::of(Vec::new(alloc)),
                 up: fresh,
                 extent,
@@ -233,7 +233,8 @@ impl<M: Medium> Site<M, Vec<Entry>> {
     /// rule of a kept log; that never comes over what a site left, wherever a stop fell.
     /// `NoMemory`: memory is wanting.
     ///
-    /// Reads the medium once, and keeps its records. Costs one row for each field, and one more for
+    /// Reads the medium once, and takes its records in one after another, each from its line. Costs
+    /// memory for its bytes and for one record at a time, one row for each field, and one more for
     /// each site and field.
     pub fn open(
         alloc: Global,

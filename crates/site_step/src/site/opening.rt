@@ -1,6 +1,7 @@
 //! What a site finds on the medium over which it is opened.
 
-ghost use Rattle.std.specs.Prelude.{◌≡◌, ◌<◌, [], true, Some, IfOk, IfErr};
+ghost use Rattle.std.specs.Prelude.{◌≡◌, ◌<◌, ◌≤◌, [], ◌∷◌, true, Some, length, IfOk, IfErr};
+ghost use Rattle.kept_records.specs.Stands.{plain};
 ghost use Rattle.kept_records.specs.declared.medium.MediumFault.TheVariants as faults;
 ghost use Rattle.kept_records.specs.declared.medium.Mishap.TheVariants.{Read};
 ghost use Rattle.site_step.specs.declared.site.opening.OpenFault.TheVariants.{Device, NoMemory};
@@ -8,8 +9,9 @@ ghost use Rattle.site_step.specs.Opening.{TellsLine, SparesLogs, FailsUnder, IsF
 
 use crate::extent::Extent;
 use field_bounds::{Schema, SiteNo};
-use kept_records::{Medium, MediumFault, Record, count_plain, read_front};
-use log_replay::{Replayed, Standing, replay};
+use history::{GhostHistory, History};
+use kept_records::{Medium, MediumFault, Record, RecordLine, RecordLines};
+use log_replay::{Standing, take_next};
 use std::alloc::{AllocError, Global};
 use thiserror::Error;
 
@@ -46,12 +48,12 @@ impl From<AllocError> for OpenFault {
     }
 }
 
-/// What a medium holds: whether it is empty, its records, how far they reach, and what they stand
-/// for.
+/// What a medium holds: whether it is empty, its records, which only proofs see, how far they
+/// reach, and what they stand for.
 #[derive(Drop)]
 pub(super) struct Found {
     pub fresh: bool,
-    pub records: Vec<Record>,
+    pub based: GhostHistory<Record>,
     pub extent: Extent,
     pub standing: Standing,
 }
@@ -84,7 +86,23 @@ pub(super) fn read_base<M: Medium>(
     find(alloc, schema, site, &bytes)
 }
 
-/// The records in the bytes, and what they stand for.
+/// How many records one counts for: a summary for none.
+fn plain_count(kept: &Record) -> usize
+    ensures value { result ≡ length (plain (kept.now ∷ [])) }
+    ensures few { result ≤ 1 }
+{
+    match kept {
+        Record::Summary { .. } => 0,
+        Record::Commit { .. }
+        | Record::Gift { .. }
+        | Record::Accept { .. }
+        | Record::Tighten { .. }
+        | Record::Restart { .. } => 1,
+    }
+}
+
+/// The records in the bytes, and what they stand for. Each is read from its line and taken in
+/// before the next, and no list of them is made.
 fn find(alloc: Global, schema: &Schema, site: SiteNo, bytes: &[u8]) -> Result<Found, OpenFault>
     requires site_in { site.0 < schema.now.sites }
     ensures found { IfOk result (λ found. IsFound schema.now site.0 bytes.now found) }
@@ -94,22 +112,35 @@ fn find(alloc: Global, schema: &Schema, site: SiteNo, bytes: &[u8]) -> Result<Fo
     ensures never { IfErr result (λ fault. SparesLogs schema.now site.0 bytes.now fault) }
     ensures device { IfErr result (λ fault. fault ≡ Device → ⊥) }
 {
-    let front = read_front(alloc, bytes)?;
-    let standing = match replay(alloc, schema, site, &front.records)? {
-        Replayed::Standing(standing) => standing,
-        Replayed::BreaksRule { number } => return Err(OpenFault::Line(number)),
-    };
-    if let Some(line) = front.bad_line {
-        return Err(OpenFault::Line(line));
+    let mut standing = Standing::new(alloc, schema, site)?;
+    let mut based = GhostHistory::of(Vec::new(alloc));
+    let mut number: u64 = 0;
+    let mut count: usize = 0;
+    let mut lines = RecordLines::new(alloc, bytes);
+    'lines: loop {
+        match lines.next(alloc)? {
+            RecordLine::Record(next) => {
+                number += 1;
+                if !take_next(alloc, schema, &mut standing, &next)? {
+                    return Err(OpenFault::Line(number));
+                }
+                count += plain_count(&next);
+                based.note(&next);
+                lines.give_back(next);
+            }
+            RecordLine::NoRecord => return Err(OpenFault::Line(number + 1)),
+            RecordLine::End => break 'lines,
+        }
     }
+    let length = bytes.len() - lines.left();
     Ok(Found {
         fresh: bytes.is_empty(),
+        based,
         extent: Extent {
-            count: count_plain(&front.records),
-            length: front.length,
+            count,
+            length,
             behind: 0,
         },
-        records: front.records,
         standing,
     })
 }

@@ -8,12 +8,12 @@ pub invariant_of-result : goal.invariant_of-result
 invariant_of-result g c =
     let found = c.in-Ok.field-0 in
     let limits = subst (λ (x : SchemaValue). IsSchema x) c.schema.view_is c.schema.invariant in
-    rw c.of.ensures.items (opens_sound c.args.schema c.args.site found c.in-Ok.ensures.found c.in-Ok.ensures.bytes c.requires.in_schema
-    limits _ _ found.fresh (c.of-in-Ok.ensures.items ∙ c.new.ensures.items) c.new-in-Ok.ensures.empty c.in-Ok.ensures.fresh)
+    opens_sound c.args.schema c.args.site found c.in-Ok.ensures.found c.in-Ok.ensures.bytes c.requires.in_schema
+    limits _ _ found.fresh (c.of.ensures.items ∙ c.new.ensures.items) c.new-in-Ok.ensures.empty c.in-Ok.ensures.fresh
 
 pub returns-in-Ok-clause-nothing : goal.returns-in-Ok-clause-nothing
 returns-in-Ok-clause-nothing g c = λ empty.
     let found = c.in-Ok.field-0 in
     let limits = subst (λ (x : SchemaValue). IsSchema x) c.schema.view_is c.schema.invariant in
-    rw c.of.ensures.items (opens_finds c.args.schema c.args.site found c.in-Ok.ensures.found c.in-Ok.ensures.bytes c.requires.in_schema
-    limits _ _ found.fresh (c.of-in-Ok.ensures.items ∙ c.new.ensures.items) empty)
+    opens_finds c.args.schema c.args.site found c.in-Ok.ensures.found c.in-Ok.ensures.bytes c.requires.in_schema
+    limits _ _ found.fresh (c.of.ensures.items ∙ c.new.ensures.items) empty
