@@ -6,7 +6,7 @@ use Rattle.std.proofs.lemmas.Bool.{cases_Bool, false≢true, or_parts}
 use Rattle.std.proofs.lemmas.List.{length-map, length-append}
 use Rattle.std.proofs.lemmas.List.Elements.{All-nil, All-cons, All-head, All-tail, All-push}
 use Rattle.std.proofs.lemmas.List.Folds.{list_any-append}
-use Rattle.std.proofs.Math.Bool.{or-false}
+use Rattle.std.proofs.Math.Bool.{or-false, or-true}
 use Rattle.field_bounds.specs.declared.id.TxnId.{TxnId}
 use Rattle.field_bounds.specs.declared.entry.Escrow.{Escrow}
 use Rattle.field_bounds.specs.Effects.{same_txn}
@@ -210,4 +210,25 @@ escrows_at-short t (r ∷ rs) short =
     elim (cases_Bool (same_txn r.0 t)) [
       | inl here ↦ rw here (All-head IsShort r rs short)
       | inr there ↦ rw there (escrows_at-short t rs (All-tail IsShort r rs short))
+    ]
+
+-- a row of the transaction stands at its place, since it stands nowhere else
+listed_at : (t : TxnId) (rows : List Row) (at : ℕ) (d : Row) → at < length rows → same_txn (get_or rows at d).0 t ≡ true
+    → is_listed t rows ≡ true
+listed_at t [] at d l h = absurd (omega (arith, l))
+listed_at t (r ∷ rs) zero d l h = rw h refl
+listed_at t (r ∷ rs) (suc at) d l h = rw (listed_at t rs at d (omega (arith, l)) h) (or-true (same_txn r.0 t))
+
+pub place_in-at : (t : TxnId) (rows : List Row) (at : ℕ) (d : Row) → AreDistinct rows → at < length rows
+    → same_txn (get_or rows at d).0 t ≡ true → at ≡ place_in t rows
+place_in-at t [] at d distinct l h = absurd (omega (arith, l))
+place_in-at t (r ∷ rs) zero d distinct l h = sym (position_or_len-here (λ (r : Row). same_txn r.0 t) r rs h)
+place_in-at t (r ∷ rs) (suc at) d distinct l h =
+    elim (cases_Bool (same_txn r.0 t)) [
+      | inl here ↦
+          let none : is_listed t rs ≡ false = subst (λ u. is_listed u rs ≡ false) (same_txn-true r.0 t here) distinct.0 in
+          absurd (false≢true (sym none ∙ listed_at t rs at d (omega (arith, l)) h))
+      | inr there ↦
+          rw (position_or_len-there (λ (r : Row). same_txn r.0 t) r rs there)
+          (ap suc (place_in-at t rs at d distinct.1 (omega (arith, l)) h))
     ]

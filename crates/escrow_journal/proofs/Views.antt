@@ -1,5 +1,5 @@
 -- The journal's vector and what is seen of it.
-use Rattle.std.proofs.Common.{◌≡◌, ℕ, ◌<◌, ◌≤◌, true, false, List, [], ◌∷◌, ◌++◌, length, ap, sym, subst, ◌∙◌, arith, set, get_or, inl, inr}
+use Rattle.std.proofs.Common.{◌≡◌, ℕ, ◌<◌, ◌≤◌, true, false, List, [], ◌∷◌, ◌++◌, length, refl, ap, sym, subst, ◌∙◌, arith, set, get_or, inl, inr}
 use Rattle.std.specs.Prelude.{Result, Ok, Err, OnErr}
 use Rattle.std.specs.List.{remove}
 use Rattle.std.proofs.lemmas.Bool.{cases_Bool}
@@ -11,9 +11,9 @@ use Rattle.field_bounds.specs.declared.id.TxnId.{TxnId}
 use Rattle.field_bounds.specs.declared.entry.Escrow.{Escrow}
 use Rattle.field_bounds.specs.Effects.{same_txn}
 use Rattle.field_bounds.specs.Owed.{max_open, max_escrows}
-use Rattle.escrow_journal.specs.Journal.{Row, is_listed, escrows_at, with_escrow, rows_with, without, IsJournal}
+use Rattle.escrow_journal.specs.Journal.{Row, is_listed, escrows_at, with_escrow, rows_with, without, AreDistinct, IsJournal}
 use Rattle.escrow_journal.specs.Kept.{rows_of, index_of}
-use Rattle.escrow_journal.proofs.JournalLaws.{place_in, position_or_len-map, list_any-place, list_any-no_place, map-remove, remove-is, set-is, escrows_at-place, escrows_at-short, begun_is, removed_is, added_is}
+use Rattle.escrow_journal.proofs.JournalLaws.{place_in, position_or_len-map, list_any-place, list_any-no_place, map-remove, remove-is, set-is, escrows_at-place, escrows_at-short, begun_is, removed_is, added_is, place_in-at}
 
 -- at any result, from the fact itself
 pub on_err : {A E : Type 0} {P : Type 0} (r : Result A E) → P → OnErr r P
@@ -47,6 +47,15 @@ module _ (s : List Row) (items : List OpenTransaction) (t : TxnId) (view : rows_
         | inl h ↦ h
         | inr h ↦ absurd (let n = list_any-no_place (λ (r : Row). same_txn r.0 t) s h in omega (arith, place_is, length_is))
       ]
+
+-- a row of the transaction stands at its place
+pub guessed_at : (items : List OpenTransaction) (t : TxnId) (at : ℕ) (x : OpenTransaction) → AreDistinct (rows_of items) → at < length items
+    → x ≡ get_or items at x → same_txn x.txn t ≡ true → at ≡ index_of t items
+guessed_at items t at x distinct within is mine =
+    let seen : (get_or (rows_of items) at (row_of x)).0 ≡ x.txn =
+    ap (λ (r : Row). r.0) (get_or-map row_of items at x (row_of x) within) ∙ ap (λ (r : OpenTransaction). r.txn) (sym is) in
+    place_in-at t (rows_of items) at (row_of x) distinct (omega (arith, within, length-map items row_of))
+    (ap (λ (k : TxnId). same_txn k t) seen ∙ mine) ∙ sym (place_is (rows_of items) items t refl)
 
 -- the place i is found in ds, which are the items
 module _ (s : List Row) (items ds : List OpenTransaction) (t : TxnId) (view : rows_of items ≡ s) (deref : ds ≡ items) (i : ℕ)

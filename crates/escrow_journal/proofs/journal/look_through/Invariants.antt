@@ -2,7 +2,7 @@ use Rattle.std.proofs.Common.{◌≡◌, ℕ, ◌<◌, false}
 use Rattle.field_bounds.specs.Effects.{same_txn}
 use Rattle.escrow_journal.specs.declared.journal.OpenTransaction.{OpenTransaction}
 use Rattle.std.specs.Prelude.{slice_index_or}
-use Rattle.escrow_journal.proofs.journal.place.Given as goal
+use Rattle.escrow_journal.proofs.journal.look_through.Given as goal
 
 -- none of the rows so far is the transaction's
 abbrev pub invariant-loop-i : goal.invariant-loop-i
