@@ -25,3 +25,4 @@ pub mod Totals_more
 pub mod Covered
 pub mod Told_first
 pub mod Gathered
+pub mod Apart

@@ -4,3 +4,4 @@ pub mod Running
 pub mod Sums
 pub mod Totals
 pub mod Parts
+pub mod Rising
