@@ -1,10 +1,11 @@
 //! The running totals of one site.
 
-ghost use Rattle.std.specs.Prelude.{◌≡◌, ◌<◌, [], IfOk, OnOk, if◌then◌else◌, Option, Some, None};
+ghost use Rattle.std.specs.Prelude.{◌≡◌, ◌<◌, List, [], ◌∷◌, length, IfOk, OnOk, if◌then◌else◌, Option, Some, None};
 ghost use Rattle.field_bounds.specs.declared.effect.Effect.TheVariants.{Gives};
 ghost use Rattle.field_bounds.specs.declared.entry.Command.TheVariants.{Spare};
 ghost use Rattle.field_bounds.specs.declared.entry.Entry.{Entry};
-ghost use Rattle.field_bounds.specs.Effects.{says_doubt_kept};
+ghost use Rattle.field_bounds.specs.Effects.{says_doubt_kept, Base};
+ghost use Rattle.field_bounds.specs.Owed.{is_up, epoch_of, count_since, is_begun_reply, is_still_down, is_unsure};
 ghost use Rattle.central_machine.specs.Amounts.{amount};
 ghost use Rattle.central_machine.specs.Running.{NumbersAfter, effect_by, doubt_after, settled_effect, IsSite, PutsIn, GoesOn};
 
@@ -126,16 +127,6 @@ fn effect_by(shares: &Amounts, command: Command, reply: Reply) -> Option<Effect>
     }
 }
 
-fn doubt_after(effect: Option<Effect>, reply: Reply, before: Option<Effect>) -> Option<Effect>
-    ensures { result ≡ doubt_after effect reply before }
-{
-    match reply {
-        Reply::Restarted { .. } => None,
-        Reply::Unsure => effect,
-        _ => before,
-    }
-}
-
 pub fn settled(last: Last, doubt: Option<Effect>) -> Option<Effect>
     ensures { result ≡ settled_effect (says_doubt_kept last) doubt }
 {
@@ -145,25 +136,27 @@ pub fn settled(last: Last, doubt: Option<Effect>) -> Option<Effect>
     }
 }
 
-impl Numbers {
-    /// Takes in what a reply puts into effect.
-    fn after(
-        &mut self,
-        alloc: Global,
-        effect: Option<Effect>,
-        reply: Reply,
-        doubt: Option<Effect>,
-    ) -> Result<(), AllocError>
-        ensures { OnOk result (NumbersAfter effect reply doubt self.old self.new) }
-    {
-        match reply {
-            Reply::Restarted { last, .. } => {
-                self.may_take(alloc, settled(last, doubt))?;
-                self.may_take(alloc, effect)
-            }
-            Reply::Unsure => Ok(()),
-            _ => self.may_take(alloc, effect),
+/// Notes where a site stands after one more entry of its own: most replies leave it as it is.
+fn note_reply(counts: &mut SiteCounts, entry: &Entry)
+    ensures up { (base : Base) (o : List Entry) → counts.old.up ≡ is_up base o →
+        counts.new.up ≡ is_up base (entry.now ∷ o) }
+    ensures epoch { (base : Base) (o : List Entry) → counts.old.epoch ≡ epoch_of base o →
+        counts.new.epoch ≡ epoch_of base (entry.now ∷ o) }
+    ensures begun { (o : List Entry) → length o < 18446744073709551615 →
+        counts.old.begun ≡ count_since is_begun_reply o →
+        counts.new.begun ≡ count_since is_begun_reply (entry.now ∷ o) }
+    ensures still_down { (o : List Entry) → length o < 18446744073709551615 →
+        counts.old.still_down ≡ count_since is_still_down o →
+        counts.new.still_down ≡ count_since is_still_down (entry.now ∷ o) }
+    ensures unsure { (o : List Entry) → length o < 18446744073709551615 →
+        counts.old.unsure ≡ count_since is_unsure o →
+        counts.new.unsure ≡ count_since is_unsure (entry.now ∷ o) }
+{
+    match entry.reply {
+        Reply::Begun(_) | Reply::Restarted { .. } | Reply::Unsure | Reply::StillDown => {
+            *counts = counts.after(*entry);
         }
+        _ => {}
     }
 }
 
@@ -205,6 +198,34 @@ impl SiteTotals {
         effect_by(&self.numbers.free, entry.command, entry.reply)
     }
 
+    /// Takes in what a reply puts into effect. What is in doubt changes by a reply in doubt, and by
+    /// a restart, which settles it.
+    fn put_effect(
+        &mut self,
+        alloc: Global,
+        effect: Option<Effect>,
+        reply: Reply,
+    ) -> Result<(), AllocError>
+        ensures numbers { OnOk result (NumbersAfter effect reply self.old.doubt
+            self.old.numbers self.new.numbers) }
+        ensures doubt { OnOk result (self.new.doubt ≡ doubt_after effect reply self.old.doubt) }
+        ensures counts { self.new.site_counts ≡ self.old.site_counts }
+    {
+        match reply {
+            Reply::Restarted { last, .. } => {
+                self.numbers.may_take(alloc, settled(last, self.doubt))?;
+                self.numbers.may_take(alloc, effect)?;
+                self.doubt = None;
+                Ok(())
+            }
+            Reply::Unsure => {
+                self.doubt = effect;
+                Ok(())
+            }
+            _ => self.numbers.may_take(alloc, effect),
+        }
+    }
+
     /// Takes in the next entry of the site, which puts this into effect.
     pub fn put_in(
         &mut self,
@@ -214,9 +235,8 @@ impl SiteTotals {
     ) -> Result<(), AllocError>
         ensures { OnOk result (PutsIn effect entry.now self.old self.new) }
     {
-        self.numbers.after(alloc, effect, entry.reply, self.doubt)?;
-        self.doubt = doubt_after(effect, entry.reply, self.doubt);
-        self.site_counts = self.site_counts.after(*entry);
+        self.put_effect(alloc, effect, entry.reply)?;
+        note_reply(&mut self.site_counts, entry);
         Ok(())
     }
 
