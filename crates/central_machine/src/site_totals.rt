@@ -27,6 +27,7 @@ pub struct SiteTotals {
 }
 
 /// So much of a kind on a field leaves, where it is answered so.
+#[inline(always)]
 fn left(
     answered: bool,
     to: Option<SiteNo>,
@@ -49,6 +50,7 @@ fn left(
 }
 
 /// What a spare puts into effect at shares, by its reply.
+#[inline(always)]
 fn spare_by(
     shares: &Amounts,
     to: SiteNo,
@@ -76,6 +78,7 @@ fn spare_by(
 }
 
 /// What a command puts into effect at shares, by its reply.
+#[inline(always)]
 fn effect_by(shares: &Amounts, command: Command, reply: Reply) -> Option<Effect>
     ensures { result ≡ effect_by (amount shares.now) command reply }
 {
@@ -191,6 +194,7 @@ impl SiteTotals {
     }
 
     /// What an entry of the site puts into effect.
+    #[inline(always)]
     pub fn effect_by(&self, entry: &Entry) -> Option<Effect>
         ensures { result
             ≡ effect_by (amount self.now.numbers.free) entry.now.command entry.now.reply }
@@ -200,6 +204,7 @@ impl SiteTotals {
 
     /// Takes in what a reply puts into effect. What is in doubt changes by a reply in doubt, and by
     /// a restart, which settles it.
+    #[inline(always)]
     fn put_effect(
         &mut self,
         alloc: Global,
@@ -227,6 +232,7 @@ impl SiteTotals {
     }
 
     /// Takes in the next entry of the site, which puts this into effect.
+    #[inline(always)]
     pub fn put_in(
         &mut self,
         alloc: Global,
