@@ -7,3 +7,4 @@ pub mod Replies
 pub mod Entries
 pub mod LineLengths
 pub mod Fronts
+pub mod Taken

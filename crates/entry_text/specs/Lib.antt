@@ -5,3 +5,4 @@ pub mod Commands
 pub mod Replies
 pub mod Entries
 pub mod Lines
+pub mod Taking

@@ -6,18 +6,19 @@ ghost use Rattle.field_bounds.specs.declared.entry.Command.{Command as CommandTy
 ghost use Rattle.line_words.specs.Reading.{Gives};
 ghost use Rattle.entry_text.specs.Spelling.{command_text};
 ghost use Rattle.entry_text.specs.Ranges.{SiteFits, CommandFits};
-ghost use Rattle.entry_text.specs.Reading.{read_beside, table_at};
+ghost use Rattle.entry_text.specs.Reading.{table_at};
 ghost use Rattle.entry_text.specs.Commands.{gift_commands, own_commands, command_table, command_at};
 
-use crate::word::{Fields, field_at, is_text, kind_at, number_at, signed_at, site_at, txn_at};
+use crate::word::{Fields, field_at, kind_at, named, number_at, signed_at, site_at, txn_at};
 use field_bounds::{Command, Schema, SiteNo, Statement};
 use line_words::Words;
 
-// Takes what follows the name of a command that changes or tells what the site itself has.
-fn own_command(line: &mut Words<'_>, fields: &Fields<'_>, name: &[u8]) -> Option<Command>
-    ensures { Gives result line.new (read_beside (own_commands fields.now) name.now line.old) }
+// Takes a command that changes or tells what the site itself has: its name, and what follows it.
+#[tactic(auto, unfolding(crate::specs::Reading::table_at))]
+fn own_command(line: &mut Words<'_>, fields: &Fields<'_>) -> Option<Command>
+    ensures { Gives result line.new (table_at (own_commands fields.now) line.old) }
 {
-    if is_text(name, "accept") {
+    if named(line, "accept") {
         let from = site_at(line)?;
         let to = site_at(line)?;
         let field = field_at(line, fields)?;
@@ -30,7 +31,7 @@ fn own_command(line: &mut Words<'_>, fields: &Fields<'_>, name: &[u8]) -> Option
             kind,
             total,
         }))
-    } else if is_text(name, "tighten") {
+    } else if named(line, "tighten") {
         let field = field_at(line, fields)?;
         let kind = kind_at(line)?;
         let amount = number_at(line)?;
@@ -39,13 +40,13 @@ fn own_command(line: &mut Words<'_>, fields: &Fields<'_>, name: &[u8]) -> Option
             kind,
             amount,
         })
-    } else if is_text(name, "read") {
+    } else if named(line, "read") {
         let field = field_at(line, fields)?;
         Some(Command::Read { field })
-    } else if is_text(name, "share") {
+    } else if named(line, "share") {
         let field = field_at(line, fields)?;
         Some(Command::Share { field })
-    } else if is_text(name, "restart") {
+    } else if named(line, "restart") {
         Some(Command::Restart)
     } else {
         None
@@ -53,11 +54,12 @@ fn own_command(line: &mut Words<'_>, fields: &Fields<'_>, name: &[u8]) -> Option
 }
 
 // The same, where the command may also give rights to a site.
-fn gift_or_own_command(line: &mut Words<'_>, fields: &Fields<'_>, name: &[u8]) -> Option<Command>
+#[tactic(auto, unfolding(crate::specs::Reading::table_at))]
+fn gift_or_own_command(line: &mut Words<'_>, fields: &Fields<'_>) -> Option<Command>
     ensures { Gives result line.new
-        (read_beside (gift_commands fields.now ++ own_commands fields.now) name.now line.old) }
+        (table_at (gift_commands fields.now ++ own_commands fields.now) line.old) }
 {
-    if is_text(name, "give") {
+    if named(line, "give") {
         let to = site_at(line)?;
         let field = field_at(line, fields)?;
         let kind = kind_at(line)?;
@@ -68,12 +70,12 @@ fn gift_or_own_command(line: &mut Words<'_>, fields: &Fields<'_>, name: &[u8]) -
             kind,
             amount,
         })
-    } else if is_text(name, "restate") {
+    } else if named(line, "restate") {
         let to = site_at(line)?;
         let field = field_at(line, fields)?;
         let kind = kind_at(line)?;
         Some(Command::Restate { to, field, kind })
-    } else if is_text(name, "spare") {
+    } else if named(line, "spare") {
         let to = site_at(line)?;
         let field = field_at(line, fields)?;
         let kind = kind_at(line)?;
@@ -85,7 +87,7 @@ fn gift_or_own_command(line: &mut Words<'_>, fields: &Fields<'_>, name: &[u8]) -
             want,
         })
     } else {
-        own_command(line, fields, name)
+        own_command(line, fields)
     }
 }
 
@@ -94,22 +96,21 @@ fn gift_or_own_command(line: &mut Words<'_>, fields: &Fields<'_>, name: &[u8]) -
 fn any_command(line: &mut Words<'_>, fields: &Fields<'_>) -> Option<Command>
     ensures { Gives result line.new (table_at (command_table fields.now) line.old) }
 {
-    let name = line.next()?;
-    if is_text(name, "begin") {
+    if named(line, "begin") {
         Some(Command::Begin)
-    } else if is_text(name, "escrow") {
+    } else if named(line, "escrow") {
         let txn = txn_at(line)?;
         let field = field_at(line, fields)?;
         let change = signed_at(line)?;
         Some(Command::Escrow { txn, field, change })
-    } else if is_text(name, "commit") {
+    } else if named(line, "commit") {
         let txn = txn_at(line)?;
         Some(Command::Commit { txn })
-    } else if is_text(name, "abort") {
+    } else if named(line, "abort") {
         let txn = txn_at(line)?;
         Some(Command::Abort { txn })
     } else {
-        gift_or_own_command(line, fields, name)
+        gift_or_own_command(line, fields)
     }
 }
 

@@ -9,7 +9,7 @@ ghost use Rattle.entry_text.specs.Entries.{entry_at};
 
 use crate::command::command;
 use crate::reply::reply;
-use crate::word::{Fields, expect};
+use crate::word::{Fields, expect_word};
 use field_bounds::{Entry, Schema};
 use line_words::Words;
 
@@ -18,7 +18,7 @@ fn entry(line: &mut Words<'_>, fields: &Fields<'_>) -> Option<Entry>
     ensures { Gives result line.new (entry_at fields.now line.old) }
 {
     let (site, command) = command(line, fields)?;
-    expect(line, "->")?;
+    expect_word(line, "->")?;
     let reply = reply(line)?;
     Some(Entry {
         site,

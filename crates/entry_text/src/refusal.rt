@@ -3,13 +3,13 @@
 ghost use Rattle.std.specs.Prelude.{◌≡◌, ◌^◌, ◌++◌, [], ◌∷◌, MatchOption, codes};
 ghost use Rattle.std.specs.Fmt.{decimal};
 ghost use Rattle.field_bounds.specs.declared.entry.Refusal.TheVariants.{Short, LedgerFull, Forged};
-ghost use Rattle.line_words.specs.Words.{line};
+ghost use Rattle.line_words.specs.Words.{line, words};
 ghost use Rattle.line_words.specs.Reading.{Gives, number_of, only_of};
 ghost use Rattle.entry_text.specs.Reading.{read_beside, phrase, two_words, three_words};
 ghost use Rattle.entry_text.specs.Replies.{refusal_table, refusal_at};
 ghost use Rattle.entry_text.specs.Spelling.{refusal_words};
 
-use crate::word::{expect, number_at};
+use crate::word::{expect_word, number_at};
 use field_bounds::Refusal;
 use line_words::Words;
 
@@ -40,17 +40,20 @@ pub(crate) fn refusal_parts(refusal: Refusal) -> (&'static str, Option<u64>)
 
 /// Takes a word that has to be this, and gives the refusal.
 fn one(line: &mut Words<'_>, only: &str, refusal: Refusal) -> Option<Refusal>
+    requires { words only.now ≡ only.now ∷ [] }
     ensures { Gives result line.new (phrase (only.now ∷ []) refusal line.old) }
 {
-    expect(line, only)?;
+    expect_word(line, only)?;
     Some(refusal)
 }
 
 /// The same with two words.
 fn two(line: &mut Words<'_>, first: &str, second: &str, refusal: Refusal) -> Option<Refusal>
+    requires first { words first.now ≡ first.now ∷ [] }
+    requires second { words second.now ≡ second.now ∷ [] }
     ensures { Gives result line.new (phrase (first.now ∷ second.now ∷ []) refusal line.old) }
 {
-    expect(line, first)?;
+    expect_word(line, first)?;
     one(line, second, refusal)
 }
 
@@ -62,10 +65,13 @@ fn three(
     third: &str,
     refusal: Refusal,
 ) -> Option<Refusal>
+    requires first { words first.now ≡ first.now ∷ [] }
+    requires second { words second.now ≡ second.now ∷ [] }
+    requires third { words third.now ≡ third.now ∷ [] }
     ensures { Gives result line.new
         (phrase (first.now ∷ second.now ∷ third.now ∷ []) refusal line.old) }
 {
-    expect(line, first)?;
+    expect_word(line, first)?;
     two(line, second, third, refusal)
 }
 
@@ -74,7 +80,7 @@ fn short(line: &mut Words<'_>) -> Option<Refusal>
     ensures { Gives result line.new (two_words (only_of (codes "short")) (number_of (2 ^ 64))
         (λ a share. Short share) line.old) }
 {
-    expect(line, "short")?;
+    expect_word(line, "short")?;
     let share = number_at(line)?;
     Some(Refusal::Short { share })
 }
@@ -84,8 +90,8 @@ fn ledger_full(line: &mut Words<'_>) -> Option<Refusal>
     ensures { Gives result line.new (three_words (only_of (codes "ledger"))
         (only_of (codes "full")) (number_of (2 ^ 64)) (λ a b total. LedgerFull total) line.old) }
 {
-    expect(line, "ledger")?;
-    expect(line, "full")?;
+    expect_word(line, "ledger")?;
+    expect_word(line, "full")?;
     let total = number_at(line)?;
     Some(Refusal::LedgerFull { total })
 }
@@ -95,7 +101,7 @@ fn forged(line: &mut Words<'_>) -> Option<Refusal>
     ensures { Gives result line.new (two_words (only_of (codes "forged")) (number_of (2 ^ 64))
         (λ a room. Forged room) line.old) }
 {
-    expect(line, "forged")?;
+    expect_word(line, "forged")?;
     let room = number_at(line)?;
     Some(Refusal::Forged { room })
 }

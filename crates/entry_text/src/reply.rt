@@ -3,11 +3,11 @@
 ghost use Rattle.std.specs.Prelude.{◌^◌};
 ghost use Rattle.field_bounds.specs.declared.entry.Reply.TheVariants.{Spared, Between, Shares, Restarted};
 ghost use Rattle.line_words.specs.Reading.{Gives, below, number_of, signed_of, word_at};
-ghost use Rattle.entry_text.specs.Reading.{read_beside, two_words};
+ghost use Rattle.entry_text.specs.Reading.{two_words, table_at};
 ghost use Rattle.entry_text.specs.Replies.{found_of, right_replies, reply_at};
 
 use crate::refusal::refusal;
-use crate::word::{epoch_at, expect, is_text, number_at, signed_at, txn_at};
+use crate::word::{epoch_at, expect_word, named, number_at, signed_at, txn_at};
 use field_bounds::{Last, Reply};
 use line_words::Words;
 
@@ -16,12 +16,11 @@ use line_words::Words;
 fn last_at(line: &mut Words<'_>) -> Option<Last>
     ensures { Gives result line.new (word_at found_of line.old) }
 {
-    let word = line.next()?;
-    if is_text(word, "nothing") {
+    if named(line, "nothing") {
         Some(Last::Nothing)
-    } else if is_text(word, "kept") {
+    } else if named(line, "kept") {
         Some(Last::Kept)
-    } else if is_text(word, "lost") {
+    } else if named(line, "lost") {
         Some(Last::Lost)
     } else {
         None
@@ -66,25 +65,26 @@ fn shares(line: &mut Words<'_>) -> Option<Reply>
     Some(Reply::Shares { lower, raise })
 }
 
-// Takes what follows the first word of a reply that tells of rights.
-fn right_reply(line: &mut Words<'_>, first: &[u8]) -> Option<Reply>
-    ensures { Gives result line.new (read_beside right_replies first.now line.old) }
+// Takes a reply that tells of rights: its first word, and what follows that.
+#[tactic(auto, unfolding(crate::specs::Reading::table_at))]
+fn right_reply(line: &mut Words<'_>) -> Option<Reply>
+    ensures { Gives result line.new (table_at right_replies line.old) }
 {
-    if is_text(first, "given") {
+    if named(line, "given") {
         let total = number_at(line)?;
         Some(Reply::Given { total })
-    } else if is_text(first, "stated") {
+    } else if named(line, "stated") {
         let total = number_at(line)?;
         Some(Reply::Stated { total })
-    } else if is_text(first, "spared") {
+    } else if named(line, "spared") {
         spared(line)
-    } else if is_text(first, "tightened") {
+    } else if named(line, "tightened") {
         let total = number_at(line)?;
         Some(Reply::Tightened { total })
-    } else if is_text(first, "accepted") {
+    } else if named(line, "accepted") {
         let gain = number_at(line)?;
         Some(Reply::Accepted { gain })
-    } else if is_text(first, "share") {
+    } else if named(line, "share") {
         shares(line)
     } else {
         None
@@ -96,29 +96,28 @@ fn right_reply(line: &mut Words<'_>, first: &[u8]) -> Option<Reply>
 pub(crate) fn reply(line: &mut Words<'_>) -> Option<Reply>
     ensures { Gives result line.new (reply_at line.old) }
 {
-    let first = line.next()?;
-    if is_text(first, "begun") {
+    if named(line, "begun") {
         let txn = txn_at(line)?;
         Some(Reply::Begun(txn))
-    } else if is_text(first, "granted") {
+    } else if named(line, "granted") {
         Some(Reply::Granted)
-    } else if is_text(first, "committed") {
+    } else if named(line, "committed") {
         Some(Reply::Committed)
-    } else if is_text(first, "aborted") {
+    } else if named(line, "aborted") {
         Some(Reply::Aborted)
-    } else if is_text(first, "between") {
+    } else if named(line, "between") {
         between(line)
-    } else if is_text(first, "restarted") {
+    } else if named(line, "restarted") {
         restarted(line)
-    } else if is_text(first, "unsure") {
+    } else if named(line, "unsure") {
         Some(Reply::Unsure)
-    } else if is_text(first, "still") {
-        expect(line, "down")?;
+    } else if named(line, "still") {
+        expect_word(line, "down")?;
         Some(Reply::StillDown)
-    } else if is_text(first, "refused") {
+    } else if named(line, "refused") {
         let refusal = refusal(line)?;
         Some(Reply::Refused(refusal))
     } else {
-        right_reply(line, first)
+        right_reply(line)
     }
 }

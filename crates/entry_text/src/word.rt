@@ -1,17 +1,19 @@
 //! The readers of one word.
 
-ghost use Rattle.std.specs.Prelude.{◌≡◌, ◌==◌, ◌^◌, IfSome, Some, position, bytes_eq};
+ghost use Rattle.std.specs.Prelude.{◌≡◌, ◌==◌, ◌^◌, [], ◌∷◌, MatchBool, IfSome, Some, position, bytes_eq};
 ghost use Rattle.field_bounds.specs.declared.kind.Kind.{Kind as KindType};
 ghost use Rattle.field_bounds.specs.declared.id.FieldNo.{FieldNo as FieldNumber};
 ghost use Rattle.field_bounds.specs.declared.id.TxnId.{TxnId as Txn};
 ghost use Rattle.field_bounds.specs.Limits.{IsSchema};
+ghost use Rattle.line_words.specs.Words.{words};
+ghost use Rattle.entry_text.specs.Taking.{IsOther, limited, id_from};
 ghost use Rattle.line_words.specs.Reading.{Gives, word_at, below, number_of, signed_of, only_of};
 ghost use Rattle.entry_text.specs.Spelling.{id_text, kind_text, field_text};
 ghost use Rattle.entry_text.specs.Ranges.{IdFits, FieldFits};
 ghost use Rattle.entry_text.specs.Reading.{site_of, id_of, kind_of, field_of};
 
 use field_bounds::{FieldNo, Kind, Schema, SiteNo, TxnId};
-use line_words::{Words, read_number, read_signed};
+use line_words::{Words, read_number};
 use std::marker::Model;
 
 /// The word is this text.
@@ -20,6 +22,16 @@ pub(crate) fn is_text(word: &[u8], text: &str) -> bool
     ensures { result ≡ bytes_eq word.now text.now }
 {
     word == text.as_bytes()
+}
+
+/// Takes the next word where it is this text, which has no space.
+#[inline(always)]
+pub(crate) fn named(line: &mut Words<'_>, text: &str) -> bool
+    requires { words text.now ≡ text.now ∷ [] }
+    ensures { MatchBool result (line.old ≡ text.now ∷ line.new)
+        ((line.new ≡ line.old) × IsOther text.now line.old) }
+{
+    line.take_text(text)
 }
 
 #[inline(always)]
@@ -125,15 +137,38 @@ pub fn read_field(schema: &Schema, word: &[u8]) -> Option<FieldNo>
 pub fn number_at(line: &mut Words<'_>) -> Option<u64>
     ensures word { Gives result line.new (word_at (number_of (2 ^ 64)) line.old) }
 {
-    read_number(line.next()?)
+    line.next_number()
+}
+
+#[inline(always)]
+fn small_number(number: u64) -> Option<u16>
+    ensures { result ≡ limited (2 ^ 16) number }
+{
+    u16::try_from(number).ok()
+}
+
+#[inline(always)]
+fn medium_number(number: u64) -> Option<u32>
+    ensures { result ≡ limited (2 ^ 32) number }
+{
+    u32::try_from(number).ok()
+}
+
+// Takes a number of u16.
+#[inline(always)]
+fn small_at(line: &mut Words<'_>) -> Option<u16>
+    ensures { Gives result line.new (word_at (below (2 ^ 16)) line.old) }
+{
+    let number = line.next_number()?;
+    small_number(number)
 }
 
 /// Takes an epoch: a number of u32.
-#[tactic(auto, unfolding(line_words::specs::Reading::word_at))]
 pub(crate) fn epoch_at(line: &mut Words<'_>) -> Option<u32>
     ensures { Gives result line.new (word_at (below (2 ^ 32)) line.old) }
 {
-    medium(line.next()?)
+    let number = line.next_number()?;
+    medium_number(number)
 }
 
 /// Takes the next word as a number with a sign, -9,223,372,036,854,775,808 to
@@ -144,7 +179,7 @@ pub(crate) fn epoch_at(line: &mut Words<'_>) -> Option<u32>
 pub fn signed_at(line: &mut Words<'_>) -> Option<i64>
     ensures word { Gives result line.new (word_at signed_of line.old) }
 {
-    read_signed(line.next()?)
+    line.next_signed()
 }
 
 /// Takes the next word as a site, a number up to 65535, or tells None where it is no site or no
@@ -154,7 +189,7 @@ pub fn signed_at(line: &mut Words<'_>) -> Option<i64>
 pub fn site_at(line: &mut Words<'_>) -> Option<SiteNo>
     ensures word { Gives result line.new (word_at site_of line.old) }
 {
-    Some(SiteNo(small(line.next()?)?))
+    Some(SiteNo(small_at(line)?))
 }
 
 // The transaction that the word spells.
@@ -169,13 +204,22 @@ fn txn_of(word: &[u8]) -> Option<TxnId>
     Some(TxnId { epoch, number })
 }
 
+#[inline(always)]
+fn txn_from(epoch: u64, number: u64) -> Option<TxnId>
+    ensures { result ≡ id_from (epoch, number) }
+{
+    let epoch = medium_number(epoch)?;
+    let number = medium_number(number)?;
+    Some(TxnId { epoch, number })
+}
+
 /// Takes a transaction: `EPOCH.NUMBER`, each a number of u32.
 #[inline(always)]
-#[tactic(auto, unfolding(line_words::specs::Reading::word_at))]
 pub(crate) fn txn_at(line: &mut Words<'_>) -> Option<TxnId>
     ensures { Gives result line.new (word_at id_of line.old) }
 {
-    txn_of(line.next()?)
+    let (epoch, number) = line.next_dotted()?;
+    txn_from(epoch, number)
 }
 
 /// The transaction that the word spells: `EPOCH.NUMBER`, each a number from 0 to 4,294,967,295.
@@ -190,10 +234,16 @@ pub fn read_txn(word: &[u8]) -> Option<TxnId>
 
 /// Takes the next word as a kind, `lower` or `raise`, or tells None where it is no kind or no word
 /// is left. Costs no memory.
-#[tactic(auto, unfolding(line_words::specs::Reading::word_at))]
+#[tactic(auto, unfolding(line_words::specs::Reading::word_at, crate::specs::Reading::kind_of))]
 pub fn kind_at(line: &mut Words<'_>) -> Option<Kind>
     ensures word { Gives result line.new (word_at kind_of line.old) }
 {
+    if named(line, "lower") {
+        return Some(Kind::Lower);
+    }
+    if named(line, "raise") {
+        return Some(Kind::Raise);
+    }
     read_kind(line.next()?)
 }
 
@@ -218,4 +268,13 @@ pub fn expect(line: &mut Words<'_>, text: &str) -> Option<()>
     } else {
         None
     }
+}
+
+/// The same of a text that has no space.
+#[inline(always)]
+pub(crate) fn expect_word(line: &mut Words<'_>, text: &str) -> Option<()>
+    requires { words text.now ≡ text.now ∷ [] }
+    ensures { Gives result line.new (word_at (only_of text.now) line.old) }
+{
+    if named(line, text) { Some(()) } else { None }
 }
