@@ -1,6 +1,6 @@
 //! Replies, and whole entries, spelled piece by piece onto whatever takes text.
 
-ghost use Rattle.std.specs.Prelude.{◌≡◌, ◌++◌, ◌∷◌, [], ℕ, List, OnOk, OnErr, length, take, codes, string_bytes};
+ghost use Rattle.std.specs.Prelude.{◌≡◌, ◌+◌, ◌<◌, ◌++◌, ◌∷◌, [], ℕ, List, OnOk, OnErr, length, take, codes, string_bytes};
 ghost use Rattle.std.specs.Fmt.{decimal, signed_decimal};
 ghost use Rattle.line_words.specs.Words.{line};
 ghost use Rattle.entry_text.specs.Spelling.{id_text, found_text, refusal_words, reply_text, entry_text};
@@ -22,6 +22,12 @@ pub(crate) trait AddText {
     fn add(&mut self, text: &str) -> Result<(), AllocError>
         ensures ok { OnOk result (held self.new ≡ held self.old ++ text.now) }
         ensures err { OnErr result (held self.new ≡ held self.old) };
+
+    /// Adds one digit. The error is as that of `add`, and changes nothing.
+    fn add_digit(&mut self, digit: u8) -> Result<(), AllocError>
+        requires { digit < 10 }
+        ensures ok { OnOk result (held self.new ≡ held self.old ++ (48 + digit) ∷ []) }
+        ensures err { OnErr result (held self.new ≡ held self.old) };
 }
 
 impl AddText for Vec<u8> {
@@ -31,6 +37,14 @@ impl AddText for Vec<u8> {
     fn add(&mut self, text: &str) -> Result<(), AllocError> {
         self.extend_from_slice(text.as_bytes())
     }
+
+    #[inline]
+    fn add_digit(&mut self, digit: u8) -> Result<(), AllocError> {
+        match self.push(b'0' + digit) {
+            Ok(()) => Ok(()),
+            Err(_) => Err(AllocError),
+        }
+    }
 }
 
 impl AddText for String {
@@ -38,6 +52,10 @@ impl AddText for String {
 
     fn add(&mut self, text: &str) -> Result<(), AllocError> {
         self.push_str(text)
+    }
+
+    fn add_digit(&mut self, digit: u8) -> Result<(), AllocError> {
+        self.push(char::from(b'0' + digit))
     }
 }
 
@@ -49,11 +67,30 @@ impl<const CAP: usize> AddText for ArrayString<CAP> {
     fn add(&mut self, text: &str) -> Result<(), AllocError> {
         self.try_push_str(text).map_err(|_| AllocError)
     }
+
+    #[inline]
+    fn add_digit(&mut self, digit: u8) -> Result<(), AllocError> {
+        match self.try_push(char::from(b'0' + digit)) {
+            Ok(()) => Ok(()),
+            Err(_) => Err(AllocError),
+        }
+    }
 }
 
 // Adds a number.
-#[inline]
+#[inline(always)]
 pub(crate) fn push_number<T: AddText>(out: &mut T, number: u64) -> Result<(), AllocError>
+    ensures ok { OnOk result (T.held out.new ≡ T.held out.old ++ decimal number) }
+    ensures err { OnErr result (T.held out.new ≡ T.held out.old) }
+{
+    if number < 10 {
+        return out.add_digit(number as u8);
+    }
+    push_digits(out, number)
+}
+
+// Adds a number of any size.
+fn push_digits<T: AddText>(out: &mut T, number: u64) -> Result<(), AllocError>
     ensures ok { OnOk result (T.held out.new ≡ T.held out.old ++ decimal number) }
     ensures err { OnErr result (T.held out.new ≡ T.held out.old) }
 {
@@ -71,8 +108,9 @@ pub(crate) fn push_signed<T: AddText>(out: &mut T, number: i64) -> Result<(), Al
     out.add(buffer.format(number))
 }
 
-// Adds some words and a number.
-#[inline]
+// Adds some words and a number. Always inlined, so that words of a known length are copied without a
+// call.
+#[inline(always)]
 pub(crate) fn push_counted<T: AddText>(
     out: &mut T,
     words: &str,
@@ -205,6 +243,7 @@ pub fn append_reply(out: &mut Vec<u8>, reply: Reply) -> Result<(), AllocError>
 
 /// Adds the text of the entry under the schema. Where memory is refused any of it may have been
 /// added.
+#[inline(never)]
 pub(crate) fn push_entry<T: AddText>(
     out: &mut T,
     schema: &Schema,
