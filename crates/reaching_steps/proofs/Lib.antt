@@ -19,4 +19,5 @@ pub mod Owning
 pub mod Firsts
 pub mod Reading
 pub mod Table
+pub mod OnePass
 pub mod Tightest

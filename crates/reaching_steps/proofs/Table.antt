@@ -73,7 +73,7 @@ told_of w v lists whole s i x items same trial is below at found read =
     ∙ all.1 s x (omega (arith, below, count)) ∙ ap (λ (y : WorldValue). at_site y.schema (trace_of y) s) (sym same)
 
 -- what a step made is the newest entry
-made_is : (w v : WorldValue) (step : WorldStep) (e : Entry) → Answers (Made e) w step v → trace_of v ≡ e ∷ trace_of w
+pub made_is : (w v : WorldValue) (step : WorldStep) (e : Entry) → Answers (Made e) w step v → trace_of v ≡ e ∷ trace_of w
 made_is w v step e is = ap (λ (l : List Lucky). entries l) is
 
 none_is : (w v : WorldValue) (step : WorldStep) → Answers NoStatement w step v → trace_of v ≡ trace_of w

@@ -1,11 +1,13 @@
 -- What took effect at the sites, read from a trace (this project).
-use Rattle.std.specs.Prelude.{◌≡◌, ℕ, ◌<◌, ◌==◌, Bool, true, false, if◌then◌else◌, List, [], ◌∷◌, length, get_or, reverse, Option, Some, None}
+use Rattle.std.specs.Prelude.{◌≡◌, ℕ, ◌<◌, ◌==◌, Bool, true, false, if◌then◌else◌, List, [], ◌∷◌, length, get_or, reverse, take, drop, Option, Some, None}
 use Rattle.std.specs.Global.{Vec}
 use Rattle.field_bounds.specs.declared.kind.Kind.{Kind}
 use Rattle.field_bounds.specs.declared.id.SiteNo.{SiteNo}
 use Rattle.field_bounds.specs.declared.id.FieldNo.{FieldNo}
 use Rattle.field_bounds.specs.declared.entry.Command.{Command}
 use Rattle.field_bounds.specs.declared.entry.Command.TheVariants.{Begin, Escrow, Commit, Abort, Give, Restate, Spare, Tighten, Accept, Read, Share, Restart}
+use Rattle.field_bounds.specs.declared.entry.Reply.{Reply}
+use Rattle.field_bounds.specs.declared.entry.Reply.TheVariants.{Begun, Granted, Committed, Aborted, Given, Stated, Spared, Tightened, Accepted, Between, Shares, Restarted, Unsure, StillDown, Refused}
 use Rattle.field_bounds.specs.declared.entry.Entry.{Entry}
 use Rattle.field_bounds.specs.declared.effect.Effect.{Effect}
 use Rattle.field_bounds.specs.Schema.{SchemaValue}
@@ -48,6 +50,35 @@ unfoldable pub Reads : SchemaValue → ℕ → List Effect → Entry → List En
 Reads schema s told e later more =
     (t : List Entry) → reverse told ≡ effects (fresh schema s) (doubt_kept_in s (e ∷ later)) (own s t)
     → reverse more ≡ effects (fresh schema s) (doubt_kept_in s later) (own s (e ∷ t))
+
+-- At each site one more entry is known.
+abbrev pub AllRead : SchemaValue → List (Vec Effect) → Entry → List Entry → List (Vec Effect) → Type 0
+AllRead schema lists e later more =
+    (s : ℕ) (d : Vec Effect) → s < length lists → Reads schema s (get_or lists s d).items e later (get_or more s d).items
+
+-- At each site the first so many entries of a trace, which has the oldest first, are known, and what comes later of doubts.
+unfoldable pub AreReadIn : SchemaValue → List Entry → ℕ → List (Vec Effect) → Type 0
+AreReadIn schema trace i lists =
+    (s : ℕ) (d : Vec Effect) → s < length lists → reverse (get_or lists s d).items
+    ≡ effects (fresh schema s) (doubt_kept_in s (drop i trace)) (own s (reverse (take i trace)))
+
+-- Whether a reply tells what became of what stood in doubt.
+abbrev pub ends_doubt : Reply → Bool
+ends_doubt (Begun txn) = false
+ends_doubt Granted = false
+ends_doubt Committed = false
+ends_doubt Aborted = false
+ends_doubt (Given total) = false
+ends_doubt (Stated total) = false
+ends_doubt (Spared amount total) = false
+ends_doubt (Tightened total) = false
+ends_doubt (Accepted gain) = false
+ends_doubt (Between lo hi) = false
+ends_doubt (Shares lower raise) = false
+ends_doubt (Restarted epoch found) = true
+ends_doubt Unsure = false
+ends_doubt StillDown = false
+ends_doubt (Refused refusal) = false
 
 -- For each site, what took effect there.
 unfoldable pub AllTold : SchemaValue → List Entry → List (Vec Effect) → Type 0

@@ -13,6 +13,7 @@ mod rights;
 mod rows;
 mod shares;
 mod site_effects;
+mod site_table;
 mod steps;
 mod totals;
 mod trial;

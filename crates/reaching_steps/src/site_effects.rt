@@ -1,6 +1,7 @@
 //! What took effect at one site, read from the trace of all sites.
 
-ghost use Rattle.std.specs.Prelude.{◌≡◌, ◌<◌, ◌∷◌, IfOk, OnOk, List, true, reverse};
+ghost use Rattle.std.specs.Prelude.{◌≡◌, ℕ, ◌<◌, ◌∷◌, IfOk, OnOk, List, true, false, length, get_or, reverse};
+ghost use Rattle.std.specs.Global.{Vec};
 ghost use Rattle.std.specs.Option.{unwrap_or};
 ghost use Rattle.field_bounds.specs.declared.effect.Effect.{Effect};
 ghost use Rattle.field_bounds.specs.declared.entry.Entry.{Entry};
@@ -9,7 +10,7 @@ ghost use Rattle.field_bounds.specs.Owed.{is_unsure};
 ghost use Rattle.field_bounds.specs.Central.{at_site};
 ghost use Rattle.field_bounds.specs.Lawful.{IsLawful};
 ghost use Rattle.world_steps.specs.View.{trace_of};
-ghost use Rattle.reaching_steps.specs.Told.{doubt_kept_in, wanted_by, spared_for, Reads};
+ghost use Rattle.reaching_steps.specs.Told.{doubt_kept_in, wanted_by, spared_for, ends_doubt, Reads, AllRead};
 
 use crate::rights::rights_of;
 use field_bounds::{
@@ -246,6 +247,54 @@ fn read_entry(
         return Ok(());
     }
     read_own(alloc, schema, told, entry, later, site)
+}
+
+/// One more entry of the trace is read at its own site.
+pub(crate) fn read_there(
+    alloc: Global,
+    schema: &Schema,
+    table: &mut [Vec<Effect>],
+    entry: &Entry,
+    later: &[Entry],
+) -> Result<(), AllocError>
+    requires count { length table.old ≡ schema.now.sites }
+    requires lawful { (s : ℕ) (d : Vec Effect) → s < length table.old →
+        IsLawful schema.now (fresh schema.now s) (reverse (get_or table.old s d).items) }
+    ensures read { OnOk result (AllRead schema.now table.old entry.now later.now table.new) }
+{
+    let place = usize::from(entry.site.0);
+    if place >= table.len() {
+        return Ok(());
+    }
+    read_own(alloc, schema, &mut table[place], entry, later, entry.site)
+}
+
+/// Whether a reply tells what became of what stood in doubt.
+pub(crate) fn ends_doubt(reply: Reply) -> bool
+    ensures value { result ≡ ends_doubt reply }
+{
+    match reply {
+        Reply::Restarted { epoch: _, last: _ } => true,
+        _ => false,
+    }
+}
+
+/// One more entry of a site, which ends no doubt: what it did is put in front of what took effect
+/// before it. The error is want of memory.
+pub(crate) fn put_first(told: &mut Vec<Effect>, entry: &Entry) -> Result<(), AllocError>
+    ensures put { OnOk result ((base : Base) → told.new.items
+        ≡ after base false entry.now.command entry.now.reply told.old.items) }
+{
+    if is_unsure(entry.reply) {
+        return Ok(());
+    }
+    match effect_of(entry.command, entry.reply, 0) {
+        None => Ok(()),
+        Some(effect) => {
+            told.insert(0, effect)?;
+            Ok(())
+        }
+    }
 }
 
 /// What took effect at a site of a world, the newest first. The error is want of memory. Costs

@@ -401,8 +401,7 @@ fn reach_on(
 /// so an interval that leaves one out would be wrong in some run.
 ///
 /// The site is tried on a world of its own. Costs taking the world's steps once more, reading the
-/// trace once for each site and for each step that is told, and, for each two sites, what took
-/// effect at both.
+/// trace once for each site, and, for each two sites, what took effect at both.
 pub fn reach(
     alloc: Global,
     world: &World,

@@ -1,17 +1,16 @@
 //! A world on which steps are tried.
 
-ghost use Rattle.std.specs.Prelude.{◌≡◌, ◌<◌, ◌++◌, [], ◌∷◌, All, IfOk, OnOk, true, length};
+ghost use Rattle.std.specs.Prelude.{◌≡◌, ◌<◌, ◌++◌, [], ◌∷◌, All, IfOk, OnOk};
 ghost use Rattle.field_bounds.specs.Limits.{IsSchema};
 ghost use Rattle.field_bounds.specs.Central.{at_site, IsSound};
 ghost use Rattle.world_steps.specs.World.{StepFits};
 ghost use Rattle.world_steps.specs.View.{trace_of};
-ghost use Rattle.reaching_steps.specs.Told.{AllTold, IsMadeWithin, Renews};
 
-use crate::site_effects::told_at;
+use crate::site_table::{renew, table_of};
 use field_bounds::{Effect, Schema, SiteNo};
 use std::alloc::{AllocError, Global};
 use std::marker::Model;
-use world_steps::{StepReply, World, WorldStep};
+use world_steps::{World, WorldStep};
 
 /// A world of its own, in which the steps are tried that a world is to be told, with a table of
 /// what took effect at each site, the newest first: each site's part of the trace is read once for
@@ -33,42 +32,6 @@ impl Model for Trial {
     ghost view = { λ t. t.world };
 
     ghost invariant = { λ t. IsTrial t.world t.told.items t.is_whole };
-}
-
-/// What took effect at each site of a world.
-fn table_of(alloc: Global, world: &World) -> Result<Vec<Vec<Effect>>, AllocError>
-    ensures count { IfOk result (λ table. length table.items ≡ world.now.schema.sites) }
-    ensures told { IfOk result (λ table. AllTold world.now.schema
-        (trace_of world.now) table.items) }
-{
-    let mut table = Vec::new(alloc);
-    for site in 0..world.schema().sites() {
-        table.push(told_at(alloc, world, SiteNo(site))?)?;
-    }
-    Ok(table)
-}
-
-/// The table, once a world has answered one step more: the site of the entry that was made, if any,
-/// is read anew. The error is want of memory.
-fn renew(
-    alloc: Global,
-    world: &World,
-    table: &mut Vec<Vec<Effect>>,
-    reply: StepReply,
-) -> Result<(), AllocError>
-    requires made { IsMadeWithin reply world.now.schema.sites }
-    ensures renewed { OnOk result (Renews world.now reply table.old.items table.new.items) }
-{
-    match reply {
-        StepReply::NoStatement => Ok(()),
-        StepReply::Made(entry) => {
-            let told = told_at(alloc, world, entry.site)?;
-            if usize::from(entry.site.0) < table.len() {
-                table[usize::from(entry.site.0)] = told;
-            }
-            Ok(())
-        }
-    }
 }
 
 /// A world of a schema in which these steps were taken. The error is want of memory.
