@@ -1,7 +1,7 @@
 -- What the parts of the body leave, one after another.
-use Rattle.std.proofs.Common.{◌≡◌, ◌≢◌, ℕ, suc, ◌+◌, Bool, true, false, cond, eqb, Some, None, All, List, [], ◌∷◌, ◌++◌, refl, sym, ◌∙◌, ap, subst, arith}
-use Rattle.std.proofs.lemmas.List.{append_assoc, append-nil}
-use Rattle.std.proofs.lemmas.Bool.{ne_eqb, eqb-false}
+use Rattle.std.proofs.Common.{◌≡◌, ◌≢◌, ℕ, zero, suc, ◌+◌, ◌<◌, length, take, get_or, map, Bool, true, false, cond, eqb, Some, None, All, List, [], ◌∷◌, ◌++◌, refl, sym, ◌∙◌, ap, subst, arith}
+use Rattle.std.proofs.lemmas.List.{append_assoc, append-nil, map-append, map_more}
+use Rattle.std.proofs.lemmas.Bool.{ne_eqb, eq-eqb, eqb-false}
 use Rattle.std.specs.Prelude.{OnOk, Result, Ok, Err, ℤ, ◌-ℤ◌, unsigned_abs}
 use Rattle.field_bounds.specs.declared.id.SiteNo.{SiteNo}
 use Rattle.field_bounds.specs.declared.id.FieldNo.{FieldNo}
@@ -10,38 +10,98 @@ use Rattle.field_bounds.specs.declared.kind.Kind.TheVariants.{Lower, Raise}
 use Rattle.field_bounds.specs.declared.entry.Command.TheVariants.{Begin, Escrow, Commit}
 use Rattle.field_bounds.specs.Effects.{fresh, share}
 use Rattle.field_bounds.specs.Limits.{IsSchema}
+use Rattle.field_bounds.specs.declared.entry.Entry.{Entry}
 use Rattle.field_bounds.specs.Central.{at_site, committed_value}
 use Rattle.field_bounds.specs.Schema.{SchemaValue}
 use Rattle.world_steps.specs.declared.step.WorldStep.{WorldStep}
+use Rattle.world_steps.specs.declared.step.StepReply.{StepReply}
 use Rattle.world_steps.specs.World.{StepFits}
-use Rattle.world_steps.specs.View.{WorldValue, trace_of}
+use Rattle.world_steps.specs.View.{WorldValue, trace_of, Answers}
 use Rattle.reaching_steps.specs.Reach.{Task, steps_of_tasks, over_sites, fine, towards, next_txn, changes_by, moves, move_tasks, aborts, passes_on, tasks, same_value, reach_fault, reach_steps}
-use Rattle.reaching_steps.specs.Body.{Grew, Does, change_of}
+use Rattle.reaching_steps.specs.Body.{Grew, HasReached, Does, change_of}
+use Rattle.reaching_steps.specs.Taken.{steps_of, with_steps, AreAnswered}
+use Rattle.reaching_steps.specs.declared.taken.StepTaken.{StepTaken}
 use Rattle.reaching_steps.proofs.Plans.{planned_append}
 use Rattle.reaching_steps.proofs.Reaching.{all_reached}
 
-pub grew_none : (w : WorldValue) (had : List WorldStep) → Grew w had [] w had
-grew_none w had =
+-- ---- what was answered
+
+-- behind the world's own steps, one after another
+pub with_both : (w : WorldValue) (a b : List WorldStep) → with_steps (with_steps w a) b ≡ with_steps w (a ++ b)
+with_both w a b = ap (λ (l : List WorldStep). (let v : WorldValue = record { schema = w.schema; steps = l } in v)) (append_assoc w.steps a b)
+
+pub with_none : (w : WorldValue) → w ≡ with_steps w []
+with_none w = ap (λ (l : List WorldStep). (let v : WorldValue = record { schema = w.schema; steps = l } in v)) (sym (append-nil w.steps))
+
+pub answered_both : (w : WorldValue) (xs ys : List StepTaken) → AreAnswered w xs → AreAnswered (with_steps w (steps_of xs)) ys
+    → AreAnswered w (xs ++ ys)
+answered_both w [] ys h k = subst (λ (v : WorldValue). AreAnswered v ys) (sym (with_none w)) k
+answered_both w (x ∷ xs) ys h k = (
+  h.0,
+  answered_both (with_steps w (x.step ∷ [])) xs ys h.1
+      (subst (λ (v : WorldValue). AreAnswered v ys) (sym (with_both w (x.step ∷ []) (steps_of xs))) k),
+)
+
+-- each of them, behind those before it
+pub answered_at : (w : WorldValue) (taken : List StepTaken) (i : ℕ) (d : StepTaken) → i < length taken → AreAnswered w taken
+    → Answers (get_or taken i d).reply (with_steps w (steps_of (take i taken))) (get_or taken i d).step
+    (with_steps (with_steps w (steps_of (take i taken))) ((get_or taken i d).step ∷ []))
+answered_at w [] i d below h = absurd (omega (arith, below))
+answered_at w (x ∷ later) zero d below h =
+    subst (λ (v : WorldValue). Answers x.reply v x.step (with_steps v (x.step ∷ []))) (with_none w) h.0
+answered_at w (x ∷ later) (suc i) d below h =
+    subst (λ (v : WorldValue). Answers (get_or later i d).reply v (get_or later i d).step (with_steps v ((get_or later i d).step ∷ [])))
+    (with_both w (x.step ∷ []) (steps_of (take i later)))
+    (answered_at (with_steps w (x.step ∷ [])) later i d (omega (arith, below)) h.1)
+
+-- ---- what grew
+
+pub grew_none : (w : WorldValue) (had : List StepTaken) → Grew w had [] w had
+grew_none w had = record { world = with_none w; added = []; taken = sym (append-nil had); steps = refl; answered = tt }
+
+pub grew_step : (w x : WorldValue) (had has : List StepTaken) (step : WorldStep) (reply : StepReply) → x ≡ with_steps w (step ∷ [])
+    → Answers reply w step x → has ≡ had ++ (record { step = step; reply = reply }) ∷ [] → Grew w had (step ∷ []) x has
+grew_step w x had has step reply world answers taken =
     record {
-      world = ap (λ (l : List WorldStep). (let v : WorldValue = record { schema = w.schema; steps = l } in v)) (sym (append-nil w.steps));
-      taken = sym (append-nil had);
+      world = world;
+      added = (record { step = step; reply = reply }) ∷ [];
+      taken = taken;
+      steps = refl;
+      answered = (subst (λ (v : WorldValue). Answers reply w step v) world answers, tt);
     }
 
-pub grew_as : (w x : WorldValue) (had has more others : List WorldStep) → more ≡ others → Grew w had more x has → Grew w had others x has
+pub grew_as : (w x : WorldValue) (had has : List StepTaken) (more others : List WorldStep) → more ≡ others → Grew w had more x has
+    → Grew w had others x has
 grew_as w x had has more others same g = subst (λ (l : List WorldStep). Grew w had l x has) same g
 
-pub grew_on : (w x y : WorldValue) (had mid has a b : List WorldStep) → Grew w had a x mid → Grew x mid b y has → Grew w had (a ++ b) y has
+pub grew_on : (w x y : WorldValue) (had mid has : List StepTaken) (a b : List WorldStep) → Grew w had a x mid → Grew x mid b y has
+    → Grew w had (a ++ b) y has
 grew_on w x y had mid has a b g h =
     record {
-      world = h.world
-          ∙ ap (λ (v : WorldValue). (let later : WorldValue = record { schema = v.schema; steps = v.steps ++ b } in later)) g.world
-          ∙ ap (λ (l : List WorldStep). (let later : WorldValue = record { schema = w.schema; steps = l } in later))
-          (append_assoc w.steps a b);
-      taken = h.taken ∙ ap (λ (l : List WorldStep). l ++ b) g.taken ∙ append_assoc had a b;
+      world = h.world ∙ ap (λ (v : WorldValue). with_steps v b) g.world ∙ with_both w a b;
+      added = g.added ++ h.added;
+      taken = h.taken ∙ ap (λ (l : List StepTaken). l ++ h.added) g.taken ∙ append_assoc had g.added h.added;
+      steps = map-append (λ (one : StepTaken). one.step) g.added h.added
+          ∙ ap (λ (l : List WorldStep). l ++ steps_of h.added) g.steps
+          ∙ ap (λ (l : List WorldStep). a ++ l) h.steps;
+      answered = answered_both w g.added h.added g.answered
+          (subst (λ (v : WorldValue). AreAnswered v h.added)
+          (g.world ∙ ap (λ (l : List WorldStep). with_steps w l) (sym g.steps)) h.answered);
     }
 
+pub grew_nothing : (w : WorldValue) (had : List StepTaken) (more : List WorldStep) → more ≡ [] → Grew w had more w had
+grew_nothing w had more none = grew_as w w had had [] more (sym none) (grew_none w had)
+
+-- one more of a list, a step each
+pub grew_map : (w x y : WorldValue) (had mid has : List StepTaken) (f : TxnId → WorldStep) (ids : List TxnId) (i : ℕ) (d : TxnId)
+    → i < length ids → Grew w had (map f (take i ids)) x mid → Grew x mid (f (get_or ids i d) ∷ []) y has
+    → Grew w had (map f (take (i + 1) ids)) y has
+grew_map w x y had mid has f ids i d below g h =
+    grew_as w y had has (map f (take i ids) ++ f (get_or ids i d) ∷ []) (map f (take (i + 1) ids)) (sym (map_more f ids i d below))
+    (grew_on w x y had mid has (map f (take i ids)) (f (get_or ids i d) ∷ []) g h)
+
 -- one more turn of a loop over sites
-pub grew_over : (w x y : WorldValue) (had mid has : List WorldStep) (f : SchemaValue → ℕ → List Task) (i : ℕ)
+pub grew_over : (w x y : WorldValue) (had mid has : List StepTaken) (f : SchemaValue → ℕ → List Task) (i : ℕ)
     → Grew w had (steps_of_tasks w.schema w.steps (over_sites i (f w.schema))) x mid
     → Grew x mid (steps_of_tasks x.schema x.steps (f x.schema i)) y has
     → Grew w had (steps_of_tasks w.schema w.steps (over_sites (i + 1) (f w.schema))) y has
@@ -58,13 +118,13 @@ grew_over w x y had mid has f i g h =
     (grew_on w x y had mid has done (steps_of_tasks x.schema x.steps (f x.schema i)) g h)
 
 -- one task
-pub grew_task : (w x : WorldValue) (had has : List WorldStep) (task : Task) → Grew w had (task (trace_of w)) x has
+pub grew_task : (w x : WorldValue) (had has : List StepTaken) (task : Task) → Grew w had (task (trace_of w)) x has
     → Grew w had (steps_of_tasks w.schema w.steps (task ∷ [])) x has
 grew_task w x had has task g = grew_as w x had has (task (trace_of w)) (steps_of_tasks w.schema w.steps (task ∷ []))
     (sym (append-nil (task (trace_of w)))) g
 
 -- two tasks, the second told by what the first left
-pub grew_tasks : (w x y : WorldValue) (had mid has : List WorldStep) (a b : SchemaValue → List Task)
+pub grew_tasks : (w x y : WorldValue) (had mid has : List StepTaken) (a b : SchemaValue → List Task)
     → Grew w had (steps_of_tasks w.schema w.steps (a w.schema)) x mid → Grew x mid (steps_of_tasks x.schema x.steps (b x.schema)) y has
     → Grew w had (steps_of_tasks w.schema w.steps (a w.schema ++ b w.schema)) y has
 grew_tasks w x y had mid has a b g h =
@@ -76,7 +136,7 @@ grew_tasks w x y had mid has a b g h =
     (grew_on w x y had mid has done (steps_of_tasks x.schema x.steps (b x.schema)) g h)
 
 -- two tasks of one place
-pub grew_both : (w x y : WorldValue) (had mid has : List WorldStep) (a b : SchemaValue → Task) → Grew w had (a w.schema (trace_of w)) x mid
+pub grew_both : (w x y : WorldValue) (had mid has : List StepTaken) (a b : SchemaValue → Task) → Grew w had (a w.schema (trace_of w)) x mid
     → Grew x mid (b x.schema (trace_of x)) y has
     → Grew w had (steps_of_tasks w.schema w.steps (a w.schema ∷ b w.schema ∷ [])) y has
 grew_both w x y had mid has a b g h =
@@ -115,14 +175,40 @@ three_are w named f target s txn change apart txn_is found =
     ∙ ap (λ (z : ℤ). changes_by s f (next_txn w.schema t s) z) is.0
     ∙ sym (ap (λ (b : Bool). cond b [] (changes_by s f (next_txn w.schema t s) all)) (ne_eqb s named apart))
 
+-- no step of a move: at the named site, and where there is nothing to change
+pub none_there : (schema : SchemaValue) (named f : ℕ) (target : ℤ) (s : ℕ) (t : List Entry) → s ≡ named
+    → moves schema named f target s t ≡ []
+none_there schema named f target s t same =
+    ap (λ (b : Bool). cond b [] (changes_by s f (next_txn schema t s)
+    (towards (target -ℤ committed_value schema t f) (share (fresh schema s) f Lower (at_site schema t s))
+    (share (fresh schema s) f Raise (at_site schema t s))))) (eq-eqb s named same)
+
+change_none : (z : ℤ) → None ≡ change_of z → eqb (unsigned_abs z) 0 ≡ true
+change_none z h = by (eqb (unsigned_abs z) 0) h
+  where
+    by : (b : Bool) → None ≡ cond b None (Some z) → b ≡ true
+    by true h = refl
+    by false h = cc
+
+pub none_are : (schema : SchemaValue) (named f : ℕ) (target : ℤ) (s : ℕ) (t : List Entry) → s ≢ named
+    → None ≡ change_of (towards (target -ℤ committed_value schema t f) (share (fresh schema s) f Lower (at_site schema t s))
+    (share (fresh schema s) f Raise (at_site schema t s)))
+    → moves schema named f target s t ≡ []
+none_are schema named f target s t apart none =
+    let z = towards (target -ℤ committed_value schema t f) (share (fresh schema s) f Lower (at_site schema t s))
+    (share (fresh schema s) f Raise (at_site schema t s)) in
+    let id = next_txn schema t s in
+    ap (λ (b : Bool). cond b [] (changes_by s f id z)) (ne_eqb s named apart)
+    ∙ ap (λ (b : Bool). cond b [] (fine s Begin ∷ fine s (Escrow id (record { 0 = f }) z) ∷ fine s (Commit id) ∷ [])) (change_none z none)
+
 -- ---- the last tasks, closed
 
-pub moves_start : (w : WorldValue) (had : List WorldStep) (named f : ℕ) (target : ℤ)
+pub moves_start : (w : WorldValue) (had : List StepTaken) (named f : ℕ) (target : ℤ)
     → Grew w had (steps_of_tasks w.schema w.steps (move_tasks w.schema named f target 0)) w had
 unfolding move_tasks
 moves_start w had named f target = grew_none w had
 
-pub moves_on : (w x y : WorldValue) (had mid has : List WorldStep) (named f : ℕ) (target : ℤ) (i : ℕ)
+pub moves_on : (w x y : WorldValue) (had mid has : List StepTaken) (named f : ℕ) (target : ℤ) (i : ℕ)
     → Grew w had (steps_of_tasks w.schema w.steps (move_tasks w.schema named f target i)) x mid
     → Grew x mid (moves x.schema named f target i (trace_of x)) y has
     → Grew w had (steps_of_tasks w.schema w.steps (move_tasks w.schema named f target (i + 1))) y has
@@ -132,12 +218,12 @@ moves_on w x y had mid has named f target i g h =
     (grew_task x y mid has (moves x.schema named f target i) h)
 
 -- all three phases, one after another
-pub planned_all : (w x y z : WorldValue) (a b c d : List WorldStep) (named f : ℕ) (target : ℤ) (n : ℕ) → n ≡ w.schema.sites → a ≡ []
+pub planned_all : (w x y z : WorldValue) (a b c d : List StepTaken) (named f : ℕ) (target : ℤ) (n : ℕ) → n ≡ w.schema.sites → a ≡ []
     → same_value (committed_value w.schema (trace_of w) f) target ≡ false
     → Grew w a (steps_of_tasks w.schema w.steps (over_sites n (λ s. aborts w.schema named s ∷ []))) x b
     → Grew x b (steps_of_tasks x.schema x.steps (over_sites n (λ from. over_sites n (λ to. passes_on x.schema named f from to)))) y c
     → Grew y c (steps_of_tasks y.schema y.steps (move_tasks y.schema named f target n)) z d
-    → d ≡ reach_steps w.schema w.steps (record { 0 = named }) (record { 0 = f }) target
+    → HasReached w (record { 0 = named }) (record { 0 = f }) target z d
 unfolding move_tasks
 planned_all w x y z a b c d named f target n count empty there g h k =
     let first : ℕ → SchemaValue → List Task = λ n schema. over_sites n (λ s. aborts schema named s ∷ []) in
@@ -147,8 +233,26 @@ planned_all w x y z a b c d named f target n count empty there g h k =
     let grew : Grew w a (all n) z d =
     grew_tasks w x z a b d (λ schema. first n schema) (λ schema. second n schema ++ third n schema) g
     (grew_tasks x y z b c d (λ schema. second n schema) (λ schema. third n schema) h k) in
-    grew.taken ∙ ap (λ (l : List WorldStep). l ++ all n) empty ∙ ap all count
-    ∙ sym (ap (λ (b : Bool). cond b [] (steps_of_tasks w.schema w.steps (tasks w.schema named f target))) there)
+    let is : d ≡ grew.added = grew.taken ∙ ap (λ (l : List StepTaken). l ++ grew.added) empty in
+    let steps : steps_of d ≡ all n = ap (λ (l : List StepTaken). steps_of l) is ∙ grew.steps in
+    record {
+      steps = steps ∙ ap all count
+          ∙ sym (ap (λ (b : Bool). cond b [] (steps_of_tasks w.schema w.steps (tasks w.schema named f target))) there);
+      world = grew.world ∙ ap (λ (l : List WorldStep). with_steps w l) (sym steps);
+      answered = subst (λ (l : List StepTaken). AreAnswered w l) (sym is) grew.answered;
+    }
+
+-- none, where the value is there
+pub planned_none : (w : WorldValue) (items : List StepTaken) (site : SiteNo) (field : FieldNo) (target : ℤ) → items ≡ []
+    → same_value (committed_value w.schema (trace_of w) field.0) target ≡ true → HasReached w site field target w items
+planned_none w items site field target empty there =
+    let none : steps_of items ≡ [] = ap (λ (l : List StepTaken). steps_of l) empty in
+    record {
+      steps = none
+          ∙ sym (ap (λ (b : Bool). cond b [] (steps_of_tasks w.schema w.steps (tasks w.schema site.0 field.0 target))) there);
+      world = with_none w ∙ ap (λ (l : List WorldStep). with_steps w l) (sym none);
+      answered = subst (λ (l : List StepTaken). AreAnswered w l) (sym empty) tt;
+    }
 
 -- ---- the end
 

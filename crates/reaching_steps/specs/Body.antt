@@ -5,13 +5,15 @@ use Rattle.field_bounds.specs.declared.id.FieldNo.{FieldNo}
 use Rattle.field_bounds.specs.Schema.{SchemaValue}
 use Rattle.field_bounds.specs.Central.{own, at_site, committed_value}
 use Rattle.world_steps.specs.World.{StepFits, trace_by}
-use Rattle.reaching_steps.specs.Reach.{IsFine, fault_if, fault_at, least, is_down, is_short_of, is_unstated, is_tightened, has_no_number, lies_outside}
+use Rattle.reaching_steps.specs.Reach.{reach_steps, IsFine, fault_if, fault_at, least, is_down, is_short_of, is_unstated, is_tightened, has_no_number, lies_outside}
 use Rattle.field_bounds.specs.declared.kind.Kind.TheVariants.{Lower, Raise}
 use Rattle.field_bounds.specs.declared.entry.Entry.{Entry}
 use Rattle.field_bounds.specs.Effects.{fresh, cut}
 use Rattle.field_bounds.specs.Owed.{place, interval_at}
 use Rattle.world_steps.specs.declared.step.WorldStep.{WorldStep}
 use Rattle.world_steps.specs.View.{WorldValue}
+use Rattle.reaching_steps.specs.Taken.{steps_of, with_steps, AreAnswered}
+use Rattle.reaching_steps.specs.declared.taken.StepTaken.{StepTaken}
 use Rattle.reaching_steps.specs.declared.fault.ReachFault.{ReachFault}
 use Rattle.reaching_steps.specs.declared.fault.ReachFault.TheVariants.{NotUp, InFlight, Unstated, Tightened, Numbers, Outside, NoMemory}
 
@@ -20,10 +22,21 @@ abbrev pub Explains : ReachFault → Option ReachFault → Type 0
 Explains NoMemory first = Unit {0}
 Explains fault first = first ≡ Some fault
 
--- The trial world and the list of steps have both grown by these steps.
-pub record Grew (before : WorldValue) (had more : List WorldStep) (later : WorldValue) (has : List WorldStep) : Type 0 where
-  pub world : later ≡ record { schema = before.schema; steps = before.steps ++ more }
-  pub taken : has ≡ had ++ more
+-- The trial world and the list of steps taken have both grown by these steps, each with what answered it.
+pub record Grew (before : WorldValue) (had : List StepTaken) (more : List WorldStep) (later : WorldValue) (has : List StepTaken)
+    : Type 0 where
+  pub world : later ≡ with_steps before more
+  pub added : List StepTaken
+  pub taken : has ≡ had ++ added
+  pub steps : steps_of added ≡ more
+  pub answered : AreAnswered before added
+
+-- The steps that take a field to the target were taken, and answered so.
+pub record HasReached (w : WorldValue) (site : SiteNo) (field : FieldNo) (target : ℤ) (later : WorldValue) (taken : List StepTaken)
+    : Type 0 where
+  pub steps : steps_of taken ≡ reach_steps w.schema w.steps site field target
+  pub world : later ≡ with_steps w (steps_of taken)
+  pub answered : AreAnswered w taken
 
 -- A change, where it changes anything.
 abbrev pub change_of : ℤ → Option ℤ
@@ -36,6 +49,10 @@ pub record Does (w : WorldValue) (site : SiteNo) (field : FieldNo) (target : ℤ
   pub fine : All IsFine more
   pub elsewhere : own site.0 (trace_by w.schema (w.steps ++ more)) ≡ own site.0 (trace_by w.schema w.steps)
   pub reached : committed_value w.schema (trace_by w.schema (w.steps ++ more)) field.0 ≡ target
+
+-- They do, where the world's own steps fit.
+abbrev pub DoesWhereFit : WorldValue → SiteNo → FieldNo → ℤ → List WorldStep → Type 0
+DoesWhereFit w site field target more = All (StepFits w.schema) w.steps → Does w site field target more
 
 -- The faults from one on, so that a function asks for one alone.
 abbrev pub from_outside : SchemaValue → List Entry → SiteNo → FieldNo → ℤ → List (Option ReachFault)

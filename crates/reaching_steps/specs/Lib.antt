@@ -2,5 +2,6 @@ pub mod Reach
 pub mod Worked
 pub mod Later
 pub mod Told
+pub mod Taken
 pub mod Body
 pub mod Tight

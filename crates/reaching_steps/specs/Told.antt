@@ -94,6 +94,10 @@ passes Everyone = λ _. true
 abbrev pub IsTrial : WorldValue → List (Vec Effect) → Bool → Type 0
 IsTrial w lists whole = whole ≡ true → (length lists ≡ w.schema.sites) × AllTold w.schema (trace_of w) lists
 
+-- A table tells what took effect at each site of a world.
+abbrev pub IsToldBy : WorldValue → List (Vec Effect) → Type 0
+IsToldBy w lists = (length lists ≡ w.schema.sites) × AllTold w.schema (trace_of w) lists
+
 -- The entry that was made, if any, is of one of so many sites.
 abbrev pub IsMadeWithin : StepReply → ℕ → Type 0
 IsMadeWithin (Made entry) sites = entry.site.0 < sites

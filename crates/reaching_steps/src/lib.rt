@@ -15,6 +15,8 @@ mod shares;
 mod site_effects;
 mod site_table;
 mod steps;
+mod taken;
+mod taking;
 mod totals;
 mod trial;
 
@@ -22,3 +24,5 @@ pub use fault::ReachFault;
 pub use laws::{no_narrower_interval_is_safe, reach_meets};
 pub use rows::worked_reaches;
 pub use steps::reach;
+pub use taken::StepTaken;
+pub use taking::reach_in;

@@ -1,36 +1,38 @@
 //! The steps, tried one after another on a trial.
 
-ghost use Rattle.std.specs.Prelude.{◌≡◌, ◌<◌, ◌++◌, [], ◌∷◌, IfOk, IfErr, OnOk, All, None};
+ghost use Rattle.std.specs.Prelude.{◌≡◌, ◌≢◌, ◌<◌, ◌++◌, [], ◌∷◌, IfOk, IfErr, OnOk, All, None};
 ghost use Rattle.field_bounds.specs.Central.{own, committed_value};
 ghost use Rattle.field_bounds.specs.declared.kind.Kind.TheVariants as kinds;
 ghost use Rattle.world_steps.specs.World.{StepFits, trace_by};
 ghost use Rattle.world_steps.specs.View.{trace_of};
 ghost use Rattle.reaching_steps.specs.Reach.{steps_of_tasks, over_sites, aborts, restates, delivers, passes_on, moves, move_tasks, tasks, reach_steps, reach_fault, IsFine};
-ghost use Rattle.reaching_steps.specs.Body.{Explains, Grew, Does};
+ghost use Rattle.reaching_steps.specs.Body.{Explains, Grew, HasReached, Does, DoesWhereFit};
+ghost use Rattle.reaching_steps.specs.Taken.{steps_of};
 ghost use Rattle.reaching_steps.specs.Tight.{IsUnhindered, LiesWithin};
 ghost use Rattle.reaching_steps.specs.declared.fault.ReachFault.TheVariants.{NoMemory};
 
 use crate::fault::ReachFault;
 use crate::faults::fault_of;
 use crate::readers::{change_at, is_at, next_at, number_wanted, open_at};
+use crate::taken::StepTaken;
 use crate::trial::Trial;
 use field_bounds::{Command, FieldNo, Kind, Schema, SiteNo};
 use std::alloc::{AllocError, Global};
 use world_steps::{Luck, World, WorldStep};
 
-/// One step, taken in the trial and noted.
+/// One step, taken in the trial and noted with what answered it.
 fn take(
     alloc: Global,
     trial: &mut Trial,
-    taken: &mut Vec<WorldStep>,
+    taken: &mut Vec<StepTaken>,
     step: WorldStep,
 ) -> Result<(), AllocError>
     requires fits { StepFits trial.old.schema step }
     ensures grew { OnOk result (Grew trial.old taken.old.items
         (step ∷ []) trial.new taken.new.items) }
 {
-    trial.step(alloc, &step)?;
-    taken.push(step)?;
+    let reply = trial.step(alloc, &step)?;
+    taken.push(StepTaken { step, reply })?;
     Ok(())
 }
 
@@ -38,7 +40,7 @@ fn take(
 fn ask(
     alloc: Global,
     trial: &mut Trial,
-    taken: &mut Vec<WorldStep>,
+    taken: &mut Vec<StepTaken>,
     site: SiteNo,
     command: Command,
 ) -> Result<(), AllocError>
@@ -63,7 +65,7 @@ fn ask(
 fn abort_open(
     alloc: Global,
     trial: &mut Trial,
-    taken: &mut Vec<WorldStep>,
+    taken: &mut Vec<StepTaken>,
     named: SiteNo,
     site: SiteNo,
 ) -> Result<(), AllocError>
@@ -85,7 +87,7 @@ fn abort_open(
 fn tell_again(
     alloc: Global,
     trial: &mut Trial,
-    taken: &mut Vec<WorldStep>,
+    taken: &mut Vec<StepTaken>,
     named: SiteNo,
     field: FieldNo,
     from: SiteNo,
@@ -121,7 +123,7 @@ fn tell_again(
 fn deliver(
     alloc: Global,
     trial: &mut Trial,
-    taken: &mut Vec<WorldStep>,
+    taken: &mut Vec<StepTaken>,
     named: SiteNo,
     field: FieldNo,
     from: SiteNo,
@@ -153,7 +155,7 @@ fn deliver(
 fn pass_on(
     alloc: Global,
     trial: &mut Trial,
-    taken: &mut Vec<WorldStep>,
+    taken: &mut Vec<StepTaken>,
     named: SiteNo,
     field: FieldNo,
     from: SiteNo,
@@ -177,7 +179,7 @@ fn pass_on(
 fn move_field(
     alloc: Global,
     trial: &mut Trial,
-    taken: &mut Vec<WorldStep>,
+    taken: &mut Vec<StepTaken>,
     named: SiteNo,
     field: FieldNo,
     target: i64,
@@ -213,7 +215,7 @@ fn move_field(
 fn abort_all(
     alloc: Global,
     trial: &mut Trial,
-    taken: &mut Vec<WorldStep>,
+    taken: &mut Vec<StepTaken>,
     named: SiteNo,
     sites: u16,
 ) -> Result<(), AllocError>
@@ -233,7 +235,7 @@ fn abort_all(
 fn pass_from(
     alloc: Global,
     trial: &mut Trial,
-    taken: &mut Vec<WorldStep>,
+    taken: &mut Vec<StepTaken>,
     named: SiteNo,
     field: FieldNo,
     sites: u16,
@@ -275,7 +277,7 @@ fn pass_from(
 fn pass_all(
     alloc: Global,
     trial: &mut Trial,
-    taken: &mut Vec<WorldStep>,
+    taken: &mut Vec<StepTaken>,
     named: SiteNo,
     field: FieldNo,
     sites: u16,
@@ -297,7 +299,7 @@ fn pass_all(
 fn move_all(
     alloc: Global,
     trial: &mut Trial,
-    taken: &mut Vec<WorldStep>,
+    taken: &mut Vec<StepTaken>,
     named: SiteNo,
     field: FieldNo,
     target: i64,
@@ -322,10 +324,10 @@ fn plan(
     field: FieldNo,
     target: i64,
     sites: u16,
-) -> Result<Vec<WorldStep>, AllocError>
+) -> Result<Vec<StepTaken>, AllocError>
     requires all { sites ≡ trial.old.schema.sites }
-    ensures steps { IfOk result (λ taken. taken.items
-        ≡ reach_steps trial.old.schema trial.old.steps named field target) }
+    ensures reached { IfOk result (λ taken. HasReached trial.old named field target trial.new
+        taken.items) }
 {
     let mut taken = Vec::new(alloc);
     let there = is_at(alloc, trial, field, target)?;
@@ -345,33 +347,35 @@ fn plan_clear(
     named: SiteNo,
     field: FieldNo,
     target: i64,
-) -> Result<Vec<WorldStep>, AllocError>
-    requires fit { All (StepFits trial.old.schema) trial.old.steps }
+) -> Result<Vec<StepTaken>, AllocError>
     requires clear { reach_fault trial.old.schema (trace_of trial.old) named field target ≡ None }
-    ensures steps { IfOk result (λ taken. taken.items
-        ≡ reach_steps trial.old.schema trial.old.steps named field target) }
-    ensures does { IfOk result (λ taken. Does trial.old named field target taken.items) }
+    ensures reached { IfOk result (λ taken. HasReached trial.old named field target trial.new
+        taken.items) }
+    ensures does { IfOk result (λ taken. DoesWhereFit trial.old named field target
+        (steps_of taken.items)) }
 {
     let sites = trial.world().schema().sites();
     plan(alloc, trial, named, field, target, sites)
 }
 
-/// The steps, told and tried on a trial in which no other step was tried yet, or the first fault.
-fn reach_on(
+/// The steps, told and taken on a trial in which no other step was tried yet, or the first fault,
+/// at which none was taken.
+pub(crate) fn reach_on(
     alloc: Global,
     trial: &mut Trial,
     site: SiteNo,
     field: FieldNo,
     target: i64,
-) -> Result<Vec<WorldStep>, ReachFault>
-    requires fit { All (StepFits trial.old.schema) trial.old.steps }
+) -> Result<Vec<StepTaken>, ReachFault>
     ensures clear { OnOk result (reach_fault trial.old.schema (trace_of trial.old) site field target
         ≡ None) }
     ensures fault { IfErr result (λ fault. Explains fault
         (reach_fault trial.old.schema (trace_of trial.old) site field target)) }
-    ensures steps { IfOk result (λ taken. taken.items
-        ≡ reach_steps trial.old.schema trial.old.steps site field target) }
-    ensures does { IfOk result (λ taken. Does trial.old site field target taken.items) }
+    ensures reached { IfOk result (λ taken. HasReached trial.old site field target trial.new
+        taken.items) }
+    ensures does { IfOk result (λ taken. DoesWhereFit trial.old site field target
+        (steps_of taken.items)) }
+    ensures same { IfErr result (λ fault. fault ≢ NoMemory → trial.new ≡ trial.old) }
 {
     let Ok(found) = fault_of(alloc, trial, site, field, target) else {
         return Err(ReachFault::NoMemory);
@@ -383,6 +387,17 @@ fn reach_on(
             Err(_) => Err(ReachFault::NoMemory),
         },
     }
+}
+
+/// The steps alone.
+fn steps_alone(alloc: Global, taken: &[StepTaken]) -> Result<Vec<WorldStep>, AllocError>
+    ensures steps { IfOk result (λ steps. steps.items ≡ steps_of taken.now) }
+{
+    let mut steps = Vec::new(alloc);
+    for one in taken {
+        steps.push(one.step)?;
+    }
+    Ok(steps)
 }
 
 /// The steps at other sites after which the committed value of a field is the target: told by the
@@ -423,5 +438,9 @@ pub fn reach(
     let Ok(mut trial) = Trial::new(alloc, world) else {
         return Err(ReachFault::NoMemory);
     };
-    reach_on(alloc, &mut trial, site, field, target)
+    let taken = reach_on(alloc, &mut trial, site, field, target)?;
+    let Ok(steps) = steps_alone(alloc, &taken) else {
+        return Err(ReachFault::NoMemory);
+    };
+    Ok(steps)
 }

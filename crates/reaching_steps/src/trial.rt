@@ -4,13 +4,14 @@ ghost use Rattle.std.specs.Prelude.{◌≡◌, ◌<◌, ◌++◌, [], ◌∷◌,
 ghost use Rattle.field_bounds.specs.Limits.{IsSchema};
 ghost use Rattle.field_bounds.specs.Central.{at_site, IsSound};
 ghost use Rattle.world_steps.specs.World.{StepFits};
-ghost use Rattle.world_steps.specs.View.{trace_of};
+ghost use Rattle.world_steps.specs.View.{trace_of, Answers};
+ghost use Rattle.reaching_steps.specs.Told.{IsToldBy};
 
 use crate::site_table::{renew, table_of};
 use field_bounds::{Effect, Schema, SiteNo};
 use std::alloc::{AllocError, Global};
 use std::marker::Model;
-use world_steps::{World, WorldStep};
+use world_steps::{StepReply, World, WorldStep};
 
 /// A world of its own, in which the steps are tried that a world is to be told, with a table of
 /// what took effect at each site, the newest first: each site's part of the trace is read once for
@@ -65,20 +66,40 @@ impl Trial {
         })
     }
 
-    /// Tries one step. The error is want of memory.
-    pub(crate) fn step(&mut self, alloc: Global, step: &WorldStep) -> Result<(), AllocError>
+    /// The trial on a world itself, by its table.
+    pub(crate) fn of(world: World, told: Vec<Vec<Effect>>) -> Trial
+        requires told { IsToldBy world told.items }
+        ensures same { result ≡ world }
+    {
+        Trial {
+            world,
+            told,
+            is_whole: true,
+        }
+    }
+
+    /// The world, with the steps tried so far.
+    pub(crate) fn into_world(self) -> World
+        ensures same { result ≡ self }
+    {
+        self.world
+    }
+
+    /// Tries one step: what it made. The error is want of memory.
+    pub(crate) fn step(&mut self, alloc: Global, step: &WorldStep) -> Result<StepReply, AllocError>
         requires fits { StepFits self.old.schema step.now }
         ensures steps { OnOk result (self.new ≡ record self.old {
           steps =
               self.old.steps ++ step.now ∷ [];
         }) }
+        ensures answers { IfOk result (λ reply. Answers reply self.old step.now self.new) }
     {
         let was_whole = self.is_whole;
         self.is_whole = false;
         let reply = self.world.step(alloc, step)?;
         renew(alloc, &self.world, &mut self.told, reply)?;
         self.is_whole = was_whole;
-        Ok(())
+        Ok(reply)
     }
 
     /// The world, with the steps tried so far.

@@ -1,9 +1,9 @@
 use check_kit::{NO_FIELD, STOCK, command, stock_of_two, txn};
-use field_bounds::{Command, SiteNo, TxnId};
+use field_bounds::{Command, Entry, Reply, SiteNo, TxnId};
 use reaching_steps::*;
 use std::alloc::Global;
 use std::process::Abort;
-use world_steps::{Luck, World, WorldStep, step_fits};
+use world_steps::{Luck, StepReply, World, WorldStep, step_fits};
 
 const DELIVER: WorldStep = WorldStep::Deliver {
     k: 1,
@@ -173,4 +173,57 @@ fn open_transactions_are_aborted(rt: HostRuntime) {
         down[2],
     ];
     assert_takes(&rt, alloc, &open, 20, &expected);
+}
+
+/// Whether it is this step, a command at site 1, and was answered so.
+fn answered(one: &StepTaken, step: WorldStep, command: Command, reply: Reply) -> bool {
+    let entry = Entry {
+        site: SiteNo(1),
+        command,
+        reply,
+    };
+    one.step == step && one.reply == StepReply::Made(entry)
+}
+
+/// The world itself takes the steps, and tells what answered them.
+#[test]
+fn taken_by_the_world(rt: HostRuntime) {
+    let alloc = rt.alloc();
+    let mut world = world_after(&rt, alloc, &[]);
+    let taken = reach_in(alloc, &mut world, SiteNo(0), STOCK, 20).expect(&rt, "reached");
+    let [begin, escrow, commit] = moves(txn!(0.1), -20);
+    assert_eq!(rt; taken.len(), 3);
+    assert_eq!(rt; world.trace().len(), 3);
+    assert_eq!(rt;
+        [
+            answered(&taken[0], begin, Command::Begin, Reply::Begun(txn!(0.1))),
+            answered(
+                &taken[1],
+                escrow,
+                command!(escrow 0.1 stock -20),
+                Reply::Granted
+            ),
+            answered(&taken[2], commit, command!(commit 0.1), Reply::Committed),
+        ],
+        [true; 3]
+    );
+}
+
+/// A fault leaves the world as it was.
+#[test]
+fn kept_at_a_fault(rt: HostRuntime) {
+    let alloc = rt.alloc();
+    let given = at(1, command!(give 0 stock lower 5), Luck::Fine);
+    let mut world = world_after(&rt, alloc, &[given]);
+    let flight = reach_in(alloc, &mut world, SiteNo(0), STOCK, 20).err();
+    let outside = reach_in(alloc, &mut world, SiteNo(2), STOCK, 20).err();
+    let steps = world.steps(alloc).expect(&rt, "memory");
+    assert_eq!(rt;
+        [
+            flight == Some(ReachFault::InFlight { from: SiteNo(1) }),
+            outside == Some(ReachFault::NoSite),
+            steps.len() == 1 && steps[0] == given,
+        ],
+        [true; 3]
+    );
 }

@@ -8,7 +8,7 @@ use Rattle.world_steps.specs.declared.step.WorldStep.{WorldStep}
 use Rattle.reaching_steps.specs.Reach.{fine, moves}
 use Rattle.world_steps.specs.View.{trace_of}
 use Rattle.reaching_steps.specs.Body.{Grew}
-use Rattle.reaching_steps.proofs.Growing.{grew_as, grew_on, on_ok, three_are}
+use Rattle.reaching_steps.proofs.Growing.{grew_as, grew_on, grew_nothing, on_ok, three_are, none_there, none_are}
 use Rattle.reaching_steps.proofs.steps.move_field.Goals as goal
 
 pub returns-in_ok-ask-in-Some-2 : goal.returns-in_ok-ask-in-Some-2
@@ -39,4 +39,21 @@ returns-in_ok-ask-in-Some-2 c =
           (grew_on c.args.trial.now c.ask.new.trial c.ask-in-Some.new.trial c.args.taken.now.items c.ask.new.taken.items
           c.ask-in-Some.new.taken.items begin escrow c.in_ok-ask-in-Some.ensures.grew second) h))
           c.ask-in-Some-2.ensures.grew;
+    }
+
+pub returns-then-site-named : goal.returns-then-site-named
+returns-then-site-named c =
+    let w = c.args.trial.now in record {
+      grew = grew_nothing w c.args.taken.now.items _
+          (none_there w.schema c.args.named.0 c.args.field.0 c.args.target c.args.site.0 (trace_of w) c.if-site-named.true);
+    }
+
+pub returns-in-None : goal.returns-in-None
+returns-in-None c =
+    let w = c.args.trial.now in
+    let same = to_z-of_z c.ranges.target in
+    let told = rw same at c.in_ok-found.ensures.value in record {
+      grew = grew_nothing w c.args.taken.now.items _
+          (none_are w.schema c.args.named.0 c.args.field.0 c.args.target c.args.site.0 (trace_of w) c.if-site-named.false
+          (sym c.in-None.is ∙ told));
     }

@@ -1,11 +1,11 @@
-use Rattle.std.proofs.Common.{◌≡◌, ◌∙◌, ap, subst}
+use Rattle.std.proofs.Common.{◌∙◌, ap, subst}
 use Rattle.std.specs.Prelude.{IfOk, ℤ}
 use Rattle.std.proofs.Math.Facts.{to_z-of_z}
 use Rattle.field_bounds.specs.Schema.{SchemaValue}
 use Rattle.field_bounds.specs.Limits.{IsSchema}
 use Rattle.world_steps.specs.View.{WorldValue}
-use Rattle.reaching_steps.specs.Reach.{reach_steps}
-use Rattle.reaching_steps.specs.Body.{Does}
+use Rattle.reaching_steps.specs.Body.{HasReached, DoesWhereFit}
+use Rattle.reaching_steps.specs.Taken.{steps_of}
 use Rattle.reaching_steps.proofs.Firsts.{if_ok}
 use Rattle.reaching_steps.proofs.Growing.{does}
 use Rattle.reaching_steps.proofs.steps.plan_clear.Goals as goal
@@ -16,11 +16,12 @@ returns c =
     let same = to_z-of_z c.ranges.target in
     let good : IsSchema w.schema = subst (λ (s : SchemaValue). IsSchema s)
     (c.schema.ensures.value ∙ ap (λ (x : WorldValue). x.schema) c.world.ensures.value) c.sites-sites.ensures.limits in
-    let steps = subst (λ (z : ℤ). IfOk c.plan.result (λ taken. taken.items ≡ reach_steps w.schema w.steps c.args.named c.args.field z)) same
-    c.plan.ensures.steps in
+    let reached = subst (λ (z : ℤ). IfOk c.plan.result (λ taken. HasReached w c.args.named c.args.field z c.plan.new.trial taken.items))
+    same c.plan.ensures.reached in
     record {
-      steps = steps;
-      does = if_ok c.plan.result (λ taken. taken.items ≡ reach_steps w.schema w.steps c.args.named c.args.field c.args.target)
-          (λ taken. Does w c.args.named c.args.field c.args.target taken.items)
-          (λ taken is. does w c.args.named c.args.field c.args.target taken.items good c.requires.fit c.requires.clear is) steps;
+      reached = reached;
+      does = if_ok c.plan.result (λ taken. HasReached w c.args.named c.args.field c.args.target c.plan.new.trial taken.items)
+          (λ taken. DoesWhereFit w c.args.named c.args.field c.args.target (steps_of taken.items))
+          (λ taken is fit. does w c.args.named c.args.field c.args.target (steps_of taken.items) good fit c.requires.clear is.steps)
+          reached;
     }
