@@ -5,6 +5,7 @@ pub mod LevelLemmas
 pub mod AimLines
 pub mod AimLemmas
 pub mod AnswerLemmas
+pub mod TakenLemmas
 pub mod TextLemmas
 pub mod RunLemmas
 pub mod CountLemmas

@@ -13,6 +13,8 @@ use Rattle.world_steps.specs.declared.step.WorldStep.{WorldStep}
 use Rattle.world_steps.specs.declared.step.WorldStep.TheVariants.{Do, Deliver}
 use Rattle.field_bounds.specs.declared.entry.Entry.{Entry}
 use Rattle.world_steps.specs.View.{WorldValue}
+use Rattle.reaching_steps.specs.declared.taken.StepTaken.{StepTaken}
+use Rattle.reaching_steps.specs.Taken.{steps_of, with_steps, AreAnswered}
 use Rattle.script_input.specs.Lines.{whole_lines, script_lines}
 use Rattle.script_input.specs.Reader.{passed_over, Reads, GaveAll, StopsAt}
 use Rattle.script_input.specs.Faults.{HasEndedAt, IsWithin, Explains}
@@ -41,6 +43,12 @@ pub record HasTaken (steps : List WorldStep) (old new : WorldValue) (out grown :
   pub taken : new ≡ record old { steps = old.steps ++ steps }
   pub answered : AreReplies old.schema (reverse old.steps) (reverse steps) replies
   pub written : grown ≡ out ++ replies
+
+-- What is to be written has grown by what answers steps, by whatever world of the schema they were taken and answered so.
+abbrev pub Tells : SchemaValue → List StepTaken → List ℕ → List ℕ → Type 0
+Tells schema taken out grown =
+    (old : WorldValue) → old.schema ≡ schema → AreAnswered old taken
+    → HasTaken (steps_of taken) old (with_steps old (steps_of taken)) out grown
 
 -- The output is written.
 pub record HasWritten (old new : Script) : Type 0 where

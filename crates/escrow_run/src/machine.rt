@@ -4,7 +4,7 @@ ghost use Rattle.std.specs.Prelude.{◌≡◌, [], ◌∷◌, ◌++◌, length, 
 ghost use Rattle.std.specs.Fmt.{decimal};
 ghost use Rattle.entry_text.specs.Spelling.{command_text, entry_text};
 ghost use Rattle.escrow_run.specs.Text.{line_text};
-ghost use Rattle.escrow_run.specs.Run.{IsSpelled};
+ghost use Rattle.escrow_run.specs.Run.{IsSpelled, Tells};
 
 use crate::aim::{Aim, reason};
 use crate::level::{Level, gifts};
@@ -12,7 +12,7 @@ use crate::line::{Line, read_line, spelled};
 use entry_text::{append_entry, append_reply};
 use field_bounds::{Entry, Schema};
 use itoa::Buffer;
-use reaching_steps::reach;
+use reaching_steps::{StepTaken, reach_in};
 use std::alloc::{AllocError, Global};
 use world_steps::{StepReply, World, WorldStep};
 
@@ -82,6 +82,49 @@ fn add_made(
         None => append_entry(out, schema, entry)?,
     }
     out.extend_from_slice(b"\n")
+}
+
+// Adds what answered a step that was taken: the text of its entry, or the remark.
+fn add_reply(out: &mut Vec<u8>, schema: &Schema, one: &StepTaken) -> Result<(), AllocError>
+    ensures ok { OnOk result (Tells schema.now (one.now ∷ []) out.old.items out.new.items) }
+    ensures grows { OnOk result (take (length out.old.items) out.new.items ≡ out.old.items) }
+    ensures err { OnErr result (take (length out.old.items) out.new.items ≡ out.old.items) }
+{
+    match one.reply {
+        StepReply::Made(entry) => add_made(out, schema, None, entry),
+        StepReply::NoStatement => match one.step {
+            WorldStep::Do { .. } => Ok(()),
+            WorldStep::Deliver { k, .. } => add_remark(out, k),
+        },
+    }
+}
+
+// Adds what answered steps that were taken, one after another.
+fn add_replies(out: &mut Vec<u8>, schema: &Schema, taken: &[StepTaken]) -> Result<(), AllocError>
+    ensures ok { OnOk result (Tells schema.now taken.now out.old.items out.new.items) }
+    ensures err { OnErr result (take (length out.old.items) out.new.items ≡ out.old.items) }
+{
+    for one in taken {
+        add_reply(out, schema, one)?;
+    }
+    Ok(())
+}
+
+// Adds how many steps a line took together, then what answered each.
+fn add_taken(
+    out: &mut Vec<u8>,
+    schema: &Schema,
+    line: &[u8],
+    taken: &[StepTaken],
+) -> Result<(), AllocError>
+    ensures ok { OnOk result (Tells schema.now taken.now
+        (out.old.items ++ line_text (line.now ++ codes " -> steps " ++ decimal (length taken.now)))
+        out.new.items) }
+    ensures err { OnErr result (take (length out.old.items) out.new.items ≡ out.old.items) }
+{
+    let mut buffer = Buffer::new();
+    add_told(out, line, b" -> steps ", buffer.format(taken.len() as u64))?;
+    add_replies(out, schema, taken)
 }
 
 /// The world under the schema of a header line.
@@ -199,8 +242,8 @@ impl Machine {
             out.old.items out.new.items) }
         ensures err { OnErr result (take (length out.old.items) out.new.items ≡ out.old.items) }
     {
-        match reach(alloc, &self.world, aim.site, aim.field, aim.target) {
-            Ok(steps) => self.carry_out(alloc, line, b" -> steps ", steps.as_slice(), out),
+        match reach_in(alloc, &mut self.world, aim.site, aim.field, aim.target) {
+            Ok(taken) => add_taken(out, self.world.schema(), line, taken.as_slice()),
             Err(fault) => match reason(fault) {
                 Some(word) => add_told(out, line, b" -> no ", word),
                 None => Err(AllocError),
