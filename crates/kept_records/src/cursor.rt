@@ -53,6 +53,7 @@ impl<'a> Cursor<'a> {
     /// ends in the bytes that are left. The bytes are a log. The error is want of memory; it leaves
     /// the cursor where it was. Costs a pass over the line. Memory is taken for a summary, and for
     /// the escrows of a commit that has more of them than each one before that was given back.
+    #[inline(always)]
     pub fn next(&mut self, alloc: Global) -> Result<Option<Record>, AllocError>
         requires log { IsKept self.old }
         ensures handed { IfOk result (λ next. HandsOut self.old next self.new) }
@@ -70,6 +71,19 @@ impl<'a> Cursor<'a> {
             self.left = behind;
             return Ok(Some(Record::Restart { epoch }));
         }
+        self.next_line(alloc)
+    }
+
+    // The same, where the next line may be any.
+    #[inline(never)]
+    fn next_line(&mut self, alloc: Global) -> Result<Option<Record>, AllocError>
+        requires log { IsKept self.old }
+        ensures handed { IfOk result (λ next. HandsOut self.old next self.new) }
+        ensures log { IfOk result (λ _. IsKept self.new) }
+        ensures shorter { IfOk result (λ next. IfSome next
+            (λ _. length self.new < length self.old)) }
+        ensures stays { OnErr result (self.new ≡ self.old) }
+    {
         let Some(end) = line_feed(self.left) else {
             return Ok(None);
         };

@@ -62,6 +62,7 @@ impl<'a> RecordLines<'a> {
     /// bytes as they are. The error is want of memory; it leaves them too. Costs a pass over the
     /// line. Memory is taken for a summary, and for the escrows of a commit that has more of them
     /// than each one before that was given back.
+    #[inline(always)]
     pub fn next(&mut self, alloc: Global) -> Result<RecordLine, AllocError>
         ensures handed { IfOk result (λ line. HandsLine self.old line self.new) }
         ensures shorter { IfOk result (λ line. IsFewer self.old line self.new) }
@@ -77,6 +78,17 @@ impl<'a> RecordLines<'a> {
             self.left = behind;
             return Ok(RecordLine::Record(Record::Restart { epoch }));
         }
+        self.next_line(alloc)
+    }
+
+    // The same, where the next line may be any.
+    #[inline(never)]
+    fn next_line(&mut self, alloc: Global) -> Result<RecordLine, AllocError>
+        ensures handed { IfOk result (λ line. HandsLine self.old line self.new) }
+        ensures shorter { IfOk result (λ line. IsFewer self.old line self.new) }
+        ensures within { length self.new ≤ length self.old }
+        ensures stays { OnErr result (self.new ≡ self.old) }
+    {
         let Some(end) = line_feed(self.left) else {
             return Ok(RecordLine::End);
         };

@@ -9,25 +9,30 @@ ghost use Rattle.kept_records.specs.Lines.{IsCommitAt, IsRestartAt};
 use crate::reading::MAX_PLACE;
 use field_bounds::{Escrow, FieldNo, MAX_CHANGE, MAX_EPOCH, MAX_ESCROWS, MAX_NUMBER, TxnId};
 
-// More digits than these aren't read here.
-const MOST_DIGITS: usize = 18;
+// A number of more digits isn't read here.
+const LARGE: u64 = 100_000_000_000_000_000;
 
-// The number whose digits the bytes begin with, up to the first byte that is no digit or so many of
-// them, and what stands behind them.
+// The number whose digits the bytes begin with, up to the first byte that is no digit, and what
+// stands behind them. Behind a 0 no more digits are read.
 #[inline(always)]
 fn number(bytes: &[u8]) -> Option<(u64, &[u8])>
     ensures spelled { IfSome result (λ read. bytes.now ≡ decimal read.0 ++ read.1.now) }
     ensures small { IfSome result (λ read. read.0 < 10 ^ 18) }
 {
-    let most = bytes.len().min(MOST_DIGITS);
-    let mut value: u64 = 0;
-    let mut count: usize = 0;
-    while count < most && bytes[count].is_ascii_digit() {
+    if bytes.is_empty() || !bytes[0].is_ascii_digit() {
+        return None;
+    }
+    let mut value = u64::from(bytes[0] - b'0');
+    let mut count: usize = 1;
+    if value == 0 {
+        return Some((0, &bytes[1..]));
+    }
+    while count < bytes.len() && bytes[count].is_ascii_digit() {
+        if value >= LARGE {
+            return None;
+        }
         value = value * 10 + u64::from(bytes[count] - b'0');
         count += 1;
-    }
-    if count == 0 || (count > 1 && bytes[0] == b'0') {
-        return None;
     }
     Some((value, &bytes[count..]))
 }

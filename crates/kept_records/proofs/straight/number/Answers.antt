@@ -1,68 +1,74 @@
-use Rattle.std.proofs.Common.{◌≡◌, ℕ, ◌<◌, ◌≤◌, ◌^◌, ◌++◌, List, length, get_or, take, drop, sym, ap, ◌∙◌, arith}
+use Rattle.std.proofs.Common.{rules, refl, true, ◌≡◌, ℕ, ◌+◌, ◌<◌, ◌≤◌, ◌^◌, ◌*◌, ◌-◌, ◌++◌, List, length, get_or, take, drop, sym, ap, ◌∙◌, arith}
 use Rattle.std.specs.Fmt.{decimal}
-use Rattle.std.proofs.lemmas.Bool.Decides.{nat_tests}
 use Rattle.std.specs.Str.Parse.{digits_value, AllDigits}
-use Rattle.std.proofs.Math.Nat.{pow-le-pow_right}
-use Rattle.std.proofs.lemmas.Int.Digits.{digits_value_more, digits_more, digits_value-lt}
+use Rattle.std.specs.Char.{is_ascii_digit}
+use Rattle.std.proofs.lemmas.Bool.Decides.{nat_tests}
+use Rattle.std.proofs.lemmas.Int.Digits.{digits_value_more, digits_more}
 use Rattle.std.proofs.lemmas.List.{take-append-drop, take_rest, length-take, get_or-take}
 use Rattle.line_words.proofs.Numbers.{number_good, number_takes, digit_is}
 use Rattle.kept_records.proofs.straight.number.Goals as goal
-use Rattle.kept_records.proofs.straight.number.Goals.{then-count-gt1, else-count-gt1}
 
--- so many digits write a number that is not too large
-value_below : (w : List ℕ) (n most : ℕ) → AllDigits 10 (take n w) → n ≤ most → digits_value 10 (take n w) < 10 ^ most
-value_below w n most digits few =
-    let below : digits_value 10 (take n w) < 10 ^ length (take n w) = digits_value-lt 10 (take n w) digits in
-    let short : length (take n w) ≤ most = omega (arith, length-take n w) in
-    let more : 10 ^ length (take n w) ≤ 10 ^ most = pow-le-pow_right (omega arith) short in
-    omega (arith, below, more)
+-- digits at the front, the first other than 0 or alone
+spelled : (w : List ℕ) (n v : ℕ) → 0 < n → n ≤ length w → AllDigits 10 (take n w) → (get_or w 0 0 ≡ 48 → n ≡ 1)
+    → v ≡ digits_value 10 (take n w) → v < 2 ^ 64 → w ≡ decimal v ++ take (length w - n) (drop n w)
+spelled w n v some within digits alone value_is small =
+    let size : length (take n w) ≡ n = omega (arith, length-take n w) in
+    let first : get_or (take n w) 0 0 ≡ get_or w 0 0 = get_or-take n w 0 0 some in
+    let start : get_or (take n w) 0 0 ≡ 48 → length (take n w) ≡ 1 = λ zero. size ∙ alone (sym first ∙ zero) in
+    let good = number_good (2 ^ 64) (take n w) v (omega arith) digits (omega arith) start value_is small in
+    let read = number_takes (2 ^ 64) (take n w) v good in
+    sym (take-append-drop n w) ∙ ap (λ (l : List ℕ). l ++ drop n w) read.1
+    ∙ ap (λ (l : List ℕ). decimal v ++ l) (sym (take_rest w n))
 
-pub overflow_mul-value : goal.overflow_mul-value
-overflow_mul-value c =
-    let below = value_below c.args.bytes.now c.loop-count.count 17 c.loop-count.invariant.digits (omega arith) in
-    omega (arith, below, c.loop-count.invariant.value_is)
+-- a digit alone
+one_digit : (w : List ℕ) → 0 < length w → is_ascii_digit (get_or w 0 0) ≡ true
+    → AllDigits 10 (take 1 w) × (digits_value 10 (take 1 w) ≡ get_or w 0 0 - 48)
+one_digit w some is =
+    let d = digit_is (get_or w 0 0) is in
+    let none : AllDigits 10 (take 0 w) = search rules in
+    let zero : digits_value 10 (take 0 w) ≡ 0 = search rules in
+    (digits_more 10 w 0 some none d.0, omega (arith, digits_value_more 10 w 0 some, zero, d.2))
 
-pub overflow_add-value : goal.overflow_add-value
-overflow_add-value c =
-    let below = value_below c.args.bytes.now c.loop-count.count 17 c.loop-count.invariant.digits (omega arith) in
-    let d = digit_is (get_or c.args.bytes.now c.loop-count.count 0) (sym c.if-is_ascii_digit.ensures.value) in
-    omega (arith, below, c.loop-count.invariant.value_is, c.from.ensures, d.0)
-
-pub returns-clause-small : goal.returns-clause-small
-returns-clause-small c =
-    let below = value_below c.args.bytes.now c.loop-count.count 18 c.loop-count.invariant.digits (omega arith) in
-    omega (arith, below, c.loop-count.invariant.value_is)
+pub loop-count-init : goal.loop-count-init
+loop-count-init c =
+    let w = c.args.bytes.now in
+    let is = sym c.if-not-is_ascii_digit.ensures.value in
+    let some : 0 < length w = grind (arith, nat_tests) in
+    let one = one_digit w some is in
+    let d = digit_is (get_or w 0 0) is in
+    record {
+      some = omega arith;
+      within = omega arith;
+      first = λ zero. c.if-value-eq0.false (omega (arith, c.from-value.ensures, zero));
+      digits = one.0;
+      value_is = omega (arith, c.from-value.ensures, one.1);
+      below = omega (arith, c.from-value.ensures, d.0, d.2);
+    }
 
 pub loop-count-preserved : goal.loop-count-preserved
 loop-count-preserved c =
     let i = c.loop-count.count in
     let w = c.args.bytes.now in
     let d = digit_is (get_or w i 0) (sym c.if-is_ascii_digit.ensures.value) in
+    let was = c.loop-count.invariant in
     record {
+      some = omega arith;
       within = omega arith;
-      most = omega arith;
-      few = omega arith;
-      digits = digits_more 10 w i (omega arith) c.loop-count.invariant.digits d.0;
-      value_is = omega (arith, digits_value_more 10 w i (omega arith), c.loop-count.invariant.value_is, c.from.ensures);
+      first = was.first;
+      digits = digits_more 10 w i c.loop-count-test.true was.digits d.0;
+      value_is = omega (arith, digits_value_more 10 w i c.loop-count-test.true, was.value_is, c.from.ensures);
+      below = omega (arith, c.from.ensures);
     }
 
 pub returns-clause-spelled : goal.returns-clause-spelled
 returns-clause-spelled c =
+    let was = c.loop-count.invariant in
+    spelled c.args.bytes.now c.loop-count.count c.loop-count.value was.some was.within was.digits (λ zero. absurd (was.first zero)) was.value_is
+    (omega arith)
+
+pub returns-then-value-eq0-clause-spelled : goal.returns-then-value-eq0-clause-spelled
+returns-then-value-eq0-clause-spelled c =
     let w = c.args.bytes.now in
-    let n = c.loop-count.count in
-    let v = c.loop-count.value in
-    let some : 0 < n = omega arith in
-    let size : length (take n w) ≡ n = omega (arith, length-take n w, c.loop-count.invariant.within) in
-    let first : get_or (take n w) 0 0 ≡ get_or w 0 0 = get_or-take n w 0 0 some in
-    let start : get_or (take n w) 0 0 ≡ 48 → length (take n w) ≡ 1 = λ zero.
-    elim c.if-count-gt1.branch [
-      | then-count-gt1 b ↦ let is : get_or w 0 0 ≡ 48 = sym first ∙ zero in grind (arith, nat_tests)
-      | else-count-gt1 b ↦ omega arith
-    ] in
-    let below = value_below w n 18 c.loop-count.invariant.digits (omega arith) in
-    let fits : v < 2 ^ 64 = omega (arith, below, c.loop-count.invariant.value_is) in
-    let good = number_good (2 ^ 64) (take n w) v (omega arith) c.loop-count.invariant.digits (omega arith) start c.loop-count.invariant.value_is
-    fits in
-    let spelled = number_takes (2 ^ 64) (take n w) v good in
-    sym (take-append-drop n w) ∙ ap (λ (l : List ℕ). l ++ drop n w) spelled.1
-    ∙ ap (λ (l : List ℕ). decimal v ++ l) (sym (take_rest w n))
+    let some : 0 < length w = grind (arith, nat_tests) in
+    let one = one_digit w some (sym c.if-not-is_ascii_digit.ensures.value) in
+    spelled w 1 0 (omega arith) (omega (arith, some)) one.0 (λ zero. refl) (omega (arith, one.1, c.from-value.ensures, c.if-value-eq0.true)) (omega arith)

@@ -1,4 +1,4 @@
-use Rattle.std.proofs.Common.{◌≡◌, ◌+◌, ◌-◌, ◌++◌, ℕ, List, length, take, drop, Some, None, sym, ap, subst, ◌∙◌}
+use Rattle.std.proofs.Common.{◌≡◌, ◌+◌, ◌-◌, ◌++◌, ℕ, List, length, take, drop, Some, None, refl, sym, ap, subst, ◌∙◌}
 use Rattle.std.proofs.lemmas.List.{take_rest}
 use Rattle.line_words.specs.Words.{words}
 use Rattle.kept_records.specs.declared.record.Record.{Record}
@@ -9,12 +9,12 @@ use Rattle.kept_records.specs.Lines.{IsRecordAt, StartsBad}
 use Rattle.kept_records.proofs.Bytes.{Cut, found, missing}
 use Rattle.kept_records.proofs.Cursors.{fewer}
 use Rattle.kept_records.proofs.Walks.{record_at, starts_bad}
-use Rattle.kept_records.proofs.record_lines.RecordLines.next.Goals as goal
+use Rattle.kept_records.proofs.record_lines.RecordLines.next_line.Goals as goal
 
-pub returns-in_default-line_feed-clause-handed : goal.returns-in_default-line_feed-clause-handed
-returns-in_default-line_feed-clause-handed c = (
-  subst HasNoLf c.self.view_is (missing 10 c.self.inside.left.now (sym c.in_default-line_feed.ensures)),
-  c.self.view_is,
+pub returns-in_default-clause-handed : goal.returns-in_default-clause-handed
+returns-in_default-clause-handed c = (
+  subst HasNoLf c.self.view_is (missing 10 c.self.inside.left.now (sym c.in_default.ensures)),
+  refl,
 )
 
 -- the line, and what the slice behind it is
@@ -28,20 +28,20 @@ taken old left end kept same cut is =
     }
 
 pub returns-in-Ok-clause-handed : goal.returns-in-Ok-clause-handed
-returns-in-Ok-clause-handed c = taken c.args.self.now c.self.inside.left.now c.in-Some-line_feed.end c.in-Ok.kept c.self.view_is
-    (found 10 c.self.inside.left.now c.in-Some-line_feed.end (sym c.in-Some-line_feed.ensures)) c.in-Ok.ensures
+returns-in-Ok-clause-handed c = taken c.args.self.now c.self.inside.left.now c.in-Some.end c.in-Ok.kept c.self.view_is
+    (found 10 c.self.inside.left.now c.in-Some.end (sym c.in-Some.ensures)) c.in-Ok.ensures
 
 pub returns-in-Ok-clause-shorter : goal.returns-in-Ok-clause-shorter
 returns-in-Ok-clause-shorter c =
     let left = c.self.inside.left.now in
-    let end = c.in-Some-line_feed.end in
-    let at = taken c.args.self.now left end c.in-Ok.kept c.self.view_is (found 10 left end (sym c.in-Some-line_feed.ensures)) c.in-Ok.ensures in
+    let end = c.in-Some.end in
+    let at = taken c.args.self.now left end c.in-Ok.kept c.self.view_is (found 10 left end (sym c.in-Some.ensures)) c.in-Ok.ensures in
     fewer c.args.self.now (take (length left - (end + 1)) (drop (end + 1) left)) c.in-Ok.kept at.parts
 
 pub returns-in-Err-NoRecord-clause-handed : goal.returns-in-Err-NoRecord-clause-handed
 returns-in-Err-NoRecord-clause-handed c =
     let left = c.self.inside.left.now in
-    let end = c.in-Some-line_feed.end in
+    let end = c.in-Some.end in
     let none : record_of (words (take end left)) ≡ None = rw c.in-Err-NoRecord.field-0-is at c.in-Err-NoRecord.ensures in
-    let bad = starts_bad left end (found 10 left end (sym c.in-Some-line_feed.ensures)) none in
+    let bad = starts_bad left end (found 10 left end (sym c.in-Some.ensures)) none in
     (subst StartsBad c.self.view_is bad, c.self.view_is)
