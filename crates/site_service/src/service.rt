@@ -71,8 +71,7 @@ impl<F: LogFile + Drop> Service<F> {
     /// `Line(n)`: line n of the log, from 1, is the first that is no record or breaks a rule of a
     /// kept log; that never comes over what a service left, wherever a stop fell. `Device`: a call
     /// of a file failed. `NoMemory`: memory is wanting. Either lets go of the log. Costs two syncs
-    /// of the log and one of the trace, memory for the bytes of the log, and for its records until it is
-    /// open.
+    /// of the log and one of the trace, and memory for the bytes of the log, twice until it is open.
     pub fn open<T: LogFile>(
         alloc: Global,
         schema: Schema,
