@@ -17,6 +17,7 @@ pub mod FirstNumber
 pub mod Walking
 pub mod Owning
 pub mod Firsts
+pub mod Quick
 pub mod Reading
 pub mod Table
 pub mod OnePass

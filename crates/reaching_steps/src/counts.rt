@@ -4,7 +4,7 @@ ghost use Rattle.std.specs.Prelude.{◌≡◌, ◌<◌, ◌≤◌, ◌+◌, ◌�
 ghost use Rattle.field_bounds.specs.declared.entry.Entry.{Entry};
 ghost use Rattle.field_bounds.specs.Schema.{SchemaValue};
 ghost use Rattle.field_bounds.specs.Effects.{fresh};
-ghost use Rattle.field_bounds.specs.Owed.{is_up, up_after, epoch_of, epoch_after, count_since, count_after, is_begun_reply};
+ghost use Rattle.field_bounds.specs.Owed.{epoch_of, epoch_after, count_since, count_after, is_begun_reply};
 ghost use Rattle.field_bounds.specs.Central.{own};
 
 use field_bounds::{Entry, Reply, SiteNo};
@@ -64,40 +64,4 @@ pub(crate) fn numbers_at(trace: &[Entry], site: SiteNo) -> (u32, u64)
         (epoch, count) = read_entry(epoch, count, entry, site);
     }
     (epoch, count)
-}
-
-/// Whether a site is up after a reply.
-fn up_after(up: bool, reply: Reply) -> bool
-    ensures value { result ≡ up_after up reply }
-{
-    match reply {
-        Reply::Restarted { epoch: _, last: _ } => true,
-        Reply::Unsure => false,
-        Reply::StillDown => false,
-        _ => up,
-    }
-}
-
-/// One more entry is read: whether the site is up after it.
-fn read_up(up: bool, entry: &Entry, site: SiteNo) -> bool
-    ensures value { (schema : SchemaValue) (t : List Entry)
-        → up ≡ is_up (fresh schema site.0) (own site.0 t) →
-        result ≡ is_up (fresh schema site.0) (own site.0 (entry.now ∷ t)) }
-{
-    if entry.site.0 != site.0 {
-        return up;
-    }
-    up_after(up, entry.reply)
-}
-
-/// Whether a site is up, after a trace with the oldest entry first.
-pub(crate) fn up_at(trace: &[Entry], site: SiteNo) -> bool
-    ensures value { (schema : SchemaValue) → result
-        ≡ is_up (fresh schema site.0) (own site.0 (reverse trace.now)) }
-{
-    let mut up = true;
-    for entry in trace {
-        up = read_up(up, entry, site);
-    }
-    up
 }

@@ -11,7 +11,7 @@ ghost use Rattle.world_steps.specs.View.{trace_of};
 ghost use Rattle.reaching_steps.specs.Reach.{first_fault, fault_if, lies_outside, least, is_down, is_short_of, is_unstated, is_tightened, has_no_number, reach_fault};
 ghost use Rattle.reaching_steps.specs.Body.{is_cut_at, is_short_from, is_untold_to, from_up, from_flight, from_unstated, from_tightened, from_numbers, from_outside};
 
-use crate::counts::{numbers_at, up_at};
+use crate::counts::numbers_at;
 use crate::fault::ReachFault;
 use crate::readers::number_told;
 use crate::shares::{accepted_at, given_at, guarded_at, has_cut};
@@ -19,19 +19,26 @@ use crate::trial::Trial;
 use field_bounds::{FieldNo, Kind, MAX_NUMBER, SiteNo};
 use std::alloc::{AllocError, Global};
 
-/// Whether a site is down.
-fn is_down(trial: &Trial, site: SiteNo) -> bool
+/// Whether a site is down: then it tells no share of a field, which is in the schema.
+fn is_down(trial: &Trial, field: FieldNo, site: SiteNo) -> bool
+    requires in_schema { site.0 < trial.now.schema.sites }
+    requires known { field.0 < length trial.now.schema.fields }
     ensures value { result ≡ is_down trial.now.schema (trace_of trial.now) site.0 }
 {
-    !up_at(trial.world().trace(), site)
+    match trial.world().share(site, field) {
+        Some(_) => false,
+        None => true,
+    }
 }
 
 /// The first site that is down.
-fn first_down(trial: &Trial, sites: u16) -> Option<u16>
+fn first_down(trial: &Trial, field: FieldNo, sites: u16) -> Option<u16>
+    requires known { field.0 < length trial.now.schema.fields }
+    requires all { sites ≡ trial.now.schema.sites }
     ensures value { result ≡ least sites (is_down trial.now.schema (trace_of trial.now)) }
 {
     for site in 0..sites {
-        if is_down(trial, SiteNo(site)) {
+        if is_down(trial, field, SiteNo(site)) {
             return Some(site);
         }
     }
@@ -149,8 +156,8 @@ fn has_no_number(trial: &Trial, named: SiteNo, site: SiteNo) -> bool
     site.0 != named.0 && count >= u64::from(MAX_NUMBER)
 }
 
-/// The first such site.
-fn first_full(trial: &Trial, named: SiteNo, sites: u16) -> Option<u16>
+/// The first such site, each looked for in the trace.
+fn first_full_there(trial: &Trial, named: SiteNo, sites: u16) -> Option<u16>
     ensures value { result ≡ least sites (has_no_number trial.now.schema
         (trace_of trial.now) named.0) }
 {
@@ -160,6 +167,17 @@ fn first_full(trial: &Trial, named: SiteNo, sites: u16) -> Option<u16>
         }
     }
     None
+}
+
+/// The first such site. Where the trace is shorter than the last number there is none.
+fn first_full(trial: &Trial, named: SiteNo, sites: u16) -> Option<u16>
+    ensures value { result ≡ least sites (has_no_number trial.now.schema
+        (trace_of trial.now) named.0) }
+{
+    if (trial.world().trace().len() as u64) < u64::from(MAX_NUMBER) {
+        return None;
+    }
+    first_full_there(trial, named, sites)
 }
 
 /// Whether a value lies outside an interval.
@@ -357,7 +375,7 @@ fn fault_up(
         (from_up trial.now.schema (trace_of trial.now) site field target)) }
 {
     let sites = trial.world().schema().sites();
-    let found = first_down(trial, sites);
+    let found = first_down(trial, field, sites);
     match found {
         Some(at) => Ok(Some(ReachFault::NotUp { site: SiteNo(at) })),
         None => fault_flight(alloc, trial, site, field, target),

@@ -1,12 +1,17 @@
-use Rattle.std.proofs.Common.{◌∙◌, sym}
-use Rattle.world_steps.specs.View.{trace_of}
-use Rattle.reaching_steps.specs.Reach.{has_no_number}
-use Rattle.reaching_steps.proofs.Firsts.{found_is}
+use Rattle.std.proofs.Common.{◌≡◌, ◌<◌, ◌∙◌, List, length, sym, ap, arith}
+use Rattle.std.proofs.lemmas.List.{length-reverse}
+use Rattle.field_bounds.specs.declared.entry.Entry.{Entry}
+use Rattle.field_bounds.specs.Owed.{max_number}
+use Rattle.world_steps.specs.View.{WorldValue, trace_of}
+use Rattle.reaching_steps.proofs.Quick.{none_full}
 use Rattle.reaching_steps.proofs.faults.first_full.Goals as goal
 
-pub returns-then-has_no_number : goal.returns-then-has_no_number
-returns-then-has_no_number c = record {
-  value = found_is
-      (has_no_number c.args.trial.now.schema (trace_of c.args.trial.now) c.args.named.0) c.loop-site.site c.args.sites c.loop-site-test.true
-      c.loop-site.invariant (sym c.has_no_number.ensures.value ∙ c.if-has_no_number.true);
-}
+pub returns-then-trace-from : goal.returns-then-trace-from
+returns-then-trace-from c =
+    let w = c.args.trial.now in
+    let trace = c.trace.result.now in
+    let long : length (trace_of w) ≡ length trace =
+    sym (ap (λ (l : List Entry). length l) (c.trace.ensures.world ∙ ap (λ (x : WorldValue). trace_of x) c.world.ensures.value))
+    ∙ length-reverse trace in
+    let short : length (trace_of w) < max_number = omega (arith, long, c.if-trace-from.true, c.from.ensures) in
+    record { value = none_full w.schema (trace_of w) c.args.named.0 c.args.sites short }
