@@ -1,5 +1,5 @@
 -- What the parts of the body leave, one after another.
-use Rattle.std.proofs.Common.{◌≡◌, ◌≢◌, ℕ, zero, suc, ◌+◌, ◌<◌, length, take, get_or, map, Bool, true, false, cond, eqb, Some, None, All, List, [], ◌∷◌, ◌++◌, refl, sym, ◌∙◌, ap, subst, arith}
+use Rattle.std.proofs.Common.{◌≡◌, ◌≢◌, ℕ, zero, suc, ◌+◌, ◌<◌, length, take, get_or, map, Bool, true, false, ◌&&◌, cond, eqb, Some, None, All, List, [], ◌∷◌, ◌++◌, refl, sym, ◌∙◌, ap, subst, arith}
 use Rattle.std.proofs.lemmas.List.{append_assoc, append-nil, map-append, map_more}
 use Rattle.std.proofs.lemmas.Bool.{ne_eqb, eq-eqb, eqb-false}
 use Rattle.std.specs.Prelude.{OnOk, Result, Ok, Err, ℤ, ◌-ℤ◌, unsigned_abs}
@@ -7,7 +7,10 @@ use Rattle.field_bounds.specs.declared.id.SiteNo.{SiteNo}
 use Rattle.field_bounds.specs.declared.id.FieldNo.{FieldNo}
 use Rattle.field_bounds.specs.declared.id.TxnId.{TxnId}
 use Rattle.field_bounds.specs.declared.kind.Kind.TheVariants.{Lower, Raise}
-use Rattle.field_bounds.specs.declared.entry.Command.TheVariants.{Begin, Escrow, Commit}
+use Rattle.field_bounds.specs.declared.entry.Command.TheVariants.{Begin, Escrow, Commit, Restate}
+use Rattle.kept_state.specs.declared.luck.Luck.TheVariants.{Fine}
+use Rattle.world_steps.specs.declared.step.WorldStep.TheVariants.{Deliver}
+use Rattle.field_bounds.specs.declared.kind.Kind.{Kind}
 use Rattle.field_bounds.specs.Effects.{fresh, share}
 use Rattle.field_bounds.specs.Limits.{IsSchema}
 use Rattle.field_bounds.specs.declared.entry.Entry.{Entry}
@@ -15,9 +18,9 @@ use Rattle.field_bounds.specs.Central.{at_site, committed_value}
 use Rattle.field_bounds.specs.Schema.{SchemaValue}
 use Rattle.world_steps.specs.declared.step.WorldStep.{WorldStep}
 use Rattle.world_steps.specs.declared.step.StepReply.{StepReply}
-use Rattle.world_steps.specs.World.{StepFits}
+use Rattle.world_steps.specs.World.{StepFits, statements_issued}
 use Rattle.world_steps.specs.View.{WorldValue, trace_of, Answers}
-use Rattle.reaching_steps.specs.Reach.{Task, steps_of_tasks, over_sites, fine, towards, next_txn, changes_by, moves, move_tasks, aborts, passes_on, tasks, same_value, reach_fault, reach_steps}
+use Rattle.reaching_steps.specs.Reach.{number_of, telling, is_wanting, restates, delivers, Task, steps_of_tasks, over_sites, fine, towards, next_txn, changes_by, moves, move_tasks, aborts, passes_on, tasks, same_value, reach_fault, reach_steps}
 use Rattle.reaching_steps.specs.Body.{Grew, HasReached, Does, change_of}
 use Rattle.reaching_steps.specs.Taken.{steps_of, with_steps, AreAnswered}
 use Rattle.reaching_steps.specs.declared.taken.StepTaken.{StepTaken}
@@ -142,6 +145,24 @@ pub grew_both : (w x y : WorldValue) (had mid has : List StepTaken) (a b : Schem
 grew_both w x y had mid has a b g h =
     grew_tasks w x y had mid has (λ s. a s ∷ []) (λ s. b s ∷ []) (grew_task w x had mid (a w.schema) g)
     (grew_task x y mid has (b x.schema) h)
+
+not_wanted : (b : Bool) (n : ℕ) → None ≡ cond b (Some n) None → b ≡ false
+not_wanted true n h = cc
+not_wanted false n h = refl
+
+-- nothing is passed on where nothing is wanted
+pub grew_unpassed : (w : WorldValue) (had : List StepTaken) (named f from to n : ℕ) (k : Kind)
+    → None ≡ cond (is_wanting w.schema named f from to k (trace_of w)) (Some n) None
+    → Grew w had (steps_of_tasks w.schema w.steps (restates w.schema named f from to k ∷ delivers w.schema named f from to k ∷ [])) w had
+grew_unpassed w had named f from to n k none =
+    let off = not_wanted (is_wanting w.schema named f from to k (trace_of w)) n none in
+    let number = number_of (telling w.schema (trace_of w) f k from to) (statements_issued (trace_of w)) in
+    grew_both w w w had had had (λ (schema : SchemaValue). restates schema named f from to k)
+    (λ (schema : SchemaValue). delivers schema named f from to k)
+    (grew_nothing w had (restates w.schema named f from to k (trace_of w))
+    (ap (λ (b : Bool). cond (b && eqb number 0) (fine from (Restate (record { 0 = to }) (record { 0 = f }) k) ∷ []) []) off))
+    (grew_nothing w had (delivers w.schema named f from to k (trace_of w))
+    (ap (λ (b : Bool). cond b (Deliver number Fine ∷ []) []) off))
 
 pub on_ok : {A E : Type 0} (r : Result A E) (P Q : Type 0) → (P → Q) → OnOk r P → OnOk r Q
 on_ok (Ok x) P Q f h = f h

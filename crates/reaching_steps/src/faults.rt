@@ -59,6 +59,9 @@ fn is_short_of(
         (trace_of trial.now) field.0 to.0 from.0 kind) }
 {
     let given = given_at(trial, from, to, field, kind)?;
+    if given == 0 {
+        return Ok(false);
+    }
     let accepted = accepted_at(trial, from, to, field, kind)?;
     Ok(accepted < given)
 }

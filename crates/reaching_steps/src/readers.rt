@@ -52,6 +52,9 @@ pub(crate) fn number_wanted(
         return Ok(None);
     }
     let given = given_at(trial, from, to, field, kind)?;
+    if given == 0 {
+        return Ok(None);
+    }
     let accepted = accepted_at(trial, from, to, field, kind)?;
     if accepted >= given {
         return Ok(None);

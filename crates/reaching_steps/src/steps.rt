@@ -1,11 +1,11 @@
 //! The steps, tried one after another on a trial.
 
-ghost use Rattle.std.specs.Prelude.{◌≡◌, ◌≢◌, ◌<◌, ◌++◌, [], ◌∷◌, IfOk, IfErr, OnOk, All, None};
+ghost use Rattle.std.specs.Prelude.{◌≡◌, ◌≢◌, ◌<◌, ◌++◌, [], ◌∷◌, IfOk, IfErr, OnOk, All, None, Some, if◌then◌else◌};
 ghost use Rattle.field_bounds.specs.Central.{own, committed_value};
 ghost use Rattle.field_bounds.specs.declared.kind.Kind.TheVariants as kinds;
-ghost use Rattle.world_steps.specs.World.{StepFits, trace_by};
+ghost use Rattle.world_steps.specs.World.{StepFits, statements_issued, trace_by};
 ghost use Rattle.world_steps.specs.View.{trace_of};
-ghost use Rattle.reaching_steps.specs.Reach.{steps_of_tasks, over_sites, aborts, restates, delivers, passes_on, moves, move_tasks, tasks, reach_steps, reach_fault, IsFine};
+ghost use Rattle.reaching_steps.specs.Reach.{is_wanting, number_of, telling, steps_of_tasks, over_sites, aborts, restates, delivers, passes_on, moves, move_tasks, tasks, reach_steps, reach_fault, IsFine};
 ghost use Rattle.reaching_steps.specs.Body.{Explains, Grew, HasReached, Does, DoesWhereFit};
 ghost use Rattle.reaching_steps.specs.Taken.{steps_of};
 ghost use Rattle.reaching_steps.specs.Tight.{IsUnhindered, LiesWithin};
@@ -93,29 +93,28 @@ fn tell_again(
     from: SiteNo,
     to: SiteNo,
     kind: Kind,
+    which: u64,
 ) -> Result<(), AllocError>
     requires giver { from.0 < trial.old.schema.sites }
-    requires receiver { to.0 < trial.old.schema.sites }
+    requires wanted { Some which ≡ (if is_wanting trial.old.schema named.0 field.0
+        from.0 to.0 kind (trace_of trial.old)
+        then Some (number_of (telling trial.old.schema
+        (trace_of trial.old) field.0 kind from.0 to.0) (statements_issued (trace_of trial.old)))
+        else None) }
     ensures grew { OnOk result (Grew trial.old taken.old.items
         (restates trial.old.schema named.0 field.0 from.0 to.0 kind (trace_of trial.old)) trial.new
         taken.new.items) }
 {
-    let wanted = number_wanted(trial, named, field, from, to, kind)?;
-    match wanted {
-        None => Ok(()),
-        Some(which) => {
-            if which == 0 {
-                ask(
-                    alloc,
-                    trial,
-                    taken,
-                    from,
-                    Command::Restate { to, field, kind },
-                )
-            } else {
-                Ok(())
-            }
-        }
+    if which == 0 {
+        ask(
+            alloc,
+            trial,
+            taken,
+            from,
+            Command::Restate { to, field, kind },
+        )
+    } else {
+        Ok(())
     }
 }
 
@@ -170,9 +169,14 @@ fn pass_on(
         ∷ delivers trial.old.schema named.0 field.0 from.0 to.0 kind ∷ []))
         trial.new taken.new.items) }
 {
-    tell_again(alloc, trial, taken, named, field, from, to, kind)?;
-    deliver(alloc, trial, taken, named, field, from, to, kind)?;
-    Ok(())
+    let wanted = number_wanted(trial, named, field, from, to, kind)?;
+    match wanted {
+        None => Ok(()),
+        Some(which) => {
+            tell_again(alloc, trial, taken, named, field, from, to, kind, which)?;
+            deliver(alloc, trial, taken, named, field, from, to, kind)
+        }
+    }
 }
 
 /// Another site moves the field as far as it can towards the target.
