@@ -1,4 +1,4 @@
-use Rattle.std.proofs.Common.{ℕ, Bool, ap, ◌∙◌}
+use Rattle.std.proofs.Common.{ap, ◌∙◌}
 use Rattle.central_rules.specs.declared.site_counts.SiteCounts.{SiteCounts}
 use Rattle.central_machine.proofs.site_totals.SiteTotals.put_in.Goals as goal
 
