@@ -108,8 +108,8 @@ pub(crate) fn push_signed<T: AddText>(out: &mut T, number: i64) -> Result<(), Al
     out.add(buffer.format(number))
 }
 
-// Adds some words and a number. Always inlined, so that words of a known length are copied without a
-// call.
+// Adds some words and a number. Always inlined, so that words of a known length are copied without
+// a call.
 #[inline(always)]
 pub(crate) fn push_counted<T: AddText>(
     out: &mut T,

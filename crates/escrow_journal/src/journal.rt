@@ -19,9 +19,10 @@ struct OpenTransaction {
 /// of begin; the escrows are in order of grant. No id stands twice, there are at most 64 rows, and
 /// none has more than 16 escrows.
 ///
-/// A call that looks for a transaction guesses where it stands, in at most six steps, and none where
-/// each number is one more than that before it. It costs no more where ids rise in order of begin and
-/// the transaction is open; else it costs a look through those that are open too, at most 64.
+/// A call that looks for a transaction guesses where it stands, in at most six steps, and none
+/// where each number is one more than that before it. It costs no more where ids rise in order of
+/// begin and the transaction is open; else it costs a look through those that are open too, at most
+/// 64.
 ///
 /// Source: O'Neil 1986 (the escrow journal).
 #[derive(Drop)]
@@ -46,8 +47,8 @@ const FEW: usize = 4;
 
 /// A guess at the place of the transaction of a number, among rows of one epoch whose numbers rise
 /// from row to row. No more rows lie before it than numbers from the first row's to its own, and no
-/// more behind it than from its own to the last row's: where each number follows the one before, that
-/// leaves one place. Costs a step for each doubling of the places left, at most six for 64.
+/// more behind it than from its own to the last row's: where each number follows the one before,
+/// that leaves one place. Costs a step for each doubling of the places left, at most six for 64.
 fn guess(rows: &[OpenTransaction], number: u32) -> usize {
     let (Some(first), Some(last)) = (rows.first(), rows.last()) else {
         return 0;

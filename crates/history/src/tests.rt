@@ -35,6 +35,13 @@ fn a_history_is_kept_by_a_vec(rt: HostRuntime) {
 }
 
 #[test]
+fn an_item_is_noted(rt: HostRuntime) {
+    let mut history = GhostHistory::<u8>::of(Vec::new(rt.alloc()));
+    history.note(&2);
+    assert!(rt; history.reserve(1).is_ok());
+}
+
+#[test]
 fn a_ghost_history_is_counted(rt: HostRuntime) {
     let sum = five::<GhostHistory<u8>>(rt.alloc()).expect(&rt, "memory");
     assert_eq!(rt; sum.total, 5);

@@ -132,6 +132,9 @@ fn escrows<'a>(held: &mut Vec<Escrow>, bytes: &'a [u8]) -> Option<&'a [u8]>
 pub(crate) fn commit_at<'a>(held: &mut Vec<Escrow>, bytes: &'a [u8]) -> Option<(TxnId, &'a [u8])>
     ensures { IfSome result (λ read. IsCommitAt bytes.now read.0 held.new.items read.1.now) }
 {
+    if held.capacity() == 0 {
+        return None;
+    }
     let words = behind(bytes, b'C')?;
     let (epoch, left) = number_behind_space(words, 0, u64::from(MAX_EPOCH))?;
     let (number, left) = number_behind_space(left, 1, u64::from(MAX_NUMBER))?;

@@ -205,6 +205,36 @@ fn lines_that_are_no_records(rt: HostRuntime) {
     assert_eq!(rt; bad_line(rt.alloc(), "R 1\nR 2\nR 03\nR 4"), Some(3));
 }
 
+/// Whether a text begins with a record, or with a line that is none, or with no line; and how many
+/// bytes are left behind the record.
+fn handed_out(alloc: Global, text: &str) -> Option<(Option<bool>, usize)> {
+    let mut lines = RecordLines::new(alloc, text.as_bytes());
+    let told = match lines.next(alloc).ok()? {
+        RecordLine::Record(next) => {
+            lines.give_back(next);
+            Some(true)
+        }
+        RecordLine::NoRecord => Some(false),
+        RecordLine::End => None,
+    };
+    Some((told, lines.left()))
+}
+
+#[test]
+fn lines_handed_out(rt: HostRuntime) {
+    for line in &NO_RECORDS {
+        assert_eq!(rt;
+            handed_out(rt.alloc(), *line),
+            Some((Some(false), line.len()))
+        );
+    }
+    for line in &RECORDS {
+        assert_eq!(rt; handed_out(rt.alloc(), *line), Some((Some(true), 0)));
+    }
+    assert_eq!(rt; handed_out(rt.alloc(), "R 1\nR 2"), Some((Some(true), 3)));
+    assert_eq!(rt; handed_out(rt.alloc(), "R 1"), Some((None, 3)));
+}
+
 #[test]
 fn lines_at_the_ends_of_the_ranges(rt: HostRuntime) {
     for line in &RECORDS {

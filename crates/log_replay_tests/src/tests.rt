@@ -166,6 +166,24 @@ fn replayed(alloc: Global, log: &str) -> Option<Result<Stands, u64>> {
     }
 }
 
+/// Whether the record of a first restart is taken in, and the epoch behind it, or None where memory
+/// was refused.
+fn restarted(alloc: Global) -> Option<(bool, u32)> {
+    let schema = stock_of_two(alloc)?;
+    if schema.sites() != 2 {
+        return None;
+    }
+    let mut standing = Standing::new(alloc, &schema, HERE).ok()?;
+    let next = Record::Restart { epoch: 1 };
+    let may = take_next(alloc, &schema, &mut standing, &next).ok()?;
+    Some((may, standing.epoch))
+}
+
+#[test]
+fn one_record_is_taken_in(rt: HostRuntime) {
+    assert_eq!(rt; restarted(rt.alloc()), Some((true, 1)));
+}
+
 #[test]
 fn lawful_logs(rt: HostRuntime) {
     for (log, stands) in &LAWFUL {

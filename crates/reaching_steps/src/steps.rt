@@ -420,7 +420,9 @@ fn steps_alone(alloc: Global, taken: &[StepTaken]) -> Result<Vec<WorldStep>, All
 /// so an interval that leaves one out would be wrong in some run.
 ///
 /// The site is tried on a world of its own. Costs taking the world's steps once more, reading the
-/// trace once for each site, and, for each two sites, what took effect at both.
+/// trace once for each site that moves the field, and, for each two sites, what took effect at both;
+/// for each statement that is looked for all that were issued, and for each step that is told what
+/// took effect at its site.
 pub fn reach(
     alloc: Global,
     world: &World,

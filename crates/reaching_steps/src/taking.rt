@@ -52,12 +52,12 @@ fn stand_in(alloc: Global, world: &World) -> Result<World, AllocError> {
     World::new(alloc, world.schema().copy()?)
 }
 
-/// The steps that `reach` answers, taken by the world itself, one after another: each is told by the
-/// trace that there is by then, and answered with what it made (`steps`, `taken`, `answered`).
+/// The steps that `reach` answers, taken by the world itself, one after another: each is told by
+/// the trace that there is by then, and answered with what it made (`steps`, `taken`, `answered`).
 ///
 /// The fault is the first that holds, as `reach` answers it, or want of memory (`fault`); where
-/// there are steps none holds (`clear`). The faults are looked for before any step is taken, so at a
-/// fault the world is as it was (`same`). Where memory is wanting it may have taken some of the
+/// there are steps none holds (`clear`). The faults are looked for before any step is taken, so at
+/// a fault the world is as it was (`same`). Where memory is wanting it may have taken some of the
 /// steps.
 ///
 /// After the steps the named site is as it was, and the target is the committed value (`does`; a
@@ -65,8 +65,10 @@ fn stand_in(alloc: Global, world: &World) -> Result<World, AllocError> {
 /// value of the interval that the named site reads is such a target, unless memory is wanting
 /// (`tight`).
 ///
-/// Costs reading the trace once for each site, taking the steps, opening a world of the schema, and,
-/// for each two sites, what took effect at both. No step that the world has taken is taken again.
+/// Costs reading the trace once, and once for each site that moves the field; taking the steps;
+/// opening a world of the schema; for each two sites, what took effect at both; for each statement
+/// that is looked for all that were issued; and for each step what took effect at its site. No step
+/// that the world has taken is taken again.
 pub fn reach_in(
     alloc: Global,
     world: &mut World,

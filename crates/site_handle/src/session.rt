@@ -87,7 +87,7 @@ impl Session {
     /// line feed was torn off, and doesn't count. Over an empty log the site is up, and over any
     /// other down until it is asked to restart.
     ///
-    /// Costs memory for the bytes of the log, and for its records until the site is open.
+    /// Costs memory for the bytes of the log, twice until the site is open.
     pub fn open(
         alloc: Global,
         header: &[u8],
