@@ -1,7 +1,8 @@
 -- Commands are read as they are spelled.
-use Rattle.std.proofs.Common.{◌≡◌, ℕ, List, [], ◌∷◌, ◌++◌, Option, Some, refl, sym, ap, ◌∙◌}
+use Rattle.std.proofs.Common.{◌≡◌, ◌<◌, ℕ, List, length, arith, [], ◌∷◌, ◌++◌, Option, Some, refl, sym, ap, ◌∙◌}
 use Rattle.std.specs.Prelude.{codes, IfSome}
 use Rattle.std.specs.List.{AllByRecursion}
+use Rattle.std.proofs.lemmas.List.{append-nil}
 use Rattle.field_bounds.specs.declared.id.SiteNo.{SiteNo}
 use Rattle.field_bounds.specs.declared.entry.Command.{Command}
 use Rattle.field_bounds.specs.declared.entry.Command.TheVariants.{Begin, Escrow, Commit, Abort, Give, Restate, Spare, Tighten, Accept, Read, Share, Restart}
@@ -144,3 +145,13 @@ command_says schema is bytes r e = record {
   fits = some_from r _ (λ x h. line_fits (command_form schema is) bytes x (sym e ∙ h));
   only = λ site command s c h. e ∙ ap (command_of schema) h ∙ command_only schema is (site, command) s c;
 }
+
+-- a line that is the text of a command spells it
+pub command_spelled : (schema : SchemaValue) → IsSchema schema → (bytes : List ℕ) (site : SiteNo) (command : Command) (rest : List ℕ)
+    → SiteFits site × CommandFits command → bytes ≡ command_text schema site command ++ rest → length rest < 1
+    → Some (site, command) ≡ command_of schema bytes
+command_spelled schema is bytes site command [] fits cut none =
+    let whole : bytes ≡ command_text schema site command =
+    cut ∙ append-nil (command_text schema site command) in
+    sym (ap (command_of schema) whole ∙ command_only schema is (site, command) fits.0 fits.1)
+command_spelled schema is bytes site command (b ∷ rest) fits cut none = absurd (omega arith)

@@ -91,3 +91,15 @@ pub entry_line : (schema : SchemaValue) (e : Entry)
     → command_text schema e.site e.command ++ (codes " -> " ++ reply_text e.reply) ≡ entry_text schema e
 entry_line schema e = sym (line-append (site_text e.site) (command_words schema e.command) (codes "->") (reply_words e.reply)
     ∙ ap (λ (l : List ℕ). command_text schema e.site e.command ++ (32 ∷ l)) (after_arrow e.reply))
+
+-- a command, an arrow and a reply, cut one after another, are an entry
+pub entry_cut : (schema : SchemaValue) (bytes rest reply : List ℕ) (e : Entry) → bytes ≡ command_text schema e.site e.command ++ rest
+    → rest ≡ codes " -> " ++ reply → reply ≡ reply_text e.reply → bytes ≡ entry_text schema e
+entry_cut schema bytes rest reply e cut arrow is =
+    cut ∙ ap (λ (l : List ℕ). command_text schema e.site e.command ++ l) (arrow ∙ ap (λ (l : List ℕ). codes " -> " ++ l) is)
+    ∙ entry_line schema e
+
+-- a line that is the text of an entry spells it
+pub entry_spelled : (schema : SchemaValue) → IsSchema schema → (bytes : List ℕ) (v : Entry) → EntryFits v → bytes ≡ entry_text schema v
+    → Some v ≡ entry_of schema bytes
+entry_spelled schema is bytes v fits whole = sym (ap (entry_of schema) whole ∙ entry_only schema is v fits)

@@ -1,14 +1,15 @@
 -- Fields by their names, and what the reader of fields reads.
-use Rattle.std.proofs.Common.{◌≡◌, ℕ, zero, suc, ◌^◌, ◌<◌, ◌≤◌, Bool, true, false, cond, eqb, ltb, List, [], ◌∷◌, ◌++◌, ◌||◌, length, get_or, Option, Some, None, refl, sym, ap, subst, ◌∙◌, arith, inl, inr}
+use Rattle.std.proofs.Common.{◌≡◌, ℕ, zero, suc, ◌^◌, ◌<◌, ◌≤◌, ◌-◌, Bool, true, false, cond, eqb, ltb, List, [], ◌∷◌, ◌++◌, ◌||◌, length, get_or, take, drop, Option, Some, None, refl, sym, ap, subst, ◌∙◌, arith, inl, inr}
 use Rattle.std.specs.Prelude.{position, if◌then◌else◌, nat_lt, bytes_eq, option_map}
 use Rattle.std.specs.List.{position_or_len, AllByRecursion, list_any, list_all}
 use Rattle.std.specs.Fmt.{decimal}
 use Rattle.std.proofs.lemmas.Bool.{eqb-true, ltb-false, lt-ltb, le-ltb, ne_eqb, cond-true, cond-false, cases_lt, and_parts}
 use Rattle.std.proofs.lemmas.Bool.Decides.{nat_tests}
-use Rattle.std.proofs.lemmas.Option.{same_Some}
+use Rattle.std.proofs.lemmas.Option.{same_Some, cond_some}
+use Rattle.std.proofs.lemmas.List.{take-append-drop, take_all, length-drop}
 use Rattle.std.proofs.lemmas.Slice.Eq.{bytes_eq-Decides}
 use Rattle.std.proofs.lemmas.List.Quantifiers.{position-Some}
-use Rattle.std.proofs.lemmas.List.Sums.{position_or_len_is}
+use Rattle.std.proofs.lemmas.List.Sums.{position_or_len_is, prefix_len-le-length}
 use Rattle.field_bounds.specs.declared.id.FieldNo.{FieldNo}
 use Rattle.field_bounds.specs.Schema.{FieldValue, SchemaValue}
 use Rattle.field_bounds.specs.Limits.{is_name_byte, is_name, is_used, IsField, HasOwnNames, IsSchema}
@@ -197,3 +198,35 @@ field_word schema is f fits =
       | inl lt ↦ subst IsWord (sym (in_schema schema f lt)) (name_word (get_or fs f.0 no_field).name (field_is fs f.0 is.each lt))
       | inr le ↦ subst IsWord (sym (past_schema schema f le)) ((omega arith, omega arith), decimal_word f.0 (omega arith))
     ]
+
+-- a field's word in front, and what follows it
+pub field_cut : (schema : SchemaValue) → IsSchema schema → (w : List ℕ) (i : ℕ) (f : FieldNo) → field_of schema (take i w) ≡ Some f
+    → w ≡ field_text schema f ++ take (length w - i) (drop i w)
+field_cut schema is w i f e =
+    sym (take-append-drop i w) ∙ ap (λ (l : List ℕ). l ++ drop i w) (field_takes schema is (take i w) f e).1
+    ∙ ap (λ (l : List ℕ). field_text schema f ++ l) (sym (take_all (length w - i) (drop i w) (omega (arith, length-drop i w))))
+
+-- ---- where the word in front ends
+
+abbrev is_space : ℕ → Bool
+is_space b = eqb b 32
+
+place_within : (w : List ℕ) → position_or_len is_space w ≤ length w
+place_within w = prefix_len-le-length _ w
+
+pub space_place : (w : List ℕ) (at : ℕ) → Some at ≡ position is_space w → (at ≡ position_or_len is_space w) × (at ≤ length w)
+space_place w at e =
+    let k = position_or_len is_space w in
+    let c = cond_some (ltb k (length w)) k at (sym e) in
+    (sym c.1, omega (arith, c.1, place_within w))
+
+pub no_space_place : (w : List ℕ) → None ≡ position is_space w → length w ≡ position_or_len is_space w
+no_space_place w e = by_test (ltb (position_or_len is_space w) (length w)) refl e
+  where
+    some : ℕ → Option ℕ
+    some k = Some k
+
+    by_test : (c : Bool) → ltb (position_or_len is_space w) (length w) ≡ c → None ≡ cond c (some (position_or_len is_space w)) None
+        → length w ≡ position_or_len is_space w
+    by_test true t h = absurd cc
+    by_test false t h = omega (arith, ltb-false (position_or_len is_space w) (length w) t, place_within w)

@@ -1,9 +1,10 @@
 -- Replies are read as they are spelled.
-use Rattle.std.proofs.Common.{◌≡◌, ℕ, ◌^◌, ◌<◌, arith, List, [], ◌∷◌, ◌++◌, Some, refl, ◌∙◌}
+use Rattle.std.proofs.Common.{◌≡◌, ℕ, ◌^◌, ◌<◌, arith, List, [], ◌∷◌, ◌++◌, Option, Some, refl, ap, ◌∙◌}
 use Rattle.std.specs.Prelude.{codes}
 use Rattle.std.specs.List.{AllByRecursion}
 use Rattle.std.specs.Fmt.{decimal}
-use Rattle.line_words.specs.Reading.{below}
+use Rattle.line_words.specs.Words.{words}
+use Rattle.line_words.specs.Reading.{◌>>=◌, below, only_value}
 use Rattle.field_bounds.specs.declared.entry.Last.{Last}
 use Rattle.field_bounds.specs.declared.entry.Last.TheVariants.{Nothing, Kept, Lost}
 use Rattle.field_bounds.specs.declared.entry.Refusal.{Refusal}
@@ -13,7 +14,8 @@ use Rattle.field_bounds.specs.declared.entry.Reply.TheVariants.{Begun, Granted, 
 use Rattle.line_words.proofs.WordLemmas.{IsWord, word_from_test}
 use Rattle.line_words.proofs.Forms.{IsRead, IsForm, found, word_again, form_again}
 use Rattle.line_words.proofs.WordKinds.{number_read, signed_read, below_read, only_read, table_read}
-use Rattle.entry_text.specs.Spelling.{found_text, refusal_words, reply_words}
+use Rattle.line_words.proofs.Lines.{line_found, line_fits}
+use Rattle.entry_text.specs.Spelling.{found_text, refusal_words, reply_words, reply_text}
 use Rattle.entry_text.specs.Ranges.{RefusalFits, ReplyFits}
 use Rattle.entry_text.specs.Reading.{table_at}
 use Rattle.entry_text.specs.Replies.{refusal_table, refusal_at, found_of, found_table, reply_table, reply_at}
@@ -174,3 +176,11 @@ reply_plain (Refused refusal) fits = word_from_test (codes "refused") refl & ref
 
 pub reply_form : IsForm ReplyFits reply_words reply_at
 reply_form = record { takes = reply_takes; again = reply_again; plain = reply_plain }
+
+-- what the reader of words says of bytes of which it leaves none
+pub reply_cut : (bytes : List ℕ) (v : Reply) (left : List (List ℕ)) → reply_at (words bytes) ≡ found v left → left ≡ []
+    → (bytes ≡ reply_text v) × ReplyFits v
+reply_cut bytes v left e none =
+    let whole : (reply_at (words bytes) >>= only_value) ≡ Some v =
+    ap (λ (o : Option (Reply × List (List ℕ))). o >>= only_value) (e ∙ ap (λ (l : List (List ℕ)). found v l) none) in
+    (line_found reply_form bytes v whole, line_fits reply_form bytes v whole)

@@ -7,8 +7,9 @@ ghost use Rattle.line_words.specs.Reading.{Gives};
 ghost use Rattle.entry_text.specs.Spelling.{command_text};
 ghost use Rattle.entry_text.specs.Ranges.{SiteFits, CommandFits};
 ghost use Rattle.entry_text.specs.Reading.{table_at};
-ghost use Rattle.entry_text.specs.Commands.{gift_commands, own_commands, command_table, command_at};
+ghost use Rattle.entry_text.specs.Commands.{gift_commands, own_commands, command_table, command_at, command_of};
 
+use crate::front::site_command;
 use crate::word::{Fields, field_at, kind_at, named, number_at, signed_at, site_at, txn_at};
 use field_bounds::{Command, Schema, SiteNo, Statement};
 use line_words::Words;
@@ -124,6 +125,21 @@ pub(crate) fn command(line: &mut Words<'_>, fields: &Fields<'_>) -> Option<(Site
     Some((site, command))
 }
 
+// The site and the command that the line spells, the words cut one after another.
+#[inline(never)]
+#[tactic(auto, unfolding(crate::specs::Commands::command_of))]
+fn cut_command(schema: &Schema, line: &[u8]) -> Option<(SiteNo, Command)>
+    ensures { result ≡ command_of schema.now line.now }
+{
+    let mut words = Words::new(line);
+    let command = command(&mut words, &Fields::new(schema))?;
+    if words.is_empty() {
+        Some(command)
+    } else {
+        None
+    }
+}
+
 /// The site and the command that the line, without its LF, spells under the schema. The site may
 /// lie outside the schema. None where the line spells no command.
 ///
@@ -134,11 +150,8 @@ pub fn read_command(schema: &Schema, line: &[u8]) -> Option<(SiteNo, Command)>
     ensures only { (site : Site) (command : CommandType) → SiteFits site → CommandFits command
         → line.now ≡ command_text schema.now site command → result ≡ Some (site, command) }
 {
-    let mut words = Words::new(line);
-    let command = command(&mut words, &Fields::new(schema))?;
-    if words.is_empty() {
-        Some(command)
-    } else {
-        None
+    if let Some((site, command, [])) = site_command(&Fields::new(schema), line) {
+        return Some((site, command));
     }
+    cut_command(schema, line)
 }

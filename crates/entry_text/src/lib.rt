@@ -8,10 +8,12 @@
 mod append;
 mod command;
 mod entry;
+mod front;
 mod laws;
 mod refusal;
 mod reply;
 mod spelling;
+mod whole;
 mod word;
 mod writing;
 

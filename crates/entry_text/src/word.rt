@@ -87,7 +87,7 @@ impl<'a> Fields<'a> {
 
     /// The field that the word spells.
     #[tactic(auto, unfolding(crate::specs::Reading::field_of))]
-    fn read(&self, word: &[u8]) -> Option<FieldNo>
+    pub(crate) fn read(&self, word: &[u8]) -> Option<FieldNo>
         ensures { result ≡ field_of self.now word.now }
     {
         match word {

@@ -1,6 +1,7 @@
 -- Fronts of lines: digits, and the word that ends behind them.
 use Rattle.std.proofs.Common.{suc, None, eqb, ltb, append_assoc, ◌≡◌, ℕ, ◌+◌, ◌^◌, ◌<◌, ◌≤◌, Bool, true, false, cond, ◌-◌, List, [], ◌∷◌, ◌++◌, length, get_or, take, drop, Option, Some, refl, sym, ap, subst, ◌∙◌, arith, add-one}
 use Rattle.std.specs.Prelude.{◌==◌, ℤ, position}
+use Rattle.std.specs.Fmt.{decimal}
 use Rattle.std.specs.Str.Parse.{digits_value, AllDigits}
 use Rattle.std.proofs.lemmas.Bool.{ne_eqb, eq-eqb, lt-ltb, cond-true}
 use Rattle.std.proofs.lemmas.Str.Parse.{numerals_by_value, tells_digits, digits_value_short, digit_at}
@@ -194,6 +195,12 @@ front_dotted d w a b e f =
     let front : take (length d) (d ++ (46 ∷ w)) ≡ d = take-append_seam d (46 ∷ w) in
     let back : drop (length d + 1) (d ++ (46 ∷ w)) ≡ w = drop-append-add d (46 ∷ w) 1 in
     rw (dot_place d w a e, front, back, e, f) refl
+
+-- a number in front, and what follows it
+pub number_cut : (w : List ℕ) (i n : ℕ) → number_of (2 ^ 64) (take i w) ≡ Some n → w ≡ decimal n ++ take (length w - i) (drop i w)
+number_cut w i n e =
+    sym (take-append-drop i w) ∙ ap (λ (l : List ℕ). l ++ drop i w) (number_takes (2 ^ 64) (take i w) n e).1
+    ∙ ap (λ (l : List ℕ). decimal n ++ l) (sym (take_all (length w - i) (drop i w) (omega (arith, length-drop i w))))
 
 -- a reader of words reads the one in front
 pub word_taken : {A : Type 0} (read : List ℕ → Option A) (w : List ℕ) (ws old : List (List ℕ)) (v : A) → old ≡ w ∷ ws → read w ≡ Some v

@@ -52,7 +52,7 @@ pub(crate) fn left_behind<'a>(bytes: &'a [u8], count: usize) -> Option<Option<&'
 
 // The text stands in front of the bytes. A loop, since it is unrolled where the text is a literal.
 #[inline(always)]
-fn begins_with(bytes: &[u8], text: &[u8]) -> bool
+pub(crate) fn begins_with(bytes: &[u8], text: &[u8]) -> bool
     ensures { MatchBool result (bytes.now ≡ text.now ++ drop (length text.now) bytes.now)
         ((rest : List ℕ) → bytes.now ≢ text.now ++ rest) }
 {

@@ -1,10 +1,12 @@
 //! What a line of text is made of: words with one space between them, and numbers.
 #![tactic(auto)]
 
+mod first;
 mod front;
 mod number;
 mod words;
 
+pub use first::{behind, first_number, first_signed};
 pub use number::{read_number, read_signed};
 pub use words::Words;
 

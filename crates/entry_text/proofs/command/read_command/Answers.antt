@@ -1,16 +1,13 @@
-use Rattle.std.proofs.Common.{rules, Some, None}
-use Rattle.entry_text.specs.Commands.{command_of}
-use Rattle.entry_text.proofs.Commands.{command_says}
+use Rattle.std.proofs.Common.{rules}
+use Rattle.entry_text.proofs.Commands.{command_says, command_spelled}
 use Rattle.entry_text.proofs.command.read_command.Goals as goal
 
-pub returns-in_err-command : goal.returns-in_err-command
-unfolding command_of
-returns-in_err-command c = command_says c.args.schema.now c.new.ensures.limits c.args.line.now _ (search rules)
+pub returns-in-Some-default-default-empty : goal.returns-in-Some-default-default-empty
+returns-in-Some-default-default-empty c =
+    let asked = c.in-Some-default-default-empty in
+    command_says c.args.schema.now c.new.ensures.limits c.args.line.now _
+    (command_spelled c.args.schema.now c.new.ensures.limits c.args.line.now asked.site asked.command asked.field-0-2.now asked.ensures.fits
+    (search rules) asked.len_below)
 
-pub returns-then-is_empty : goal.returns-then-is_empty
-unfolding command_of
-returns-then-is_empty c = command_says c.args.schema.now c.new.ensures.limits c.args.line.now (Some c.in_ok-command.command) (search rules)
-
-pub returns-else-is_empty : goal.returns-else-is_empty
-unfolding command_of
-returns-else-is_empty c = command_says c.args.schema.now c.new.ensures.limits c.args.line.now None (search rules)
+pub returns : goal.returns
+returns c = command_says c.args.schema.now c.new.ensures.limits c.args.line.now c.cut_command.result c.cut_command.ensures

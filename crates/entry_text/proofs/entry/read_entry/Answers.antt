@@ -1,16 +1,14 @@
-use Rattle.std.proofs.Common.{rules, Some, None}
-use Rattle.entry_text.specs.Entries.{entry_of}
-use Rattle.entry_text.proofs.Entries.{entry_says}
+use Rattle.std.proofs.Common.{◌≡◌, subst}
+use Rattle.field_bounds.specs.Schema.{SchemaValue}
+use Rattle.entry_text.specs.Spelling.{entry_text}
+use Rattle.entry_text.proofs.Entries.{entry_says, entry_spelled}
 use Rattle.entry_text.proofs.entry.read_entry.Goals as goal
 
-pub returns-in_err-entry : goal.returns-in_err-entry
-unfolding entry_of
-returns-in_err-entry c = entry_says c.args.schema.now c.new.ensures.limits c.args.line.now _ (search rules)
+pub returns-in-Some : goal.returns-in-Some
+returns-in-Some c =
+    entry_says c.args.schema.now c.new.ensures.limits c.args.line.now _
+    (entry_spelled c.args.schema.now c.new.ensures.limits c.args.line.now c.in-Some.entry c.in-Some.ensures.fits
+    (subst (λ (schema : SchemaValue). c.args.line.now ≡ entry_text schema c.in-Some.entry) c.new.ensures.schema c.in-Some.ensures.text))
 
-pub returns-then-is_empty : goal.returns-then-is_empty
-unfolding entry_of
-returns-then-is_empty c = entry_says c.args.schema.now c.new.ensures.limits c.args.line.now (Some c.in_ok-entry.entry) (search rules)
-
-pub returns-else-is_empty : goal.returns-else-is_empty
-unfolding entry_of
-returns-else-is_empty c = entry_says c.args.schema.now c.new.ensures.limits c.args.line.now None (search rules)
+pub returns : goal.returns
+returns c = entry_says c.args.schema.now c.new.ensures.limits c.args.line.now c.cut_entry.result c.cut_entry.ensures
