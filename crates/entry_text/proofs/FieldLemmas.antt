@@ -5,11 +5,11 @@ use Rattle.std.specs.List.{position_or_len, AllByRecursion, list_any, list_all}
 use Rattle.std.specs.Fmt.{decimal}
 use Rattle.std.proofs.lemmas.Bool.{eqb-true, ltb-false, lt-ltb, le-ltb, ne_eqb, cond-true, cond-false, cases_lt, and_parts}
 use Rattle.std.proofs.lemmas.Bool.Decides.{nat_tests}
-use Rattle.std.proofs.lemmas.Option.{same_Some, cond_some}
+use Rattle.std.proofs.lemmas.Option.{same_Some}
 use Rattle.std.proofs.lemmas.List.{take-append-drop, take_all, length-drop}
 use Rattle.std.proofs.lemmas.Slice.Eq.{bytes_eq-Decides}
 use Rattle.std.proofs.lemmas.List.Quantifiers.{position-Some}
-use Rattle.std.proofs.lemmas.List.Sums.{position_or_len_is, prefix_len-le-length}
+use Rattle.std.proofs.lemmas.List.Sums.{position_or_len_is}
 use Rattle.field_bounds.specs.declared.id.FieldNo.{FieldNo}
 use Rattle.field_bounds.specs.Schema.{FieldValue, SchemaValue}
 use Rattle.field_bounds.specs.Limits.{is_name_byte, is_name, is_used, IsField, HasOwnNames, IsSchema}
@@ -206,27 +206,9 @@ field_cut schema is w i f e =
     sym (take-append-drop i w) ∙ ap (λ (l : List ℕ). l ++ drop i w) (field_takes schema is (take i w) f e).1
     ∙ ap (λ (l : List ℕ). field_text schema f ++ l) (sym (take_all (length w - i) (drop i w) (omega (arith, length-drop i w))))
 
--- ---- where the word in front ends
-
-abbrev is_space : ℕ → Bool
-is_space b = eqb b 32
-
-place_within : (w : List ℕ) → position_or_len is_space w ≤ length w
-place_within w = prefix_len-le-length _ w
-
-pub space_place : (w : List ℕ) (at : ℕ) → Some at ≡ position is_space w → (at ≡ position_or_len is_space w) × (at ≤ length w)
-space_place w at e =
-    let k = position_or_len is_space w in
-    let c = cond_some (ltb k (length w)) k at (sym e) in
-    (sym c.1, omega (arith, c.1, place_within w))
-
-pub no_space_place : (w : List ℕ) → None ≡ position is_space w → length w ≡ position_or_len is_space w
-no_space_place w e = by_test (ltb (position_or_len is_space w) (length w)) refl e
-  where
-    some : ℕ → Option ℕ
-    some k = Some k
-
-    by_test : (c : Bool) → ltb (position_or_len is_space w) (length w) ≡ c → None ≡ cond c (some (position_or_len is_space w)) None
-        → length w ≡ position_or_len is_space w
-    by_test true t h = absurd cc
-    by_test false t h = omega (arith, ltb-false (position_or_len is_space w) (length w) t, place_within w)
+-- a text in front, and what follows it
+pub text_cut : (w t : List ℕ) → bytes_eq (take (length t) w) t ≡ true → w ≡ t ++ take (length w - length t) (drop (length t) w)
+text_cut w t e =
+    let i = length t in
+    sym (take-append-drop i w) ∙ ap (λ (l : List ℕ). l ++ drop i w) ((bytes_eq-Decides (take i w) t).0 e)
+    ∙ ap (λ (l : List ℕ). t ++ l) (sym (take_all (length w - i) (drop i w) (omega (arith, length-drop i w))))

@@ -1,6 +1,6 @@
 //! The readers of one word.
 
-ghost use Rattle.std.specs.Prelude.{◌≡◌, ◌==◌, ◌^◌, [], ◌∷◌, MatchBool, IfSome, Some, position, bytes_eq};
+ghost use Rattle.std.specs.Prelude.{◌≡◌, ◌==◌, ◌<◌, ◌^◌, [], ◌∷◌, MatchBool, IfSome, Some, length, position, bytes_eq};
 ghost use Rattle.field_bounds.specs.declared.kind.Kind.{Kind as KindType};
 ghost use Rattle.field_bounds.specs.declared.id.FieldNo.{FieldNo as FieldNumber};
 ghost use Rattle.field_bounds.specs.declared.id.TxnId.{TxnId as Txn};
@@ -83,6 +83,23 @@ impl<'a> Fields<'a> {
             schema,
             count: schema.fields(),
         }
+    }
+
+    /// How many fields there are.
+    #[inline(always)]
+    pub(crate) fn count(&self) -> u16
+        ensures { result ≡ length self.now.fields }
+    {
+        self.count
+    }
+
+    /// The name of a field.
+    #[inline(always)]
+    pub(crate) fn name(&self, field: FieldNo) -> &str
+        requires { field.0 < length self.now.fields }
+        ensures { result.now ≡ field_text self.now field }
+    {
+        self.schema.name(field)
     }
 
     /// The field that the word spells.

@@ -202,6 +202,17 @@ number_cut w i n e =
     sym (take-append-drop i w) ∙ ap (λ (l : List ℕ). l ++ drop i w) (number_takes (2 ^ 64) (take i w) n e).1
     ∙ ap (λ (l : List ℕ). decimal n ++ l) (sym (take_all (length w - i) (drop i w) (omega (arith, length-drop i w))))
 
+-- a digit in front, a mark, and what follows it
+pub digit_cut : (w : List ℕ) (mark n : ℕ) → 2 ≤ length w → get_or w 1 0 ≡ mark → get_or w 0 0 ≡ 48 + n → n < 10
+    → w ≡ decimal n ++ (mark ∷ take (length w - 2) (drop 2 w))
+digit_cut [] mark n two after digit small = absurd (omega arith)
+digit_cut (a ∷ []) mark n two after digit small = absurd (omega arith)
+digit_cut (a ∷ b ∷ w) mark n two after digit small =
+    let rest = take (length (a ∷ b ∷ w) - 2) w in
+    ap (λ (x : ℕ). x ∷ b ∷ w) digit ∙ ap (λ (x : ℕ). (48 + n) ∷ x ∷ w) after
+    ∙ ap (λ (l : List ℕ). (48 + n) ∷ mark ∷ l) (sym (take_all (length (a ∷ b ∷ w) - 2) w (omega arith)))
+    ∙ ap (λ (d : List ℕ). d ++ (mark ∷ rest)) (sym (decimal_digit n small))
+
 -- a reader of words reads the one in front
 pub word_taken : {A : Type 0} (read : List ℕ → Option A) (w : List ℕ) (ws old : List (List ℕ)) (v : A) → old ≡ w ∷ ws → read w ≡ Some v
     → word_at read old ≡ Some (v, ws)

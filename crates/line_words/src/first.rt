@@ -1,7 +1,7 @@
 //! What bytes begin with, and the bytes that follow it: for readers that look at each byte of a
 //! line once, and cut no words.
 
-ghost use Rattle.std.specs.Prelude.{◌≡◌, ◌≢◌, ◌++◌, ℕ, List, IfSome, MatchOption};
+ghost use Rattle.std.specs.Prelude.{◌≡◌, ◌≢◌, ◌∷◌, ◌++◌, ℕ, List, IfSome, MatchOption};
 ghost use Rattle.std.specs.Fmt.{decimal, signed_decimal};
 
 use crate::front::{begins_with, number_in_front};
@@ -29,6 +29,35 @@ pub fn first_number(bytes: &[u8]) -> Option<(u64, &[u8])>
 {
     let (number, count) = number_in_front(bytes)?;
     Some((number, &bytes[count..]))
+}
+
+// The same of one digit.
+#[inline(always)]
+fn digit_and(bytes: &[u8], mark: u8) -> Option<(u64, &[u8])>
+    ensures { IfSome result (λ n. bytes.now ≡ decimal n.0 ++ mark ∷ n.1.now) }
+{
+    match bytes {
+        [digit, after, rest @ ..] if *after == mark && digit.is_ascii_digit() => {
+            Some((u64::from(*digit - b'0'), rest))
+        }
+        _ => None,
+    }
+}
+
+/// A number that the bytes begin with, as of `first_number`, and what follows the mark behind it.
+/// None where no digit is in front, or another byte than the mark follows. Costs a pass over the
+/// digits, and no memory.
+#[inline(always)]
+pub fn number_and(bytes: &[u8], mark: u8) -> Option<(u64, &[u8])>
+    ensures cut { IfSome result (λ n. bytes.now ≡ decimal n.0 ++ mark ∷ n.1.now) }
+{
+    if let Some(found) = digit_and(bytes, mark) {
+        return Some(found);
+    }
+    match first_number(bytes)? {
+        (number, [after, rest @ ..]) if *after == mark => Some((number, rest)),
+        _ => None,
+    }
 }
 
 /// A number with a sign that the bytes begin with, -9,223,372,036,854,775,808 to

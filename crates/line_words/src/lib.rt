@@ -6,7 +6,7 @@ mod front;
 mod number;
 mod words;
 
-pub use first::{behind, first_number, first_signed};
+pub use first::{behind, first_number, first_signed, number_and};
 pub use number::{read_number, read_signed};
 pub use words::Words;
 
