@@ -36,6 +36,12 @@ commit_at_front bytes a b c rest txn es p q r s =
     (q ∙ ap (λ (l : List ℕ). (32 ∷ decimal txn.epoch) ++ l) (r ∙ ap (λ (l : List ℕ). (32 ∷ decimal txn.number) ++ l) s) ∙ sym all)
     ∙ sym (text_at (Commit txn es) rest)
 
+-- one word more
+pub word_before : (bytes left rest : List ℕ) (w : List ℕ) (ws : List (List ℕ)) → bytes ≡ (32 ∷ w) ++ left → left ≡ words_spaced ws ++ rest
+    → bytes ≡ words_spaced (w ∷ ws) ++ rest
+word_before bytes left rest w ws p q =
+    p ∙ ap (λ (l : List ℕ). (32 ∷ w) ++ l) q ∙ sym (append_assoc (32 ∷ w) (words_spaced ws) rest)
+
 -- one escrow more
 pub escrow_more : (bytes left behind : List ℕ) (es : List Escrow) (e : Escrow) → bytes ≡ words_spaced (escrow_words es) ++ left
     → left ≡ (32 ∷ decimal e.field.0) ++ ((32 ∷ signed_decimal e.change) ++ behind)

@@ -1,4 +1,5 @@
 pub mod Bytes
+pub mod Digits
 pub mod Spaced
 pub mod AtFront
 pub mod OneWord

@@ -1,5 +1,5 @@
 -- What lines that are read one after another come to.
-use Rattle.std.proofs.Common.{◌≡◌, ℕ, ◌+◌, ◌-◌, List, [], ◌∷◌, ◌++◌, length, take, drop, refl, sym, ap, ◌∙◌, arith, append_assoc}
+use Rattle.std.proofs.Common.{◌≡◌, ℕ, ◌+◌, ◌-◌, List, [], ◌∷◌, ◌++◌, length, take, drop, refl, sym, ap, subst, ◌∙◌, arith, append_assoc}
 use Rattle.std.specs.Prelude.{Some, None}
 use Rattle.std.specs.List.{flat_map}
 use Rattle.std.proofs.lemmas.List.{length-append}
@@ -8,7 +8,9 @@ use Rattle.kept_records.specs.declared.record.Record.{Record}
 use Rattle.kept_records.specs.Text.{text}
 use Rattle.kept_records.specs.Reading.{record_of}
 use Rattle.kept_records.specs.Logs.{HasNoLf, Reads, IsBadLine, AreGoodRecords}
-use Rattle.kept_records.specs.Lines.{IsRecordAt, StartsBad, Begins}
+use Rattle.kept_records.specs.declared.record_lines.RecordLine.{RecordLine}
+use Rattle.kept_records.specs.declared.record_lines.RecordLine.TheVariants as lines
+use Rattle.kept_records.specs.Lines.{IsRecordAt, HandsLine, StartsBad, Begins}
 use Rattle.kept_records.proofs.Bytes.{Cut}
 use Rattle.kept_records.proofs.Lines.{line_takes, no_record, regrouped, all_push, flat_push, are_read, only_log}
 
@@ -33,6 +35,12 @@ starts_bad left end cut none = record {
   one_line = cut.front;
   none = no_record (take end left) cut.front none;
 }
+
+-- the record of a line, where the bytes stayed before it
+pub at_line : (old same new : List ℕ) (line : RecordLine) (r : Record) → same ≡ old → line ≡ lines.Record r → HandsLine same line new
+    → IsRecordAt old r new
+at_line old same new line r stays is handed =
+    subst (λ (l : List ℕ). IsRecordAt l r new) stays (subst (λ (l : RecordLine). HandsLine same l new) is handed)
 
 -- ---- many lines
 

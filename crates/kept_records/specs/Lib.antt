@@ -9,5 +9,6 @@ pub mod Stands
 pub mod Keeping
 pub mod Cursor
 pub mod Lines
+pub mod Lent
 pub mod ReadingBack
 pub mod Summaries

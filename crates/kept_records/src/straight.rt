@@ -1,21 +1,30 @@
 //! Records of the common kinds, read straight from the bytes that begin with their text.
 
-ghost use Rattle.std.specs.Prelude.{◌≡◌, ◌<◌, ◌≤◌, ◌^◌, ◌++◌, ◌∷◌, ℤ, pos, unsigned_abs, IfSome};
+ghost use Rattle.std.specs.Prelude.{◌≡◌, ◌<◌, ◌≤◌, ◌^◌, ◌++◌, ◌∷◌, [], if◌then◌else◌, ℤ, pos, unsigned_abs, IfSome};
+ghost use Rattle.field_bounds.specs.Owed.{max_change};
 ghost use Rattle.std.specs.Fmt.{decimal, signed_decimal};
 ghost use Rattle.std.specs.List.{AllByRecursion};
-ghost use Rattle.kept_records.specs.Text.{IsChange, IsEscrow, escrow_words, words_spaced};
-ghost use Rattle.kept_records.specs.Lines.{IsCommitAt, IsRestartAt};
+ghost use Rattle.kept_records.specs.Text.{IsChange, IsEscrow, IsListed, IsListedCut, kind_word, escrow_words, total_words, cut_words, words_spaced};
+ghost use Rattle.kept_records.specs.Lines.{IsCommitAt, IsRestartAt, IsRecordAt};
+ghost use Rattle.kept_records.specs.Lent.{record_told};
 
+use crate::lent_records::CommonRecord;
 use crate::reading::MAX_PLACE;
-use field_bounds::{Escrow, FieldNo, MAX_CHANGE, MAX_EPOCH, MAX_ESCROWS, MAX_NUMBER, TxnId};
+use crate::total::{Cut, Total};
+use field_bounds::{
+    Escrow, FieldNo, Kind, MAX_CHANGE, MAX_EPOCH, MAX_ESCROWS, MAX_NUMBER, MAX_TOTAL, SiteNo, TxnId,
+};
 
 // A number of more digits isn't read here.
 const LARGE: u64 = 100_000_000_000_000_000;
 
+// Numbers of fewer digits are read by the short way.
+const SHORT: usize = 8;
+
 // The number whose digits the bytes begin with, up to the first byte that is no digit, and what
 // stands behind them. Behind a 0 no more digits are read.
 #[inline(always)]
-fn number(bytes: &[u8]) -> Option<(u64, &[u8])>
+fn long_number(bytes: &[u8]) -> Option<(u64, &[u8])>
     ensures spelled { IfSome result (λ read. bytes.now ≡ decimal read.0 ++ read.1.now) }
     ensures small { IfSome result (λ read. read.0 < 10 ^ 18) }
 {
@@ -35,6 +44,44 @@ fn number(bytes: &[u8]) -> Option<(u64, &[u8])>
         count += 1;
     }
     Some((value, &bytes[count..]))
+}
+
+// The same of a short number, where so many bytes are there. Neither their end nor the number's
+// size has to be looked at behind each digit, and the loop, of a fixed number of turns, is unrolled.
+#[inline(always)]
+fn short_number(bytes: &[u8]) -> Option<(u64, &[u8])>
+    ensures spelled { IfSome result (λ read. bytes.now ≡ decimal read.0 ++ read.1.now) }
+    ensures small { IfSome result (λ read. read.0 < 10 ^ 18) }
+{
+    if bytes.len() < SHORT || !bytes[0].is_ascii_digit() {
+        return None;
+    }
+    let mut value = u64::from(bytes[0] - b'0');
+    let mut count: usize = 1;
+    if value == 0 {
+        return Some((value, &bytes[1..]));
+    }
+    while count < SHORT {
+        if !bytes[count].is_ascii_digit() {
+            return Some((value, &bytes[count..]));
+        }
+        value = value * 10 + u64::from(bytes[count] - b'0');
+        count += 1;
+    }
+    None
+}
+
+// The same of any number. It is no call that the long way takes: what both answer stays in
+// registers.
+#[inline(always)]
+fn number(bytes: &[u8]) -> Option<(u64, &[u8])>
+    ensures spelled { IfSome result (λ read. bytes.now ≡ decimal read.0 ++ read.1.now) }
+    ensures small { IfSome result (λ read. read.0 < 10 ^ 18) }
+{
+    if let Some((value, left)) = short_number(bytes) {
+        return Some((value, left));
+    }
+    long_number(bytes)
 }
 
 // What stands behind a byte that the bytes begin with.
@@ -63,29 +110,45 @@ fn number_behind_space(bytes: &[u8], least: u64, most: u64) -> Option<(u64, &[u8
     }
 }
 
-// A change, and what stands behind it.
+// Whether a minus sign stands first, and what stands behind it.
+#[inline(always)]
+fn sign(bytes: &[u8]) -> (bool, &[u8])
+    ensures { bytes.now ≡ (if result.0 then 45 ∷ [] else []) ++ result.1.now }
+{
+    match bytes {
+        [b'-', behind @ ..] => (true, behind),
+        _ => (false, bytes),
+    }
+}
+
+// The change of this size, below 0 or above it.
+#[inline(always)]
+fn change_of(below: bool, size: u64) -> i64
+    requires some { 1 ≤ size }
+    requires small { size ≤ max_change }
+    ensures spelled { signed_decimal result ≡ (if below then 45 ∷ [] else []) ++ decimal size }
+    ensures range { IsChange result }
+{
+    if below {
+        -1 - (size - 1) as i64
+    } else {
+        size as i64
+    }
+}
+
+// A change, and what stands behind it. Its sign is as likely the one as the other, so no branch is
+// taken by it.
 #[inline(always)]
 fn change(bytes: &[u8]) -> Option<(i64, &[u8])>
     ensures spelled { IfSome result (λ read. bytes.now ≡ signed_decimal read.0 ++ read.1.now) }
     ensures range { IfSome result (λ read. IsChange read.0) }
 {
-    match bytes {
-        [b'-', digits @ ..] => {
-            let (size, behind) = number(digits)?;
-            if 1 <= size && size <= MAX_CHANGE {
-                Some((-1 - (size - 1) as i64, behind))
-            } else {
-                None
-            }
-        }
-        _ => {
-            let (size, behind) = number(bytes)?;
-            if 1 <= size && size <= MAX_CHANGE {
-                Some((size as i64, behind))
-            } else {
-                None
-            }
-        }
+    let (below, digits) = sign(bytes);
+    let (size, behind) = number(digits)?;
+    if 1 <= size && size <= MAX_CHANGE {
+        Some((change_of(below, size), behind))
+    } else {
+        None
     }
 }
 
@@ -160,4 +223,109 @@ pub(crate) fn restart_at(bytes: &[u8]) -> Option<(u32, &[u8])>
     let (epoch, left) = number_behind_space(words, 1, u64::from(MAX_EPOCH))?;
     let rest = behind(left, b'\n')?;
     Some((epoch as u32, rest))
+}
+
+// A space and the letter of a kind, and what stands behind them.
+#[inline(always)]
+fn kind_behind_space(bytes: &[u8]) -> Option<(Kind, &[u8])>
+    ensures spelled { IfSome result (λ read. bytes.now ≡ (32 ∷ kind_word read.0) ++ read.1.now) }
+{
+    match bytes {
+        [b' ', b'l', behind @ ..] => Some((Kind::Lower, behind)),
+        [b' ', b'r', behind @ ..] => Some((Kind::Raise, behind)),
+        _ => None,
+    }
+}
+
+// The words of a total up to the end of the line, and what stands behind that line.
+#[inline(always)]
+fn total_line(bytes: &[u8]) -> Option<(Total, &[u8])>
+    ensures spelled { IfSome result (λ read. bytes.now
+        ≡ words_spaced (total_words read.0.site read.0.field read.0.kind read.0.total)
+        ++ 10 ∷ read.1.now) }
+    ensures range { IfSome result (λ read. IsListed read.0) }
+{
+    let (site, left) = number_behind_space(bytes, 0, MAX_PLACE)?;
+    let (field, left) = number_behind_space(left, 0, MAX_PLACE)?;
+    let (kind, left) = kind_behind_space(left)?;
+    let (total, left) = number_behind_space(left, 1, MAX_TOTAL)?;
+    let rest = behind(left, b'\n')?;
+    let told = Total {
+        site: SiteNo(site as u16),
+        field: FieldNo(field as u16),
+        kind,
+        total,
+    };
+    Some((told, rest))
+}
+
+// The same of a total that was given up.
+#[inline(always)]
+fn cut_line(bytes: &[u8]) -> Option<(Cut, &[u8])>
+    ensures spelled { IfSome result (λ read. bytes.now
+        ≡ words_spaced (cut_words read.0.field read.0.kind read.0.total) ++ 10 ∷ read.1.now) }
+    ensures range { IfSome result (λ read. IsListedCut read.0) }
+{
+    let (field, left) = number_behind_space(bytes, 0, MAX_PLACE)?;
+    let (kind, left) = kind_behind_space(left)?;
+    let (total, left) = number_behind_space(left, 1, MAX_CHANGE)?;
+    let rest = behind(left, b'\n')?;
+    let told = Cut {
+        field: FieldNo(field as u16),
+        kind,
+        total,
+    };
+    Some((told, rest))
+}
+
+/// The record whose text the bytes begin with, but a summary, and what stands behind the text. A
+/// commit's escrows are put in place of what `held` holds. None tells nothing. Takes no memory.
+#[inline(always)]
+pub(crate) fn common_at<'a>(
+    held: &mut Vec<Escrow>,
+    bytes: &'a [u8],
+) -> Option<(CommonRecord, &'a [u8])>
+    ensures { IfSome result (λ read. IsRecordAt bytes.now (record_told read.0 held.new.items)
+        read.1.now) }
+{
+    match bytes {
+        [b'C', ..] => {
+            let (txn, behind) = commit_at(held, bytes)?;
+            Some((CommonRecord::Commit { txn }, behind))
+        }
+        [b'R', ..] => {
+            let (epoch, behind) = restart_at(bytes)?;
+            Some((CommonRecord::Restart { epoch }, behind))
+        }
+        [b'G', words @ ..] => {
+            let (told, behind) = total_line(words)?;
+            let gift = CommonRecord::Gift {
+                to: told.site,
+                field: told.field,
+                kind: told.kind,
+                total: told.total,
+            };
+            Some((gift, behind))
+        }
+        [b'A', words @ ..] => {
+            let (told, behind) = total_line(words)?;
+            let accept = CommonRecord::Accept {
+                from: told.site,
+                field: told.field,
+                kind: told.kind,
+                total: told.total,
+            };
+            Some((accept, behind))
+        }
+        [b'T', words @ ..] => {
+            let (told, behind) = cut_line(words)?;
+            let tighten = CommonRecord::Tighten {
+                field: told.field,
+                kind: told.kind,
+                total: told.total,
+            };
+            Some((tighten, behind))
+        }
+        _ => None,
+    }
 }

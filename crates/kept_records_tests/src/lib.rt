@@ -4,4 +4,6 @@
 #[cfg(test)]
 mod end_tests;
 #[cfg(test)]
+mod lent_tests;
+#[cfg(test)]
 mod tests;

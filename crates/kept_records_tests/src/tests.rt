@@ -11,7 +11,7 @@ use std::alloc::Global;
 use std::process::Abort;
 
 /// Lines that are no records, each for one reason.
-const NO_RECORDS: [&str; 78] = [
+pub(crate) const NO_RECORDS: [&str; 78] = [
     "\n",
     " \n",
     "r 1\n",
@@ -93,7 +93,7 @@ const NO_RECORDS: [&str; 78] = [
 ];
 
 /// Lines at the ends of the ranges.
-const RECORDS: [&str; 13] = [
+pub(crate) const RECORDS: [&str; 13] = [
     "C 1000000000 1000000000 65535 2000000000000000\n",
     "C 0 1 0 1 0 1 0 1 0 1 0 1 0 1 0 1 0 1 0 1 0 1 0 1 0 1 0 1 0 1 0 1 0 1\n",
     "G 0 0 l 1\n",

@@ -11,6 +11,7 @@ ghost use Rattle.kept_records.specs.Text.{IsRecord, IsSummary};
 ghost use Rattle.kept_records.specs.Stands.{is_field, is_other_site, is_summary, Lawful};
 ghost use Rattle.kept_records.specs.Summary.{rises, cut_told_more, cut_told, rights_of};
 ghost use Rattle.kept_records.specs.Summaries.{TellsOf};
+ghost use Rattle.kept_records.specs.Lent.{record_told};
 ghost use Rattle.site_rights.specs.Rights.{AreInRange, by_escrows, after_take};
 ghost use Rattle.gift_ledger.specs.Ledger.{IsSlot, total_at, accepted_at};
 ghost use Rattle.log_replay.specs.Standing.{HasSlots, IsStandingFor, AreFree, TakesIn, is_on_field};
@@ -18,7 +19,7 @@ ghost use Rattle.log_replay.specs.Resuming.{NotesGifts, NotesAccepts};
 
 use field_bounds::{Escrow, FieldNo, Kind, Schema, SiteNo, TxnId};
 use gift_ledger::Ledger;
-use kept_records::{Cut, Record, Summary, Total};
+use kept_records::{CommonRecord, Cut, Record, Summary, Total};
 use site_rights::{Outcome, Rights};
 use std::alloc::{AllocError, Global};
 
@@ -124,8 +125,51 @@ impl Standing {
         }
     }
 
-    /// Takes in a commit: it is of the standing's epoch, and spends what is owned.
+    /// Takes in the next record where it is one that a reader lends, with the escrows of a commit.
+    /// Of it the same is said as of `take_in`.
+    #[inline(always)]
+    pub fn take_common(&mut self, schema: &Schema, told: CommonRecord, escrows: &[Escrow]) -> bool
+        requires places { HasSlots schema.now self.old.rights self.old.ledger }
+        requires in_range { IsRecord (record_told told escrows.now) }
+        ensures takes_in { TakesIn schema.now self.old
+            (record_told told escrows.now) result self.new }
+    {
+        match told {
+            CommonRecord::Commit { txn } => self.commit(schema, txn, escrows),
+            CommonRecord::Gift {
+                to,
+                field,
+                kind,
+                total,
+            } => self.give(schema, to, field, kind, total),
+            CommonRecord::Accept {
+                from,
+                field,
+                kind,
+                total,
+            } => self.accept(schema, from, field, kind, total),
+            CommonRecord::Tighten { field, kind, total } => {
+                self.tighten(schema, field, kind, total)
+            }
+            CommonRecord::Restart { epoch } => self.restart(epoch),
+        }
+    }
+
+    /// Takes in a commit. Most have one escrow: the code is there a second time for that number,
+    /// which is known there, so that its loops are gone.
     fn commit(&mut self, schema: &Schema, txn: TxnId, escrows: &[Escrow]) -> bool
+        requires places { HasSlots schema.now self.old.rights self.old.ledger }
+        ensures takes_in { TakesIn schema.now self.old (Commit txn escrows.now) result self.new }
+    {
+        if escrows.len() == 1 {
+            return self.commit_all(schema, txn, &escrows[..1]);
+        }
+        self.commit_all(schema, txn, escrows)
+    }
+
+    /// Takes in a commit: it is of the standing's epoch, and spends what is owned.
+    #[inline(always)]
+    fn commit_all(&mut self, schema: &Schema, txn: TxnId, escrows: &[Escrow]) -> bool
         requires places { HasSlots schema.now self.old.rights self.old.ledger }
         ensures takes_in { TakesIn schema.now self.old (Commit txn escrows.now) result self.new }
     {
@@ -289,6 +333,7 @@ fn cut_rows(alloc: Global, fields: u16, cuts: &[Cut]) -> Result<Vec<(u64, u64)>,
 }
 
 /// Whether each escrow is on a field of the schema.
+#[inline(always)]
 fn are_fields(schema: &Schema, escrows: &[Escrow]) -> bool
     ensures { result ≡ list_all (is_on_field schema.now) escrows.now }
 {
@@ -299,6 +344,7 @@ fn are_fields(schema: &Schema, escrows: &[Escrow]) -> bool
 
 /// Sets the rights aside that escrows take, one after another, and answers whether so many were
 /// free. Where they weren't, nothing is claimed of what is left.
+#[inline(always)]
 fn take_all(rights: &mut Rights, escrows: &[Escrow]) -> bool
     requires in_range { AreInRange rights.old escrows.now }
     ensures enough { IsTrue result ↔ AreFree rights.old escrows.now }

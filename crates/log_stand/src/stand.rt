@@ -4,7 +4,7 @@ ghost use Rattle.std.specs.Prelude.{◌≡◌, ◌↔◌, IsTrue, IfOk};
 ghost use Rattle.kept_records.specs.Stands.{later};
 ghost use Rattle.log_stand.specs.Stand.{IsStandOf};
 
-use kept_records::{Record, RecordLine, RecordLines};
+use kept_records::{LentRecords, Record, RecordLine};
 use std::alloc::{AllocError, Global};
 
 /// The epoch of a log's last restart, or 0, and the length of its records in bytes.
@@ -47,8 +47,15 @@ pub fn stand_of(alloc: Global, bytes: &[u8]) -> Result<Stand, AllocError>
     ensures stand { IfOk result (IsStandOf bytes.now) }
 {
     let mut epoch = 0;
-    let mut lines = RecordLines::new(alloc, bytes);
-    while let RecordLine::Record(next) = lines.next(alloc)? {
+    let mut lines = LentRecords::new(alloc, bytes);
+    'lines: loop {
+        if let Some(next) = lines.next_common() {
+            epoch = next.epoch_behind(epoch);
+            continue 'lines;
+        }
+        let RecordLine::Record(next) = lines.next_line(alloc)? else {
+            break 'lines;
+        };
         epoch = later(epoch, &next);
         lines.give_back(next);
     }

@@ -3,13 +3,13 @@ use Rattle.kept_records.specs.declared.record.Record.{Record}
 use Rattle.log_replay.specs.Resuming.{IsEnd, Walks}
 use Rattle.log_replay.proofs.resuming.resume.Given as goal
 
--- the standing is for the records so far, and the cursor has the others
-abbrev pub invariant-loop-records : goal.invariant-loop-records
-invariant-loop-records l = record {
-  few : l.turns + length l.records ≤ length l.fn.end.lines;
+-- the standing is for the records so far, and the reader has the others
+abbrev pub invariant-records : goal.invariant-records
+invariant-records l = record {
+  few : l.turns + length l.records.left ≤ length l.fn.end.lines;
   walks : (all : List Record) → (end_ : IsEnd l.fn.schema l.fn.site.0 all l.fn.end)
-      → Walks l.fn.schema l.fn.site.0 all l.fn.end end_ l.standing l.turns l.records;
+      → Walks l.fn.schema l.fn.site.0 all l.fn.end end_ l.standing l.turns l.records.left;
 }
 
-abbrev pub decreases-loop-records : goal.decreases-loop-records
-decreases-loop-records l = length l.records
+abbrev pub decreases-records : goal.decreases-records
+decreases-records l = length l.records.left

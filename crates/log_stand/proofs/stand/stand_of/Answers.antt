@@ -5,52 +5,84 @@ use Rattle.kept_records.specs.declared.record_lines.RecordLine.{RecordLine}
 use Rattle.kept_records.specs.Text.{text}
 use Rattle.kept_records.specs.Stands.{later, greatest}
 use Rattle.kept_records.specs.Lines.{IsRecordAt, HandsLine, Begins}
+use Rattle.kept_records.specs.Lent.{record_told}
+use Rattle.kept_records.proofs.Cursors.{fewer}
 use Rattle.kept_records.proofs.Pushes.{greatest_none, greatest_push}
-use Rattle.kept_records.proofs.Walks.{begins_none, begins_more, begins_size}
+use Rattle.kept_records.proofs.Walks.{at_line, begins_none, begins_more, begins_size}
 use Rattle.log_stand.proofs.Fronts.{all_records}
 use Rattle.log_stand.proofs.stand.stand_of.Goals as goal
 
-pub loop-lines-init : goal.loop-lines-init
-loop-lines-init c =
+pub lines-init : goal.lines-init
+lines-init c =
     let all = c.new-lines.ensures.all in
     record {
       within = omega (arith, ap length all);
       front = ([], subst (λ (l : List ℕ). Begins c.args.bytes.now [] l) (sym all) (begins_none c.args.bytes.now), sym greatest_none);
     }
 
-pub loop-lines-preserved : goal.loop-lines-preserved
-loop-lines-preserved c =
+pub lines-preserved-in-Some : goal.lines-preserved-in-Some
+lines-preserved-in-Some c =
     let bytes = c.args.bytes.now in
-    let rs = c.loop-lines.invariant.front.0 in
-    let so_far = c.loop-lines.invariant.front.1 in
-    let next = c.in-Record.next in
-    let left = c.loop-lines.lines in
-    let new = c.next.new.self in
-    let at : IsRecordAt left next new =
-    subst (λ (l : RecordLine). HandsLine left l new) c.in-Record.is c.in_ok-next.ensures.handed in
-    let same = c.give_back.ensures.same in
+    let rs = c.lines.invariant.front.0 in
+    let lent = c.next_common.new.self in
+    let next = record_told c.in-Some.next lent.escrows in
     record {
-      within = omega (arith, ap length same, c.next.ensures.within, c.loop-lines.invariant.within);
+      within = omega (arith, c.in-Some.ensures.shorter, c.lines.invariant.within);
       front = (
         rs ++ next ∷ [],
-        subst (λ (l : List ℕ). Begins bytes (rs ++ next ∷ []) l) (sym same) (begins_more bytes rs left next new so_far at),
-        c.later-epoch.ensures ∙ ap (λ (n : ℕ). later n next) c.loop-lines.invariant.front.2 ∙ sym (greatest_push rs next),
+        begins_more bytes rs c.lines.lines.left next lent.left c.lines.invariant.front.1 c.in-Some.ensures.handed,
+        c.epoch_behind-epoch.ensures.value lent.escrows ∙ ap (λ (n : ℕ). later n next) c.lines.invariant.front.2 ∙ sym (greatest_push rs next),
       );
     }
+
+pub lines-smaller : goal.lines-smaller
+lines-smaller c =
+    let at : IsRecordAt c.lines.lines.left c.in-Record.next c.next_line.new.self.left = at_line c.lines.lines.left c.next_common.new.self.left
+    c.next_line.new.self.left c.in_ok-next.field-0 c.in-Record.next c.in_default.ensures.handed c.in-Record.is c.in_ok-next.ensures.handed in
+    omega (arith, fewer c.lines.lines.left c.next_line.new.self.left c.in-Record.next at.parts, ap length c.give_back.ensures.same)
+
+pub lines-preserved : goal.lines-preserved
+lines-preserved c =
+    let bytes = c.args.bytes.now in
+    let rs = c.lines.invariant.front.0 in
+    let left = c.lines.lines.left in
+    let next = c.in-Record.next in
+    let new = c.next_line.new.self.left in
+    let at : IsRecordAt left next new = at_line left c.next_common.new.self.left new c.in_ok-next.field-0 next c.in_default.ensures.handed
+    c.in-Record.is c.in_ok-next.ensures.handed in
+    let same = c.give_back.ensures.same in
+    record {
+      within = omega (arith, ap length same, fewer left new next at.parts, c.lines.invariant.within);
+      front = (
+        rs ++ next ∷ [],
+        subst (λ (l : List ℕ). Begins bytes (rs ++ next ∷ []) l) (sym same) (begins_more bytes rs left next new c.lines.invariant.front.1 at),
+        c.later-epoch.ensures ∙ ap (λ (n : ℕ). later n next) c.lines.invariant.front.2 ∙ sym (greatest_push rs next),
+      );
+    }
+
+pub overflow_sub-result : goal.overflow_sub-result
+overflow_sub-result c = omega (
+  arith,
+  c.left.ensures.value,
+  c.next_line.ensures.within,
+  ap length c.in_default.ensures.handed,
+  c.lines.invariant.within,
+)
 
 pub returns : goal.returns
 returns c =
     let bytes = c.args.bytes.now in
-    let rs = c.loop-lines.invariant.front.0 in
-    let so_far = c.loop-lines.invariant.front.1 in
-    let left = c.loop-lines.lines in
+    let rs = c.lines.invariant.front.0 in
+    let left = c.lines.lines.left in
+    let so_far = c.lines.invariant.front.1 in
+    let new = c.next_line.new.self.left in
+    let handed = subst (λ (l : List ℕ). HandsLine l c.in_ok-next.field-0 new) c.in_default.ensures.handed c.in_ok-next.ensures.handed in
     record {
       stand = λ all rest log.
-          let told = all_records bytes rs left c.in_ok-next.field-0 c.next.new.self so_far c.in_ok-next.ensures.handed c.in_default.not-Record
-          all rest log in
+          let told = all_records bytes rs left c.in_ok-next.field-0 new so_far handed c.in_default-2.not-Record all rest log in
           let size : length bytes - c.left.result ≡ length (flat_map text rs) =
           omega (arith, c.left.ensures.value, ap length told.1, begins_size bytes rs left so_far) in (
-            c.from.ensures ∙ c.loop-lines.invariant.front.2 ∙ ap greatest told.0,
+            c.from.ensures ∙ c.lines.invariant.front.2 ∙ ap greatest told.0,
             size ∙ ap (λ (l : List Record). length (flat_map text l)) told.0,
           );
     }

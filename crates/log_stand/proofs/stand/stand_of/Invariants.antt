@@ -5,11 +5,11 @@ use Rattle.kept_records.specs.Stands.{greatest}
 use Rattle.kept_records.specs.Lines.{Begins}
 use Rattle.log_stand.proofs.stand.stand_of.Given as goal
 
-abbrev pub invariant-loop-lines : goal.invariant-loop-lines
-invariant-loop-lines l = record {
-  within : length l.lines ≤ length l.bytes;
-  front : (rs : List Record) × Begins l.bytes rs l.lines × (l.epoch ≡ greatest rs);
+abbrev pub invariant-lines : goal.invariant-lines
+invariant-lines l = record {
+  within : length l.lines.left ≤ length l.bytes;
+  front : (rs : List Record) × Begins l.bytes rs l.lines.left × (l.epoch ≡ greatest rs);
 }
 
-abbrev pub decreases-loop-lines : goal.decreases-loop-lines
-decreases-loop-lines l = length l.lines
+abbrev pub decreases-lines : goal.decreases-lines
+decreases-lines l = length l.lines.left

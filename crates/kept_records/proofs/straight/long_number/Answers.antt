@@ -6,28 +6,8 @@ use Rattle.std.proofs.lemmas.Bool.Decides.{nat_tests}
 use Rattle.std.proofs.lemmas.Int.Digits.{digits_value_more, digits_more}
 use Rattle.std.proofs.lemmas.List.{take-append-drop, take_rest, length-take, get_or-take}
 use Rattle.line_words.proofs.Numbers.{number_good, number_takes, digit_is}
-use Rattle.kept_records.proofs.straight.number.Goals as goal
-
--- digits at the front, the first other than 0 or alone
-spelled : (w : List ℕ) (n v : ℕ) → 0 < n → n ≤ length w → AllDigits 10 (take n w) → (get_or w 0 0 ≡ 48 → n ≡ 1)
-    → v ≡ digits_value 10 (take n w) → v < 2 ^ 64 → w ≡ decimal v ++ take (length w - n) (drop n w)
-spelled w n v some within digits alone value_is small =
-    let size : length (take n w) ≡ n = omega (arith, length-take n w) in
-    let first : get_or (take n w) 0 0 ≡ get_or w 0 0 = get_or-take n w 0 0 some in
-    let start : get_or (take n w) 0 0 ≡ 48 → length (take n w) ≡ 1 = λ zero. size ∙ alone (sym first ∙ zero) in
-    let good = number_good (2 ^ 64) (take n w) v (omega arith) digits (omega arith) start value_is small in
-    let read = number_takes (2 ^ 64) (take n w) v good in
-    sym (take-append-drop n w) ∙ ap (λ (l : List ℕ). l ++ drop n w) read.1
-    ∙ ap (λ (l : List ℕ). decimal v ++ l) (sym (take_rest w n))
-
--- a digit alone
-one_digit : (w : List ℕ) → 0 < length w → is_ascii_digit (get_or w 0 0) ≡ true
-    → AllDigits 10 (take 1 w) × (digits_value 10 (take 1 w) ≡ get_or w 0 0 - 48)
-one_digit w some is =
-    let d = digit_is (get_or w 0 0) is in
-    let none : AllDigits 10 (take 0 w) = search rules in
-    let zero : digits_value 10 (take 0 w) ≡ 0 = search rules in
-    (digits_more 10 w 0 some none d.0, omega (arith, digits_value_more 10 w 0 some, zero, d.2))
+use Rattle.kept_records.proofs.Digits.{spelled, one_digit}
+use Rattle.kept_records.proofs.straight.long_number.Goals as goal
 
 pub loop-count-init : goal.loop-count-init
 loop-count-init c =
