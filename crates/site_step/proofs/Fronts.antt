@@ -7,6 +7,10 @@ use Rattle.field_bounds.specs.Schema.{SchemaValue}
 use Rattle.kept_records.specs.declared.record.Record.{Record}
 use Rattle.kept_records.specs.Text.{text, letter_of, words_of, words_spaced, IsRecord}
 use Rattle.kept_records.specs.Logs.{HasNoLf, IsLog}
+use Rattle.field_bounds.specs.declared.entry.Escrow.{Escrow}
+use Rattle.kept_records.specs.declared.lent_records.CommonRecord.{CommonRecord}
+use Rattle.kept_records.specs.declared.lent_records.CommonRecord.TheVariants as common
+use Rattle.kept_records.specs.Lent.{record_told}
 use Rattle.kept_records.specs.Lines.{IsRecordAt, Begins}
 use Rattle.kept_records.specs.Stands.{is_summary, plain, may_follow, Lawful, BreaksRule}
 use Rattle.kept_records.proofs.Spaced.{line_spaced}
@@ -32,6 +36,14 @@ two_fewer left r new at = omega (arith, ap length at.parts, length-append (text 
 
 pub plain_more : (rs : List Record) (r : Record) → length (plain (rs ++ r ∷ [])) ≡ length (plain rs) + length (plain (r ∷ []))
 plain_more rs r = ap length (filter-append (λ (x : Record). not (is_summary x)) rs (r ∷ [])) ∙ length-append (plain rs) (plain (r ∷ []))
+
+-- a record that is lent is no summary
+pub lent_plain : (told : CommonRecord) (escrows : List Escrow) → length (plain (record_told told escrows ∷ [])) ≡ 1
+lent_plain (common.Commit txn) escrows = refl
+lent_plain (common.Gift to field kind total) escrows = refl
+lent_plain (common.Accept from field kind total) escrows = refl
+lent_plain (common.Tighten field kind total) escrows = refl
+lent_plain (common.Restart epoch) escrows = refl
 
 -- ---- what stands there
 

@@ -10,7 +10,7 @@ ghost use Rattle.site_step.specs.Opening.{TellsLine, SparesLogs, FailsUnder, IsF
 use crate::extent::Extent;
 use field_bounds::{Schema, SiteNo};
 use history::{GhostHistory, History};
-use kept_records::{Medium, MediumFault, Record, RecordLine, RecordLines};
+use kept_records::{LentRecords, Medium, MediumFault, Record, RecordLine};
 use log_replay::{Standing, take_next};
 use std::alloc::{AllocError, Global};
 use thiserror::Error;
@@ -116,9 +116,20 @@ fn find(alloc: Global, schema: &Schema, site: SiteNo, bytes: &[u8]) -> Result<Fo
     let mut based = GhostHistory::of(Vec::new(alloc));
     let mut number: u64 = 0;
     let mut count: usize = 0;
-    let mut lines = RecordLines::new(alloc, bytes);
+    let mut lines = LentRecords::new(alloc, bytes);
     'lines: loop {
-        match lines.next(alloc)? {
+        if let Some(told) = lines.next_common() {
+            number += 1;
+            if !standing.take_common(schema, told, lines.escrows()) {
+                return Err(OpenFault::Line(number));
+            }
+            count += 1;
+            let next = lines.whole(alloc, told);
+            based.note(&next);
+            lines.give_back(next);
+            continue 'lines;
+        }
+        match lines.next_line(alloc)? {
             RecordLine::Record(next) => {
                 number += 1;
                 if !take_next(alloc, schema, &mut standing, &next)? {
