@@ -3,12 +3,14 @@
 ghost use Rattle.std.specs.Prelude.{◌≡◌, ◌↔◌, ◌⊎◌, ◌≤◌, ℕ, List, true, length, drop, Contains, IfOk, OnOk, OnErr};
 ghost use Rattle.field_bounds.specs.declared.id.TxnId.{TxnId as Txn};
 ghost use Rattle.kept_records.specs.Keeping.{IsKept};
+ghost use Rattle.field_bounds.specs.declared.entry.Escrow.{Escrow};
+ghost use Rattle.kept_records.specs.Lent.{record_told};
 ghost use Rattle.kept_records.specs.Logs.{HasNoLf};
 ghost use Rattle.site_service.specs.Kept.{is_commit_of, TellsCommit};
 ghost use Rattle.site_service.specs.Index.{IsIndexOf};
 
 use field_bounds::TxnId;
-use kept_records::{Cursor, Record};
+use kept_records::{CommonRecord, LentRecords, Record, RecordLine};
 use std::alloc::{AllocError, Global};
 use std::collections::BTreeSet;
 
@@ -45,6 +47,21 @@ impl KeptCommits {
         Ok(())
     }
 
+    // The same of a record that is lent, whatever its escrows are.
+    fn take_common(&mut self, next: CommonRecord) -> Result<(), AllocError>
+        ensures ok { OnOk result ((txn : Txn) (escrows : List Escrow)
+            → Contains self.new.txns.keys txn
+            ↔ ((is_commit_of txn (record_told next escrows) ≡ true)
+            ⊎ Contains self.old.txns.keys txn)) }
+        ensures err { OnErr result (self.new ≡ self.old) }
+        ensures seen { self.new.seen ≡ self.old.seen }
+    {
+        if let CommonRecord::Commit { txn } = next {
+            self.txns.insert(txn)?;
+        }
+        Ok(())
+    }
+
     // Looks at what stands behind the bytes that were looked at.
     fn look(&mut self, alloc: Global, log: &[u8]) -> Result<(), AllocError>
         requires index { IsIndexOf self.old log.now }
@@ -52,11 +69,23 @@ impl KeptCommits {
         ensures index { IsIndexOf self.new log.now }
         ensures all { OnOk result (HasNoLf (drop self.new.seen log.now)) }
     {
-        let mut records = Cursor::new(alloc, &log[self.seen..]);
-        while let Some(record) = records.next(alloc)? {
-            self.take_in(&record)?;
-            records.give_back(record);
-            self.seen = log.len() - records.left();
+        let mut records = LentRecords::new(alloc, &log[self.seen..]);
+        'records: loop {
+            if let Some(next) = records.next_common() {
+                self.take_common(next)?;
+                self.seen = log.len() - records.left();
+                continue 'records;
+            }
+            match records.next_line(alloc)? {
+                RecordLine::Record(record) => {
+                    self.take_in(&record)?;
+                    records.give_back(record);
+                    let left = records.left();
+                    self.seen = log.len() - left;
+                }
+                RecordLine::NoRecord => unreachable!(),
+                RecordLine::End => break 'records,
+            }
         }
         Ok(())
     }

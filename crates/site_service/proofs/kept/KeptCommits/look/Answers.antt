@@ -1,11 +1,18 @@
-use Rattle.std.proofs.Common.{length, drop, sym, ap, ◌∙◌, subst, arith}
+use Rattle.std.proofs.Common.{[], ◌∷◌, length, drop, sym, ap, ◌∙◌, subst, arith, List}
 use Rattle.std.proofs.lemmas.List.{take-append-drop, take_rest}
-use Rattle.site_service.proofs.Index.{rest_kept, index_more}
+use Rattle.kept_records.specs.declared.record_lines.RecordLine.{RecordLine}
 use Rattle.kept_records.specs.Keeping.{IsKept}
+use Rattle.kept_records.specs.Logs.{HasNoLf}
+use Rattle.kept_records.specs.Lines.{IsRecordAt, StartsBad, HandsLine}
+use Rattle.kept_records.specs.Lent.{record_told}
+use Rattle.kept_records.proofs.Cursors.{fewer, kept_behind}
+use Rattle.kept_records.proofs.Lines.{no_log}
+use Rattle.kept_records.proofs.Walks.{at_line, begins_none, bad_there}
+use Rattle.site_service.proofs.Index.{rest_kept, index_more}
 use Rattle.site_service.proofs.kept.KeptCommits.look.Goals as goal
 
-pub loop-records-init : goal.loop-records-init
-loop-records-init c =
+pub records-init : goal.records-init
+records-init c =
     let log = c.args.log.now in
     let index = c.requires.index in
     let left = c.new-records.ensures.all ∙ take_rest log c.args.self.now.seen in
@@ -16,16 +23,50 @@ loop-records-init c =
           (rest_kept _ (drop c.args.self.now.seen log) log index.records index.lines (sym (take-append-drop c.args.self.now.seen log)) c.requires.log);
     }
 
-pub loop-records-preserved : goal.loop-records-preserved
-loop-records-preserved c =
-    let old = c.loop-records.self in
-    let inv = c.loop-records.invariant in
-    let handed = rw c.in-Some.is at c.in_ok-record.ensures.handed in
+pub records-preserved-in-Some : goal.records-preserved-in-Some
+records-preserved-in-Some c =
+    let old = c.records.self in
+    let inv = c.records.invariant in
+    let lent = c.next_common.new.self in
+    let next = record_told c.in-Some.next lent.escrows in
+    let at : IsRecordAt c.records.records.left next lent.left = c.in-Some.ensures.handed in
+    let more = index_more old (record { txns = c.take_common.new.self.txns; seen = _ }) c.args.log.now lent.left next inv.index
+    (sym inv.left ∙ at.parts) at.fits (λ txn. c.in_ok-take_common.ensures.ok txn lent.escrows) (omega (arith, c.left.ensures.value)) in
+    record {
+      index = more.0;
+      left = more.1;
+      kept = kept_behind c.records.records.left lent.left next inv.kept at.parts at.fits;
+    }
+
+pub records-smaller : goal.records-smaller
+records-smaller c =
+    let at : IsRecordAt c.records.records.left c.in-Record.record c.next_line.new.self.left = at_line c.records.records.left
+    c.next_common.new.self.left c.next_line.new.self.left c.in_ok-record.field-0 c.in-Record.record c.in_default.ensures.handed
+    c.in-Record.is c.in_ok-record.ensures.handed in
+    omega (arith, fewer c.records.records.left c.next_line.new.self.left c.in-Record.record at.parts, ap length c.give_back.ensures.same)
+
+pub records-preserved : goal.records-preserved
+records-preserved c =
+    let old = c.records.self in
+    let inv = c.records.invariant in
+    let new = c.next_line.new.self.left in
+    let at : IsRecordAt c.records.records.left c.in-Record.record new = at_line c.records.records.left
+    c.next_common.new.self.left new c.in_ok-record.field-0 c.in-Record.record c.in_default.ensures.handed
+    c.in-Record.is c.in_ok-record.ensures.handed in
     let same = c.give_back.ensures.same in
-    let more = index_more old (record { txns = c.take_in.new.self.txns; seen = _ }) c.args.log.now c.next.new.self c.in-Some.record inv.index
-    (sym inv.left ∙ handed.0) handed.1 c.in_ok-take_in.ensures.ok (omega (arith, c.left.ensures.value, ap length same)) in
+    let more = index_more old (record { txns = c.take_in.new.self.txns; seen = _ }) c.args.log.now new c.in-Record.record inv.index
+    (sym inv.left ∙ at.parts) at.fits c.in_ok-take_in-in-Record.ensures.ok (omega (arith, c.left-left.ensures.value, ap length same)) in
     record {
       index = more.0;
       left = same ∙ more.1;
-      kept = subst IsKept (sym same) c.in_ok-record.ensures.log;
+      kept = subst IsKept (sym same) (kept_behind c.records.records.left new c.in-Record.record inv.kept at.parts at.fits);
     }
+
+pub unreachable-requires : goal.unreachable-requires
+unreachable-requires c =
+    let left = c.records.records.left in
+    let inv = c.records.invariant in
+    let handed = subst (λ (l : RecordLine). HandsLine c.next_common.new.self.left l c.next_line.new.self.left) c.in-NoRecord.is
+    c.in_ok-record.ensures.handed in
+    let bad = subst StartsBad c.in_default.ensures.handed handed.0 in
+    no_log left 1 (bad_there left [] left 0 (begins_none left) bad).0 inv.kept.0 inv.kept.1 inv.kept.2

@@ -4,12 +4,12 @@ use Rattle.kept_records.specs.Keeping.{IsKept}
 use Rattle.site_service.specs.Index.{IsIndexOf}
 use Rattle.site_service.proofs.kept.KeptCommits.look.Given as goal
 
-abbrev pub invariant-loop-records : goal.invariant-loop-records
-invariant-loop-records l = record {
+abbrev pub invariant-records : goal.invariant-records
+invariant-records l = record {
   index : IsIndexOf l.self l.log;
-  left : l.records ≡ drop l.self.seen l.log;
-  kept : IsKept l.records;
+  left : l.records.left ≡ drop l.self.seen l.log;
+  kept : IsKept l.records.left;
 }
 
-abbrev pub decreases-loop-records : goal.decreases-loop-records
-decreases-loop-records l = length l.records
+abbrev pub decreases-records : goal.decreases-records
+decreases-records l = length l.records.left
