@@ -8,6 +8,7 @@ ghost use Rattle.escrow_journal.specs.Kept.{rows_of, index_of};
 use field_bounds::{Escrow, FieldNo, TxnId};
 use std::alloc::{AllocError, Global};
 use std::marker::Model;
+use std::mem;
 
 #[derive(Drop)]
 struct OpenTransaction {
@@ -28,6 +29,8 @@ struct OpenTransaction {
 #[derive(Drop)]
 pub struct Journal {
     rows: Vec<OpenTransaction>,
+    // The next transaction that begins puts its escrows here, in place of what it holds.
+    spare: Vec<Escrow>,
 }
 
 impl Model for Journal {
@@ -44,6 +47,9 @@ impl Model for Journal {
 
 /// A look through so many rows costs no more than a guess.
 const FEW: usize = 4;
+
+/// Memory for so many escrows is what a first one takes.
+const SPARE: usize = 4;
 
 /// A guess at the place of the transaction of a number, among rows of one epoch whose numbers rise
 /// from row to row. No more rows lie before it than numbers from the first row's to its own, and no
@@ -106,6 +112,7 @@ impl Journal {
     {
         Journal {
             rows: Vec::new(alloc),
+            spare: Vec::new(alloc),
         }
     }
 
@@ -137,14 +144,15 @@ impl Journal {
 
     /// Opens a transaction, with no escrow, behind those that are open. It may not be open yet, and
     /// fewer than 64 may be: `is_open` and `count` tell both. The error is want of memory, and
-    /// changes nothing. Costs one row.
+    /// changes nothing. Costs one row. Its first escrows go where `reuse` left memory for them.
     pub fn begin(&mut self, txn: TxnId) -> Result<(), AllocError>
         requires closed { is_listed txn self.old ≡ false }
         requires room { length self.old < max_open }
         ensures ok { OnOk result (self.new ≡ self.old ++ (txn, []) ∷ []) }
         ensures err { OnErr result (self.new ≡ self.old) }
     {
-        let escrows = Vec::new(*self.rows.allocator());
+        let mut escrows = mem::replace(&mut self.spare, Vec::new(*self.rows.allocator()));
+        escrows.clear();
         self.rows.push(OpenTransaction { txn, escrows })?;
         Ok(())
     }
@@ -177,6 +185,18 @@ impl Journal {
         let at = place(&self.rows, txn)?;
         let OpenTransaction { txn: _, escrows } = self.rows.remove(at);
         Some(escrows)
+    }
+
+    /// Takes the memory of a list of escrows, as `take_out` answers them, for those of the next
+    /// transaction that begins: so many small transactions, one after another, take it once. No
+    /// more is kept than one memory, of at most 4 escrows, which any first escrow would take;
+    /// other memory is given back. Changes no row.
+    pub fn reuse(&mut self, escrows: Vec<Escrow>)
+        ensures same { self.new ≡ self.old }
+    {
+        if escrows.capacity() <= SPARE {
+            self.spare = escrows;
+        }
     }
 
     /// Takes every transaction out. Takes no memory; costs a step for each row.
