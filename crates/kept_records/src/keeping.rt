@@ -2,7 +2,7 @@
 
 ghost use Rattle.std.specs.Prelude.{◌≡◌, ◌≤◌, OnOk, OnErr, IfOk, length};
 ghost use Rattle.std.specs.List.{flat_map, AllByRecursion};
-ghost use Rattle.kept_records.specs.declared.record.Record.TheVariants.{Restart};
+ghost use Rattle.kept_records.specs.declared.record.Record.TheVariants.{Commit, Restart};
 ghost use Rattle.kept_records.specs.Text.{text, IsRecord};
 ghost use Rattle.kept_records.specs.Medium.{AppendFate};
 ghost use Rattle.kept_records.specs.Keeping.{with_due, Appends, CutsAndAppends, CutAndAppendFate, is_restart, starts_with_no_restart};
@@ -10,7 +10,8 @@ ghost use Rattle.kept_records.specs.Keeping.{with_due, Appends, CutsAndAppends, 
 use crate::medium::{Device, Medium};
 use crate::record::Record;
 use crate::summary::Summary;
-use crate::writing::put_piece;
+use crate::writing::{put_commit, put_piece};
+use field_bounds::{Escrow, TxnId};
 use std::alloc::AllocError;
 
 /// Adds a record behind the bytes of a medium, and in the same piece, with one call of the medium,
@@ -41,6 +42,32 @@ pub fn append_piece<M: Medium>(
     medium.reserve(line.len())?;
     let added = medium.append(line);
     Ok(added)
+}
+
+/// Adds the record of a commit behind the bytes of a medium, as `append_piece` does where no
+/// summary is due, from its escrows where they stand: so no record is made of them first. The
+/// errors are those of `append_piece`.
+pub fn append_commit<M: Medium>(
+    line: &mut Vec<u8>,
+    medium: &mut M,
+    txn: TxnId,
+    escrows: &[Escrow],
+) -> Result<Result<(), Device>, AllocError>
+    requires ranges { IsRecord (Commit txn escrows.now) }
+    ensures added { IfOk result (λ added. Appends added (M.bytes medium.old)
+        (text (Commit txn escrows.now)) (M.bytes medium.new) (M.failed medium.old)
+        (M.failed medium.new)) }
+    ensures fate { IfOk result (λ added. AppendFate (M.foretold medium.old) (M.bytes medium.old)
+        (text (Commit txn escrows.now)) added (M.bytes medium.new) (M.foretold medium.new)) }
+    ensures line { IfOk result (λ _. line.new.items ≡ text (Commit txn escrows.now)) }
+    ensures bytes { OnErr result (M.bytes medium.new ≡ M.bytes medium.old) }
+    ensures failed { OnErr result (M.failed medium.new ≡ M.failed medium.old) }
+    ensures foretold { OnErr result (M.foretold medium.new ≡ M.foretold medium.old) }
+{
+    put_commit(line, txn, escrows)?;
+    medium.reserve(line.len())?;
+    let stood = medium.append(line);
+    Ok(stood)
 }
 
 // Cuts what stands behind the first bytes, where there is something, and adds a line.

@@ -1,8 +1,9 @@
 //! Writing records.
 
-ghost use Rattle.std.specs.Prelude.{◌≡◌, ◌++◌, ◌∷◌, OnOk, IfOk};
+ghost use Rattle.std.specs.Prelude.{◌≡◌, ◌+◌, ◌<◌, ◌/◌, ◌%◌, ◌++◌, ◌∷◌, [], OnOk, IfOk};
 ghost use Rattle.std.specs.Fmt.{decimal, signed_decimal};
 ghost use Rattle.std.specs.List.{flat_map};
+ghost use Rattle.kept_records.specs.declared.record.Record.TheVariants.{Commit};
 ghost use Rattle.kept_records.specs.Keeping.{with_due};
 ghost use Rattle.kept_records.specs.Text.{text, letter_of, words_of, words_spaced, kind_word, escrow_words, total_words, cut_words, rights_words, group_words, cuts_words, summary_words, IsRecord};
 ghost use Rattle.kept_records.specs.Logs.{TearsClean};
@@ -11,7 +12,7 @@ ghost use Rattle.kept_records.specs.Summary.{summary_told};
 use crate::record::Record;
 use crate::summary::Summary;
 use crate::total::{Cut, Total};
-use field_bounds::{Escrow, FieldNo, Kind, SiteNo};
+use field_bounds::{Escrow, FieldNo, Kind, SiteNo, TxnId};
 use itoa::Buffer;
 use std::alloc::{AllocError, Global};
 
@@ -25,13 +26,71 @@ fn push_word(line: &mut Vec<u8>, word: &[u8]) -> Result<(), AllocError>
     Ok(())
 }
 
+// Adds a digit.
+#[inline(always)]
+fn push_digit(line: &mut Vec<u8>, digit: u64) -> Result<(), AllocError>
+    requires { digit < 10 }
+    ensures { OnOk result (line.new.items ≡ line.old.items ++ (48 + digit) ∷ []) }
+{
+    line.push(b'0' + digit as u8)?;
+    Ok(())
+}
+
+// Adds the two digits of a number below 100, the first of which may be 0.
+#[inline(always)]
+fn push_pair(line: &mut Vec<u8>, number: u64) -> Result<(), AllocError>
+    requires { number < 100 }
+    ensures { OnOk result (line.new.items ≡ line.old.items
+        ++ (48 + number / 10) ∷ (48 + number % 10) ∷ []) }
+{
+    push_digit(line, number / 10)?;
+    push_digit(line, number % 10)
+}
+
+// Adds a number of one digit or of two.
+#[inline(always)]
+fn push_two(line: &mut Vec<u8>, number: u64) -> Result<(), AllocError>
+    requires { number < 100 }
+    ensures { OnOk result (line.new.items ≡ line.old.items ++ decimal number) }
+{
+    if number < 10 {
+        return push_digit(line, number);
+    }
+    push_pair(line, number)
+}
+
+// Adds a number. Digit by digit where they are few, as those of most records are: that takes no
+// buffer and no call that copies.
+#[inline(always)]
+fn push_digits(line: &mut Vec<u8>, number: u64) -> Result<(), AllocError>
+    ensures { OnOk result (line.new.items ≡ line.old.items ++ decimal number) }
+{
+    if number < 100 {
+        return push_two(line, number);
+    }
+    if number < 10_000 {
+        push_two(line, number / 100)?;
+        return push_pair(line, number % 100);
+    }
+    push_many(line, number)
+}
+
+// Adds a number of any size.
+fn push_many(line: &mut Vec<u8>, number: u64) -> Result<(), AllocError>
+    ensures { OnOk result (line.new.items ≡ line.old.items ++ decimal number) }
+{
+    let mut buffer = Buffer::new();
+    line.extend_from_slice(buffer.format(number).as_bytes())?;
+    Ok(())
+}
+
 // Adds a space and a number.
 #[inline(always)]
 fn push_number(line: &mut Vec<u8>, number: u64) -> Result<(), AllocError>
     ensures { OnOk result (line.new.items ≡ line.old.items ++ 32 ∷ decimal number) }
 {
-    let mut buffer = Buffer::new();
-    push_word(line, buffer.format(number).as_bytes())
+    line.push(b' ')?;
+    push_digits(line, number)
 }
 
 // Adds a space and a number with its sign.
@@ -39,8 +98,12 @@ fn push_number(line: &mut Vec<u8>, number: u64) -> Result<(), AllocError>
 fn push_signed(line: &mut Vec<u8>, number: i64) -> Result<(), AllocError>
     ensures { OnOk result (line.new.items ≡ line.old.items ++ 32 ∷ signed_decimal number) }
 {
-    let mut buffer = Buffer::new();
-    push_word(line, buffer.format(number).as_bytes())
+    line.push(b' ')?;
+    if number < 0 {
+        line.push(b'-')?;
+        return push_digits(line, number.unsigned_abs());
+    }
+    push_digits(line, number.unsigned_abs())
 }
 
 fn kind_letter(kind: Kind) -> &'static [u8]
@@ -173,16 +236,23 @@ fn letter(kept: &Record) -> u8
     }
 }
 
+// Adds the words of a commit behind its letter, a space before each.
+#[inline(always)]
+fn push_commit(line: &mut Vec<u8>, txn: TxnId, escrows: &[Escrow]) -> Result<(), AllocError>
+    ensures { OnOk result (line.new.items ≡ line.old.items
+        ++ words_spaced (words_of (Commit txn escrows.now))) }
+{
+    push_number(line, u64::from(txn.epoch))?;
+    push_number(line, u64::from(txn.number))?;
+    push_escrows(line, escrows)
+}
+
 // Adds the words of a record behind its letter, a space before each.
 fn push_words(line: &mut Vec<u8>, kept: &Record) -> Result<(), AllocError>
     ensures { OnOk result (line.new.items ≡ line.old.items ++ words_spaced (words_of kept.now)) }
 {
     match kept {
-        Record::Commit { txn, escrows } => {
-            push_number(line, u64::from(txn.epoch))?;
-            push_number(line, u64::from(txn.number))?;
-            push_escrows(line, escrows.as_slice())
-        }
+        Record::Commit { txn, escrows } => push_commit(line, *txn, escrows.as_slice()),
         Record::Gift {
             to,
             field,
@@ -231,6 +301,22 @@ pub(crate) fn put_record(line: &mut Vec<u8>, kept: &Record) -> Result<(), AllocE
 {
     line.clear();
     push_record(line, kept)
+}
+
+/// Writes the text of the record of a commit, as `put_record` does, from its escrows where they
+/// stand. The error is want of memory; `line` then holds anything.
+pub(crate) fn put_commit(
+    line: &mut Vec<u8>,
+    txn: TxnId,
+    escrows: &[Escrow],
+) -> Result<(), AllocError>
+    ensures text { OnOk result (line.new.items ≡ text (Commit txn escrows.now)) }
+{
+    line.clear();
+    line.push(b'C')?;
+    push_commit(line, txn, escrows)?;
+    line.push(b'\n')?;
+    Ok(())
 }
 
 /// Writes the text of a record, and behind it that of the summary that is due, in place of what
