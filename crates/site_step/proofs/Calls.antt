@@ -263,6 +263,15 @@ module _ {v w : SiteValue} {up : Bool} {extent : Extent} {a : Accounts} (was : I
         (sym (due_now kept due kept_is told_ ∙ ap (λ (r : Record). piece v.schema v.site.0 was.records r) (same_record kept_is)))
         (lines_fit v up extent a was c unrefused writing fits)
 
+    -- where none is due, the record is all that is appended
+    pub none_due : (kept : Record) → nat_le max_behind (extent.behind + 1) ≡ false
+        → (rs : List Record) (rest : List ℕ) → IsLog v.bytes rs rest → with_due kept None ≡ piece v.schema v.site.0 rs kept
+    none_due kept off rs rest log =
+        let same = (same_log v.bytes was.records rs was.rest rest was.log log).0 in
+        let behind : extent.behind ≡ since_summary rs = (reached v up extent a was c unrefused writing fits).behind ∙ ap since_summary same in
+        let none_now : nat_le max_behind (since_summary rs + 1) ≡ false = ap (λ (n : ℕ). nat_le max_behind (n + 1)) (sym behind) ∙ off in
+        rw none_now refl
+
     -- the lines that are appended
     lines_are : (kept : Record) (due : Option SummaryValue) → kept ≡ record_at (here w) c
         → ((rs : List Record) (rest : List ℕ) → IsLog v.bytes rs rest → with_due kept due ≡ piece v.schema v.site.0 rs kept)

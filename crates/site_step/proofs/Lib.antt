@@ -11,6 +11,8 @@ pub mod Restarts
 pub mod Fronts
 pub mod Opens
 mod Calls
+mod Spending
+mod Committing
 pub mod Lasting
 pub mod Lines
 mod Excluded

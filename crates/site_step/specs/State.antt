@@ -13,7 +13,7 @@ use Rattle.field_bounds.specs.declared.effect.Effect.{Effect}
 use Rattle.field_bounds.specs.Effects.{Base, open_txns, escrows_of, held_rights, effects}
 use Rattle.field_bounds.specs.Owed.{count_since, is_begun_reply, is_up, max_epoch, IsRun}
 use Rattle.site_rights.specs.declared.field_rights.FieldRights.{FieldRights}
-use Rattle.site_rights.specs.declared.field_rights.Outcome.TheVariants.{Aborted}
+use Rattle.site_rights.specs.declared.field_rights.Outcome.TheVariants.{Committed, Aborted}
 use Rattle.site_rights.specs.Rights.{held_at, ending, by_escrows, AreInRange, AreHeld}
 use Rattle.escrow_journal.specs.Journal.{Row, is_listed, escrows_at, without}
 use Rattle.kept_records.specs.declared.record.Record.{Record}
@@ -62,6 +62,11 @@ with_rights rows a = record a { standing = record { rights = rows; ledger = a.st
 abbrev pub after_release : TxnId → Accounts → Accounts
 after_release txn a =
     record (with_rights (by_escrows (ending Aborted) a.standing.rights (escrows_at txn a.journal)) a) { journal = without txn a.journal }
+
+-- A transaction taken out, and what it holds turned.
+abbrev pub after_spending : TxnId → Accounts → Accounts
+after_spending txn a =
+    record (with_rights (by_escrows (ending Committed) a.standing.rights (escrows_at txn a.journal)) a) { journal = without txn a.journal }
 
 -- What a command does that writes no record.
 abbrev pub after_settling : Accounts → Command → Accounts

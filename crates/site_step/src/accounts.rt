@@ -3,11 +3,11 @@
 ghost use Rattle.std.specs.Prelude.{◌≡◌, true, []};
 ghost use Rattle.kept_records.specs.declared.record.Record.TheVariants.{Restart};
 ghost use Rattle.kept_records.specs.Text.{IsRecord};
-ghost use Rattle.site_rights.specs.declared.field_rights.Outcome.TheVariants.{Aborted};
+ghost use Rattle.site_rights.specs.declared.field_rights.Outcome.TheVariants.{Committed, Aborted};
 ghost use Rattle.site_rights.specs.Rights.{ending, by_escrows, AreInRange, AreHeld};
 ghost use Rattle.escrow_journal.specs.Journal.{is_listed, escrows_at, without};
 ghost use Rattle.log_replay.specs.Standing.{HasSlots, CanTakeIn, TakesIn};
-ghost use Rattle.site_step.specs.State.{CanClose, CanSettle, CanCarry, after_release, after_settling, before_taking_in};
+ghost use Rattle.site_step.specs.State.{CanClose, CanSettle, CanCarry, after_release, after_spending, after_settling, before_taking_in};
 
 use escrow_journal::Journal;
 use field_bounds::{Command, Schema, TxnId};
@@ -35,6 +35,21 @@ fn close(journal: &mut Journal, rights: &mut Rights, txn: TxnId)
 {
     let escrows = journal.take_out(txn).unwrap();
     rights.end(&escrows, Outcome::Aborted);
+    journal.reuse(escrows);
+}
+
+/// Takes an open transaction out of the journal, and turns what it holds.
+fn turn(journal: &mut Journal, rights: &mut Rights, txn: TxnId)
+    requires open { is_listed txn journal.old ≡ true }
+    requires in_schema { AreInRange rights.old (escrows_at txn journal.old) }
+    requires there { AreHeld rights.old (escrows_at txn journal.old) }
+    ensures journal { journal.new ≡ without txn journal.old }
+    ensures rights { rights.new ≡ by_escrows (ending Committed) rights.old
+        (escrows_at txn journal.old) }
+{
+    let held = journal.take_out(txn).unwrap();
+    rights.end(&held, Outcome::Committed);
+    journal.reuse(held);
 }
 
 impl Accounts {
@@ -44,6 +59,15 @@ impl Accounts {
         ensures released { self.new ≡ after_release txn self.old }
     {
         close(&mut self.journal, &mut self.standing.rights, txn);
+    }
+
+    /// Ends an open transaction whose commit was appended: what it holds turns. That is what
+    /// `carry_out` of its record comes to, which gives back, takes anew and turns.
+    pub(crate) fn spend(&mut self, txn: TxnId)
+        requires can { CanClose self.old txn }
+        ensures spent { self.new ≡ after_spending txn self.old }
+    {
+        turn(&mut self.journal, &mut self.standing.rights, txn);
     }
 
     /// Does what a command does that writes no record: an end releases its transaction.

@@ -38,6 +38,13 @@ pub(crate) fn behind_next(behind: u64) -> u64
     }
 }
 
+/// Whether a summary is due behind the next record, with so many records behind the last.
+pub(crate) fn is_due(behind: u64) -> bool
+    ensures value { result ≡ nat_le max_behind (behind + 1) }
+{
+    behind >= MAX_BEHIND - 1
+}
+
 /// The summary that is due behind a record, where one is, with so many records behind the last. The
 /// record may stand next behind those that the standing is for.
 pub(crate) fn due_behind(

@@ -14,9 +14,9 @@ ghost use Rattle.site_step.specs.State.{is_carried};
 
 use super::Site;
 use crate::extent::due_behind;
-use field_bounds::{Command, Entry, Escrow, FieldNo, Kind, Refusal, Reply, TxnId};
+use field_bounds::{Command, Entry, FieldNo, Kind, Refusal, Reply, TxnId};
 use history::History;
-use kept_records::{Escrows, Medium, Record, Summary, append_piece};
+use kept_records::{Medium, Record, Summary, append_piece};
 use std::alloc::{AllocError, Global};
 
 impl<M: Medium, H: History<Entry>> Site<M, H> {
@@ -167,21 +167,6 @@ impl<M: Medium, H: History<Entry>> Site<M, H> {
             reply: Reply::Granted,
         });
         Ok(Reply::Granted)
-    }
-
-    pub(super) fn commit(&mut self, alloc: Global, txn: TxnId) -> Result<Reply, AllocError>
-        requires unrefused { first (refusals (here self.old) (Command.Commit txn)) ≡ None }
-        ensures ok { IfOk result (λ reply. Applies self.old (Command.Commit txn) reply self.new) }
-        ensures err { OnErr result (self.new ≡ self.old) }
-    {
-        let command = Command::Commit { txn };
-        let escrows = self.accounts.journal.escrows(txn).unwrap();
-        if escrows.is_empty() {
-            return self.answer(command, Reply::Committed);
-        }
-        let escrows = Escrows::new(Vec::from_slice(alloc, escrows)?);
-        let kept = Record::Commit { txn, escrows };
-        self.write(alloc, command, &kept, Reply::Committed)
     }
 
     pub(super) fn read(&mut self, field: FieldNo) -> Result<Reply, AllocError>

@@ -1,0 +1,90 @@
+-- What a commit with escrows needs and leaves, whose record is written from the escrows where they stand.
+use Rattle.std.proofs.Common.{◌≡◌, ◌≤◌, ◌<◌, ℕ, ◌+◌, Bool, true, false, List, [], ◌∷◌, ◌++◌, length, refl, sym, ap, subst, ◌∙◌, Option, Some, None}
+use Rattle.std.specs.Prelude.{Ok, Err, nat_le, nat_lt}
+use Rattle.std.proofs.lemmas.Bool.{lt-ltb}
+use Rattle.std.proofs.lemmas.List.{append-nil}
+use Rattle.field_bounds.specs.declared.id.TxnId.{TxnId}
+use Rattle.field_bounds.specs.declared.entry.Command.TheVariants.{Commit}
+use Rattle.field_bounds.specs.declared.entry.Entry.{Entry}
+use Rattle.field_bounds.specs.declared.entry.Escrow.{Escrow}
+use Rattle.field_bounds.specs.declared.entry.Reply.TheVariants.{Committed, Unsure}
+use Rattle.field_bounds.specs.Owed.{first, refusals, writes}
+use Rattle.escrow_journal.specs.Journal.{escrows_at}
+use Rattle.kept_records.specs.declared.medium.Device.{Device}
+use Rattle.kept_records.specs.declared.medium.Mishap.{Mishap}
+use Rattle.kept_records.specs.declared.record.Record.{Record}
+use Rattle.kept_records.specs.declared.record.Record.TheVariants as records
+use Rattle.kept_records.specs.Text.{text, IsRecord}
+use Rattle.kept_records.specs.Medium.{AppendFate}
+use Rattle.kept_records.specs.Keeping.{Appends}
+use Rattle.kept_records.specs.Stands.{max_behind}
+use Rattle.kept_state.specs.Keeps.{record_at}
+use Rattle.log_replay.specs.Standing.{TakesIn}
+use Rattle.site_step.specs.declared.accounts.Accounts.{Accounts}
+use Rattle.site_step.specs.declared.extent.Extent.{Extent}
+use Rattle.site_step.specs.Site.{SiteValue, here, entry_of}
+use Rattle.site_step.specs.State.{IsSoundSite, CanClose, CanCarry, after_release, after_spending, one_record_longer}
+use Rattle.site_step.proofs.Calls.{commit_escrows, commit_count, record_fits, can_write, none_due, few_written, wrote, unsure}
+use Rattle.site_step.proofs.Ends.{Ends}
+use Rattle.site_step.proofs.Spending.{spends}
+
+module _ {v w : SiteValue} {up : Bool} {extent : Extent} {a : Accounts} (was : IsSoundSite v up extent a) (is : v ≡ w) (txn : TxnId)
+    (none : first (refusals (here w) (Commit txn)) ≡ None) (es : List Escrow) (are : es ≡ escrows_at txn a.journal) (some : 0 < length es) where
+  abbrev kept : Record
+  kept = records.Commit txn es
+
+  pub commit_told : writes (here w) (Commit txn) ≡ true
+  commit_told = ap (nat_lt 0) (commit_count was is txn none are) ∙ lt-ltb 0 (length es) some
+
+  kept_is : kept ≡ record_at (here w) (Commit txn)
+  kept_is = ap (λ (xs : List Escrow). records.Commit txn xs) (are ∙ commit_escrows was is txn none)
+
+  pub commit_fits : IsRecord kept
+  commit_fits = record_fits was is (Commit txn) none commit_told kept_is
+
+  can_carry_it : CanCarry v.schema a kept
+  can_carry_it = can_write was is (Commit txn) none commit_told kept_is
+
+  pub can_spend : CanClose a txn
+  can_spend = can_carry_it.ready
+
+  pub few_committed : extent.count ≤ length v.based + length v.history
+  few_committed = few_written was is (Commit txn) none commit_told
+
+  abbrev Then : List Entry → List ℕ → ℕ → Option Mishap → Option ℕ → SiteValue
+  Then h bytes failed left doubt = record v { history = h; bytes = bytes; failed = failed; foretold = left; doubt = doubt }
+
+  -- the record alone
+  alone : text kept ≡ text kept ++ []
+  alone = sym (append-nil (text kept))
+
+  pub commits : nat_le max_behind (extent.behind + 1) ≡ false → {h : List Entry} {b : Accounts} {bytes : List ℕ} {failed : ℕ}
+      {left : Option Mishap} {size : ℕ} {later : Extent}
+      → b ≡ after_spending txn a
+      → Appends {T = Unit {0}} {E = Device} (Ok tt) v.bytes (text kept) bytes v.failed failed
+      → AppendFate {E = Device} v.foretold v.bytes (text kept) (Ok tt) bytes left
+      → h ≡ entry_of v (Commit txn) Committed ∷ v.history → size ≡ length (text kept) → later ≡ one_record_longer extent size
+      → Ends w (Commit txn) Committed (Then h bytes failed left v.doubt) up later b
+  commits undue {h = h} {b = b} {bytes = bytes} {failed = failed} {left = left} {size = size} {later = later} spent added fate past long more =
+      subst (λ (x : Accounts). Ends w (Commit txn) Committed (Then h bytes failed left v.doubt) up later x) (sym spent)
+      (wrote was is (Commit txn) none commit_told Committed kept None kept_is refl
+      (none_due was is (Commit txn) none commit_told kept undue)
+      (subst (λ (xs : List Escrow). CanCarry v.schema a (records.Commit txn xs) →
+      TakesIn v.schema (after_release txn a).standing (records.Commit txn xs) true (after_spending txn a).standing) (sym are)
+      (spends v.schema a txn) can_carry_it)
+      refl refl
+      (subst (λ (x : List ℕ). Appends {T = Unit {0}} {E = Device} (Ok tt) v.bytes x bytes v.failed failed) alone added)
+      (subst (λ (x : List ℕ). AppendFate {E = Device} v.foretold v.bytes x (Ok tt) bytes left) alone fate)
+      past (long ∙ ap length alone) more)
+
+  pub commit_unsure : nat_le max_behind (extent.behind + 1) ≡ false → (device : Device) {h : List Entry} {bytes : List ℕ} {failed : ℕ}
+      {left : Option Mishap}
+      → Appends {T = Unit {0}} (Err device) v.bytes (text kept) bytes v.failed failed
+      → AppendFate v.foretold v.bytes (text kept) (Err device) bytes left
+      → h ≡ entry_of v (Commit txn) Unsure ∷ v.history
+      → Ends w (Commit txn) Unsure (Then h bytes failed left (Some extent.count)) false extent a
+  commit_unsure undue device {h = h} {bytes = bytes} {failed = failed} {left = left} added fate past =
+      unsure was is (Commit txn) none commit_told kept None device kept_is
+      (none_due was is (Commit txn) none commit_told kept undue)
+      (subst (λ (x : List ℕ). Appends {T = Unit {0}} (Err device) v.bytes x bytes v.failed failed) alone added)
+      (subst (λ (x : List ℕ). AppendFate v.foretold v.bytes x (Err device) bytes left) alone fate) past

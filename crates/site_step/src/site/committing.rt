@@ -1,0 +1,57 @@
+//! A commit, whose record is written from the escrows where they stand.
+
+ghost use Rattle.std.specs.Prelude.{◌≡◌, None, OnErr, IfOk};
+ghost use Rattle.field_bounds.specs.Owed.{first, refusals};
+ghost use Rattle.site_step.specs.Site.{here, Applies};
+
+use super::Site;
+use crate::extent::is_due;
+use field_bounds::{Command, Entry, Reply, TxnId};
+use history::History;
+use kept_records::{Escrows, Medium, Record, append_commit};
+use std::alloc::{AllocError, Global};
+
+impl<M: Medium, H: History<Entry>> Site<M, H> {
+    // Commits are most of what is written: so one with escrows does what `write` does, but where a
+    // summary is due behind it, with no record made of its escrows and with one step for each. It
+    // stands in one piece because the site isn't sound between its parts.
+    pub(super) fn commit(&mut self, alloc: Global, txn: TxnId) -> Result<Reply, AllocError>
+        requires unrefused { first (refusals (here self.old) (Command.Commit txn)) ≡ None }
+        ensures ok { IfOk result (λ reply. Applies self.old (Command.Commit txn) reply self.new) }
+        ensures err { OnErr result (self.new ≡ self.old) }
+    {
+        let command = Command::Commit { txn };
+        let escrows = self.accounts.journal.escrows(txn).unwrap();
+        if escrows.is_empty() {
+            return self.answer(command, Reply::Committed);
+        }
+        if is_due(self.extent.behind) {
+            let escrows = Escrows::new(Vec::from_slice(alloc, escrows)?);
+            let kept = Record::Commit { txn, escrows };
+            return self.write(alloc, command, &kept, Reply::Committed);
+        }
+        self.history.reserve(1)?;
+        match append_commit(&mut self.line, &mut self.medium, txn, escrows)? {
+            Ok(()) => {
+                self.accounts.spend(txn);
+                self.extent.extend(self.line.len());
+                self.history.push_reserved(Entry {
+                    site: self.number,
+                    command,
+                    reply: Reply::Committed,
+                });
+                Ok(Reply::Committed)
+            }
+            Err(_) => {
+                self.up = false;
+                self.doubt = Some(self.extent.count);
+                self.history.push_reserved(Entry {
+                    site: self.number,
+                    command,
+                    reply: Reply::Unsure,
+                });
+                Ok(Reply::Unsure)
+            }
+        }
+    }
+}
