@@ -10,7 +10,7 @@ ghost use Rattle.kept_records.specs.Keeping.{with_due, Appends, CutsAndAppends, 
 use crate::medium::{Device, Medium};
 use crate::record::Record;
 use crate::summary::Summary;
-use crate::writing::{put_commit, put_piece};
+use crate::writing::{put_commit, put_piece, put_record};
 use field_bounds::{Escrow, TxnId};
 use std::alloc::AllocError;
 
@@ -42,6 +42,29 @@ pub fn append_piece<M: Medium>(
     medium.reserve(line.len())?;
     let added = medium.append(line);
     Ok(added)
+}
+
+/// Adds a record alone behind the bytes of a medium, as `append_piece` does where no summary is due,
+/// and with the same errors.
+pub fn append_record<M: Medium>(
+    line: &mut Vec<u8>,
+    medium: &mut M,
+    kept: &Record,
+) -> Result<Result<(), Device>, AllocError>
+    requires ranges { IsRecord kept.now }
+    ensures added { IfOk result (λ added. Appends added (M.bytes medium.old) (text kept.now)
+        (M.bytes medium.new) (M.failed medium.old) (M.failed medium.new)) }
+    ensures fate { IfOk result (λ added. AppendFate (M.foretold medium.old) (M.bytes medium.old)
+        (text kept.now) added (M.bytes medium.new) (M.foretold medium.new)) }
+    ensures line { IfOk result (λ _. line.new.items ≡ text kept.now) }
+    ensures bytes { OnErr result (M.bytes medium.new ≡ M.bytes medium.old) }
+    ensures failed { OnErr result (M.failed medium.new ≡ M.failed medium.old) }
+    ensures foretold { OnErr result (M.foretold medium.new ≡ M.foretold medium.old) }
+{
+    put_record(line, kept)?;
+    medium.reserve(line.len())?;
+    let whole = medium.append(line);
+    Ok(whole)
 }
 
 /// Adds the record of a commit behind the bytes of a medium, as `append_piece` does where no

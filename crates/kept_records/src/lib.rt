@@ -21,7 +21,9 @@ mod total;
 mod writing;
 
 pub use cursor::Cursor;
-pub use keeping::{append_commit, append_piece, append_restart_piece, starts_with_no_restart};
+pub use keeping::{
+    append_commit, append_piece, append_record, append_restart_piece, starts_with_no_restart,
+};
 pub use laws::{
     kept_bytes_tell_what_stands, no_text_begins_another, summaries_tell_nothing_new,
     summary_tells_what_stands, torn_end_keeps_records, torn_piece_leaves_a_front,

@@ -13,6 +13,7 @@ pub mod Opens
 mod Calls
 mod Spending
 mod Committing
+mod Alone
 pub mod Lasting
 pub mod Lines
 mod Excluded

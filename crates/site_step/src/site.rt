@@ -10,6 +10,7 @@ ghost use Rattle.kept_records.specs.Stands.{since_summary, max_behind};
 ghost use Rattle.site_step.specs.Replaying.{downs_before};
 ghost use Rattle.site_step.specs.Opening.{TellsLine, SparesLogs, FailsUnder, failed_at, foretold_at};
 
+mod alone;
 mod committing;
 mod gifts;
 mod identity;

@@ -175,7 +175,7 @@ impl<M: Medium, H: History<Entry>> Site<M, H> {
             kind,
             amount,
         };
-        self.write(alloc, command, &record, Reply::Given { total })
+        self.keep(alloc, command, &record, Reply::Given { total })
     }
 
     pub(super) fn restate(
@@ -225,7 +225,7 @@ impl<M: Medium, H: History<Entry>> Site<M, H> {
             kind,
             want,
         };
-        self.write(alloc, command, &record, Reply::Spared { amount, total })
+        self.keep(alloc, command, &record, Reply::Spared { amount, total })
     }
 
     pub(super) fn accept(&mut self, alloc: Global, told: Statement) -> Result<Reply, AllocError>
@@ -244,6 +244,6 @@ impl<M: Medium, H: History<Entry>> Site<M, H> {
             kind: told.kind,
             total: told.total,
         };
-        self.write(alloc, command, &record, Reply::Accepted { gain })
+        self.keep(alloc, command, &record, Reply::Accepted { gain })
     }
 }

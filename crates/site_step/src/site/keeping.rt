@@ -80,7 +80,8 @@ impl<M: Medium, H: History<Entry>> Site<M, H> {
     }
 
     /// Carries out this record of a command, once it stands whole, and adds the command's entry.
-    /// The summary that is due behind the record is appended with it.
+    /// The summary that is due behind the record is appended with it. Where none is, `keep` costs
+    /// less.
     pub(super) fn write(
         &mut self,
         alloc: Global,

@@ -53,6 +53,6 @@ impl<M: Medium, H: History<Entry>> Site<M, H> {
             kind,
             amount,
         };
-        self.write(alloc, command, &record, Reply::Tightened { total })
+        self.keep(alloc, command, &record, Reply::Tightened { total })
     }
 }

@@ -1,0 +1,71 @@
+use Rattle.std.proofs.Common.{◌≡◌, ◌+◌, length, ap, sym, ◌∙◌, arith, false}
+use Rattle.std.specs.Prelude.{nat_le}
+use Rattle.std.proofs.lemmas.List.{length-reverse}
+use Rattle.kept_records.specs.Stands.{max_behind}
+use Rattle.kept_records.specs.Text.{text}
+use Rattle.site_step.proofs.Alone.{wrote_alone, unsure_alone}
+use Rattle.site_step.proofs.Calls.{grew, record_fits, can_write, few_written}
+use Rattle.site_step.proofs.site.Site.keep.Goals as goal
+
+pub append_record-requires : goal.append_record-requires
+append_record-requires g c =
+    record {
+      ranges = record_fits c.self.invariant c.self.view_is c.args.command c.requires.unrefused c.requires.told c.requires.kept;
+    }
+
+pub carry_out-requires : goal.carry_out-requires
+carry_out-requires g c =
+    record {
+      can = can_write c.self.invariant c.self.view_is c.args.command c.requires.unrefused c.requires.told c.requires.kept;
+      ranges = record_fits c.self.invariant c.self.view_is c.args.command c.requires.unrefused c.requires.told c.requires.kept;
+    }
+
+pub extend-requires : goal.extend-requires
+extend-requires g c =
+    let i = c.self.inside in
+    record {
+      few = omega (
+        arith,
+        few_written c.self.invariant c.self.view_is c.args.command c.requires.unrefused c.requires.told,
+        length-reverse (g.H.History.items i.history),
+        g.met.H.History.few i.history,
+        i.based.counted,
+        i.based.small,
+      );
+    }
+
+pub invariant_of-self-in-Ok : goal.invariant_of-self-in-Ok
+invariant_of-self-in-Ok g c =
+    let undue : nat_le max_behind (c.self.inside.extent.behind + 1) ≡ false = sym c.is_due.ensures.value ∙ c.if-is_due.false in
+    let long : c.len.result ≡ length (text c.args.kept.now) =
+    omega (arith, c.len.ensures, c.append_record.new.line.ok, ap length c.in_ok-append_record.ensures.line) in
+    (wrote_alone c.self.invariant c.self.view_is c.args.command c.requires.unrefused c.requires.told c.args.kept.now c.requires.kept undue
+    c.args.reply c.requires.owed c.carry_out.ensures.took c.carry_out.ensures.journal c.carry_out.ensures.last
+    (rw c.in-Ok.is at c.in_ok-append_record.ensures.added) (rw c.in-Ok.is at c.in_ok-append_record.ensures.fate)
+    (grew c.push_reserved.ensures.items c.in_ok-reserve.ensures.items) long c.extend.ensures.extended).sound
+
+pub returns-in-Ok-clause-ok : goal.returns-in-Ok-clause-ok
+returns-in-Ok-clause-ok g c =
+    let undue : nat_le max_behind (c.self.inside.extent.behind + 1) ≡ false = sym c.is_due.ensures.value ∙ c.if-is_due.false in
+    let long : c.len.result ≡ length (text c.args.kept.now) =
+    omega (arith, c.len.ensures, c.append_record.new.line.ok, ap length c.in_ok-append_record.ensures.line) in
+    (wrote_alone c.self.invariant c.self.view_is c.args.command c.requires.unrefused c.requires.told c.args.kept.now c.requires.kept undue
+    c.args.reply c.requires.owed c.carry_out.ensures.took c.carry_out.ensures.journal c.carry_out.ensures.last
+    (rw c.in-Ok.is at c.in_ok-append_record.ensures.added) (rw c.in-Ok.is at c.in_ok-append_record.ensures.fate)
+    (grew c.push_reserved.ensures.items c.in_ok-reserve.ensures.items) long c.extend.ensures.extended).applies
+
+pub invariant_of-self-in-Err : goal.invariant_of-self-in-Err
+invariant_of-self-in-Err g c =
+    let undue : nat_le max_behind (c.self.inside.extent.behind + 1) ≡ false = sym c.is_due.ensures.value ∙ c.if-is_due.false in
+    (unsure_alone c.self.invariant c.self.view_is c.args.command c.requires.unrefused c.requires.told c.args.kept.now c.requires.kept undue
+    c.in-Err.field-0
+    (rw c.in-Err.is at c.in_ok-append_record.ensures.added) (rw c.in-Err.is at c.in_ok-append_record.ensures.fate)
+    (grew c.push_reserved-in-Err.ensures.items c.in_ok-reserve.ensures.items)).sound
+
+pub returns-in-Err-clause-ok : goal.returns-in-Err-clause-ok
+returns-in-Err-clause-ok g c =
+    let undue : nat_le max_behind (c.self.inside.extent.behind + 1) ≡ false = sym c.is_due.ensures.value ∙ c.if-is_due.false in
+    (unsure_alone c.self.invariant c.self.view_is c.args.command c.requires.unrefused c.requires.told c.args.kept.now c.requires.kept undue
+    c.in-Err.field-0
+    (rw c.in-Err.is at c.in_ok-append_record.ensures.added) (rw c.in-Err.is at c.in_ok-append_record.ensures.fate)
+    (grew c.push_reserved-in-Err.ensures.items c.in_ok-reserve.ensures.items)).applies

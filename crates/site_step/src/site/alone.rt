@@ -1,0 +1,60 @@
+//! A record that is written with no summary behind it, as most are.
+
+ghost use Rattle.std.specs.Prelude.{◌≡◌, true, None, OnErr, IfOk};
+ghost use Rattle.field_bounds.specs.Owed.{first, refusals, answer, writes};
+ghost use Rattle.kept_state.specs.Keeps.{record_at};
+ghost use Rattle.site_step.specs.Site.{here, Applies};
+
+use super::Site;
+use crate::extent::is_due;
+use field_bounds::{Command, Entry, Reply};
+use history::History;
+use kept_records::{Medium, Record, append_record};
+use std::alloc::{AllocError, Global};
+
+impl<M: Medium, H: History<Entry>> Site<M, H> {
+    // Does what `write` does. A summary that isn't due has over 100 bytes, which it moves from call
+    // to call: so where none is, this doesn't speak of one. It stands in one piece because the site
+    // isn't sound between its parts.
+    pub(super) fn keep(
+        &mut self,
+        alloc: Global,
+        command: Command,
+        kept: &Record,
+        reply: Reply,
+    ) -> Result<Reply, AllocError>
+        requires unrefused { first (refusals (here self.old) command) ≡ None }
+        requires told { writes (here self.old) command ≡ true }
+        requires kept { kept.now ≡ record_at (here self.old) command }
+        requires owed { reply ≡ answer (here self.old) command }
+        ensures ok { IfOk result (λ answered. Applies self.old command answered self.new) }
+        ensures err { OnErr result (self.new ≡ self.old) }
+    {
+        if is_due(self.extent.behind) {
+            return self.write(alloc, command, kept, reply);
+        }
+        self.history.reserve(1)?;
+        match append_record(&mut self.line, &mut self.medium, kept)? {
+            Ok(()) => {
+                self.accounts.carry_out(&self.schema, kept);
+                self.extent.extend(self.line.len());
+                self.history.push_reserved(Entry {
+                    site: self.number,
+                    command,
+                    reply,
+                });
+                Ok(reply)
+            }
+            Err(_) => {
+                self.up = false;
+                self.doubt = Some(self.extent.count);
+                self.history.push_reserved(Entry {
+                    site: self.number,
+                    command,
+                    reply: Reply::Unsure,
+                });
+                Ok(Reply::Unsure)
+            }
+        }
+    }
+}
