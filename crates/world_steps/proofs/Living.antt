@@ -1,6 +1,6 @@
 -- One more step of a world.
 use Rattle.std.specs.Prelude.{Result, Ok, Err, OnOk}
-use Rattle.std.proofs.Common.{◌≡◌, ℕ, ◌+◌, ◌<◌, List, [], ◌∷◌, ◌++◌, length, take, drop, reverse, sym, ap, subst, ◌∙◌, arith, Option, Some, None, All}
+use Rattle.std.proofs.Common.{◌≡◌, ℕ, ◌+◌, ◌<◌, List, [], ◌∷◌, ◌++◌, length, take, drop, reverse, sym, ap, subst, refl, ◌∙◌, arith, Option, Some, None, All}
 use Rattle.std.proofs.lemmas.List.{reverse-append, length-append}
 use Rattle.std.proofs.lemmas.List.Elements.{All-push, All-tail, All-head}
 use Rattle.std.proofs.Math.Seq.{take-append_seam}
@@ -17,8 +17,10 @@ use Rattle.field_bounds.specs.Statements.{statement_of}
 use Rattle.field_bounds.proofs.Conserved.{conserved_throughout}
 use Rattle.field_bounds.proofs.Headline.{sound_is_central}
 use Rattle.kept_state.specs.Luck.{Lucky, entries, own_lucky, lucky_reply}
+use Rattle.kept_state.specs.declared.luck.Luck.TheVariants.{Fine}
 use Rattle.site_step.specs.Site.{SiteValue}
 use Rattle.world_steps.specs.declared.step.WorldStep.{WorldStep}
+use Rattle.world_steps.specs.declared.step.WorldStep.TheVariants.{Do}
 use Rattle.world_steps.specs.declared.beside_trace.StepNotes.{StepNotes}
 use Rattle.world_steps.specs.World.{with_statement, statements_issued, question_of, luck_of, StepFits, with_entry, world_of, trace_by}
 use Rattle.world_steps.specs.Promises.{IsOneStore}
@@ -51,6 +53,15 @@ pub made_more : (past trace before tracing : List Entry) (e : Entry) (kept ready
 made_more past trace before tracing e kept ready later step is grown same asks more =
     ap (λ (l : List Entry). steps_beside l later) grown ∙ more past before e asks
     ∙ ap (λ (l : List WorldStep). l ++ step ∷ []) (same_steps trace before kept ready is same)
+
+-- and a command whose luck was fine
+pub asked_more : (trace tracing : List Entry) (e : Entry) (kept ready later : StepNotes) → tracing ≡ trace ++ e ∷ []
+    → SameKept kept ready
+    → ((t : List Entry) (x : Entry) → steps_beside (t ++ x ∷ []) later ≡ steps_beside t ready ++ Do x.site x.command Fine ∷ [])
+    → steps_beside tracing later ≡ steps_beside trace kept ++ Do e.site e.command Fine ∷ []
+asked_more trace tracing e kept ready later grown same more =
+    ap (λ (l : List Entry). steps_beside l later) grown ∙ more trace e
+    ∙ ap (λ (l : List WorldStep). l ++ Do e.site e.command Fine ∷ []) (same_steps trace trace kept ready refl same)
 
 -- ---- what is lived, after one more step
 

@@ -1,7 +1,8 @@
 //! What a world keeps of its steps beside its trace.
 
-ghost use Rattle.std.specs.Prelude.{◌≡◌, ◌++◌, [], ◌∷◌, List, None, Some, OnOk, IfOk, reverse};
+ghost use Rattle.std.specs.Prelude.{◌≡◌, ◌<◌, ◌++◌, [], ◌∷◌, List, None, Some, OnOk, IfOk, reverse, vec_len, vec_capacity};
 ghost use Rattle.field_bounds.specs.declared.entry.Entry.{Entry};
+ghost use Rattle.kept_state.specs.declared.luck.Luck.TheVariants as lucks;
 ghost use Rattle.world_steps.specs.declared.step.WorldStep.TheVariants as steps;
 ghost use Rattle.world_steps.specs.World.{question_of};
 ghost use Rattle.world_steps.specs.Kept.{steps_told, steps_beside, with_step, HasMemoryFor, SameKept};
@@ -81,6 +82,26 @@ impl StepNotes {
                 self.torn.reserve(1)
             }
         }
+    }
+
+    /// Gets room for one more command whose luck is fine. The error is want of memory.
+    #[inline(always)]
+    pub(crate) fn reserve_asked(&mut self) -> Result<(), AllocError>
+        ensures room { OnOk result (vec_len self.new.ways < vec_capacity self.new.ways) }
+        ensures same { SameKept self.old self.new }
+    {
+        self.ways.reserve(1)
+    }
+
+    /// Keeps a command whose luck was fine.
+    #[inline(always)]
+    pub(crate) fn keep_asked(&mut self)
+        requires room { vec_len self.old.ways < vec_capacity self.old.ways }
+        ensures kept { (trace : List Entry) (entry : Entry) →
+            steps_beside (trace ++ entry ∷ []) self.new ≡ steps_beside trace self.old
+            ++ steps.Do entry.site entry.command lucks.Fine ∷ [] }
+    {
+        self.ways.push_reserved(Way::Asked);
     }
 
     /// Keeps a step that made an entry.

@@ -1,6 +1,6 @@
 //! What a step asks, and how it is carried out at its site.
 
-ghost use Rattle.std.specs.Prelude.{◌≡◌, ◌<◌, ◌+◌, ◌∷◌, ℕ, List, IfOk, OnErr, Some, length, reverse, vec_len, vec_capacity};
+ghost use Rattle.std.specs.Prelude.{◌≡◌, ◌<◌, ◌+◌, ◌∷◌, ℕ, true, List, IfOk, OnOk, OnErr, Some, length, reverse, vec_len, vec_capacity};
 ghost use Rattle.field_bounds.specs.declared.entry.Entry.{Entry};
 ghost use Rattle.field_bounds.specs.declared.entry.Last.{Last};
 ghost use Rattle.field_bounds.specs.Schema.{SchemaValue};
@@ -9,7 +9,7 @@ ghost use Rattle.field_bounds.specs.Statements.{statement_of};
 ghost use Rattle.kept_records.specs.declared.medium.Mishap.TheVariants as mishaps;
 ghost use Rattle.kept_state.specs.Luck.{Lucky, own_lucky, lucky_reply};
 ghost use Rattle.site_step.specs.Site.{Finds};
-ghost use Rattle.world_steps.specs.World.{statements_issued, with_statement, statement_at, question_of, luck_of};
+ghost use Rattle.world_steps.specs.World.{statements_issued, with_statement, statement_at, may_issue, question_of, luck_of};
 ghost use Rattle.world_steps.specs.Standing.{Once, AllFollow, AreCalm};
 
 use crate::step::WorldStep;
@@ -29,6 +29,57 @@ pub(crate) fn note(told: &mut Vec<Statement>, entry: &Entry)
 {
     if let Some(statement) = statement_of(entry) {
         told.push_reserved(statement);
+    }
+}
+
+/// Whether an answer to the command may issue a statement.
+#[inline(always)]
+fn may_issue(command: Command) -> bool
+    ensures { result ≡ may_issue command }
+{
+    matches!(
+        command,
+        Command::Give { .. } | Command::Restate { .. } | Command::Spare { .. }
+    )
+}
+
+/// Gets room for the statement that an answer to the command issues, where it may issue one. The
+/// error is want of memory.
+#[inline(always)]
+pub(crate) fn reserve_for(told: &mut Vec<Statement>, command: Command) -> Result<(), AllocError>
+    ensures room { OnOk result (may_issue command ≡ true
+        → vec_len told.new < vec_capacity told.new) }
+    ensures same { told.new.items ≡ told.old.items }
+{
+    if may_issue(command) {
+        return told.reserve(1);
+    }
+    Ok(())
+}
+
+/// The entry of a command at a site and its reply.
+#[inline(always)]
+pub(crate) fn entry_of(site: SiteNo, command: Command, reply: Reply) -> Entry
+    ensures { result ≡ record { site = site; command = command; reply = reply } }
+{
+    Entry {
+        site,
+        command,
+        reply,
+    }
+}
+
+/// Adds the statement that a reply to the command issues, if any. Most commands issue none, whatever
+/// the reply, and then the entry isn't put together.
+#[inline(always)]
+pub(crate) fn note_reply(told: &mut Vec<Statement>, site: SiteNo, command: Command, reply: Reply)
+    requires room { may_issue command ≡ true → vec_len told.old < vec_capacity told.old }
+    ensures told { reverse told.new.items
+        ≡ with_statement (statement_of (record { site = site; command = command; reply = reply }))
+        (reverse told.old.items) }
+{
+    if may_issue(command) {
+        note(told, &entry_of(site, command, reply));
     }
 }
 
@@ -76,6 +127,7 @@ pub(crate) fn luck_of(step: &WorldStep) -> Luck
 
 /// One command at a site, with its luck: a mishap is armed where that is torn, and nothing is armed
 /// after it.
+#[inline(always)]
 fn apply_once(
     site: &mut Site<TornMedium, GhostHistory<Entry>>,
     alloc: Global,
@@ -98,6 +150,7 @@ fn apply_once(
 }
 
 /// One command at one of the sites, with its luck.
+#[inline(always)]
 pub(crate) fn apply_at(
     sites: &mut [Site<TornMedium, GhostHistory<Entry>>],
     alloc: Global,

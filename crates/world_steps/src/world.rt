@@ -13,10 +13,11 @@ ghost use Rattle.world_steps.specs.View.{trace_of, Answers};
 
 use crate::beside_trace::StepNotes;
 use crate::step::{StepReply, WorldStep};
-use crate::stepping::{apply_at, luck_of, note, question_of};
-use field_bounds::{Entry, FieldNo, Schema, SiteNo, Statement};
+use crate::stepping::{apply_at, entry_of, luck_of, note, note_reply, question_of, reserve_for};
+use field_bounds::{Command, Entry, FieldNo, Reply, Schema, SiteNo, Statement};
 use history::GhostHistory;
 use kept_records::TornMedium;
+use kept_state::Luck;
 use site_step::{OpenFault, Site};
 use std::alloc::{AllocError, Global};
 use std::marker::Model;
@@ -156,6 +157,70 @@ impl World {
         note(&mut self.issued, &entry);
         self.steps.keep_made(step);
         Ok(StepReply::Made(entry))
+    }
+
+    /// Asks a site a command whose append is whole, and tells the reply: the step `Do` of it with
+    /// the luck `Fine`, as `step` takes it, for callers that have no step made and want no entry
+    /// back. The error is want of memory, and then nothing has changed.
+    ///
+    /// Costs what the site's `apply` costs, and amortized pushes of the entry, of one byte, and of
+    /// the statement where the command may issue one. Nothing else grows with the trace.
+    #[inline(always)]
+    pub fn do_fine(
+        &mut self,
+        alloc: Global,
+        site: SiteNo,
+        command: Command,
+    ) -> Result<Reply, AllocError>
+        requires fits { StepFits self.old.schema (WorldStep.Do site command Luck.Fine) }
+        ensures steps { OnOk result (self.new ≡ record self.old {
+          steps =
+              self.old.steps ++ WorldStep.Do site command Luck.Fine ∷ [];
+        }) }
+        ensures answers { IfOk result (λ reply. Answers
+            (StepReply.Made (record { site = site; command = command; reply = reply }))
+            self.old (WorldStep.Do site command Luck.Fine) self.new) }
+        ensures sound { OnOk result (IsSound self.new.schema (trace_of self.new)) }
+        ensures central { OnOk result (IsCentral self.new.schema (trace_of self.new)) }
+        ensures conserved { OnOk result (IsConservedThroughout self.new.schema
+            (trace_of self.new)) }
+        ensures bounded { OnOk result (IsBoundedThroughout self.new.schema (trace_of self.new)) }
+        ensures outcomes { OnOk result (OutcomesAreBoundedThroughout self.new.schema
+            (trace_of self.new)) }
+        ensures tighter { OnOk result (BoundsOnlyTighten self.new.schema (trace_of self.new)) }
+        ensures none_strange { OnOk result (NoneStrange (trace_of self.new)) }
+        ensures err { OnErr result (self.new ≡ self.old) }
+    {
+        self.take_fine(alloc, site, command)
+    }
+
+    /// Takes the step of a command whose luck is fine, as `take_step` takes it.
+    #[inline(always)]
+    fn take_fine(
+        &mut self,
+        alloc: Global,
+        site: SiteNo,
+        command: Command,
+    ) -> Result<Reply, AllocError>
+        requires fits { StepFits self.old.schema (WorldStep.Do site command Luck.Fine) }
+        ensures steps { OnOk result (self.new ≡ record self.old {
+          steps =
+              self.old.steps ++ WorldStep.Do site command Luck.Fine ∷ [];
+        }) }
+        ensures answers { IfOk result (λ reply. Answers
+            (StepReply.Made (record { site = site; command = command; reply = reply }))
+            self.old (WorldStep.Do site command Luck.Fine) self.new) }
+        ensures one_store { OnOk result (IsOneStore self.new.schema (trace_of self.new)) }
+        ensures err { OnErr result (self.new ≡ self.old) }
+    {
+        self.steps.reserve_asked()?;
+        self.trace.reserve(1)?;
+        reserve_for(&mut self.issued, command)?;
+        let reply = apply_at(&mut self.sites, alloc, site, command, Luck::Fine)?;
+        self.trace.push_reserved(entry_of(site, command, reply));
+        note_reply(&mut self.issued, site, command, reply);
+        self.steps.keep_asked();
+        Ok(reply)
     }
 
     /// The schema of the sites, which is within its limits. Costs no memory.
