@@ -1,10 +1,14 @@
 -- What answers a line, by the steps that a world takes for it.
 use Rattle.std.proofs.Common.{◌≡◌, ℕ, ◌+◌, ◌<◌, List, [], ◌∷◌, ◌++◌, length, take, get_or, reverse, refl, sym, ap, subst, ◌∙◌, append_assoc, append-nil, inl, inr}
 use Rattle.std.proofs.lemmas.List.{reverse-append, take_more}
+use Rattle.field_bounds.specs.declared.entry.Entry.{Entry}
 use Rattle.field_bounds.specs.Schema.{SchemaValue}
+use Rattle.kept_state.specs.Luck.{entries}
+use Rattle.entry_text.specs.Spelling.{entry_text}
 use Rattle.world_steps.specs.declared.step.WorldStep.{WorldStep}
-use Rattle.world_steps.specs.View.{WorldValue}
-use Rattle.escrow_run.specs.Text.{line_text, Asks, AsksSteps, IsReply, AreReplies}
+use Rattle.world_steps.specs.declared.step.StepReply.TheVariants.{Made}
+use Rattle.world_steps.specs.View.{WorldValue, lucky_trace, Answers}
+use Rattle.escrow_run.specs.Text.{line_text, Asks, AsksSteps, trace, IsReply, AreReplies}
 use Rattle.escrow_run.specs.Run.{Answered, HasTaken}
 
 -- a world that has taken steps
@@ -38,6 +42,16 @@ only_reply : (schema : SchemaValue) (earlier : List WorldStep) (step : WorldStep
 only_reply schema earlier step reply answered =
     let (front, last, none, is, all) = answered in
     subst (IsReply schema earlier step) (sym (all ∙ ap (λ (l : List ℕ). l ++ last) none)) is
+
+-- one step, by the entry that it made
+pub took_made : (old new : WorldValue) (step : WorldStep) (entry : Entry) (out grown : List ℕ) → new ≡ with_steps old (step ∷ [])
+    → Answers (Made entry) old step new → grown ≡ out ++ line_text (entry_text old.schema entry) → HasTaken (step ∷ []) old new out grown
+took_made old new step entry out grown is made written =
+    let text = line_text (entry_text old.schema entry) in
+    let lived : trace old.schema (step ∷ reverse old.steps) ≡ entry ∷ trace old.schema (reverse old.steps) =
+    ap (λ (l : List WorldStep). trace old.schema l) (sym (reverse-append old.steps (step ∷ [])))
+    ∙ ap (λ (w : WorldValue). entries (lucky_trace w)) (sym is) ∙ ap entries made in
+    record { replies = text; taken = is; answered = ([], text, refl, inl (entry, lived, refl), refl); written = written }
 
 pub took_more : (steps : List WorldStep) (step : WorldStep) (old middle new : WorldValue) (out between grown : List ℕ)
     → HasTaken steps old middle out between → HasTaken (step ∷ []) middle new between grown

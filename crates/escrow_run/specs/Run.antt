@@ -6,12 +6,9 @@ use Rattle.escrow_run.specs.declared.script.Script.{Script}
 use Rattle.script_input.specs.declared.fault.ScriptFault.{ScriptFault}
 use Rattle.script_input.specs.declared.fault.ScriptFault.TheVariants.{Read, TooLong, Write, Header, BadLine, Work, Stuck, Illegal, NoMemory}
 use Rattle.script_input.specs.declared.streams.End.{End}
-use Rattle.entry_text.specs.Spelling.{command_text}
 use Rattle.entry_text.specs.Lines.{max_line}
 use Rattle.escrow_run.specs.Text.{AreReplies, IsAnswer, HasText, IsTextOf}
 use Rattle.world_steps.specs.declared.step.WorldStep.{WorldStep}
-use Rattle.world_steps.specs.declared.step.WorldStep.TheVariants.{Do, Deliver}
-use Rattle.field_bounds.specs.declared.entry.Entry.{Entry}
 use Rattle.world_steps.specs.View.{WorldValue}
 use Rattle.reaching_steps.specs.declared.taken.StepTaken.{StepTaken}
 use Rattle.reaching_steps.specs.Taken.{steps_of, with_steps, AreAnswered}
@@ -19,15 +16,6 @@ use Rattle.script_input.specs.Lines.{whole_lines, script_lines}
 use Rattle.script_input.specs.Reader.{passed_over, Reads, GaveAll, StopsAt}
 use Rattle.script_input.specs.Faults.{HasEndedAt, IsWithin, Explains}
 use Rattle.script_input.specs.Streams.{AppendsPrefix}
-
--- The entry is of what the step asks a site, where it names one.
-abbrev pub IsMadeBy : WorldStep → Entry → Type 0
-IsMadeBy (Do site command luck) entry = (entry.site ≡ site) × (entry.command ≡ command)
-IsMadeBy (Deliver k luck) entry = Unit {0}
-
--- The bytes spell what such an entry says that the site was asked.
-abbrev pub IsSpelled : SchemaValue → WorldStep → List ℕ → Type 0
-IsSpelled schema step bytes = (entry : Entry) → IsMadeBy step entry → bytes ≡ command_text schema entry.site entry.command
 
 -- What a world does with a line, and what is to be written before and after it: its schema stays, and what is written
 -- grows by what answers the line, by the steps before and after it.

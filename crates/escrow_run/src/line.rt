@@ -6,13 +6,12 @@ ghost use Rattle.field_bounds.specs.Limits.{IsSchema};
 ghost use Rattle.field_bounds.specs.declared.id.SiteNo.{SiteNo as Site};
 ghost use Rattle.field_bounds.specs.declared.entry.Command.{Command as CommandType};
 ghost use Rattle.kept_state.specs.declared.luck.Luck.{Luck as LuckType};
-ghost use Rattle.kept_state.specs.declared.luck.Luck.TheVariants.{Torn};
+ghost use Rattle.kept_state.specs.declared.luck.Luck.TheVariants.{Fine, Torn};
 ghost use Rattle.world_steps.specs.declared.step.WorldStep.TheVariants.{Do};
 ghost use Rattle.line_words.specs.Reading.{Gives};
 ghost use Rattle.entry_text.specs.Reading.{table_at};
 ghost use Rattle.escrow_run.specs.declared.line.Line.{Line as LineType};
 ghost use Rattle.escrow_run.specs.Text.{luck_text, step_text, asked_text, LuckFits, NumbersFit, AskedFits, IsTaken, IsAsked, IsBad, luck_at, line_table};
-ghost use Rattle.escrow_run.specs.Run.{IsSpelled};
 
 use crate::aim::Aim;
 use crate::level::Level;
@@ -20,7 +19,7 @@ use entry_text::{
     Fields, MAX_LINE, expect, field_at, kind_at, number_at, read_command, read_number, signed_at,
     site_at,
 };
-use field_bounds::Schema;
+use field_bounds::{Command, Schema, SiteNo};
 use line_words::Words;
 use world_steps::{Luck, World, WorldStep, step_fits};
 
@@ -213,16 +212,23 @@ pub(crate) fn read_line(world: &World, line: &[u8]) -> Option<Line>
     }
 }
 
-/// What the line of a step asks of a site, where it says that and no more.
-pub(crate) fn spelled<'a>(line: &'a [u8], step: &WorldStep) -> Option<&'a [u8]>
-    ensures { (schema : SchemaValue) → line.now ≡ step_text schema step.now
-        → IfSome result (λ words. IsSpelled schema step.now words.now) }
+/// The site and the command of a step whose luck is fine: its line spells them, and no more.
+#[inline(always)]
+pub(crate) fn fine_command(step: &WorldStep) -> Option<(SiteNo, Command)>
+    ensures { MatchOption result ((site : Site) (command : CommandType)
+        → step.now ≢ Do site command Fine) (λ asked. step.now ≡ Do asked.0 asked.1 Fine) }
 {
     match *step {
         WorldStep::Do {
+            site,
+            command,
             luck: Luck::Fine,
-            ..
-        } => Some(line),
-        _ => None,
+        } => Some((site, command)),
+        WorldStep::Do {
+            site: _,
+            command: _,
+            luck: Luck::Torn(_),
+        }
+        | WorldStep::Deliver { k: _, luck: _ } => None,
     }
 }

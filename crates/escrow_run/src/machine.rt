@@ -1,20 +1,20 @@
 //! The world that a header line starts, and its answers to the lines behind it.
 
-ghost use Rattle.std.specs.Prelude.{◌≡◌, [], ◌∷◌, ◌++◌, length, take, All, codes, OnOk, OnErr, IfOk, IfSome};
+ghost use Rattle.std.specs.Prelude.{◌≡◌, [], ◌∷◌, ◌++◌, length, take, All, codes, OnOk, OnErr, IfOk};
 ghost use Rattle.std.specs.Fmt.{decimal};
 ghost use Rattle.entry_text.specs.Spelling.{command_text, entry_text};
 ghost use Rattle.escrow_run.specs.Text.{line_text};
-ghost use Rattle.escrow_run.specs.Run.{IsSpelled, Tells};
+ghost use Rattle.escrow_run.specs.Run.{Tells};
 
 use crate::aim::{Aim, reason};
 use crate::level::{Level, gifts};
-use crate::line::{Line, read_line, spelled};
+use crate::line::{Line, fine_command, read_line};
 use entry_text::{append_entry, append_reply};
-use field_bounds::{Entry, Schema};
+use field_bounds::{Command, Entry, Reply, Schema, SiteNo};
 use itoa::Buffer;
 use reaching_steps::{StepTaken, reach_in};
 use std::alloc::{AllocError, Global};
-use world_steps::{StepReply, World, WorldStep};
+use world_steps::{Luck, StepReply, World, WorldStep};
 
 /// Adds a line and its LF, or changes nothing where memory is refused.
 pub(crate) fn add_line(out: &mut Vec<u8>, line: &[u8]) -> Result<(), AllocError>
@@ -59,28 +59,35 @@ fn add_remark(out: &mut Vec<u8>, k: u64) -> Result<(), AllocError>
     )
 }
 
-// Adds the text of the entry that a step made, and an LF. What the step asked of a site isn't
-// spelled again where it is spelled already.
-fn add_made(
-    out: &mut Vec<u8>,
-    schema: &Schema,
-    spelled: Option<&[u8]>,
-    entry: Entry,
-) -> Result<(), AllocError>
-    requires { IfSome spelled (λ bytes. bytes.now
-        ≡ command_text schema.now entry.site entry.command) }
+// Adds the text of the entry that a step made, and an LF.
+fn add_made(out: &mut Vec<u8>, schema: &Schema, entry: Entry) -> Result<(), AllocError>
     ensures ok { OnOk result (out.new.items ≡ out.old.items
         ++ line_text (entry_text schema.now entry)) }
     ensures err { OnErr result (take (length out.old.items) out.new.items ≡ out.old.items) }
 {
-    match spelled {
-        Some(command) => {
-            out.extend_from_slice(command)?;
-            out.extend_from_slice(b" -> ")?;
-            append_reply(out, entry.reply)?;
-        }
-        None => append_entry(out, schema, entry)?,
-    }
+    append_entry(out, schema, entry)?;
+    out.extend_from_slice(b"\n")
+}
+
+// Adds the text of the entry of a command that a line spells, and an LF: the command isn't spelled
+// again.
+#[inline(always)]
+fn add_answered(
+    out: &mut Vec<u8>,
+    schema: &Schema,
+    line: &[u8],
+    site: SiteNo,
+    command: Command,
+    reply: Reply,
+) -> Result<(), AllocError>
+    requires spelled { line.now ≡ command_text schema.now site command }
+    ensures ok { OnOk result (out.new.items ≡ out.old.items ++ line_text (entry_text schema.now
+        (record { site = site; command = command; reply = reply }))) }
+    ensures err { OnErr result (take (length out.old.items) out.new.items ≡ out.old.items) }
+{
+    out.extend_from_slice(line)?;
+    out.extend_from_slice(b" -> ")?;
+    append_reply(out, reply)?;
     out.extend_from_slice(b"\n")
 }
 
@@ -91,7 +98,7 @@ fn add_reply(out: &mut Vec<u8>, schema: &Schema, one: &StepTaken) -> Result<(), 
     ensures err { OnErr result (take (length out.old.items) out.new.items ≡ out.old.items) }
 {
     match one.reply {
-        StepReply::Made(entry) => add_made(out, schema, None, entry),
+        StepReply::Made(entry) => add_made(out, schema, entry),
         StepReply::NoStatement => match one.step {
             WorldStep::Do { .. } => Ok(()),
             WorldStep::Deliver { k, .. } => add_remark(out, k),
@@ -136,7 +143,7 @@ pub(crate) struct Machine {
 impl Machine {
     ghost use Rattle.std.specs.Prelude.{reverse};
     ghost use Rattle.world_steps.specs.World.{StepFits};
-    ghost use Rattle.escrow_run.specs.Text.{Levels, Aims, AsksSteps};
+    ghost use Rattle.escrow_run.specs.Text.{Asks, Levels, Aims, AsksSteps};
     ghost use Rattle.escrow_run.specs.Run.{Answered, HasTaken};
 
     /// The world of a schema, before its first step. The error is want of memory.
@@ -150,26 +157,59 @@ impl Machine {
     }
 
     // Takes a step, and adds the text of its entry, or the remark.
-    fn take(
-        &mut self,
-        alloc: Global,
-        step: &WorldStep,
-        spelled: Option<&[u8]>,
-        out: &mut Vec<u8>,
-    ) -> Result<(), AllocError>
+    fn take(&mut self, alloc: Global, step: &WorldStep, out: &mut Vec<u8>) -> Result<(), AllocError>
         requires fits { StepFits self.old.world.schema step.now }
-        requires spelled { IfSome spelled (λ bytes. IsSpelled self.old.world.schema step.now
-            bytes.now) }
         ensures ok { OnOk result (HasTaken (step.now ∷ []) self.old.world self.new.world
             out.old.items out.new.items) }
         ensures err { OnErr result (take (length out.old.items) out.new.items ≡ out.old.items) }
     {
         match self.world.step(alloc, step)? {
-            StepReply::Made(entry) => add_made(out, self.world.schema(), spelled, entry),
+            StepReply::Made(entry) => add_made(out, self.world.schema(), entry),
             StepReply::NoStatement => match *step {
                 WorldStep::Do { .. } => unreachable!(),
                 WorldStep::Deliver { k, .. } => add_remark(out, k),
             },
+        }
+    }
+
+    // Asks a site the command that a line spells, and adds the text of its entry. Most lines are
+    // such ones, so no step is made of them, and no entry but the one of the trace.
+    #[inline(always)]
+    fn take_spelled(
+        &mut self,
+        alloc: Global,
+        line: &[u8],
+        site: SiteNo,
+        command: Command,
+        out: &mut Vec<u8>,
+    ) -> Result<(), AllocError>
+        requires fits { StepFits self.old.world.schema (WorldStep.Do site command Luck.Fine) }
+        requires spelled { line.now ≡ command_text self.old.world.schema site command }
+        ensures ok { OnOk result (HasTaken (WorldStep.Do site command Luck.Fine ∷ [])
+            self.old.world self.new.world out.old.items out.new.items) }
+        ensures err { OnErr result (take (length out.old.items) out.new.items ≡ out.old.items) }
+    {
+        let reply = self.world.do_fine(alloc, site, command)?;
+        add_answered(out, self.world.schema(), line, site, command, reply)
+    }
+
+    // Takes the step that a line asks, and adds what answers it.
+    #[inline(always)]
+    fn take_asked(
+        &mut self,
+        alloc: Global,
+        line: &[u8],
+        step: WorldStep,
+        out: &mut Vec<u8>,
+    ) -> Result<(), AllocError>
+        requires asks { Asks self.old.world.schema line.now step }
+        ensures ok { OnOk result (Answered line.now self.old.world self.new.world
+            out.old.items out.new.items) }
+        ensures err { OnErr result (take (length out.old.items) out.new.items ≡ out.old.items) }
+    {
+        match fine_command(&step) {
+            Some((site, command)) => self.take_spelled(alloc, line, site, command, out),
+            None => self.take(alloc, &step, out),
         }
     }
 
@@ -186,7 +226,7 @@ impl Machine {
         ensures err { OnErr result (take (length out.old.items) out.new.items ≡ out.old.items) }
     {
         for step in steps {
-            self.take(alloc, step, None, out)?;
+            self.take(alloc, step, out)?;
         }
         Ok(())
     }
@@ -263,7 +303,7 @@ impl Machine {
         ensures err { OnErr result (take (length out.old.items) out.new.items ≡ out.old.items) }
     {
         match read_line(&self.world, line) {
-            Some(Line::Step(step)) => self.take(alloc, &step, spelled(line, &step), out),
+            Some(Line::Step(step)) => self.take_asked(alloc, line, step, out),
             Some(Line::Level(level)) => self.level(alloc, line, level, out),
             Some(Line::Reach(aim)) => self.reach_for(alloc, line, aim, out),
             None => add_line(out, b"bad line"),
