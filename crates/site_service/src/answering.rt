@@ -1,7 +1,7 @@
 //! The answers of a site, as text.
 
 ghost use Rattle.std.specs.Prelude.{◌≡◌, ◌<◌, ◌++◌, ◌∷◌, [], ℕ, Bool, List, length, take, OnOk, OnErr};
-ghost use Rattle.entry_text.specs.Spelling.{entry_text};
+ghost use Rattle.entry_text.specs.Spelling.{command_text, entry_text};
 ghost use Rattle.entry_text.specs.Lines.{max_line};
 ghost use Rattle.kept_records.specs.Keeping.{IsKept};
 ghost use Rattle.site_service.specs.Index.{IsIndexOf};
@@ -11,8 +11,8 @@ ghost use Rattle.site_service.specs.Service.{IsWhole, Grows, Tells, TellsEntry};
 use crate::asking::{Request, asked};
 use crate::bad_line::add_bad;
 use crate::kept::KeptCommits;
-use entry_text::append_entry;
-use field_bounds::{Command, Entry, Schema, TxnId};
+use entry_text::{append_entry, append_reply};
+use field_bounds::{Command, Entry, Reply, Schema, SiteNo, TxnId};
 use history::GhostHistory;
 use kept_records::MemoryMedium;
 use site_step::Site;
@@ -58,6 +58,71 @@ pub(crate) fn carry_out(
             reply,
         },
     )
+}
+
+// Adds a line that spells a command of the site, with its reply, and an LF: the text of its entry,
+// in which the command isn't spelled again. Where memory is refused a front may have been added.
+#[inline(always)]
+fn push_spelled(
+    out: &mut Vec<u8>,
+    schema: &Schema,
+    line: &[u8],
+    site: SiteNo,
+    command: Command,
+    reply: Reply,
+) -> Result<(), AllocError>
+    requires spelled { line.now ≡ command_text schema.now site command }
+    ensures ok { OnOk result (out.new.items ≡ out.old.items ++ (entry_text schema.now
+        (record { site = site; command = command; reply = reply }) ++ 10 ∷ [])) }
+    ensures err { OnErr result (take (length out.old.items) out.new.items ≡ out.old.items) }
+{
+    out.extend_from_slice(line)?;
+    out.extend_from_slice(b" -> ")?;
+    append_reply(out, reply)?;
+    out.extend_from_slice(b"\n")
+}
+
+// The same, or changes nothing where memory is refused.
+#[inline(always)]
+fn add_spelled(
+    out: &mut Vec<u8>,
+    schema: &Schema,
+    line: &[u8],
+    site: SiteNo,
+    command: Command,
+    reply: Reply,
+) -> Result<(), AllocError>
+    requires spelled { line.now ≡ command_text schema.now site command }
+    ensures ok { OnOk result (out.new.items ≡ out.old.items ++ (entry_text schema.now
+        (record { site = site; command = command; reply = reply }) ++ 10 ∷ [])) }
+    ensures err { OnErr result (out.new.items ≡ out.old.items) }
+{
+    let before = out.len();
+    if push_spelled(out, schema, line, site, command, reply).is_err() {
+        out.truncate(before);
+        return Err(AllocError);
+    }
+    Ok(())
+}
+
+// Carries out the command that a line spells, and adds its entry as a line, as `carry_out` does.
+fn carry_out_spelled(
+    alloc: Global,
+    site: &mut Site<MemoryMedium, GhostHistory<Entry>>,
+    schema: &Schema,
+    out: &mut Vec<u8>,
+    line: &[u8],
+    command: Command,
+) -> Result<(), AllocError>
+    requires schema { schema.now ≡ site.old.schema }
+    requires spelled { line.now ≡ command_text schema.now site.old.site command }
+    ensures ok { OnOk result (TellsEntry command site.old site.new out.old.items out.new.items) }
+    ensures err { OnErr result (out.new.items ≡ out.old.items) }
+    ensures grows { IsWhole site.old → Grows site.old site.new }
+{
+    let number = site.site();
+    let reply = site.apply(alloc, command)?;
+    add_spelled(out, schema, line, number, command, reply)
 }
 
 // The words that tell whether a commit is kept.
@@ -134,7 +199,7 @@ pub(crate) fn answer_line(
     ensures index { IsIndexOf kept.new site.new.bytes }
 {
     match asked(schema, site.site(), line) {
-        Ok(Request::Do(command)) => carry_out(alloc, site, schema, out, command),
+        Ok(Request::Do(command)) => carry_out_spelled(alloc, site, schema, out, line, command),
         Ok(Request::Kept(txn)) => {
             tell_commit(alloc, kept, site.medium().bytes(), out, line, txn)
         },

@@ -52,6 +52,7 @@ fn new_buffer(alloc: Global) -> Result<Vec<u8>, AllocError>
 }
 
 // Answers the line that a part of it ends, in front of which so much was kept; none is kept then.
+// Where nothing was kept the part is the line, and is answered where it lies.
 fn answer_end<F: LogFile>(
     alloc: Global,
     service: &mut Service<F>,
@@ -63,6 +64,9 @@ fn answer_end<F: LogFile>(
     ensures none { OnOk result (line.new.items ≡ []) }
     ensures log { KeepsLog service.old service.new }
 {
+    if line.is_empty() {
+        return service.answer(alloc, end);
+    }
     keep(line, end)?;
     service.answer(alloc, line.as_slice())?;
     line.clear();

@@ -11,9 +11,9 @@ use Rattle.site_service.proofs.answering.answer_line.Goals as goal
 pub returns-in-Ok-Do-clause-ok : goal.returns-in-Ok-Do-clause-ok
 returns-in-Ok-Do-clause-ok c =
     let asks = rw c.in-Ok-Do.field-0-is at c.in-Ok-Do.ensures.ok in
-    on_ok_weaker c.carry_out.result
+    on_ok_weaker c.carry_out_spelled.result
     (λ told. told_command c.args.schema.now c.site.result c.args.site.now c.requires.schema c.site.ensures.value c.args.number c.args.out.now.items
-    c.carry_out.new.out.items c.args.line.now c.in-Ok-Do.command c.carry_out.new.site asks told) c.carry_out.ensures.ok
+    c.carry_out_spelled.new.out.items c.args.line.now c.in-Ok-Do.command c.carry_out_spelled.new.site asks told) c.carry_out_spelled.ensures.ok
 
 pub returns-in-Ok-Do-clause-long : goal.returns-in-Ok-Do-clause-long
 returns-in-Ok-Do-clause-long c = λ whole long more. absurd (omega (arith, long, c.in-Ok-Do.ensures.short))
@@ -62,9 +62,9 @@ returns-in-Ok-Kept-clause-index c =
     subst (IsIndexOf c.tell_commit.new.kept) is c.tell_commit.ensures.index
 
 pub returns-in-Ok-Do-clause-grows : goal.returns-in-Ok-Do-clause-grows
-returns-in-Ok-Do-clause-grows c = c.carry_out.ensures.grows c.requires.whole
+returns-in-Ok-Do-clause-grows c = c.carry_out_spelled.ensures.grows c.requires.whole
 
 pub returns-in-Ok-Do-clause-index : goal.returns-in-Ok-Do-clause-index
 returns-in-Ok-Do-clause-index c =
-    let grows = c.carry_out.ensures.grows c.requires.whole in
-    index_grows c.args.kept.now c.args.site.now.bytes c.carry_out.new.site.bytes grows.added c.requires.index grows.bytes
+    let grows = c.carry_out_spelled.ensures.grows c.requires.whole in
+    index_grows c.args.kept.now c.args.site.now.bytes c.carry_out_spelled.new.site.bytes grows.added c.requires.index grows.bytes
