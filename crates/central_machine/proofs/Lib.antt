@@ -1,3 +1,4 @@
+pub mod Blocks
 pub mod Sets
 pub mod Reading
 pub mod Small

@@ -5,3 +5,5 @@ pub mod Sums
 pub mod Totals
 pub mod Parts
 pub mod Rising
+pub mod Spread
+pub mod Ledger

@@ -16,6 +16,7 @@ use Rattle.field_bounds.specs.Effects.{Base, fresh, is_begun, is_open, open_txns
 use Rattle.field_bounds.specs.Owed.{Place, place, is_up, epoch_of, count_since, is_begun_reply, is_still_down, is_unsure}
 use Rattle.central_machine.specs.declared.numbers.Numbers.{Numbers}
 use Rattle.central_machine.specs.declared.site_totals.SiteTotals.{SiteTotals}
+use Rattle.central_machine.specs.Ledger.{told, has_spot, IsTold}
 use Rattle.central_machine.specs.Amounts.{amount, has_slot, IsPut, capped_sum}
 use Rattle.central_machine.specs.Open.{txns_of, escrows_at, IsOpened, IsAdded, IsClosed}
 
@@ -40,15 +41,15 @@ pub record Describes (schema : SchemaValue) (base : Base) (es : List Effect) (n 
   pub free_in : (f : ℕ) → f < length schema.fields → has_slot n.free f ≡ true
   pub held_in : (f : ℕ) → f < length schema.fields → has_slot n.held f ≡ true
   pub cut_in : (f : ℕ) → f < length schema.fields → has_slot n.cut f ≡ true
-  pub given_in : (r f : ℕ) → r < schema.sites → f < length schema.fields → has_slot n.given (slot_at n.stride r f) ≡ true
-  pub accepted_in : (r f : ℕ) → r < schema.sites → f < length schema.fields → has_slot n.accepted (slot_at n.stride r f) ≡ true
+  pub given_in : (r f : ℕ) → r < schema.sites → f < length schema.fields → has_spot n.given (slot_at n.stride r f) ≡ true
+  pub accepted_in : (r f : ℕ) → r < schema.sites → f < length schema.fields → has_spot n.accepted (slot_at n.stride r f) ≡ true
   pub free : (f : ℕ) (k : Kind) → f < length schema.fields → amount n.free f k ≡ share base f k es
   pub held : (f : ℕ) (k : Kind) → f < length schema.fields → amount n.held f k ≡ held_rights f k es
   pub cut : (f : ℕ) (k : Kind) → f < length schema.fields → amount n.cut f k ≡ cut base f k es
   pub given : (r f : ℕ) (k : Kind) → r < schema.sites → f < length schema.fields
-      → amount n.given (slot_at n.stride r f) k ≡ total_given base r f k es
+      → told n.given (slot_at n.stride r f) k ≡ total_given base r f k es
   pub accepted : (r f : ℕ) (k : Kind) → r < schema.sites → f < length schema.fields
-      → amount n.accepted (slot_at n.stride r f) k ≡ total_accepted base r f k es
+      → told n.accepted (slot_at n.stride r f) k ≡ total_accepted base r f k es
   pub txns : txns_of n.journal.rows.items ≡ reverse (open_txns es)
   pub escrows : (t : TxnId) → is_begun t es ≡ true → is_open t es ≡ true → escrows_at t n.journal.rows.items ≡ reverse (escrows_of t es)
 
@@ -112,7 +113,7 @@ pub record Leaves (n m : Numbers) (field : ℕ) (kind : Kind) (size : ℕ) : Typ
 
 pub record GoesTo (n m : Numbers) (to field : ℕ) (kind : Kind) (size : ℕ) : Type 0 where
   pub left : Leaves n m field kind size
-  pub given : IsPut n.given m.given (slot_at n.stride to field) kind (capped_sum (amount n.given (slot_at n.stride to field) kind + size))
+  pub given : IsTold n.given m.given (slot_at n.stride to field) kind (capped_sum (told n.given (slot_at n.stride to field) kind + size))
   pub cut : m.cut ≡ n.cut
 
 pub record GoesForGood (n m : Numbers) (field : ℕ) (kind : Kind) (size : ℕ) : Type 0 where
@@ -122,9 +123,9 @@ pub record GoesForGood (n m : Numbers) (field : ℕ) (kind : Kind) (size : ℕ) 
 
 pub record TakesIn (n m : Numbers) (from field : ℕ) (kind : Kind) (total : ℕ) : Type 0 where
   pub free : IsPut n.free m.free field kind (capped_sum
-      (amount n.free field kind + (total - amount n.accepted (slot_at n.stride from field) kind)))
-  pub accepted : IsPut n.accepted m.accepted (slot_at n.stride from field) kind
-      (max total (amount n.accepted (slot_at n.stride from field) kind))
+      (amount n.free field kind + (total - told n.accepted (slot_at n.stride from field) kind)))
+  pub accepted : IsTold n.accepted m.accepted (slot_at n.stride from field) kind
+      (max total (told n.accepted (slot_at n.stride from field) kind))
   pub stride : m.stride ≡ n.stride
   pub held : m.held ≡ n.held
   pub cut : m.cut ≡ n.cut

@@ -80,10 +80,10 @@ fn judge_parts(
 /// sound trace it is Legal (`sound`).
 ///
 /// The error is want of memory. There is a window for each processor but one, or one for each field;
-/// a window takes time as `judge` does but for the look-ups of statements and replies, and memory,
-/// of each kind, for three numbers for each of its fields, three for each site and field, and two
-/// for each two sites and a field. The other parts take time and memory as `judge` does, and a
-/// number for each entry. Over fewer than 50 entries the parts take turns in the caller's thread.
+/// a window takes time as `judge` does but for the look-ups of statements and replies, and memory as
+/// `judge` does but for the statements, with the first three numbers for its own fields alone. The
+/// other parts take time and memory as `judge` does, and a number for each entry. Over fewer than 50
+/// entries the parts take turns in the caller's thread.
 ///
 /// Source: O'Neil 1986 for the central store, this project for the judge and its parts.
 pub fn judge_fields(

@@ -11,6 +11,7 @@ ghost use Rattle.central_machine.specs.Running.{NumbersAfter, effect_by, doubt_a
 
 use crate::amounts::Amounts;
 use crate::journal::Journal;
+use crate::ledger::Ledger;
 use crate::numbers::Numbers;
 use central_rules::SiteCounts;
 use field_bounds::{
@@ -165,7 +166,7 @@ fn note_reply(counts: &mut SiteCounts, entry: &Entry)
 
 impl SiteTotals {
     /// The totals of a site of no entries. Takes memory for 3 numbers of each kind for each field,
-    /// and 2 for each field and site.
+    /// and 2 for each 16 places of a field and a site.
     pub fn new(alloc: Global, schema: &Schema, site: SiteNo) -> Result<SiteTotals, AllocError>
         requires site_in { site.0 < schema.now.sites }
         ensures { IfOk result (λ made. IsSite schema.now site.0 [] made) }
@@ -175,8 +176,8 @@ impl SiteTotals {
         let free = Amounts::parts(alloc, schema, site)?;
         let held = Amounts::zeros(alloc, usize::from(fields))?;
         let cut = Amounts::zeros(alloc, usize::from(fields))?;
-        let given = Amounts::zeros(alloc, size)?;
-        let accepted = Amounts::zeros(alloc, size)?;
+        let given = Ledger::zeros(alloc, size)?;
+        let accepted = Ledger::zeros(alloc, size)?;
         let numbers = Numbers {
             stride: fields,
             free,
