@@ -167,6 +167,7 @@ impl FieldSums {
     }
 
     /// An escrow is open.
+    #[inline(always)]
     fn set_aside(&mut self, window: Window, field: FieldNo, change: i64)
         ensures { SetAside window self.old self.new field.0 change }
     {
@@ -201,6 +202,7 @@ impl FieldSums {
 
     /// Takes in one more effect, of a site where these transactions are open. The end of one costs
     /// a look through them, and a step for each of its escrows.
+    #[inline(always)]
     fn take(&mut self, window: Window, journal: &Journal, effect: Option<Effect>)
         ensures { SumsTake window effect journal.now.rows.items self.old self.new }
     {
@@ -231,6 +233,7 @@ impl FieldSums {
 
     /// Takes in a reply with what it puts into effect, at a site of these numbers where this is in
     /// doubt. After a restart nothing is held there.
+    #[inline(always)]
     pub fn after(
         &mut self,
         window: Window,

@@ -54,6 +54,7 @@ fn is_share(
 
 /// Whether an entry keeps the rule on shortages in a window: it names its site's share, which is
 /// less than was asked.
+#[inline(always)]
 pub fn shortage_holds(free: &Amounts, window: Window, entry: &Entry) -> bool
     ensures { (schema : SchemaValue) (t : List Entry) → IsWindow schema window →
         ((f : ℕ) (k : Kind) → f < length schema.fields → amount free.now f k
@@ -93,6 +94,7 @@ impl FieldSums {
     /// Whether one central store may grant a change of a kind, of this size: the infimum less it
     /// lies at the floor or above, or the supremum and it at the ceiling or below, where floor and
     /// ceiling are tightened by what was given up.
+    #[inline(always)]
     fn may_grant(&self, place: usize, kind: Kind, by: u64) -> bool
         ensures { (schema : SchemaValue) (w : Window) (t : List Entry) (f : ℕ) →
             AreSums schema w t self.now → place < w.count → f ≡ w.first + place →
@@ -104,6 +106,7 @@ impl FieldSums {
     }
 
     /// Whether the committed value of a field, at a place of the window, lies between the two.
+    #[inline(always)]
     fn holds_between(&self, schema: &Schema, field: FieldNo, place: usize, lo: i64, hi: i64) -> bool
         ensures { (w : Window) (t : List Entry) → AreSums schema.now w t self.now →
             place < w.count → field.0 ≡ w.first + place → field.0 < length schema.now.fields →
@@ -120,6 +123,7 @@ impl FieldSums {
 
     /// Whether an entry keeps the rule on grants in a window: what is granted or given up on a field
     /// is allowed by the infimum or the supremum.
+    #[inline(always)]
     pub fn grant_holds(&self, window: Window, entry: &Entry) -> bool
         ensures { (schema : SchemaValue) (t : List Entry) → IsWindow schema window →
             AreSums schema window t self.now →
@@ -154,6 +158,7 @@ impl FieldSums {
 
     /// Whether an entry keeps the rule on intervals in a window: one that was read of a field holds
     /// its committed value.
+    #[inline(always)]
     pub fn interval_holds(&self, window: Window, schema: &Schema, entry: &Entry) -> bool
         ensures { (t : List Entry) → IsWindow schema.now window →
             AreSums schema.now window t self.now →

@@ -12,6 +12,7 @@ mod field_tests;
 mod joined;
 mod journal;
 mod judging;
+mod known;
 mod ledger;
 mod numbers;
 mod owed;

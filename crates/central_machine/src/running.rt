@@ -9,11 +9,12 @@ ghost use Rattle.central_rules.specs.Verdict.{broken_rule, first_broken, verdict
 ghost use Rattle.central_machine.specs.Totals.{AreRunning};
 ghost use Rattle.central_machine.specs.Parts.{field_tests};
 
+use crate::known::by_entry;
 use crate::statements;
 use crate::totals::Totals;
 use crate::window::Window;
 use central_rules::Rule;
-use field_bounds::{Entry, Schema};
+use field_bounds::{Command, Entry, Reply, Schema};
 use statement_set::StatementSet;
 use std::alloc::{AllocError, Global};
 
@@ -36,6 +37,7 @@ impl Running {
     }
 
     /// Whether the entry keeps the rule on statements.
+    #[inline(always)]
     fn statement_holds(&self, entry: &Entry) -> bool
         ensures { (schema : SchemaValue) (t : List Entry) → AreRunning schema t self.now →
             result ≡ test_of schema t entry.now Told }
@@ -45,6 +47,7 @@ impl Running {
 
     /// The first of the rules Grant, Shortage and Interval that the next entry breaks, each by its
     /// own test.
+    #[inline(always)]
     fn field_rule(&self, schema: &Schema, entry: &Entry) -> Option<Rule>
         requires site_in { entry.now.site.0 < schema.now.sites }
         ensures { (t : List Entry) → AreRunning schema.now t self.now →
@@ -55,6 +58,7 @@ impl Running {
 
     /// The first rule that the next entry breaks: each of the six is tested by what the totals tell,
     /// and none is left out because of another.
+    #[inline(always)]
     fn broken_rule(&self, schema: &Schema, entry: &Entry) -> Option<Rule>
         ensures { (t : List Entry) → AreRunning schema.now t self.now →
             result ≡ broken_rule schema.now t entry.now }
@@ -75,6 +79,7 @@ impl Running {
     }
 
     /// Takes the totals of a front to those of the front with the next entry.
+    #[inline(always)]
     fn step(&mut self, alloc: Global, schema: &Schema, entry: &Entry) -> Result<(), AllocError>
         ensures { OnOk result ((t : List Entry) → length t < 230584300921369395 →
             AreRunning schema.now t self.old → verdict_back schema.now t ≡ Legal →
@@ -83,11 +88,13 @@ impl Running {
     {
         let _sites = schema.sites();
         statements::note(&mut self.issued, entry)?;
-        self.totals.step(alloc, schema, entry)
+        self.totals.step_by(alloc, schema, entry)
     }
 
-    /// Judges the next entry, and takes it in where it breaks no rule.
-    pub fn take_in(
+    /// Judges the next entry, and takes it in where it breaks no rule. Inlined where the command and
+    /// the reply are known, so that nothing is left there of the others.
+    #[inline(always)]
+    fn take_by(
         &mut self,
         alloc: Global,
         schema: &Schema,
@@ -104,5 +111,37 @@ impl Running {
         }
         self.step(alloc, schema, entry)?;
         Ok(None)
+    }
+
+    /// The same for an entry of any kind.
+    fn take_any(
+        &mut self,
+        alloc: Global,
+        schema: &Schema,
+        entry: &Entry,
+    ) -> Result<Option<Rule>, AllocError>
+        ensures rule { IfOk result (λ rule. (t : List Entry) → AreRunning schema.now t self.old →
+            rule ≡ broken_rule schema.now t entry.now) }
+        ensures totals { IfOk result (λ rule. (t : List Entry) → length t < 230584300921369395 →
+            AreRunning schema.now t self.old → verdict_back schema.now t ≡ Legal → rule ≡ None →
+            AreRunning schema.now (entry.now ∷ t) self.new) }
+    {
+        self.take_by(alloc, schema, entry)
+    }
+
+    /// The same, with the common entries each on a way of its own.
+    pub fn take_in(
+        &mut self,
+        alloc: Global,
+        schema: &Schema,
+        entry: &Entry,
+    ) -> Result<Option<Rule>, AllocError>
+        ensures rule { IfOk result (λ rule. (t : List Entry) → AreRunning schema.now t self.old →
+            rule ≡ broken_rule schema.now t entry.now) }
+        ensures totals { IfOk result (λ rule. (t : List Entry) → length t < 230584300921369395 →
+            AreRunning schema.now t self.old → verdict_back schema.now t ≡ Legal → rule ≡ None →
+            AreRunning schema.now (entry.now ∷ t) self.new) }
+    {
+        by_entry! { entry; known => self.take_by(alloc, schema, &known); self.take_any(alloc, schema, entry) }
     }
 }

@@ -11,6 +11,7 @@ ghost use Rattle.central_machine.specs.Running.{NumbersAfter, effect_by, doubt_a
 
 use crate::amounts::Amounts;
 use crate::journal::Journal;
+use crate::known::by_entry;
 use crate::ledger::Ledger;
 use crate::numbers::Numbers;
 use central_rules::SiteCounts;
@@ -141,6 +142,7 @@ pub fn settled(last: Last, doubt: Option<Effect>) -> Option<Effect>
 }
 
 /// Notes where a site stands after one more entry of its own: most replies leave it as it is.
+#[inline(always)]
 fn note_reply(counts: &mut SiteCounts, entry: &Entry)
     ensures up { (base : Base) (o : List Entry) → counts.old.up ≡ is_up base o →
         counts.new.up ≡ is_up base (entry.now ∷ o) }
@@ -247,11 +249,31 @@ impl SiteTotals {
         Ok(())
     }
 
-    /// Takes in the next entry of the site.
-    pub fn take_in(&mut self, alloc: Global, entry: &Entry) -> Result<(), AllocError>
+    /// Takes in the next entry of the site. Inlined where the command and the reply are known, so that
+    /// nothing is left there of the others.
+    #[inline(always)]
+    fn take_by(&mut self, alloc: Global, entry: &Entry) -> Result<(), AllocError>
         ensures { OnOk result (GoesOn entry.now self.old self.new) }
     {
         let effect = self.effect_by(entry);
         self.put_in(alloc, effect, entry)
+    }
+
+    /// The same for an entry of any kind.
+    fn take_any(&mut self, alloc: Global, entry: &Entry) -> Result<(), AllocError>
+        ensures { OnOk result (GoesOn entry.now self.old self.new) }
+    {
+        self.take_by(alloc, entry)
+    }
+
+    /// The same, with the common entries each on a way of its own.
+    pub fn take_in(&mut self, alloc: Global, entry: &Entry) -> Result<(), AllocError>
+        ensures { OnOk result (GoesOn entry.now self.old self.new) }
+    {
+        by_entry! {
+            entry;
+            known => self.take_by(alloc, &known);
+            self.take_any(alloc, entry)
+        }
     }
 }

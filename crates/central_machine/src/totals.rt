@@ -16,11 +16,12 @@ ghost use Rattle.field_bounds.specs.Owed.{place};
 
 use crate::field_sums::FieldSums;
 use crate::field_tests::shortage_holds;
+use crate::known::by_entry;
 use crate::owed::RunningSite;
 use crate::site_totals::SiteTotals;
 use crate::window::Window;
 use central_rules::{Rule, fits};
-use field_bounds::{Entry, Schema, SiteNo};
+use field_bounds::{Command, Entry, Reply, Schema, SiteNo};
 use std::alloc::{AllocError, Global};
 
 /// The totals of a front: the sums of the fields of a window, and the totals of each site.
@@ -32,6 +33,7 @@ pub struct Totals {
 }
 
 /// Whether a site owes the reply, where its totals say that it stands.
+#[inline(always)]
 pub fn reply_fits(schema: &Schema, site: SiteNo, totals: &SiteTotals, entry: &Entry) -> bool
     ensures { (o : List Entry) → IsSite schema.now site.0 o totals.now → result
         ≡ reply_test (place schema.now site.0 (fresh schema.now site.0) o) entry.now.command
@@ -75,6 +77,7 @@ impl Totals {
     }
 
     /// Whether the entry keeps the rule on replies: it is one that the site owes.
+    #[inline(always)]
     pub fn reply_holds(&self, schema: &Schema, entry: &Entry) -> bool
         requires site_in { entry.now.site.0 < schema.now.sites }
         ensures { (t : List Entry) → AreTotals schema.now t self.now →
@@ -87,8 +90,15 @@ impl Totals {
     }
 
     /// Takes the totals of a front to those of the front with the next entry: first the sums, by
-    /// what the site's totals tell of the entry, and then these.
-    pub fn step(&mut self, alloc: Global, schema: &Schema, entry: &Entry) -> Result<(), AllocError>
+    /// what the site's totals tell of the entry, and then these. Inlined where the command and the
+    /// reply are known, so that nothing is left there of the others.
+    #[inline(always)]
+    pub fn step_by(
+        &mut self,
+        alloc: Global,
+        schema: &Schema,
+        entry: &Entry,
+    ) -> Result<(), AllocError>
         ensures totals { OnOk result ((t : List Entry) → length t < 230584300921369395 →
             AreTotals schema.now t self.old → verdict_back schema.now t ≡ Legal →
             broken_rule schema.now t entry.now ≡ None →
@@ -106,8 +116,35 @@ impl Totals {
         }
     }
 
+    /// The same for an entry of any kind.
+    fn step_any(&mut self, alloc: Global, schema: &Schema, entry: &Entry) -> Result<(), AllocError>
+        ensures totals { OnOk result ((t : List Entry) → length t < 230584300921369395 →
+            AreTotals schema.now t self.old → verdict_back schema.now t ≡ Legal →
+            broken_rule schema.now t entry.now ≡ None →
+            AreTotals schema.now (entry.now ∷ t) self.new) }
+        ensures window { self.new.window ≡ self.old.window }
+    {
+        self.step_by(alloc, schema, entry)
+    }
+
+    /// The same, with the common entries each on a way of its own.
+    pub fn step(&mut self, alloc: Global, schema: &Schema, entry: &Entry) -> Result<(), AllocError>
+        ensures totals { OnOk result ((t : List Entry) → length t < 230584300921369395 →
+            AreTotals schema.now t self.old → verdict_back schema.now t ≡ Legal →
+            broken_rule schema.now t entry.now ≡ None →
+            AreTotals schema.now (entry.now ∷ t) self.new) }
+        ensures window { self.new.window ≡ self.old.window }
+    {
+        by_entry! {
+            entry;
+            known => self.step_by(alloc, schema, &known);
+            self.step_any(alloc, schema, entry)
+        }
+    }
+
     /// The first rule on the fields of the window that the next entry breaks: of Grant, Shortage and
     /// Interval, each by its own test.
+    #[inline(always)]
     pub fn field_broken(&self, schema: &Schema, entry: &Entry) -> Option<Rule>
         ensures { (t : List Entry) → AreTotals schema.now t self.now →
             result ≡ field_broken schema.now self.now.window t entry.now }

@@ -91,12 +91,14 @@ pub trait AtPlace {
             result ≡ gain_of at told.from told.field told.kind told.total };
 }
 
+#[inline(always)]
 fn is_up<P: AtPlace>(here: &P) -> bool
     ensures { (at : Place) → P.is_at here.now at → result ≡ is_up at.base at.entries }
 {
     here.site_counts().up
 }
 
+#[inline(always)]
 fn has<P: AtPlace>(here: &P, field: FieldNo) -> bool
     ensures { (at : Place) → P.is_at here.now at →
         result ≡ nat_lt field.0 (length at.schema.fields) }
@@ -117,6 +119,7 @@ fn is_here<P: AtPlace>(here: &P, site: SiteNo) -> bool
 }
 
 /// What the site guards of a field of the schema.
+#[inline(always)]
 fn rights_guarded<P: AtPlace>(here: &P, field: FieldNo, kind: Kind) -> u128
     ensures value { (at : Place) → P.is_at here.now at → field.0 < length at.schema.fields →
         result ≡ guarded_rights at field kind }
@@ -126,6 +129,7 @@ fn rights_guarded<P: AtPlace>(here: &P, field: FieldNo, kind: Kind) -> u128
 }
 
 /// The floor and the ceiling of a field of the schema.
+#[inline(always)]
 fn bounds<P: AtPlace>(here: &P, field: FieldNo) -> Bounds
     ensures floor { (at : Place) → P.is_at here.now at → field.0 < length at.schema.fields →
         result.floor ≡ (field_at at.schema field.0).floor }
@@ -154,6 +158,7 @@ fn room<P: AtPlace>(here: &P, field: FieldNo) -> u128
 }
 
 /// The first refusal of a command on a field, before its amount is looked at.
+#[inline(always)]
 fn field_refusal<P: AtPlace>(here: &P, field: FieldNo) -> Option<Refusal>
     ensures { (at : Place) → P.is_at here.now at →
         result ≡ first (test_down at ∷ test_no_field at field ∷ []) }
@@ -191,6 +196,7 @@ fn statement_refusal<P: AtPlace>(here: &P, told: Statement) -> Option<Refusal>
 }
 
 /// The refusal of an amount by its size, where it may be so large.
+#[inline(always)]
 fn amount_refusal(amount: u64, most: u64) -> Option<Refusal>
     ensures { result ≡ first (test_zero amount ∷ test_too_large most amount ∷ []) }
 {
@@ -200,6 +206,7 @@ fn amount_refusal(amount: u64, most: u64) -> Option<Refusal>
     }
 }
 
+#[inline(always)]
 fn fits_begin<P: AtPlace>(here: &P, reply: Reply) -> bool
     ensures { (at : Place) → P.is_at here.now at → result ≡ reply_test at Begin reply }
 {
@@ -218,6 +225,7 @@ fn fits_begin<P: AtPlace>(here: &P, reply: Reply) -> bool
 
 /// Whether the reply is owed to an escrow of an open transaction with so many escrows, on a field
 /// of the schema, where the amount is neither zero nor too large.
+#[inline(always)]
 fn fits_grant<P: AtPlace>(
     here: &P,
     field: FieldNo,
@@ -240,6 +248,7 @@ fn fits_grant<P: AtPlace>(
     is_granted(reply)
 }
 
+#[inline(always)]
 fn fits_escrow<P: AtPlace>(here: &P, txn: TxnId, field: FieldNo, change: i64, reply: Reply) -> bool
     ensures { (at : Place) → P.is_at here.now at →
         result ≡ reply_test at (Escrow txn field change) reply }
@@ -257,6 +266,7 @@ fn fits_escrow<P: AtPlace>(here: &P, txn: TxnId, field: FieldNo, change: i64, re
     fits_grant(here, field, Kind::of(change), amount, escrows, reply)
 }
 
+#[inline(always)]
 fn fits_commit<P: AtPlace>(here: &P, txn: TxnId, reply: Reply) -> bool
     ensures { (at : Place) → P.is_at here.now at → result ≡ reply_test at (Commit txn) reply }
 {
@@ -475,6 +485,7 @@ fn fits_accept<P: AtPlace>(here: &P, told: Statement, reply: Reply) -> bool
     fits_gain(here, told, reply)
 }
 
+#[inline(always)]
 fn fits_read<P: AtPlace>(here: &P, field: FieldNo, reply: Reply) -> bool
     ensures { (at : Place) → P.is_at here.now at → result ≡ reply_test at (Read field) reply }
 {
@@ -535,6 +546,7 @@ fn fits_restart<P: AtPlace>(here: &P, reply: Reply) -> bool
 
 /// Whether the reply is one that the site owes to the command, at the place of which the value
 /// tells. Costs no memory, and a few of the calls of the value.
+#[inline(always)]
 pub fn fits<P: AtPlace>(here: &P, command: Command, reply: Reply) -> bool
     ensures { (at : Place) → P.is_at here.now at → result ≡ reply_test at command reply }
 {

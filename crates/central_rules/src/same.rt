@@ -41,6 +41,7 @@ pub fn same_last(a: Last, b: Last) -> bool
     )
 }
 
+#[inline(always)]
 pub fn is_refused(reply: Reply, refusal: Refusal) -> bool
     ensures { result ≡ same_reply reply (Refused refusal) }
 {
@@ -50,6 +51,7 @@ pub fn is_refused(reply: Reply, refusal: Refusal) -> bool
     }
 }
 
+#[inline(always)]
 pub fn is_short(reply: Reply, owed: u128) -> bool
     ensures { result ≡ same_reply reply (Refused (Short owed)) }
 {
@@ -77,6 +79,7 @@ pub fn is_forged(reply: Reply, owed: u128) -> bool
     }
 }
 
+#[inline(always)]
 pub fn is_begun(reply: Reply, epoch: u32, number: u64) -> bool
     ensures { result ≡ same_reply reply (Begun (record { epoch = epoch; number = number })) }
 {
@@ -86,12 +89,14 @@ pub fn is_begun(reply: Reply, epoch: u32, number: u64) -> bool
     }
 }
 
+#[inline(always)]
 pub fn is_granted(reply: Reply) -> bool
     ensures { result ≡ same_reply reply Granted }
 {
     matches!(reply, Reply::Granted)
 }
 
+#[inline(always)]
 pub fn is_committed(reply: Reply) -> bool
     ensures { result ≡ same_reply reply Committed }
 {
@@ -104,6 +109,7 @@ pub fn is_aborted(reply: Reply) -> bool
     matches!(reply, Reply::Aborted)
 }
 
+#[inline(always)]
 pub fn is_unsure(reply: Reply) -> bool
     ensures { result ≡ is_unsure reply }
 {
@@ -156,6 +162,7 @@ pub fn is_accepted(reply: Reply, owed: u64) -> bool
 }
 
 /// Whether a number lies so far above another.
+#[inline(always)]
 fn is_above_by(high: i64, low: i64, by: u128) -> bool
     ensures above { result ≡ int_eq high (low +ℤ pos by) }
     ensures below { result ≡ int_eq low (high -ℤ pos by) }
@@ -164,6 +171,7 @@ fn is_above_by(high: i64, low: i64, by: u128) -> bool
 }
 
 /// Whether the interval begins so far above the floor, and ends so far below the ceiling.
+#[inline(always)]
 pub fn is_between(reply: Reply, floor: i64, ceiling: i64, above: u128, below: u128) -> bool
     ensures { result ≡ same_reply reply (Between (floor +ℤ pos above) (ceiling -ℤ pos below)) }
 {

@@ -39,6 +39,7 @@ impl SiteCounts {
     /// Where the site stands after one more entry of its own. A count stays at the greatest number
     /// where it is that already, so it is exact over any entries that memory holds. Costs no
     /// memory.
+    #[inline(always)]
     pub fn after(self, entry: Entry) -> SiteCounts
         ensures up { (base : Base) (o : List Entry) → self.up ≡ is_up base o →
             result.up ≡ is_up base (entry ∷ o) }
