@@ -1,5 +1,5 @@
 -- What is known without a look at the whole trace.
-use Rattle.std.proofs.Common.{◌≡◌, ℕ, zero, suc, ◌+◌, ◌<◌, ◌≤◌, Bool, true, false, not, cond, leb, eqb, List, [], ◌∷◌, length, Some, None, refl, sym, arith, inl, inr}
+use Rattle.std.proofs.Common.{◌≡◌, ℕ, zero, suc, ◌+◌, ◌<◌, ◌≤◌, Bool, true, false, not, cond, leb, eqb, List, [], ◌∷◌, length, Some, None, refl, sym, ap, arith, inl, inr}
 use Rattle.std.specs.Prelude.{is_none}
 use Rattle.std.proofs.lemmas.Bool.{cases_Bool, and_parts, leb-true}
 use Rattle.field_bounds.specs.declared.id.FieldNo.{FieldNo}
@@ -8,9 +8,10 @@ use Rattle.field_bounds.specs.declared.entry.Refusal.TheVariants.{Down, NoField}
 use Rattle.field_bounds.specs.declared.entry.Reply.{Reply}
 use Rattle.field_bounds.specs.declared.entry.Reply.TheVariants.{Begun, Granted, Committed, Aborted, Given, Stated, Spared, Tightened, Accepted, Between, Shares, Restarted, Unsure, StillDown, Refused}
 use Rattle.field_bounds.specs.Schema.{SchemaValue}
-use Rattle.field_bounds.specs.Effects.{fresh}
+use Rattle.field_bounds.specs.declared.kind.Kind.TheVariants.{Lower, Raise}
+use Rattle.field_bounds.specs.Effects.{fresh, share}
 use Rattle.field_bounds.specs.Owed.{place, shares_of, shares_at, first, when, is_up, count_since, count_after, is_begun_reply, max_number}
-use Rattle.field_bounds.specs.Central.{own}
+use Rattle.field_bounds.specs.Central.{own, at_site}
 use Rattle.reaching_steps.specs.Reach.{least, is_down, has_no_number}
 
 -- ---- a site that tells its share is up
@@ -95,3 +96,19 @@ none_full schema t named (suc n) short =
     let before = sym (none_full schema t named n short) in
     let here = not_full schema t named n short in
     sym (rw (before, here) refl)
+
+-- ---- the shares that a site tells
+
+shares_up : (up missing : Bool) (x y : ℕ × ℕ)
+    → Some x ≡ cond (is_none (first (when (not up) Down ∷ when missing NoField ∷ []))) (Some y) None → x ≡ y
+shares_up true false x y h = cc
+shares_up true true x y h = cc
+shares_up false missing x y h = cc
+
+pub shares_told : (schema : SchemaValue) (t : List Entry) (s : ℕ) (field : FieldNo) (x : ℕ × ℕ)
+    → Some x ≡ shares_of (place schema s (fresh schema s) (own s t)) field
+    → (x.0 ≡ share (fresh schema s) field.0 Lower (at_site schema t s)) × (x.1 ≡ share (fresh schema s) field.0 Raise (at_site schema t s))
+shares_told schema t s field x h =
+    let is = shares_up (is_up (fresh schema s) (own s t)) (leb (length schema.fields) field.0) x
+    (shares_at (place schema s (fresh schema s) (own s t)) field) h in
+    (ap (λ (y : ℕ × ℕ). y.0) is, ap (λ (y : ℕ × ℕ). y.1) is)

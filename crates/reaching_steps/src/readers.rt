@@ -13,7 +13,7 @@ ghost use Rattle.reaching_steps.specs.Reach.{is_wanting, number_of, telling, tow
 use crate::counts::numbers_at;
 use crate::later::open_of;
 use crate::numbering::number_of;
-use crate::shares::{accepted_at, committed_at, given_at, rights_at};
+use crate::shares::{accepted_at, committed_at, given_at, shares_at};
 use crate::trial::Trial;
 use field_bounds::{FieldNo, Kind, SiteNo, Statement, TxnId};
 use std::alloc::{AllocError, Global};
@@ -153,8 +153,7 @@ pub(crate) fn change_at(
         (at_site trial.now.schema (trace_of trial.now) site.0)))) }
 {
     let now = committed_at(alloc, trial, field)?;
-    let (_, lower) = rights_at(alloc, trial, site, field, Kind::Lower)?;
-    let (_, raise) = rights_at(alloc, trial, site, field, Kind::Raise)?;
+    let (lower, raise) = shares_at(alloc, trial, site, field)?;
     Ok(towards(now, target, lower, raise))
 }
 

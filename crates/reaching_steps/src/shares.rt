@@ -48,6 +48,36 @@ pub(crate) fn rights_at(
     Ok((own as u64, free as u64))
 }
 
+/// The shares of a site, to lower and to raise a field. One that is up tells them at once, and those
+/// of another are read from what took effect there.
+pub(crate) fn shares_at(
+    alloc: Global,
+    trial: &Trial,
+    site: SiteNo,
+    field: FieldNo,
+) -> Result<(u64, u64), AllocError>
+    requires in_schema { site.0 < trial.now.schema.sites }
+    ensures lower { IfOk result (λ shares. shares.0
+        ≡ share (fresh trial.now.schema site.0) field.0 kinds.Lower
+        (at_site trial.now.schema (trace_of trial.now) site.0)) }
+    ensures raise { IfOk result (λ shares. shares.1
+        ≡ share (fresh trial.now.schema site.0) field.0 kinds.Raise
+        (at_site trial.now.schema (trace_of trial.now) site.0)) }
+    ensures small { IfOk result (λ shares. (shares.0 ≤ max_change) × (shares.1 ≤ max_change)) }
+{
+    let world = trial.world();
+    let _schema = world.schema();
+    let _trace = world.trace();
+    match world.share(site, field) {
+        Some(shares) => Ok(shares),
+        None => {
+            let (_, lower) = rights_at(alloc, trial, site, field, Kind::Lower)?;
+            let (_, raise) = rights_at(alloc, trial, site, field, Kind::Raise)?;
+            Ok((lower, raise))
+        }
+    }
+}
+
 /// The total that one site has given to another.
 pub(crate) fn given_at(
     trial: &Trial,
