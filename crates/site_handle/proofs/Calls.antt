@@ -1,5 +1,5 @@
 -- What the calls of a session do.
-use Rattle.std.proofs.Common.{◌≡◌, ℕ, List, [], Option, Some, None, refl, sym, ap, ◌∙◌, subst}
+use Rattle.std.proofs.Common.{◌≡◌, ℕ, List, [], ◌++◌, codes, Option, Some, None, refl, sym, ap, ◌∙◌, subst}
 use Rattle.field_bounds.specs.Schema.{SchemaValue}
 use Rattle.field_bounds.specs.declared.id.SiteNo.{SiteNo}
 use Rattle.field_bounds.specs.declared.entry.Command.{Command}
@@ -7,18 +7,21 @@ use Rattle.field_bounds.specs.declared.entry.Reply.{Reply}
 use Rattle.field_bounds.specs.declared.entry.Reply.TheVariants.{Begun, Granted, Committed, Aborted, Given, Stated, Spared, Tightened, Accepted, Between, Shares, Restarted, Unsure, StillDown, Refused}
 use Rattle.field_bounds.specs.declared.entry.Last.{Last}
 use Rattle.field_bounds.specs.declared.entry.Last.TheVariants.{Nothing}
+use Rattle.entry_text.specs.Spelling.{reply_text}
+use Rattle.entry_text.proofs.Entries.{entry_line}
 use Rattle.kept_records.specs.declared.record.Record.{Record}
 use Rattle.kept_state.specs.Doubt.{found_of}
 use Rattle.site_step.specs.Calls.{IsSure}
-use Rattle.site_step.specs.Site.{SiteValue, Applies, Opens, Logs, RestartsOver, doubt_from}
+use Rattle.site_step.specs.Site.{SiteValue, Applies, Opens, Logs, RestartsOver, doubt_from, entry_of}
 use Rattle.site_step.proofs.Lasting.{call_is_sure}
 use Rattle.site_step.specs.Opening.{TellsLine, IsFirstBad}
 use Rattle.site_step.specs.declared.site.opening.OpenFault.{OpenFault}
 use Rattle.site_step.specs.declared.site.opening.OpenFault.TheVariants.{Line}
 use Rattle.kept_records.specs.declared.medium.Mishap.TheVariants.{Never}
 use Rattle.script_input.specs.Lines.{last_part}
+use Rattle.site_service.specs.Answers.{Asks}
 use Rattle.site_service.proofs.Whole.{grows_by, whole_opened}
-use Rattle.site_handle.specs.Session.{IsSoundSession, Answers}
+use Rattle.site_handle.specs.Session.{IsSoundSession, Answers, Tells}
 
 -- what is in doubt behind an answer that isn't
 clear_after : (reply : Reply) (rs : List Record) (doubt : Option ℕ) → IsSure reply → doubt ≡ None → doubt_from reply rs doubt ≡ None
@@ -82,3 +85,18 @@ pub bad_by : (schema own : SchemaValue) (s : ℕ) (lines bytes : List ℕ) (faul
 bad_by schema own s lines bytes fault n same copied is tells =
     subst (λ (held : List ℕ). IsFirstBad schema s held n) copied
     (subst (λ (it : SchemaValue). IsFirstBad it s bytes n) same (subst (λ (f : OpenFault). TellsLine own s bytes f) is tells))
+
+-- the line that asks a command, an arrow and the reply are the entry's text
+pub told_by : (before later : SiteValue) (line : List ℕ) (command : Command) (reply : Reply) (none text : List ℕ)
+    → Asks before.schema before.site line command → Answers before command reply later → none ≡ []
+    → text ≡ none ++ (line ++ (codes " -> " ++ reply_text reply)) → Tells before line text later
+told_by before later line command reply none text asks answers is told =
+    let behind : List ℕ = codes " -> " ++ reply_text reply in
+    record {
+      command = command;
+      reply = reply;
+      asked = asks;
+      answers = answers;
+      told = told ∙ ap (λ (l : List ℕ). l ++ (line ++ behind)) is ∙ ap (λ (l : List ℕ). l ++ behind) asks.text
+          ∙ entry_line before.schema (entry_of before command reply);
+    }

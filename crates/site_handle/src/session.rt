@@ -1,17 +1,17 @@
 //! A site over a log that a host keeps.
 
-ghost use Rattle.std.specs.Prelude.{◌≡◌, ◌≢◌, ◌<◌, ◌++◌, [], Ok, IfOk, IfErr, OnOk, OnErr};
+ghost use Rattle.std.specs.Prelude.{◌≡◌, ◌≢◌, ◌<◌, ◌++◌, [], Ok, codes, IfOk, IfErr, OnOk, OnErr};
 ghost use Rattle.field_bounds.specs.Header.{schema_of};
-ghost use Rattle.entry_text.specs.Spelling.{entry_text};
+ghost use Rattle.entry_text.specs.Spelling.{reply_text};
 ghost use Rattle.script_input.specs.Lines.{last_part};
-ghost use Rattle.site_step.specs.Site.{Opens, entry_of};
+ghost use Rattle.site_step.specs.Site.{Opens};
 ghost use Rattle.site_service.specs.Answers.{Asks};
 ghost use Rattle.site_handle.specs.Lines.{IsUnasked};
 ghost use Rattle.site_handle.specs.Session.{IsOpenOver, IsWhyClosed, TellsNoSchema, TellsBadLine, Answers, Does, Tells, Leaves};
 
 use crate::fault::{CallFault, OpeningFault};
 use crate::lines::{command_in, whole_lines};
-use entry_text::{MAX_LINE, append_entry};
+use entry_text::{MAX_LINE, append_reply};
 use field_bounds::{Command, Entry, Reply, Schema, SchemaFault, SiteNo};
 use history::GhostHistory;
 use kept_records::MemoryMedium;
@@ -82,6 +82,17 @@ fn open_lines(
     }
 }
 
+// Adds an arrow and a reply behind the line that asked it: so the text of the entry is made, since
+// the line is that of its command.
+fn add_told(text: &mut Vec<u8>, line: &[u8], reply: Reply) -> Result<(), AllocError>
+    ensures ok { OnOk result (text.new.items
+        ≡ text.old.items ++ (line.now ++ (codes " -> " ++ reply_text reply))) }
+{
+    text.extend_from_slice(line)?;
+    text.extend_from_slice(b" -> ")?;
+    append_reply(text, reply)
+}
+
 impl Session {
     /// Opens the site of this number over what a host kept of its log. What stands behind the last
     /// line feed was torn off, and doesn't count. Over an empty log the site is up, and over any
@@ -138,24 +149,6 @@ impl Session {
         command_in(&self.schema, self.site.site(), line)
     }
 
-    // Adds the text of the entry of a command and its reply, or nothing where memory is refused.
-    fn add_entry(
-        &self,
-        text: &mut Vec<u8>,
-        command: Command,
-        reply: Reply,
-    ) -> Result<(), AllocError>
-        ensures ok { OnOk result (text.new.items ≡ text.old.items
-            ++ entry_text self.now.schema (entry_of self.now command reply)) }
-    {
-        let entry = Entry {
-            site: self.site.site(),
-            command,
-            reply,
-        };
-        append_entry(text, &self.schema, entry)
-    }
-
     /// Carries out the command that a line asks, without its LF. At a fault the site is as it was.
     pub fn carry_out(&mut self, alloc: Global, line: &[u8]) -> Result<Reply, CallFault>
         ensures ok { IfOk result (λ reply. Does self.old line.now reply self.new) }
@@ -175,7 +168,7 @@ impl Session {
         let mut text = Vec::with_capacity(alloc, MAX_LINE)?;
         let command = self.command_of(line)?;
         let reply = self.ask(alloc, command)?;
-        match self.add_entry(&mut text, command, reply) {
+        match add_told(&mut text, line, reply) {
             Ok(()) => Ok(text),
             Err(_) => Err(CallFault::Untold),
         }
