@@ -2,7 +2,8 @@
 //! at most one value.
 //!
 //! A text is words with one space between them. The first word of a command, a reply or a refusal
-//! says which it is, and the arm of that word reads the words after it.
+//! says which it is, and the arm of that word reads the words after it. The common commands and
+//! replies are read off the front of a line's bytes, and what isn't known so is read by its words.
 #![tactic(auto)]
 
 mod append;

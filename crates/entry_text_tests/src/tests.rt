@@ -293,6 +293,68 @@ fn refuses_other_fields(rt: HostRuntime) {
     assert_no_commands(&rt, rt.alloc(), &NO_FIELDS);
 }
 
+/// Four fields, which are looked at each, and five, which are found in a map: their names are
+/// alike.
+const FOUR_ALIKE: &str =
+    r#"{"sites":1,"fields":[{"name":"b","floor":0,"ceiling":9,"value":5},{"name":"seat_b","floor":0,"ceiling":9,"value":5},{"name":"west_seat_b","floor":0,"ceiling":9,"value":5},{"name":"west_seat_c","floor":0,"ceiling":9,"value":5}]}"#;
+
+const FIVE_ALIKE: &str =
+    r#"{"sites":1,"fields":[{"name":"b","floor":0,"ceiling":9,"value":5},{"name":"seat_b","floor":0,"ceiling":9,"value":5},{"name":"west_seat_b","floor":0,"ceiling":9,"value":5},{"name":"west_seat_c","floor":0,"ceiling":9,"value":5},{"name":"c","floor":0,"ceiling":9,"value":5}]}"#;
+
+/// Lines about a field of these names, each with the field's number.
+const ALIKE: [(&str, u16); 9] = [
+    ("0 read b", 0),
+    ("0 read seat_b", 1),
+    ("0 read west_seat_b", 2),
+    ("0 read west_seat_c", 3),
+    ("0 tighten b lower 1", 0),
+    ("0 tighten seat_b lower 1", 1),
+    ("0 tighten west_seat_b lower 1", 2),
+    ("0 tighten west_seat_c lower 1", 3),
+    ("0 read #5", 5),
+];
+
+/// Lines about no field of these names.
+const NOT_ALIKE: [&str; 7] = [
+    "0 read ",
+    "0 read x",
+    "0 read bb",
+    "0 read eat_b",
+    "0 read seat_b ",
+    "0 read east_seat_b",
+    "0 tighten  lower 1",
+];
+
+/// The field that the line is about.
+fn field_read(schema: &Schema, line: &str) -> Option<FieldNo> {
+    match read_command(schema, line.as_bytes())? {
+        (_, Command::Read { field }) => Some(field),
+        (_, Command::Tighten { field, .. }) => Some(field),
+        _ => None,
+    }
+}
+
+/// The lines about fields of names that are alike are read as told under the schema.
+fn assert_alike(rt: &impl Abort, alloc: Global, header: &str) {
+    let schema = schema_of(alloc, header).expect(rt, "a schema");
+    for (line, field) in &ALIKE {
+        assert_row(
+            rt,
+            *line,
+            field_read(&schema, *line) == Some(FieldNo(*field)),
+        );
+    }
+    for line in &NOT_ALIKE {
+        assert_row(rt, *line, read_command(&schema, line.as_bytes()).is_none());
+    }
+}
+
+#[test]
+fn tells_fields_alike_apart(rt: HostRuntime) {
+    assert_alike(&rt, rt.alloc(), FOUR_ALIKE);
+    assert_alike(&rt, rt.alloc(), FIVE_ALIKE);
+}
+
 const LATEST: TxnId = TxnId {
     epoch: 4294967295,
     number: 7,
