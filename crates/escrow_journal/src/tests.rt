@@ -11,6 +11,11 @@ const SECOND: TxnId = TxnId {
     number: 2,
 };
 
+const THIRD: TxnId = TxnId {
+    epoch: 0,
+    number: 3,
+};
+
 const LOWER: Escrow = Escrow {
     field: FieldNo(0),
     change: -20,
@@ -53,6 +58,24 @@ fn escrow_at(journal: &Journal, txn: TxnId, at: usize) -> Option<Escrow> {
 /// The newest escrow of a transaction that is taken out, or None where there is none.
 fn newest_taken(journal: &mut Journal, txn: TxnId) -> Option<Escrow> {
     journal.take_out(txn)?.pop()
+}
+
+/// The memory of a transaction that is taken out serves the next one, which begins with no escrow.
+fn begun_anew(journal: &mut Journal, from: TxnId, txn: TxnId) -> Option<usize> {
+    let escrows = journal.take_out(from)?;
+    journal.reuse(escrows);
+    begun(journal, txn)?;
+    added(journal, txn, RAISE)?;
+    Some(journal.escrows(txn)?.len())
+}
+
+#[test]
+fn memory_is_used_again(rt: HostRuntime) {
+    let mut journal = Journal::new(rt.alloc());
+    assert_eq!(rt; two_open(&mut journal), Some(()));
+    assert_eq!(rt; begun_anew(&mut journal, FIRST, THIRD), Some(1));
+    assert_eq!(rt; escrow_at(&journal, THIRD, 0), Some(RAISE));
+    assert_eq!(rt; escrow_at(&journal, SECOND, 0), None);
 }
 
 #[test]

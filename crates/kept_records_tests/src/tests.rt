@@ -546,6 +546,95 @@ fn records_are_appended(rt: HostRuntime) {
     assert_eq!(rt; found, (Some(true), Some(true), true));
 }
 
+/// Whether the record stands whole with no summary, or None where memory was refused.
+fn appended_alone<M: Medium>(alloc: Global, medium: &mut M, kept: &Record) -> Option<bool>
+    requires { IsRecord kept.now }
+{
+    Some(
+        append_record(&mut Vec::new(alloc), medium, kept)
+            .ok()?
+            .is_ok(),
+    )
+}
+
+/// Whether a commit of two escrows stands whole, or None where memory was refused.
+fn committed<M: Medium>(alloc: Global, medium: &mut M) -> Option<bool> {
+    let txn = TxnId {
+        epoch: 100,
+        number: 9_999,
+    };
+    let escrows = [
+        Escrow {
+            field: FieldNo(99),
+            change: -10_000,
+        },
+        Escrow {
+            field: FieldNo(10),
+            change: 9,
+        },
+    ];
+    Some(
+        append_commit(&mut Vec::new(alloc), medium, txn, &escrows)
+            .ok()?
+            .is_ok(),
+    )
+}
+
+#[test]
+fn records_are_appended_alone(rt: HostRuntime) {
+    let alloc = rt.alloc();
+    let mut medium = memory_of(alloc, "").expect(&rt, "memory");
+    let found = (
+        appended_alone(alloc, &mut medium, &GIFT),
+        committed(alloc, &mut medium),
+        holds(
+            alloc,
+            &mut medium,
+            "G 1 0 l 5\nC 100 9999 99 -10000 10 9\n",
+        ),
+    );
+    assert_eq!(rt; found, (Some(true), Some(true), true));
+}
+
+#[test]
+fn a_torn_commit_leaves_a_front(rt: HostRuntime) {
+    let alloc = rt.alloc();
+    let mut medium = torn_of(alloc, "").expect(&rt, "memory");
+    medium.arm(Mishap::Append(7));
+    let found = (
+        committed(alloc, &mut medium),
+        holds(alloc, &mut medium, "C 100 9"),
+    );
+    assert_eq!(rt; found, (Some(false), true));
+}
+
+/// Whether a restart is written so.
+fn restart_is(alloc: Global, epoch: u32, wanted: &str) -> bool
+    requires some { 0 < epoch }
+    requires most { epoch ≤ max_epoch }
+{
+    is_text(
+        write_record(alloc, &Record::Restart { epoch }).ok(),
+        wanted,
+    )
+}
+
+#[test]
+fn numbers_of_each_length(rt: HostRuntime) {
+    let alloc = rt.alloc();
+    let written = [
+        restart_is(alloc, 9, "R 9\n"),
+        restart_is(alloc, 10, "R 10\n"),
+        restart_is(alloc, 99, "R 99\n"),
+        restart_is(alloc, 100, "R 100\n"),
+        restart_is(alloc, 1_001, "R 1001\n"),
+        restart_is(alloc, 9_999, "R 9999\n"),
+        restart_is(alloc, 10_000, "R 10000\n"),
+        restart_is(alloc, 99_999_999, "R 99999999\n"),
+    ];
+    assert_eq!(rt; written, [true, true, true, true, true, true, true, true]);
+}
+
 /// Whether a restart stands whole though its append is torn after so many bytes, whether the medium
 /// holds what is wanted, and how often it failed.
 fn torn_restart(alloc: Global, kept: u64, wanted: &str) -> Option<(Option<bool>, bool, u64)> {
