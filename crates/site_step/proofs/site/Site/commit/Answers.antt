@@ -1,7 +1,6 @@
 use Rattle.std.proofs.Common.{rules, ◌≡◌, ◌<◌, ◌+◌, length, ap, sym, ◌∙◌, arith, false}
 use Rattle.std.specs.Prelude.{nat_lt, nat_le}
 use Rattle.std.proofs.lemmas.List.{length-reverse}
-use Rattle.escrow_journal.specs.Journal.{escrows_at}
 use Rattle.kept_records.specs.declared.record.Record.TheVariants as records
 use Rattle.kept_records.specs.Stands.{max_behind}
 use Rattle.kept_records.specs.Text.{text}
