@@ -70,8 +70,8 @@ fn add_made(out: &mut Vec<u8>, schema: &Schema, entry: Entry) -> Result<(), Allo
 }
 
 // Adds the text of the entry of a command that a line spells, and an LF: the command isn't spelled
-// again.
-#[inline(always)]
+// again. It stands apart, since in it alone what appends the pieces is inlined.
+#[inline(never)]
 fn add_answered(
     out: &mut Vec<u8>,
     schema: &Schema,
