@@ -23,6 +23,18 @@ macro_rules! by_entry {
                 let $known = *$entry;
                 $common
             }
+            (Command::Share { .. }, Reply::Shares { .. }) => {
+                let $known = *$entry;
+                $common
+            }
+            (Command::Give { .. }, Reply::Given { .. }) => {
+                let $known = *$entry;
+                $common
+            }
+            (Command::Accept(_), Reply::Accepted { .. }) => {
+                let $known = *$entry;
+                $common
+            }
             _ => $rest,
         }
     };
