@@ -1,5 +1,5 @@
 -- What a block is that got its numbers behind those of the others.
-use Rattle.std.proofs.Common.{◌≡◌, ◌≢◌, ◌∙◌, ℕ, zero, suc, ◌<◌, ◌&&◌, cond, List, [], ◌∷◌, ◌++◌, length, refl, ap, sym, inl, inr, set, get_or, eqb, Option, Some, None, false}
+use Rattle.std.proofs.Common.{◌≡◌, ◌≢◌, ◌∙◌, ℕ, zero, suc, ◌<◌, ◌&&◌, cond, List, [], ◌∷◌, ◌++◌, length, refl, sym, inl, inr, set, get_or, eqb, Option, Some, None, false}
 use Rattle.std.specs.Prelude.{slice_get}
 use Rattle.std.proofs.lemmas.List.{get_or-set_same, get_or-set_other}
 use Rattle.std.proofs.lemmas.Bool.{cases_Bool, eqb-true, eqb-false, ne_eqb, eq-eqb}
