@@ -18,6 +18,7 @@ pub mod Walking
 pub mod Owning
 pub mod Firsts
 pub mod Quick
+pub mod Standings
 pub mod Reading
 pub mod Table
 pub mod OnePass

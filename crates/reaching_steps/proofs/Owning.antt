@@ -1,5 +1,5 @@
 -- The rights of a site, from sums over what took effect there.
-use Rattle.std.proofs.Common.{◌≡◌, ℕ, zero, suc, ◌+◌, ◌*◌, ◌<◌, ◌≤◌, true, false, List, [], ap, arith}
+use Rattle.std.proofs.Common.{◌≡◌, ℕ, zero, suc, ◌+◌, ◌-◌, ◌*◌, ◌<◌, ◌≤◌, Bool, true, false, ◌&&◌, List, [], None, refl, ◌∙◌, ap, arith}
 use Rattle.std.specs.Prelude.{ℤ, pos, ◌+ℤ◌, ◌-ℤ◌, ◌≤ℤ◌, neg_ℤ}
 use Rattle.std.proofs.lemmas.Int.{ints}
 use Rattle.field_bounds.specs.declared.kind.Kind.{Kind}
@@ -10,10 +10,13 @@ use Rattle.field_bounds.specs.Schema.{SchemaValue}
 use Rattle.field_bounds.specs.Limits.{IsSchema}
 use Rattle.field_bounds.specs.Parts.{sum_below, part_of, field_at}
 use Rattle.field_bounds.specs.declared.effect.Effect.{Effect}
-use Rattle.field_bounds.specs.Effects.{fresh, granted_sizes, gifts, is_to, total_given, cut, total_accepted, share, held_rights, own_rights, is_committed}
+use Rattle.field_bounds.specs.Effects.{fresh, granted_sizes, gifts, is_to, total_given, cut, total_accepted, share, held_rights, own_rights, is_committed, is_open}
 use Rattle.field_bounds.specs.Owed.{max_change, max_total}
 use Rattle.field_bounds.specs.Central.{own, at_site, committed_value, given_between, IsSound}
-use Rattle.field_bounds.proofs.Sums.{sum_below-zero}
+use Rattle.field_bounds.proofs.Steps.{granted-same}
+use Rattle.reaching_steps.specs.declared.standing.Standing.{Standing}
+use Rattle.reaching_steps.specs.Standing.{is_of, Stands}
+use Rattle.field_bounds.proofs.Sums.{sum_below-zero, sum_below-same}
 use Rattle.field_bounds.proofs.Lawful.{IsLawful}
 use Rattle.field_bounds.proofs.Shares.{balance, gains_split}
 use Rattle.field_bounds.proofs.Shares.{gifts_split}
@@ -39,31 +42,37 @@ owned_is schema s es lawful f k =
       sum_below-zero schema.sites,
     )
 
--- the same of what was read
-pub record Summed (schema : SchemaValue) (s f : ℕ) (k : Kind) (es : List Effect)
-    (part turned gained settled total_given held_ : ℕ) : Type 0 where
-  pub whole : share (fresh schema s) f k es + settled + held_rights f k es + total_given ≡ part + turned + gained
-  pub holds : held_ ≡ held_rights f k es
-
-pub summed : (schema : SchemaValue) (s f : ℕ) (k : Kind) (deeds : List Effect) (sites part turned gained settled total_given held_ : ℕ)
-    (k' : Kind) → IsLawful schema (fresh schema s) deeds
-    → sites ≡ schema.sites → k' ≡ other k → part ≡ part_of schema s f k → turned ≡ granted_sizes (λ id. is_committed id deeds) f k' deeds
-    → gained ≡ sum_below sites (λ from. total_accepted (fresh schema s) from f k deeds)
-    → settled ≡ granted_sizes (λ id. is_committed id deeds) f k deeds
-    → total_given ≡ gifts (λ _. true) f k deeds → held_ ≡ held_rights f k deeds
-    → Summed schema s f k deeds part turned gained settled total_given held_
-summed schema s f k deeds sites part turned gained settled total_given held_ k' lawful sites_is kind_is part_is turned_is gained_is
-    settled_is given_is held_is =
-    let es = deeds in
-    let turn : granted_sizes (λ id. is_committed id es) f k' es ≡ granted_sizes (λ id. is_committed id es) f (other k) es =
-    ap (λ (x : Kind). granted_sizes (λ id. is_committed id es) f x es) kind_is in
-    let gain : sum_below sites (λ from. total_accepted (fresh schema s) from f k es)
-    ≡ sum_below schema.sites (λ from. total_accepted (fresh schema s) from f k es) =
-    ap (λ (n : ℕ). sum_below n (λ from. total_accepted (fresh schema s) from f k es)) sites_is in
-    record {
-      whole = omega (arith, owned_is schema s es lawful f k, part_is, turned_is, turn, gained_is, gain, settled_is, given_is);
-      holds = held_is;
-    }
+-- the rights, from what is kept of the site
+pub rights_are : (schema : SchemaValue) (s f : ℕ) (k : Kind) (had : Standing) (es : List Effect) → IsLawful schema (fresh schema s) es
+    → Stands f had es → (sites part turned gained settled gone held_ own_ free : ℕ) (held_l gone_l gained_l : List Effect)
+    → sites ≡ schema.sites → held_l ≡ had.held.items → gone_l ≡ had.gifts.items → gained_l ≡ had.gifts.items
+    → part ≡ part_of schema s f k → turned ≡ granted_sizes (λ id. is_committed id es) f (other k) es
+    → settled ≡ granted_sizes (λ id. is_committed id es) f k es
+    → gained ≡ sum_below sites (λ from. total_accepted (fresh schema s) from f k gained_l)
+    → gone ≡ gifts (λ _. true) f k gone_l → held_ ≡ granted_sizes (is_of None) f k held_l
+    → own_ ≡ ((part + gained) + turned) - settled - gone → free ≡ own_ - held_
+    → (own_ ≡ own_rights (fresh schema s) f k es) × (free ≡ share (fresh schema s) f k es)
+rights_are schema s f k had es lawful stands sites part turned gained settled gone held_ own_ free held_l gone_l gained_l sites_is held_l_is
+    gone_l_is gained_l_is part_is turned_is settled_is gained_is gone_is held_is own_is free_is =
+    let held_all : held_ ≡ held_rights f k es =
+    held_is ∙ ap (λ (l : List Effect). granted_sizes (is_of None) f k l) held_l_is ∙ stands.held (is_of None) k
+    ∙ granted-same schema (fresh schema s) (λ id. is_open id es && true) (λ id. is_open id es) f k es lawful
+    (λ id there. same (is_open id es)) in
+    let gone_all : gone ≡ gifts (λ _. true) f k es =
+    gone_is ∙ ap (λ (l : List Effect). gifts (λ _. true) f k l) gone_l_is ∙ stands.given (λ _. true) k in
+    let gained_all : gained ≡ sum_below schema.sites (λ from. total_accepted (fresh schema s) from f k es) =
+    gained_is ∙ ap (λ (n : ℕ). sum_below n (λ from. total_accepted (fresh schema s) from f k gained_l)) sites_is
+    ∙ sum_below-same schema.sites (λ from. total_accepted (fresh schema s) from f k gained_l)
+    (λ from. total_accepted (fresh schema s) from f k es)
+    (λ from below. ap (λ (l : List Effect). total_accepted (fresh schema s) from f k l) gained_l_is ∙ stands.accepted schema s from k) in
+    let whole = owned_is schema s es lawful f k in (
+      omega (arith, whole, held_all, gone_all, gained_all, part_is, turned_is, settled_is, own_is),
+      omega (arith, whole, held_all, gone_all, gained_all, part_is, turned_is, settled_is, own_is, free_is),
+    )
+  where
+    same : (b : Bool) → (b && true) ≡ b
+    same true = refl
+    same false = refl
 
 sum_bound : (n m : ℕ) (F : ℕ → ℕ) → ((j : ℕ) → j < n → F j ≤ m) → sum_below n F ≤ n * m
 sum_bound zero m F h = omega arith

@@ -1,6 +1,6 @@
 pub mod Reach
 pub mod Worked
-pub mod Later
+pub mod Standing
 pub mod Told
 pub mod Taken
 pub mod Body

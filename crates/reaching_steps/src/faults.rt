@@ -17,7 +17,7 @@ use crate::readers::number_told;
 use crate::shares::{accepted_at, given_at, guarded_at, has_cut};
 use crate::trial::Trial;
 use field_bounds::{FieldNo, Kind, MAX_NUMBER, SiteNo};
-use std::alloc::{AllocError, Global};
+use std::alloc::AllocError;
 
 /// Whether a site is down: then it tells no share of a field, which is in the schema.
 fn is_down(trial: &Trial, field: FieldNo, site: SiteNo) -> bool
@@ -238,7 +238,6 @@ fn outside(floor: i64, ceiling: i64, lower: u64, raise: u64, target: i64) -> Opt
 
 /// The value lies outside the interval that the site reads.
 fn fault_outside(
-    alloc: Global,
     trial: &Trial,
     site: SiteNo,
     field: FieldNo,
@@ -249,15 +248,14 @@ fn fault_outside(
     ensures value { IfOk result (λ found. found ≡ first_fault
         (from_outside trial.now.schema (trace_of trial.now) site field target)) }
 {
-    let lower = guarded_at(alloc, trial, site, field, Kind::Lower)?;
-    let raise = guarded_at(alloc, trial, site, field, Kind::Raise)?;
+    let lower = guarded_at(trial, site, field, Kind::Lower)?;
+    let raise = guarded_at(trial, site, field, Kind::Raise)?;
     let (floor, ceiling, _) = trial.world().schema().bounds(field);
     Ok(outside(floor, ceiling, lower, raise, target))
 }
 
 /// The faults from one on.
 fn fault_numbers(
-    alloc: Global,
     trial: &Trial,
     site: SiteNo,
     field: FieldNo,
@@ -272,7 +270,7 @@ fn fault_numbers(
     let found = first_full(trial, site, sites);
     match found {
         Some(at) => Ok(Some(ReachFault::Numbers { site: SiteNo(at) })),
-        None => fault_outside(alloc, trial, site, field, target),
+        None => fault_outside(trial, site, field, target),
     }
 }
 
@@ -304,7 +302,6 @@ fn is_tightened(trial: &Trial, field: FieldNo, sites: u16) -> Result<bool, Alloc
 
 /// The faults from one on.
 fn fault_tightened(
-    alloc: Global,
     trial: &Trial,
     site: SiteNo,
     field: FieldNo,
@@ -319,12 +316,11 @@ fn fault_tightened(
     if tightened {
         return Ok(Some(ReachFault::Tightened));
     }
-    fault_numbers(alloc, trial, site, field, target)
+    fault_numbers(trial, site, field, target)
 }
 
 /// The faults from one on.
 fn fault_unstated(
-    alloc: Global,
     trial: &Trial,
     site: SiteNo,
     field: FieldNo,
@@ -339,13 +335,12 @@ fn fault_unstated(
     let found = first_untold(trial, site, field, sites)?;
     match found {
         Some(at) => Ok(Some(ReachFault::Unstated { to: SiteNo(at) })),
-        None => fault_tightened(alloc, trial, site, field, target),
+        None => fault_tightened(trial, site, field, target),
     }
 }
 
 /// The faults from one on.
 fn fault_flight(
-    alloc: Global,
     trial: &Trial,
     site: SiteNo,
     field: FieldNo,
@@ -360,13 +355,12 @@ fn fault_flight(
     let found = first_short(trial, site, field, sites)?;
     match found {
         Some(at) => Ok(Some(ReachFault::InFlight { from: SiteNo(at) })),
-        None => fault_unstated(alloc, trial, site, field, target),
+        None => fault_unstated(trial, site, field, target),
     }
 }
 
 /// The faults from one on.
 fn fault_up(
-    alloc: Global,
     trial: &Trial,
     site: SiteNo,
     field: FieldNo,
@@ -381,13 +375,12 @@ fn fault_up(
     let found = first_down(trial, field, sites);
     match found {
         Some(at) => Ok(Some(ReachFault::NotUp { site: SiteNo(at) })),
-        None => fault_flight(alloc, trial, site, field, target),
+        None => fault_flight(trial, site, field, target),
     }
 }
 
 /// The first fault that holds.
 pub(crate) fn fault_of(
-    alloc: Global,
     trial: &Trial,
     site: SiteNo,
     field: FieldNo,
@@ -402,5 +395,5 @@ pub(crate) fn fault_of(
     if field.0 >= trial.world().schema().fields() {
         return Ok(Some(ReachFault::NoField));
     }
-    fault_up(alloc, trial, site, field, target)
+    fault_up(trial, site, field, target)
 }

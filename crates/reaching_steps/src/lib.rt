@@ -5,7 +5,6 @@
 mod counts;
 mod fault;
 mod faults;
-mod later;
 mod laws;
 mod numbering;
 mod readers;
@@ -14,6 +13,7 @@ mod rows;
 mod shares;
 mod site_effects;
 mod site_table;
+mod standing;
 mod steps;
 mod taken;
 mod taking;

@@ -11,7 +11,6 @@ ghost use Rattle.reaching_steps.specs.Body.{change_of};
 ghost use Rattle.reaching_steps.specs.Reach.{is_wanting, number_of, telling, towards, next_txn, same_value, reach_fault};
 
 use crate::counts::numbers_at;
-use crate::later::open_of;
 use crate::numbering::number_of;
 use crate::shares::{accepted_at, committed_at, given_at, shares_at};
 use crate::trial::Trial;
@@ -24,9 +23,11 @@ pub(crate) fn open_at(alloc: Global, trial: &Trial, site: SiteNo) -> Result<Vec<
     ensures found { IfOk result (λ ids. ids.items ≡ reverse
         (open_txns (at_site trial.now.schema (trace_of trial.now) site.0))) }
 {
-    let told = trial.effects_at(site)?;
-    let mut ids = open_of(alloc, told)?;
-    ids.reverse();
+    let open = trial.open_at(site)?;
+    let mut ids = Vec::new(alloc);
+    for id in open {
+        ids.push(*id)?;
+    }
     Ok(ids)
 }
 
@@ -138,7 +139,6 @@ fn towards(now: i64, target: i64, lower: u64, raise: u64) -> Option<i64>
 
 /// The change that a site can make towards the target, and None where there is none to make.
 pub(crate) fn change_at(
-    alloc: Global,
     trial: &Trial,
     field: FieldNo,
     target: i64,
@@ -152,8 +152,8 @@ pub(crate) fn change_at(
         (share (fresh trial.now.schema site.0) field.0 kinds.Raise
         (at_site trial.now.schema (trace_of trial.now) site.0)))) }
 {
-    let now = committed_at(alloc, trial, field)?;
-    let (lower, raise) = shares_at(alloc, trial, site, field)?;
+    let now = committed_at(trial, field)?;
+    let (lower, raise) = shares_at(trial, site, field)?;
     Ok(towards(now, target, lower, raise))
 }
 
@@ -177,14 +177,9 @@ fn same_value(one: i64, other: i64) -> bool
 }
 
 /// Whether the committed value is the target.
-pub(crate) fn is_at(
-    alloc: Global,
-    trial: &Trial,
-    field: FieldNo,
-    target: i64,
-) -> Result<bool, AllocError>
+pub(crate) fn is_at(trial: &Trial, field: FieldNo, target: i64) -> Result<bool, AllocError>
     ensures value { IfOk result (λ there. there ≡ same_value
         (committed_value trial.now.schema (trace_of trial.now) field.0) target) }
 {
-    Ok(same_value(committed_at(alloc, trial, field)?, target))
+    Ok(same_value(committed_at(trial, field)?, target))
 }

@@ -1,14 +1,17 @@
 //! The rights of one site, by what took effect there.
 
-ghost use Rattle.std.specs.Prelude.{◌≡◌, ◌<◌, IfOk};
+ghost use Rattle.std.specs.Prelude.{◌≡◌, ◌<◌, ℕ, List, IfOk};
+ghost use Rattle.field_bounds.specs.declared.effect.Effect.{Effect};
+ghost use Rattle.field_bounds.specs.Kind.{other};
 ghost use Rattle.field_bounds.specs.Parts.{part_of};
-ghost use Rattle.field_bounds.specs.Effects.{fresh, own_rights, share};
+ghost use Rattle.field_bounds.specs.Effects.{fresh, own_rights, share, granted_sizes, is_committed};
 ghost use Rattle.field_bounds.specs.Lawful.{IsLawful};
+ghost use Rattle.reaching_steps.specs.Standing.{Stands};
 
-use crate::later::sums_of;
+use crate::standing::{Standing, held_by};
 use crate::totals::{Receivers, gained_in, gifts_in};
-use field_bounds::{Effect, FieldNo, Kind, Schema, SiteNo};
-use std::alloc::{AllocError, Global};
+use field_bounds::{FieldNo, Kind, Schema, SiteNo};
+use std::alloc::AllocError;
 
 /// The part of a site, and none of a field that isn't there.
 fn part_at(schema: &Schema, site: SiteNo, field: FieldNo, kind: Kind) -> u64
@@ -22,27 +25,44 @@ fn part_at(schema: &Schema, site: SiteNo, field: FieldNo, kind: Kind) -> u64
     }
 }
 
-/// The own rights of a site and its share, of a kind on a field, by what took effect there, the
-/// newest first. The error is want of memory.
+/// The committed escrows of a kind, and those of the other.
+fn settled_of(standing: &Standing, kind: Kind) -> (u128, u128)
+    ensures settled { (f : ℕ) (es : List Effect) → Stands f standing.now es →
+        result.0 ≡ granted_sizes (λ id. is_committed id es) f kind es }
+    ensures turned { (f : ℕ) (es : List Effect) → Stands f standing.now es →
+        result.1 ≡ granted_sizes (λ id. is_committed id es) f (other kind) es }
+{
+    match kind {
+        Kind::Lower => (standing.lowered, standing.raised),
+        Kind::Raise => (standing.raised, standing.lowered),
+    }
+}
+
+/// The own rights of a site and its share, of a kind on a field, where it stands so. The sums fit:
+/// the rights that came to the site are fewer than 2^127. The error is want of memory.
 pub(crate) fn rights_of(
-    alloc: Global,
     schema: &Schema,
-    told: &[Effect],
+    standing: &Standing,
     site: SiteNo,
     field: FieldNo,
     kind: Kind,
 ) -> Result<(u128, u128), AllocError>
     requires in_schema { site.0 < schema.now.sites }
-    requires lawful { IsLawful schema.now (fresh schema.now site.0) told.now }
-    ensures own { IfOk result (λ rights. rights.0 ≡ own_rights
-        (fresh schema.now site.0) field.0 kind told.now) }
-    ensures free { IfOk result (λ rights. rights.1
-        ≡ share (fresh schema.now site.0) field.0 kind told.now) }
+    ensures own { IfOk result (λ rights. (es : List Effect)
+        → IsLawful schema.now (fresh schema.now site.0) es → Stands field.0 standing.now es →
+        rights.0 ≡ own_rights (fresh schema.now site.0) field.0 kind es) }
+    ensures free { IfOk result (λ rights. (es : List Effect)
+        → IsLawful schema.now (fresh schema.now site.0) es → Stands field.0 standing.now es →
+        rights.1 ≡ share (fresh schema.now site.0) field.0 kind es) }
 {
-    let (settled, held) = sums_of(alloc, told, field, kind)?;
-    let (turned, _) = sums_of(alloc, told, field, kind.other())?;
-    let given = gifts_in(told, Receivers::Everyone, field, kind);
-    let gained = gained_in(told, field, kind, schema.sites());
-    let own = u128::from(part_at(schema, site, field, kind)) + turned + gained - settled - given;
-    Ok((own, own - held))
+    let (settled, turned) = settled_of(standing, kind);
+    let held = held_by(&standing.held, None, field, kind);
+    let given = gifts_in(&standing.gifts, Receivers::Everyone, field, kind);
+    let gained = gained_in(&standing.gifts, field, kind, schema.sites());
+    let came = u128::from(part_at(schema, site, field, kind)) + gained;
+    let Some(all) = came.checked_add(turned) else {
+        return Err(AllocError);
+    };
+    let own = all.saturating_sub(settled).saturating_sub(given);
+    Ok((own, own.saturating_sub(held)))
 }

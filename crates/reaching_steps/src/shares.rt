@@ -8,12 +8,11 @@ ghost use Rattle.field_bounds.specs.Owed.{max_change};
 ghost use Rattle.field_bounds.specs.Central.{at_site, committed_value, given_between, accepted_between};
 ghost use Rattle.world_steps.specs.View.{trace_of};
 
-use crate::later::sums_of;
 use crate::rights::rights_of;
 use crate::totals::{Receivers, accepted_in, gifts_in};
 use crate::trial::Trial;
 use field_bounds::{FieldNo, Kind, Schema, SiteNo};
-use std::alloc::{AllocError, Global};
+use std::alloc::AllocError;
 
 /// The start value of a field, and 0 of one that isn't there.
 fn value_at(schema: &Schema, field: FieldNo) -> i64
@@ -28,7 +27,6 @@ fn value_at(schema: &Schema, field: FieldNo) -> i64
 
 /// The own rights of a site and its share, of a kind on a field, by the trace.
 pub(crate) fn rights_at(
-    alloc: Global,
     trial: &Trial,
     site: SiteNo,
     field: FieldNo,
@@ -43,15 +41,14 @@ pub(crate) fn rights_at(
         (at_site trial.now.schema (trace_of trial.now) site.0)) }
     ensures small { IfOk result (λ rights. (rights.0 ≤ max_change) × (rights.1 ≤ max_change)) }
 {
-    let told = trial.effects_at(site)?;
-    let (own, free) = rights_of(alloc, trial.world().schema(), told, site, field, kind)?;
+    let standing = trial.standing_at(site, field)?;
+    let (own, free) = rights_of(trial.world().schema(), standing, site, field, kind)?;
     Ok((own as u64, free as u64))
 }
 
 /// The shares of a site, to lower and to raise a field. One that is up tells them at once, and those
 /// of another are read from what took effect there.
 pub(crate) fn shares_at(
-    alloc: Global,
     trial: &Trial,
     site: SiteNo,
     field: FieldNo,
@@ -71,8 +68,8 @@ pub(crate) fn shares_at(
     match world.share(site, field) {
         Some(shares) => Ok(shares),
         None => {
-            let (_, lower) = rights_at(alloc, trial, site, field, Kind::Lower)?;
-            let (_, raise) = rights_at(alloc, trial, site, field, Kind::Raise)?;
+            let (_, lower) = rights_at(trial, site, field, Kind::Lower)?;
+            let (_, raise) = rights_at(trial, site, field, Kind::Raise)?;
             Ok((lower, raise))
         }
     }
@@ -90,8 +87,8 @@ pub(crate) fn given_at(
     ensures value { IfOk result (λ total. total ≡ given_between trial.now.schema
         (trace_of trial.now) field.0 kind from.0 to.0) }
 {
-    let told = trial.effects_at(from)?;
-    let total = gifts_in(told, Receivers::OneSite(to), field, kind);
+    let standing = trial.standing_at(from, field)?;
+    let total = gifts_in(&standing.gifts, Receivers::OneSite(to), field, kind);
     Ok(total as u64)
 }
 
@@ -107,8 +104,8 @@ pub(crate) fn accepted_at(
     ensures value { IfOk result (λ total. total ≡ accepted_between trial.now.schema
         (trace_of trial.now) field.0 kind from.0 to.0) }
 {
-    let told = trial.effects_at(to)?;
-    Ok(accepted_in(told, from, field, kind))
+    let standing = trial.standing_at(to, field)?;
+    Ok(accepted_in(&standing.gifts, from, field, kind))
 }
 
 /// What one has above another, and the other above the one.
@@ -124,12 +121,7 @@ fn apart(one: u128, other: u128) -> (u128, u128)
 }
 
 /// By how much the committed escrows of a site have raised a field, or lowered it.
-fn moved_at(
-    alloc: Global,
-    trial: &Trial,
-    site: SiteNo,
-    field: FieldNo,
-) -> Result<(u128, u128), AllocError>
+fn moved_at(trial: &Trial, site: SiteNo, field: FieldNo) -> Result<(u128, u128), AllocError>
     requires in_schema { site.0 < trial.now.schema.sites }
     ensures value { IfOk result (λ moved.
         moved.0 + granted_sizes (λ id. is_committed id
@@ -141,10 +133,8 @@ fn moved_at(
     ensures near { IfOk result (λ moved. (moved.0 ≤ 100_000_000_000_000_000_000)
         × (moved.1 ≤ 100_000_000_000_000_000_000)) }
 {
-    let told = trial.effects_at(site)?;
-    let (raised, _) = sums_of(alloc, told, field, Kind::Raise)?;
-    let (lowered, _) = sums_of(alloc, told, field, Kind::Lower)?;
-    Ok(apart(raised, lowered))
+    let standing = trial.standing_at(site, field)?;
+    Ok(apart(standing.raised, standing.lowered))
 }
 
 /// A value, raised and lowered.
@@ -159,7 +149,7 @@ fn moved_by(value: i64, up: u128, down: u128) -> i64
 }
 
 /// The committed value of a field, by the trace.
-pub(crate) fn committed_at(alloc: Global, trial: &Trial, field: FieldNo) -> Result<i64, AllocError>
+pub(crate) fn committed_at(trial: &Trial, field: FieldNo) -> Result<i64, AllocError>
     ensures value { IfOk result (λ value. value ≡ committed_value trial.now.schema
         (trace_of trial.now) field.0) }
     ensures near { IfOk result (λ value. (neg_ℤ (pos 1_000_000_000_000_000) ≤ℤ value)
@@ -171,7 +161,7 @@ pub(crate) fn committed_at(alloc: Global, trial: &Trial, field: FieldNo) -> Resu
     let mut up: u128 = 0;
     let mut down: u128 = 0;
     for site in 0..sites {
-        let (raised, lowered) = moved_at(alloc, trial, SiteNo(site), field)?;
+        let (raised, lowered) = moved_at(trial, SiteNo(site), field)?;
         up += raised;
         down += lowered;
     }
@@ -190,14 +180,13 @@ pub(crate) fn has_cut(
         (cut (fresh trial.now.schema site.0) field.0 kind
         (at_site trial.now.schema (trace_of trial.now) site.0))) }
 {
-    let told = trial.effects_at(site)?;
-    Ok(0 < gifts_in(told, Receivers::ForGood, field, kind))
+    let standing = trial.standing_at(site, field)?;
+    Ok(0 < gifts_in(&standing.gifts, Receivers::ForGood, field, kind))
 }
 
 /// What a site guards of a field's width: the rights of a kind that it owns, and those that it has
 /// given up for good.
 pub(crate) fn guarded_at(
-    alloc: Global,
     trial: &Trial,
     site: SiteNo,
     field: FieldNo,
@@ -210,8 +199,8 @@ pub(crate) fn guarded_at(
         (at_site trial.now.schema (trace_of trial.now) site.0)) }
     ensures small { IfOk result (λ rights. rights ≤ max_change) }
 {
-    let (own, _) = rights_at(alloc, trial, site, field, kind)?;
-    let told = trial.effects_at(site)?;
-    let gone = gifts_in(told, Receivers::ForGood, field, kind);
+    let (own, _) = rights_at(trial, site, field, kind)?;
+    let standing = trial.standing_at(site, field)?;
+    let gone = gifts_in(&standing.gifts, Receivers::ForGood, field, kind);
     Ok((gone + u128::from(own)) as u64)
 }

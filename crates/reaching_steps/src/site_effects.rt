@@ -1,18 +1,19 @@
 //! What took effect at one site, read from the trace of all sites.
 
-ghost use Rattle.std.specs.Prelude.{◌≡◌, ℕ, ◌<◌, ◌∷◌, IfOk, OnOk, List, true, false, length, get_or, reverse};
-ghost use Rattle.std.specs.Global.{Vec};
+ghost use Rattle.std.specs.Prelude.{◌≡◌, ◌<◌, ◌∷◌, IfOk, OnOk, List, true, false, length};
 ghost use Rattle.std.specs.Option.{unwrap_or};
 ghost use Rattle.field_bounds.specs.declared.effect.Effect.{Effect};
 ghost use Rattle.field_bounds.specs.declared.entry.Entry.{Entry};
-ghost use Rattle.field_bounds.specs.Effects.{Base, fresh, counts, effect_of, after};
+ghost use Rattle.field_bounds.specs.Effects.{Base, fresh, counts, effect_of};
 ghost use Rattle.field_bounds.specs.Owed.{is_unsure};
 ghost use Rattle.field_bounds.specs.Central.{at_site};
 ghost use Rattle.field_bounds.specs.Lawful.{IsLawful};
 ghost use Rattle.world_steps.specs.View.{trace_of};
-ghost use Rattle.reaching_steps.specs.Told.{doubt_kept_in, wanted_by, spared_for, ends_doubt, Reads, AllRead};
+ghost use Rattle.reaching_steps.specs.Standing.{Stands};
+ghost use Rattle.reaching_steps.specs.Told.{doubt_kept_in, wanted_by, spared_for, is_elsewhere, ends_doubt, Reads, ReadsOwn, Puts, AllRead};
 
 use crate::rights::rights_of;
+use crate::standing::{Standing, note, standing_at_first};
 use field_bounds::{
     Command, Effect, Entry, FieldNo, Kind, Last, Reply, Schema, SiteNo, spared_amount,
 };
@@ -70,31 +71,48 @@ fn wanted_by(command: Command) -> Option<(FieldNo, Kind, u64)>
     }
 }
 
-/// What a reply in doubt spared, behind these effects, which have the oldest first. The error is
-/// want of memory.
+/// Whether what an entry spared in doubt is of another field.
+#[inline(always)]
+fn is_spared_elsewhere(entry: &Entry, field: FieldNo) -> bool
+    ensures spared { result ≡ true → (is_unsure entry.now.reply ≡ true)
+        × (is_elsewhere field.0 (wanted_by entry.now.command) ≡ true) }
+    ensures other { result ≡ false → is_unsure entry.now.reply ≡ true
+        → is_elsewhere field.0 (wanted_by entry.now.command) ≡ false }
+{
+    if !is_unsure(entry.reply) {
+        return false;
+    }
+    match wanted_by(entry.command) {
+        None => false,
+        Some((at, _, _)) => at.0 != field.0,
+    }
+}
+
+/// What a reply in doubt spared of the field, where the site stood so. The error is want of memory.
 fn spared_in_doubt(
-    alloc: Global,
     schema: &Schema,
-    told: &mut Vec<Effect>,
+    standing: &Standing,
     entry: &Entry,
     site: SiteNo,
+    field: FieldNo,
 ) -> Result<u64, AllocError>
     requires in_schema { site.0 < schema.now.sites }
-    requires lawful { IsLawful schema.now (fresh schema.now site.0) (reverse told.old.items) }
-    ensures value { IfOk result (λ amount. is_unsure entry.now.reply ≡ true →
-        amount ≡ spared_for (fresh schema.now site.0) (reverse told.old.items)
-        (wanted_by entry.now.command)) }
-    ensures same { OnOk result (told.new.items ≡ told.old.items) }
+    ensures value { IfOk result (λ amount. (es : List Effect)
+        → IsLawful schema.now (fresh schema.now site.0) es → Stands field.0 standing.now es
+        → is_unsure entry.now.reply ≡ true
+        → is_elsewhere field.0 (wanted_by entry.now.command) ≡ false
+        → amount ≡ spared_for (fresh schema.now site.0) es (wanted_by entry.now.command)) }
 {
     if !is_unsure(entry.reply) {
         return Ok(0);
     }
-    let Some((field, kind, want)) = wanted_by(entry.command) else {
+    let Some((at, kind, want)) = wanted_by(entry.command) else {
         return Ok(0);
     };
-    told.reverse();
-    let (_, free) = rights_of(alloc, schema, told, site, field, kind)?;
-    told.reverse();
+    if at.0 != field.0 {
+        return Ok(0);
+    }
+    let (_, free) = rights_of(schema, standing, site, at, kind)?;
     Ok(spared_amount(free, want))
 }
 
@@ -201,72 +219,69 @@ fn counts(entry: &Entry, later: &[Entry], site: SiteNo) -> bool
     }
 }
 
-/// One more entry of the site is read: what it did is put behind what took effect before it.
+/// One more entry of the site is read.
+#[inline(always)]
 fn read_own(
-    alloc: Global,
     schema: &Schema,
-    told: &mut Vec<Effect>,
+    standing: &mut Standing,
     entry: &Entry,
     later: &[Entry],
     site: SiteNo,
+    field: FieldNo,
 ) -> Result<(), AllocError>
     requires in_schema { site.0 < schema.now.sites }
-    requires lawful { IsLawful schema.now (fresh schema.now site.0) (reverse told.old.items) }
-    ensures read { OnOk result (reverse told.new.items
-        ≡ after (fresh schema.now site.0) (doubt_kept_in site.0 later.now) entry.now.command
-        entry.now.reply (reverse told.old.items)) }
+    ensures read { OnOk result (ReadsOwn schema.now site.0 field.0 standing.old entry.now
+        (doubt_kept_in site.0 later.now) standing.new) }
 {
     if !counts(entry, later, site) {
         return Ok(());
     }
-    let amount = spared_in_doubt(alloc, schema, told, entry, site)?;
+    if is_spared_elsewhere(entry, field) {
+        return Ok(());
+    }
+    let amount = spared_in_doubt(schema, standing, entry, site, field)?;
     match effect_of(entry.command, entry.reply, amount) {
         None => Ok(()),
-        Some(effect) => {
-            told.push(effect)?;
-            Ok(())
-        }
+        Some(effect) => note(standing, effect, field),
     }
 }
 
 /// One more entry of the trace is read; the others' did nothing here.
 fn read_entry(
-    alloc: Global,
     schema: &Schema,
-    told: &mut Vec<Effect>,
+    standing: &mut Standing,
     entry: &Entry,
     later: &[Entry],
     site: SiteNo,
+    field: FieldNo,
 ) -> Result<(), AllocError>
     requires in_schema { site.0 < schema.now.sites }
-    requires lawful { IsLawful schema.now (fresh schema.now site.0) (reverse told.old.items) }
-    ensures read { OnOk result (Reads schema.now site.0 told.old.items entry.now later.now
-        told.new.items) }
+    ensures read { OnOk result (Reads schema.now site.0 field.0 standing.old entry.now later.now
+        standing.new) }
 {
     if entry.site.0 != site.0 {
         return Ok(());
     }
-    read_own(alloc, schema, told, entry, later, site)
+    read_own(schema, standing, entry, later, site, field)
 }
 
 /// One more entry of the trace is read at its own site.
+#[inline(always)]
 pub(crate) fn read_there(
-    alloc: Global,
     schema: &Schema,
-    table: &mut [Vec<Effect>],
+    table: &mut [Standing],
     entry: &Entry,
     later: &[Entry],
+    field: FieldNo,
 ) -> Result<(), AllocError>
     requires count { length table.old ≡ schema.now.sites }
-    requires lawful { (s : ℕ) (d : Vec Effect) → s < length table.old →
-        IsLawful schema.now (fresh schema.now s) (reverse (get_or table.old s d).items) }
-    ensures read { OnOk result (AllRead schema.now table.old entry.now later.now table.new) }
+    ensures read { OnOk result (AllRead schema.now field.0 table.old entry.now later.now table.new) }
 {
     let place = usize::from(entry.site.0);
     if place >= table.len() {
         return Ok(());
     }
-    read_own(alloc, schema, &mut table[place], entry, later, entry.site)
+    read_own(schema, &mut table[place], entry, later, entry.site, field)
 }
 
 /// Whether a reply tells what became of what stood in doubt.
@@ -279,37 +294,46 @@ pub(crate) fn ends_doubt(reply: Reply) -> bool
     }
 }
 
-/// One more entry of a site, which ends no doubt: what it did is put in front of what took effect
-/// before it. The error is want of memory.
-pub(crate) fn put_first(told: &mut Vec<Effect>, entry: &Entry) -> Result<(), AllocError>
-    ensures put { OnOk result ((base : Base) → told.new.items
-        ≡ after base false entry.now.command entry.now.reply told.old.items) }
+/// One more entry of a site, which ends no doubt. The error is want of memory.
+pub(crate) fn put_next(
+    standing: &mut Standing,
+    entry: &Entry,
+    field: FieldNo,
+) -> Result<(), AllocError>
+    ensures put { OnOk result (Puts field.0 standing.old entry.now standing.new) }
 {
     if is_unsure(entry.reply) {
         return Ok(());
     }
     match effect_of(entry.command, entry.reply, 0) {
         None => Ok(()),
-        Some(effect) => {
-            told.insert(0, effect)?;
-            Ok(())
-        }
+        Some(effect) => note(standing, effect, field),
     }
 }
 
-/// What took effect at a site of a world, the newest first. The error is want of memory. Costs
-/// reading the trace, and, for each spare in doubt that was kept, what took effect before it.
-pub(crate) fn told_at(alloc: Global, world: &World, site: SiteNo) -> Result<Vec<Effect>, AllocError>
+/// Where a site of a world stands on a field. The error is want of memory. Costs reading the trace.
+pub(crate) fn standing_at(
+    alloc: Global,
+    world: &World,
+    site: SiteNo,
+    field: FieldNo,
+) -> Result<Standing, AllocError>
     requires in_schema { site.0 < world.now.schema.sites }
-    ensures value { IfOk result (λ told. told.items
-        ≡ at_site world.now.schema (trace_of world.now) site.0) }
+    ensures value { IfOk result (λ standing. Stands field.0 standing
+        (at_site world.now.schema (trace_of world.now) site.0)) }
 {
     let schema = world.schema();
     let trace = world.trace();
-    let mut told = Vec::new(alloc);
+    let mut standing = standing_at_first(alloc);
     for i in 0..trace.len() {
-        read_entry(alloc, schema, &mut told, &trace[i], &trace[i + 1..], site)?;
+        read_entry(
+            schema,
+            &mut standing,
+            &trace[i],
+            &trace[i + 1..],
+            site,
+            field,
+        )?;
     }
-    told.reverse();
-    Ok(told)
+    Ok(standing)
 }

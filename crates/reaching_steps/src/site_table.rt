@@ -1,94 +1,77 @@
-//! What took effect at each site of a world, in a table.
+//! Where each site of a world stands on a field, in a table.
 
-ghost use Rattle.std.specs.Prelude.{◌≡◌, ℕ, ◌<◌, [], IfOk, OnOk, length, get_or, reverse};
-ghost use Rattle.std.specs.Global.{Vec};
-ghost use Rattle.field_bounds.specs.declared.effect.Effect.{Effect};
-ghost use Rattle.field_bounds.specs.Central.{at_site};
+ghost use Rattle.std.specs.Prelude.{◌≡◌, ℕ, ◌<◌, [], IfOk, OnOk, length, get_or};
+ghost use Rattle.reaching_steps.specs.declared.standing.Standing.{Standing};
 ghost use Rattle.world_steps.specs.View.{trace_of};
-ghost use Rattle.reaching_steps.specs.Told.{AllTold, AreReadIn, IsMadeWithin, Renews};
+ghost use Rattle.reaching_steps.specs.Standing.{Stands};
+ghost use Rattle.reaching_steps.specs.Told.{AllTold, IsMadeWithin, Renews};
 
-use crate::site_effects::{ends_doubt, put_first, read_there, told_at};
-use field_bounds::Effect;
+use crate::site_effects::{ends_doubt, put_next, read_there, standing_at};
+use crate::standing::{Standing, standing_at_first};
+use field_bounds::FieldNo;
 use std::alloc::{AllocError, Global};
 use world_steps::{StepReply, World};
 
 /// A table in which nothing took effect.
-fn empty_table(alloc: Global, sites: u16) -> Result<Vec<Vec<Effect>>, AllocError>
+fn empty_table(alloc: Global, sites: u16, field: FieldNo) -> Result<Vec<Standing>, AllocError>
     ensures count { IfOk result (λ table. length table.items ≡ sites) }
-    ensures empty { IfOk result (λ table. (s : ℕ) (d : Vec Effect) → s < length table.items →
-        (get_or table.items s d).items ≡ []) }
+    ensures empty { IfOk result (λ table. (s : ℕ) (d : Standing) → s < length table.items →
+        Stands field.0 (get_or table.items s d) []) }
 {
     let mut table = Vec::new(alloc);
     for site in 0..sites {
-        table.push(Vec::new(alloc))?;
+        table.push(standing_at_first(alloc))?;
     }
     Ok(table)
 }
 
-/// The trace is read into a table in which nothing took effect, each entry at its site: what took
-/// effect there, the oldest first.
-fn read_all(alloc: Global, world: &World, table: &mut [Vec<Effect>]) -> Result<(), AllocError>
+/// A table in which nothing took effect is filled: the trace is read, each entry at its site.
+fn fill(world: &World, table: &mut [Standing], field: FieldNo) -> Result<(), AllocError>
     requires count { length table.old ≡ world.now.schema.sites }
-    requires empty { (s : ℕ) (d : Vec Effect) → s < length table.old →
-        (get_or table.old s d).items ≡ [] }
-    ensures read { OnOk result ((s : ℕ) (d : Vec Effect) → s < length table.new →
-        reverse (get_or table.new s d).items
-        ≡ at_site world.now.schema (trace_of world.now) s) }
+    requires empty { (s : ℕ) (d : Standing) → s < length table.old →
+        Stands field.0 (get_or table.old s d) [] }
+    ensures told { OnOk result (AllTold world.now.schema field.0 (trace_of world.now) table.new) }
 {
     let schema = world.schema();
     let trace = world.trace();
     for i in 0..trace.len() {
-        read_there(alloc, schema, table, &trace[i], &trace[i + 1..])?;
+        read_there(schema, table, &trace[i], &trace[i + 1..], field)?;
     }
     Ok(())
 }
 
-/// Each site's part is turned around.
-fn turn_all(table: &mut [Vec<Effect>])
-    ensures turned { (s : ℕ) (d : Vec Effect) → s < length table.old →
-        (get_or table.new s d).items ≡ reverse (get_or table.old s d).items }
-{
-    for told in table.iter_mut() {
-        told.reverse();
-    }
-}
-
-/// A table in which nothing took effect is filled.
-fn fill(alloc: Global, world: &World, table: &mut [Vec<Effect>]) -> Result<(), AllocError>
-    requires count { length table.old ≡ world.now.schema.sites }
-    requires empty { (s : ℕ) (d : Vec Effect) → s < length table.old →
-        (get_or table.old s d).items ≡ [] }
-    ensures told { OnOk result (AllTold world.now.schema (trace_of world.now) table.new) }
-{
-    read_all(alloc, world, table)?;
-    turn_all(table);
-    Ok(())
-}
-
-/// What took effect at each site of a world, the newest first. The error is want of memory. Costs
-/// reading the trace once, and, for each spare in doubt that was kept, what took effect before it.
-pub(crate) fn table_of(alloc: Global, world: &World) -> Result<Vec<Vec<Effect>>, AllocError>
+/// Where each site of a world stands on a field. The error is want of memory. Costs reading the
+/// trace once, and, for each spare of the field in doubt that was kept, what was given and accepted
+/// at its site before it.
+pub(crate) fn table_of(
+    alloc: Global,
+    world: &World,
+    field: FieldNo,
+) -> Result<Vec<Standing>, AllocError>
     ensures count { IfOk result (λ table. length table.items ≡ world.now.schema.sites) }
-    ensures told { IfOk result (λ table. AllTold world.now.schema
+    ensures told { IfOk result (λ table. AllTold world.now.schema field.0
         (trace_of world.now) table.items) }
 {
-    let mut table = empty_table(alloc, world.schema().sites())?;
-    fill(alloc, world, &mut table)?;
+    let mut table = empty_table(alloc, world.schema().sites(), field)?;
+    fill(world, &mut table, field)?;
     Ok(table)
 }
 
-/// The table, once a world has answered one step more: what the entry that was made, if any, did at
-/// its site stands in front there. After a restart, which may tell that what was in doubt is kept,
-/// the site is read anew. The error is want of memory.
+/// The table, once a world has answered one step more: the site of the entry that was made, if any,
+/// stands so by then. After a restart, which may tell that what was in doubt is kept, the site is
+/// read anew. The error is want of memory.
 pub(crate) fn renew(
     alloc: Global,
     world: &World,
-    table: &mut Vec<Vec<Effect>>,
+    table: &mut Vec<Standing>,
     reply: StepReply,
+    field: FieldNo,
 ) -> Result<(), AllocError>
     requires made { IsMadeWithin reply world.now.schema.sites }
-    ensures renewed { OnOk result (Renews world.now reply table.old.items table.new.items) }
+    ensures renewed { OnOk result (Renews world.now field.0 reply table.old.items table.new.items) }
 {
+    let _schema = world.schema();
+    let _trace = world.trace();
     match reply {
         StepReply::NoStatement => Ok(()),
         StepReply::Made(entry) => {
@@ -97,10 +80,10 @@ pub(crate) fn renew(
                 return Ok(());
             }
             if ends_doubt(entry.reply) {
-                table[place] = told_at(alloc, world, entry.site)?;
+                table[place] = standing_at(alloc, world, entry.site, field)?;
                 return Ok(());
             }
-            put_first(&mut table[place], &entry)
+            put_next(&mut table[place], &entry, field)
         }
     }
 }

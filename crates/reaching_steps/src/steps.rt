@@ -197,11 +197,11 @@ fn move_field(
     if site.0 == named.0 {
         return Ok(());
     }
-    let txn = next_at(trial, site);
-    let found = change_at(alloc, trial, field, target, site)?;
+    let found = change_at(trial, field, target, site)?;
     match found {
         None => Ok(()),
         Some(change) => {
+            let txn = next_at(trial, site);
             ask(alloc, trial, taken, site, Command::Begin)?;
             ask(
                 alloc,
@@ -334,7 +334,7 @@ fn plan(
         taken.items) }
 {
     let mut taken = Vec::new(alloc);
-    let there = is_at(alloc, trial, field, target)?;
+    let there = is_at(trial, field, target)?;
     if there {
         return Ok(taken);
     }
@@ -381,7 +381,7 @@ pub(crate) fn reach_on(
         (steps_of taken.items)) }
     ensures same { IfErr result (λ fault. fault ≢ NoMemory → trial.new ≡ trial.old) }
 {
-    let Ok(found) = fault_of(alloc, trial, site, field, target) else {
+    let Ok(found) = fault_of(trial, site, field, target) else {
         return Err(ReachFault::NoMemory);
     };
     match found {
@@ -420,9 +420,8 @@ fn steps_alone(alloc: Global, taken: &[StepTaken]) -> Result<Vec<WorldStep>, All
 /// so an interval that leaves one out would be wrong in some run.
 ///
 /// The site is tried on a world of its own. Costs taking the world's steps once more, reading the
-/// trace once for each site that moves the field, and, for each two sites, what took effect at both;
-/// for each statement that is looked for all that were issued, and for each step that is told what
-/// took effect at its site.
+/// trace once, and once more for each site that moves the field; for each two sites, what both gave
+/// and accepted on the field; and for each statement that is looked for all that were issued.
 pub fn reach(
     alloc: Global,
     world: &World,
@@ -441,7 +440,7 @@ pub fn reach(
         site field → LiesWithin world.now.schema (trace_of world.now) site field target
         → fault ≡ NoMemory) }
 {
-    let Ok(mut trial) = Trial::new(alloc, world) else {
+    let Ok(mut trial) = Trial::new(alloc, world, field) else {
         return Err(ReachFault::NoMemory);
     };
     let taken = reach_on(alloc, &mut trial, site, field, target)?;

@@ -11,10 +11,11 @@ ghost use Rattle.reaching_steps.specs.declared.fault.ReachFault.TheVariants.{NoM
 
 use crate::fault::ReachFault;
 use crate::site_table::table_of;
+use crate::standing::Standing;
 use crate::steps::reach_on;
 use crate::taken::StepTaken;
 use crate::trial::Trial;
-use field_bounds::{Effect, FieldNo, SiteNo};
+use field_bounds::{FieldNo, SiteNo};
 use std::alloc::{AllocError, Global};
 use std::mem;
 use world_steps::World;
@@ -24,13 +25,13 @@ use world_steps::World;
 fn reach_by(
     alloc: Global,
     world: &mut World,
-    told: Vec<Vec<Effect>>,
+    told: Vec<Standing>,
     stand_in: World,
     site: SiteNo,
     field: FieldNo,
     target: i64,
 ) -> Result<Vec<StepTaken>, ReachFault>
-    requires told { IsToldBy world.old told.items }
+    requires told { IsToldBy world.old field.0 told.items }
     ensures clear { OnOk result (reach_fault world.old.schema (trace_of world.old) site field target
         ≡ None) }
     ensures fault { IfErr result (λ fault. Explains fault
@@ -41,7 +42,7 @@ fn reach_by(
         (steps_of taken.items)) }
     ensures same { IfErr result (λ fault. fault ≢ NoMemory → world.new ≡ world.old) }
 {
-    let mut trial = Trial::of(mem::replace(world, stand_in), told);
+    let mut trial = Trial::of(mem::replace(world, stand_in), told, field);
     let result = reach_on(alloc, &mut trial, site, field, target);
     *world = trial.into_world();
     result
@@ -66,9 +67,9 @@ fn stand_in(alloc: Global, world: &World) -> Result<World, AllocError> {
 /// (`tight`).
 ///
 /// Costs reading the trace once, and once for each site that moves the field; taking the steps;
-/// opening a world of the schema; for each two sites, what took effect at both; for each statement
-/// that is looked for all that were issued; and for each step what took effect at its site. No step
-/// that the world has taken is taken again.
+/// opening a world of the schema; for each two sites, what both gave and accepted on the field; and
+/// for each statement that is looked for all that were issued. No step that the world has taken is
+/// taken again.
 pub fn reach_in(
     alloc: Global,
     world: &mut World,
@@ -92,7 +93,7 @@ pub fn reach_in(
         site field → LiesWithin world.old.schema (trace_of world.old) site field target
         → fault ≡ NoMemory) }
 {
-    let Ok(told) = table_of(alloc, world) else {
+    let Ok(told) = table_of(alloc, world, field) else {
         return Err(ReachFault::NoMemory);
     };
     let Ok(other) = stand_in(alloc, world) else {

@@ -1,6 +1,8 @@
 //! A world on which steps are tried.
 
-ghost use Rattle.std.specs.Prelude.{◌≡◌, ◌<◌, ◌++◌, [], ◌∷◌, All, IfOk, OnOk};
+ghost use Rattle.std.specs.Prelude.{◌≡◌, ◌<◌, ◌++◌, [], ◌∷◌, All, IfOk, OnOk, reverse};
+ghost use Rattle.field_bounds.specs.Effects.{open_txns};
+ghost use Rattle.reaching_steps.specs.Standing.{Stands};
 ghost use Rattle.field_bounds.specs.Limits.{IsSchema};
 ghost use Rattle.field_bounds.specs.Central.{at_site, IsSound};
 ghost use Rattle.world_steps.specs.World.{StepFits};
@@ -8,19 +10,20 @@ ghost use Rattle.world_steps.specs.View.{trace_of, Answers};
 ghost use Rattle.reaching_steps.specs.Told.{IsToldBy};
 
 use crate::site_table::{renew, table_of};
-use field_bounds::{Effect, Schema, SiteNo};
+use crate::standing::Standing;
+use field_bounds::{FieldNo, Schema, SiteNo, TxnId};
 use std::alloc::{AllocError, Global};
 use std::marker::Model;
 use world_steps::{StepReply, World, WorldStep};
 
 /// A world of its own, in which the steps are tried that a world is to be told, with a table of
-/// what took effect at each site, the newest first: each site's part of the trace is read once for
-/// all that is asked of it. Where want of memory came between a step and the table, the table is
-/// read no more.
+/// where each site stands on one field: the trace is read once for all that is asked of it. Where
+/// want of memory came between a step and the table, the table is read no more.
 #[derive(Drop)]
 pub(crate) struct Trial {
     world: World,
-    told: Vec<Vec<Effect>>,
+    field: FieldNo,
+    told: Vec<Standing>,
     is_whole: bool,
 }
 
@@ -32,7 +35,7 @@ impl Model for Trial {
 
     ghost view = { λ t. t.world };
 
-    ghost invariant = { λ t. IsTrial t.world t.told.items t.is_whole };
+    ghost invariant = { λ t. IsTrial t.world t.field.0 t.told.items t.is_whole };
 }
 
 /// A world of a schema in which these steps were taken. The error is want of memory.
@@ -52,27 +55,29 @@ fn replay(alloc: Global, schema: &Schema, steps: &[WorldStep]) -> Result<World, 
 
 impl Trial {
     /// The trial of a world, in which no other step was tried yet. The error is want of memory.
-    pub(crate) fn new(alloc: Global, world: &World) -> Result<Trial, AllocError>
+    pub(crate) fn new(alloc: Global, world: &World, field: FieldNo) -> Result<Trial, AllocError>
         ensures same { IfOk result (λ trial. trial ≡ world.now) }
         ensures fit { All (StepFits world.now.schema) world.now.steps }
     {
         let steps = world.steps(alloc)?;
         let replayed = replay(alloc, world.schema(), &steps)?;
-        let told = table_of(alloc, &replayed)?;
+        let told = table_of(alloc, &replayed, field)?;
         Ok(Trial {
             world: replayed,
+            field,
             told,
             is_whole: true,
         })
     }
 
     /// The trial on a world itself, by its table.
-    pub(crate) fn of(world: World, told: Vec<Vec<Effect>>) -> Trial
-        requires told { IsToldBy world told.items }
+    pub(crate) fn of(world: World, told: Vec<Standing>, field: FieldNo) -> Trial
+        requires told { IsToldBy world field.0 told.items }
         ensures same { result ≡ world }
     {
         Trial {
             world,
+            field,
             told,
             is_whole: true,
         }
@@ -97,7 +102,7 @@ impl Trial {
         let was_whole = self.is_whole;
         self.is_whole = false;
         let reply = self.world.step(alloc, step)?;
-        renew(alloc, &self.world, &mut self.told, reply)?;
+        renew(alloc, &self.world, &mut self.told, reply, self.field)?;
         self.is_whole = was_whole;
         Ok(reply)
     }
@@ -109,18 +114,35 @@ impl Trial {
         &self.world
     }
 
-    /// What took effect at a site, the newest first. The error is want of memory in an earlier
-    /// step.
-    pub(crate) fn effects_at(&self, site: SiteNo) -> Result<&[Effect], AllocError>
+    /// The open transactions of a site, in order of begin. The error is want of memory in an
+    /// earlier step.
+    pub(crate) fn open_at(&self, site: SiteNo) -> Result<&[TxnId], AllocError>
         requires in_schema { site.0 < self.now.schema.sites }
-        ensures value { IfOk result (λ told. told.now
-            ≡ at_site self.now.schema (trace_of self.now) site.0) }
+        ensures value { IfOk result (λ ids. reverse ids.now
+            ≡ open_txns (at_site self.now.schema (trace_of self.now) site.0)) }
+    {
+        if !self.is_whole {
+            return Err(AllocError);
+        }
+        Ok(&self.told[usize::from(site.0)].txns)
+    }
+
+    /// Where a site stands on the field that the trial is of. The error is want of memory in an
+    /// earlier step; no other field is asked for.
+    pub(crate) fn standing_at(&self, site: SiteNo, field: FieldNo) -> Result<&Standing, AllocError>
+        requires in_schema { site.0 < self.now.schema.sites }
+        ensures value { IfOk result (λ told. Stands field.0 told.now
+            (at_site self.now.schema (trace_of self.now) site.0)) }
         ensures sound { IsSound self.now.schema (trace_of self.now) }
         ensures limits { IsSchema self.now.schema }
     {
         let _schema = self.world.schema();
         let _trace = self.world.trace();
         if !self.is_whole {
+            return Err(AllocError);
+        }
+        let known = self.field;
+        if known.0 != field.0 {
             return Err(AllocError);
         }
         Ok(&self.told[usize::from(site.0)])

@@ -1,74 +1,39 @@
-use Rattle.std.proofs.Common.{◌∙◌, arith}
-use Rattle.field_bounds.specs.Effects.{fresh}
-use Rattle.reaching_steps.proofs.Owning.{summed}
+use Rattle.std.proofs.Common.{◌≡◌, ◌+◌, ◌-◌, ◌∙◌, arith}
+use Rattle.reaching_steps.proofs.Owning.{rights_are}
 use Rattle.reaching_steps.proofs.rights.rights_of.Goals as goal
 
-pub overflow_sub-own : goal.overflow_sub-own
-overflow_sub-own c =
-    let schema = c.args.schema.now in
-    let s = c.args.site.0 in
-    let law = c.requires.lawful in
-    let part = c.from.ensures ∙ c.part_at.ensures.value in
-    let is = summed schema s c.args.field.0 c.args.kind c.args.told.now _ c.from.result c.in_ok-turned.turned c.gained_in-gained.result
-    c.in_ok-settled.settled c.gifts_in-given.result c.in_ok-settled.held _ law
-    c.sites.ensures.value c.other.ensures.value part (c.in_ok-turned.ensures.settled schema (fresh schema s) law)
-    (c.gained_in-gained.ensures.value schema s)
-    (c.in_ok-settled.ensures.settled schema (fresh schema s) law) c.gifts_in-given.ensures.value
-    (c.in_ok-settled.ensures.held schema (fresh schema s) law) in
-    omega (arith, is.whole, is.holds)
-
-pub overflow_sub-own-2 : goal.overflow_sub-own-2
-overflow_sub-own-2 c =
-    let schema = c.args.schema.now in
-    let s = c.args.site.0 in
-    let law = c.requires.lawful in
-    let part = c.from.ensures ∙ c.part_at.ensures.value in
-    let is = summed schema s c.args.field.0 c.args.kind c.args.told.now _ c.from.result c.in_ok-turned.turned c.gained_in-gained.result
-    c.in_ok-settled.settled c.gifts_in-given.result c.in_ok-settled.held _ law
-    c.sites.ensures.value c.other.ensures.value part (c.in_ok-turned.ensures.settled schema (fresh schema s) law)
-    (c.gained_in-gained.ensures.value schema s)
-    (c.in_ok-settled.ensures.settled schema (fresh schema s) law) c.gifts_in-given.ensures.value
-    (c.in_ok-settled.ensures.held schema (fresh schema s) law) in
-    omega (arith, is.whole, is.holds)
-
-pub overflow_sub-result : goal.overflow_sub-result
-overflow_sub-result c =
-    let schema = c.args.schema.now in
-    let s = c.args.site.0 in
-    let law = c.requires.lawful in
-    let part = c.from.ensures ∙ c.part_at.ensures.value in
-    let is = summed schema s c.args.field.0 c.args.kind c.args.told.now _ c.from.result c.in_ok-turned.turned c.gained_in-gained.result
-    c.in_ok-settled.settled c.gifts_in-given.result c.in_ok-settled.held _ law
-    c.sites.ensures.value c.other.ensures.value part (c.in_ok-turned.ensures.settled schema (fresh schema s) law)
-    (c.gained_in-gained.ensures.value schema s)
-    (c.in_ok-settled.ensures.settled schema (fresh schema s) law) c.gifts_in-given.ensures.value
-    (c.in_ok-settled.ensures.held schema (fresh schema s) law) in
-    omega (arith, is.whole, is.holds)
-
 pub returns-clause-own : goal.returns-clause-own
-returns-clause-own c =
+returns-clause-own c = λ es lawful was.
     let schema = c.args.schema.now in
     let s = c.args.site.0 in
-    let law = c.requires.lawful in
-    let part = c.from.ensures ∙ c.part_at.ensures.value in
-    let is = summed schema s c.args.field.0 c.args.kind c.args.told.now _ c.from.result c.in_ok-turned.turned c.gained_in-gained.result
-    c.in_ok-settled.settled c.gifts_in-given.result c.in_ok-settled.held _ law
-    c.sites.ensures.value c.other.ensures.value part (c.in_ok-turned.ensures.settled schema (fresh schema s) law)
-    (c.gained_in-gained.ensures.value schema s)
-    (c.in_ok-settled.ensures.settled schema (fresh schema s) law) c.gifts_in-given.ensures.value
-    (c.in_ok-settled.ensures.held schema (fresh schema s) law) in
-    omega (arith, is.whole, is.holds)
+    let f = c.args.field.0 in
+    let all_is : c.in-Some.all ≡ (c.from.result + c.gained_in-gained.result) + c.settled_of-settled.result.1 =
+    omega (arith, c.in-Some.ensures) in
+    let own_is : c.saturating_sub-own.result
+    ≡ ((c.from.result + c.gained_in-gained.result) + c.settled_of-settled.result.1) - c.settled_of-settled.result.0 - c.gifts_in-given.result =
+    omega (arith, all_is, c.saturating_sub.ensures, c.saturating_sub-own.ensures) in
+    (rights_are schema s f c.args.kind c.args.standing.now es lawful was c.sites.result c.from.result c.settled_of-settled.result.1
+    c.gained_in-gained.result c.settled_of-settled.result.0 c.gifts_in-given.result c.held_by-held.result c.saturating_sub-own.result
+    c.saturating_sub-2.result c.deref.result.now c.deref-2.result.now c.deref-3.result.now c.sites.ensures.value c.deref.ensures.value
+    c.deref-2.ensures.value c.deref-3.ensures.value (c.from.ensures ∙ c.part_at.ensures.value)
+    (c.settled_of-settled.ensures.turned f es was) (c.settled_of-settled.ensures.settled f es was)
+    (c.gained_in-gained.ensures.value schema s) c.gifts_in-given.ensures.value c.held_by-held.ensures.value own_is
+    c.saturating_sub-2.ensures).0
 
 pub returns-clause-free : goal.returns-clause-free
-returns-clause-free c =
+returns-clause-free c = λ es lawful was.
     let schema = c.args.schema.now in
     let s = c.args.site.0 in
-    let law = c.requires.lawful in
-    let part = c.from.ensures ∙ c.part_at.ensures.value in
-    let is = summed schema s c.args.field.0 c.args.kind c.args.told.now _ c.from.result c.in_ok-turned.turned c.gained_in-gained.result
-    c.in_ok-settled.settled c.gifts_in-given.result c.in_ok-settled.held _ law
-    c.sites.ensures.value c.other.ensures.value part (c.in_ok-turned.ensures.settled schema (fresh schema s) law)
-    (c.gained_in-gained.ensures.value schema s)
-    (c.in_ok-settled.ensures.settled schema (fresh schema s) law) c.gifts_in-given.ensures.value
-    (c.in_ok-settled.ensures.held schema (fresh schema s) law) in
-    omega (arith, is.whole, is.holds)
+    let f = c.args.field.0 in
+    let all_is : c.in-Some.all ≡ (c.from.result + c.gained_in-gained.result) + c.settled_of-settled.result.1 =
+    omega (arith, c.in-Some.ensures) in
+    let own_is : c.saturating_sub-own.result
+    ≡ ((c.from.result + c.gained_in-gained.result) + c.settled_of-settled.result.1) - c.settled_of-settled.result.0 - c.gifts_in-given.result =
+    omega (arith, all_is, c.saturating_sub.ensures, c.saturating_sub-own.ensures) in
+    (rights_are schema s f c.args.kind c.args.standing.now es lawful was c.sites.result c.from.result c.settled_of-settled.result.1
+    c.gained_in-gained.result c.settled_of-settled.result.0 c.gifts_in-given.result c.held_by-held.result c.saturating_sub-own.result
+    c.saturating_sub-2.result c.deref.result.now c.deref-2.result.now c.deref-3.result.now c.sites.ensures.value c.deref.ensures.value
+    c.deref-2.ensures.value c.deref-3.ensures.value (c.from.ensures ∙ c.part_at.ensures.value)
+    (c.settled_of-settled.ensures.turned f es was) (c.settled_of-settled.ensures.settled f es was)
+    (c.gained_in-gained.ensures.value schema s) c.gifts_in-given.ensures.value c.held_by-held.ensures.value own_is
+    c.saturating_sub-2.ensures).1

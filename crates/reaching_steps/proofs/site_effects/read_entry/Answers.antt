@@ -1,24 +1,22 @@
-use Rattle.reaching_steps.proofs.Reading.{reads_there, reads_here}
+use Rattle.std.proofs.Common.{refl}
+use Rattle.reaching_steps.specs.Told.{doubt_kept_in, Reads, ReadsOwn}
 use Rattle.reaching_steps.proofs.Growing.{on_ok}
-use Rattle.std.proofs.Common.{◌≡◌, refl, reverse}
-use Rattle.field_bounds.specs.Effects.{fresh, after}
-use Rattle.reaching_steps.specs.Told.{doubt_kept_in, Reads}
+use Rattle.reaching_steps.proofs.Reading.{reads_there, reads_here}
 use Rattle.reaching_steps.proofs.site_effects.read_entry.Goals as goal
 
 pub returns-then-entry-site : goal.returns-then-entry-site
 returns-then-entry-site c = record {
-  read = reads_there c.args.schema.now c.args.site.0 _ _ c.args.entry.now c.args.later.now
-      c.if-entry-site.true refl;
+  read = reads_there c.args.schema.now c.args.site.0 c.args.field.0 _ _ c.args.entry.now c.args.later.now c.if-entry-site.true refl;
 }
 
 pub returns : goal.returns
 returns c =
     record {
       read = on_ok c.read_own.result
-          (reverse c.read_own.new.told.items ≡ after (fresh c.args.schema.now c.args.site.0)
-          (doubt_kept_in c.args.site.0 c.args.later.now) c.args.entry.now.command c.args.entry.now.reply
-          (reverse c.args.told.now.items))
-          (Reads c.args.schema.now c.args.site.0 c.args.told.now.items c.args.entry.now c.args.later.now c.read_own.new.told.items)
-          (λ did. reads_here c.args.schema.now c.args.site.0 c.args.told.now.items c.read_own.new.told.items c.args.entry.now
+          (ReadsOwn c.args.schema.now c.args.site.0 c.args.field.0 c.args.standing.now c.args.entry.now
+          (doubt_kept_in c.args.site.0 c.args.later.now) c.read_own.new.standing)
+          (Reads c.args.schema.now c.args.site.0 c.args.field.0 c.args.standing.now c.args.entry.now c.args.later.now
+          c.read_own.new.standing)
+          (λ did. reads_here c.args.schema.now c.args.site.0 c.args.field.0 c.args.standing.now c.read_own.new.standing c.args.entry.now
           c.args.later.now c.if-entry-site.false did) c.read_own.ensures.read;
     }

@@ -1,0 +1,75 @@
+use Rattle.std.proofs.Common.{◌≡◌, eqb, refl, subst, sym}
+use Rattle.field_bounds.specs.declared.effect.Effect.{Effect}
+use Rattle.field_bounds.specs.declared.effect.Effect.TheVariants.{Grants, Gives, Accepts}
+use Rattle.reaching_steps.specs.Standing.{pushed, Notes}
+use Rattle.reaching_steps.proofs.Growing.{on_ok}
+use Rattle.reaching_steps.proofs.Standings.{notes_begin, notes_grant, notes_abort, notes_give, notes_accept, notes_stop}
+use Rattle.reaching_steps.proofs.standing.note.Goals as goal
+
+pub returns-in_ok-push-in-Begins : goal.returns-in_ok-push-in-Begins
+returns-in_ok-push-in-Begins c = record {
+  noted = rw c.in-Begins.is
+      (notes_begin c.args.field.0 c.args.standing.now (record c.args.standing.now { txns = c.push.new.self }) c.in-Begins.txn
+      c.in_ok-push-in-Begins.ensures.items refl refl refl refl);
+}
+
+pub returns-in-Grants : goal.returns-in-Grants
+returns-in-Grants c =
+    let f = c.args.field.0 in
+    let had = c.args.standing.now in
+    let i = c.in-Grants in
+    let more = c.push_on.new.list in
+    record {
+      noted = on_ok c.push_on.result (more.items ≡ pushed (eqb i.at.0 f) had.held.items (Grants i.txn i.at i.change))
+          (Notes f had c.args.effect (record had { held = more }))
+          (λ is. subst (λ (e : Effect). Notes f had e (record had { held = more })) (sym i.is)
+          (notes_grant f had (record had { held = more }) i.txn i.at i.change refl is refl refl refl))
+          c.push_on.ensures.pushed;
+    }
+
+pub returns-in-Commits : goal.returns-in-Commits
+returns-in-Commits c = record { noted = rw c.in-Commits.is c.commit.ensures.noted }
+
+pub returns-in-Aborts : goal.returns-in-Aborts
+returns-in-Aborts c = record {
+  noted = rw c.in-Aborts.is
+      (notes_abort c.args.field.0 c.args.standing.now c.end.new.standing c.in-Aborts.txn c.end.ensures.ids c.end.ensures.held
+      c.end.ensures.gifts c.end.ensures.sums.0 c.end.ensures.sums.1);
+}
+
+pub returns-in-Gives : goal.returns-in-Gives
+returns-in-Gives c =
+    let f = c.args.field.0 in
+    let had = c.args.standing.now in
+    let i = c.in-Gives in
+    let more = c.push_on-in-Gives.new.list in
+    record {
+      noted = on_ok c.push_on-in-Gives.result (more.items ≡ pushed (eqb i.at.0 f) had.gifts.items (Gives i.to i.at i.kind i.amount))
+          (Notes f had c.args.effect (record had { gifts = more }))
+          (λ is. subst (λ (e : Effect). Notes f had e (record had { gifts = more })) (sym i.is)
+          (notes_give f had (record had { gifts = more }) i.to i.at i.kind i.amount refl refl refl refl is))
+          c.push_on-in-Gives.ensures.pushed;
+    }
+
+pub returns-in-Accepts : goal.returns-in-Accepts
+returns-in-Accepts c =
+    let f = c.args.field.0 in
+    let had = c.args.standing.now in
+    let i = c.in-Accepts in
+    let more = c.push_on-in-Accepts.new.list in
+    record {
+      noted = on_ok c.push_on-in-Accepts.result
+          (more.items ≡ pushed (eqb i.at.0 f) had.gifts.items (Accepts i.from i.at i.kind i.total))
+          (Notes f had c.args.effect (record had { gifts = more }))
+          (λ is. subst (λ (e : Effect). Notes f had e (record had { gifts = more })) (sym i.is)
+          (notes_accept f had (record had { gifts = more }) i.from i.at i.kind i.total refl refl refl refl is))
+          c.push_on-in-Accepts.ensures.pushed;
+    }
+
+pub returns-in-Stops : goal.returns-in-Stops
+returns-in-Stops c = record {
+  noted = rw c.in-Stops.is
+      (notes_stop c.args.field.0 c.args.standing.now
+      (record c.args.standing.now { txns = c.clear.new.self; held = c.clear-in-Stops.new.self })
+      c.clear.ensures.items c.clear-in-Stops.ensures.items refl refl refl);
+}
