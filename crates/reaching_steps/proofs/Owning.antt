@@ -10,7 +10,7 @@ use Rattle.field_bounds.specs.Schema.{SchemaValue}
 use Rattle.field_bounds.specs.Limits.{IsSchema}
 use Rattle.field_bounds.specs.Parts.{sum_below, part_of, field_at}
 use Rattle.field_bounds.specs.declared.effect.Effect.{Effect}
-use Rattle.field_bounds.specs.Effects.{fresh, granted_sizes, gifts, is_to, total_given, cut, total_accepted, share, held_rights, own_rights, is_committed, is_open}
+use Rattle.field_bounds.specs.Effects.{fresh, granted_sizes, gifts, is_to, cut, total_accepted, share, held_rights, own_rights, is_committed, is_open}
 use Rattle.field_bounds.specs.Owed.{max_change, max_total}
 use Rattle.field_bounds.specs.Central.{own, at_site, committed_value, given_between, IsSound}
 use Rattle.field_bounds.proofs.Steps.{granted-same}

@@ -1,14 +1,12 @@
 -- A trace is read from its oldest entry on.
-use Rattle.std.proofs.Common.{◌≡◌, ◌≢◌, ℕ, suc, ◌+◌, ◌-◌, ◌<◌, Bool, true, false, not, cond, eqb, List, [], ◌∷◌, ◌++◌, take, drop, reverse, length, get_or, refl, sym, ◌∙◌, ap, subst, arith, inl, inr, Some, None}
-use Rattle.std.specs.Prelude.{ℤ, Option}
+use Rattle.std.proofs.Common.{◌≡◌, ◌≢◌, ℕ, suc, ◌+◌, ◌-◌, ◌<◌, Bool, true, false, not, cond, eqb, List, [], ◌∷◌, ◌++◌, take, drop, reverse, length, get_or, refl, sym, ◌∙◌, ap, subst, arith, Some, None}
+use Rattle.std.specs.Prelude.{Option}
 use Rattle.std.proofs.Math.Seq.{take-suc, take-length}
-use Rattle.std.proofs.lemmas.Bool.{cases_Bool, eq-eqb, ne_eqb, eqb-true}
+use Rattle.std.proofs.lemmas.Bool.{eq-eqb, ne_eqb}
 use Rattle.std.proofs.lemmas.List.{reverse-append, take-append-drop, drop_more, length-drop}
 use Rattle.field_bounds.specs.declared.kind.Kind.{Kind}
 use Rattle.field_bounds.specs.declared.id.SiteNo.{SiteNo}
 use Rattle.field_bounds.specs.declared.id.FieldNo.{FieldNo}
-use Rattle.field_bounds.specs.declared.id.TxnId.{TxnId}
-use Rattle.field_bounds.specs.declared.entry.Statement.{Statement}
 use Rattle.field_bounds.specs.declared.entry.Command.{Command}
 use Rattle.field_bounds.specs.declared.entry.Command.TheVariants.{Begin, Escrow, Commit, Abort, Give, Restate, Spare, Tighten, Accept, Read, Share, Restart}
 use Rattle.field_bounds.specs.declared.entry.Reply.{Reply}
@@ -26,7 +24,7 @@ use Rattle.field_bounds.proofs.Traces.{own_here, own_there, sound_front}
 use Rattle.reaching_steps.specs.declared.standing.Standing.{Standing}
 use Rattle.reaching_steps.specs.Standing.{Stands, Notes}
 use Rattle.reaching_steps.proofs.Standings.{notes_give}
-use Rattle.reaching_steps.specs.Told.{doubt_kept_in, wanted_by, spared_for, is_elsewhere, ends_doubt, Reads, ReadsOwn, Puts}
+use Rattle.reaching_steps.specs.Told.{doubt_kept_in, wanted_by, is_elsewhere, Reads, ReadsOwn, Puts}
 
 -- ---- one entry of a site
 

@@ -1,6 +1,6 @@
 -- What is kept of a site on one field, effect by effect.
-use Rattle.std.proofs.Common.{◌≡◌, ◌≢◌, ℕ, ◌+◌, ◌<◌, ◌≤◌, max, Bool, true, false, not, ◌&&◌, ◌||◌, cond, eqb, List, [], ◌∷◌, ◌++◌, filter, reverse, drop, length, get_or, refl, sym, ◌∙◌, ap, subst, arith, inl, inr, Some, None}
-use Rattle.std.proofs.lemmas.Bool.{cases_Bool, or_left, or_right}
+use Rattle.std.proofs.Common.{◌≡◌, ℕ, ◌+◌, ◌<◌, max, Bool, true, false, not, ◌&&◌, ◌||◌, cond, eqb, List, [], ◌∷◌, ◌++◌, filter, reverse, drop, length, get_or, refl, sym, ◌∙◌, ap, subst, arith, Some}
+use Rattle.std.proofs.lemmas.Bool.{or_left, or_right}
 use Rattle.std.specs.Prelude.{ℤ, unsigned_abs, Option}
 use Rattle.std.proofs.lemmas.List.{drop_more, append-nil, reverse-append}
 use Rattle.std.proofs.lemmas.List.Elements.{filter-append}
@@ -13,7 +13,7 @@ use Rattle.field_bounds.specs.Kind.{kind_of, same_kind}
 use Rattle.field_bounds.specs.Schema.{SchemaValue}
 use Rattle.field_bounds.specs.declared.effect.Effect.{Effect}
 use Rattle.field_bounds.specs.declared.effect.Effect.TheVariants.{Begins, Grants, Commits, Aborts, Gives, Accepts, Stops}
-use Rattle.field_bounds.specs.Effects.{Base, fresh, same_txn, is_begun, is_committed, is_dropped, is_open, begun_txns, open_txns, granted_sizes, held_rights, gifts, total_accepted}
+use Rattle.field_bounds.specs.Effects.{Base, fresh, same_txn, is_begun, is_committed, is_dropped, is_open, begun_txns, open_txns, granted_sizes, gifts, total_accepted}
 use Rattle.field_bounds.proofs.Lawful.{IsLawful, open_parts, same_txn-true}
 use Rattle.field_bounds.proofs.Steps.{granted-or, granted-same, weigh_none, same_txn-sym, fate_here, new_is_unused}
 use Rattle.field_bounds.proofs.Stops.{closed_by_stop, stop_closes_all}

@@ -1,5 +1,4 @@
-use Rattle.std.proofs.Common.{◌≡◌, ◌<◌, ◌≤◌, ◌∙◌, ℕ, sym, ap, subst, length, get_or, slice_set, arith}
-use Rattle.reaching_steps.specs.declared.standing.Standing.{Standing}
+use Rattle.std.proofs.Common.{◌<◌, ◌≤◌, ℕ, sym, subst, length, get_or, slice_set, arith}
 use Rattle.reaching_steps.specs.Told.{doubt_kept_in, AllRead, ReadsOwn}
 use Rattle.reaching_steps.proofs.Growing.{on_ok}
 use Rattle.reaching_steps.proofs.OnePass.{read_past, read_one}

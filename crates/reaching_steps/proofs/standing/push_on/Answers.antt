@@ -1,4 +1,4 @@
-use Rattle.std.proofs.Common.{◌∙◌, Bool, sym, ap, cond, List, ◌++◌, ◌∷◌, []}
+use Rattle.std.proofs.Common.{◌∙◌, Bool, sym, ap, cond, ◌++◌, ◌∷◌, []}
 use Rattle.std.proofs.lemmas.Bool.{eq-eqb, ne_eqb}
 use Rattle.reaching_steps.proofs.standing.push_on.Goals as goal
 
