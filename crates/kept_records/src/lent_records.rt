@@ -107,8 +107,8 @@ impl<'a> LentRecords<'a> {
         self.left.len()
     }
 
-    /// The escrows of the commit that was taken last, where no other record was taken since. Takes
-    /// no memory.
+    /// The escrows of the commit that `next_common` took, where neither it nor `next_line` was called
+    /// since. Takes no memory.
     #[inline(always)]
     pub fn escrows(&self) -> &[Escrow]
         ensures all { result.now ≡ self.now.escrows }
@@ -130,8 +130,9 @@ impl<'a> LentRecords<'a> {
         Some(next)
     }
 
-    /// The record that `next_common` told, where no other was taken since: a commit takes the escrows
-    /// that were lent with it, and `give_back` gives their memory back. Takes no memory.
+    /// The record that `next_common` told, where neither it nor `next_line` was called since: a
+    /// commit takes the escrows that were lent with it, and `give_back` gives their memory back.
+    /// Takes no memory.
     #[inline(always)]
     pub fn whole(&mut self, alloc: Global, told: CommonRecord) -> Record
         ensures whole { result ≡ record_told told self.old.escrows }

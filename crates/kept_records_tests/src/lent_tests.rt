@@ -50,7 +50,7 @@ fn same_fronts(alloc: Global, lines: &[&str]) -> Option<bool> {
 }
 
 /// Lines whose numbers have each length up to the longest, beside the ends of the ranges.
-const NUMBERS: [&str; 13] = [
+const NUMBERS: [&str; 16] = [
     "C 1 12 0 -1 7 12\n",
     "C 12 123 65 123 654 -1234\n",
     "C 123 1234 6553 -12345 0 123456\n",
@@ -63,6 +63,9 @@ const NUMBERS: [&str; 13] = [
     "G 12 345 l 1234567\n",
     "A 123 4567 r 12345678\n",
     "T 12345 l 1234567890123456\n",
+    "G 1 0 l 12345678901234567\n",
+    "A 1 0 r 123456789012345678\n",
+    "G 2 3 r 999999999999999999\n",
     "R 12345678\n",
 ];
 

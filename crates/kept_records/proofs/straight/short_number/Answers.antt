@@ -1,5 +1,5 @@
-use Rattle.std.proofs.Common.{refl, true, ◌≡◌, ℕ, ◌+◌, ◌<◌, ◌≤◌, ◌^◌, ◌*◌, length, take, get_or, sym, ◌∙◌, arith}
-use Rattle.std.specs.Str.Parse.{digits_value}
+use Rattle.std.proofs.Common.{refl, true, ◌≡◌, ℕ, ◌+◌, ◌<◌, ◌≤◌, ◌^◌, ◌*◌, length, take, get_or, sym, ap, subst, ◌∙◌, arith}
+use Rattle.std.specs.Str.Parse.{digits_value, AllDigits}
 use Rattle.std.proofs.lemmas.Int.Digits.{digits_value_more, digits_more}
 use Rattle.line_words.proofs.Numbers.{digit_is}
 use Rattle.kept_records.proofs.Digits.{spelled, one_digit, short_below}
@@ -9,13 +9,13 @@ pub loop-count-init : goal.loop-count-init
 loop-count-init c =
     let w = c.args.bytes.now in
     let is = sym c.if-not-is_ascii_digit.ensures.value in
-    let some : 0 < length w = omega (arith, c.if-bytes-lt-SHORT.false) in
+    let some : 0 < length w = omega (arith, c.requires.room) in
     let one = one_digit w some is in
     let d = digit_is (get_or w 0 0) is in
     record {
       some = omega arith;
       within = omega arith;
-      room = omega (arith, c.if-bytes-lt-SHORT.false);
+      room = omega (arith, c.requires.room);
       first = λ zero. c.if-value-eq0.false (omega (arith, c.from-value.ensures, zero));
       digits = one.0;
       value_is = omega (arith, c.from-value.ensures, one.1);
@@ -51,7 +51,20 @@ returns-then-not-is_ascii_digit-2-clause-spelled c =
 pub returns-then-value-eq0-clause-spelled : goal.returns-then-value-eq0-clause-spelled
 returns-then-value-eq0-clause-spelled c =
     let w = c.args.bytes.now in
-    let some : 0 < length w = omega (arith, c.if-bytes-lt-SHORT.false) in
+    let some : 0 < length w = omega (arith, c.requires.room) in
     let one = one_digit w some (sym c.if-not-is_ascii_digit.ensures.value) in
     spelled w 1 c.from-value.result (omega arith) (omega (arith, some)) one.0 (λ zero. refl) (omega (arith, one.1, c.from-value.ensures))
     (omega (arith, c.if-value-eq0.true))
+
+pub more_digits-requires : goal.more_digits-requires
+more_digits-requires c =
+    let was = c.loop-count.invariant in
+    let all : c.loop-count.count ≡ 8 = omega (arith, was.within, c.loop-count-test.false) in
+    record {
+      some = omega arith;
+      within = was.room;
+      first = was.first;
+      digits = subst (λ (n : ℕ). AllDigits 10 (take n c.args.bytes.now)) all was.digits;
+      value = was.value_is ∙ ap (λ (n : ℕ). digits_value 10 (take n c.args.bytes.now)) all;
+      small = omega (arith, was.below);
+    }

@@ -1,7 +1,6 @@
 use Rattle.std.proofs.Common.{◌≡◌, ◌-◌, ◌∷◌, [], ◌++◌, ℕ, List, length, sym, ap, subst, ◌∙◌, arith}
 use Rattle.std.specs.List.{flat_map}
 use Rattle.kept_records.specs.declared.record.Record.{Record}
-use Rattle.kept_records.specs.declared.record_lines.RecordLine.{RecordLine}
 use Rattle.kept_records.specs.Text.{text}
 use Rattle.kept_records.specs.Stands.{later, greatest}
 use Rattle.kept_records.specs.Lines.{IsRecordAt, HandsLine, Begins}

@@ -1,6 +1,6 @@
 use Rattle.std.proofs.Common.{◌≡◌, ◌≢◌, ◌<◌, ◌≤◌, ◌-◌, length, take, get_or}
 use Rattle.std.specs.Str.Parse.{digits_value, AllDigits}
-use Rattle.kept_records.proofs.straight.long_number.Given as goal
+use Rattle.kept_records.proofs.straight.more_digits.Given as goal
 
 abbrev pub invariant-loop-count : goal.invariant-loop-count
 invariant-loop-count l = record {
