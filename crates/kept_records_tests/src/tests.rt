@@ -587,11 +587,7 @@ fn records_are_appended_alone(rt: HostRuntime) {
     let found = (
         appended_alone(alloc, &mut medium, &GIFT),
         committed(alloc, &mut medium),
-        holds(
-            alloc,
-            &mut medium,
-            "G 1 0 l 5\nC 100 9999 99 -10000 10 9\n",
-        ),
+        holds(alloc, &mut medium, "G 1 0 l 5\nC 100 9999 99 -10000 10 9\n"),
     );
     assert_eq!(rt; found, (Some(true), Some(true), true));
 }
@@ -613,10 +609,7 @@ fn restart_is(alloc: Global, epoch: u32, wanted: &str) -> bool
     requires some { 0 < epoch }
     requires most { epoch ≤ max_epoch }
 {
-    is_text(
-        write_record(alloc, &Record::Restart { epoch }).ok(),
-        wanted,
-    )
+    is_text(write_record(alloc, &Record::Restart { epoch }).ok(), wanted)
 }
 
 #[test]
