@@ -143,8 +143,9 @@ fn cut_command(schema: &Schema, line: &[u8]) -> Option<(SiteNo, Command)>
 /// The site and the command that the line, without its LF, spells under the schema. The site may
 /// lie outside the schema. None where the line spells no command.
 ///
-/// Costs a pass over the line and at most one look-up in a map, or twice that where the line spells
-/// no command, and no memory.
+/// Costs a pass over the line and at most one look-up in a map, and no memory; twice that where the
+/// line spells no command, one of a restate, a spare or a restart, a number of 20 digits, or a field
+/// by its number.
 pub fn read_command(schema: &Schema, line: &[u8]) -> Option<(SiteNo, Command)>
     ensures found { IfSome result (λ asked. line.now ≡ command_text schema.now asked.0 asked.1) }
     ensures fits { IfSome result (λ asked. SiteFits asked.0 × CommandFits asked.1) }

@@ -61,8 +61,9 @@ fn whole_entry(fields: &Fields<'_>, line: &[u8]) -> Option<Entry>
 /// Any command may stand beside any reply, and the site may lie outside the schema. None where the
 /// line spells no entry.
 ///
-/// Costs a pass over the line and at most one look-up in a map, or twice that where the line spells
-/// no entry, and no memory.
+/// Costs a pass over the line and at most one look-up in a map, and no memory; twice that where the
+/// line spells no entry, or a command that `read_command` reads twice, and a pass more over a reply
+/// that is none.
 pub fn read_entry(schema: &Schema, line: &[u8]) -> Option<Entry>
     ensures found { IfSome result (λ entry. line.now ≡ entry_text schema.now entry) }
     ensures fits { IfSome result EntryFits }

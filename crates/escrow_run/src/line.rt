@@ -195,7 +195,8 @@ fn is_taken(schema: &Schema, asked: Line) -> bool
 }
 
 /// What a line behind the header, without its LF, asks of a world, or None where it asks nothing.
-/// Costs a pass over the line, and two more over a command that is torn, and no memory.
+/// Costs a pass over the line, and no memory; three more over a command that is torn, and four more
+/// where the line begins with a number and asks nothing.
 pub(crate) fn read_line(world: &World, line: &[u8]) -> Option<Line>
     ensures found { IfSome result (IsAsked world.now.schema line.now) }
     ensures none { IfNone result (IsBad world.now.schema line.now) }

@@ -20,9 +20,10 @@ pub fn behind<'a>(bytes: &'a [u8], text: &str) -> Option<&'a [u8]>
     Some(&bytes[text.len()..])
 }
 
-/// A number that the bytes begin with, 0 to 9,999,999,999,999,999,999, and what follows it. At most
-/// 19 digits are read, and none behind a 0 in front, so that what follows may begin with a digit.
-/// None where no digit is in front. Costs a pass over the digits, and no memory.
+/// A number that the bytes begin with, 0 to 9,999,999,999,999,999,999, and what follows it, which may
+/// begin with a digit: at most 19 digits are read, and none behind a 0 in front. None tells nothing,
+/// nor does where the number ends: who has to know reads the word (`read_number`). Costs a pass over
+/// the digits, and no memory.
 #[inline(always)]
 pub fn first_number(bytes: &[u8]) -> Option<(u64, &[u8])>
     ensures cut { IfSome result (λ n. bytes.now ≡ decimal n.0 ++ n.1.now) }
@@ -45,8 +46,7 @@ fn digit_and(bytes: &[u8], mark: u8) -> Option<(u64, &[u8])>
 }
 
 /// A number that the bytes begin with, as of `first_number`, and what follows the mark behind it.
-/// None where no digit is in front, or another byte than the mark follows. Costs a pass over the
-/// digits, and no memory.
+/// None tells nothing. Costs a pass over the digits, and no memory.
 #[inline(always)]
 pub fn number_and(bytes: &[u8], mark: u8) -> Option<(u64, &[u8])>
     ensures cut { IfSome result (λ n. bytes.now ≡ decimal n.0 ++ mark ∷ n.1.now) }
@@ -61,9 +61,8 @@ pub fn number_and(bytes: &[u8], mark: u8) -> Option<(u64, &[u8])>
 }
 
 /// A number with a sign that the bytes begin with, -9,223,372,036,854,775,808 to
-/// 9,223,372,036,854,775,807, and what follows it, as of `first_number`. None where no digit is in
-/// front, nor a minus and a digit, and where the number is out of range. Costs a pass over the
-/// digits, and no memory.
+/// 9,223,372,036,854,775,807, and what follows it, as of `first_number`. None, as for `-0`, tells
+/// nothing. Costs a pass over the digits, and no memory.
 #[inline(always)]
 pub fn first_signed(bytes: &[u8]) -> Option<(i64, &[u8])>
     ensures cut { IfSome result (λ z. bytes.now ≡ signed_decimal z.0 ++ z.1.now) }

@@ -123,3 +123,80 @@ fn takes_texts(rt: HostRuntime) -> Result<(), Fail> {
     assert!(rt; !words.take_text(""));
     Ok(())
 }
+
+/// Whether this number was read, with this behind it.
+fn is_read(read: Option<(u64, &[u8])>, number: u64, rest: &str) -> bool {
+    match read {
+        Some((found, behind)) => found == number && behind == rest.as_bytes(),
+        None => false,
+    }
+}
+
+#[test]
+fn reads_numbers_in_front(rt: HostRuntime) -> Result<(), Fail> {
+    assert!(rt;
+        is_read(
+            first_number(b"9999999999999999999 x"),
+            9999999999999999999,
+            " x"
+        )
+    );
+    assert!(rt;
+        is_read(
+            first_number(b"1000000000000000000"),
+            1000000000000000000,
+            ""
+        )
+    );
+    assert!(rt; is_read(first_number(b"7"), 7, ""));
+    assert!(rt; is_read(first_number(b"01"), 0, "1"));
+    assert!(rt; first_number(b"x1").is_none());
+    assert!(rt; first_number(b"").is_none());
+    assert!(rt; is_read(number_and(b"5.6", b'.'), 5, "6"));
+    assert!(rt; is_read(number_and(b"123 x", b' '), 123, "x"));
+    assert!(rt; is_read(number_and(b"0 ", b' '), 0, ""));
+    assert!(rt; number_and(b"12x", b' ').is_none());
+    assert!(rt; number_and(b"12", b' ').is_none());
+    Ok(())
+}
+
+/// Whether this number with a sign was read, with this behind it.
+fn is_signed(read: Option<(i64, &[u8])>, number: i64, rest: &str) -> bool {
+    match read {
+        Some((found, behind)) => found == number && behind == rest.as_bytes(),
+        None => false,
+    }
+}
+
+#[test]
+fn reads_signed_numbers_in_front(rt: HostRuntime) -> Result<(), Fail> {
+    assert!(rt;
+        is_signed(
+            first_signed(b"-9223372036854775808 x"),
+            -9223372036854775808,
+            " x"
+        )
+    );
+    assert!(rt;
+        is_signed(
+            first_signed(b"9223372036854775807"),
+            9223372036854775807,
+            ""
+        )
+    );
+    assert!(rt; is_signed(first_signed(b"-1 "), -1, " "));
+    assert!(rt; is_signed(first_signed(b"0"), 0, ""));
+    assert!(rt; first_signed(b"-0").is_none());
+    assert!(rt; first_signed(b"-").is_none());
+    assert!(rt; first_signed(b"9223372036854775808").is_none());
+    Ok(())
+}
+
+#[test]
+fn tells_what_follows_a_text(rt: HostRuntime) -> Result<(), Fail> {
+    assert!(rt; is_word(behind(b"read stock", "read "), "stock"));
+    assert!(rt; is_word(behind(b"read", "read"), ""));
+    assert!(rt; behind(b"rea", "read").is_none());
+    assert!(rt; behind(b"reap", "read").is_none());
+    Ok(())
+}

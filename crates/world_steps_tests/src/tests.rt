@@ -73,6 +73,28 @@ fn each_call(rt: HostRuntime) {
     assert_eq!(rt; shows_gift(&world), [true; 6]);
 }
 
+/// Asks a site a command with no step made of it; the step fits.
+fn ask(rt: &impl Abort, alloc: Global, world: &mut World, site: u16, command: Command) -> Reply {
+    assert!(rt; steps_fit(world.schema(), &[fine(site, command)]));
+    world
+        .do_fine(alloc, SiteNo(site), command)
+        .expect(rt, "memory")
+}
+
+#[test]
+fn a_command_is_asked(rt: HostRuntime) {
+    let mut world = fresh(&rt, rt.alloc());
+    let delivered = take_step(&rt, rt.alloc(), &mut world, DELIVER);
+    assert_eq!(rt; delivered, StepReply::NoStatement);
+    let given = ask(&rt, rt.alloc(), &mut world, 0, GIVE_FIVE);
+    assert_eq!(rt; given, Reply::Given { total: 5 });
+    assert_eq!(rt; shows_gift(&world), [true; 6]);
+    let read = ask(&rt, rt.alloc(), &mut world, 1, READ);
+    assert_eq!(rt; read, Reply::Between { lo: 20, hi: 70 });
+    let steps = world.steps(rt.alloc()).expect(&rt, "memory");
+    assert!(rt; steps.as_slice() == [DELIVER, fine(0, GIVE_FIVE), fine(1, READ)].as_slice());
+}
+
 #[test]
 fn which_steps_fit(rt: HostRuntime) {
     let schema = stock_of_two(rt.alloc()).expect(&rt, "memory");
