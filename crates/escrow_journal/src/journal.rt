@@ -34,7 +34,7 @@ pub struct Journal {
 }
 
 impl Model for Journal {
-    ghost use Rattle.std.specs.Prelude.{List};
+    ghost use Rattle.std.specs.Prelude.{◌≤◌, List, vec_capacity};
     ghost use Rattle.escrow_journal.specs.Journal.{Row, IsJournal};
     ghost use Rattle.escrow_journal.specs.Kept.{rows_of};
 
@@ -42,7 +42,7 @@ impl Model for Journal {
 
     ghost view = { λ j. rows_of j.rows.items };
 
-    ghost invariant = { λ j. IsJournal (rows_of j.rows.items) };
+    ghost invariant = { λ j. IsJournal (rows_of j.rows.items) × (vec_capacity j.spare ≤ 4) };
 }
 
 /// A look through so many rows costs no more than a guess.
@@ -190,11 +190,13 @@ impl Journal {
     /// Takes the memory of a list of escrows, as `take_out` answers them, for those of the next
     /// transaction that begins: so many small transactions, one after another, take it once. No
     /// more is kept than one memory, of at most 4 escrows, which any first escrow would take;
-    /// other memory is given back. Changes no row.
+    /// other memory is given back. A list that never took memory leaves what is kept as it was.
+    /// Changes no row.
     pub fn reuse(&mut self, escrows: Vec<Escrow>)
         ensures same { self.new ≡ self.old }
     {
-        if escrows.capacity() <= SPARE {
+        let capacity = escrows.capacity();
+        if 0 < capacity && capacity <= SPARE {
             self.spare = escrows;
         }
     }

@@ -1,5 +1,6 @@
 use super::*;
 use field_bounds::{Escrow, FieldNo, MAX_ESCROWS, MAX_OPEN, TxnId};
+use std::alloc::Global;
 
 const FIRST: TxnId = TxnId {
     epoch: 0,
@@ -69,6 +70,19 @@ fn begun_anew(journal: &mut Journal, from: TxnId, txn: TxnId) -> Option<usize> {
     Some(journal.escrows(txn)?.len())
 }
 
+/// A list with room for so many escrows is left to the journal, or None where memory was refused.
+fn left(journal: &mut Journal, alloc: Global, room: usize) -> Option<()> {
+    let escrows: Vec<Escrow> = Vec::with_capacity(alloc, room).ok()?;
+    journal.reuse(escrows);
+    Some(())
+}
+
+/// For how many escrows the next transaction has memory when it begins. It is taken out again.
+fn room_at_begin(journal: &mut Journal) -> Option<usize> {
+    begun(journal, THIRD)?;
+    Some(journal.take_out(THIRD)?.capacity())
+}
+
 #[test]
 fn memory_is_used_again(rt: HostRuntime) {
     let mut journal = Journal::new(rt.alloc());
@@ -76,6 +90,16 @@ fn memory_is_used_again(rt: HostRuntime) {
     assert_eq!(rt; begun_anew(&mut journal, FIRST, THIRD), Some(1));
     assert_eq!(rt; escrow_at(&journal, THIRD, 0), Some(RAISE));
     assert_eq!(rt; escrow_at(&journal, SECOND, 0), None);
+}
+
+#[test]
+fn small_memory_alone_is_kept(rt: HostRuntime) {
+    let mut journal = Journal::new(rt.alloc());
+    assert_eq!(rt; left(&mut journal, rt.alloc(), 4), Some(()));
+    assert_eq!(rt; left(&mut journal, rt.alloc(), 0), Some(()));
+    assert_eq!(rt; room_at_begin(&mut journal), Some(4));
+    assert_eq!(rt; left(&mut journal, rt.alloc(), 5), Some(()));
+    assert_eq!(rt; room_at_begin(&mut journal), Some(0));
 }
 
 #[test]
