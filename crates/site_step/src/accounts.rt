@@ -3,7 +3,6 @@
 ghost use Rattle.std.specs.Prelude.{◌≡◌, true, []};
 ghost use Rattle.kept_records.specs.declared.record.Record.TheVariants.{Restart};
 ghost use Rattle.kept_records.specs.Text.{IsRecord};
-ghost use Rattle.site_rights.specs.declared.field_rights.Outcome.TheVariants.{Committed, Aborted};
 ghost use Rattle.site_rights.specs.Rights.{ending, by_escrows, AreInRange, AreHeld};
 ghost use Rattle.escrow_journal.specs.Journal.{is_listed, escrows_at, without};
 ghost use Rattle.log_replay.specs.Standing.{HasSlots, CanTakeIn, TakesIn};
@@ -24,32 +23,19 @@ pub(crate) struct Accounts {
     pub last: u32,
 }
 
-/// Takes an open transaction out of the journal and gives back what it holds.
-fn close(journal: &mut Journal, rights: &mut Rights, txn: TxnId)
+/// Takes an open transaction out of the journal, and ends what it holds: it is given back, or it
+/// turns.
+fn end(journal: &mut Journal, rights: &mut Rights, txn: TxnId, outcome: Outcome)
     requires open { is_listed txn journal.old ≡ true }
     requires in_schema { AreInRange rights.old (escrows_at txn journal.old) }
     requires there { AreHeld rights.old (escrows_at txn journal.old) }
     ensures journal { journal.new ≡ without txn journal.old }
-    ensures rights { rights.new ≡ by_escrows (ending Aborted) rights.old
+    ensures rights { rights.new ≡ by_escrows (ending outcome) rights.old
         (escrows_at txn journal.old) }
 {
     let escrows = journal.take_out(txn).unwrap();
-    rights.end(&escrows, Outcome::Aborted);
+    rights.end(&escrows, outcome);
     journal.reuse(escrows);
-}
-
-/// Takes an open transaction out of the journal, and turns what it holds.
-fn turn(journal: &mut Journal, rights: &mut Rights, txn: TxnId)
-    requires open { is_listed txn journal.old ≡ true }
-    requires in_schema { AreInRange rights.old (escrows_at txn journal.old) }
-    requires there { AreHeld rights.old (escrows_at txn journal.old) }
-    ensures journal { journal.new ≡ without txn journal.old }
-    ensures rights { rights.new ≡ by_escrows (ending Committed) rights.old
-        (escrows_at txn journal.old) }
-{
-    let held = journal.take_out(txn).unwrap();
-    rights.end(&held, Outcome::Committed);
-    journal.reuse(held);
 }
 
 impl Accounts {
@@ -58,7 +44,12 @@ impl Accounts {
         requires can { CanClose self.old txn }
         ensures released { self.new ≡ after_release txn self.old }
     {
-        close(&mut self.journal, &mut self.standing.rights, txn);
+        end(
+            &mut self.journal,
+            &mut self.standing.rights,
+            txn,
+            Outcome::Aborted,
+        );
     }
 
     /// Ends an open transaction whose commit was appended: what it holds turns. That is what
@@ -67,7 +58,12 @@ impl Accounts {
         requires can { CanClose self.old txn }
         ensures spent { self.new ≡ after_spending txn self.old }
     {
-        turn(&mut self.journal, &mut self.standing.rights, txn);
+        end(
+            &mut self.journal,
+            &mut self.standing.rights,
+            txn,
+            Outcome::Committed,
+        );
     }
 
     /// Does what a command does that writes no record: an end releases its transaction.
