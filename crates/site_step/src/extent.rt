@@ -31,11 +31,7 @@ pub(crate) struct Extent {
 pub(crate) fn behind_next(behind: u64) -> u64
     ensures value { result ≡ if nat_le max_behind (behind + 1) then 0 else behind + 1 }
 {
-    if behind >= MAX_BEHIND - 1 {
-        0
-    } else {
-        behind + 1
-    }
+    if is_due(behind) { 0 } else { behind + 1 }
 }
 
 /// Whether a summary is due behind the next record, with so many records behind the last.
@@ -61,7 +57,7 @@ pub(crate) fn due_behind(
         → MayFollowNext schema.now standing.now rs next.now → behind ≡ since_summary rs →
         with_due next.now due ≡ piece schema.now standing.now.ledger.site rs next.now) }
 {
-    if behind < MAX_BEHIND - 1 {
+    if !is_due(behind) {
         return Ok(None);
     }
     let due = summary_after(alloc, schema, standing, next)?;
