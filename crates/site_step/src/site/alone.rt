@@ -13,9 +13,11 @@ use kept_records::{Medium, Record, append_record};
 use std::alloc::{AllocError, Global};
 
 impl<M: Medium, H: History<Entry>> Site<M, H> {
-    // Does what `write` does. A summary that isn't due has over 100 bytes, which it moves from call
-    // to call: so where none is, this doesn't speak of one. It stands in one piece because the site
-    // isn't sound between its parts.
+    /// Carries out this record of a command, once it stands whole, and adds the command's entry, as
+    /// `write` does. Costs less than that where no summary is due behind the record, as mostly.
+    // A summary that isn't due has over 100 bytes, which `write` moves from call to call: so where
+    // none is, this doesn't speak of one. It stands in one piece because the site isn't sound
+    // between its parts.
     pub(super) fn keep(
         &mut self,
         alloc: Global,

@@ -12,9 +12,13 @@ use kept_records::{Escrows, Medium, Record, append_commit};
 use std::alloc::{AllocError, Global};
 
 impl<M: Medium, H: History<Entry>> Site<M, H> {
-    // Commits are most of what is written: so one with escrows does what `write` does, but where a
-    // summary is due behind it, with no record made of its escrows and with one step for each. It
-    // stands in one piece because the site isn't sound between its parts.
+    /// Commits an open transaction and adds the command's entry. Where it has escrows, its record is
+    /// appended, and what they hold turns once the record stands whole; where it has none, nothing
+    /// is written.
+    // Commits are most of what is written. So where no summary is due behind the record, it is
+    // written from the escrows where they stand, with no list made of them and one step for each;
+    // where one is due, `write` does it. It stands in one piece because the site isn't sound between
+    // its parts.
     pub(super) fn commit(&mut self, alloc: Global, txn: TxnId) -> Result<Reply, AllocError>
         requires unrefused { first (refusals (here self.old) (Command.Commit txn)) ≡ None }
         ensures ok { IfOk result (λ reply. Applies self.old (Command.Commit txn) reply self.new) }
