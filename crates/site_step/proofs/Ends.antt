@@ -21,7 +21,7 @@ use Rattle.kept_state.specs.Luck.{doubt_after, record_length}
 use Rattle.kept_state.proofs.Adding.{adds_answer, keeps_length}
 use Rattle.site_step.specs.declared.accounts.Accounts.{Accounts}
 use Rattle.site_step.specs.declared.extent.Extent.{Extent}
-use Rattle.site_step.specs.Site.{SiteValue, base_of, here, entry_of, Holds, lines_of, Finds, Applies}
+use Rattle.site_step.specs.Site.{SiteValue, base_of, here, entry_of, Holds, Finds, Applies}
 use Rattle.site_step.specs.Replaying.{downs_since, downs_before}
 use Rattle.site_step.proofs.Holding.{plain_fewer, same_told, holds_all}
 use Rattle.site_step.specs.State.{StandsOn, IsSoundSite}

@@ -3,7 +3,7 @@ use Rattle.std.proofs.Common.{◌≡◌, ℕ, ◌+◌, ◌<◌, ◌≤◌, Bool,
 use Rattle.std.specs.Prelude.{not, nat_le, if◌then◌else◌}
 use Rattle.std.specs.List.{flat_map, AllByRecursion}
 use Rattle.std.proofs.lemmas.Bool.{cases_lt, lt-leb, le-leb}
-use Rattle.std.proofs.lemmas.List.{append-nil, length-append}
+use Rattle.std.proofs.lemmas.List.{append-nil}
 use Rattle.std.proofs.lemmas.List.Concat.{flat_map-append}
 use Rattle.std.proofs.lemmas.List.Elements.{filter-append}
 use Rattle.field_bounds.specs.Schema.{SchemaValue}
@@ -13,13 +13,12 @@ use Rattle.kept_records.specs.declared.record.Record.TheVariants.{Commit, Gift, 
 use Rattle.kept_records.specs.Summary.{SummaryValue, summary_record}
 use Rattle.kept_records.specs.Text.{text, IsRecord}
 use Rattle.kept_records.specs.Logs.{IsLog}
-use Rattle.kept_records.specs.Stands.{greatest, is_summary, plain, count_behind, since_summary, max_behind, piece, summary_of, may_follow, LawfulBehind, Lawful}
+use Rattle.kept_records.specs.Stands.{greatest, is_summary, plain, since_summary, max_behind, piece, summary_of, may_follow, LawfulBehind, Lawful}
 use Rattle.kept_records.specs.Summaries.{SameSums, LeavesPrefix}
-use Rattle.kept_records.proofs.Lines.{same_log, all_push, flat_push}
+use Rattle.kept_records.proofs.Lines.{same_log, all_push}
 use Rattle.kept_records.proofs.Pushes.{lawful_push}
 use Rattle.kept_records.proofs.Pieces.{leaves_front}
-use Rattle.kept_records.proofs.Summaries.{same_sums, same_summary_push, plain_same, plain_lawful, piece_lawful, since_push, since_one}
-use Rattle.site_step.specs.State.{starts_with_summary}
+use Rattle.kept_records.proofs.Summaries.{same_sums, same_summary_push, plain_same, piece_lawful, since_push, since_one}
 use Rattle.log_replay.proofs.Rising.{summary_fits}
 use Rattle.site_step.specs.Site.{Holds}
 use Rattle.site_step.specs.Resuming.{Leaves}

@@ -15,7 +15,6 @@ use Rattle.kept_state.proofs.Keeping.{run_owns, run_gives, run_cuts, run_accepts
 use Rattle.kept_state.proofs.Epochs.{up_epoch}
 use Rattle.kept_state.proofs.Sure.{keeps_up}
 use Rattle.log_replay.specs.Standing.{IsOther}
-use Rattle.kept_records.specs.declared.record.Record.{Record}
 use Rattle.kept_records.specs.Stands.{plain}
 use Rattle.kept_records.proofs.Summaries.{own_same, plain_same}
 use Rattle.site_step.specs.declared.accounts.Accounts.{Accounts}

@@ -34,11 +34,10 @@ use Rattle.kept_state.specs.declared.luck.Luck.{Luck}
 use Rattle.kept_state.specs.declared.luck.Luck.TheVariants.{Fine, Torn}
 use Rattle.kept_state.specs.Keeps.{Keeps, adds}
 use Rattle.kept_records.specs.Keeping.{is_record_behind}
-use Rattle.kept_records.specs.ReadingBack.{told_length, AreBehind}
+use Rattle.kept_records.specs.ReadingBack.{AreBehind}
 use Rattle.kept_state.specs.Doubt.{IsDoubt, found_of}
 use Rattle.kept_state.specs.Luck.{restart_length, owed_with}
 use Rattle.kept_records.proofs.Pushes.{greatest_push}
-use Rattle.kept_state.proofs.Lasting.{run_stays_lawful}
 use Rattle.kept_state.proofs.Keeping.{run_gives, run_cuts, run_accepts, run_restarts}
 use Rattle.kept_state.proofs.Epochs.{restart_fits, refused_fits}
 use Rattle.kept_state.proofs.Sure.{keeps_sure}
@@ -51,9 +50,9 @@ use Rattle.site_step.specs.Site.{SiteValue, base_of, here, entry_of, mishap_of, 
 use Rattle.site_step.specs.State.{row_of, StandsOn, IsSoundSite, ReachesAll}
 use Rattle.site_step.specs.Resuming.{next_restart, next_piece, found_by, Leaves, HasRead, FailsOver, FullOver, StandsOver}
 use Rattle.site_step.proofs.Standing.{stands_refused}
-use Rattle.site_step.specs.Replaying.{ReplaysFailed, downs_since, downs_before}
+use Rattle.site_step.specs.Replaying.{ReplaysFailed, downs_before}
 use Rattle.site_step.specs.Anew.{IsStoodFor}
-use Rattle.site_step.proofs.Holding.{greatest_plain, holds_all, same_told, plain_piece, piece_same, all_lawful, left_plain, left_holds}
+use Rattle.site_step.proofs.Holding.{greatest_plain, holds_all, same_told, plain_piece, piece_same, all_lawful, left_plain}
 use Rattle.site_step.proofs.Extents.{reach_all, reach_next, reach_more, behind_is, count_more, last_is}
 use Rattle.site_step.proofs.Resumes.{restart_may}
 use Rattle.site_step.proofs.Writes.{stands_as}

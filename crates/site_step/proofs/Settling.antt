@@ -1,5 +1,5 @@
 -- What an answer leaves as it was, and what the ladder says of a reply that fits.
-use Rattle.std.proofs.Common.{◌≡◌, ℕ, Bool, true, false, ◌&&◌, List, [], ◌∷◌, ◌++◌, refl, sym, ap, ◌∙◌, inl, inr, arith, Option, Some, None}
+use Rattle.std.proofs.Common.{◌≡◌, ℕ, Bool, true, false, ◌&&◌, List, [], ◌∷◌, refl, sym, ap, ◌∙◌, inl, inr, arith, Option, Some, None}
 use Rattle.std.specs.Prelude.{if◌then◌else◌, Result, Ok, Err, IsOk, IfOk, OnOk, IsSome, is_some}
 use Rattle.field_bounds.specs.declared.entry.Command.{Command}
 use Rattle.field_bounds.specs.declared.entry.Command.TheVariants.{Begin, Escrow, Restart}

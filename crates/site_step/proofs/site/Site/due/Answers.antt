@@ -1,4 +1,3 @@
-use Rattle.std.specs.Prelude.{Ok, Err, Result}
 use Rattle.site_step.proofs.Calls.{record_fits, record_plain, can_due, due_is, due_fits}
 use Rattle.site_step.proofs.Settling.{ok_is}
 use Rattle.site_step.proofs.site.Site.due.Goals as goal

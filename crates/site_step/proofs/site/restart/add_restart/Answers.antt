@@ -1,5 +1,4 @@
-use Rattle.std.proofs.Common.{rules, ℕ, ◌+◌, Some, ap, ◌∙◌, arith}
-use Rattle.std.specs.List.{flat_map}
+use Rattle.std.proofs.Common.{rules, ℕ, ◌+◌, ap, ◌∙◌, arith}
 use Rattle.kept_records.specs.ReadingBack.{told_length}
 use Rattle.site_step.proofs.Resumes.{next_over, due_over, due_over_fits, stands_over, fails_over}
 use Rattle.site_step.proofs.site.restart.add_restart.Goals as goal

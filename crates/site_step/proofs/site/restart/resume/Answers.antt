@@ -5,7 +5,6 @@ use Rattle.kept_records.specs.ReadingBack.{AreBehind}
 use Rattle.log_replay.specs.Standing.{IsStandingFor}
 use Rattle.kept_records.specs.Logs.{IsLog}
 use Rattle.kept_records.proofs.Lines.{same_log}
-use Rattle.site_step.specs.Resuming.{IsReplayed}
 use Rattle.site_step.proofs.Resumes.{end_of, unread_fails, read_fate, read_stays, resumes_from}
 use Rattle.site_step.proofs.Settling.{ok_is}
 use Rattle.site_step.proofs.site.restart.resume.Goals as goal
