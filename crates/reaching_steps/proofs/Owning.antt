@@ -15,7 +15,7 @@ use Rattle.field_bounds.specs.Owed.{max_change, max_total}
 use Rattle.field_bounds.specs.Central.{own, at_site, committed_value, given_between, IsSound}
 use Rattle.field_bounds.proofs.Steps.{granted-same}
 use Rattle.reaching_steps.specs.declared.standing.Standing.{Standing}
-use Rattle.reaching_steps.specs.Standing.{is_of, Stands}
+use Rattle.reaching_steps.specs.Standing.{is_of, held_sizes, Tells}
 use Rattle.field_bounds.proofs.Sums.{sum_below-zero, sum_below-same}
 use Rattle.field_bounds.proofs.Lawful.{IsLawful}
 use Rattle.field_bounds.proofs.Shares.{balance, gains_split}
@@ -42,20 +42,31 @@ owned_is schema s es lawful f k =
       sum_below-zero schema.sites,
     )
 
+-- what an open transaction holds, and what is settled, fits
+pub held_fits : (f : ℕ) (had : Standing) (es : List Effect) → Tells f had es
+    → (held_sizes (is_of None) Lower had.held.items ≤ 340282366920938463463374607431768211455)
+    × (held_sizes (is_of None) Raise had.held.items ≤ 340282366920938463463374607431768211455)
+held_fits f had es tells = (omega (arith, tells.few, tells.short), omega (arith, tells.few, tells.short))
+
+pub settled_fits : (f : ℕ) (k : Kind) (had : Standing) (es : List Effect) → Tells f had es → (settled : ℕ)
+    → settled ≡ granted_sizes (λ id. is_committed id es) f k es → settled ≤ 170141183460469231731687303715884105728
+settled_fits f Lower had es tells settled is = omega (arith, is, tells.lowered, tells.few, tells.short)
+settled_fits f Raise had es tells settled is = omega (arith, is, tells.raised, tells.few, tells.short)
+
 -- the rights, from what is kept of the site
 pub rights_are : (schema : SchemaValue) (s f : ℕ) (k : Kind) (had : Standing) (es : List Effect) → IsLawful schema (fresh schema s) es
-    → Stands f had es → (sites part turned gained settled gone held_ own_ free : ℕ) (held_l gone_l gained_l : List Effect)
-    → sites ≡ schema.sites → held_l ≡ had.held.items → gone_l ≡ had.gifts.items → gained_l ≡ had.gifts.items
+    → Tells f had es → (sites part turned gained settled gone held_ own_ free : ℕ) (gone_l gained_l : List Effect)
+    → sites ≡ schema.sites → gone_l ≡ had.gifts.items → gained_l ≡ had.gifts.items
     → part ≡ part_of schema s f k → turned ≡ granted_sizes (λ id. is_committed id es) f (other k) es
     → settled ≡ granted_sizes (λ id. is_committed id es) f k es
     → gained ≡ sum_below sites (λ from. total_accepted (fresh schema s) from f k gained_l)
-    → gone ≡ gifts (λ _. true) f k gone_l → held_ ≡ granted_sizes (is_of None) f k held_l
+    → gone ≡ gifts (λ _. true) f k gone_l → held_ ≡ held_sizes (is_of None) k had.held.items
     → own_ ≡ ((part + gained) + turned) - settled - gone → free ≡ own_ - held_
     → (own_ ≡ own_rights (fresh schema s) f k es) × (free ≡ share (fresh schema s) f k es)
-rights_are schema s f k had es lawful stands sites part turned gained settled gone held_ own_ free held_l gone_l gained_l sites_is held_l_is
+rights_are schema s f k had es lawful stands sites part turned gained settled gone held_ own_ free gone_l gained_l sites_is
     gone_l_is gained_l_is part_is turned_is settled_is gained_is gone_is held_is own_is free_is =
     let held_all : held_ ≡ held_rights f k es =
-    held_is ∙ ap (λ (l : List Effect). granted_sizes (is_of None) f k l) held_l_is ∙ stands.held (is_of None) k
+    held_is ∙ stands.held (is_of None) k
     ∙ granted-same schema (fresh schema s) (λ id. is_open id es && true) (λ id. is_open id es) f k es lawful
     (λ id there. same (is_open id es)) in
     let gone_all : gone ≡ gifts (λ _. true) f k es =

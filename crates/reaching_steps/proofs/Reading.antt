@@ -1,5 +1,5 @@
 -- A trace is read from its oldest entry on.
-use Rattle.std.proofs.Common.{◌≡◌, ◌≢◌, ℕ, suc, ◌+◌, ◌-◌, ◌<◌, Bool, true, false, not, cond, eqb, List, [], ◌∷◌, ◌++◌, take, drop, reverse, length, get_or, refl, sym, ◌∙◌, ap, subst, arith, Some, None}
+use Rattle.std.proofs.Common.{◌≡◌, ◌≢◌, ℕ, suc, ◌+◌, ◌-◌, ◌<◌, ◌≤◌, Bool, true, false, not, cond, eqb, List, [], ◌∷◌, ◌++◌, take, drop, reverse, length, get_or, refl, sym, ◌∙◌, ap, subst, arith, Some, None}
 use Rattle.std.specs.Prelude.{Option}
 use Rattle.std.proofs.Math.Seq.{take-suc, take-length}
 use Rattle.std.proofs.lemmas.Bool.{eq-eqb, ne_eqb}
@@ -17,12 +17,12 @@ use Rattle.field_bounds.specs.declared.effect.Effect.TheVariants.{Gives}
 use Rattle.field_bounds.specs.Schema.{SchemaValue}
 use Rattle.field_bounds.specs.Effects.{Base, fresh, share, spare_amount, counts, effect_of, with_effect, after, doubt_kept_before, effects}
 use Rattle.field_bounds.specs.Owed.{is_unsure}
-use Rattle.field_bounds.specs.Central.{own, IsSound}
+use Rattle.field_bounds.specs.Central.{own, at_site, IsSound}
 use Rattle.field_bounds.proofs.Lawful.{IsLawful}
 use Rattle.field_bounds.proofs.Runs.{run_is_lawful}
 use Rattle.field_bounds.proofs.Traces.{own_here, own_there, sound_front}
 use Rattle.reaching_steps.specs.declared.standing.Standing.{Standing}
-use Rattle.reaching_steps.specs.Standing.{Stands, Notes}
+use Rattle.reaching_steps.specs.Standing.{Tells, Stands, Notes}
 use Rattle.reaching_steps.proofs.Standings.{notes_give}
 use Rattle.reaching_steps.specs.Told.{doubt_kept_in, wanted_by, is_elsewhere, Reads, ReadsOwn, Puts}
 
@@ -99,27 +99,63 @@ own_elsewhere schema s f had e kept unsure off = λ es lawful next was.
     (spared_off f schema base kept e.command es had off
     (subst (λ (r : Reply). IsLawful schema base (after base kept e.command r es)) is next) was)
 
+-- an entry takes nothing back
+pub no_shorter : (b : Bool) (found : Option Effect) (es : List Effect) → length es ≤ length (with_effect b found es)
+no_shorter b None es = omega arith
+no_shorter true (Some d) es = omega arith
+no_shorter false (Some d) es = omega arith
+
+-- an effect an entry, at most
+pub effects_few : (base : Base) (kept : Bool) (o : List Entry) → length (effects base kept o) ≤ length o
+effects_few base kept [] = omega arith
+effects_few base kept (e ∷ o) =
+    let es = effects base (doubt_kept_before kept e.reply) o in
+    omega (
+      arith,
+      effects_few base (doubt_kept_before kept e.reply) o,
+      one_more (counts kept e.reply) (effect_of base es e.command e.reply) es,
+    )
+  where
+    one_more : (b : Bool) (found : Option Effect) (es : List Effect) → length (with_effect b found es) ≤ suc (length es)
+    one_more b None es = omega arith
+    one_more true (Some d) es = omega arith
+    one_more false (Some d) es = omega arith
+
+own_few : (s : ℕ) (t : List Entry) → length (own s t) ≤ length t
+own_few s [] = omega arith
+own_few s (e ∷ t) = by (eqb e.site.0 s) (own_few s t)
+  where
+    by : (b : Bool) → length (own s t) ≤ length t → length (cond b (e ∷ own s t) (own s t)) ≤ suc (length t)
+    by true h = omega (arith, h)
+    by false h = omega (arith, h)
+
+pub site_few : (schema : SchemaValue) (s : ℕ) (t : List Entry) → length (at_site schema t s) ≤ length t
+site_few schema s t = omega (arith, effects_few (fresh schema s) false (own s t), own_few s t)
+
 -- it does nothing
 pub own_nothing : (schema : SchemaValue) (s f : ℕ) (had : Standing) (e : Entry) (kept : Bool)
-    → ((es : List Effect) → IsLawful schema (fresh schema s) es → Stands f had es
+    → ((es : List Effect) → IsLawful schema (fresh schema s) es → Tells f had es
     → None ≡ effect_of (fresh schema s) es e.command e.reply) → ReadsOwn schema s f had e kept had
-unfolding ReadsOwn
-own_nothing schema s f had e kept none = λ es lawful next was.
-    subst (λ (l : List Effect). Stands f had l)
-    (ap (λ (found : Option Effect). with_effect (counts kept e.reply) found es) (none es lawful was)) was
+unfolding ReadsOwn Stands
+own_nothing schema s f had e kept none = λ es lawful next was few.
+    let here = was (omega (arith, few, no_shorter (counts kept e.reply) (effect_of (fresh schema s) es e.command e.reply) es)) in
+    subst (λ (l : List Effect). Tells f had l)
+    (ap (λ (found : Option Effect). with_effect (counts kept e.reply) found es) (none es lawful here)) here
 
 -- it does this
 pub own_noted : (schema : SchemaValue) (s f : ℕ) (had more : Standing) (e : Entry) (kept : Bool) (d : Effect) → counts kept e.reply ≡ true
-    → ((es : List Effect) → IsLawful schema (fresh schema s) es → Stands f had es
+    → ((es : List Effect) → IsLawful schema (fresh schema s) es → Tells f had es
     → Some d ≡ effect_of (fresh schema s) es e.command e.reply) → Notes f had d more → ReadsOwn schema s f had e kept more
-unfolding ReadsOwn Notes
-own_noted schema s f had more e kept d on some notes = λ es lawful next was.
+unfolding ReadsOwn Notes Stands
+own_noted schema s f had more e kept d on some notes = λ es lawful next was few.
     let base = fresh schema s in
+    let here = was (omega (arith, few, no_shorter (counts kept e.reply) (effect_of base es e.command e.reply) es)) in
     let is : d ∷ es ≡ after base kept e.command e.reply es =
     ap (λ (b : Bool). with_effect b (Some d) es) (sym on)
-    ∙ ap (λ (found : Option Effect). with_effect (counts kept e.reply) found es) (some es lawful was) in
-    subst (λ (l : List Effect). Stands f more l) is
-    (notes schema base es (subst (λ (l : List Effect). IsLawful schema base l) (sym is) next) was)
+    ∙ ap (λ (found : Option Effect). with_effect (counts kept e.reply) found es) (some es lawful here) in
+    subst (λ (l : List Effect). Tells f more l) is
+    (notes schema base es (subst (λ (l : List Effect). IsLawful schema base l) (sym is) next) was
+    (subst (λ (l : List Effect). length l ≤ 18446744073709551615) (sym is) few))
 
 -- ---- one that ends no doubt
 

@@ -1,6 +1,6 @@
 -- What is kept of a site on one field, effect by effect.
-use Rattle.std.proofs.Common.{◌≡◌, ℕ, ◌+◌, ◌<◌, max, Bool, true, false, not, ◌&&◌, ◌||◌, cond, eqb, List, [], ◌∷◌, ◌++◌, filter, reverse, drop, length, get_or, refl, sym, ◌∙◌, ap, subst, arith, Some}
-use Rattle.std.proofs.lemmas.Bool.{or_left, or_right}
+use Rattle.std.proofs.Common.{◌≡◌, ◌≢◌, ℕ, zero, suc, ◌+◌, ◌*◌, ◌<◌, ◌≤◌, max, Bool, true, false, not, ◌&&◌, ◌||◌, cond, eqb, List, [], ◌∷◌, ◌++◌, filter, reverse, drop, length, get_or, slice_set, refl, sym, ◌∙◌, ap, subst, arith, Some}
+use Rattle.std.proofs.lemmas.Bool.{or_left, or_right, eq-eqb, ne_eqb}
 use Rattle.std.specs.Prelude.{ℤ, unsigned_abs, Option}
 use Rattle.std.proofs.lemmas.List.{drop_more, append-nil, reverse-append}
 use Rattle.std.proofs.lemmas.List.Elements.{filter-append}
@@ -17,8 +17,9 @@ use Rattle.field_bounds.specs.Effects.{Base, fresh, same_txn, is_begun, is_commi
 use Rattle.field_bounds.proofs.Lawful.{IsLawful, open_parts, same_txn-true}
 use Rattle.field_bounds.proofs.Steps.{granted-or, granted-same, weigh_none, same_txn-sym, fate_here, new_is_unused}
 use Rattle.field_bounds.proofs.Stops.{closed_by_stop, stop_closes_all}
+use Rattle.reaching_steps.specs.declared.standing.Held.{Held}
 use Rattle.reaching_steps.specs.declared.standing.Standing.{Standing}
-use Rattle.reaching_steps.specs.Standing.{is_of, is_held_by, pushed, Stands, Notes}
+use Rattle.reaching_steps.specs.Standing.{is_of, size_in, counted_of, held_sizes, pushed, Grows, Tells, Stands, Notes}
 use Rattle.reaching_steps.proofs.Sites.{same_txn-refl}
 
 -- ---- lists
@@ -162,30 +163,124 @@ granted_none f k (Gives to field kind amount ∷ es) = granted_none f k es
 granted_none f k (Accepts from field kind total ∷ es) = granted_none f k es
 granted_none f k (Stops ∷ es) = granted_none f k es
 
--- without the escrows of one transaction
-granted_without : (t : TxnId) (q : TxnId → Bool) (f : ℕ) (k : Kind) (l : List Effect)
-    → granted_sizes q f k (filter (λ (e : Effect). not (is_held_by t e)) l)
-    ≡ granted_sizes (λ id. not (same_txn id t) && q id) f k l
-granted_without t q f k [] = refl
-granted_without t q f k (Grants txn field change ∷ l) =
-    by (same_txn txn t) (granted_without t q f k l)
+-- without what one transaction holds
+held_without : (t : TxnId) (q : TxnId → Bool) (k : Kind) (l : List Held)
+    → held_sizes q k (filter (λ (row : Held). not (same_txn row.txn t)) l) ≡ held_sizes (λ id. not (same_txn id t) && q id) k l
+held_without t q k [] = refl
+held_without t q k (row ∷ l) = by (same_txn row.txn t) (held_without t q k l)
   where
-    kept : List Effect
-    kept = filter (λ (e : Effect). not (is_held_by t e)) l
+    kept : List Held
+    kept = filter (λ (row : Held). not (same_txn row.txn t)) l
 
-    by : (s : Bool) → granted_sizes q f k kept ≡ granted_sizes (λ id. not (same_txn id t) && q id) f k l
-        → granted_sizes q f k (cond (not s) (Grants txn field change ∷ kept) kept)
-        ≡ cond (eqb field.0 f && same_kind (kind_of change) k && (not s && q txn)) (unsigned_abs change) 0
-        + granted_sizes (λ id. not (same_txn id t) && q id) f k l
-    by true rest =
-        omega (arith, rest, weigh_none (eqb field.0 f && same_kind (kind_of change) k) false (unsigned_abs change) refl)
+    by : (s : Bool) → held_sizes q k kept ≡ held_sizes (λ id. not (same_txn id t) && q id) k l
+        → held_sizes q k (cond (not s) (row ∷ kept) kept)
+        ≡ cond (not s && q row.txn) (size_in k row) 0 + held_sizes (λ id. not (same_txn id t) && q id) k l
+    by true rest = omega (arith, rest)
     by false rest = omega (arith, rest)
-granted_without t q f k (Begins txn ∷ l) = granted_without t q f k l
-granted_without t q f k (Commits txn ∷ l) = granted_without t q f k l
-granted_without t q f k (Aborts txn ∷ l) = granted_without t q f k l
-granted_without t q f k (Gives to field kind amount ∷ l) = granted_without t q f k l
-granted_without t q f k (Accepts from field kind total ∷ l) = granted_without t q f k l
-granted_without t q f k (Stops ∷ l) = granted_without t q f k l
+
+-- what it holds, and what the others hold
+held_split : (t : TxnId) (k : Kind) (l : List Held)
+    → held_sizes (λ id. not (same_txn id t) && true) k l + held_sizes (is_of (Some t)) k l ≡ held_sizes (λ _. true) k l
+held_split t k [] = refl
+held_split t k (row ∷ l) = by (same_txn row.txn t) (held_split t k l)
+  where
+    by : (s : Bool)
+        → held_sizes (λ id. not (same_txn id t) && true) k l + held_sizes (is_of (Some t)) k l ≡ held_sizes (λ _. true) k l
+        → (cond (not s && true) (size_in k row) 0 + held_sizes (λ id. not (same_txn id t) && true) k l)
+        + (cond s (size_in k row) 0 + held_sizes (is_of (Some t)) k l) ≡ size_in k row + held_sizes (λ _. true) k l
+    by true rest = omega (arith, rest)
+    by false rest = omega (arith, rest)
+
+held_left : (t : TxnId) (k : Kind) (l : List Held)
+    → held_sizes (λ _. true) k (filter (λ (row : Held). not (same_txn row.txn t)) l) + held_sizes (is_of (Some t)) k l
+    ≡ held_sizes (λ _. true) k l
+held_left t k l = omega (arith, held_without t (λ _. true) k l, held_split t k l)
+
+-- a row holds no more than all do
+pub held_row : (k : Kind) (l : List Held) (i : ℕ) (d : Held) → i < length l
+    → size_in k (get_or l i d) ≤ held_sizes (λ _. true) k l
+held_row k [] i d below = absurd (omega (arith, below))
+held_row k (row ∷ l) zero d below = omega arith
+held_row k (row ∷ l) (suc i) d below = omega (arith, held_row k l i d (omega (arith, below)))
+
+-- a row more in the place of one
+pub held_set : (q : TxnId → Bool) (k : Kind) (l : List Held) (i : ℕ) (d row : Held) → i < length l
+    → held_sizes q k (slice_set l i row) + counted_of q k (get_or l i d) ≡ held_sizes q k l + counted_of q k row
+held_set q k [] i d row below = absurd (omega (arith, below))
+held_set q k (x ∷ l) zero d row below = omega arith
+held_set q k (x ∷ l) (suc i) d row below = omega (arith, held_set q k l i d row (omega (arith, below)))
+
+held_push : (q : TxnId → Bool) (k : Kind) (l : List Held) (row : Held)
+    → held_sizes q k (l ++ row ∷ []) ≡ held_sizes q k l + counted_of q k row
+held_push q k [] row = omega arith
+held_push q k (x ∷ l) row = omega (arith, held_push q k l row)
+
+pub held_same : (q : TxnId → Bool) (k : Kind) {held more : List Held} → more ≡ held → held_sizes q k more ≡ held_sizes q k held
+held_same q k is = ap (λ (l : List Held). held_sizes q k l) is
+
+-- one that holds so much more
+more_counted : (b j : Bool) (x y n : ℕ) → y ≡ x + cond j n 0 → cond b y 0 ≡ cond b x 0 + cond (j && b) n 0
+more_counted true true x y n is = is
+more_counted true false x y n is = is
+more_counted false true x y n is = refl
+more_counted false false x y n is = refl
+
+pub grows_at : (t : TxnId) (kind : Kind) (n : ℕ) (held more : List Held) (i : ℕ) (old row : Held) → i < length held
+    → old ≡ get_or held i old → same_txn (get_or held i old).txn t ≡ true → row.txn ≡ old.txn
+    → (size_in kind old + n ≤ 340282366920938463463374607431768211455
+    → (k : Kind) → size_in k row ≡ size_in k old + cond (same_kind kind k) n 0)
+    → more ≡ slice_set held i row → Grows t kind n held more
+unfolding Grows
+grows_at t kind n held more i old row below found its txn_is sizes is = λ fits q k.
+    let room : size_in kind old ≤ held_sizes (λ _. true) kind held =
+    subst (λ (x : Held). size_in kind x ≤ held_sizes (λ _. true) kind held) (sym found) (held_row kind held i old below) in
+    let here = sizes (omega (arith, fits, room)) k in
+    let old_is : old.txn ≡ t = ap (λ (x : Held). x.txn) found ∙ same_txn-true (get_or held i old).txn t its in
+    let row_is : counted_of q k row ≡ cond (q t) (size_in k row) 0 =
+    ap (λ (x : TxnId). cond (q x) (size_in k row) 0) (txn_is ∙ old_is) in
+    let was_is : counted_of q k (get_or held i old) ≡ cond (q t) (size_in k old) 0 =
+    ap (λ (x : Held). counted_of q k x) (sym found) ∙ ap (λ (x : TxnId). cond (q x) (size_in k old) 0) old_is in
+    omega (
+      arith,
+      held_same q k is,
+      held_set q k held i old row below,
+      row_is,
+      was_is,
+      more_counted (q t) (same_kind kind k) (size_in k old) (size_in k row) n here,
+    )
+
+pub grows_first : (t : TxnId) (kind : Kind) (n : ℕ) (held more : List Held) (first row : Held) → first.txn ≡ t
+    → first.lower ≡ 0 → first.raise ≡ 0 → row.txn ≡ first.txn
+    → (size_in kind first + n ≤ 340282366920938463463374607431768211455
+    → (k : Kind) → size_in k row ≡ size_in k first + cond (same_kind kind k) n 0)
+    → more ≡ held ++ row ∷ [] → Grows t kind n held more
+unfolding Grows
+grows_first t kind n held more first row first_is low high txn_is sizes is = λ fits q k.
+    let none : (j : Kind) → size_in j first ≡ 0 = nothing in
+    let here = sizes (omega (arith, fits, none kind)) k in
+    let row_is : counted_of q k row ≡ cond (q t) (size_in k row) 0 =
+    ap (λ (x : TxnId). cond (q x) (size_in k row) 0) (txn_is ∙ first_is) in
+    omega (
+      arith,
+      held_same q k is,
+      held_push q k held row,
+      row_is,
+      more_counted (q t) (same_kind kind k) 0 (size_in k row) n (here ∙ ap (λ (x : ℕ). x + cond (same_kind kind k) n 0) (none k)),
+      cond_none (q t) 0 refl,
+    )
+  where
+    cond_none : (b : Bool) (m : ℕ) → m ≡ 0 → cond b m 0 ≡ 0
+    cond_none true m is = is
+    cond_none false m is = refl
+
+    nothing : (j : Kind) → size_in j first ≡ 0
+    nothing Lower = low
+    nothing Raise = high
+
+pub grows_as : (t : TxnId) (kind j : Kind) (n m : ℕ) (held more : List Held) → kind ≡ j → n ≡ m → Grows t kind n held more
+    → Grows t j m held more
+grows_as t kind j n m held more kind_is size_is grows =
+    subst (λ (k : Kind). Grows t k m held more) kind_is (subst (λ (x : ℕ). Grows t kind x held more) size_is grows)
 
 weigh_off : (a b c : Bool) (n : ℕ) → a ≡ false → cond (a && b && c) n 0 ≡ 0
 weigh_off true b c n h = cc
@@ -195,59 +290,99 @@ weigh_off false b c n h = refl
 
 pub notes_begin : (f : ℕ) (kept more : Standing) (t : TxnId) → more.txns.items ≡ kept.txns.items ++ t ∷ [] → more.held ≡ kept.held
     → more.raised ≡ kept.raised → more.lowered ≡ kept.lowered → more.gifts ≡ kept.gifts → Notes f kept (Begins t) more
-unfolding Notes
-notes_begin f kept more t ids_is held_is raised_is lowered_is gifts_is = λ schema base es lawful was.
+unfolding Notes Stands
+notes_begin f kept more t ids_is held_is raised_is lowered_is gifts_is = λ schema base es lawful before few.
+    let was = before (omega (arith, few)) in
     let unused = new_is_unused schema base t es lawful.0 lawful.1 in
     let opened : is_open t es ≡ true = rw (unused.uncommitted, unused.undropped) refl in
     record {
       ids = ap (λ (l : List TxnId). reverse l) ids_is ∙ reverse-append kept.txns.items (t ∷ [])
           ∙ ap (λ (l : List TxnId). t ∷ l) was.ids
           ∙ sym (ap (λ (b : Bool). cond b (t ∷ open_txns es) (open_txns es)) opened);
-      held = λ q k. ap (λ v. granted_sizes q f k v.items) held_is ∙ was.held q k;
+      held = λ q k. ap (λ v. held_sizes q k v.items) held_is ∙ was.held q k;
       raised = raised_is ∙ was.raised;
       lowered = lowered_is ∙ was.lowered;
       given = λ p k. ap (λ v. gifts p f k v.items) gifts_is ∙ was.given p k;
       accepted = λ x s from k. ap (λ v. total_accepted (fresh x s) from f k v.items) gifts_is ∙ was.accepted x s from k;
+      short = few;
+      few = let same = λ (k : Kind). ap (λ v. held_sizes (λ _. true) k v.items) held_is in
+          omega (arith, was.few, raised_is, lowered_is, same Raise, same Lower);
     }
 
-pub notes_grant : (f : ℕ) (kept more : Standing) (t : TxnId) (field : FieldNo) (x : ℤ) → more.txns ≡ kept.txns
-    → more.held.items ≡ pushed (eqb field.0 f) kept.held.items (Grants t field x)
+pub notes_grant : (f : ℕ) (kept more : Standing) (t : TxnId) (field : FieldNo) (x : ℤ) → field.0 ≡ f
+    → unsigned_abs x ≤ 9223372036854775808 → more.txns ≡ kept.txns
+    → Grows t (kind_of x) (unsigned_abs x) kept.held.items more.held.items
     → more.raised ≡ kept.raised → more.lowered ≡ kept.lowered → more.gifts ≡ kept.gifts → Notes f kept (Grants t field x) more
-unfolding Notes
-notes_grant f kept more t field x open_is held_is raised_is lowered_is gifts_is = λ schema base es lawful was.
+unfolding Notes Stands Grows
+notes_grant f kept more t field x at small open_is grows raised_is lowered_is gifts_is = λ schema base es lawful before few.
+    let was = before (omega (arith, few)) in
     let opened = lawful.1.opened in
     let fate = open_parts (is_committed t es) (is_dropped t es) opened in
     let none : (k : Kind) → cond (eqb field.0 f && same_kind (kind_of x) k && is_committed t es) (unsigned_abs x) 0 ≡ 0 =
     λ k. weigh_none (eqb field.0 f && same_kind (kind_of x) k) (is_committed t es) (unsigned_abs x) fate.0 in
+    let fits = all_fit (kind_of x) (length es) (unsigned_abs x) small (omega (arith, few)) was.few in
+    let grown = grows fits in
     record {
       ids = ap (λ v. reverse v.items) open_is ∙ was.ids;
-      held = λ q k. ap (λ (l : List Effect). granted_sizes q f k l) held_is ∙ by es q k opened (eqb field.0 f) refl (was.held q k);
+      held = λ q k. omega (
+        arith,
+        grown q k,
+        was.held q k,
+        by q k (eqb field.0 f) (is_open t es) (eq-eqb field.0 f at) opened,
+      );
       raised = omega (arith, raised_is, was.raised, none Raise);
       lowered = omega (arith, lowered_is, was.lowered, none Lower);
       given = λ p k. ap (λ v. gifts p f k v.items) gifts_is ∙ was.given p k;
       accepted = λ y s from k. ap (λ v. total_accepted (fresh y s) from f k v.items) gifts_is ∙ was.accepted y s from k;
+      short = few;
+      few = let one = one_kind (kind_of x) (unsigned_abs x) in
+          omega (arith, was.few, raised_is, lowered_is, grown (λ _. true) Raise, grown (λ _. true) Lower, one, small);
     }
   where
-    by : (es : List Effect) (q : TxnId → Bool) (k : Kind) → is_open t es ≡ true → (b : Bool) → eqb field.0 f ≡ b
-        → granted_sizes q f k kept.held.items ≡ granted_sizes (λ id. is_open id es && q id) f k es
-        → granted_sizes q f k (pushed b kept.held.items (Grants t field x))
-        ≡ cond (eqb field.0 f && same_kind (kind_of x) k && (is_open t es && q t)) (unsigned_abs x) 0
-        + granted_sizes (λ id. is_open id es && q id) f k es
-    by es q k opened true on was =
-        let here : cond (eqb field.0 f && same_kind (kind_of x) k && (is_open t es && q t)) (unsigned_abs x) 0
-        ≡ cond (eqb field.0 f && same_kind (kind_of x) k && q t) (unsigned_abs x) 0 =
-        ap (λ (b : Bool). cond (eqb field.0 f && same_kind (kind_of x) k && (b && q t)) (unsigned_abs x) 0) opened in
-        omega (arith, granted_push q f k (Grants t field x) kept.held.items, was, here)
-    by es q k opened false off was =
-        omega (arith, was, weigh_off (eqb field.0 f) (same_kind (kind_of x) k) (is_open t es && q t) (unsigned_abs x) off)
+    by : (q : TxnId → Bool) (k : Kind) (a o : Bool) → a ≡ true → o ≡ true
+        → cond (same_kind (kind_of x) k && q t) (unsigned_abs x) 0
+        ≡ cond (a && same_kind (kind_of x) k && (o && q t)) (unsigned_abs x) 0
+    by q k true true on opened = refl
+    by q k true false on opened = cc
+    by q k false o on opened = cc
+
+    one_kind : (j : Kind) (n : ℕ) → cond (same_kind j Raise && true) n 0 + cond (same_kind j Lower && true) n 0 ≡ n
+    one_kind Raise n = omega arith
+    one_kind Lower n = omega arith
+
+    all_fit : (j : Kind) (m n : ℕ) → n ≤ 9223372036854775808 → m ≤ 18446744073709551615
+        → kept.raised + kept.lowered + held_sizes (λ _. true) Raise kept.held.items + held_sizes (λ _. true) Lower kept.held.items
+        ≤ m * 9223372036854775808
+        → held_sizes (λ _. true) j kept.held.items + n ≤ 340282366920938463463374607431768211455
+    all_fit Raise m n small short h = omega (arith, small, short, h)
+    all_fit Lower m n small short h = omega (arith, small, short, h)
+
+-- a grant on another field
+pub notes_elsewhere : (f : ℕ) (kept : Standing) (t : TxnId) (field : FieldNo) (x : ℤ) → field.0 ≢ f → Notes f kept (Grants t field x) kept
+unfolding Notes Stands
+notes_elsewhere f kept t field x apart = λ schema base es lawful before few.
+    let was = before (omega (arith, few)) in
+    let off = ne_eqb field.0 f apart in
+    let none : (k : Kind) (b : Bool) → cond (eqb field.0 f && same_kind (kind_of x) k && b) (unsigned_abs x) 0 ≡ 0 =
+    λ k b. weigh_off (eqb field.0 f) (same_kind (kind_of x) k) b (unsigned_abs x) off in
+    record {
+      ids = was.ids;
+      held = λ q k. omega (arith, was.held q k, none k (is_open t es && q t));
+      raised = omega (arith, was.raised, none Raise (is_committed t es));
+      lowered = omega (arith, was.lowered, none Lower (is_committed t es));
+      given = was.given;
+      accepted = was.accepted;
+      short = few;
+      few = omega (arith, was.few);
+    }
 
 -- the transaction ends
 module _ (f : ℕ) (kept more : Standing) (t : TxnId)
     (ids_is : more.txns.items ≡ filter (λ (x : TxnId). not (same_txn x t)) kept.txns.items)
-    (held_is : more.held.items ≡ filter (λ (e : Effect). not (is_held_by t e)) kept.held.items)
+    (held_is : more.held.items ≡ filter (λ (row : Held). not (same_txn row.txn t)) kept.held.items)
     (gifts_is : more.gifts ≡ kept.gifts) where
   -- of an effect e after which those are open that were, but for the one
-  ended_ids : (e : Effect) (es : List Effect) → Stands f kept es → begun_txns (e ∷ es) ≡ begun_txns es
+  ended_ids : (e : Effect) (es : List Effect) → Tells f kept es → begun_txns (e ∷ es) ≡ begun_txns es
       → ((id : TxnId) → (is_open id es && not (same_txn id t)) ≡ is_open id (e ∷ es))
       → reverse more.txns.items ≡ open_txns (e ∷ es)
   ended_ids e es was begun same =
@@ -257,11 +392,11 @@ module _ (f : ℕ) (kept more : Standing) (t : TxnId)
       ∙ filter_begun (λ id. is_open id es && not (same_txn id t)) (λ id. is_open id (e ∷ es)) es (λ id there. same id)
       ∙ ap (λ (l : List TxnId). filter (λ id. is_open id (e ∷ es)) l) (sym begun)
 
-  ended_held : (schema : SchemaValue) (base : Base) (e : Effect) (es : List Effect) → IsLawful schema base es → Stands f kept es
+  ended_held : (schema : SchemaValue) (base : Base) (e : Effect) (es : List Effect) → IsLawful schema base es → Tells f kept es
       → ((id : TxnId) → (is_open id es && not (same_txn id t)) ≡ is_open id (e ∷ es)) → (q : TxnId → Bool) (k : Kind)
-      → granted_sizes q f k more.held.items ≡ granted_sizes (λ id. is_open id (e ∷ es) && q id) f k es
+      → held_sizes q k more.held.items ≡ granted_sizes (λ id. is_open id (e ∷ es) && q id) f k es
   ended_held schema base e es lawful was same q k =
-      ap (λ (l : List Effect). granted_sizes q f k l) held_is ∙ granted_without t q f k kept.held.items
+      held_same q k held_is ∙ held_without t q k kept.held.items
       ∙ was.held (λ id. not (same_txn id t) && q id) k
       ∙ granted-same schema base (λ id. is_open id es && (not (same_txn id t) && q id)) (λ id. is_open id (e ∷ es) && q id) f k es lawful
       (λ id there. both (is_open id es) (not (same_txn id t)) (q id) ∙ ap (λ (b : Bool). b && q id) (same id))
@@ -269,6 +404,10 @@ module _ (f : ℕ) (kept more : Standing) (t : TxnId)
       both : (a b c : Bool) → (a && (b && c)) ≡ ((a && b) && c)
       both true b c = refl
       both false b c = refl
+
+  left : (k : Kind)
+      → held_sizes (λ _. true) k more.held.items + held_sizes (is_of (Some t)) k kept.held.items ≡ held_sizes (λ _. true) k kept.held.items
+  left k = ap (λ (n : ℕ). n + held_sizes (is_of (Some t)) k kept.held.items) (held_same (λ _. true) k held_is) ∙ held_left t k kept.held.items
 
   commits_same : (es : List Effect) (id : TxnId) → (is_open id es && not (same_txn id t)) ≡ is_open id (Commits t ∷ es)
   commits_same es id =
@@ -295,8 +434,9 @@ module _ (f : ℕ) (kept more : Standing) (t : TxnId)
       by false false false = refl
 
   pub notes_abort : more.raised ≡ kept.raised → more.lowered ≡ kept.lowered → Notes f kept (Aborts t) more
-  unfolding Notes
-  notes_abort raised_is lowered_is = λ schema base es lawful was.
+  unfolding Notes Stands
+  notes_abort raised_is lowered_is = λ schema base es lawful before few.
+      let was = before (omega (arith, few)) in
       record {
         ids = ended_ids (Aborts t) es was refl (aborts_same es);
         held = ended_held schema base (Aborts t) es lawful.0 was (aborts_same es);
@@ -304,11 +444,20 @@ module _ (f : ℕ) (kept more : Standing) (t : TxnId)
         lowered = lowered_is ∙ was.lowered;
         given = λ p k. ap (λ v. gifts p f k v.items) gifts_is ∙ was.given p k;
         accepted = λ x s from k. ap (λ v. total_accepted (fresh x s) from f k v.items) gifts_is ∙ was.accepted x s from k;
+        short = few;
+        few = omega (
+          arith,
+          was.few,
+          raised_is,
+          lowered_is,
+          left Raise,
+          left Lower,
+        );
       }
 
-  settled : (schema : SchemaValue) (base : Base) (es : List Effect) → IsLawful schema base (Commits t ∷ es) → Stands f kept es
+  settled : (schema : SchemaValue) (base : Base) (es : List Effect) → IsLawful schema base (Commits t ∷ es) → Tells f kept es
       → (k : Kind) (before after : ℕ) → before ≡ granted_sizes (λ id. is_committed id es) f k es
-      → after ≡ before + granted_sizes (is_of (Some t)) f k kept.held.items
+      → after ≡ before + held_sizes (is_of (Some t)) k kept.held.items
       → after ≡ granted_sizes (λ id. is_committed id (Commits t ∷ es)) f k es
   settled schema base es lawful was k before after before_is after_is =
       omega (
@@ -328,10 +477,27 @@ module _ (f : ℕ) (kept more : Standing) (t : TxnId)
       by false s false is h = refl
       by false s true is h = h refl
 
-  pub notes_commit : more.raised ≡ kept.raised + granted_sizes (is_of (Some t)) f Raise kept.held.items
-      → more.lowered ≡ kept.lowered + granted_sizes (is_of (Some t)) f Lower kept.held.items → Notes f kept (Commits t) more
-  unfolding Notes
-  notes_commit raised_is lowered_is = λ schema base es lawful was.
+  -- the sums fit
+  fit : (es : List Effect) → length es ≤ 18446744073709551615 → Tells f kept es
+      → (kept.raised + held_sizes (is_of (Some t)) Raise kept.held.items ≤ 340282366920938463463374607431768211455)
+      × (kept.lowered + held_sizes (is_of (Some t)) Lower kept.held.items ≤ 340282366920938463463374607431768211455)
+  fit es short was =
+      let up = held_split t Raise kept.held.items in
+      let down = held_split t Lower kept.held.items in (
+        omega (arith, short, was.few, up, down),
+        omega (arith, short, was.few, up, down),
+      )
+
+  pub notes_commit : (kept.raised + held_sizes (is_of (Some t)) Raise kept.held.items ≤ 340282366920938463463374607431768211455
+      → more.raised ≡ kept.raised + held_sizes (is_of (Some t)) Raise kept.held.items)
+      → (kept.lowered + held_sizes (is_of (Some t)) Lower kept.held.items ≤ 340282366920938463463374607431768211455
+      → more.lowered ≡ kept.lowered + held_sizes (is_of (Some t)) Lower kept.held.items) → Notes f kept (Commits t) more
+  unfolding Notes Stands
+  notes_commit raised_so lowered_so = λ schema base es lawful before few.
+      let was = before (omega (arith, few)) in
+      let fits = fit es (omega (arith, few)) was in
+      let raised_is = raised_so fits.0 in
+      let lowered_is = lowered_so fits.1 in
       record {
         ids = ended_ids (Commits t) es was refl (commits_same es);
         held = ended_held schema base (Commits t) es lawful.0 was (commits_same es);
@@ -339,21 +505,27 @@ module _ (f : ℕ) (kept more : Standing) (t : TxnId)
         lowered = settled schema base es lawful was Lower kept.lowered more.lowered was.lowered lowered_is;
         given = λ p k. ap (λ v. gifts p f k v.items) gifts_is ∙ was.given p k;
         accepted = λ x s from k. ap (λ v. total_accepted (fresh x s) from f k v.items) gifts_is ∙ was.accepted x s from k;
+        short = few;
+        few = omega (arith, was.few, raised_is, lowered_is, left Raise, left Lower);
       }
 
 pub notes_give : (f : ℕ) (kept more : Standing) (to : Option SiteNo) (field : FieldNo) (kind : Kind) (n : ℕ) → more.txns ≡ kept.txns
     → more.held ≡ kept.held → more.raised ≡ kept.raised → more.lowered ≡ kept.lowered
     → more.gifts.items ≡ pushed (eqb field.0 f) kept.gifts.items (Gives to field kind n) → Notes f kept (Gives to field kind n) more
-unfolding Notes
-notes_give f kept more to field kind n open_is held_is raised_is lowered_is gifts_is = λ schema base es lawful was.
+unfolding Notes Stands
+notes_give f kept more to field kind n open_is held_is raised_is lowered_is gifts_is = λ schema base es lawful before few.
+    let was = before (omega (arith, few)) in
     record {
       ids = ap (λ v. reverse v.items) open_is ∙ was.ids;
-      held = λ q k. ap (λ v. granted_sizes q f k v.items) held_is ∙ was.held q k;
+      held = λ q k. ap (λ v. held_sizes q k v.items) held_is ∙ was.held q k;
       raised = raised_is ∙ was.raised;
       lowered = lowered_is ∙ was.lowered;
       given = λ p k. ap (λ (l : List Effect). gifts p f k l) gifts_is ∙ by p k (eqb field.0 f) refl (gifts p f k es) (was.given p k);
       accepted = λ x s from k. ap (λ (l : List Effect). total_accepted (fresh x s) from f k l) gifts_is
           ∙ taken x s from k (eqb field.0 f) ∙ was.accepted x s from k;
+      short = few;
+      few = let same = λ (k : Kind). ap (λ v. held_sizes (λ _. true) k v.items) held_is in
+          omega (arith, was.few, raised_is, lowered_is, same Raise, same Lower);
     }
   where
     by : (p : Option SiteNo → Bool) (k : Kind) (b : Bool) → eqb field.0 f ≡ b → (all : ℕ) → gifts p f k kept.gifts.items ≡ all
@@ -371,16 +543,20 @@ pub notes_accept : (f : ℕ) (kept more : Standing) (site : SiteNo) (field : Fie
     → more.held ≡ kept.held → more.raised ≡ kept.raised → more.lowered ≡ kept.lowered
     → more.gifts.items ≡ pushed (eqb field.0 f) kept.gifts.items (Accepts site field kind n)
     → Notes f kept (Accepts site field kind n) more
-unfolding Notes
-notes_accept f kept more site field kind n open_is held_is raised_is lowered_is gifts_is = λ schema base es lawful was.
+unfolding Notes Stands
+notes_accept f kept more site field kind n open_is held_is raised_is lowered_is gifts_is = λ schema base es lawful before few.
+    let was = before (omega (arith, few)) in
     record {
       ids = ap (λ v. reverse v.items) open_is ∙ was.ids;
-      held = λ q k. ap (λ v. granted_sizes q f k v.items) held_is ∙ was.held q k;
+      held = λ q k. ap (λ v. held_sizes q k v.items) held_is ∙ was.held q k;
       raised = raised_is ∙ was.raised;
       lowered = lowered_is ∙ was.lowered;
       given = λ p k. ap (λ (l : List Effect). gifts p f k l) gifts_is ∙ by p k (eqb field.0 f) ∙ was.given p k;
       accepted = λ x s from k. ap (λ (l : List Effect). total_accepted (fresh x s) from f k l) gifts_is
           ∙ taken x s from k (eqb field.0 f) refl (total_accepted (fresh x s) from f k es) (was.accepted x s from k);
+      short = few;
+      few = let same = λ (k : Kind). ap (λ v. held_sizes (λ _. true) k v.items) held_is in
+          omega (arith, was.few, raised_is, lowered_is, same Raise, same Lower);
     }
   where
     by : (p : Option SiteNo → Bool) (k : Kind) (b : Bool)
@@ -403,11 +579,12 @@ notes_accept f kept more site field kind n open_is held_is raised_is lowered_is 
 
 pub notes_stop : (f : ℕ) (kept more : Standing) → more.txns.items ≡ [] → more.held.items ≡ [] → more.raised ≡ kept.raised
     → more.lowered ≡ kept.lowered → more.gifts ≡ kept.gifts → Notes f kept Stops more
-unfolding Notes
-notes_stop f kept more open_is held_is raised_is lowered_is gifts_is = λ schema base es lawful was.
+unfolding Notes Stands
+notes_stop f kept more open_is held_is raised_is lowered_is gifts_is = λ schema base es lawful before few.
+    let was = before (omega (arith, few)) in
     record {
       ids = ap (λ (l : List TxnId). reverse l) open_is ∙ sym (stop_closes_all es);
-      held = λ q k. ap (λ (l : List Effect). granted_sizes q f k l) held_is
+      held = λ q k. held_same q k held_is
           ∙ sym (granted-same schema base (λ id. is_open id (Stops ∷ es) && q id) (λ _. false) f k es lawful.0
           (λ id there. ap (λ (b : Bool). b && q id) (closed_by_stop id es there))
           ∙ granted_none f k es);
@@ -415,25 +592,51 @@ notes_stop f kept more open_is held_is raised_is lowered_is gifts_is = λ schema
       lowered = lowered_is ∙ was.lowered;
       given = λ p k. ap (λ v. gifts p f k v.items) gifts_is ∙ was.given p k;
       accepted = λ x s from k. ap (λ v. total_accepted (fresh x s) from f k v.items) gifts_is ∙ was.accepted x s from k;
+      short = few;
+      few = omega (
+        arith,
+        was.few,
+        raised_is,
+        lowered_is,
+        held_same (λ _. true) Raise held_is,
+        held_same (λ _. true) Lower held_is,
+      );
     }
 
 -- ---- the start, and a walk over what is held
 
 pub stands_first : (kept : Standing) → kept.txns.items ≡ [] → kept.held.items ≡ [] → kept.raised ≡ 0 → kept.lowered ≡ 0
     → kept.gifts.items ≡ [] → (f : ℕ) → Stands f kept []
-stands_first kept open_is held_is raised_is lowered_is gifts_is f =
+unfolding Stands
+stands_first kept open_is held_is raised_is lowered_is gifts_is f = λ few.
     record {
       ids = ap (λ (l : List TxnId). reverse l) open_is;
-      held = λ q k. ap (λ (l : List Effect). granted_sizes q f k l) held_is;
+      held = λ q k. held_same q k held_is;
       raised = raised_is;
       lowered = lowered_is;
       given = λ p k. ap (λ (l : List Effect). gifts p f k l) gifts_is;
       accepted = λ x s from k. ap (λ (l : List Effect). total_accepted (fresh x s) from f k l) gifts_is;
+      short = few;
+      few = omega (
+        arith,
+        raised_is,
+        lowered_is,
+        held_same (λ _. true) Raise held_is,
+        held_same (λ _. true) Lower held_is,
+      );
     }
 
-pub held_step : (q : TxnId → Bool) (f : ℕ) (k : Kind) (held : List Effect) (i : ℕ) (d : Effect) (x a b all : ℕ) → i < length held
-    → ((es : List Effect) → granted_sizes q f k ((get_or held i d) ∷ es) ≡ a + granted_sizes q f k es) → b ≡ a
-    → x + granted_sizes q f k (drop i held) ≡ all → (x + b) + granted_sizes q f k (drop (i + 1) held) ≡ all
-held_step q f k held i d x a b all below adds same was =
-    let is = ap (λ (l : List Effect). granted_sizes q f k l) (drop_more held i d below) in
-    omega (arith, is, adds (drop (i + 1) held), was, same)
+-- a row more is added, where all fit
+pub held_step : (q : TxnId → Bool) (k : Kind) (held : List Held) (i : ℕ) (d : Held) (x y a : ℕ) → i < length held
+    → (x + a ≤ 340282366920938463463374607431768211455 → y ≡ x + a) → a ≡ counted_of q k (get_or held i d)
+    → (held_sizes q k held ≤ 340282366920938463463374607431768211455 → x + held_sizes q k (drop i held) ≡ held_sizes q k held)
+    → held_sizes q k held ≤ 340282366920938463463374607431768211455 → y + held_sizes q k (drop (i + 1) held) ≡ held_sizes q k held
+held_step q k held i d x y a below adds same was fits =
+    let is = held_same q k (drop_more held i d below) in
+    let whole = was fits in
+    omega (arith, is, adds (omega (arith, is, whole, same, fits)), whole, same)
+
+-- of as many effects as a list can have
+pub told_so : (f : ℕ) (kept : Standing) (es : List Effect) → Stands f kept es → length es ≤ 18446744073709551615 → Tells f kept es
+unfolding Stands
+told_so f kept es was few = was few

@@ -16,7 +16,9 @@ use Rattle.world_steps.specs.declared.step.WorldStep.{WorldStep}
 use Rattle.world_steps.specs.declared.step.StepReply.{StepReply}
 use Rattle.world_steps.specs.declared.step.StepReply.TheVariants.{Made, NoStatement}
 use Rattle.reaching_steps.specs.declared.standing.Standing.{Standing}
-use Rattle.reaching_steps.specs.Standing.{Stands}
+use Rattle.reaching_steps.specs.Standing.{Tells, Stands}
+use Rattle.reaching_steps.proofs.Standings.{told_so}
+use Rattle.reaching_steps.proofs.Reading.{site_few}
 use Rattle.reaching_steps.specs.Told.{AllTold, IsTrial, Renews}
 
 -- one entry more, by which its site stands so
@@ -41,20 +43,23 @@ told_next schema f t u e rows v is here told = λ s d below.
 -- what a whole table tells of a site
 pub told_of : (w v : WorldValue) (f : ℕ) (rows : List Standing) (whole : Bool) (s i : ℕ) (x : Standing) → w ≡ v
     → IsTrial v f rows whole → whole ≡ true → s < w.schema.sites
-    → i ≡ s → x ≡ get_or rows i x → Stands f x (at_site w.schema (trace_of w) s)
+    → i ≡ s → x ≡ get_or rows i x → length (trace_of w) ≤ 18446744073709551615 → Tells f x (at_site w.schema (trace_of w) s)
 unfolding AllTold
-told_of w v f rows whole s i x same trial is below at found =
+told_of w v f rows whole s i x same trial is below at found few =
     let all = trial is in
     let count : w.schema.sites ≡ length rows = ap (λ (y : WorldValue). y.schema.sites) same ∙ sym all.0 in
-    subst (λ (y : Standing). Stands f y (at_site w.schema (trace_of w) s)) (sym (found ∙ ap (λ (n : ℕ). get_or rows n x) at))
+    told_so f x (at_site w.schema (trace_of w) s)
+    (subst (λ (y : Standing). Stands f y (at_site w.schema (trace_of w) s)) (sym (found ∙ ap (λ (n : ℕ). get_or rows n x) at))
     (subst (λ (y : WorldValue). Stands f (get_or rows s x) (at_site y.schema (trace_of y) s)) (sym same)
-    (all.1 s x (omega (arith, below, count))))
+    (all.1 s x (omega (arith, below, count)))))
+    (omega (arith, few, site_few w.schema s (trace_of w)))
 
 pub open_of : (w v : WorldValue) (f : ℕ) (rows : List Standing) (whole : Bool) (s i : ℕ) (x : Standing) (ids : List TxnId) → w ≡ v
     → IsTrial v f rows whole → whole ≡ true → s < w.schema.sites
-    → i ≡ s → x ≡ get_or rows i x → ids ≡ x.txns.items → reverse ids ≡ open_txns (at_site w.schema (trace_of w) s)
-open_of w v f rows whole s i x ids same trial is below at found ids_is =
-    ap (λ (l : List TxnId). reverse l) ids_is ∙ (told_of w v f rows whole s i x same trial is below at found).ids
+    → i ≡ s → x ≡ get_or rows i x → ids ≡ x.txns.items
+    → length (trace_of w) ≤ 18446744073709551615 → reverse ids ≡ open_txns (at_site w.schema (trace_of w) s)
+open_of w v f rows whole s i x ids same trial is below at found ids_is few =
+    ap (λ (l : List TxnId). reverse l) ids_is ∙ (told_of w v f rows whole s i x same trial is below at found few).ids
 
 -- what a step made is the newest entry
 pub made_is : (w v : WorldValue) (step : WorldStep) (e : Entry) → Answers (Made e) w step v → trace_of v ≡ e ∷ trace_of w

@@ -42,7 +42,7 @@ pub(crate) fn rights_at(
     ensures small { IfOk result (λ rights. (rights.0 ≤ max_change) × (rights.1 ≤ max_change)) }
 {
     let standing = trial.standing_at(site, field)?;
-    let (own, free) = rights_of(trial.world().schema(), standing, site, field, kind)?;
+    let (own, free) = rights_of(trial.world().schema(), standing, site, field, kind);
     Ok((own as u64, free as u64))
 }
 

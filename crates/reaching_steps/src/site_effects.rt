@@ -9,7 +9,7 @@ ghost use Rattle.field_bounds.specs.Owed.{is_unsure};
 ghost use Rattle.field_bounds.specs.Central.{at_site};
 ghost use Rattle.field_bounds.specs.Lawful.{IsLawful};
 ghost use Rattle.world_steps.specs.View.{trace_of};
-ghost use Rattle.reaching_steps.specs.Standing.{Stands};
+ghost use Rattle.reaching_steps.specs.Standing.{Tells, Stands};
 ghost use Rattle.reaching_steps.specs.Told.{doubt_kept_in, wanted_by, spared_for, is_elsewhere, ends_doubt, Reads, ReadsOwn, Puts, AllRead};
 
 use crate::rights::rights_of;
@@ -88,32 +88,32 @@ fn is_spared_elsewhere(entry: &Entry, field: FieldNo) -> bool
     }
 }
 
-/// What a reply in doubt spared of the field, where the site stood so. The error is want of memory.
+/// What a reply in doubt spared of the field, where the site stood so.
 fn spared_in_doubt(
     schema: &Schema,
     standing: &Standing,
     entry: &Entry,
     site: SiteNo,
     field: FieldNo,
-) -> Result<u64, AllocError>
+) -> u64
     requires in_schema { site.0 < schema.now.sites }
-    ensures value { IfOk result (λ amount. (es : List Effect)
-        → IsLawful schema.now (fresh schema.now site.0) es → Stands field.0 standing.now es
+    ensures value { (es : List Effect)
+        → IsLawful schema.now (fresh schema.now site.0) es → Tells field.0 standing.now es
         → is_unsure entry.now.reply ≡ true
         → is_elsewhere field.0 (wanted_by entry.now.command) ≡ false
-        → amount ≡ spared_for (fresh schema.now site.0) es (wanted_by entry.now.command)) }
+        → result ≡ spared_for (fresh schema.now site.0) es (wanted_by entry.now.command) }
 {
     if !is_unsure(entry.reply) {
-        return Ok(0);
+        return 0;
     }
     let Some((at, kind, want)) = wanted_by(entry.command) else {
-        return Ok(0);
+        return 0;
     };
     if at.0 != field.0 {
-        return Ok(0);
+        return 0;
     }
-    let (_, free) = rights_of(schema, standing, site, at, kind)?;
-    Ok(spared_amount(free, want))
+    let (_, free) = rights_of(schema, standing, site, at, kind);
+    spared_amount(free, want)
 }
 
 /// What a command with its reply does where it takes effect; a spare in doubt has spared so much.
@@ -239,7 +239,7 @@ fn read_own(
     if is_spared_elsewhere(entry, field) {
         return Ok(());
     }
-    let amount = spared_in_doubt(schema, standing, entry, site, field)?;
+    let amount = spared_in_doubt(schema, standing, entry, site, field);
     match effect_of(entry.command, entry.reply, amount) {
         None => Ok(()),
         Some(effect) => note(standing, effect, field),

@@ -1,24 +1,33 @@
 //! Where a site stands on one field, by what took effect there.
 
-ghost use Rattle.std.specs.Prelude.{◌≡◌, ◌==◌, [], ◌∷◌, ◌+◌, ℕ, Bool, not, if◌then◌else◌, OnOk, IfSome, List, Option, Some, None, filter};
+ghost use Rattle.std.specs.Prelude.{◌≡◌, ◌==◌, ◌<◌, ◌≤◌, ◌+◌, [], ℕ, true, not, if◌then◌else◌, unsigned_abs, OnOk, IfSome, length, get_or, filter};
 ghost use Rattle.field_bounds.specs.declared.effect.Effect.{Effect};
 ghost use Rattle.field_bounds.specs.declared.effect.Effect.TheVariants as effects;
-ghost use Rattle.field_bounds.specs.declared.kind.Kind.TheVariants as kinds;
-ghost use Rattle.field_bounds.specs.declared.id.TxnId.{TxnId};
-ghost use Rattle.field_bounds.specs.Effects.{same_txn, granted_sizes};
-ghost use Rattle.reaching_steps.specs.Standing.{is_of, is_held_by, size_of, pushed, Stands, Notes};
+ghost use Rattle.field_bounds.specs.declared.kind.Kind.TheVariants.{Lower, Raise};
+ghost use Rattle.field_bounds.specs.Kind.{kind_of, same_kind};
+ghost use Rattle.field_bounds.specs.Effects.{same_txn};
+ghost use Rattle.reaching_steps.specs.Standing.{is_of, size_in, counted_of, held_sizes, pushed, Grows, Stands, Notes};
 
 use field_bounds::{Effect, FieldNo, Kind, TxnId};
 use std::alloc::{AllocError, Global};
 
-/// Where a site stands on one field: its open transactions, in order of begin, and the escrows on
-/// the field that they hold; by how much the committed ones have raised the field, and lowered it;
-/// and what was given and accepted of the rights on it, the oldest first. Of a transaction that has
-/// ended no more is kept than these sums.
+/// What an open transaction holds on the field: the sizes of its lowering escrows, and of its
+/// raising ones.
+#[derive(Clone, Copy, Drop)]
+pub(crate) struct Held {
+    pub(crate) txn: TxnId,
+    pub(crate) lower: u128,
+    pub(crate) raise: u128,
+}
+
+/// Where a site stands on one field: its open transactions, in order of begin, and what each holds
+/// on the field, one row for each that holds something; by how much the committed ones have raised
+/// the field, and lowered it; and what was given and accepted of the rights on it, the oldest first.
+/// Of a transaction that has ended no more is kept than these sums.
 #[derive(Drop)]
 pub(crate) struct Standing {
     pub(crate) txns: Vec<TxnId>,
-    pub(crate) held: Vec<Effect>,
+    pub(crate) held: Vec<Held>,
     pub(crate) raised: u128,
     pub(crate) lowered: u128,
     pub(crate) gifts: Vec<Effect>,
@@ -56,62 +65,98 @@ fn is_of(holder: Option<TxnId>, txn: TxnId) -> bool
     }
 }
 
-/// Whether an effect grants an escrow to this transaction.
+/// What a row holds, of either kind, where it counts.
 #[inline(always)]
-fn is_held_by(effect: &Effect, txn: TxnId) -> bool
-    ensures value { result ≡ is_held_by txn effect.now }
+fn counted(row: &Held, holder: Option<TxnId>) -> (u128, u128)
+    ensures lower { result.0 ≡ counted_of (is_of holder) Lower row.now }
+    ensures raise { result.1 ≡ counted_of (is_of holder) Raise row.now }
 {
-    match *effect {
-        Effect::Grants {
-            txn: to,
-            field: _,
-            change: _,
-        } => same_txn(to, txn),
-        _ => false,
+    if is_of(holder, row.txn) {
+        (row.lower, row.raise)
+    } else {
+        (0, 0)
     }
 }
 
-/// The escrow that an effect grants on a field, of a kind: to which transaction, and its size.
-fn grants_on(effect: &Effect, field: FieldNo, kind: Kind) -> Option<(TxnId, u64)>
-    ensures value { (holder : Option TxnId) (es : List Effect) →
-        granted_sizes (is_of holder) field.0 kind (effect.now ∷ es)
-        ≡ size_of holder result + granted_sizes (is_of holder) field.0 kind es }
+/// The sizes of the escrows that a transaction holds, or all do: the lowering ones and the raising
+/// ones. They are exact where they fit.
+pub(crate) fn held_by(held: &[Held], holder: Option<TxnId>) -> (u128, u128)
+    ensures lower { held_sizes (is_of holder) Lower held.now ≤ u128.MAX
+        → result.0 ≡ held_sizes (is_of holder) Lower held.now }
+    ensures raise { held_sizes (is_of holder) Raise held.now ≤ u128.MAX
+        → result.1 ≡ held_sizes (is_of holder) Raise held.now }
 {
-    match *effect {
-        Effect::Grants {
-            txn,
-            field: at,
-            change,
-        } => {
-            if at.0 == field.0 && Kind::of(change).is(kind) {
-                Some((txn, change.unsigned_abs()))
-            } else {
-                None
-            }
+    let mut lower: u128 = 0;
+    let mut raise: u128 = 0;
+    for row in held {
+        let (less, more) = counted(row, holder);
+        lower = lower.saturating_add(less);
+        raise = raise.saturating_add(more);
+    }
+    (lower, raise)
+}
+
+/// The newest row of a transaction, if it has one.
+fn newest_of(held: &[Held], txn: TxnId) -> Option<usize>
+    ensures inside { IfSome result (λ i. i < length held.now) }
+    ensures its { (d : Held) → IfSome result (λ i. same_txn (get_or held.now i d).txn txn ≡ true) }
+{
+    let mut i = held.len();
+    while 0 < i {
+        i -= 1;
+        if same_txn(held[i].txn, txn) {
+            return Some(i);
         }
-        _ => None,
+    }
+    None
+}
+
+/// A row with an escrow more.
+#[inline(always)]
+fn grown(row: Held, kind: Kind, size: u64) -> Held
+    ensures txn { result.txn ≡ row.txn }
+    ensures sizes { size_in kind row + size ≤ u128.MAX → (k : Kind) →
+        size_in k result ≡ size_in k row + (if same_kind kind k then size else 0) }
+{
+    let more = u128::from(size);
+    match kind {
+        Kind::Lower => Held {
+            txn: row.txn,
+            lower: row.lower.saturating_add(more),
+            raise: row.raise,
+        },
+        Kind::Raise => Held {
+            txn: row.txn,
+            lower: row.lower,
+            raise: row.raise.saturating_add(more),
+        },
     }
 }
 
-/// An escrow's size, where it counts.
-fn size_of(holder: Option<TxnId>, found: Option<(TxnId, u64)>) -> u64
-    ensures value { result ≡ size_of holder found }
+/// A transaction is granted an escrow on the field. The error is want of memory.
+#[inline(always)]
+fn grant(held: &mut Vec<Held>, txn: TxnId, change: i64) -> Result<(), AllocError>
+    ensures grows { OnOk result (Grows txn (kind_of change) (unsigned_abs change)
+        held.old.items held.new.items) }
+    ensures small { unsigned_abs change ≤ 9_223_372_036_854_775_808 }
 {
-    match found {
-        None => 0,
-        Some((txn, size)) => { if is_of(holder, txn) { size } else { 0 } }
+    let kind = Kind::of(change);
+    let size = change.unsigned_abs();
+    match newest_of(held, txn) {
+        Some(i) => {
+            held[i] = grown(held[i], kind, size);
+            Ok(())
+        }
+        None => {
+            let first = Held {
+                txn,
+                lower: 0,
+                raise: 0,
+            };
+            held.push(grown(first, kind, size))?;
+            Ok(())
+        }
     }
-}
-
-/// The sizes of the escrows of a kind that a transaction holds on a field, or all do.
-pub(crate) fn held_by(held: &[Effect], holder: Option<TxnId>, field: FieldNo, kind: Kind) -> u128
-    ensures value { result ≡ granted_sizes (is_of holder) field.0 kind held.now }
-{
-    let mut all: u128 = 0;
-    for effect in held {
-        all += u128::from(size_of(holder, grants_on(effect, field, kind)));
-    }
-    all
 }
 
 /// An effect on a field is put behind others, where it is this field.
@@ -137,33 +182,24 @@ fn end(standing: &mut Standing, txn: TxnId)
     ensures ids { standing.new.txns.items
         ≡ filter (λ x. not (same_txn x txn)) standing.old.txns.items }
     ensures held { standing.new.held.items
-        ≡ filter (λ e. not (is_held_by txn e)) standing.old.held.items }
+        ≡ filter (λ row. not (same_txn row.txn txn)) standing.old.held.items }
     ensures sums { (standing.new.raised ≡ standing.old.raised)
         × (standing.new.lowered ≡ standing.old.lowered) }
     ensures gifts { standing.new.gifts ≡ standing.old.gifts }
 {
     standing.txns.retain(|one| !same_txn(*one, txn));
-    standing.held.retain(|effect| !is_held_by(effect, txn));
+    standing.held.retain(|row| !same_txn(row.txn, txn));
 }
 
-/// A transaction is committed: what it holds is added to the sums, and it ends. The sums are of
-/// fewer than 2^57 escrows of at most 2^63, so that they always fit.
+/// A transaction is committed: what it holds is added to the sums, and it ends.
 #[inline(always)]
-fn commit(standing: &mut Standing, txn: TxnId, field: FieldNo) -> Result<(), AllocError>
-    ensures noted { OnOk result (Notes field.0 standing.old (effects.Commits txn) standing.new) }
+fn commit(standing: &mut Standing, txn: TxnId)
+    ensures noted { (f : ℕ) → Notes f standing.old (effects.Commits txn) standing.new }
 {
-    let up = held_by(&standing.held, Some(txn), field, Kind::Raise);
-    let down = held_by(&standing.held, Some(txn), field, Kind::Lower);
-    let Some(raised) = standing.raised.checked_add(up) else {
-        return Err(AllocError);
-    };
-    let Some(lowered) = standing.lowered.checked_add(down) else {
-        return Err(AllocError);
-    };
-    standing.raised = raised;
-    standing.lowered = lowered;
+    let (lower, raise) = held_by(&standing.held, Some(txn));
+    standing.lowered = standing.lowered.saturating_add(lower);
+    standing.raised = standing.raised.saturating_add(raise);
     end(standing, txn);
-    Ok(())
 }
 
 /// One effect more takes place at the site. The error is want of memory.
@@ -181,11 +217,19 @@ pub(crate) fn note(
             Ok(())
         }
         Effect::Grants {
-            txn: _,
+            txn,
             field: at,
-            change: _,
-        } => push_on(&mut standing.held, effect, at, field),
-        Effect::Commits { txn } => commit(standing, txn, field),
+            change,
+        } => {
+            if at.0 != field.0 {
+                return Ok(());
+            }
+            grant(&mut standing.held, txn, change)
+        }
+        Effect::Commits { txn } => {
+            commit(standing, txn);
+            Ok(())
+        }
         Effect::Aborts { txn } => {
             end(standing, txn);
             Ok(())

@@ -2,7 +2,7 @@
 
 ghost use Rattle.std.specs.Prelude.{◌≡◌, ◌<◌, ◌++◌, [], ◌∷◌, All, IfOk, OnOk, reverse};
 ghost use Rattle.field_bounds.specs.Effects.{open_txns};
-ghost use Rattle.reaching_steps.specs.Standing.{Stands};
+ghost use Rattle.reaching_steps.specs.Standing.{Tells};
 ghost use Rattle.field_bounds.specs.Limits.{IsSchema};
 ghost use Rattle.field_bounds.specs.Central.{at_site, IsSound};
 ghost use Rattle.world_steps.specs.World.{StepFits};
@@ -121,6 +121,7 @@ impl Trial {
         ensures value { IfOk result (λ ids. reverse ids.now
             ≡ open_txns (at_site self.now.schema (trace_of self.now) site.0)) }
     {
+        let _trace = self.world.trace();
         if !self.is_whole {
             return Err(AllocError);
         }
@@ -131,7 +132,7 @@ impl Trial {
     /// earlier step; no other field is asked for.
     pub(crate) fn standing_at(&self, site: SiteNo, field: FieldNo) -> Result<&Standing, AllocError>
         requires in_schema { site.0 < self.now.schema.sites }
-        ensures value { IfOk result (λ told. Stands field.0 told.now
+        ensures value { IfOk result (λ told. Tells field.0 told.now
             (at_site self.now.schema (trace_of self.now) site.0)) }
         ensures sound { IsSound self.now.schema (trace_of self.now) }
         ensures limits { IsSchema self.now.schema }

@@ -18,7 +18,7 @@ overflow_cast-result c =
     let schema_is = c.schema.ensures.value ∙ ap (λ (x : WorldValue). x.schema) c.world.ensures.value in
     let law = subst (λ (x : SchemaValue). IsLawful x (fresh x s) es) (sym schema_is)
     (lawful_at w.schema c.standing_at.ensures.limits (trace_of w) c.standing_at.ensures.sound s c.requires.in_schema) in
-    let own = c.in_ok-own.ensures.own es law c.in_ok-standing.ensures.value
+    let own = c.rights_of-own.ensures.own es law c.in_ok-standing.ensures.value
     ∙ ap (λ (x : SchemaValue). own_rights (fresh x s) f k es) schema_is in
     let small = own_small w.schema c.standing_at.ensures.limits (trace_of w) c.standing_at.ensures.sound s f k c.requires.in_schema in
     omega (arith, own, small)
@@ -33,7 +33,7 @@ overflow_cast-result-2 c =
     let schema_is = c.schema.ensures.value ∙ ap (λ (x : WorldValue). x.schema) c.world.ensures.value in
     let law = subst (λ (x : SchemaValue). IsLawful x (fresh x s) es) (sym schema_is)
     (lawful_at w.schema c.standing_at.ensures.limits (trace_of w) c.standing_at.ensures.sound s c.requires.in_schema) in
-    let free = c.in_ok-own.ensures.free es law c.in_ok-standing.ensures.value
+    let free = c.rights_of-own.ensures.free es law c.in_ok-standing.ensures.value
     ∙ ap (λ (x : SchemaValue). share (fresh x s) f k es) schema_is in
     let small = own_small w.schema c.standing_at.ensures.limits (trace_of w) c.standing_at.ensures.sound s f k c.requires.in_schema in
     omega (arith, free, small)
@@ -48,9 +48,9 @@ returns c =
     let schema_is = c.schema.ensures.value ∙ ap (λ (x : WorldValue). x.schema) c.world.ensures.value in
     let law = subst (λ (x : SchemaValue). IsLawful x (fresh x s) es) (sym schema_is)
     (lawful_at w.schema c.standing_at.ensures.limits (trace_of w) c.standing_at.ensures.sound s c.requires.in_schema) in
-    let own = c.in_ok-own.ensures.own es law c.in_ok-standing.ensures.value
+    let own = c.rights_of-own.ensures.own es law c.in_ok-standing.ensures.value
     ∙ ap (λ (x : SchemaValue). own_rights (fresh x s) f k es) schema_is in
-    let free = c.in_ok-own.ensures.free es law c.in_ok-standing.ensures.value
+    let free = c.rights_of-own.ensures.free es law c.in_ok-standing.ensures.value
     ∙ ap (λ (x : SchemaValue). share (fresh x s) f k es) schema_is in
     let small = own_small w.schema c.standing_at.ensures.limits (trace_of w) c.standing_at.ensures.sound s f k c.requires.in_schema in
     record { own = own; free = free; small = (omega (arith, own, small), omega (arith, free, small)) }

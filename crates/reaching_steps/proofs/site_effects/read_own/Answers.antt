@@ -25,7 +25,7 @@ returns-in-None c = record {
   read = own_nothing c.args.schema.now c.args.site.0 c.args.field.0 c.args.standing.now c.args.entry.now
       (doubt_kept_in c.args.site.0 c.args.later.now)
       (λ es lawful was. sym c.in-None.is ∙ c.effect_of.ensures.value (fresh c.args.schema.now c.args.site.0) es
-      (λ unsure. c.in_ok-amount.ensures.value es lawful was unsure
+      (λ unsure. c.spared_in_doubt-amount.ensures.value es lawful was unsure
       (c.is_spared_elsewhere.ensures.other c.if-is_spared_elsewhere.false unsure)));
 }
 
@@ -42,6 +42,6 @@ returns-in-Some c =
       read = on_ok c.note.result (Notes f had c.in-Some.effect more) (ReadsOwn schema s f had e kept more)
           (λ notes. own_noted schema s f had more e kept c.in-Some.effect (sym c.counts.ensures.value ∙ c.if-not-counts.false)
           (λ es lawful was. sym c.in-Some.is ∙ c.effect_of.ensures.value (fresh schema s) es
-          (λ unsure. c.in_ok-amount.ensures.value es lawful was unsure
+          (λ unsure. c.spared_in_doubt-amount.ensures.value es lawful was unsure
           (c.is_spared_elsewhere.ensures.other c.if-is_spared_elsewhere.false unsure))) notes) c.note.ensures.noted;
     }

@@ -1,10 +1,11 @@
-use Rattle.std.proofs.Common.{◌≡◌, ◌≤◌, ◌*◌, ◌+◌, drop}
-use Rattle.field_bounds.specs.Effects.{granted_sizes}
-use Rattle.reaching_steps.specs.Standing.{is_of}
+use Rattle.std.proofs.Common.{◌≡◌, ◌≤◌, ◌+◌, drop}
+use Rattle.field_bounds.specs.declared.kind.Kind.TheVariants.{Lower, Raise}
+use Rattle.reaching_steps.specs.Standing.{is_of, held_sizes}
 use Rattle.reaching_steps.proofs.standing.held_by.Given as goal
 
-abbrev pub invariant-loop-effect : goal.invariant-loop-effect
-invariant-loop-effect l =
-    (l.all + granted_sizes (is_of l.holder) l.field.0 l.kind (drop l.effect-index l.held)
-    ≡ granted_sizes (is_of l.holder) l.field.0 l.kind l.held)
-    × (l.all ≤ l.effect-index * 18446744073709551616)
+abbrev pub invariant-loop-row : goal.invariant-loop-row
+invariant-loop-row l =
+    (held_sizes (is_of l.holder) Lower l.held ≤ 340282366920938463463374607431768211455
+    → l.lower + held_sizes (is_of l.holder) Lower (drop l.row-index l.held) ≡ held_sizes (is_of l.holder) Lower l.held)
+    × (held_sizes (is_of l.holder) Raise l.held ≤ 340282366920938463463374607431768211455
+    → l.raise + held_sizes (is_of l.holder) Raise (drop l.row-index l.held) ≡ held_sizes (is_of l.holder) Raise l.held)

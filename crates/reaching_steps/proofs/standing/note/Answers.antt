@@ -1,9 +1,11 @@
-use Rattle.std.proofs.Common.{◌≡◌, eqb, refl, subst, sym}
+use Rattle.std.proofs.Common.{rules, ◌≡◌, eqb, refl, subst, sym}
 use Rattle.field_bounds.specs.declared.effect.Effect.{Effect}
 use Rattle.field_bounds.specs.declared.effect.Effect.TheVariants.{Grants, Gives, Accepts}
-use Rattle.reaching_steps.specs.Standing.{pushed, Notes}
+use Rattle.std.specs.Prelude.{◌≤◌, unsigned_abs, OnOk}
+use Rattle.field_bounds.specs.Kind.{kind_of}
+use Rattle.reaching_steps.specs.Standing.{pushed, Grows, Notes}
 use Rattle.reaching_steps.proofs.Growing.{on_ok}
-use Rattle.reaching_steps.proofs.Standings.{notes_begin, notes_grant, notes_abort, notes_give, notes_accept, notes_stop}
+use Rattle.reaching_steps.proofs.Standings.{notes_begin, notes_grant, notes_elsewhere, notes_abort, notes_give, notes_accept, notes_stop}
 use Rattle.reaching_steps.proofs.standing.note.Goals as goal
 
 pub returns-in_ok-push-in-Begins : goal.returns-in_ok-push-in-Begins
@@ -13,22 +15,30 @@ returns-in_ok-push-in-Begins c = record {
       c.in_ok-push-in-Begins.ensures.items refl refl refl refl);
 }
 
-pub returns-in-Grants : goal.returns-in-Grants
-returns-in-Grants c =
+pub returns-then-at-field : goal.returns-then-at-field
+returns-then-at-field c = record {
+  noted = rw c.in-Grants.is
+      (notes_elsewhere c.args.field.0 c.args.standing.now c.in-Grants.txn c.in-Grants.at c.in-Grants.change c.if-at-field.true);
+}
+
+pub returns-else-at-field : goal.returns-else-at-field
+returns-else-at-field c =
     let f = c.args.field.0 in
     let had = c.args.standing.now in
     let i = c.in-Grants in
-    let more = c.push_on.new.list in
+    let more = c.grant.new.held in
+    let small : unsigned_abs i.change ≤ 9223372036854775808 = search rules in
+    let grows : OnOk c.grant.result (Grows i.txn (kind_of i.change) (unsigned_abs i.change) had.held.items more.items) = search rules in
     record {
-      noted = on_ok c.push_on.result (more.items ≡ pushed (eqb i.at.0 f) had.held.items (Grants i.txn i.at i.change))
+      noted = on_ok c.grant.result (Grows i.txn (kind_of i.change) (unsigned_abs i.change) had.held.items more.items)
           (Notes f had c.args.effect (record had { held = more }))
-          (λ is. subst (λ (e : Effect). Notes f had e (record had { held = more })) (sym i.is)
-          (notes_grant f had (record had { held = more }) i.txn i.at i.change refl is refl refl refl))
-          c.push_on.ensures.pushed;
+          (λ grows. subst (λ (e : Effect). Notes f had e (record had { held = more })) (sym i.is)
+          (notes_grant f had (record had { held = more }) i.txn i.at i.change c.if-at-field.false small refl grows refl refl refl))
+          grows;
     }
 
 pub returns-in-Commits : goal.returns-in-Commits
-returns-in-Commits c = record { noted = rw c.in-Commits.is c.commit.ensures.noted }
+returns-in-Commits c = record { noted = rw c.in-Commits.is (c.commit.ensures.noted c.args.field.0) }
 
 pub returns-in-Aborts : goal.returns-in-Aborts
 returns-in-Aborts c = record {
@@ -42,13 +52,13 @@ returns-in-Gives c =
     let f = c.args.field.0 in
     let had = c.args.standing.now in
     let i = c.in-Gives in
-    let more = c.push_on-in-Gives.new.list in
+    let more = c.push_on.new.list in
     record {
-      noted = on_ok c.push_on-in-Gives.result (more.items ≡ pushed (eqb i.at.0 f) had.gifts.items (Gives i.to i.at i.kind i.amount))
+      noted = on_ok c.push_on.result (more.items ≡ pushed (eqb i.at.0 f) had.gifts.items (Gives i.to i.at i.kind i.amount))
           (Notes f had c.args.effect (record had { gifts = more }))
           (λ is. subst (λ (e : Effect). Notes f had e (record had { gifts = more })) (sym i.is)
           (notes_give f had (record had { gifts = more }) i.to i.at i.kind i.amount refl refl refl refl is))
-          c.push_on-in-Gives.ensures.pushed;
+          c.push_on.ensures.pushed;
     }
 
 pub returns-in-Accepts : goal.returns-in-Accepts
