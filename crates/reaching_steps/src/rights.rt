@@ -50,7 +50,9 @@ fn held_of(standing: &Standing, kind: Kind) -> u128
 }
 
 /// The own rights of a site and its share, of a kind on a field, where it stands so. The sums fit:
-/// the rights that came to the site, and the settled ones, are fewer than 2^127 each.
+/// the rights that came to the site, and the settled ones, are fewer than 2^127 each. Costs a look
+/// at each open transaction that holds something on the field, and for each site one at each of what
+/// was given and accepted on it.
 pub(crate) fn rights_of(
     schema: &Schema,
     standing: &Standing,

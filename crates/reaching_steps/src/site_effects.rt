@@ -311,7 +311,8 @@ pub(crate) fn put_next(
     }
 }
 
-/// Where a site of a world stands on a field. The error is want of memory. Costs reading the trace.
+/// Where a site of a world stands on a field. The error is want of memory. Costs reading the trace,
+/// and for the site's own entries what `table_of` costs for them.
 pub(crate) fn standing_at(
     alloc: Global,
     world: &World,

@@ -41,8 +41,10 @@ fn fill(world: &World, table: &mut [Standing], field: FieldNo) -> Result<(), All
 }
 
 /// Where each site of a world stands on a field. The error is want of memory. Costs reading the
-/// trace once, and, for each spare of the field in doubt that was kept, what was given and accepted
-/// at its site before it.
+/// trace once; for each grant, commit and abort a look through the open transactions of its site, 64
+/// at most, from the newest on for a grant; for each reply in doubt what comes later, up to the next
+/// restart of its site; and for each spare of the field in doubt that was kept, for each site what
+/// was given and accepted on the field at the sparing one before it.
 pub(crate) fn table_of(
     alloc: Global,
     world: &World,

@@ -176,7 +176,7 @@ fn push_on(
     Ok(())
 }
 
-/// A transaction ends: it is open no more, and holds nothing.
+/// A transaction ends: it is open no more, and holds nothing. Costs a look at each open transaction.
 #[inline(always)]
 fn end(standing: &mut Standing, txn: TxnId)
     ensures ids { standing.new.txns.items
@@ -191,7 +191,8 @@ fn end(standing: &mut Standing, txn: TxnId)
     standing.held.retain(|row| !same_txn(row.txn, txn));
 }
 
-/// A transaction is committed: what it holds is added to the sums, and it ends.
+/// A transaction is committed: what it holds is added to the sums, and it ends. Costs a look at each
+/// open transaction, and no memory.
 #[inline(always)]
 fn commit(standing: &mut Standing, txn: TxnId)
     ensures noted { (f : ℕ) → Notes f standing.old (effects.Commits txn) standing.new }

@@ -420,8 +420,11 @@ fn steps_alone(alloc: Global, taken: &[StepTaken]) -> Result<Vec<WorldStep>, All
 /// so an interval that leaves one out would be wrong in some run.
 ///
 /// The site is tried on a world of its own. Costs taking the world's steps once more, reading the
-/// trace once, and once more for each site that moves the field; for each two sites, what both gave
-/// and accepted on the field; and for each statement that is looked for all that were issued.
+/// trace once, and once more for each site that moves the field; while it is read, for each grant,
+/// commit and abort a look through the open transactions of its site, 64 at most, and for each spare
+/// of the field in doubt that was kept, for each site what was given and accepted on the field at the
+/// sparing one before it; for each two sites, what both gave and accepted on the field; and for each
+/// statement that is looked for all that were issued.
 pub fn reach(
     alloc: Global,
     world: &World,

@@ -42,7 +42,7 @@ fn reach_by(
         (steps_of taken.items)) }
     ensures same { IfErr result (λ fault. fault ≢ NoMemory → world.new ≡ world.old) }
 {
-    let mut trial = Trial::of(mem::replace(world, stand_in), told, field);
+    let mut trial = Trial::of(alloc, mem::replace(world, stand_in), told, field);
     let result = reach_on(alloc, &mut trial, site, field, target);
     *world = trial.into_world();
     result
@@ -66,10 +66,12 @@ fn stand_in(alloc: Global, world: &World) -> Result<World, AllocError> {
 /// value of the interval that the named site reads is such a target, unless memory is wanting
 /// (`tight`).
 ///
-/// Costs reading the trace once, and once for each site that moves the field; taking the steps;
-/// opening a world of the schema; for each two sites, what both gave and accepted on the field; and
-/// for each statement that is looked for all that were issued. No step that the world has taken is
-/// taken again.
+/// Costs reading the trace once, and once for each site that moves the field; while it is read, for
+/// each grant, commit and abort a look through the open transactions of its site, 64 at most, and for
+/// each spare of the field in doubt that was kept, for each site what was given and accepted on the
+/// field at the sparing one before it; taking the steps; opening a world of the schema; for each two
+/// sites, what both gave and accepted on the field; and for each statement that is looked for all
+/// that were issued. No step that the world has taken is taken again.
 pub fn reach_in(
     alloc: Global,
     world: &mut World,

@@ -9,6 +9,7 @@ ghost use Rattle.world_steps.specs.World.{StepFits};
 ghost use Rattle.world_steps.specs.View.{trace_of, Answers};
 ghost use Rattle.reaching_steps.specs.Told.{IsToldBy};
 
+use crate::site_effects::standing_at;
 use crate::site_table::{renew, table_of};
 use crate::standing::Standing;
 use field_bounds::{FieldNo, Schema, SiteNo, TxnId};
@@ -21,6 +22,7 @@ use world_steps::{StepReply, World, WorldStep};
 /// want of memory came between a step and the table, the table is read no more.
 #[derive(Drop)]
 pub(crate) struct Trial {
+    alloc: Global,
     world: World,
     field: FieldNo,
     told: Vec<Standing>,
@@ -63,6 +65,7 @@ impl Trial {
         let replayed = replay(alloc, world.schema(), &steps)?;
         let told = table_of(alloc, &replayed, field)?;
         Ok(Trial {
+            alloc,
             world: replayed,
             field,
             told,
@@ -71,11 +74,12 @@ impl Trial {
     }
 
     /// The trial on a world itself, by its table.
-    pub(crate) fn of(world: World, told: Vec<Standing>, field: FieldNo) -> Trial
+    pub(crate) fn of(alloc: Global, world: World, told: Vec<Standing>, field: FieldNo) -> Trial
         requires told { IsToldBy world field.0 told.items }
         ensures same { result ≡ world }
     {
         Trial {
+            alloc,
             world,
             field,
             told,
@@ -128,9 +132,15 @@ impl Trial {
         Ok(&self.told[usize::from(site.0)].txns)
     }
 
-    /// Where a site stands on the field that the trial is of. The error is want of memory in an
-    /// earlier step; no other field is asked for.
-    pub(crate) fn standing_at(&self, site: SiteNo, field: FieldNo) -> Result<&Standing, AllocError>
+    /// Where a site stands on a field: the table tells it of the field that the trial is of, at the
+    /// cost of a look; on another the trace is read, and what it tells is put into `other`. The
+    /// error is want of memory, here or in an earlier step.
+    pub(crate) fn standing_at<'a>(
+        &'a self,
+        site: SiteNo,
+        field: FieldNo,
+        other: &'a mut Option<Standing>,
+    ) -> Result<&'a Standing, AllocError>
         requires in_schema { site.0 < self.now.schema.sites }
         ensures value { IfOk result (λ told. Tells field.0 told.now
             (at_site self.now.schema (trace_of self.now) site.0)) }
@@ -144,7 +154,8 @@ impl Trial {
         }
         let known = self.field;
         if known.0 != field.0 {
-            return Err(AllocError);
+            let read = standing_at(self.alloc, &self.world, site, field)?;
+            return Ok(other.insert(read));
         }
         Ok(&self.told[usize::from(site.0)])
     }
