@@ -1,5 +1,5 @@
-use check_kit::{NO_FIELD, STOCK, command, stock_of_two, txn};
-use field_bounds::{Command, Entry, Reply, SiteNo, TxnId};
+use check_kit::{NO_FIELD, STOCK, command, schema_of, stock_of_two, txn};
+use field_bounds::{Command, Entry, FieldNo, Kind, Reply, Schema, SiteNo, TxnId};
 use reaching_steps::*;
 use std::alloc::Global;
 use std::process::Abort;
@@ -10,6 +10,14 @@ const DELIVER: WorldStep = WorldStep::Deliver {
     luck: Luck::Fine,
 };
 
+/// Two sites, the stock, and another field from 0 to 60 at 30: of that each site begins with 15
+/// rights to lower it and 15 to raise it.
+const STOCK_AND_SEATS: &str =
+    r#"{"sites":2,"fields":[{"name":"stock","floor":0,"ceiling":100,"value":40},{"name":"seats","floor":0,"ceiling":60,"value":30}]}"#;
+
+/// The other field.
+const SEATS: FieldNo = FieldNo(1);
+
 fn at(site: u16, command: Command, luck: Luck) -> WorldStep {
     WorldStep::Do {
         site: SiteNo(site),
@@ -18,29 +26,38 @@ fn at(site: u16, command: Command, luck: Luck) -> WorldStep {
     }
 }
 
+fn escrows(site: u16, txn: TxnId, field: FieldNo, change: i64) -> WorldStep {
+    at(site, Command::Escrow { txn, field, change }, Luck::Fine)
+}
+
 /// Site 1 begins, escrows and commits.
-fn moves(txn: TxnId, change: i64) -> [WorldStep; 3] {
-    let escrow = Command::Escrow {
-        txn,
-        field: STOCK,
-        change,
-    };
+fn moves_of(txn: TxnId, field: FieldNo, change: i64) -> [WorldStep; 3] {
     [
         at(1, Command::Begin, Luck::Fine),
-        at(1, escrow, Luck::Fine),
+        escrows(1, txn, field, change),
         at(1, Command::Commit { txn }, Luck::Fine),
     ]
 }
 
-/// A world of two sites in which these steps were taken.
-fn world_after(rt: &impl Abort, alloc: Global, steps: &[WorldStep]) -> World {
-    let schema = stock_of_two(alloc).expect(rt, "memory");
+/// The same on the stock.
+fn moves(txn: TxnId, change: i64) -> [WorldStep; 3] {
+    moves_of(txn, STOCK, change)
+}
+
+/// A world of a schema in which these steps were taken.
+fn world_of(rt: &impl Abort, alloc: Global, schema: Schema, steps: &[WorldStep]) -> World {
     let mut world = World::new(alloc, schema).expect(rt, "memory");
     for step in steps {
         assert!(rt; step_fits(world.schema(), step));
         world.step(alloc, step).expect(rt, "memory");
     }
     world
+}
+
+/// A world of two sites in which these steps were taken.
+fn world_after(rt: &impl Abort, alloc: Global, steps: &[WorldStep]) -> World {
+    let schema = stock_of_two(alloc).expect(rt, "memory");
+    world_of(rt, alloc, schema, steps)
 }
 
 /// What reach of site 0 answers after these steps.
@@ -75,6 +92,47 @@ fn assert_meets(
     fault: ReachFault,
 ) {
     assert_eq!(rt; reached(rt, alloc, steps, target).err(), Some(fault));
+}
+
+/// What reach of site 0 answers of one of the two fields after these steps.
+fn reached_of(
+    rt: &impl Abort,
+    alloc: Global,
+    steps: &[WorldStep],
+    field: FieldNo,
+    target: i64,
+) -> Result<Vec<WorldStep>, ReachFault> {
+    let schema = schema_of(alloc, STOCK_AND_SEATS).expect(rt, "a schema");
+    let world = world_of(rt, alloc, schema, steps);
+    reach(alloc, &world, SiteNo(0), field, target)
+}
+
+/// It takes these steps.
+fn assert_takes_of(
+    rt: &impl Abort,
+    alloc: Global,
+    steps: &[WorldStep],
+    field: FieldNo,
+    target: i64,
+    expected: &[WorldStep],
+) {
+    let taken = reached_of(rt, alloc, steps, field, target).expect(rt, "reached");
+    assert!(rt; taken.as_slice() == expected);
+}
+
+/// It meets this fault.
+fn assert_meets_of(
+    rt: &impl Abort,
+    alloc: Global,
+    steps: &[WorldStep],
+    field: FieldNo,
+    target: i64,
+    fault: ReachFault,
+) {
+    assert_eq!(rt;
+        reached_of(rt, alloc, steps, field, target).err(),
+        Some(fault)
+    );
 }
 
 #[test]
@@ -173,6 +231,84 @@ fn open_transactions_are_aborted(rt: HostRuntime) {
         down[2],
     ];
     assert_takes(&rt, alloc, &open, 20, &expected);
+}
+
+/// Site 1 has lowered the stock by 5 and the seats by 3 in one transaction, and holds 10 and 7 in
+/// another, which is aborted: the stock is moved from 35, and the seats from 27.
+#[test]
+fn escrows_on_another_field(rt: HostRuntime) {
+    let alloc = rt.alloc();
+    let steps = [
+        at(1, Command::Begin, Luck::Fine),
+        escrows(1, txn!(0.1), STOCK, -10),
+        escrows(1, txn!(0.1), SEATS, -7),
+        at(1, Command::Begin, Luck::Fine),
+        escrows(1, txn!(0.2), STOCK, -2),
+        escrows(1, txn!(0.2), SEATS, -3),
+        escrows(1, txn!(0.2), STOCK, -3),
+        at(1, command!(commit 0.2), Luck::Fine),
+    ];
+    let abort = at(1, command!(abort 0.1), Luck::Fine);
+    let stock = moves(txn!(0.3), -10);
+    let expected = [abort, stock[0], stock[1], stock[2]];
+    assert_takes_of(&rt, alloc, &steps, STOCK, 25, &expected);
+    let seats = moves_of(txn!(0.3), SEATS, -7);
+    let expected = [abort, seats[0], seats[1], seats[2]];
+    assert_takes_of(&rt, alloc, &steps, SEATS, 20, &expected);
+}
+
+/// Site 0 holds 4 of its 20 rights on the stock, and 7 of its 15 on the seats: of the 16 that are
+/// free on the stock it spares 8, and is left in doubt. The record of 10 bytes is kept.
+#[test]
+fn spares_in_doubt_beside_escrows(rt: HostRuntime) {
+    let alloc = rt.alloc();
+    let steps = [
+        at(0, Command::Begin, Luck::Fine),
+        escrows(0, txn!(0.1), STOCK, -1),
+        escrows(0, txn!(0.1), SEATS, -7),
+        escrows(0, txn!(0.1), STOCK, -3),
+        at(0, command!(spare 1 stock lower 30), Luck::Torn(10)),
+        at(0, Command::Restart, Luck::Fine),
+        at(0, command!(restate 1 stock lower), Luck::Fine),
+    ];
+    let unstated = ReachFault::Unstated { to: SiteNo(1) };
+    assert_meets_of(&rt, alloc, &steps[..6], STOCK, 40, unstated);
+    let outside = ReachFault::Outside { lo: 12, hi: 70 };
+    assert_meets_of(&rt, alloc, &steps, STOCK, 11, outside);
+    let down = moves(txn!(0.1), -28);
+    let expected = [DELIVER, down[0], down[1], down[2]];
+    assert_takes_of(&rt, alloc, &steps, STOCK, 12, &expected);
+    let seats = moves_of(txn!(0.1), SEATS, -15);
+    assert_takes_of(&rt, alloc, &steps, SEATS, 15, &seats);
+}
+
+/// Of its 15 rights on the seats site 0 spares 8, and is left in doubt: the record of 10 bytes is
+/// kept. On the stock it has all its rights, and has given none.
+#[test]
+fn spares_in_doubt_on_another_field(rt: HostRuntime) {
+    let alloc = rt.alloc();
+    let (to, field, kind) = (SiteNo(1), SEATS, Kind::Lower);
+    let spare = Command::Spare {
+        to,
+        field,
+        kind,
+        want: 30,
+    };
+    let steps = [
+        at(0, spare, Luck::Torn(10)),
+        at(0, Command::Restart, Luck::Fine),
+        at(0, Command::Restate { to, field, kind }, Luck::Fine),
+    ];
+    assert_takes_of(&rt, alloc, &steps[..2], STOCK, 20, &moves(txn!(0.1), -20));
+    let outside = ReachFault::Outside { lo: 20, hi: 70 };
+    assert_meets_of(&rt, alloc, &steps[..2], STOCK, 19, outside);
+    let unstated = ReachFault::Unstated { to };
+    assert_meets_of(&rt, alloc, &steps[..2], SEATS, 15, unstated);
+    let outside = ReachFault::Outside { lo: 7, hi: 45 };
+    assert_meets_of(&rt, alloc, &steps, SEATS, 6, outside);
+    let down = moves_of(txn!(0.1), SEATS, -23);
+    let expected = [DELIVER, down[0], down[1], down[2]];
+    assert_takes_of(&rt, alloc, &steps, SEATS, 7, &expected);
 }
 
 /// Whether it is this step, a command at site 1, and was answered so.
