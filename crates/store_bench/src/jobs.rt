@@ -220,15 +220,34 @@ fn add_reaches(
     Ok(())
 }
 
-/// Values are reached for behind long histories.
-pub fn reaches(alloc: Global, dice: &mut Dice, lines: u32) -> Result<Digest, AllocError> {
-    let mut digest = Digest::new();
+/// Values are reached for behind one history of each kind.
+fn reach_once(
+    alloc: Global,
+    dice: &mut Dice,
+    lines: u32,
+    digest: Digest,
+) -> Result<Digest, AllocError> {
+    let mut digest = digest;
     for part in REACHES {
         let plan = part.plan(0);
         let lines = part.lines(lines);
         let mut script = script_of(alloc, dice, plan, lines)?;
         add_reaches(&mut script, dice, plan, lines)?;
         digest = run(alloc, &script, digest);
+    }
+    Ok(digest)
+}
+
+/// Values are reached for behind long histories, so many of each kind.
+pub fn reaches(
+    alloc: Global,
+    dice: &mut Dice,
+    lines: u32,
+    rounds: u32,
+) -> Result<Digest, AllocError> {
+    let mut digest = Digest::new();
+    for _round in 0..rounds {
+        digest = reach_once(alloc, dice, lines, digest)?;
     }
     Ok(digest)
 }

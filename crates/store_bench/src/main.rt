@@ -2,8 +2,9 @@
 //! through the store's public calls.
 //!
 //! The arguments are the job, `runs`, `restarts`, `reaches`, `audits`, `starts`, `serves` or `all`,
-//! the seed, and how many lines the job has, or transactions for `starts`. It writes the name of
-//! each job and the digest of all that the calls answered.
+//! the seed, and how many lines the job has, or transactions for `starts`; and how many times over
+//! `reaches` takes inputs, once where nothing is said. It writes the name of each job and the
+//! digest of all that the calls answered.
 #![tactic(auto)]
 
 mod dice;
@@ -31,12 +32,13 @@ fn done(
     job: &str,
     seed: u64,
     lines: u32,
+    rounds: u32,
 ) -> Result<Digest, Stopped> {
     let mut dice = Dice::new(seed);
     match job {
         "runs" => Ok(jobs::runs(alloc, &mut dice, lines)?),
         "restarts" => Ok(jobs::restarts(alloc, &mut dice, lines)?),
-        "reaches" => Ok(jobs::reaches(alloc, &mut dice, lines)?),
+        "reaches" => Ok(jobs::reaches(alloc, &mut dice, lines, rounds)?),
         "audits" => Ok(jobs::audits(rt, alloc, &mut dice, lines)?),
         "starts" => sites::starts(alloc, &mut dice, lines),
         "serves" => sites::serves(alloc, &mut dice, lines),
@@ -50,8 +52,9 @@ fn tell<R: Threads + Sync + Print + AllocGlobal>(
     job: &str,
     seed: u64,
     lines: u32,
+    rounds: u32,
 ) -> Option<()> {
-    let digest = done(rt, rt.alloc(), job, seed, lines).ok()?.value();
+    let digest = done(rt, rt.alloc(), job, seed, lines, rounds).ok()?.value();
     println!(rt; "{job} {digest}").ok()
 }
 
@@ -60,9 +63,13 @@ fn run<R: Threads + Sync + Env + Print + AllocGlobal>(rt: &R) -> Option<()> {
     let asked = words.get(1)?.as_str();
     let seed = words.get(2)?.parse::<u64>().ok()?;
     let lines = words.get(3)?.parse::<u32>().ok()?;
+    let rounds = match words.get(4) {
+        Some(word) => word.parse::<u32>().ok()?,
+        None => 1,
+    };
     for job in JOBS {
         if asked == job || asked == "all" {
-            tell(rt, job, seed, lines)?;
+            tell(rt, job, seed, lines, rounds)?;
         }
     }
     Some(())
