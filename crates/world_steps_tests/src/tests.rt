@@ -75,7 +75,12 @@ fn each_call(rt: HostRuntime) {
 
 /// Asks a site a command with no step made of it; the step fits.
 fn ask(rt: &impl Abort, alloc: Global, world: &mut World, site: u16, command: Command) -> Reply {
-    assert!(rt; steps_fit(world.schema(), &[fine(site, command)]));
+    let step = WorldStep::Do {
+        site: SiteNo(site),
+        command,
+        luck: Luck::Fine,
+    };
+    assert!(rt; step_fits(world.schema(), &step));
     world
         .do_fine(alloc, SiteNo(site), command)
         .expect(rt, "memory")
