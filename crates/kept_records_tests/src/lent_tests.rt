@@ -11,7 +11,8 @@ type Walked = (usize, usize, bool);
 fn lent(alloc: Global, bytes: &[u8]) -> Option<Walked> {
     let mut records = LentRecords::new(alloc, bytes);
     let mut count: usize = 0;
-    'lines: loop {
+    // Each turn takes a byte at least.
+    'lines: for _turn in 0..bytes.len().saturating_add(1) {
         if let Some(told) = records.next_common() {
             let whole = records.whole(alloc, told);
             records.give_back(whole);
@@ -27,6 +28,7 @@ fn lent(alloc: Global, bytes: &[u8]) -> Option<Walked> {
             RecordLine::End => return Some((count, records.left(), false)),
         }
     }
+    None
 }
 
 fn read(alloc: Global, bytes: &[u8]) -> Option<Walked> {
