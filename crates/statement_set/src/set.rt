@@ -1,10 +1,15 @@
-//! A set of statements, in an order in which mostly the totals alone are compared.
+//! A set of statements: those of a channel that come in rising order in a row, and the rest in an
+//! order in which mostly the totals alone are compared.
 
-ghost use Rattle.std.specs.Prelude.{◌≡◌, ◌↔◌, ◌⊎◌, [], Some, IsTrue, OnOk, OnErr, Contains};
+ghost use Rattle.std.specs.Prelude.{◌≡◌, ◌↔◌, ◌⊎◌, [], Some, IsTrue, IfOk, OnOk, OnErr, Contains};
+ghost use Rattle.std.specs.Bool.{OnTrue, OnFalse};
 ghost use Rattle.field_bounds.specs.declared.entry.Statement.{Statement};
 ghost use Rattle.field_bounds.specs.Statements.{statement_of};
-ghost use Rattle.statement_set.specs.Keys.{key_of};
+ghost use Rattle.statement_set.specs.Keys.{key_of, statements_of};
+ghost use Rattle.statement_set.specs.Rows.{IsPutAmong};
 
+use crate::row::Channel;
+use crate::rows::Rows;
 use field_bounds::{Entry, FieldNo, Kind, SiteNo, Statement, statement_of};
 use std::alloc::{AllocError, Global};
 use std::collections::BTreeSet;
@@ -33,26 +38,60 @@ fn key_of(statement: Statement) -> Key
     }
 }
 
+// These two are calls, so that what is done at a row, which is the common case, keeps its numbers in
+// registers.
+
+/// Whether a statement is among those in order.
+#[inline(never)]
+fn is_among(rest: &BTreeSet<Key>, statement: Statement) -> bool
+    ensures { IsTrue result ↔ Contains (statements_of rest.now.keys) statement }
+{
+    rest.contains(&key_of(statement))
+}
+
+/// Puts a statement among those in order, unless it is there.
+#[inline(never)]
+fn put_among(rest: &mut BTreeSet<Key>, statement: Statement) -> Result<(), AllocError>
+    ensures ok { OnOk result
+        (IsPutAmong (statements_of rest.old.keys) (statements_of rest.new.keys) statement) }
+    ensures err { OnErr result (rest.new.keys ≡ rest.old.keys) }
+{
+    rest.insert(key_of(statement))?;
+    Ok(())
+}
+
 /// A set of statements. Contracts see it as a list, in which it says which statements are there,
 /// and nothing of their order.
 ///
-/// The statements are kept in order, so a look-up costs a step for each doubling of their number,
-/// whatever they are: no choice of totals makes it slower.
+/// The totals of a channel, of a kind on a field from one site to another, rise in a lawful trace. So
+/// a channel that comes often gets a row: there a total that is greater than those before is put at
+/// their end, and the last one is found by a look. The other statements are kept in order.
+///
+/// A look-up costs a step for each doubling of the number of statements, whatever they are: no choice
+/// of totals or channels makes it slower.
+///
+/// A statement takes 8 to 16 bytes in a row, and 20 to 45 out of one. A row takes 30 to 110 bytes more.
+/// There are no more rows than one for each four statements that are in none, so that the set takes
+/// no more than about twice what it would without rows.
 ///
 /// Source: Balegas and others 2015 for the statements, this project for the set.
 #[derive(Drop)]
 pub struct StatementSet {
-    keys: BTreeSet<Key>,
+    rows: Rows,
+    rest: BTreeSet<Key>,
 }
 
 impl Model for StatementSet {
-    ghost use Rattle.std.specs.Prelude.{List};
+    ghost use Rattle.std.specs.Prelude.{List, ◌++◌};
     ghost use Rattle.field_bounds.specs.declared.entry.Statement.{Statement};
     ghost use Rattle.statement_set.specs.Keys.{statements_of};
+    ghost use Rattle.statement_set.specs.Rows.{rows_told, IsFiled};
 
     ghost Value = { List Statement };
 
-    ghost view = { λ set. statements_of set.keys.keys };
+    ghost view = { λ set. rows_told set.rows.rows.items ++ statements_of set.rest.keys };
+
+    ghost invariant = { λ set. IsFiled set.rows };
 }
 
 impl StatementSet {
@@ -61,27 +100,53 @@ impl StatementSet {
         ensures none { result ≡ [] }
     {
         StatementSet {
-            keys: BTreeSet::new(alloc),
+            rows: Rows::new(alloc),
+            rest: BTreeSet::new(alloc),
         }
     }
 
-    /// Whether the statement is in the set. Costs one look-up.
+    /// Whether the statement is in the set. Costs a look at one row if its total is the last that was
+    /// put there, and a look-up if not. Costs no memory.
     pub fn has(&self, statement: Statement) -> bool
         ensures value { IsTrue result ↔ Contains self.now statement }
     {
-        self.keys.contains(&key_of(statement))
+        self.rows.has(statement) || is_among(&self.rest, statement)
     }
 
-    /// Puts a statement into the set, unless it is there. Costs one look-up, and memory for the
-    /// statement; the error is want of it, and leaves the set as it was.
+    /// Puts a statement into the row of its channel, which is made where that pays, if its total is
+    /// greater than those in it. Tells whether a row has it then.
+    #[inline(always)]
+    fn put_in_row(&mut self, statement: Statement) -> Result<bool, AllocError>
+        ensures there { IfOk result (λ there. OnTrue there
+            (IsPutAmong self.old self.new statement)) }
+        ensures not { IfOk result (λ there. OnFalse there (self.new ≡ self.old)) }
+        ensures err { OnErr result (self.new ≡ self.old) }
+    {
+        match self.rows.row_for(Channel::of(statement), self.rest.len())? {
+            Some(row) => self.rows.put(row, statement),
+            None => Ok(false),
+        }
+    }
+
+    /// Puts a statement into the set. Costs a push if its channel has a row, of totals that are all
+    /// less; if not, one look-up in the row, and one among the statements in no row. Takes memory for
+    /// the statement, and where a row is made, for that; the error is want of it, and leaves the set as
+    /// it was.
+    ///
+    /// When the memory of a row or of the list of rows is full, or two channels want one slot of those
+    /// by which rows are found, it is doubled, which costs a step for each statement, row or slot in
+    /// it: over many calls, a few steps a call.
     pub fn insert(&mut self, statement: Statement) -> Result<(), AllocError>
         ensures ok { OnOk result ((other : Statement) →
             Contains self.new other ↔ ((statement ≡ other) ⊎ Contains self.old other)) }
         ensures err { OnErr result (self.new ≡ self.old) }
     {
-        self.keys.insert(key_of(statement))?;
-        Ok(())
+        if self.put_in_row(statement)? {
+            return Ok(());
+        }
+        put_among(&mut self.rest, statement)
     }
+
     /// Puts the statement that the entry issues, if it issues one, into the set. Costs at most what
     /// `insert` costs; the error is want of memory, and leaves the set as it was.
     pub fn insert_issued(&mut self, entry: &Entry) -> Result<(), AllocError>

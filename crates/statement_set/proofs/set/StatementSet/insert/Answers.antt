@@ -1,16 +1,17 @@
-use Rattle.std.proofs.Common.{◌≡◌, ◌↔◌, ◌⊎◌, subst, Contains, List, true}
+use Rattle.std.proofs.Common.{◌≡◌, ◌∙◌, ◌++◌, subst, List, Bool}
+use Rattle.std.specs.Bool.{OnFalse}
+use Rattle.std.proofs.lemmas.Result.{on_ok_weaker}
 use Rattle.field_bounds.specs.declared.entry.Statement.{Statement}
-use Rattle.statement_set.proofs.Sets.{put_told}
+use Rattle.statement_set.proofs.Told.{behind_put}
 use Rattle.statement_set.specs.Keys.{statements_of}
-use Rattle.statement_set.specs.contracts.set.KeyOrd.TheImpl as order
-use Rattle.std.specs.BTreeSet.{Updates}
-use Rattle.statement_set.specs.declared.set.Key.{Key}
+use Rattle.statement_set.specs.Rows.{IsPutAmong, rows_told}
 use Rattle.statement_set.proofs.set.StatementSet.insert.Goals as goal
 
 pub returns-clause-ok : goal.returns-clause-ok
-returns-clause-ok c other =
-    subst (λ (before : List Statement). Contains (statements_of c.insert.new.self.keys) other ↔ ((c.args.statement ≡ other)
-    ⊎ Contains before other)) c.self.view_is
-    (put_told c.self.inside.keys c.insert.new.self c.args.statement
-    (subst (λ (key : Key). Updates (order.ghosts).cmp c.self.inside.keys c.insert.new.self key true) c.key_of.ensures
-    c.in_ok-insert.ensures.updates) other)
+returns-clause-ok c =
+    let same = subst (λ (there : Bool). OnFalse there (c.put_in_row.new.self ≡ c.args.self.now)) c.if-branch.false c.in_ok-put_in_row.ensures.not in
+    let front = rows_told c.self.inside.rows.rows.items in
+    let behind = statements_of c.put_among.new.rest.keys in
+    on_ok_weaker c.put_among.result (λ put.
+    subst (λ (before : List Statement). IsPutAmong before (front ++ behind) c.args.statement) (c.self.view_is ∙ same)
+    (behind_put front (statements_of c.self.inside.rest.keys) behind c.args.statement put)) c.put_among.ensures.ok
