@@ -1,8 +1,8 @@
 -- What a cursor hands out of a log, and where summaries stand in its lines.
 use Rattle.std.proofs.Common.{◌≡◌, ◌≢◌, ℕ, ◌+◌, ◌-◌, ◌<◌, ◌≤◌, true, false, eqb, List, [], ◌∷◌, ◌++◌, length, take, drop, get_or, refl, sym, ap, subst, ◌∙◌, arith, append_assoc}
-use Rattle.std.specs.Prelude.{◌==◌, slice_index_or, Option, Some, None}
+use Rattle.std.specs.Prelude.{Option, Some, None}
 use Rattle.std.specs.List.{flat_map, list_any, AllByRecursion}
-use Rattle.std.proofs.lemmas.List.{drop_at, take_all, take-append-drop, length-append, length-drop, length-take, get_or-append-add}
+use Rattle.std.proofs.lemmas.List.{drop_at, take-append-drop, length-append, length-take, get_or-append-add}
 use Rattle.std.proofs.Math.Seq.{get_or-append_seam, drop-append-add}
 use Rattle.std.proofs.lemmas.Option.{same_Some}
 use Rattle.line_words.specs.Words.{words}

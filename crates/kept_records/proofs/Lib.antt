@@ -17,4 +17,5 @@ pub mod Told
 pub mod SummaryLoops
 pub mod Cursors
 pub mod Walks
+pub mod Counts
 pub mod Windows

@@ -1,5 +1,5 @@
 -- Lines of records, one after the other.
-use Rattle.std.proofs.Common.{◌≡◌, ℕ, ◌+◌, true, eqb, List, [], ◌∷◌, ◌++◌, length, take, drop, Some, None, refl, sym, ap, ◌∙◌, inl, inr, arith, append_assoc, ◌⊎◌}
+use Rattle.std.proofs.Common.{◌≡◌, ℕ, true, eqb, List, [], ◌∷◌, ◌++◌, length, take, drop, Some, None, refl, sym, ap, ◌∙◌, inl, inr, arith, append_assoc, ◌⊎◌}
 use Rattle.std.specs.List.{flat_map, list_any, AllByRecursion}
 use Rattle.std.proofs.lemmas.Bool.{cases_lt}
 use Rattle.std.proofs.lemmas.List.{take_at, drop_at, take_all, take-append-drop, take-append-le, append-nil, length-append}
@@ -56,14 +56,6 @@ all_push (s ∷ rs) r all one = (all.0, all_push rs r all.1 one)
 pub flat_push : (rs : List Record) (r : Record) → flat_map text (rs ++ r ∷ []) ≡ flat_map text rs ++ text r
 flat_push rs r = flat_map-append text rs (r ∷ []) ∙ ap (λ (l : List ℕ). flat_map text rs ++ l) (append-nil (text r))
 
-pub line_moves : (bytes : List ℕ) (rs : List Record) (rest front behind : List ℕ) (r : Record) → bytes ≡ flat_map text rs ++ rest
-    → rest ≡ front ++ 10 ∷ behind → body r ≡ front → bytes ≡ flat_map text (rs ++ r ∷ []) ++ behind
-line_moves bytes rs rest front behind r parts cut is =
-    let one : rest ≡ text r ++ behind = cut ∙ ap (λ (l : List ℕ). l ++ 10 ∷ behind) (sym is)
-    ∙ sym (append_assoc (body r) (10 ∷ []) behind) in
-    parts ∙ ap (λ (l : List ℕ). flat_map text rs ++ l) one ∙ sym (append_assoc (flat_map text rs) (text r) behind)
-    ∙ ap (λ (l : List ℕ). l ++ behind) (sym (flat_push rs r))
-
 pub are_read : (bytes : List ℕ) (rs : List Record) (rest : List ℕ) (n : ℕ) → bytes ≡ flat_map text rs ++ rest
     → n ≡ length (flat_map text rs) → AllByRecursion IsRecord rs → HasNoLf rest → Reads bytes rs n
 are_read bytes rs rest n parts size each none = record {
@@ -73,11 +65,6 @@ are_read bytes rs rest n parts size each none = record {
   rest = ap (λ (l : List ℕ). list_any (λ b. eqb b 10) (drop n l)) parts
       ∙ ap (list_any (λ b. eqb b 10)) (drop_at (flat_map text rs) rest n (sym size)) ∙ none;
 }
-
-pub line_size : (rs : List Record) (r : Record) (front : List ℕ) (n i : ℕ) → n ≡ length (flat_map text rs) → body r ≡ front
-    → length front ≡ i → n + (i + 1) ≡ length (flat_map text (rs ++ r ∷ []))
-line_size rs r front n i size is len =
-    omega (arith, ap length (flat_push rs r), length-append (flat_map text rs) (text r), length-append (body r) (10 ∷ []), ap length is)
 
 -- ---- fronts of a line
 

@@ -1,12 +1,11 @@
 -- The end of a log, cut where a line starts.
-use Rattle.std.proofs.Common.{◌≡◌, ◌≢◌, ℕ, zero, suc, ◌+◌, ◌-◌, ◌^◌, ◌<◌, ◌≤◌, Bool, true, false, eqb, List, [], ◌∷◌, ◌++◌, length, take, drop, get_or, refl, sym, ap, subst, ◌∙◌, inl, inr, arith, append_assoc, ◌⊎◌}
-use Rattle.std.specs.Prelude.{slice_index_or, ◌==◌, Option, Some, None}
+use Rattle.std.proofs.Common.{◌≡◌, ℕ, ◌+◌, ◌-◌, ◌^◌, ◌<◌, ◌≤◌, Bool, true, false, eqb, List, [], ◌∷◌, ◌++◌, length, take, drop, get_or, refl, sym, ap, subst, ◌∙◌, inl, inr, arith, append_assoc, ◌⊎◌}
+use Rattle.std.specs.Prelude.{slice_index_or, Option, Some, None}
 use Rattle.std.specs.List.{flat_map, list_any, AllByRecursion}
-use Rattle.std.proofs.lemmas.List.{take_at, drop_at, take_all, take-append-drop, drop_more, drop-drop, length-append, length-drop, length-take, get_or-take, get_or-drop}
+use Rattle.std.proofs.lemmas.List.{take_all, take-append-drop, drop_more, drop-drop, length-append, length-drop, length-take, get_or-take, get_or-drop}
 use Rattle.std.proofs.lemmas.Bool.{cases_lt, or_from, eqb-true, eq-eqb}
 use Rattle.std.proofs.lemmas.List.Folds.{list_any_none}
 use Rattle.std.proofs.lemmas.List.Elements.{All-from_get_or}
-use Rattle.kept_records.specs.declared.medium.End.{End}
 use Rattle.kept_records.specs.declared.record.Record.{Record}
 use Rattle.kept_records.specs.declared.record.Record.TheVariants.{Commit, Gift, Accept, Tighten, Restart, Summary}
 use Rattle.kept_records.specs.Text.{text, IsRecord}
@@ -18,7 +17,7 @@ use Rattle.kept_records.specs.Stands.{is_summary}
 use Rattle.kept_records.specs.Cursor.{HandsSummary}
 use Rattle.kept_records.specs.Summary.{SummaryValue, summary_told, summary_record}
 use Rattle.kept_records.specs.ReadingBack.{told_length, PartsAt, AreBehind, HoldsLast, AreLast, IsWhole, IsSummaryLine, IsLastLine}
-use Rattle.kept_records.proofs.Bytes.{Without, one_cut, has_it}
+use Rattle.kept_records.proofs.Bytes.{one_cut, has_it}
 use Rattle.kept_records.proofs.Lines.{body, body_without, first_text, same_log}
 use Rattle.kept_records.proofs.Places.{inside, log_behind, place_within}
 use Rattle.kept_records.proofs.Cursors.{AllPlain, NoSummaryLine, is_one, next_in, plain_after, lines_behind}

@@ -1,9 +1,8 @@
 -- What a cursor over a log hands out (this project).
-use Rattle.std.specs.Prelude.{◌≡◌, ◌⊎◌, ℕ, false, List, ◌++◌, Option, Some, None}
+use Rattle.std.specs.Prelude.{◌≡◌, ℕ, List, ◌++◌, Option, Some, None}
 use Rattle.kept_records.specs.declared.record.Record.{Record}
 use Rattle.kept_records.specs.Text.{text, IsRecord}
-use Rattle.kept_records.specs.Logs.{HasNoLf, IsLog}
-use Rattle.kept_records.specs.Stands.{is_summary}
+use Rattle.kept_records.specs.Logs.{HasNoLf}
 use Rattle.kept_records.specs.Summary.{SummaryValue, summary_record}
 
 -- The old bytes are the record's text and the new ones; or no line ends in them, and they stayed.

@@ -10,5 +10,6 @@ pub mod Keeping
 pub mod Cursor
 pub mod Lines
 pub mod Lent
+pub mod Counting
 pub mod ReadingBack
 pub mod Summaries

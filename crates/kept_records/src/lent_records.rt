@@ -170,6 +170,35 @@ impl<'a> LentRecords<'a> {
         }
     }
 
+    // The same record; but the lent escrows stay lent, and a commit has a copy of them, in as much
+    // memory as they take. The error is want of that.
+    #[inline(always)]
+    pub(crate) fn copied(&mut self, alloc: Global, told: CommonRecord) -> Result<Record, AllocError>
+        ensures copied { IfOk result (λ kept. kept ≡ record_told told self.old.escrows) }
+        ensures same { self.new.left ≡ self.old.left }
+    {
+        if let CommonRecord::Commit { txn } = told {
+            let escrows = Escrows::new(Vec::from_slice(alloc, &self.held)?);
+            return Ok(Record::Commit { txn, escrows });
+        }
+        Ok(self.whole(alloc, told))
+    }
+
+    // A record that `next_line` took. A commit has a copy of its escrows, in as much memory as they
+    // take; the memory that they were read into is lent from then on. The error is want of memory.
+    pub(crate) fn copied_line(&mut self, alloc: Global, next: Record) -> Result<Record, AllocError>
+        ensures copied { IfOk result (λ kept. kept ≡ next) }
+        ensures same { self.new.left ≡ self.old.left }
+    {
+        match next {
+            Record::Commit { txn, escrows } => {
+                self.held = escrows.into_buffer();
+                self.copied(alloc, CommonRecord::Commit { txn })
+            }
+            other => Ok(other),
+        }
+    }
+
     /// Takes the next line where it is the text of a record, of any kind; else tells why not, and
     /// leaves the bytes as they are. The error is want of memory; it leaves them too. Costs a pass
     /// over the line, and serves where `next_common`, which is quicker, told None. Memory is taken

@@ -2,6 +2,7 @@
 //! written to it, one line each, so that a torn end can't corrupt what was kept before.
 #![tactic(auto)]
 
+mod counting;
 mod cursor;
 mod keeping;
 mod laws;
@@ -20,6 +21,7 @@ mod torn;
 mod total;
 mod writing;
 
+pub use counting::{LogCount, count_log};
 pub use cursor::Cursor;
 pub use keeping::{
     append_commit, append_piece, append_record, append_restart_piece, starts_with_no_restart,

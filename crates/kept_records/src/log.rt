@@ -7,8 +7,9 @@ ghost use Rattle.kept_records.specs.Text.{text};
 ghost use Rattle.kept_records.specs.Logs.{Reads, AreAll, AreGoodRecords};
 ghost use Rattle.kept_records.specs.Faults.{TellsBadLine, TellsNoLog};
 
-use crate::reading::{LineFault, read_line};
+use crate::lent_records::LentRecords;
 use crate::record::Record;
+use crate::record_lines::RecordLine;
 use std::alloc::{AllocError, Global};
 use thiserror::Error;
 
@@ -50,7 +51,8 @@ pub(crate) fn line_feed(bytes: &[u8]) -> Option<usize>
 /// there. Where each is a record, these are all the records of the bytes, and what lies behind them
 /// is a torn record, whatever it is. Else `bad_line` is the number of the records and 1: that line
 /// is the text of no record. The error is want of memory. Costs a pass over the bytes, and memory
-/// for the records.
+/// for the records, a commit's escrows in no more than they take; and, while it runs, once more for
+/// the escrows of a commit.
 pub fn read_front(alloc: Global, bytes: &[u8]) -> Result<Front, AllocError>
     ensures front { IfOk result (λ front. AreGoodRecords bytes.now front.records.items front.length
         front.bad_line) }
@@ -58,30 +60,23 @@ pub fn read_front(alloc: Global, bytes: &[u8]) -> Result<Front, AllocError>
         ≡ length (flat_map text front.records.items)) }
 {
     let mut records = Vec::new(alloc);
-    let mut spare = Vec::new(alloc);
-    let mut length = 0;
-    let mut rest = bytes;
-    while let Some(end) = line_feed(rest) {
-        let kept = match read_line(alloc, &mut spare, &rest[..end]) {
-            Ok(kept) => kept,
-            Err(LineFault::NoRecord) => {
-                let bad_line = Some(records.len() as u64 + 1);
-                return Ok(Front {
-                    records,
-                    length,
-                    bad_line,
-                });
-            }
-            Err(LineFault::NoMemory) => return Err(AllocError),
-        };
-        records.push(kept)?;
-        length += end + 1;
-        rest = &rest[end + 1..];
-    }
+    let mut lines = LentRecords::new(alloc, bytes);
+    let bad_line = 'lines: loop {
+        if let Some(told) = lines.next_common() {
+            records.push(lines.copied(alloc, told)?)?;
+            continue 'lines;
+        }
+        match lines.next_line(alloc)? {
+            RecordLine::Record(next) => records.push(lines.copied_line(alloc, next)?)?,
+            RecordLine::NoRecord => break 'lines Some(records.len() as u64 + 1),
+            RecordLine::End => break 'lines None,
+        }
+    };
+    let length = bytes.len() - lines.left();
     Ok(Front {
         records,
         length,
-        bad_line: None,
+        bad_line,
     })
 }
 

@@ -200,7 +200,7 @@ pub fn count_plain(records: &[Record]) -> usize
     count
 }
 
-fn is_summary(kept: &Record) -> bool
+pub(crate) fn is_summary(kept: &Record) -> bool
     ensures value { result ≡ is_summary kept.now }
 {
     match kept {

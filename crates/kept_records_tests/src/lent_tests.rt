@@ -52,7 +52,7 @@ fn same_fronts(alloc: Global, lines: &[&str]) -> Option<bool> {
 }
 
 /// Lines whose numbers have each length up to the longest, beside the ends of the ranges.
-const NUMBERS: [&str; 16] = [
+pub(crate) const NUMBERS: [&str; 16] = [
     "C 1 12 0 -1 7 12\n",
     "C 12 123 65 123 654 -1234\n",
     "C 123 1234 6553 -12345 0 123456\n",

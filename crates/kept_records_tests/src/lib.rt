@@ -4,6 +4,8 @@
 #[cfg(test)]
 mod end_tests;
 #[cfg(test)]
+mod front_tests;
+#[cfg(test)]
 mod lent_tests;
 #[cfg(test)]
 mod tests;

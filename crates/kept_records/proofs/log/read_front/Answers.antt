@@ -1,91 +1,29 @@
-use Rattle.std.proofs.Common.{◌≡◌, ◌+◌, ◌-◌, ℕ, List, [], ◌∷◌, ◌++◌, length, take, drop, None, arith, sym, ap, ◌∙◌, subst, refl}
-use Rattle.std.proofs.lemmas.List.{take_rest, length-take, length-append}
-use Rattle.std.specs.List.{flat_map, AllByRecursion}
-use Rattle.kept_records.specs.declared.record.Record.{Record}
-use Rattle.line_words.specs.Words.{words}
-use Rattle.kept_records.specs.Text.{text, IsRecord}
-use Rattle.kept_records.specs.Reading.{record_of}
-use Rattle.kept_records.specs.Logs.{Reads, IsBadLine}
-use Rattle.kept_records.proofs.Bytes.{found, missing}
-use Rattle.kept_records.proofs.Lines.{line_takes, no_record, line_moves, all_push, are_read, line_size, only_log}
+use Rattle.std.proofs.Common.{◌≡◌, ◌-◌, ◌+◌, ℕ, List, length, Option, Some, sym, ap, subst, ◌∙◌, arith}
+use Rattle.kept_records.specs.declared.record_lines.RecordLine.{RecordLine}
+use Rattle.kept_records.specs.Logs.{AreGoodRecords}
+use Rattle.kept_records.specs.Lines.{HandsLine}
+use Rattle.kept_records.proofs.Walks.{begins_size, ends_there, bad_there}
 use Rattle.kept_records.proofs.log.read_front.Goals as goal
-
-pub returns-in-Err-NoRecord-clause-front : goal.returns-in-Err-NoRecord-clause-front
-returns-in-Err-NoRecord-clause-front c =
-    let rest = c.loop-end.rest.now in
-    let end = c.in-Some.end in
-    let cut = found 10 rest end (sym c.in-Some.ensures) in
-    let none : record_of (words (take end rest)) ≡ None = rw c.in-Err-NoRecord.field-0-is at c.in-Err-NoRecord.ensures in
-    let bad : IsBadLine c.args.bytes.now (c.len.result + 1) = record {
-      before = c.loop-end.records.items;
-      line = take end rest;
-      behind = drop (end + 1) rest;
-      place = omega (arith, c.len.ensures, c.loop-end.records.ok.0);
-      parts = c.loop-end.invariant.parts ∙ ap (λ (l : List ℕ). flat_map text c.loop-end.records.items ++ l) cut.parts;
-      each = c.loop-end.invariant.each;
-      one_line = cut.front;
-      none = no_record (take end rest) cut.front none;
-    } in
-    (bad, refl)
-
-pub loop-end-preserved : goal.loop-end-preserved
-loop-end-preserved c =
-    let rest = c.loop-end.rest.now in
-    let end = c.in-Some.end in
-    let rs = c.loop-end.records.items in
-    let r = c.in-Ok.kept in
-    let cut = found 10 rest end (sym c.in-Some.ensures) in
-    let read = line_takes (take end rest) r c.in-Ok.ensures in
-    let more : c.push.new.self.items ≡ rs ++ r ∷ [] = c.in_ok-push.ensures.items in
-    record {
-      parts = line_moves c.args.bytes.now rs rest (take end rest) (drop (end + 1) rest) r c.loop-end.invariant.parts cut.parts read.0
-          ∙ ap (λ (l : List ℕ). flat_map text (rs ++ r ∷ []) ++ l) (sym (take_rest rest (end + 1)))
-          ∙ ap (λ (l : List Record). flat_map text l ++ take (length rest - (end + 1)) (drop (end + 1) rest)) (sym more);
-      size = line_size rs r (take end rest) c.loop-end.length end c.loop-end.invariant.size read.0
-          (omega (arith, length-take end rest, cut.within)) ∙ ap (λ (l : List Record). length (flat_map text l)) (sym more);
-      each = subst (AllByRecursion IsRecord) (sym more) (all_push rs r c.loop-end.invariant.each read.1);
-    }
+use Rattle.kept_records.proofs.log.read_front.Goals.{in-NoRecord, in-End}
 
 pub returns-clause-front : goal.returns-clause-front
 returns-clause-front c =
     let bytes = c.args.bytes.now in
-    let now = c.loop-end in
-    let reads : Reads bytes now.records.items now.length =
-    are_read bytes now.records.items now.rest.now now.length now.invariant.parts now.invariant.size now.invariant.each
-    (missing 10 now.rest.now (sym c.in_default.ensures)) in
-    (reads, only_log bytes now.records.items now.length reads)
-
-pub returns-clause-length : goal.returns-clause-length
-returns-clause-length c = c.loop-end.invariant.size
-
-pub returns-in-Err-NoRecord-clause-length : goal.returns-in-Err-NoRecord-clause-length
-returns-in-Err-NoRecord-clause-length c = c.loop-end.invariant.size
-
-pub slice_bounds-rest-start : goal.slice_bounds-rest-start
-slice_bounds-rest-start c =
-    let cut = found 10 c.loop-end.rest.now c.in-Some.end (sym c.in-Some.ensures) in
-    omega (arith, cut.within)
-
-pub overflow_add-length : goal.overflow_add-length
-overflow_add-length c =
-    let rest = c.loop-end.rest.now in
-    let texts = flat_map text c.loop-end.records.items in
-    let cut = found 10 rest c.in-Some.end (sym c.in-Some.ensures) in
-    let whole : length c.args.bytes.now ≡ length texts + length rest = ap length c.loop-end.invariant.parts ∙ length-append texts rest in
-    omega (arith, whole, cut.within, c.loop-end.invariant.size)
-
-pub overflow_add-length-in-Some : goal.overflow_add-length-in-Some
-overflow_add-length-in-Some c =
-    let rest = c.loop-end.rest.now in
-    let texts = flat_map text c.loop-end.records.items in
-    let cut = found 10 rest c.in-Some.end (sym c.in-Some.ensures) in
-    let whole : length c.args.bytes.now ≡ length texts + length rest = ap length c.loop-end.invariant.parts ∙ length-append texts rest in
-    omega (arith, whole, cut.within, c.loop-end.invariant.size)
-
-pub overflow_add-rest : goal.overflow_add-rest
-overflow_add-rest c =
-    let rest = c.loop-end.rest.now in
-    let texts = flat_map text c.loop-end.records.items in
-    let cut = found 10 rest c.in-Some.end (sym c.in-Some.ensures) in
-    let whole : length c.args.bytes.now ≡ length texts + length rest = ap length c.loop-end.invariant.parts ∙ length-append texts rest in
-    omega (arith, whole, cut.within, c.loop-end.invariant.size)
+    let left = c.lines.lines.left in
+    let records = c.lines.records.items in
+    let so_far = c.lines.invariant.front in
+    let new = c.next_line.new.self.left in
+    let handed = subst (λ (l : List ℕ). HandsLine l c.in_ok-next.field-0 new) c.in_default.ensures.handed c.in_ok-next.ensures.handed in
+    let size : ℕ = length bytes - c.left.result in
+    elim c.match-branch-4.branch [
+      | in-NoRecord w ↦
+          let bad = subst (λ (l : RecordLine). HandsLine left l new) w.in-NoRecord.is handed in
+          let line : length records + 1 ≡ w.len.result + 1 = omega (arith, w.len.ensures, c.lines.records.ok.0) in
+          subst (λ (found : Option ℕ). AreGoodRecords bytes records size found) (ap (λ (n : ℕ). Some n) line ∙ sym w.bad_line-is)
+          (bad_there bytes records left size so_far bad.0)
+      | in-End w ↦
+          let none = subst (λ (l : RecordLine). HandsLine left l new) w.in-End.is handed in
+          subst (λ (found : Option ℕ). AreGoodRecords bytes records size found) (sym w.bad_line-is)
+          (ends_there bytes records left size so_far none.0
+          (omega (arith, c.left.ensures.value, ap length none.1, begins_size bytes records left so_far)))
+    ]

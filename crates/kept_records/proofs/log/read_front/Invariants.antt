@@ -1,14 +1,13 @@
-use Rattle.std.proofs.Common.{◌≡◌, ◌++◌, length}
-use Rattle.std.specs.List.{flat_map, AllByRecursion}
-use Rattle.kept_records.specs.Text.{text, IsRecord}
+-- The records so far are those in front of the lines that are left.
+use Rattle.std.proofs.Common.{◌≤◌, length}
+use Rattle.kept_records.specs.Lines.{Begins}
 use Rattle.kept_records.proofs.log.read_front.Given as goal
 
-abbrev pub invariant-loop-end : goal.invariant-loop-end
-invariant-loop-end l = record {
-  parts : l.bytes ≡ flat_map text l.records.items ++ l.rest;
-  size : l.length ≡ length (flat_map text l.records.items);
-  each : AllByRecursion IsRecord l.records.items;
+abbrev pub invariant-lines : goal.invariant-lines
+invariant-lines l = record {
+  within : length l.lines.left ≤ length l.bytes;
+  front : Begins l.bytes l.records.items l.lines.left;
 }
 
-abbrev pub decreases-loop-end : goal.decreases-loop-end
-decreases-loop-end l = length l.rest
+abbrev pub decreases-lines : goal.decreases-lines
+decreases-lines l = length l.lines.left

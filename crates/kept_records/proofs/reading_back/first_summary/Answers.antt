@@ -1,4 +1,4 @@
-use Rattle.std.proofs.Common.{◌≡◌, ◌-◌, List, ℕ, length, ap, subst}
+use Rattle.std.proofs.Common.{◌-◌, List, ℕ, length, ap, subst}
 use Rattle.kept_records.specs.Cursor.{HandsSummary}
 use Rattle.kept_records.proofs.Cursors.{handed_left}
 use Rattle.kept_records.proofs.reading_back.first_summary.Goals as goal

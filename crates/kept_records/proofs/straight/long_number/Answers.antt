@@ -1,4 +1,4 @@
-use Rattle.std.proofs.Common.{refl, ◌≡◌, ◌<◌, length, get_or, sym, ◌∙◌, arith}
+use Rattle.std.proofs.Common.{refl, ◌<◌, length, get_or, sym, arith}
 use Rattle.std.proofs.lemmas.Bool.Decides.{nat_tests}
 use Rattle.line_words.proofs.Numbers.{digit_is}
 use Rattle.kept_records.proofs.Digits.{spelled, one_digit}

@@ -1,4 +1,4 @@
-use Rattle.std.proofs.Common.{◌≡◌, ◌∷◌, [], ◌++◌, ℕ, List}
+use Rattle.std.proofs.Common.{◌∷◌, [], ℕ, List}
 use Rattle.std.specs.Fmt.{decimal}
 use Rattle.kept_records.specs.Text.{kind_word}
 use Rattle.kept_records.proofs.AtFront.{word_before}
