@@ -4,3 +4,4 @@ pub mod Once
 pub mod Told
 pub mod Rising
 pub mod SummaryThen
+pub mod LogBytes

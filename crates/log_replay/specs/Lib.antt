@@ -3,3 +3,4 @@ pub mod Replayed
 pub mod Resuming
 pub mod Telling
 pub mod After
+pub mod LogBytes

@@ -7,7 +7,7 @@ ghost use Rattle.gift_ledger.specs.Ledger.{IsSlot};
 
 use check_kit::{STOCK, stock_of_two};
 use field_bounds::{Kind, SiteNo};
-use kept_records::{MemoryMedium, Record, read_back, read_records};
+use kept_records::{MemoryMedium, Record, read_back, read_front, read_records};
 use log_replay::*;
 use std::alloc::Global;
 
@@ -299,4 +299,154 @@ fn a_summary_after_one_more_record(rt: HostRuntime) {
         Some((0, Some((15, 30)), (1, 0, 0)))
     );
     assert_eq!(rt; told_after_gift(alloc, 21), None);
+}
+
+/// What the bytes of a log come to: what it stands for and the length of its records, or the first
+/// line that is no record, or the first record that breaks a rule.
+#[derive(Clone, Copy, Debug, PartialEq, Eq)]
+enum Came {
+    To(Stands, usize),
+    BadLine(u64),
+    BreaksRule(u64),
+}
+
+const GIVEN: Stands = stands!(lower: 15, given: 5);
+
+/// Logs with a torn end, with lines that are no records, and with records that break a rule, before
+/// and behind one another. The gift of five has 10 bytes, the commit of twenty 12.
+const ROWS: [(&str, Came); 31] = [
+    ("", Came::To(PARTS, 0)),
+    ("x", Came::To(PARTS, 0)),
+    ("R 1", Came::To(PARTS, 0)),
+    ("R 1\n", Came::To(stands!(epoch: 1), 4)),
+    ("G 1 0 l 5\nG 1 0 l", Came::To(GIVEN, 10)),
+    ("G 1 0 l 5\nS 0 1 15 3", Came::To(GIVEN, 10)),
+    (
+        "C 0 1 0 -20\nG 1 0 l 1",
+        Came::To(stands!(lower: 0, raise: 50), 12),
+    ),
+    // The summary has 22 bytes.
+    ("G 1 0 l 5\nS 0 1 15 30 g 1 0 l 5\nx", Came::To(GIVEN, 32)),
+    ("\n", Came::BadLine(1)),
+    ("x\n", Came::BadLine(1)),
+    ("R 0\n", Came::BadLine(1)),
+    ("R 1\r\n", Came::BadLine(1)),
+    ("G 1 0 l 05\n", Came::BadLine(1)),
+    ("C 0 1\n", Came::BadLine(1)),
+    ("S 0 0\n", Came::BadLine(1)),
+    ("G 1 0 l 5\nC 0 1 0\nG 1 0 l 6\n", Came::BadLine(2)),
+    ("S 0 1 20 30\n\n", Came::BadLine(2)),
+    // A broken rule in front of a line that is no record.
+    ("G 1 0 l 21\nx\n", Came::BadLine(2)),
+    ("S 0 1 20 31\nx\n", Came::BadLine(2)),
+    ("R 1\nR 1\nS 1 1 20 30\nC 1 1 0 -1\n\n", Came::BadLine(5)),
+    ("S 0 1 20 31\nS 0 1 20 31\nx\nx\n", Came::BadLine(3)),
+    // Behind one.
+    ("x\nG 1 0 l 21\n", Came::BadLine(1)),
+    ("R 1\nx\nR 1\n", Came::BadLine(2)),
+    ("R 1\nx\nS 0 1 20 31\n", Came::BadLine(2)),
+    // No line is bad: what is torn is none.
+    ("G 1 0 l 21\nx", Came::BreaksRule(1)),
+    ("R 1\nR 1\nR 2\nR 2\nx", Came::BreaksRule(2)),
+    ("S 0 1 20 31\nG 1 0 l 21\nS 0 1 20 30", Came::BreaksRule(1)),
+    ("G 1 0 l 5\nS 0 1 20 30\n", Came::BreaksRule(2)),
+    ("S 0 1 20 30\nS 1 1 20 30\nR 1\n", Came::BreaksRule(2)),
+    ("T 0 l 5\nA 1 0 l 56\nR 1\n", Came::BreaksRule(2)),
+    ("C 0 1 0 -1 0 -1\nC 0 2 0 -19\n", Came::BreaksRule(2)),
+];
+
+/// What a log comes to, straight from its bytes, or None where memory was refused.
+fn from_bytes(alloc: Global, bytes: &[u8]) -> Option<Came> {
+    let schema = stock_of_two(alloc)?;
+    if schema.sites() != 2 || schema.fields() != 1 {
+        return None;
+    }
+    match replay_log(alloc, &schema, HERE, bytes) {
+        Ok(LogReplayed::Standing { standing, length }) => {
+            Some(Came::To(read_off(&standing), length))
+        }
+        Ok(LogReplayed::BadLine { number }) => Some(Came::BadLine(number)),
+        Ok(LogReplayed::BreaksRule { number }) => Some(Came::BreaksRule(number)),
+        Err(_) => None,
+    }
+}
+
+/// The same, of the list of its records.
+fn from_records(alloc: Global, bytes: &[u8]) -> Option<Came> {
+    let schema = stock_of_two(alloc)?;
+    if schema.sites() != 2 || schema.fields() != 1 {
+        return None;
+    }
+    let front = read_front(alloc, bytes).ok()?;
+    if let Some(number) = front.bad_line {
+        return Some(Came::BadLine(number));
+    }
+    match replay(alloc, &schema, HERE, &front.records) {
+        Ok(Replayed::Standing(standing)) => Some(Came::To(read_off(&standing), front.length)),
+        Ok(Replayed::BreaksRule { number }) => Some(Came::BreaksRule(number)),
+        Err(_) => None,
+    }
+}
+
+#[test]
+fn logs_come_to_the_same_from_bytes(rt: HostRuntime) {
+    for (log, came) in &ROWS {
+        assert_eq!(rt;
+            from_bytes(rt.alloc(), log.as_bytes()),
+            Some(*came),
+            "{log}"
+        );
+        assert_eq!(rt;
+            from_records(rt.alloc(), log.as_bytes()),
+            Some(*came),
+            "{log}"
+        );
+    }
+}
+
+#[test]
+fn lawful_logs_from_bytes(rt: HostRuntime) {
+    for (log, stands) in &LAWFUL {
+        let came = Some(Came::To(*stands, log.len()));
+        assert_eq!(rt; from_bytes(rt.alloc(), log.as_bytes()), came, "{log}");
+    }
+}
+
+#[test]
+fn broken_logs_from_bytes(rt: HostRuntime) {
+    for (log, number) in &BROKEN {
+        let came = Some(Came::BreaksRule(*number));
+        assert_eq!(rt; from_bytes(rt.alloc(), log.as_bytes()), came, "{log}");
+    }
+}
+
+/// The log of a commit of so many escrows, of one right each: six bytes, and five for each escrow.
+fn commit_of(alloc: Global, escrows: u8) -> Option<Vec<u8>> {
+    let mut log = Vec::from_slice(alloc, b"C 0 1").ok()?;
+    for _escrow in 0..escrows {
+        log.extend_from_slice(b" 0 -1").ok()?;
+    }
+    log.push(b'\n').ok()?;
+    Some(log)
+}
+
+/// What that comes to.
+fn committed(alloc: Global, escrows: u8) -> Option<Came> {
+    from_bytes(alloc, commit_of(alloc, escrows)?.as_slice())
+}
+
+#[test]
+fn commits_from_bytes(rt: HostRuntime) {
+    for escrows in 1..17u8 {
+        let spent = u64::from(escrows);
+        let stands = Stands {
+            lower: 20 - spent,
+            raise: 30 + spent,
+            ..PARTS
+        };
+        let came = Came::To(stands, 6 + 5 * usize::from(escrows));
+        assert_eq!(rt; committed(rt.alloc(), escrows), Some(came));
+    }
+    assert_eq!(rt; committed(rt.alloc(), 0), Some(Came::BadLine(1)));
+    assert_eq!(rt; committed(rt.alloc(), 17), Some(Came::BadLine(1)));
 }

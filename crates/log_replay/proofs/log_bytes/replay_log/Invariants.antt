@@ -1,0 +1,13 @@
+use Rattle.std.proofs.Common.{◌+◌, ◌≤◌, length}
+use Rattle.log_replay.specs.LogBytes.{TakenIn}
+use Rattle.log_replay.proofs.log_bytes.replay_log.Given as goal
+
+-- the records so far were taken in
+abbrev pub invariant-lines : goal.invariant-lines
+invariant-lines l = record {
+  few : l.number + length l.lines.left ≤ length l.fn.bytes;
+  taken : TakenIn l.fn.schema l.fn.site.0 l.fn.bytes l.standing l.number l.lines.left;
+}
+
+abbrev pub decreases-lines : goal.decreases-lines
+decreases-lines l = length l.lines.left
