@@ -9,3 +9,4 @@ pub mod LostReadings
 pub mod Left
 pub mod HeaderLines
 pub mod AllKnown
+pub mod Gathered

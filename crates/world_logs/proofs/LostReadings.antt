@@ -1,21 +1,24 @@
 -- What the standings for the known logs tell.
-use Rattle.std.proofs.Common.{◌≡◌, ℕ, ◌<◌, Bool, true, false, List, [], ◌∷◌, length, map, Option, Some, None, refl, sym, ◌∙◌, ap, subst, arith}
+use Rattle.std.proofs.Common.{◌≡◌, ℕ, ◌<◌, Bool, true, false, List, [], ◌∷◌, length, map, get_or, Option, Some, None, refl, sym, ◌∙◌, ap, subst, inl, inr, arith}
 use Rattle.std.specs.Prelude.{is_none, unwrap_or, option_map}
 use Rattle.std.specs.Global.{Vec}
-use Rattle.std.proofs.lemmas.List.{get_or-map, length-map}
+use Rattle.std.proofs.lemmas.Bool.{cases_lt}
+use Rattle.std.proofs.lemmas.List.{get_or-map, get_or_past, length-map}
 use Rattle.field_bounds.specs.declared.kind.Kind.{Kind}
 use Rattle.field_bounds.specs.Schema.{SchemaValue}
 use Rattle.kept_records.specs.declared.record.Record.{Record}
 use Rattle.kept_records.specs.Stands.{Lawful, BreaksRule as IsFirstBroken}
+use Rattle.world_logs.specs.declared.fault.Excess.{Excess}
 use Rattle.world_logs.specs.declared.fault.WorldFault.{WorldFault}
 use Rattle.world_logs.specs.declared.fault.WorldFault.TheVariants.{BreaksRule, AcceptedMore, TooMuch, NoMemory}
-use Rattle.world_logs.specs.Faults.{IsGiven, IsFirstUnlawful, TellsOfLog, TellsUnlawful}
+use Rattle.world_logs.specs.Faults.{IsGiven, IsFirstUnlawful, IsFirstExcess, TellsOfLog, TellsUnlawful}
 use Rattle.world_logs.specs.Logs.{log_of}
 use Rattle.world_logs.specs.Lost.{known_of, lost_in, known_records, known_log, flight_by}
 use Rattle.log_replay.specs.declared.standing.Standing.{Standing}
+use Rattle.log_replay.specs.Standing.{IsStandingFor}
 use Rattle.world_logs.specs.Body.{StandFor, is_lost, IsKnownPair}
 use Rattle.world_logs.specs.LostFaults.{KnownWithin, TellsTooMuch, TellsKnownFault}
-use Rattle.world_logs.specs.LostBody.{records_in, StandForKnown}
+use Rattle.world_logs.specs.LostBody.{records_in, StandForKnown, StandsWhereKnown, AreForKnown, IsFilled, AreFilled}
 use Rattle.world_logs.proofs.Own.{given_own}
 
 -- the log of a site that is there
@@ -77,7 +80,7 @@ records_are [] = refl
 records_are (o ∷ logs) = ap (λ (ls : List (List Record)). records_in o ∷ ls) (records_are logs)
 
 -- which logs are lost, as it was told
-pub told_lost_is : (logs : List (Option (Vec Record))) (lost told_lost : List Bool) → told_lost ≡ lost
+told_lost_is : (logs : List (Option (Vec Record))) (lost told_lost : List Bool) → told_lost ≡ lost
     → lost ≡ map (λ (o : Option (Vec Record)). is_none o) logs → told_lost ≡ lost_in (known_of logs)
 told_lost_is logs lost told_lost same is = same ∙ is ∙ lost_same logs
 
@@ -92,11 +95,36 @@ stand_for_known schema logs standings told lost told_lost count stand same same_
       lost_is = λ s. ap (λ (l : List Bool). is_lost l s) (told_lost_is logs lost told_lost same_lost is);
     }
 
-pub known_within : (schema : SchemaValue) (known : List (Option (List Record))) (lost : List Bool) → lost ≡ lost_in known
+-- which pairs of sites are known, by which logs are lost
+known_pair : (schema : SchemaValue) (lost others : List Bool) → ((s : ℕ) → is_lost lost s ≡ is_lost others s) → (from to f : ℕ)
+    → IsKnownPair schema lost from to f → IsKnownPair schema others from to f
+known_pair schema lost others same from to f known = record {
+  pair = known.pair;
+  from_known = sym (same from) ∙ known.from_known;
+  to_known = sym (same to) ∙ known.to_known;
+}
+
+pub known_within : (schema : SchemaValue) (known : List (Option (List Record))) (lost : List Bool)
+    → ((s : ℕ) → is_lost lost s ≡ is_lost (lost_in known) s)
     → ((from to f : ℕ) (k : Kind) → IsKnownPair schema lost from to f → IsGiven (known_records known) from to f k)
     → KnownWithin schema known
-known_within schema known lost is within from to f k pair =
-    within from to f k (subst (λ (l : List Bool). IsKnownPair schema l from to f) (sym is) pair)
+known_within schema known lost same within from to f k pair =
+    within from to f k (known_pair schema (lost_in known) lost (λ s. sym (same s)) from to f pair)
+
+pub first_known : (schema : SchemaValue) (known : List (Option (List Record))) (lost : List Bool) (e : Excess)
+    → ((s : ℕ) → is_lost lost s ≡ is_lost (lost_in known) s) → IsFirstExcess (IsKnownPair schema lost) (known_records known) e
+    → IsFirstExcess (IsKnownPair schema (lost_in known)) (known_records known) e
+first_known schema known lost e same first =
+    let back : (from to f : ℕ) → IsKnownPair schema (lost_in known) from to f → IsKnownPair schema lost from to f =
+    known_pair schema (lost_in known) lost (λ s. sym (same s)) in
+    record {
+      pair = known_pair schema lost (lost_in known) same e.from.0 e.to.0 e.field.0 first.pair;
+      excess = first.excess;
+      receivers = λ from to f k less pair. first.receivers from to f k less (back from to f pair);
+      givers = λ from f k less pair. first.givers from f k less (back from e.to.0 f pair);
+      fields = first.fields;
+      kinds = first.kinds;
+    }
 
 pub too_much_tells : (schema : SchemaValue) (known : List (Option (List Record))) (fault : WorldFault) → KnownWithin schema known
     → TellsTooMuch schema known fault → TellsKnownFault schema known fault
@@ -111,3 +139,65 @@ unlawful_tells schema known (BreaksRule site number) told = told
 unlawful_tells schema known (AcceptedMore excess) told = absurd told
 unlawful_tells schema known (TooMuch field) told = absurd told
 unlawful_tells schema known NoMemory told = tt
+
+-- ---- standings where logs are known
+
+-- what they tell of one site
+lawful_at : (schema : SchemaValue) (s : ℕ) (log : Option (List Record)) (told : Option Standing) → StandsWhereKnown schema s log told
+    → Lawful schema s (unwrap_or log [])
+lawful_at schema s None told stands = tt
+lawful_at schema s (Some rs) None stands = absurd stands
+lawful_at schema s (Some rs) (Some standing) stands = stands.0
+
+filled_at : (schema : SchemaValue) (s : ℕ) (log : Option (List Record)) (told : Option Standing) (one : Standing)
+    → StandsWhereKnown schema s log told → IsFilled schema s told one → IsStandingFor schema s (unwrap_or log []) one
+filled_at schema s None None one stands filled = filled
+filled_at schema s None (Some standing) one stands filled = absurd stands
+filled_at schema s (Some rs) None one stands filled = absurd stands
+filled_at schema s (Some rs) (Some standing) one stands filled =
+    subst (λ (x : Standing). IsStandingFor schema s rs x) (sym filled) stands.1
+
+none_at : (schema : SchemaValue) (s : ℕ) (log : Option (List Record)) (told : Option Standing) → StandsWhereKnown schema s log told
+    → is_none told ≡ is_none log
+none_at schema s None None stands = refl
+none_at schema s None (Some standing) stands = absurd stands
+none_at schema s (Some rs) None stands = absurd stands
+none_at schema s (Some rs) (Some standing) stands = refl
+
+-- which logs are lost, site by site
+none_where_lost : (schema : SchemaValue) (known : List (Option (List Record))) (standings : List (Option Standing))
+    → AreForKnown schema known standings → (s : ℕ)
+    → is_lost (map (λ (o : Option Standing). is_none o) standings) s ≡ is_lost (lost_in known) s
+none_where_lost schema known standings for_ s = elim (cases_lt s schema.sites) [
+  | inl site_in ↦
+      get_or-map (λ (o : Option Standing). is_none o) standings s None false (omega (arith, site_in, for_.count))
+      ∙ none_at schema s (known_log known s) (get_or standings s None) (for_.each s site_in)
+      ∙ sym (lost_at known s (omega (arith, site_in, for_.logs)))
+  | inr past ↦
+      get_or_past (map (λ (o : Option Standing). is_none o) standings) s false
+      (omega (arith, past, for_.count, length-map standings (λ (o : Option Standing). is_none o)))
+      ∙ sym (get_or_past (lost_in known) s false (omega (arith, past, for_.logs, length-map known (λ (o : Option (List Record)). is_none o))))
+]
+
+pub stand_where_known : (schema : SchemaValue) (known : List (Option (List Record))) (standings : List (Option Standing))
+    (all told : List Standing) (lost told_lost : List Bool) → AreForKnown schema known standings → AreFilled schema standings all → told ≡ all
+    → lost ≡ map (λ (o : Option Standing). is_none o) standings → told_lost ≡ lost → StandForKnown schema known told told_lost
+stand_where_known schema known standings all told lost told_lost for_ filled same is same_lost =
+    let at : (s : ℕ) → s < schema.sites → unwrap_or (known_log known s) [] ≡ log_of (known_records known) s =
+    λ s site_in. sym (records_at known s (omega (arith, site_in, for_.logs))) in
+    record {
+      stand = record {
+        lawful = record {
+          count = length-map known (λ (o : Option (List Record)). unwrap_or o []) ∙ for_.logs;
+          each = λ s site_in. subst (λ (rs : List Record). Lawful schema s rs) (at s site_in)
+              (lawful_at schema s (known_log known s) (get_or standings s None) (for_.each s site_in));
+        };
+        count = ap length same ∙ filled.count ∙ for_.count;
+        each = λ s d site_in. subst (λ (rs : List Record). IsStandingFor schema s rs (get_or told s d)) (at s site_in)
+            (subst (λ (xs : List Standing). IsStandingFor schema s (unwrap_or (known_log known s) []) (get_or xs s d)) (sym same)
+            (filled_at schema s (known_log known s) (get_or standings s None) (get_or all s d) (for_.each s site_in)
+            (filled.each s d (omega (arith, site_in, for_.count)))));
+      };
+      count = for_.logs;
+      lost_is = λ s. ap (λ (l : List Bool). is_lost l s) (same_lost ∙ is) ∙ none_where_lost schema known standings for_ s;
+    }

@@ -1,9 +1,10 @@
--- How the body of a check goes on: over what the log of each site stands for (this project).
+-- What the logs of all sites of a world stand for, and how the body of a check goes on over that (this project).
 use Rattle.std.specs.Prelude.{◌≡◌, ◌≢◌, ℕ, ◌<◌, Bool, false, List, length, slice_index_or}
 use Rattle.field_bounds.specs.declared.kind.Kind.{Kind}
 use Rattle.field_bounds.specs.declared.kind.Kind.TheVariants.{Lower, Raise}
 use Rattle.field_bounds.specs.Schema.{SchemaValue}
 use Rattle.kept_records.specs.declared.record.Record.{Record}
+use Rattle.kept_records.specs.Stands.{Lawful}
 use Rattle.log_replay.specs.declared.standing.Standing.{Standing}
 use Rattle.log_replay.specs.Standing.{IsStandingFor}
 use Rattle.world_logs.specs.declared.fault.Excess.{Excess}
@@ -16,14 +17,25 @@ pub record StandFor (schema : SchemaValue) (logs : List (List Record)) (standing
   pub count : length standings ≡ schema.sites
   pub each : (s : ℕ) (d : Standing) → s < schema.sites → IsStandingFor schema s (log_of logs s) (slice_index_or standings s d)
 
--- So it is, and no site has accepted more than was given.
-pub record AddUp (schema : SchemaValue) (logs : List (List Record)) (standings : List Standing) : Type 0 where
-  pub stand : StandFor schema logs standings
-  pub within : AcceptedWithin schema logs
+-- The standing is for lawful records of a site.
+abbrev pub StandsForLog : SchemaValue → ℕ → Standing → Type 0
+StandsForLog schema s standing = (rs : List Record) × Lawful schema s rs × IsStandingFor schema s rs standing
+
+-- For each site, in order, there is the standing for a lawful log.
+pub record AreForLogs (schema : SchemaValue) (standings : List Standing) : Type 0 where
+  pub count : length standings ≡ schema.sites
+  pub each : (s : ℕ) (d : Standing) → s < schema.sites → StandsForLog schema s (slice_index_or standings s d)
+
+-- ---- how the body goes on
 
 -- There are logs that these standings are for.
 abbrev pub AreOfLogs : SchemaValue → List Standing → Type 0
 AreOfLogs schema standings = (logs : List (List Record)) × StandFor schema logs standings
+
+-- Standings are for logs, and no site has accepted more than was given.
+pub record AddUp (schema : SchemaValue) (logs : List (List Record)) (standings : List Standing) : Type 0 where
+  pub stand : StandFor schema logs standings
+  pub within : AcceptedWithin schema logs
 
 -- There are logs that these standings are for, and no site has accepted more than was given.
 abbrev pub AreOfWorld : SchemaValue → List Standing → Type 0

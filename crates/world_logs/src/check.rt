@@ -7,7 +7,7 @@ ghost use Rattle.kept_records.specs.Text.{IsRecord};
 ghost use Rattle.world_logs.specs.Logs.{records_of, log_of, AreLawful, AcceptedWithin};
 ghost use Rattle.world_logs.specs.States.{AreStates};
 ghost use Rattle.world_logs.specs.Faults.{TellsFault};
-ghost use Rattle.world_logs.specs.Body.{AddUp, AreOfWorld};
+ghost use Rattle.world_logs.specs.Body.{StandFor, AreForLogs, AddUp, AreOfWorld};
 
 use crate::excess_search::first_excess;
 use crate::fault::WorldFault;
@@ -36,6 +36,35 @@ fn states_of(
     Ok(states)
 }
 
+/// Checks what the logs of all sites of a world stand for, one standing for each site in the order of
+/// the sites, and answers where each field stands, field by field. Each log is lawful, as the caller
+/// knows that took it in, straight from its bytes, say: no list of its records is needed. Of all
+/// logs of which these are the standings it says what `check_world` says of them. That tells a log
+/// that isn't lawful before anything between two logs, so a caller takes in all logs first. Of the
+/// faults `AcceptedMore` and `NoMemory` are answered here.
+///
+/// Costs a look for each field and each two sites at what passed between them, and memory for the
+/// answer.
+pub fn check_standings(
+    alloc: Global,
+    schema: &Schema,
+    standings: &[Standing],
+) -> Result<Vec<FieldState>, WorldFault>
+    requires of_logs { AreForLogs schema.now standings.now }
+    ensures count { IfOk result (λ states. length states.items ≡ length schema.now.fields) }
+    ensures within { IfOk result (λ states. (logs : List (List Record))
+        → StandFor schema.now logs standings.now → AcceptedWithin schema.now logs) }
+    ensures states { IfOk result (λ states. (logs : List (List Record))
+        → StandFor schema.now logs standings.now → AreStates schema.now logs states.items) }
+    ensures fault { IfErr result (λ fault. (logs : List (List Record))
+        → StandFor schema.now logs standings.now → TellsFault schema.now logs fault) }
+{
+    match first_excess(schema, standings, &[]) {
+        Some(excess) => Err(WorldFault::AcceptedMore(excess)),
+        None => Ok(states_of(alloc, schema, standings)?),
+    }
+}
+
 /// Checks the logs of all sites of a world, one for each site in the order of the sites, and answers
 /// where each field stands, field by field: its committed value, and its bounds as tightened.
 ///
@@ -62,8 +91,5 @@ pub fn check_world(
     ensures fault { IfErr result (λ fault. TellsFault schema.now (records_of logs.now) fault) }
 {
     let standings = standings_of(alloc, schema, logs)?;
-    match first_excess(schema, standings.as_slice(), &[]) {
-        Some(excess) => Err(WorldFault::AcceptedMore(excess)),
-        None => Ok(states_of(alloc, schema, standings.as_slice())?),
-    }
+    check_standings(alloc, schema, standings.as_slice())
 }

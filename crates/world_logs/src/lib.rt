@@ -18,12 +18,12 @@ mod site_sum;
 mod standings;
 mod sums;
 
-pub use check::check_world;
+pub use check::{check_standings, check_world};
 pub use fault::{Excess, WorldFault};
 pub use field_state::{FieldRange, FieldState};
 pub use header_text::{HeaderFault, write_header};
 pub use laws::{
     known_logs_bound_each_value, logs_account_for_all_rights, logs_tell_what_the_trace_does,
 };
-pub use lost::bound_world;
-pub use settle::settle_world;
+pub use lost::{bound_standings, bound_world};
+pub use settle::{settle_standings, settle_world};

@@ -7,20 +7,20 @@ ghost use Rattle.kept_records.specs.Text.{IsRecord};
 ghost use Rattle.world_logs.specs.Logs.{log_of, AreLawful};
 ghost use Rattle.world_logs.specs.Lost.{known_of, known_records, AreRanges};
 ghost use Rattle.world_logs.specs.LostFaults.{KnownWithin, TellsTooMuch, TellsKnownFault};
-ghost use Rattle.world_logs.specs.LostBody.{StandForKnown, AreOfKnown};
+ghost use Rattle.world_logs.specs.LostBody.{StandForKnown, AreOfKnown, AreForKnown, AreForKnownLogs, IsFilled, AreFilled};
 
 use crate::excess_search::first_excess;
 use crate::fault::WorldFault;
 use crate::field_state::FieldRange;
 use crate::lost_sums::range_of;
 use crate::standings::standings_of;
-use field_bounds::{FieldNo, Schema};
+use field_bounds::{FieldNo, Schema, SiteNo};
 use kept_records::Record;
 use log_replay::Standing;
 use std::alloc::{AllocError, Global};
 
 /// Site by site, whether the log is lost.
-fn lost_of(alloc: Global, logs: &[Option<Vec<Record>>]) -> Result<Vec<bool>, AllocError>
+fn lost_of<T>(alloc: Global, logs: &[Option<T>]) -> Result<Vec<bool>, AllocError>
     ensures { IfOk result (λ lost. lost.items ≡ map (λ log. is_none log) logs.now) }
 {
     let mut lost = Vec::new(alloc);
@@ -56,6 +56,93 @@ fn ranges_of(
     Ok(ranges)
 }
 
+/// The ranges of all fields, or the first fault of the known logs, by what they stand for.
+fn bound_by(
+    alloc: Global,
+    schema: &Schema,
+    standings: &[Standing],
+    lost: &[bool],
+) -> Result<Vec<FieldRange>, WorldFault>
+    requires of_known { AreOfKnown schema.now standings.now lost.now }
+    ensures within { IfOk result (λ ranges. (known : List (Option (List Record)))
+        → StandForKnown schema.now known standings.now lost.now
+        → KnownWithin schema.now known) }
+    ensures ranges { IfOk result (λ ranges. (known : List (Option (List Record)))
+        → StandForKnown schema.now known standings.now lost.now
+        → AreRanges schema.now known ranges.items) }
+    ensures fault { IfErr result (λ fault. (known : List (Option (List Record)))
+        → StandForKnown schema.now known standings.now lost.now
+        → TellsKnownFault schema.now known fault) }
+{
+    match first_excess(schema, standings, lost) {
+        Some(excess) => Err(WorldFault::AcceptedMore(excess)),
+        None => ranges_of(alloc, schema, standings, lost),
+    }
+}
+
+/// The standing of a site, or that of no records where there is none.
+fn or_none(
+    alloc: Global,
+    schema: &Schema,
+    site: SiteNo,
+    standing: Option<Standing>,
+) -> Result<Standing, AllocError>
+    requires site_in { site.0 < schema.now.sites }
+    ensures { IfOk result (λ one. IsFilled schema.now site.0 standing one) }
+{
+    match standing {
+        Some(standing) => Ok(standing),
+        None => Standing::new(alloc, schema, site),
+    }
+}
+
+/// The same of all sites.
+fn filled(
+    alloc: Global,
+    schema: &Schema,
+    standings: Vec<Option<Standing>>,
+) -> Result<Vec<Standing>, AllocError>
+    requires count { length standings.items ≡ schema.now.sites }
+    ensures filled { IfOk result (λ all. AreFilled schema.now standings.items all.items) }
+{
+    // There are so few that a site's number fits.
+    let _sites = schema.sites();
+    let mut all = Vec::new(alloc);
+    let mut number: u16 = 0;
+    for standing in standings {
+        all.push(or_none(alloc, schema, SiteNo(number), standing)?)?;
+        number += 1;
+    }
+    Ok(all)
+}
+
+/// Tells, where the logs of some sites are lost, between which values each field's committed value
+/// lies, field by field, by what the known logs stand for: for each site, in order, there is the
+/// standing for its log, or None where that is lost. Of all known logs of which these are the
+/// standings it says what `bound_world` says of them, where each is lawful. Of the faults
+/// `AcceptedMore`, `TooMuch` and `NoMemory` are answered. Costs what `check_standings` costs, and
+/// memory for a standing for each lost log.
+pub fn bound_standings(
+    alloc: Global,
+    schema: &Schema,
+    standings: Vec<Option<Standing>>,
+) -> Result<Vec<FieldRange>, WorldFault>
+    requires of_known { AreForKnownLogs schema.now standings.items }
+    ensures count { IfOk result (λ ranges. length ranges.items ≡ length schema.now.fields) }
+    ensures within { IfOk result (λ ranges. (known : List (Option (List Record)))
+        → AreForKnown schema.now known standings.items → KnownWithin schema.now known) }
+    ensures ranges { IfOk result (λ ranges. (known : List (Option (List Record)))
+        → AreForKnown schema.now known standings.items
+        → AreRanges schema.now known ranges.items) }
+    ensures fault { IfErr result (λ fault. (known : List (Option (List Record)))
+        → AreForKnown schema.now known standings.items
+        → TellsKnownFault schema.now known fault) }
+{
+    let lost = lost_of(alloc, standings.as_slice())?;
+    let all = filled(alloc, schema, standings)?;
+    bound_by(alloc, schema, all.as_slice(), lost.as_slice())
+}
+
 /// Tells, where the logs of some sites are lost, between which values each field's committed value
 /// lies, field by field: for each site, in order, there is its log, or None where it is lost.
 ///
@@ -88,8 +175,5 @@ pub fn bound_world(
 {
     let standings = standings_of(alloc, schema, logs)?;
     let lost = lost_of(alloc, logs)?;
-    match first_excess(schema, standings.as_slice(), lost.as_slice()) {
-        Some(excess) => Err(WorldFault::AcceptedMore(excess)),
-        None => ranges_of(alloc, schema, standings.as_slice(), lost.as_slice()),
-    }
+    bound_by(alloc, schema, standings.as_slice(), lost.as_slice())
 }

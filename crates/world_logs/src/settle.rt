@@ -1,21 +1,25 @@
 //! The schema of a new world, which goes on where the logs of an old one end.
 
-ghost use Rattle.std.specs.Prelude.{◌≡◌, ℕ, ◌<◌, IfOk, IfErr, Ok, Some, length, map, slice_get};
+ghost use Rattle.std.specs.Prelude.{◌≡◌, ℕ, ◌<◌, List, IfOk, IfErr, Ok, Some, length, map, slice_get};
 ghost use Rattle.std.specs.List.{AllByRecursion};
 ghost use Rattle.field_bounds.specs.Schema.{spec_value};
 ghost use Rattle.field_bounds.specs.Limits.{of_parts};
 ghost use Rattle.field_bounds.specs.Parts.{field_at};
+ghost use Rattle.kept_records.specs.declared.record.Record.{Record};
 ghost use Rattle.kept_records.specs.Text.{IsRecord};
 ghost use Rattle.world_logs.specs.declared.field_state.FieldState.{FieldState};
 ghost use Rattle.world_logs.specs.Logs.{records_of, log_of, AreLawful, AcceptedWithin};
 ghost use Rattle.world_logs.specs.States.{with_state, Settles};
 ghost use Rattle.world_logs.specs.Faults.{TellsFault};
+ghost use Rattle.world_logs.specs.Body.{StandFor, AreForLogs};
 
-use crate::check::check_world;
+use crate::check::check_standings;
 use crate::fault::WorldFault;
 use crate::field_state::FieldState;
+use crate::standings::standings_of;
 use field_bounds::{FieldNo, FieldSpec, Schema, SchemaFault};
 use kept_records::Record;
+use log_replay::Standing;
 use std::alloc::{AllocError, Global};
 
 /// A field of the same name that begins at this state.
@@ -71,6 +75,30 @@ fn schema_of_fields(alloc: Global, sites: u16, fields: Vec<FieldSpec>) -> Result
     }
 }
 
+/// The schema of a new world that goes on where the logs of all sites of a world end, by what they
+/// stand for: one standing for each site in the order of the sites. Of all logs of which these are
+/// the standings it says what `settle_world` says of them, where each is lawful.
+///
+/// It is answered exactly where `check_standings` answers, and the faults are those. Costs what that
+/// costs, and one look-up and one insertion for each field.
+pub fn settle_standings(
+    alloc: Global,
+    schema: &Schema,
+    standings: &[Standing],
+) -> Result<Schema, WorldFault>
+    requires of_logs { AreForLogs schema.now standings.now }
+    ensures within { IfOk result (λ settled. (logs : List (List Record))
+        → StandFor schema.now logs standings.now → AcceptedWithin schema.now logs) }
+    ensures settled { IfOk result (λ settled. (logs : List (List Record))
+        → StandFor schema.now logs standings.now → Settles schema.now logs settled) }
+    ensures fault { IfErr result (λ fault. (logs : List (List Record))
+        → StandFor schema.now logs standings.now → TellsFault schema.now logs fault) }
+{
+    let states = check_standings(alloc, schema, standings)?;
+    let fields = settled_fields(alloc, schema, states.as_slice())?;
+    Ok(schema_of_fields(alloc, schema.sites(), fields)?)
+}
+
 /// The schema of a new world that goes on where the logs of all sites of a world end, one for each
 /// site in the order of the sites: as many sites, and the same fields in the same order, each of
 /// which begins at its committed value with the bounds as tightened. Rights in flight are the new
@@ -90,7 +118,6 @@ pub fn settle_world(
     ensures settled { IfOk result (λ settled. Settles schema.now (records_of logs.now) settled) }
     ensures fault { IfErr result (λ fault. TellsFault schema.now (records_of logs.now) fault) }
 {
-    let states = check_world(alloc, schema, logs)?;
-    let fields = settled_fields(alloc, schema, states.as_slice())?;
-    Ok(schema_of_fields(alloc, schema.sites(), fields)?)
+    let standings = standings_of(alloc, schema, logs)?;
+    settle_standings(alloc, schema, standings.as_slice())
 }

@@ -2,15 +2,18 @@
 //! rights to lower it and 30 to raise it each; of three, the first has 14 to lower it, the others 13,
 //! and each has 20 to raise it. Every expected value is worked out by hand.
 
-ghost use Rattle.std.specs.Prelude.{ℕ, IfSome};
+ghost use Rattle.std.specs.Prelude.{◌≡◌, ℕ, ◌<◌, IfSome, IfOk, length};
 ghost use Rattle.std.specs.List.{AllByRecursion};
 ghost use Rattle.kept_records.specs.Text.{IsRecord};
 ghost use Rattle.world_logs.specs.Logs.{records_of, log_of};
 ghost use Rattle.world_logs.specs.Lost.{known_of, known_records};
+ghost use Rattle.world_logs.specs.Body.{StandsForLog, AreForLogs};
+ghost use Rattle.world_logs.specs.LostBody.{StandsIfKnown, AreForKnownLogs};
 
 use check_kit::{STOCK_OF_THREE, STOCK_OF_TWO, schema_of};
 use field_bounds::{FieldNo, FieldSpec, Kind, Schema, SiteNo};
 use kept_records::{Record, read_records};
+use log_replay::{LogReplayed, Standing, replay_log};
 use std::alloc::Global;
 use std::process::Abort;
 use world_logs::*;
@@ -145,14 +148,71 @@ fn checked(
     check_world(alloc, &schema, logs.as_slice())
 }
 
+/// What a site's log stands for, straight from its bytes; or the fault of its first record that
+/// breaks a rule.
+fn standing_of(
+    rt: &impl Abort,
+    alloc: Global,
+    schema: &Schema,
+    site: SiteNo,
+    text: &str,
+) -> Result<Standing, WorldFault>
+    requires site_in { site.0 < schema.now.sites }
+    ensures { IfOk result (λ standing. StandsForLog schema.now site.0 standing) }
+{
+    match replay_log(alloc, schema, site, text.as_bytes()) {
+        Ok(LogReplayed::Standing { standing, .. }) => Ok(standing),
+        Ok(LogReplayed::BreaksRule { number }) => Err(WorldFault::BreaksRule { site, number }),
+        Ok(LogReplayed::BadLine { .. }) => panic!(rt; "a line is no record"),
+        Err(_) => Err(WorldFault::NoMemory),
+    }
+}
+
+/// What the log of each site stands for.
+fn standings_of(
+    rt: &impl Abort,
+    alloc: Global,
+    schema: &Schema,
+    texts: &[&str],
+) -> Result<Vec<Standing>, WorldFault>
+    requires count { length texts.now ≡ schema.now.sites }
+    ensures { IfOk result (λ standings. AreForLogs schema.now standings.items) }
+{
+    let mut standings = Vec::new(alloc);
+    for number in 0..schema.sites() {
+        let text = texts[usize::from(number)];
+        standings.push(standing_of(rt, alloc, schema, SiteNo(number), text)?)?;
+    }
+    Ok(standings)
+}
+
+/// Where each field stands, by what the logs stand for.
+fn checked_standings(
+    rt: &impl Abort,
+    alloc: Global,
+    header: &str,
+    texts: &[&str],
+) -> Result<Vec<FieldState>, WorldFault> {
+    let schema = schema_of(alloc, header).expect(rt, "a schema");
+    assert!(rt; texts.len() == usize::from(schema.sites()));
+    let standings = standings_of(rt, alloc, &schema, texts)?;
+    check_standings(alloc, &schema, standings.as_slice())
+}
+
 /// The first fault of logs that don't account for every right.
 fn assert_refused(rt: &impl Abort, alloc: Global, header: &str, texts: &[&str], fault: WorldFault) {
     assert_eq!(rt; checked(rt, alloc, header, texts).err(), Some(fault));
+    assert_eq!(rt;
+        checked_standings(rt, alloc, header, texts).err(),
+        Some(fault)
+    );
 }
 
 /// Where the first field stands.
 fn assert_accounted(rt: &impl Abort, alloc: Global, texts: &[&str], state: FieldState) {
     let states = checked(rt, alloc, STOCK_OF_TWO, texts).expect(rt, "accounted");
+    assert_eq!(rt; states.as_slice().get(0), Some(&state));
+    let states = checked_standings(rt, alloc, STOCK_OF_TWO, texts).expect(rt, "accounted");
     assert_eq!(rt; states.as_slice().get(0), Some(&state));
 }
 
@@ -207,17 +267,31 @@ fn settled(
     settle_world(alloc, &schema, logs.as_slice())
 }
 
-/// Whether the logs settle to the schema of this header.
+/// The same, by what the logs stand for.
+fn settled_standings(
+    rt: &impl Abort,
+    alloc: Global,
+    header: &str,
+    texts: &[&str],
+) -> Result<Schema, WorldFault> {
+    let schema = schema_of(alloc, header).expect(rt, "a schema");
+    assert!(rt; texts.len() == usize::from(schema.sites()));
+    let standings = standings_of(rt, alloc, &schema, texts)?;
+    settle_standings(alloc, &schema, standings.as_slice())
+}
+
+/// Whether the logs settle to the schema of this header, read as records or taken in from bytes.
 fn settles_to(
     rt: &impl Abort,
     alloc: Global,
     header: &str,
     texts: &[&str],
     expected: &str,
-) -> bool {
+) -> [bool; 2] {
     let settled = settled(rt, alloc, header, texts).expect(rt, "settled");
+    let standing = settled_standings(rt, alloc, header, texts).expect(rt, "settled");
     let expected = schema_of(alloc, expected).expect(rt, "a schema");
-    settled == expected
+    [settled == expected, standing == expected]
 }
 
 /// A header, the logs of two sites, the header of a schema, and whether they settle to that.
@@ -242,9 +316,11 @@ const SETTLED: [(&str, [&str; 2], &str, bool); 4] = [
 fn a_world_is_settled(rt: HostRuntime) {
     for (header, texts, expected, wanted) in &SETTLED {
         let found = settles_to(&rt, rt.alloc(), *header, texts, *expected);
-        assert_eq!(rt; found, *wanted, "{expected}");
+        assert_eq!(rt; found, [*wanted; 2], "{expected}");
     }
     let refused = settled(&rt, rt.alloc(), STOCK_OF_TWO, &["", "A 0 0 l 5\n"]);
+    assert!(rt; refused.is_err());
+    let refused = settled_standings(&rt, rt.alloc(), STOCK_OF_TWO, &["", "A 0 0 l 5\n"]);
     assert!(rt; refused.is_err());
 }
 
@@ -329,6 +405,54 @@ fn bounded(
     bound_world(alloc, &schema, logs.as_slice())
 }
 
+/// What a site's log stands for, where it isn't lost.
+fn known_standing(
+    rt: &impl Abort,
+    alloc: Global,
+    schema: &Schema,
+    site: SiteNo,
+    text: Option<&str>,
+) -> Result<Option<Standing>, WorldFault>
+    requires site_in { site.0 < schema.now.sites }
+    ensures { IfOk result (λ standing. StandsIfKnown schema.now site.0 standing) }
+{
+    match text {
+        Some(text) => Ok(Some(standing_of(rt, alloc, schema, site, text)?)),
+        None => Ok(None),
+    }
+}
+
+/// What the log of each site stands for, where it isn't lost.
+fn known_standings(
+    rt: &impl Abort,
+    alloc: Global,
+    schema: &Schema,
+    texts: &[Option<&str>],
+) -> Result<Vec<Option<Standing>>, WorldFault>
+    requires count { length texts.now ≡ schema.now.sites }
+    ensures { IfOk result (λ standings. AreForKnownLogs schema.now standings.items) }
+{
+    let mut standings = Vec::new(alloc);
+    for number in 0..schema.sites() {
+        let text = texts[usize::from(number)];
+        standings.push(known_standing(rt, alloc, schema, SiteNo(number), text)?)?;
+    }
+    Ok(standings)
+}
+
+/// Between which values each field lies, by what the logs stand for.
+fn bounded_standings(
+    rt: &impl Abort,
+    alloc: Global,
+    header: &str,
+    texts: &[Option<&str>],
+) -> Result<Vec<FieldRange>, WorldFault> {
+    let schema = schema_of(alloc, header).expect(rt, "a schema");
+    assert!(rt; texts.len() == usize::from(schema.sites()));
+    let standings = known_standings(rt, alloc, &schema, texts)?;
+    bound_standings(alloc, &schema, standings)
+}
+
 /// Between which values the first field lies.
 fn assert_bounded(
     rt: &impl Abort,
@@ -338,6 +462,8 @@ fn assert_bounded(
     range: FieldRange,
 ) {
     let ranges = bounded(rt, alloc, header, texts).expect(rt, "bounded");
+    assert_eq!(rt; ranges.as_slice().get(0), Some(&range));
+    let ranges = bounded_standings(rt, alloc, header, texts).expect(rt, "bounded");
     assert_eq!(rt; ranges.as_slice().get(0), Some(&range));
 }
 
@@ -351,6 +477,8 @@ fn lost_logs_leave_a_range(rt: HostRuntime) {
     }
     for (texts, fault) in &UNBOUNDED {
         let found = bounded(&rt, rt.alloc(), STOCK_OF_THREE, texts).err();
+        assert_eq!(rt; found, Some(*fault));
+        let found = bounded_standings(&rt, rt.alloc(), STOCK_OF_THREE, texts).err();
         assert_eq!(rt; found, Some(*fault));
     }
 }

@@ -1,13 +1,12 @@
-use Rattle.std.proofs.Common.{Bool, List, sym, subst}
+use Rattle.std.proofs.Common.{List, sym, subst}
 use Rattle.std.specs.List.{AllByRecursion}
 use Rattle.std.proofs.lemmas.Result.{IfOk-weaker, IfErr-weaker, err_from_is_err_and}
 use Rattle.kept_records.specs.declared.record.Record.{Record}
 use Rattle.kept_records.specs.Text.{IsRecord}
 use Rattle.world_logs.specs.Logs.{log_of}
-use Rattle.world_logs.specs.Faults.{IsFirstExcess, TellsUnlawful}
-use Rattle.world_logs.specs.Body.{IsKnownPair}
-use Rattle.world_logs.specs.Lost.{known_of, known_records}
-use Rattle.world_logs.proofs.LostReadings.{records_are, unlawful_tells, told_lost_is, stand_for_known, known_within, too_much_tells}
+use Rattle.world_logs.specs.Faults.{TellsUnlawful}
+use Rattle.world_logs.specs.Lost.{known_of}
+use Rattle.world_logs.proofs.LostReadings.{records_are, unlawful_tells, stand_for_known}
 use Rattle.world_logs.proofs.lost.bound_world.Goals as goal
 
 pub standings_of-requires-clause-in_range : goal.standings_of-requires-clause-in_range
@@ -24,72 +23,41 @@ returns-in_err-standings-clause-fault c =
     c.in_err-standings.ensures.fault)
     )
 
+pub bound_by-requires : goal.bound_by-requires
+bound_by-requires c =
+    record {
+      of_known = (
+        known_of c.args.logs.now,
+        stand_for_known c.args.schema.now c.args.logs.now c.in_ok-standings.standings.items c.as_slice.result.now
+            c.in_ok-lost.lost.items c.as_slice-2.result.now c.requires.count c.in_ok-standings.ensures.stand c.as_slice.ensures.value
+            c.as_slice-2.ensures.value c.in_ok-lost.ensures,
+      );
+    }
+
 pub returns-clause-lawful : goal.returns-clause-lawful
 returns-clause-lawful c =
     let is = stand_for_known c.args.schema.now c.args.logs.now c.in_ok-standings.standings.items c.as_slice.result.now
     c.in_ok-lost.lost.items c.as_slice-2.result.now c.requires.count c.in_ok-standings.ensures.stand c.as_slice.ensures.value
     c.as_slice-2.ensures.value c.in_ok-lost.ensures in
-    IfOk-weaker c.ranges_of.result _ _ (λ ranges told. is.stand.lawful) c.ranges_of.ensures.ranges
-
-pub returns-in-Some-clause-fault : goal.returns-in-Some-clause-fault
-returns-in-Some-clause-fault c =
-    let schema = c.args.schema.now in
-    let known = known_of c.args.logs.now in
-    let logs = known_records known in
-    let is = stand_for_known schema c.args.logs.now c.in_ok-standings.standings.items c.as_slice.result.now c.in_ok-lost.lost.items
-    c.as_slice-2.result.now c.requires.count c.in_ok-standings.ensures.stand c.as_slice.ensures.value c.as_slice-2.ensures.value
-    c.in_ok-lost.ensures in (
-      is.stand.lawful,
-      subst (λ (lost : List Bool). IsFirstExcess (IsKnownPair schema lost) logs c.in-Some.excess) (told_lost_is c.args.logs.now c.in_ok-lost.lost.items c.as_slice-2.result.now
-          c.as_slice-2.ensures.value c.in_ok-lost.ensures)
-          (c.in-Some.ensures.some logs is.stand),
-    )
-
-pub ranges_of-requires : goal.ranges_of-requires
-ranges_of-requires c =
-    record {
-      of_known = (
-        known_of c.args.logs.now,
-        stand_for_known c.args.schema.now c.args.logs.now c.in_ok-standings.standings.items c.as_slice-in-None.result.now
-            c.in_ok-lost.lost.items c.as_slice-in-None-2.result.now c.requires.count c.in_ok-standings.ensures.stand
-            c.as_slice-in-None.ensures.value c.as_slice-in-None-2.ensures.value c.in_ok-lost.ensures,
-      );
-    }
+    IfOk-weaker c.bound_by.result _ _ (λ ranges told. is.stand.lawful) c.bound_by.ensures.within
 
 pub returns-clause-within : goal.returns-clause-within
 returns-clause-within c =
-    let schema = c.args.schema.now in
-    let known = known_of c.args.logs.now in
-    let is = stand_for_known schema c.args.logs.now c.in_ok-standings.standings.items c.as_slice.result.now c.in_ok-lost.lost.items
-    c.as_slice-2.result.now c.requires.count c.in_ok-standings.ensures.stand c.as_slice.ensures.value c.as_slice-2.ensures.value
-    c.in_ok-lost.ensures in
-    IfOk-weaker c.ranges_of.result _ _
-    (λ ranges told. known_within schema known c.as_slice-2.result.now
-    (told_lost_is c.args.logs.now c.in_ok-lost.lost.items c.as_slice-2.result.now c.as_slice-2.ensures.value c.in_ok-lost.ensures) (c.in-None.ensures.none (known_records known) is.stand))
-    c.ranges_of.ensures.ranges
+    let is = stand_for_known c.args.schema.now c.args.logs.now c.in_ok-standings.standings.items c.as_slice.result.now
+    c.in_ok-lost.lost.items c.as_slice-2.result.now c.requires.count c.in_ok-standings.ensures.stand c.as_slice.ensures.value
+    c.as_slice-2.ensures.value c.in_ok-lost.ensures in
+    IfOk-weaker c.bound_by.result _ _ (λ ranges told. told (known_of c.args.logs.now) is) c.bound_by.ensures.within
 
 pub returns-clause-ranges : goal.returns-clause-ranges
 returns-clause-ranges c =
-    IfOk-weaker c.ranges_of.result _ _
-    (λ ranges told. told (known_of c.args.logs.now)
-    (stand_for_known c.args.schema.now c.args.logs.now c.in_ok-standings.standings.items c.as_slice-in-None.result.now
-    c.in_ok-lost.lost.items c.as_slice-in-None-2.result.now c.requires.count c.in_ok-standings.ensures.stand
-    c.as_slice-in-None.ensures.value c.as_slice-in-None-2.ensures.value c.in_ok-lost.ensures))
-    c.ranges_of.ensures.ranges
+    let is = stand_for_known c.args.schema.now c.args.logs.now c.in_ok-standings.standings.items c.as_slice.result.now
+    c.in_ok-lost.lost.items c.as_slice-2.result.now c.requires.count c.in_ok-standings.ensures.stand c.as_slice.ensures.value
+    c.as_slice-2.ensures.value c.in_ok-lost.ensures in
+    IfOk-weaker c.bound_by.result _ _ (λ ranges told. told (known_of c.args.logs.now) is) c.bound_by.ensures.ranges
 
 pub returns-clause-fault : goal.returns-clause-fault
 returns-clause-fault c =
-    let schema = c.args.schema.now in
-    let known = known_of c.args.logs.now in
-    let is = stand_for_known schema c.args.logs.now c.in_ok-standings.standings.items c.as_slice.result.now c.in_ok-lost.lost.items
-    c.as_slice-2.result.now c.requires.count c.in_ok-standings.ensures.stand c.as_slice.ensures.value c.as_slice-2.ensures.value
-    c.in_ok-lost.ensures in
-    let within = known_within schema known c.as_slice-2.result.now
-    (told_lost_is c.args.logs.now c.in_ok-lost.lost.items c.as_slice-2.result.now c.as_slice-2.ensures.value c.in_ok-lost.ensures) (c.in-None.ensures.none (known_records known) is.stand) in
-    IfErr-weaker c.ranges_of.result _ _
-    (λ fault told. too_much_tells schema known fault within
-    (told known
-    (stand_for_known schema c.args.logs.now c.in_ok-standings.standings.items c.as_slice-in-None.result.now
-    c.in_ok-lost.lost.items c.as_slice-in-None-2.result.now c.requires.count c.in_ok-standings.ensures.stand
-    c.as_slice-in-None.ensures.value c.as_slice-in-None-2.ensures.value c.in_ok-lost.ensures)))
-    c.ranges_of.ensures.fault
+    let is = stand_for_known c.args.schema.now c.args.logs.now c.in_ok-standings.standings.items c.as_slice.result.now
+    c.in_ok-lost.lost.items c.as_slice-2.result.now c.requires.count c.in_ok-standings.ensures.stand c.as_slice.ensures.value
+    c.as_slice-2.ensures.value c.in_ok-lost.ensures in
+    IfErr-weaker c.bound_by.result _ _ (λ fault told. told (known_of c.args.logs.now) is) c.bound_by.ensures.fault
