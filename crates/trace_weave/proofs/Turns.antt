@@ -45,7 +45,7 @@ turns hs counts t s e inside turn w = record {
       ∙ (w.counted j ∙ sym (placed_there j s w.picks other)));
 }
 
-any_default : (counts : List ℕ) (s n : ℕ) → s < length counts → n ≡ get_or counts s n → n ≡ get_or counts s 0
+pub any_default : (counts : List ℕ) (s n : ℕ) → s < length counts → n ≡ get_or counts s n → n ≡ get_or counts s 0
 any_default [] s n inside at = absurd (omega arith)
 any_default (k ∷ counts) zero n inside at = at
 any_default (k ∷ counts) (suc s) n inside at = any_default counts s n (omega arith) at

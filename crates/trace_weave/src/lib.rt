@@ -3,10 +3,14 @@
 
 mod fault;
 mod laws;
+mod order;
+mod walk;
 mod weaving;
 
 pub use fault::WeaveFault;
 pub use laws::weaves_are_sound;
+pub use order::weave_order;
+pub use walk::WovenEntries;
 pub use weaving::weave;
 
 #[cfg(test)]
