@@ -30,7 +30,7 @@ one_entry schema limits line e f is also =
 traced_of : Entry → ℕ → TracedEntry
 traced_of e at = record { entry = e; start = at }
 
-one_traced : (schema : SchemaValue) → IsSchema schema → (at : ℕ) (lines : List (List ℕ)) (ts us : List TracedEntry)
+pub one_traced : (schema : SchemaValue) → IsSchema schema → (at : ℕ) (lines : List (List ℕ)) (ts us : List TracedEntry)
     → AreTraced schema at lines ts → AreTraced schema at lines us → ts ≡ us
 unfolding traced_of
 one_traced schema limits at [] ts us is also = is ∙ sym also

@@ -3,3 +3,5 @@ pub mod Traces
 pub mod Reading
 pub mod Records
 pub mod Ends
+pub mod Kept
+pub mod Keeping

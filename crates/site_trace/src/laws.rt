@@ -13,6 +13,7 @@ ghost use Rattle.site_trace.specs.declared.reading.Trace.{Trace};
 ghost use Rattle.site_trace.specs.declared.reading.TracedEntry.{TracedEntry};
 ghost use Rattle.site_trace.specs.declared.cutting.TraceEnd.{TraceEnd};
 ghost use Rattle.site_trace.specs.Ends.{IsEnd};
+ghost use Rattle.site_trace.specs.Kept.{AreKept, LeaveFewer};
 ghost use Rattle.site_trace.specs.Records.{AreSure, records_left};
 ghost use Rattle.site_trace.specs.Traces.{AreTraced, IsTrace, IsFirstOther, entries_of};
 
@@ -61,4 +62,16 @@ pub fn cut_trace_holds_its_entries()
         → length_of_front ≤ length bytes → last_part (take length_of_front bytes) ≡ []
         → AreTraced schema 0 (whole_lines (take length_of_front bytes)) traced
         → kept < records_left (reverse (entries_of traced)) }
+{}
+
+/// The entries that `kept_entries` gives are those that stay where `trace_end_at` cuts the same trace
+/// (`same`), and it gives none where that tells none (`none`).
+pub fn kept_entries_are_those_of_the_cut()
+    ensures same { (schema : SchemaValue) (bytes : List ℕ) (trace : Trace) (kept : ℕ)
+        (end : TraceEnd) (entries : List Entry) → IsSchema schema → IsTrace schema bytes trace
+        → IsEnd trace kept end → AreKept schema bytes kept entries
+        → entries ≡ entries_of (take end.entries trace.entries.items) }
+    ensures none { (schema : SchemaValue) (bytes : List ℕ) (trace : Trace) (kept : ℕ)
+        → IsSchema schema → IsTrace schema bytes trace → LeaveFewer schema bytes kept
+        → records_left (reverse (entries_of trace.entries.items)) < kept }
 {}

@@ -1,11 +1,36 @@
 //! Which entries leave a record in a site's log.
 
-ghost use Rattle.std.specs.Prelude.{◌≡◌, Bool, MatchOption, reverse};
+ghost use Rattle.std.specs.Prelude.{◌≡◌, Bool, MatchOption, map, reverse};
+ghost use Rattle.field_bounds.specs.declared.entry.Entry.{Entry};
 ghost use Rattle.site_trace.specs.Records.{names, escrow_after, has_escrow, commits_escrow, leaves_record};
-ghost use Rattle.site_trace.specs.Traces.{entries_of};
 
 use crate::reading::TracedEntry;
 use field_bounds::{Command, Entry, Reply, TxnId};
+
+/// What tells an entry: it alone, or with its place in a trace.
+pub(crate) trait TellsEntry {
+    ghost told: { Self → Entry };
+
+    /// The entry.
+    fn entry(&self) -> &Entry
+        ensures { result.now ≡ told self.now };
+}
+
+impl TellsEntry for Entry {
+    ghost told = { λ entry. entry };
+
+    fn entry(&self) -> &Entry {
+        self
+    }
+}
+
+impl TellsEntry for TracedEntry {
+    ghost told = { λ traced. traced.entry };
+
+    fn entry(&self) -> &Entry {
+        &self.entry
+    }
+}
 
 // Whether the command names this transaction.
 fn names(txn: TxnId, command: Command) -> bool
@@ -59,12 +84,12 @@ fn escrow_told(txn: TxnId, entry: &Entry) -> Option<bool>
 }
 
 // Whether the transaction was granted an escrow since it was begun.
-fn has_escrow(txn: TxnId, before: &[TracedEntry]) -> bool
-    ensures { result ≡ has_escrow txn (reverse (entries_of before.now)) }
+fn has_escrow<T: TellsEntry>(txn: TxnId, before: &[T]) -> bool
+    ensures { result ≡ has_escrow txn (reverse (map T.told before.now)) }
 {
     let mut left = before;
     while let Some((last, front)) = left.split_last() {
-        if let Some(told) = escrow_told(txn, &last.entry) {
+        if let Some(told) = escrow_told(txn, last.entry()) {
             return told;
         }
         left = front;
@@ -73,8 +98,8 @@ fn has_escrow(txn: TxnId, before: &[TracedEntry]) -> bool
 }
 
 // Whether the command is the commit of a transaction that was granted an escrow since it was begun.
-fn commits_escrow(before: &[TracedEntry], command: Command) -> bool
-    ensures { result ≡ commits_escrow (reverse (entries_of before.now)) command }
+fn commits_escrow<T: TellsEntry>(before: &[T], command: Command) -> bool
+    ensures { result ≡ commits_escrow (reverse (map T.told before.now)) command }
 {
     match command {
         Command::Commit { txn } => has_escrow(txn, before),
@@ -93,8 +118,8 @@ fn commits_escrow(before: &[TracedEntry], command: Command) -> bool
 }
 
 /// Whether the entry leaves a record, behind these entries.
-pub(crate) fn leaves_record(before: &[TracedEntry], entry: &Entry) -> bool
-    ensures { result ≡ leaves_record (reverse (entries_of before.now)) entry.now.command
+pub(crate) fn leaves_record<T: TellsEntry>(before: &[T], entry: &Entry) -> bool
+    ensures { result ≡ leaves_record (reverse (map T.told before.now)) entry.now.command
         entry.now.reply }
 {
     match entry.reply {

@@ -4,7 +4,7 @@
 use check_kit::{FieldNo, SiteNo, stock_of_two};
 use field_bounds::{Command, Entry, Kind, Reply, Schema, Statement};
 use kept_records::read_front;
-use site_trace::{Trace, TraceEnd, TraceFault, read_trace, trace_end};
+use site_trace::{Trace, TraceEnd, TraceFault, kept_entries, read_trace, trace_end, trace_end_at};
 use std::alloc::Global;
 use std::process::Abort;
 
@@ -169,4 +169,56 @@ fn refuses_a_trace_behind_its_log(rt: HostRuntime) {
     let trace = trace_of(&rt, rt.alloc(), TRACE);
     let log = "R 1\nC 1 1 0 -15\nG 1 0 l 5\nA 1 0 r 3\nR 2\n";
     assert_eq!(rt; cut(&rt, rt.alloc(), &trace, log), None);
+}
+
+/// How many of the entries stay where the trace is cut back to so many records.
+const KEPT: [Option<usize>; 6] = [Some(0), Some(3), Some(6), Some(7), Some(9), None];
+
+/// The entries that stay, by the whole trace and its cut.
+fn cut_entries(rt: &impl Abort, alloc: Global, kept: usize) -> Option<Vec<Entry>> {
+    let trace = trace_of(rt, alloc, TRACE);
+    let end = trace_end_at(&trace, kept)?;
+    let mut entries = Vec::new(alloc);
+    for traced in trace.entries.iter().take(end.entries) {
+        entries.push(traced.entry).expect(rt, "memory");
+    }
+    Some(entries)
+}
+
+/// The entries that stay, read alone.
+fn entries_read(
+    rt: &impl Abort,
+    alloc: Global,
+    text: &str,
+    kept: usize,
+) -> Result<Option<Vec<Entry>>, TraceFault> {
+    kept_entries(alloc, &schema(rt, alloc), text.as_bytes(), kept)
+}
+
+/// Whether both are the same.
+fn are_same(read: Option<Vec<Entry>>, cut: Option<Vec<Entry>>) -> bool {
+    match (read, cut) {
+        (Some(read), Some(cut)) => read.as_slice() == cut.as_slice(),
+        (read, cut) => read.is_none() && cut.is_none(),
+    }
+}
+
+#[test]
+fn keeps_the_entries_in_front_of_the_cut(rt: HostRuntime) {
+    for kept in 0..KEPT.len() {
+        let read = entries_read(&rt, rt.alloc(), TRACE, kept).expect(&rt, "a trace");
+        assert_eq!(rt; read.as_ref().map(|entries| entries.len()), KEPT[kept]);
+        assert!(rt; are_same(read, cut_entries(&rt, rt.alloc(), kept)));
+    }
+}
+
+#[test]
+fn names_the_first_other_line_behind_the_cut_too(rt: HostRuntime) {
+    for (text, line) in &OTHER_LINES {
+        let fault = entries_read(&rt, rt.alloc(), *text, 0).err();
+        assert_eq!(rt; fault, Some(TraceFault::Line(*line)));
+    }
+    let text = "0 restart -> restarted 1 nothing\n0 begin\n";
+    let fault = entries_read(&rt, rt.alloc(), text, 0).err();
+    assert_eq!(rt; fault, Some(TraceFault::Line(2)));
 }
