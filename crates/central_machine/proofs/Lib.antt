@@ -27,3 +27,4 @@ pub mod Covered
 pub mod Told_first
 pub mod Gathered
 pub mod Apart
+pub mod Fed

@@ -7,3 +7,4 @@ pub mod Parts
 pub mod Rising
 pub mod Spread
 pub mod Ledger
+pub mod Front

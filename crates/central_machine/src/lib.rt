@@ -9,6 +9,7 @@ mod amounts;
 mod field_faults;
 mod field_sums;
 mod field_tests;
+mod front_judge;
 mod joined;
 mod journal;
 mod judging;
@@ -28,5 +29,6 @@ mod totals;
 mod window;
 
 pub use central_rules::{Rule, Verdict, judge_plain, verdict_is_exact};
+pub use front_judge::FrontJudge;
 pub use judging::{judge, judge_counted};
 pub use parts::judge_fields;

@@ -1,6 +1,6 @@
 //! The running totals of a judge that goes over the entries.
 
-ghost use Rattle.std.specs.Prelude.{◌≡◌, ◌<◌, length, List, ◌∷◌, [], OnOk, IfOk, None};
+ghost use Rattle.std.specs.Prelude.{◌≡◌, ◌≢◌, ◌<◌, length, List, ◌∷◌, [], OnOk, IfOk, None};
 ghost use Rattle.field_bounds.specs.declared.entry.Entry.{Entry};
 ghost use Rattle.field_bounds.specs.Schema.{SchemaValue};
 ghost use Rattle.central_rules.specs.declared.verdict.Verdict.TheVariants.{Legal};
@@ -105,6 +105,7 @@ impl Running {
         ensures totals { IfOk result (λ rule. (t : List Entry) → length t < 230584300921369395 →
             AreRunning schema.now t self.old → verdict_back schema.now t ≡ Legal → rule ≡ None →
             AreRunning schema.now (entry.now ∷ t) self.new) }
+        ensures kept { IfOk result (λ rule. rule ≢ None → self.new ≡ self.old) }
     {
         if let Some(rule) = self.broken_rule(schema, entry) {
             return Ok(Some(rule));
@@ -125,6 +126,7 @@ impl Running {
         ensures totals { IfOk result (λ rule. (t : List Entry) → length t < 230584300921369395 →
             AreRunning schema.now t self.old → verdict_back schema.now t ≡ Legal → rule ≡ None →
             AreRunning schema.now (entry.now ∷ t) self.new) }
+        ensures kept { IfOk result (λ rule. rule ≢ None → self.new ≡ self.old) }
     {
         self.take_by(alloc, schema, entry)
     }
@@ -141,6 +143,7 @@ impl Running {
         ensures totals { IfOk result (λ rule. (t : List Entry) → length t < 230584300921369395 →
             AreRunning schema.now t self.old → verdict_back schema.now t ≡ Legal → rule ≡ None →
             AreRunning schema.now (entry.now ∷ t) self.new) }
+        ensures kept { IfOk result (λ rule. rule ≢ None → self.new ≡ self.old) }
     {
         by_entry! { entry; known => self.take_by(alloc, schema, &known); self.take_any(alloc, schema, entry) }
     }

@@ -3,12 +3,38 @@
 use central_machine::*;
 use check_kit::{STOCK_OF_TWO, entry, reply};
 use field_bounds::{Entry, Reply, Schema};
-use std::alloc::Global;
+use std::alloc::{AllocError, Global};
 use std::process::Abort;
 use std::thread::Threads;
 
 const TWO_FIELDS: &str =
     r#"{"sites":1,"fields":[{"name":"a","floor":0,"ceiling":10,"value":5},{"name":"b","floor":0,"ceiling":10,"value":5}]}"#;
+
+/// What an answer to the entry at this place, counted from 1, says of the front that ends with it.
+fn verdict_at(found: Option<Rule>, at: u64) -> Verdict {
+    match found {
+        None => Verdict::Legal,
+        Some(rule) => Verdict::Illegal { at, rule },
+    }
+}
+
+/// Whether the judge that is given the entries one by one answers of each front as `judge` does, up
+/// to the first bad one, and counts what it took in.
+fn is_fed_alike(alloc: Global, schema: &Schema, entries: &[Entry]) -> Result<bool, AllocError> {
+    let mut fed = FrontJudge::new(alloc, schema)?;
+    for (i, entry) in entries.iter().enumerate() {
+        let wanted = judge(alloc, schema, &entries[..=i])?;
+        let found = fed.next(alloc, schema, entry)?;
+        if verdict_at(found, i as u64 + 1) != wanted {
+            return Ok(false);
+        }
+        if found.is_some() {
+            // The bad entry was left out, so it is as bad as before.
+            return Ok(fed.count() == i as u64 && fed.next(alloc, schema, entry)? == found);
+        }
+    }
+    Ok(fed.count() == entries.len() as u64)
+}
 
 /// The verdict, where all calls answer the same, and as many entries were read as it tells.
 fn judged(
@@ -26,7 +52,8 @@ fn judged(
         Verdict::Legal => entries.len() as u64,
         Verdict::Illegal { at, .. } => at,
     };
-    if plain == fast && plain == split && plain == counted && read == wanted {
+    let is_fed_alike = is_fed_alike(alloc, &schema, entries).ok()?;
+    if plain == fast && plain == split && plain == counted && read == wanted && is_fed_alike {
         return Some(plain);
     }
     None
@@ -365,4 +392,23 @@ fn two_fields(rt: HostRuntime) {
     ];
     let found = judged(&rt, rt.alloc(), TWO_FIELDS, &entries);
     assert_eq!(rt; found, Some(verdict!(illegal 1 Interval)));
+}
+
+// What the judge of one entry after another answers where a bad entry comes between good ones: it
+// leaves that out, and goes on over the others.
+#[test]
+fn a_bad_entry_is_left_out(rt: HostRuntime) -> Result<(), AllocError> {
+    let alloc = rt.alloc();
+    let Ok(schema) = Schema::from_header(alloc, STOCK_OF_TWO.as_bytes()) else {
+        return Err(AllocError);
+    };
+    let mut fed = FrontJudge::new(alloc, &schema)?;
+    let begun = entry!(0 begin -> begun 0.1);
+    let granted = entry!(0 escrow 0.1 stock -20 -> granted);
+    assert_eq!(rt; fed.next(alloc, &schema, &granted)?, Some(Rule::Reply));
+    assert_eq!(rt; fed.next(alloc, &schema, &begun)?, None);
+    assert_eq!(rt; fed.next(alloc, &schema, &begun)?, Some(Rule::Reply));
+    assert_eq!(rt; fed.next(alloc, &schema, &granted)?, None);
+    assert_eq!(rt; fed.count(), 2);
+    Ok(())
 }
