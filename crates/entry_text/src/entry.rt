@@ -64,6 +64,7 @@ fn whole_entry(fields: &Fields<'_>, line: &[u8]) -> Option<Entry>
 /// Costs a pass over the line and at most one look-up in a map, and no memory; twice that where the
 /// line spells no entry, or a command that `read_command` reads twice, and a pass more over a reply
 /// that is none.
+#[inline(always)]
 pub fn read_entry(schema: &Schema, line: &[u8]) -> Option<Entry>
     ensures found { IfSome result (λ entry. line.now ≡ entry_text schema.now entry) }
     ensures fits { IfSome result EntryFits }

@@ -49,10 +49,10 @@ HasEntries-more schema lines line old new has notes = record {
 
 -- ---- the first bad entry
 
-module _ (from to : Option (List ℕ)) (last : End) (r : LineReader) (schema : SchemaValue) (entries : List Entry)
-    (given : List (List ℕ)) (has : HasEntries schema entries given) where
+module _ {E : Type 0} (taken : SchemaValue → List Entry → E → Type 0) (from to : Option (List ℕ)) (last : End) (r : LineReader)
+    (schema : SchemaValue) (entries : List Entry) (given : List (List ℕ)) (has : HasEntries schema entries given) where
   bad_next : (line : List ℕ) (number : ℕ) → number ≡ length given + 1 → IsBadEntry schema line → HasNext from to last given line max_line
-      → FindsIn from to last (BadEntry number)
+      → FindsIn taken from to last (BadEntry number)
   bad_next line number place bad next = (
     next.read,
     (
@@ -75,13 +75,13 @@ module _ (from to : Option (List ℕ)) (last : End) (r : LineReader) (schema : S
   )
 
   pub finds_bad : (line : List ℕ) (number : ℕ) → number ≡ length given + 1 → IsBadEntry schema line → r.passed ≡ 0
-      → Reads from to last r (given ++ line ∷ []) → FindsIn from to last (BadEntry number)
+      → Reads from to last r (given ++ line ∷ []) → FindsIn taken from to last (BadEntry number)
   finds_bad line number place bad none reads =
       bad_next line number place bad (next_given from to last r has.header has.behind given has.parts line max_line none reads)
 
   -- a line that is too long is bad, whatever it says
   pub finds_long : (number : ℕ) → number ≡ length given + 1 → max_line < r.passed → Reads from to last r given
-      → FindsIn from to last (BadEntry number)
+      → FindsIn taken from to last (BadEntry number)
   finds_long number place long reads =
       let (line, (size, next)) = next_long from to last r has.header has.behind given has.parts max_line long reads in
       bad_next line number place

@@ -2,3 +2,4 @@ pub mod Remarks
 pub mod Entries
 pub mod Told
 pub mod OneAnswer
+pub mod Judged

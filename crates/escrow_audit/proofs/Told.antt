@@ -1,11 +1,19 @@
 -- What is answered of a reading.
-use Rattle.std.proofs.Common.{◌≡◌, ℕ, List, [], Option, refl, sym, subst, append-nil}
+use Rattle.std.proofs.Common.{◌≡◌, ℕ, List, [], Option, length, refl, sym, subst, append-nil}
 use Rattle.std.specs.Io.KnownBytes.{Consumes}
+use Rattle.field_bounds.specs.Schema.{SchemaValue}
+use Rattle.field_bounds.specs.declared.entry.Entry.{Entry}
+use Rattle.central_rules.specs.declared.verdict.Verdict.{Verdict}
+use Rattle.central_rules.specs.declared.verdict.Verdict.TheVariants as verdicts
+use Rattle.central_rules.specs.Verdict.{verdict_of}
 use Rattle.script_input.specs.declared.fault.ScriptFault.TheVariants.{Write}
 use Rattle.script_input.specs.declared.streams.End.{End}
 use Rattle.script_input.specs.Streams.{AppendsPrefix}
+use Rattle.script_input.specs.Lines.{script_lines}
+use Rattle.script_input.specs.Faults.{HasEndedAt, IsWithin}
 use Rattle.escrow_audit.specs.declared.answer.AuditEnd.{AuditEnd}
-use Rattle.escrow_audit.specs.Audit.{Fails}
+use Rattle.escrow_audit.specs.declared.answer.AuditEnd.TheVariants as ends
+use Rattle.escrow_audit.specs.Audit.{HasEntries, verdict_text, end_of, Fails}
 use Rattle.escrow_audit.specs.Reading.{Tells}
 
 -- the answer wasn't written whole
@@ -20,3 +28,23 @@ Fails-write from to before after last end text bytes tells same front =
       why = tt;
       written = (end, (text, (refl, (within, (audit, subst (AppendsPrefix before after) same front)))));
     }
+
+-- no verdict ends as a bad entry does
+no_bad_entry : (v : Verdict) → ends.BadEntry ≡ end_of v → ⊥
+no_bad_entry verdicts.Legal e = cc
+no_bad_entry (verdicts.Illegal at rule) e = cc
+
+-- the verdict on all entries
+module _ (from to : Option (List ℕ)) (last : End) (schema : SchemaValue) (entries : List Entry) (read : List ℕ) where
+  pub tells_verdict : (end : AuditEnd) (text : List ℕ) → Consumes from to read → HasEndedAt to last → IsWithin read
+      → HasEntries schema entries (script_lines read) → end ≡ end_of (verdict_of schema entries)
+      → text ≡ verdict_text (verdict_of schema entries) (length entries) → Tells from to last end text
+  tells_verdict ends.Legal text consumed ended within has is told = (
+    read,
+    (consumed, (within, (ended, record { schema = schema; entries = entries; good = has; ended = is; told = told }))),
+  )
+  tells_verdict ends.Illegal text consumed ended within has is told = (
+    read,
+    (consumed, (within, (ended, record { schema = schema; entries = entries; good = has; ended = is; told = told }))),
+  )
+  tells_verdict ends.BadEntry text consumed ended within has is told = absurd (no_bad_entry (verdict_of schema entries) is)

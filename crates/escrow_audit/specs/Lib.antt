@@ -1,3 +1,4 @@
 pub mod Remarks
 pub mod Audit
+pub mod Judged
 pub mod Reading

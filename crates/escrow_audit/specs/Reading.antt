@@ -19,14 +19,21 @@ abbrev pub Notes : SchemaValue → List ℕ → List Entry → List Entry → Ty
 Notes schema line old new = (IsRemark schema line × (new ≡ old))
     ⊎ ((entry : Entry) × (IsEntry schema line entry × (new ≡ old ++ entry ∷ [])))
 
--- What was found: at the end of an input within the limits the entries of its lines; or before it the first bad entry.
-abbrev pub IsFound : Found → List ℕ → Type 0 → Type 0
-IsFound (Entries schema entries) read ended = ended × (IsWithin read × HasEntries schema entries.items (script_lines read))
-IsFound (BadEntry number) read ended = FindsBad read number ended
+-- And what takes in the entries has taken that one in.
+abbrev pub TakesIn : {E : Type 0} → (SchemaValue → List Entry → E → Type 0) → SchemaValue → List ℕ → E → E → Type 0
+TakesIn has_taken schema line old new =
+    (entries : List Entry) → has_taken schema entries old → (more : List Entry) × (Notes schema line entries more × has_taken schema more new)
+
+-- What was found: at the end of an input within the limits all entries of its lines were taken in; or before it the first bad
+-- entry.
+abbrev pub IsFound : {E : Type 0} → (SchemaValue → List Entry → E → Type 0) → Found E → List ℕ → Type 0 → Type 0
+IsFound has_taken (Entries schema taken) read ended =
+    ended × (IsWithin read × ((entries : List Entry) × (HasEntries schema entries (script_lines read) × has_taken schema entries taken)))
+IsFound has_taken (BadEntry number) read ended = FindsBad read number ended
 
 -- It was found in what was read.
-abbrev pub FindsIn : Option (List ℕ) → Option (List ℕ) → End → Found → Type 0
-FindsIn from to last found = (read : List ℕ) × (Consumes from to read × IsFound found read (HasEndedAt to last))
+abbrev pub FindsIn : {E : Type 0} → (SchemaValue → List Entry → E → Type 0) → Option (List ℕ) → Option (List ℕ) → End → Found E → Type 0
+FindsIn has_taken from to last found = (read : List ℕ) × (Consumes from to read × IsFound has_taken found read (HasEndedAt to last))
 
 -- What is answered of all that was read.
 abbrev pub Tells : Option (List ℕ) → Option (List ℕ) → End → AuditEnd → List ℕ → Type 0

@@ -1,16 +1,20 @@
 //! What an audit answers, and its text.
 
-ghost use Rattle.std.specs.Prelude.{◌≡◌, ◌≢◌, ◌++◌, ◌∷◌, [], codes, string_bytes, length, IfOk, IfErr, OnOk, OnErr};
+ghost use Rattle.std.specs.Prelude.{◌≡◌, ◌≢◌, ◌++◌, ◌∷◌, [], List, codes, string_bytes, length, IfOk, IfErr, OnOk, OnErr};
 ghost use Rattle.std.specs.Io.KnownBytes.{Appends};
 ghost use Rattle.std.specs.Fmt.{decimal};
+ghost use Rattle.field_bounds.specs.Schema.{SchemaValue};
+ghost use Rattle.field_bounds.specs.declared.entry.Entry.{Entry};
 ghost use Rattle.central_rules.specs.Verdict.{verdict_of};
 ghost use Rattle.script_input.specs.Streams.{HasFailed, GaveNothing, HasRefused, AppendsPrefix};
 ghost use Rattle.script_input.specs.Faults.{CountsReads, CountsWrites};
+ghost use Rattle.escrow_audit.specs.Judged.{AreJudged};
 ghost use Rattle.escrow_audit.specs.Reading.{Tells, FaultsIn};
 ghost use Rattle.escrow_audit.specs.Audit.{rule_text, verdict_text, end_of, bad_entry_text, Audits, Fails};
 
 use crate::reading::{Found, read_entries};
-use central_machine::{judge, judge_fields};
+use crate::taking::JudgedEntries;
+use central_machine::judge_fields;
 use central_rules::{Rule, Verdict};
 use field_bounds::{Entry, Schema};
 use script_input::{ScriptFault, Sink, Source, write_out};
@@ -51,7 +55,7 @@ fn illegal_line(alloc: Global, at: u64, word: &str) -> Result<String, AllocError
 }
 
 // The line that tells a verdict over so many entries.
-fn verdict_line(alloc: Global, verdict: Verdict, count: usize) -> Result<String, AllocError>
+fn verdict_line(alloc: Global, verdict: Verdict, count: u64) -> Result<String, AllocError>
     ensures { IfOk result (λ text. string_bytes text ≡ verdict_text verdict count) }
 {
     match verdict {
@@ -77,28 +81,19 @@ fn end_of(verdict: Verdict) -> AuditEnd
     }
 }
 
-// The verdict on entries, by windows of fields in threads, or in one pass.
-fn verdict(
-    rt: &(impl Threads + Sync),
-    alloc: Global,
-    fields: bool,
-    schema: &Schema,
-    entries: &[Entry],
-) -> Result<Verdict, AllocError>
-    ensures { IfOk result (λ verdict. verdict ≡ verdict_of schema.now entries.now) }
+// Tells a verdict, over so many entries.
+fn tell(alloc: Global, verdict: Verdict, count: u64) -> Result<(AuditEnd, String), AllocError>
+    ensures end { IfOk result (λ told. told.0 ≡ end_of verdict) }
+    ensures text { IfOk result (λ told. string_bytes told.1 ≡ verdict_text verdict count) }
 {
-    if fields {
-        judge_fields(rt, alloc, schema, entries)
-    } else {
-        judge(alloc, schema, entries)
-    }
+    let text = verdict_line(alloc, verdict, count)?;
+    Ok((end_of(verdict), text))
 }
 
-// Judges the entries that were read.
-fn judge_all(
+// Judges the entries that were kept, by windows of fields in threads.
+fn judge_kept(
     rt: &(impl Threads + Sync),
     alloc: Global,
-    fields: bool,
     schema: &Schema,
     entries: &[Entry],
 ) -> Result<(AuditEnd, String), AllocError>
@@ -106,9 +101,72 @@ fn judge_all(
     ensures text { IfOk result (λ told. string_bytes told.1
         ≡ verdict_text (verdict_of schema.now entries.now) (length entries.now)) }
 {
-    let verdict = verdict(rt, alloc, fields, schema, entries)?;
-    let text = verdict_line(alloc, verdict, entries.len())?;
-    Ok((end_of(verdict), text))
+    let verdict = judge_fields(rt, alloc, schema, entries)?;
+    tell(alloc, verdict, entries.len() as u64)
+}
+
+// Tells the verdict on the entries that were judged as they were read.
+fn tell_judged(alloc: Global, judged: &JudgedEntries) -> Result<(AuditEnd, String), AllocError>
+    ensures end { (schema : SchemaValue) (entries : List Entry) →
+        AreJudged schema entries judged.now →
+        IfOk result (λ told. told.0 ≡ end_of (verdict_of schema entries)) }
+    ensures text { (schema : SchemaValue) (entries : List Entry) →
+        AreJudged schema entries judged.now → IfOk result (λ told. string_bytes told.1
+        ≡ verdict_text (verdict_of schema entries) (length entries)) }
+{
+    let (verdict, count) = judged.verdict()?;
+    tell(alloc, verdict, count)
+}
+
+// What is told of a bad entry.
+fn bad_entry(alloc: Global, number: u64) -> Result<(AuditEnd, String), AllocError>
+    ensures end { IfOk result (λ told. told.0 ≡ AuditEnd.BadEntry) }
+    ensures text { IfOk result (λ told. string_bytes told.1 ≡ bad_entry_text number) }
+{
+    Ok((AuditEnd::BadEntry, bad_entry_line(alloc, number)?))
+}
+
+// Reads the input, judges its entries field by field once all are read, and tells what is answered.
+fn answer_by_fields<R: Source>(
+    rt: &(impl Threads + Sync),
+    alloc: Global,
+    reader: &mut R,
+) -> Result<(AuditEnd, String), ScriptFault>
+    ensures ok { IfOk result (λ told. Tells (R.bytes reader.old) (R.bytes reader.new)
+        (R.last reader.new) told.0 (string_bytes told.1)) }
+    ensures fault { IfErr result (FaultsIn (R.bytes reader.old) (R.bytes reader.new)
+        (R.last reader.new)) }
+    ensures read { IfErr result (λ fault. fault ≡ ScriptFault.Read
+        → HasFailed (R.last reader.new)) }
+    ensures reads { CountsReads result (R.failures reader.old) (R.failures reader.new) }
+    ensures other { IfErr result (λ fault. fault ≢ ScriptFault.Write) }
+{
+    match read_entries::<R, Vec<Entry>>(alloc, reader)? {
+        Found::Entries(schema, entries) => {
+            Ok(judge_kept(rt, alloc, &schema, entries.as_slice())?)
+        }
+        Found::BadEntry(number) => Ok(bad_entry(alloc, number)?),
+    }
+}
+
+// Reads the input, judges its entries as they are read, and tells what is answered.
+fn answer_in_one_pass<R: Source>(
+    alloc: Global,
+    reader: &mut R,
+) -> Result<(AuditEnd, String), ScriptFault>
+    ensures ok { IfOk result (λ told. Tells (R.bytes reader.old) (R.bytes reader.new)
+        (R.last reader.new) told.0 (string_bytes told.1)) }
+    ensures fault { IfErr result (FaultsIn (R.bytes reader.old) (R.bytes reader.new)
+        (R.last reader.new)) }
+    ensures read { IfErr result (λ fault. fault ≡ ScriptFault.Read
+        → HasFailed (R.last reader.new)) }
+    ensures reads { CountsReads result (R.failures reader.old) (R.failures reader.new) }
+    ensures other { IfErr result (λ fault. fault ≢ ScriptFault.Write) }
+{
+    match read_entries::<R, JudgedEntries>(alloc, reader)? {
+        Found::Entries(_, judged) => Ok(tell_judged(alloc, &judged)?),
+        Found::BadEntry(number) => Ok(bad_entry(alloc, number)?),
+    }
 }
 
 // Reads the input, and tells what is answered.
@@ -127,11 +185,10 @@ fn answer<R: Source>(
     ensures reads { CountsReads result (R.failures reader.old) (R.failures reader.new) }
     ensures other { IfErr result (λ fault. fault ≢ ScriptFault.Write) }
 {
-    match read_entries(alloc, reader)? {
-        Found::Entries(schema, entries) => {
-            Ok(judge_all(rt, alloc, fields, &schema, entries.as_slice())?)
-        }
-        Found::BadEntry(number) => Ok((AuditEnd::BadEntry, bad_entry_line(alloc, number)?)),
+    if fields {
+        answer_by_fields(rt, alloc, reader)
+    } else {
+        answer_in_one_pass(alloc, reader)
     }
 }
 
@@ -149,8 +206,8 @@ fn answer<R: Source>(
 /// RULE` that the entry AT, counted from 1, is the first that breaks a rule, and RULE the first
 /// rule that it breaks: `site`, `grant`, `shortage`, `interval`, `statement` or `reply`. `bad entry
 /// L` says that line L, counted from 1 with the header, is the first that is neither an entry nor a
-/// remark, as any line of more than 256 bytes; then nothing behind it is read and nothing is
-/// judged.
+/// remark, as any line of more than 256 bytes; then nothing behind it is read and no verdict is
+/// told.
 ///
 /// The faults are those of the input, line by line: `Header` and `NoMemory`; `TooLong` where a byte
 /// follows the 1,000,000th line or the 268,435,456th byte; `Read` where a read answers an error of
@@ -161,11 +218,13 @@ fn answer<R: Source>(
 /// Reader and writer tell the contract how their calls end, and how many failed; `Watched::new`
 /// makes such ones of std's. No call is made again after one that failed.
 ///
-/// With `fields` the entries are judged in parts by threads, the rules on fields by windows of
-/// fields, and else in one pass: the answer is the same.
+/// With `fields` the entries are kept, and judged once all are read: in parts by threads, the rules
+/// on fields by windows of fields. Else each is judged as it is read, and none is kept. The answer
+/// is the same.
 ///
-/// Costs 128 KiB for input and memory for the entries and for the judge, and time in proportion to
-/// the input.
+/// Costs 128 KiB for input, memory for the judge and, with `fields`, for the entries, and time in
+/// proportion to the input. Want of memory for the judge is told only where all lines are good
+/// and the input was read to its end, within the limits.
 ///
 /// Source: O'Neil 1986 for the central store, Balegas and others 2015 for rights that are divided
 /// among sites and given, this project for the audit.

@@ -6,6 +6,7 @@ mod answer;
 mod laws;
 mod reading;
 mod remark;
+mod taking;
 
 pub use answer::{AuditEnd, audit_text};
 pub use laws::one_answer;

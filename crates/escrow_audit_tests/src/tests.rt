@@ -1,5 +1,6 @@
 //! What no clause says: the texts, whole audits, and readers and writers that fail.
 
+mod behind;
 mod faults;
 mod hostile;
 

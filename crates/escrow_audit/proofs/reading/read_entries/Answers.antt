@@ -33,7 +33,7 @@ returns-then-not-branch-clause-ok g c =
     let inv = c.lines.invariant in
     let line = subst (λ n. Nexts from to last inv.given c.lines.lines c.next.new.self 256 (Ok n)) c.in-Line.is
     (c.in_ok-next.ensures.next from inv.given inv.reads) in
-    finds_bad from to last c.next.new.self c.lines.schema c.lines.entries.items inv.given inv.has (given_line c.next.new.self) c.from.result
+    finds_bad g.E.TakesEntries.has_taken from to last c.next.new.self c.lines.schema inv.entries inv.given inv.has (given_line c.next.new.self) c.from.result
     (omega (arith, c.from.ensures, c.lines-then-not-branch.ensures.lines, line.reads.lines, length_push inv.given (given_line c.next.new.self)))
     (subst (IsBadEntry c.lines.schema) c.line.ensures.line (c.in_ok-note-in-Line.ensures.bad c.if-not-branch.true)) line.passed line.reads
 
@@ -44,12 +44,14 @@ lines-preserved g c =
     let last = g.R.Source.last c.next.new.reader in
     let inv = c.lines.invariant in
     let line = subst (λ n. Nexts from to last inv.given c.lines.lines c.next.new.self 256 (Ok n)) c.in-Line.is
-    (c.in_ok-next.ensures.next from inv.given inv.reads) in record {
+    (c.in_ok-next.ensures.next from inv.given inv.reads) in
+    let noted = c.in_ok-note-in-Line.ensures.good c.if-not-branch.false inv.entries inv.taken in record {
       given = inv.given ++ given_line c.next.new.self ∷ [];
       reads = line.reads;
-      has = HasEntries-more c.lines.schema inv.given (given_line c.next.new.self) c.lines.entries.items c.note.new.entries.items inv.has
-          (subst (λ l. Notes c.lines.schema l c.lines.entries.items c.note.new.entries.items) c.line.ensures.line
-          (c.in_ok-note-in-Line.ensures.good c.if-not-branch.false));
+      entries = noted.0;
+      has = HasEntries-more c.lines.schema inv.given (given_line c.next.new.self) inv.entries noted.0 inv.has
+          (subst (λ l. Notes c.lines.schema l inv.entries noted.0) c.line.ensures.line noted.1.0);
+      taken = noted.1.1;
       none = line.passed;
       failures = c.in_ok-next.ensures.reads ∙ inv.failures;
     }
@@ -62,7 +64,7 @@ returns-in-Long-clause-ok g c =
     let inv = c.lines.invariant in
     let long = subst (λ n. Nexts from to last inv.given c.lines.lines c.next.new.self 256 (Ok n)) c.in-Long.is
     (c.in_ok-next.ensures.next from inv.given inv.reads) in
-    finds_long from to last c.next.new.self c.lines.schema c.lines.entries.items inv.given inv.has (c.from-in-Long.result + 1)
+    finds_long g.E.TakesEntries.has_taken from to last c.next.new.self c.lines.schema inv.entries inv.given inv.has (c.from-in-Long.result + 1)
     (omega (arith, c.from-in-Long.ensures, c.lines-in-Long.ensures.lines, long.reads.lines)) long.long long.reads
 
 pub unreachable-requires : goal.unreachable-requires
@@ -80,5 +82,10 @@ returns-in-End-clause-ok g c =
     let last = g.R.Source.last c.next.new.reader in
     let inv = c.lines.invariant in
     let all = subst (λ n. Nexts from to last inv.given c.lines.lines c.next.new.self 256 (Ok n)) c.in-End.is
-    (c.in_ok-next.ensures.next from inv.given inv.reads) in
-    (all.read, (all.consumed, (all.ended, (all.within, subst (HasEntries c.lines.schema c.lines.entries.items) (sym all.all) inv.has))))
+    (c.in_ok-next.ensures.next from inv.given inv.reads) in (
+      all.read,
+      (
+        all.consumed,
+        (all.ended, (all.within, (inv.entries, (subst (HasEntries c.lines.schema inv.entries) (sym all.all) inv.has, inv.taken)))),
+      ),
+    )

@@ -1,9 +1,0 @@
-use Rattle.std.proofs.lemmas.Result.{err_from_is_err_and}
-use Rattle.escrow_audit.proofs.Entries.{faults_no_memory}
-use Rattle.escrow_audit.proofs.answer.answer.Goals as goal
-
-pub returns-in_err-bad_entry_line-in-BadEntry-clause-fault : goal.returns-in_err-bad_entry_line-in-BadEntry-clause-fault
-returns-in_err-bad_entry_line-in-BadEntry-clause-fault g c =
-    let found = c.in_ok-schema.ensures.ok in
-    let p = err_from_is_err_and c.from_residual-in_err-bad_entry_line-in-BadEntry.result c.from_residual-in_err-bad_entry_line-in-BadEntry.ensures.1 in
-    rw (p.1, p.2) (faults_no_memory _ _ _ found.0 found.1.0)
