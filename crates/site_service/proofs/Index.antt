@@ -1,17 +1,11 @@
 -- The set of the commits in a log, record by record.
-use Rattle.std.proofs.Common.{rules, ◌≡◌, ◌↔◌, ◌⊎◌, ℕ, ◌+◌, ◌-◌, Bool, true, false, cond, ◌||◌, eqb, List, [], ◌∷◌, ◌++◌, length, take, drop, Contains, IsTrue, refl, sym, ap, ◌∙◌, subst, inl, inr, arith, append-nil, append_assoc}
-use Rattle.std.specs.BTreeSet.{BTreeSet, contains, Updates}
-use Rattle.std.specs.Ordering.{is_eq}
+use Rattle.std.proofs.Common.{◌≡◌, ◌↔◌, ◌⊎◌, ℕ, ◌+◌, ◌-◌, Bool, true, false, ◌||◌, eqb, List, [], ◌∷◌, ◌++◌, length, take, drop, Contains, IsTrue, refl, sym, ap, ◌∙◌, subst, inl, inr, arith, append-nil, append_assoc}
 use Rattle.std.specs.List.{flat_map}
 use Rattle.std.proofs.lemmas.Bool.{eqb-true, eq-eqb, and_parts}
-use Rattle.std.proofs.lemmas.Map.Lookups.{CmpEqualImpliesEq}
-use Rattle.std.proofs.lemmas.Map.Views.{btree_set_contains_iff, tells_apart}
 use Rattle.std.proofs.lemmas.List.Folds.{list_any-append}
 use Rattle.std.proofs.lemmas.List.{take_at, drop_at, take-append-le, take-append-drop, length-append, length-take-le, length-drop}
 use Rattle.field_bounds.specs.declared.id.TxnId.{TxnId}
 use Rattle.field_bounds.specs.declared.entry.Escrow.{Escrow}
-use Rattle.field_bounds.specs.contracts.id.TxnIdOrd.TheImpl as order
-use Rattle.field_bounds.specs.contracts.id.TxnIdOrd.TheImpl.Laws as laws
 use Rattle.kept_records.specs.declared.record.Record.{Record}
 use Rattle.kept_records.specs.declared.record.Record.TheVariants.{Commit}
 use Rattle.kept_records.specs.Text.{text, IsRecord}
@@ -25,29 +19,6 @@ use Rattle.site_service.specs.Kept.{is_commit_of, has_commit, TellsCommit}
 use Rattle.site_service.specs.Index.{IsIndexOf}
 
 -- ---- the set
-
-exact : CmpEqualImpliesEq (order.ghosts).cmp
-exact x y same = search rules
-
-pub is_there : (s : BTreeSet TxnId) (txn : TxnId) → IsTrue (contains (order.ghosts).cmp s txn) ↔ Contains s.keys txn
-is_there s txn = btree_set_contains_iff laws.total-law exact s txn
-
-module _ (s n : BTreeSet TxnId) (put_in : TxnId) (put : Updates (order.ghosts).cmp s n put_in true) (other : TxnId) where
-  one_of : (b : Bool) → is_eq ((order.ghosts).cmp put_in other) ≡ b
-      → cond b true (contains (order.ghosts).cmp s other) ≡ true → (put_in ≡ other) ⊎ Contains s.keys other
-  one_of true same found = inl (tells_apart exact put_in other same)
-  one_of false apart found = inr ((is_there s other).0 found)
-
-  still : (b : Bool) → contains (order.ghosts).cmp s other ≡ true → cond b true (contains (order.ghosts).cmp s other) ≡ true
-  still true found = refl
-  still false found = found
-
-  there : (put_in ≡ other) ⊎ Contains s.keys other → Contains n.keys other
-  there (inl now) = subst (λ (x : TxnId). Contains n.keys x) now ((is_there n put_in).0 put.1)
-  there (inr before) = (is_there n other).0 (put.0 other ∙ still _ ((is_there s other).1 before))
-
-  put_told : Contains n.keys other ↔ ((put_in ≡ other) ⊎ Contains s.keys other)
-  put_told = (λ has. one_of _ refl (sym (put.0 other) ∙ (is_there n other).1 has), there)
 
 -- the commit of a transaction is one of it
 abbrev is_txn : ℕ → ℕ → TxnId
@@ -66,11 +37,11 @@ the_txn txn other escrows is =
     let numbers : other.number ≡ txn.number = eqb-true other.number txn.number parts.1 in
     ap (λ (e : ℕ). is_txn e other.number) epochs ∙ ap (λ (n : ℕ). is_txn txn.epoch n) numbers
 
-pub put_commit : (s n : BTreeSet TxnId) (r : Record) (other : TxnId) (escrows : List Escrow) → r ≡ Commit other escrows
-    → Updates (order.ghosts).cmp s n other true → (txn : TxnId)
-    → Contains n.keys txn ↔ ((is_commit_of txn r ≡ true) ⊎ Contains s.keys txn)
-put_commit s n r other escrows is put txn =
-    let told = put_told s n other put txn in (
+pub put_commit : (old new : List TxnId) (r : Record) (other : TxnId) (escrows : List Escrow) → r ≡ Commit other escrows
+    → ((txn : TxnId) → Contains new txn ↔ ((other ≡ txn) ⊎ Contains old txn)) → (txn : TxnId)
+    → Contains new txn ↔ ((is_commit_of txn r ≡ true) ⊎ Contains old txn)
+put_commit old new r other escrows is put txn =
+    let told = put txn in (
       λ has. elim (told.0 has) [
         | inl same ↦ inl (ap (is_commit_of txn) is ∙ of_txn txn other escrows same)
         | inr before ↦ inr before
@@ -100,9 +71,9 @@ or_last false false (inl now) = now
 or_last false false (inr before) = before
 
 more_exact : (old new : KeptCommits) (r : Record) (records : List Record) (txn : TxnId)
-    → Contains old.txns.keys txn ↔ (has_commit txn records ≡ true)
-    → Contains new.txns.keys txn ↔ ((is_commit_of txn r ≡ true) ⊎ Contains old.txns.keys txn)
-    → Contains new.txns.keys txn ↔ (has_commit txn (records ++ r ∷ []) ≡ true)
+    → Contains old.txns txn ↔ (has_commit txn records ≡ true)
+    → Contains new.txns txn ↔ ((is_commit_of txn r ≡ true) ⊎ Contains old.txns txn)
+    → Contains new.txns txn ↔ (has_commit txn (records ++ r ∷ []) ≡ true)
 more_exact old new r records txn was put =
     let all : has_commit txn (records ++ r ∷ []) ≡ (has_commit txn records || (is_commit_of txn r || false)) =
     list_any-append (is_commit_of txn) records (r ∷ []) in (
@@ -130,7 +101,7 @@ rest_kept front back bytes (r ∷ records) log parts kept =
     rest_kept behind back (behind ++ back) records (record { parts = sym (append-nil behind); each = log.each.1; no_lf = refl }) refl
     (kept_behind bytes (behind ++ back) r kept whole log.each.0)
 
-pub index_none : (kept : KeptCommits) (bytes : List ℕ) → kept.txns.keys ≡ [] → kept.seen ≡ 0 → IsIndexOf kept bytes
+pub index_none : (kept : KeptCommits) (bytes : List ℕ) → kept.txns ≡ [] → kept.seen ≡ 0 → IsIndexOf kept bytes
 index_none kept bytes none zero = record {
   within = omega (arith, zero);
   records = [];
@@ -140,7 +111,7 @@ index_none kept bytes none zero = record {
 
 -- the bytes that were looked at, and a record more
 pub index_more : (old new : KeptCommits) (bytes left : List ℕ) (r : Record) (index : IsIndexOf old bytes) → drop old.seen bytes ≡ text r ++ left
-    → IsRecord r → ((txn : TxnId) → Contains new.txns.keys txn ↔ ((is_commit_of txn r ≡ true) ⊎ Contains old.txns.keys txn))
+    → IsRecord r → ((txn : TxnId) → Contains new.txns txn ↔ ((is_commit_of txn r ≡ true) ⊎ Contains old.txns txn))
     → new.seen ≡ length bytes - length left → IsIndexOf new bytes × (left ≡ drop new.seen bytes)
 index_more old new bytes left r index parts fits put seen =
     let size : length bytes ≡ old.seen + (length (text r) + length left) =
@@ -174,8 +145,8 @@ index_grows kept bytes grown more index is =
 
 -- all was looked at
 pub index_tells : (kept : KeptCommits) (bytes : List ℕ) (txn : TxnId) (found : Bool) → IsIndexOf kept bytes → HasNoLf (drop kept.seen bytes)
-    → found ≡ contains (order.ghosts).cmp kept.txns txn → TellsCommit bytes txn found
-index_tells kept bytes txn found index none is rs rest log =
+    → IsTrue found ↔ Contains kept.txns txn → TellsCommit bytes txn found
+index_tells kept bytes txn found index none there rs rest log =
     let all : IsLog bytes index.records (drop kept.seen bytes) = record {
       parts = sym (take-append-drop kept.seen bytes)
           ∙ ap (λ (l : List ℕ). l ++ drop kept.seen bytes) (index.lines.parts ∙ append-nil (flat_map text index.records));
@@ -183,7 +154,5 @@ index_tells kept bytes txn found index none is rs rest log =
       no_lf = none;
     } in
     let same : index.records ≡ rs = (same_log bytes index.records rs (drop kept.seen bytes) rest all log).0 in
-    let there = is_there kept.txns txn in
     let told = index.exact txn in
-    is ∙ both_same (contains (order.ghosts).cmp kept.txns txn) (has_commit txn index.records) (λ yes. told.0 (there.0 yes))
-    (λ yes. there.1 (told.1 yes)) ∙ ap (has_commit txn) same
+    both_same found (has_commit txn index.records) (λ yes. told.0 (there.0 yes)) (λ yes. there.1 (told.1 yes)) ∙ ap (has_commit txn) same

@@ -2,6 +2,7 @@ pub mod Stops
 pub mod Whole
 pub mod Ends
 pub mod Index
+pub mod Rising
 pub mod Links
 pub mod Questions
 pub mod Told

@@ -13,7 +13,7 @@ pub record IsIndexOf (kept : KeptCommits) (bytes : List ℕ) : Type 0 where
   pub within : kept.seen ≤ length bytes
   pub records : List Record
   pub lines : IsLog (take kept.seen bytes) records []
-  pub exact : (txn : TxnId) → Contains kept.txns.keys txn ↔ (has_commit txn records ≡ true)
+  pub exact : (txn : TxnId) → Contains kept.txns txn ↔ (has_commit txn records ≡ true)
 
 -- What holds of every service: the link between its medium and its log, and the set is that of the medium's bytes.
 pub record IsSoundService (schema : SchemaValue) (v : ServiceValue) (kept : KeptCommits) : Type 0 where

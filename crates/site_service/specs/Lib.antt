@@ -7,4 +7,5 @@ pub mod Stops
 pub mod Kept
 pub mod LineFaults
 pub mod Index
+pub mod Rising
 pub mod Asking

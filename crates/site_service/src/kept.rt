@@ -9,17 +9,18 @@ ghost use Rattle.kept_records.specs.Logs.{HasNoLf};
 ghost use Rattle.site_service.specs.Kept.{is_commit_of, TellsCommit};
 ghost use Rattle.site_service.specs.Index.{IsIndexOf};
 
+use crate::txn_set::TxnSet;
 use field_bounds::TxnId;
 use kept_records::{CommonRecord, LentRecords, Record, RecordLine};
 use std::alloc::{AllocError, Global};
-use std::collections::BTreeSet;
 
 /// The transactions whose commits are among the records in the first so many bytes of a log. What
 /// the log has got since is looked at when it is asked: so each record is read once, and a look-up
-/// costs a step for each doubling of their number.
+/// costs a step for each doubling of their number. A site's transactions rise, so that their commits
+/// mostly rise in a log too: only those that were open at once can change places.
 #[derive(Drop)]
 pub(crate) struct KeptCommits {
-    txns: BTreeSet<TxnId>,
+    txns: TxnSet,
     seen: usize,
 }
 
@@ -29,15 +30,15 @@ impl KeptCommits {
         ensures none { (bytes : List ℕ) → IsIndexOf result bytes }
     {
         KeptCommits {
-            txns: BTreeSet::new(alloc),
+            txns: TxnSet::new(alloc),
             seen: 0,
         }
     }
 
     // Takes in one more record, of which a commit alone counts.
     fn take_in(&mut self, next: &Record) -> Result<(), AllocError>
-        ensures ok { OnOk result ((txn : Txn) → Contains self.new.txns.keys txn
-            ↔ ((is_commit_of txn next.now ≡ true) ⊎ Contains self.old.txns.keys txn)) }
+        ensures ok { OnOk result ((txn : Txn) → Contains self.new.txns txn
+            ↔ ((is_commit_of txn next.now ≡ true) ⊎ Contains self.old.txns txn)) }
         ensures err { OnErr result (self.new ≡ self.old) }
         ensures seen { self.new.seen ≡ self.old.seen }
     {
@@ -50,9 +51,9 @@ impl KeptCommits {
     // The same of a record that is lent, whatever its escrows are.
     fn take_common(&mut self, next: CommonRecord) -> Result<(), AllocError>
         ensures ok { OnOk result ((txn : Txn) (escrows : List Escrow)
-            → Contains self.new.txns.keys txn
+            → Contains self.new.txns txn
             ↔ ((is_commit_of txn (record_told next escrows) ≡ true)
-            ⊎ Contains self.old.txns.keys txn)) }
+            ⊎ Contains self.old.txns txn)) }
         ensures err { OnErr result (self.new ≡ self.old) }
         ensures seen { self.new.seen ≡ self.old.seen }
     {

@@ -14,6 +14,7 @@ mod no_trace;
 mod opening;
 mod service;
 mod serving;
+mod txn_set;
 
 pub use bad_line::BadLine;
 pub use fault::ServeFault;

@@ -126,8 +126,10 @@ impl<F: LogFile> Service<F> {
 
     /// Whether the commit of a transaction is in the log: so a client finds out whose answer didn't
     /// come. Where it is yes, the commit is safe once the log is settled, as before any answer is
-    /// let out. The error is want of memory. Costs a look-up, and for each record that came since
-    /// the last question, or since the opening, a look at it and memory for a commit's transaction.
+    /// let out. The error is want of memory. Costs a look-up, a step for each doubling of the number
+    /// of commits; and for each record that came since the last question, or since the opening, a
+    /// look at it, and for a commit 8 bytes, with room made by doubling: more where it stands behind
+    /// the commit of a later transaction.
     pub fn has_kept(&mut self, alloc: Global, txn: TxnId) -> Result<bool, AllocError>
         ensures kept { IfOk result (TellsCommit self.old.served.site.bytes txn) }
         ensures same { self.new ≡ self.old }

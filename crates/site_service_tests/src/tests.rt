@@ -1,6 +1,7 @@
 //! Each expected answer is worked out by hand from the definitions.
 
 mod faults;
+mod kept;
 mod traces;
 mod turns;
 

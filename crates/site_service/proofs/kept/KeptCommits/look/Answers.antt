@@ -1,8 +1,7 @@
-use Rattle.std.proofs.Common.{[], ◌∷◌, length, drop, sym, ap, ◌∙◌, subst, arith, List}
+use Rattle.std.proofs.Common.{[], length, drop, sym, ap, ◌∙◌, subst, arith}
 use Rattle.std.proofs.lemmas.List.{take-append-drop, take_rest}
 use Rattle.kept_records.specs.declared.record_lines.RecordLine.{RecordLine}
 use Rattle.kept_records.specs.Keeping.{IsKept}
-use Rattle.kept_records.specs.Logs.{HasNoLf}
 use Rattle.kept_records.specs.Lines.{IsRecordAt, StartsBad, HandsLine}
 use Rattle.kept_records.specs.Lent.{record_told}
 use Rattle.kept_records.proofs.Cursors.{fewer, kept_behind}
