@@ -16,7 +16,7 @@ use Rattle.central_rules.specs.Verdict.{verdict_of}
 use Rattle.central_rules.proofs.Verdicts.{legal_is_sound, sound_is_legal}
 use Rattle.trace_weave.specs.Weave.{lists_of, NoneWeaves, WeavesLowest}
 use Rattle.site_workers.specs.Scripts.{histories_of}
-use Rattle.escrow_work.specs.Work.{WorksLegally, Sticks}
+use Rattle.escrow_work.specs.Work.{Works, WorksLegally, Sticks}
 use Rattle.trace_weave.proofs.Sound.{woven_is_sound}
 
 runs_at : (schema : SchemaValue) (n : ℕ) (ss : List (List Command)) (hs : List (List Entry)) → AreWorked schema n ss hs → (i : ℕ)
@@ -56,25 +56,23 @@ sticks schema ss vs ws worked same none = record {
   none = subst (λ (l : List (Vec Entry)). NoneWeaves (lists_of l)) same none;
 }
 
-pub works_legally : (schema : SchemaValue) (ss : List (List Command)) (vs ws : List (Vec Entry)) (es : List Entry)
-    → AllWorked schema ss (histories_of vs) → ws ≡ vs
-    → WeavesLowest (lists_of ws) (reverse es) → verdict_of schema es ≡ Legal → WorksLegally schema ss es
-works_legally schema ss vs ws es worked same woven legal = record {
-  works = record {
-    histories = histories_of vs;
-    worked = worked;
-    woven = subst (λ (l : List (Vec Entry)). WeavesLowest (lists_of l) (reverse es)) same woven;
-  };
-  legal = legal;
-  central = (legal_is_sound schema (reverse es) legal).1;
+pub works : (schema : SchemaValue) (ss : List (List Command)) (vs ws : List (Vec Entry)) (es : List Entry)
+    → AllWorked schema ss (histories_of vs) → ws ≡ vs → WeavesLowest (lists_of ws) (reverse es) → Works schema ss es
+works schema ss vs ws es worked same woven = record {
+  histories = histories_of vs;
+  worked = worked;
+  woven = subst (λ (l : List (Vec Entry)). WeavesLowest (lists_of l) (reverse es)) same woven;
 }
 
-pub never_illegal : (schema : SchemaValue) (ss : List (List Command)) (vs ws : List (Vec Entry)) (es : List Entry) (at : ℕ)
-    (rule : Rule) → IsSchema schema
-    → AllWorked schema ss (histories_of vs) → ws ≡ vs → WeavesLowest (lists_of ws) (reverse es) → verdict_of schema es ≡ Illegal at rule → ⊥
-never_illegal schema ss vs ws es at rule good worked same woven illegal =
-    let sound : IsSound schema (reverse es) =
-    works_soundly schema ss (histories_of vs) (reverse es) worked (subst (λ (l : List (Vec Entry)). WeavesLowest (lists_of l)
-    (reverse es)) same woven) in
+-- ---- what was woven, judged
+
+pub works_legally : (schema : SchemaValue) (ss : List (List Command)) (es : List Entry) → Works schema ss es
+    → verdict_of schema es ≡ Legal → WorksLegally schema ss es
+works_legally schema ss es made legal = record { works = made; legal = legal; central = (legal_is_sound schema (reverse es) legal).1 }
+
+pub never_illegal : (schema : SchemaValue) (ss : List (List Command)) (es : List Entry) (at : ℕ) (rule : Rule) → IsSchema schema
+    → Works schema ss es → verdict_of schema es ≡ Illegal at rule → ⊥
+never_illegal schema ss es at rule good made illegal =
+    let sound : IsSound schema (reverse es) = works_soundly schema ss made.histories (reverse es) made.worked made.woven in
     let legal : verdict_of schema es ≡ Legal = sound_is_legal schema (reverse es) sound (sound_is_central schema good (reverse es) sound) in
     cc

@@ -3,6 +3,7 @@
 #![tactic(auto)]
 
 mod dealing;
+mod judged;
 mod reading;
 mod scripts;
 mod text;

@@ -8,29 +8,16 @@ ghost use Rattle.script_input.specs.Streams.{HasFailed, GaveNothing, HasRefused,
 ghost use Rattle.escrow_work.specs.Scripts.{HasScripts};
 ghost use Rattle.escrow_work.specs.Work.{work_text, MakesNone, IsWorkOf, WritesWork, Fails, Tells, FaultsIn};
 
+use crate::judged::judged_and_spelled;
 use crate::reading::read_scripts;
 use crate::scripts::Scripts;
 use crate::woven::work_woven;
-use entry_text::append_entry;
-use field_bounds::{Entry, Schema};
+use central_rules::Verdict;
 use script_input::{ScriptFault, Sink, Source, write_out};
 use site_desk::FreeGate;
-use std::alloc::{AllocError, Global};
+use std::alloc::Global;
 use std::sync::Wait;
 use std::thread::Threads;
-
-// The header line, and a line for each entry.
-fn text_of(schema: &Schema, header: Vec<u8>, entries: &[Entry]) -> Result<Vec<u8>, AllocError>
-    ensures { IfOk result (λ text. text.items ≡ work_text schema.now header.items entries.now) }
-{
-    let mut out = header;
-    out.push(b'\n')?;
-    for entry in entries {
-        append_entry(&mut out, schema, *entry)?;
-        out.push(b'\n')?;
-    }
-    Ok(out)
-}
 
 // The text of what workers make of the scripts.
 fn made(
@@ -49,8 +36,13 @@ fn made(
         header,
         rows,
     } = scripts;
+    let _sites = schema.sites();
     let entries = work_woven(rt, alloc, &schema, rows, &FreeGate)?;
-    Ok(text_of(&schema, header, entries.as_slice())?)
+    let (verdict, text) = judged_and_spelled(rt, alloc, &schema, header, entries.as_slice());
+    match verdict? {
+        Verdict::Legal => Ok(text?),
+        Verdict::Illegal { .. } => Err(ScriptFault::Illegal),
+    }
 }
 
 // Reads the input, and tells the text of its work.
@@ -96,9 +88,10 @@ fn answer<R: Source>(
 /// Reader and writer tell the contract how their calls end, and how many failed; `Watched::new`
 /// makes such ones of std's. No call is made again after one that failed.
 ///
-/// Costs 128 KiB for input, two threads and an inbox of 1,024 letters for each site, memory for the
-/// scripts, for the histories and their receipts and for the text, and time in proportion to the
-/// input.
+/// Costs 128 KiB for input, two threads and an inbox of 1,024 letters for each site, behind these one
+/// thread for the judge where there are 2,000 entries or more, memory for the scripts, for the
+/// histories and their receipts, for the text and for the judge beside it, and time in proportion to
+/// the input.
 ///
 /// Source: O'Neil 1986 for escrows and the central store, Balegas and others 2015 for sites that
 /// act alone on rights that they hold, this project for workers and weaving.

@@ -1,11 +1,9 @@
-//! What the workers of scripts make, woven and judged.
+//! What the workers of scripts make, woven.
 
 ghost use Rattle.std.specs.Prelude.{◌≡◌, IfOk, IfErr};
 ghost use Rattle.site_workers.specs.Scripts.{scripts_of, ScriptsFit};
-ghost use Rattle.escrow_work.specs.Work.{WorksLegally, MakesNone};
+ghost use Rattle.escrow_work.specs.Work.{Works, MakesNone};
 
-use central_machine::judge;
-use central_rules::Verdict;
 use field_bounds::{Command, Entry, Schema};
 use script_input::ScriptFault;
 use site_desk::FreeGate;
@@ -17,7 +15,7 @@ use trace_weave::{WeaveFault, weave};
 use work_faults::WorkFault;
 
 /// The entries, the oldest first, that are woven of the histories which workers make of these
-/// scripts. They are judged legal before they are handed out.
+/// scripts. Nobody has judged them yet.
 pub(crate) fn work_woven<'x, R: Threads + Wait + Sync>(
     rt: &'x R,
     alloc: Global,
@@ -27,7 +25,7 @@ pub(crate) fn work_woven<'x, R: Threads + Wait + Sync>(
 ) -> Result<Vec<Entry>, ScriptFault>
     requires fit { ScriptsFit schema.now (scripts_of scripts.items) }
     ensures ok { IfOk result (λ entries.
-        WorksLegally schema.now (scripts_of scripts.items) entries.items) }
+        Works schema.now (scripts_of scripts.items) entries.items) }
     ensures fault { IfErr result (MakesNone schema.now (scripts_of scripts.items)) }
 {
     let _sites = schema.sites();
@@ -36,13 +34,9 @@ pub(crate) fn work_woven<'x, R: Threads + Wait + Sync>(
         Err(WorkFault::NoMemory) => return Err(ScriptFault::NoMemory),
         Err(fault) => return Err(ScriptFault::Work(fault)),
     };
-    let entries = match weave(alloc, histories.as_slice()) {
-        Ok(entries) => entries,
-        Err(WeaveFault::NoMemory) => return Err(ScriptFault::NoMemory),
-        Err(WeaveFault::Stuck { .. }) => return Err(ScriptFault::Stuck),
-    };
-    match judge(alloc, schema, entries.as_slice())? {
-        Verdict::Legal => Ok(entries),
-        Verdict::Illegal { .. } => Err(ScriptFault::Illegal),
+    match weave(alloc, histories.as_slice()) {
+        Ok(entries) => Ok(entries),
+        Err(WeaveFault::NoMemory) => Err(ScriptFault::NoMemory),
+        Err(WeaveFault::Stuck { .. }) => Err(ScriptFault::Stuck),
     }
 }

@@ -1,6 +1,6 @@
 use Rattle.std.proofs.Common.{arith}
 use Rattle.escrow_work.proofs.Told.{text_more}
-use Rattle.escrow_work.proofs.text.text_of.Goals as goal
+use Rattle.escrow_work.proofs.judged.text_of.Goals as goal
 
 pub loop-entry-preserved : goal.loop-entry-preserved
 loop-entry-preserved c =
