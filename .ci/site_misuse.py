@@ -268,6 +268,32 @@ def refuse_worlds(program: Program) -> None:
     program.ends(["settle", first, second], 3, "field stock between 20 70\n", LOST.format(1))
 
 
+def refuse_two_faults(program: Program) -> None:
+    """A log that can't be read is told before one that breaks a rule, of whichever site; and of rules the lowest site's."""
+    first, second = (program.created(f"faults{number}", SHOP, number).folder for number in (0, 1))
+    broken = "line 2 is no record of this site: put its own newest log back"
+    program.file("faults0/log", f"{SHOP.log_name(0).decode()}R 1\nR 1\n")
+    logs = (
+        (f"{SHOP.log_name(1).decode()}R 1\nR 2\nhello\n", f"{second}/log: {broken.replace('2', '3')}"),
+        (f"{SHOP.log_name(0).decode()}R 1\n", f"{second}/log: isn't the log of this site: put its own newest log back"),
+        (f"{SHOP.log_name(1).decode()}R 2\nR 3\nR 1\n", f"{first}/log: {broken}"),
+        (f"{SHOP.log_name(1).decode()}R 1\n", f"{first}/log: {broken}"),
+    )
+    for text, told in logs:
+        program.file("faults1/log", text)
+        for word in ("check", "settle"):
+            program.ends([word, first, second], 3, "", told)
+    os.remove(f"{second}/log")
+    gone = f"{second}/log: isn't there: put the newest log back; a site without it would sell again what it sold"
+    program.ends(["check", first, second], 3, "", gone)
+    program.ends(["settle", first, second], 3, "", f"{first}/log: {broken}")
+    world = World(3, SHOP.fields)
+    named = [program.created(f"three_faults{number}", world, number).folder for number in (0, 2)]
+    program.file("three_faults0/log", f"{world.log_name(0).decode()}R 1\nR 1\n")
+    program.file("three_faults2/log", f"{world.log_name(2).decode()}hello\n")
+    program.ends(["settle", *named], 3, "", f"{named[1]}/log: {broken.replace('2', '1')}")
+
+
 def refuse_too_much(program: Program) -> None:
     """Sites that together have more than the field is wide, where the third log is lost."""
     world = World(3, SHOP.fields)
@@ -322,6 +348,7 @@ MISUSES = (
     refuse_old_copy,
     refuse_folder_lists,
     refuse_worlds,
+    refuse_two_faults,
     refuse_too_much,
     refuse_traces,
     refuse_old_trace,

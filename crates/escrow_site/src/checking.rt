@@ -1,40 +1,97 @@
 //! The command `check`.
 
-ghost use Rattle.std.specs.Prelude.{◌≡◌, ℕ, IfOk, length};
-ghost use Rattle.std.specs.List.{AllByRecursion};
-ghost use Rattle.kept_records.specs.Text.{IsRecord};
-ghost use Rattle.world_logs.specs.Logs.{records_of, log_of};
+ghost use Rattle.std.specs.Prelude.{◌≡◌, ◌<◌, IfOk, length};
+ghost use Rattle.world_logs.specs.Body.{StandsForLog, AreForLogs};
+ghost use Rattle.escrow_site.specs.Folders.{StandsIfKept};
 
 use crate::fault::{Fault, Why, refused};
-use crate::folder::{bad_record, read_log};
+use crate::folder::{Replayed, bad_record, count_records, replay_folder};
 use crate::progress::tell_reading;
 use crate::worlds::{World, read_world};
 use field_bounds::{FieldNo, Kind, Schema, SiteNo};
-use kept_records::Record;
+use log_replay::Standing;
 use std::alloc::Global;
 use std::io;
-use world_logs::{Excess, FieldState, WorldFault, check_world};
+use world_logs::{Excess, FieldState, WorldFault, check_standings};
 
-// The records of a site's log.
-fn read_site_log(rt: &HostRuntime, world: &World, site: SiteNo) -> Result<Vec<Record>, Fault>
-    ensures in_range { IfOk result (λ records. AllByRecursion IsRecord records.items) }
+// What the log of a site comes to.
+fn replay_site(rt: &HostRuntime, world: &World, site: SiteNo) -> Result<Replayed, Fault>
+    requires site_in { site.0 < world.now.schema.sites }
+    ensures stands { IfOk result (StandsIfKept world.now.schema site.0) }
 {
     let folder = world.named_folder(site)?;
     tell_reading(rt, folder.paths.folder.as_str(), site, world.schema.sites());
-    Ok(read_log(rt, &folder.paths, &folder.identity)?.records)
+    replay_folder(rt, &folder.paths, &folder.identity, &world.schema, site)
 }
 
-/// The logs of all sites, in their order.
-pub(crate) fn read_logs(rt: &HostRuntime, world: &World) -> Result<Vec<Vec<Record>>, Fault>
-    ensures count { IfOk result (λ logs. length logs.items ≡ world.now.schema.sites) }
-    ensures in_range { IfOk result (λ logs. (s : ℕ)
-        → AllByRecursion IsRecord (log_of (records_of logs.items) s)) }
-{
-    let mut logs = Vec::new(rt.alloc());
+// Looks whether each line of a site's log is a record.
+fn look_through(rt: &HostRuntime, world: &World, site: SiteNo) -> Result<(), Fault> {
+    let folder = world.named_folder(site)?;
+    tell_reading(rt, folder.paths.folder.as_str(), site, world.schema.sites());
+    count_records(rt, &folder.paths, &folder.identity)?;
+    Ok(())
+}
+
+// Looks through the logs of the sites behind one whose log breaks a rule, but those that are lost.
+fn look_behind(
+    rt: &HostRuntime,
+    world: &World,
+    lost: &[SiteNo],
+    broken: SiteNo,
+) -> Result<(), Fault> {
     for number in 0..world.schema.sites() {
-        logs.push(read_site_log(rt, world, SiteNo(number))?)?;
+        let site = SiteNo(number);
+        if number > broken.0 && !lost.contains(&site) {
+            look_through(rt, world, site)?;
+        }
     }
-    Ok(logs)
+    Ok(())
+}
+
+// The fault that a record of a site's log breaks a rule. Behind it the other logs that aren't lost are
+// read: one that can't be read is told before any rule.
+fn broken_rule(
+    rt: &HostRuntime,
+    world: &World,
+    lost: &[SiteNo],
+    site: SiteNo,
+    record: u64,
+) -> Fault {
+    if let Err(fault) = look_behind(rt, world, lost, site) {
+        return fault;
+    }
+    match world.named_folder(site) {
+        Ok(folder) => bad_record(rt.alloc(), &folder.paths, record),
+        Err(fault) => fault,
+    }
+}
+
+/// What the log of a site stands for. Where it breaks a rule, the logs behind it that aren't lost are
+/// read, too.
+pub(crate) fn read_standing(
+    rt: &HostRuntime,
+    world: &World,
+    lost: &[SiteNo],
+    site: SiteNo,
+) -> Result<Standing, Fault>
+    requires site_in { site.0 < world.now.schema.sites }
+    ensures stands { IfOk result (StandsForLog world.now.schema site.0) }
+{
+    match replay_site(rt, world, site)? {
+        Replayed::Standing { standing, .. } => Ok(standing),
+        Replayed::BreaksRule { number } => Err(broken_rule(rt, world, lost, site, number)),
+    }
+}
+
+/// What the logs of all sites stand for, in their order.
+pub(crate) fn read_standings(rt: &HostRuntime, world: &World) -> Result<Vec<Standing>, Fault>
+    ensures for_logs { IfOk result (λ standings. AreForLogs world.now.schema standings.items) }
+{
+    let mut standings = Vec::new(rt.alloc());
+    for number in 0..world.schema.sites() {
+        standings.push(read_standing(rt, world, &[], SiteNo(number))?)?;
+    }
+    Ok(standings)
 }
 
 // The name of a field.
@@ -119,8 +176,8 @@ fn show_world(rt: &impl Print, world: &World, states: &[FieldState]) -> io::Resu
 // Checks the logs of all sites, and shows where each field stands by them.
 fn check_logs(rt: &HostRuntime, world: &World) -> Result<(), Fault> {
     let alloc = rt.alloc();
-    let logs = read_logs(rt, world)?;
-    let states = match check_world(alloc, &world.schema, logs.as_slice()) {
+    let standings = read_standings(rt, world)?;
+    let states = match check_standings(alloc, &world.schema, standings.as_slice()) {
         Ok(states) => states,
         Err(fault) => return Err(logs_fault(alloc, world, fault)),
     };

@@ -1,22 +1,16 @@
 //! The command `settle`.
 
-ghost use Rattle.std.specs.Prelude.{◌≡◌, ℕ, IfOk, length};
-ghost use Rattle.std.specs.List.{AllByRecursion};
-ghost use Rattle.kept_records.specs.Text.{IsRecord};
-ghost use Rattle.world_logs.specs.Logs.{log_of};
-ghost use Rattle.world_logs.specs.Lost.{known_of, known_records};
-ghost use Rattle.world_logs.specs.LostBody.{records_in};
+ghost use Rattle.std.specs.Prelude.{◌≡◌, ◌<◌, IfOk, length};
+ghost use Rattle.world_logs.specs.LostBody.{StandsIfKnown, AreForKnownLogs};
 
-use crate::checking::{logs_fault, read_logs};
+use crate::checking::{logs_fault, read_standing, read_standings};
 use crate::fault::{Fault, failed};
-use crate::folder::read_log;
-use crate::progress::tell_reading;
 use crate::worlds::{World, read_world};
 use field_bounds::{FieldNo, Schema, SiteNo};
-use kept_records::Record;
+use log_replay::Standing;
 use std::alloc::{AllocError, Global};
 use std::{fs, io};
-use world_logs::{FieldRange, HeaderFault, bound_world, settle_world, write_header};
+use world_logs::{FieldRange, HeaderFault, bound_standings, settle_standings, write_header};
 
 // Whether the log of a site is lost: no folder of it is named, or none is in its folder.
 fn is_lost(rt: &HostRuntime, world: &World, site: SiteNo) -> Result<bool, Fault> {
@@ -42,45 +36,43 @@ fn lost_sites(rt: &HostRuntime, world: &World) -> Result<Vec<SiteNo>, Fault> {
     Ok(lost)
 }
 
-// The records of a site's log, or None where it is lost.
+// What the log of a site stands for, or None where it is lost.
 fn read_known(
     rt: &HostRuntime,
     world: &World,
     lost: &[SiteNo],
     site: SiteNo,
-) -> Result<Option<Vec<Record>>, Fault>
-    ensures in_range { IfOk result (λ log. AllByRecursion IsRecord (records_in log)) }
+) -> Result<Option<Standing>, Fault>
+    requires site_in { site.0 < world.now.schema.sites }
+    ensures stands { IfOk result (StandsIfKnown world.now.schema site.0) }
 {
     if lost.contains(&site) {
         return Ok(None);
     }
-    let folder = world.named_folder(site)?;
-    tell_reading(rt, folder.paths.folder.as_str(), site, world.schema.sites());
-    Ok(Some(read_log(rt, &folder.paths, &folder.identity)?.records))
+    Ok(Some(read_standing(rt, world, lost, site)?))
 }
 
-// The logs of all sites, in their order, where they aren't lost.
-fn read_known_logs(
+// What the logs of all sites stand for, in their order, where they aren't lost.
+fn read_known_standings(
     rt: &HostRuntime,
     world: &World,
     lost: &[SiteNo],
-) -> Result<Vec<Option<Vec<Record>>>, Fault>
-    ensures count { IfOk result (λ logs. length logs.items ≡ world.now.schema.sites) }
-    ensures in_range { IfOk result (λ logs. (s : ℕ)
-        → AllByRecursion IsRecord (log_of (known_records (known_of logs.items)) s)) }
+) -> Result<Vec<Option<Standing>>, Fault>
+    ensures for_logs { IfOk result (λ standings. AreForKnownLogs world.now.schema
+        standings.items) }
 {
-    let mut logs = Vec::new(rt.alloc());
+    let mut standings = Vec::new(rt.alloc());
     for number in 0..world.schema.sites() {
-        logs.push(read_known(rt, world, lost, SiteNo(number))?)?;
+        standings.push(read_known(rt, world, lost, SiteNo(number))?)?;
     }
-    Ok(logs)
+    Ok(standings)
 }
 
 // Settles the world by the logs of all sites.
 fn settle_logs(rt: &HostRuntime, world: &World) -> Result<(), Fault> {
     let alloc = rt.alloc();
-    let logs = read_logs(rt, world)?;
-    let settled = match settle_world(alloc, &world.schema, logs.as_slice()) {
+    let standings = read_standings(rt, world)?;
+    let settled = match settle_standings(alloc, &world.schema, standings.as_slice()) {
         Ok(settled) => settled,
         Err(fault) => return Err(logs_fault(alloc, world, fault)),
     };
@@ -123,8 +115,8 @@ fn numbers_of(alloc: Global, sites: &[SiteNo]) -> Result<String, AllocError> {
 // Shows between which values each field lies by the logs that are there, and tells which are lost.
 fn bound_logs(rt: &HostRuntime, world: &World, lost: &[SiteNo]) -> Result<(), Fault> {
     let alloc = rt.alloc();
-    let logs = read_known_logs(rt, world, lost)?;
-    let ranges = match bound_world(alloc, &world.schema, logs.as_slice()) {
+    let standings = read_known_standings(rt, world, lost)?;
+    let ranges = match bound_standings(alloc, &world.schema, standings) {
         Ok(ranges) => ranges,
         Err(fault) => return Err(logs_fault(alloc, world, fault)),
     };

@@ -7,10 +7,10 @@ ghost use Rattle.field_bounds.specs.Parts.{field_at};
 ghost use Rattle.site_rights.specs.Rights.{guarded_at};
 
 use crate::fault::Fault;
-use crate::folder::{Paths, bad_record, read_log, read_site};
+use crate::folder::{Paths, Replayed, bad_record, read_site, replay_folder};
 use field_bounds::{FieldNo, Kind, Schema, SiteNo};
 use gift_ledger::{FieldAccounts, Ledger};
-use log_replay::{Replayed, Standing, replay};
+use log_replay::Standing;
 use site_folder::Identity;
 use site_rights::Rights;
 use std::alloc::Global;
@@ -28,15 +28,9 @@ fn read_records(rt: &HostRuntime, paths: &Paths, identity: &Identity) -> Result<
     ensures fields { IfOk result (λ shown. length shown.standing.rights
         ≡ length identity.now.schema.fields) }
 {
-    let alloc = rt.alloc();
-    let front = read_log(rt, paths, identity)?;
-    let number = identity.number();
-    match replay(alloc, identity.schema(), number, front.records.as_slice())? {
-        Replayed::Standing(standing) => Ok(Shown {
-            length: front.length,
-            standing,
-        }),
-        Replayed::BreaksRule { number } => Err(bad_record(alloc, paths, number)),
+    match replay_folder(rt, paths, identity, identity.schema(), identity.number())? {
+        Replayed::Standing { standing, length } => Ok(Shown { length, standing }),
+        Replayed::BreaksRule { number } => Err(bad_record(rt.alloc(), paths, number)),
     }
 }
 

@@ -1,114 +1,101 @@
 //! The trace of a served site, beside its log.
 
 use crate::fault::{Fault, Why, device_fault, failed, refused};
-use crate::folder::{Paths, file_fault, read_file, read_log};
-use field_bounds::Schema;
+use crate::folder::{Paths, count_records, file_fault, read_file};
+use field_bounds::{Entry, Schema};
 use file_medium::{FileFailed, HostFile, LogFile, Opening, open_log};
-use kept_records::Record;
 use site_folder::{Identity, trace_name};
-use site_trace::{Trace, TraceEnd, TraceFault, read_trace, trace_end};
+use site_trace::{TraceEnd, TraceFault, kept_entries, read_trace, trace_end_at};
 use std::alloc::Global;
 use std::fs::File;
 use std::io::Write;
 use std::{fs, io};
 
-/// A trace, and where it is cut back to what its log holds.
+/// Where the trace of a folder is cut back to what its log holds.
 #[derive(Drop)]
-pub(crate) struct KeptTrace {
-    pub trace: Trace,
-    pub end: TraceEnd,
+struct TraceCut {
+    end: TraceEnd,
     // The length of the name of its file, and of all of the file, in bytes.
     name: usize,
     length: usize,
 }
 
-// The entries behind the name of a trace's file.
-fn entries_behind(
+// The text of a trace, behind the name with which its file begins.
+fn behind_trace_name<'a>(
+    alloc: Global,
+    paths: &Paths,
+    identity: &Identity,
+    bytes: &'a [u8],
+) -> Result<&'a [u8], Fault> {
+    let name = trace_name(alloc, identity)?;
+    match bytes.strip_prefix(name.as_slice()) {
+        Some(text) => Ok(text),
+        None => Err(refused(alloc, paths.trace.as_str(), Why::OtherTrace)),
+    }
+}
+
+// Why a trace isn't read, as a fault at its path.
+fn trace_fault(alloc: Global, paths: &Paths, fault: TraceFault) -> Fault {
+    match fault {
+        TraceFault::Line(line) => refused(alloc, paths.trace.as_str(), Why::BadEntry(line)),
+        TraceFault::NoMemory => Fault::NoMemory,
+    }
+}
+
+// The fault that a trace tells of fewer records than its log holds.
+fn trace_behind(alloc: Global, paths: &Paths) -> Fault {
+    refused(alloc, paths.trace.as_str(), Why::TraceBehind)
+}
+
+// Where the text of a trace ends that is cut back to a log of so many records.
+fn end_at(
     alloc: Global,
     paths: &Paths,
     schema: &Schema,
     text: &[u8],
-) -> Result<Trace, Fault> {
-    match read_trace(alloc, schema, text) {
-        Ok(trace) => Ok(trace),
-        Err(TraceFault::Line(line)) => {
-            Err(refused(alloc, paths.trace.as_str(), Why::BadEntry(line)))
-        }
-        Err(TraceFault::NoMemory) => Err(Fault::NoMemory),
-    }
-}
-
-// Where a trace ends that is cut back to a log.
-fn end_at(
-    alloc: Global,
-    paths: &Paths,
-    trace: &Trace,
-    records: &[Record],
+    kept: usize,
 ) -> Result<TraceEnd, Fault> {
-    match trace_end(trace, records) {
+    let trace = match read_trace(alloc, schema, text) {
+        Ok(trace) => trace,
+        Err(fault) => return Err(trace_fault(alloc, paths, fault)),
+    };
+    match trace_end_at(&trace, kept) {
         Some(end) => Ok(end),
-        None => Err(refused(alloc, paths.trace.as_str(), Why::TraceBehind)),
+        None => Err(trace_behind(alloc, paths)),
     }
 }
 
-// The trace in the bytes of a file that begins with this name, and where it is cut back to a log.
-fn kept_trace(
-    alloc: Global,
-    paths: &Paths,
-    schema: &Schema,
-    records: &[Record],
-    bytes: &[u8],
-    name: &[u8],
-) -> Result<KeptTrace, Fault> {
-    let Some(text) = bytes.strip_prefix(name) else {
-        return Err(refused(alloc, paths.trace.as_str(), Why::OtherTrace));
-    };
-    let trace = entries_behind(alloc, paths, schema, text)?;
-    let end = end_at(alloc, paths, &trace, records)?;
-    Ok(KeptTrace {
-        trace,
+// Where the trace of a folder is cut back to the folder's log. Both are read without locks, the log
+// first: so the trace of a site that is being served isn't behind it.
+fn read_cut(rt: &HostRuntime, paths: &Paths, identity: &Identity) -> Result<TraceCut, Fault> {
+    let alloc = rt.alloc();
+    let log = count_records(rt, paths, identity)?;
+    let bytes = read_file(rt, paths.trace.as_str(), Why::NoTrace)?;
+    let text = behind_trace_name(alloc, paths, identity, bytes.as_slice())?;
+    let end = end_at(alloc, paths, identity.schema(), text, log.plain)?;
+    Ok(TraceCut {
         end,
-        name: name.len(),
+        name: bytes.len().saturating_sub(text.len()),
         length: bytes.len(),
     })
 }
 
-// The trace in the bytes of a site's file, and where it is cut back to its log.
-fn site_trace(
-    alloc: Global,
-    paths: &Paths,
-    identity: &Identity,
-    records: &[Record],
-    bytes: &[u8],
-) -> Result<KeptTrace, Fault> {
-    let name = trace_name(alloc, identity)?;
-    kept_trace(
-        alloc,
-        paths,
-        identity.schema(),
-        records,
-        bytes,
-        name.as_slice(),
-    )
-}
-
-/// The trace of a folder, and where it is cut back to the folder's log. Both are read without locks,
-/// the log first: so the trace of a site that is being served isn't behind it.
-pub(crate) fn read_kept_trace(
+/// The entries of the trace of a folder that its log has the records of. Both are read without
+/// locks, the log first.
+pub(crate) fn read_kept_entries(
     rt: &HostRuntime,
     paths: &Paths,
     identity: &Identity,
-) -> Result<KeptTrace, Fault> {
+) -> Result<Vec<Entry>, Fault> {
     let alloc = rt.alloc();
-    let log = read_log(rt, paths, identity)?;
+    let log = count_records(rt, paths, identity)?;
     let bytes = read_file(rt, paths.trace.as_str(), Why::NoTrace)?;
-    site_trace(
-        alloc,
-        paths,
-        identity,
-        log.records.as_slice(),
-        bytes.as_slice(),
-    )
+    let text = behind_trace_name(alloc, paths, identity, bytes.as_slice())?;
+    match kept_entries(alloc, identity.schema(), text, log.plain) {
+        Ok(Some(entries)) => Ok(entries),
+        Ok(None) => Err(trace_behind(alloc, paths)),
+        Err(fault) => Err(trace_fault(alloc, paths, fault)),
+    }
 }
 
 // Writes a file, in place of one that is there, and makes it safe from a stop of the machine.
@@ -127,8 +114,8 @@ fn put_trace(rt: &HostRuntime, paths: &Paths, name: &[u8]) -> io::Result<()> {
 // Makes a trace with no entries, for a log that holds no records. It is there whole, or not at all.
 fn make_trace(rt: &HostRuntime, paths: &Paths, identity: &Identity) -> Result<(), Fault> {
     let alloc = rt.alloc();
-    let log = read_log(rt, paths, identity)?;
-    if !log.records.is_empty() {
+    let log = count_records(rt, paths, identity)?;
+    if log.length > 0 {
         return Err(refused(alloc, paths.trace.as_str(), Why::NoTrace));
     }
     let name = trace_name(alloc, identity)?;
@@ -159,10 +146,10 @@ fn cut_back(
     alloc: Global,
     paths: &Paths,
     file: &mut HostFile,
-    kept: &KeptTrace,
+    cut: &TraceCut,
 ) -> Result<(), Fault> {
-    let length = kept.name.saturating_add(kept.end.length);
-    if length >= kept.length {
+    let length = cut.name.saturating_add(cut.end.length);
+    if length >= cut.length {
         return Ok(());
     }
     match file.cut(length as u64) {
@@ -178,8 +165,8 @@ fn settle_trace(
     identity: &Identity,
     file: &mut HostFile,
 ) -> Result<(), Fault> {
-    let kept = read_kept_trace(rt, paths, identity)?;
-    cut_back(rt.alloc(), paths, file, &kept)
+    let cut = read_cut(rt, paths, identity)?;
+    cut_back(rt.alloc(), paths, file, &cut)
 }
 
 // The trace of the folder, opened, locked and cut back to the folder's log; it is made where the log

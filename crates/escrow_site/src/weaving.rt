@@ -4,25 +4,18 @@ ghost use Rattle.std.specs.Prelude.{◌≤◌, IfOk, length};
 
 use crate::fault::Fault;
 use crate::progress::tell_reading;
-use crate::tracing::read_kept_trace;
-use crate::worlds::{SiteFolder, World, read_world};
+use crate::tracing::read_kept_entries;
+use crate::worlds::{World, read_world};
 use entry_text::append_entry;
 use field_bounds::{Entry, Schema, SiteNo};
 use script_input::{Sink, Watched};
 use std::alloc::{AllocError, Global};
-use trace_weave::{WeaveFault, weave};
+use trace_weave::{WeaveFault, WovenEntries, weave_order};
 
 /// How many bytes gather before they are written.
 const PIECE: usize = 65_536;
 
-// The entries of a site that its log has the records of.
-fn read_history(rt: &HostRuntime, folder: &SiteFolder) -> Result<Vec<Entry>, Fault> {
-    let kept = read_kept_trace(rt, &folder.paths, &folder.identity)?;
-    let entries = kept.trace.entries.iter().take(kept.end.entries);
-    Ok(entries.map(|traced| traced.entry).collect(rt.alloc())?)
-}
-
-// The entries of all sites, in their order.
+// The entries of all sites that their logs have the records of, in the order of the sites.
 fn read_histories(rt: &HostRuntime, world: &World) -> Result<Vec<Vec<Entry>>, Fault>
     ensures few { IfOk result (λ histories. length histories.items ≤ 65535) }
 {
@@ -31,16 +24,17 @@ fn read_histories(rt: &HostRuntime, world: &World) -> Result<Vec<Vec<Entry>>, Fa
         let site = SiteNo(number);
         let folder = world.named_folder(site)?;
         tell_reading(rt, folder.paths.folder.as_str(), site, world.schema.sites());
-        histories.push(read_history(rt, folder)?)?;
+        histories.push(read_kept_entries(rt, &folder.paths, &folder.identity)?)?;
     }
     Ok(histories)
 }
 
-// One trace of all sites.
-fn read_weave(rt: &HostRuntime, world: &World) -> Result<Vec<Entry>, Fault> {
-    let histories = read_histories(rt, world)?;
-    match weave(rt.alloc(), histories.as_slice()) {
-        Ok(trace) => Ok(trace),
+// One trace of all sites: the order in which it takes the entries of the histories.
+fn order_of(alloc: Global, histories: &[Vec<Entry>]) -> Result<Vec<u16>, Fault>
+    requires few { length histories.now ≤ 65535 }
+{
+    match weave_order(alloc, histories) {
+        Ok(order) => Ok(order),
         Err(WeaveFault::Stuck { site, number }) => Err(Fault::Stuck(site.0, number)),
         Err(WeaveFault::NoMemory) => Err(Fault::NoMemory),
     }
@@ -69,12 +63,12 @@ fn write_trace<W: Sink>(
     alloc: Global,
     writer: &mut W,
     world: &World,
-    trace: &[Entry],
+    trace: WovenEntries<'_>,
 ) -> Result<(), Fault> {
     let mut text = Vec::from_slice(alloc, world.header.as_slice())?;
     text.push(b'\n')?;
     for entry in trace {
-        add_line(&mut text, &world.schema, *entry)?;
+        add_line(&mut text, &world.schema, entry)?;
         if text.len() >= PIECE {
             write_piece(writer, &mut text)?;
         }
@@ -84,9 +78,12 @@ fn write_trace<W: Sink>(
 
 // Weaves the sites, and writes the trace.
 fn weave_sites(rt: &HostRuntime, world: &World) -> Result<(), Fault> {
-    let trace = read_weave(rt, world)?;
+    let alloc = rt.alloc();
+    let histories = read_histories(rt, world)?;
+    let order = order_of(alloc, histories.as_slice())?;
+    let trace = WovenEntries::new(alloc, histories.as_slice(), order)?;
     let mut writer = Watched::new(rt.stdout());
-    write_trace(rt.alloc(), &mut writer, world, trace.as_slice())
+    write_trace(alloc, &mut writer, world, trace)
 }
 
 /// Writes one trace of all sites of a world: the header line, and an entry a line, as an audit reads
