@@ -3,7 +3,7 @@
 use check_kit::text_of_two;
 use escrow_work::{ScriptFault, Watched, WorkFault, work_text};
 use field_bounds::SchemaFault;
-use std::alloc::Global;
+use std::alloc::{AllocError, Global};
 use std::io::Read;
 use std::sync::Wait;
 use std::test::Fail;
@@ -91,6 +91,33 @@ fn gifts_go_both_ways(rt: HostRuntime) -> Result<(), Fail> {
     let (end, out) = work(&rt, alloc, text.as_bytes());
     assert_eq!(rt; end, Ok(()));
     assert_eq!(rt; count(out.as_slice(), " -> given 10"), (41, 2));
+    Ok(())
+}
+
+/// A text of two sites with the first line so many times, and the second behind it.
+fn text_of_many(alloc: Global, lines: [&str; 2], counts: [usize; 2]) -> Result<String, AllocError> {
+    let mut all = vec![in alloc; lines[0]; counts[0]]?;
+    all.extend_from_slice(vec![in alloc; lines[1]; counts[1]]?.as_slice())?;
+    text_of_two(alloc, all.as_slice())
+}
+
+// From 2,000 entries on one thread judges a trace while another spells it. Sites that state nothing
+// stand one behind the other, so each of these has one trace.
+#[test]
+fn a_long_trace_is_judged_while_it_is_spelled(rt: HostRuntime) -> Result<(), Fail> {
+    let alloc = rt.alloc();
+    let commands = ["0 read stock", "1 share stock"];
+    let entries = [
+        "0 read stock -> between 20 70",
+        "1 share stock -> share 20 30",
+    ];
+    for count in [998, 999, 1_000, 1_001, 1_000, 4_000, 1_000, 4_000] {
+        let text = text_of_many(alloc, commands, [1_000, count])?;
+        let (end, out) = work(&rt, alloc, text.as_bytes());
+        assert_eq!(rt; end, Ok(()));
+        let wanted = text_of_many(alloc, entries, [1_000, count])?;
+        assert!(rt; out.as_slice() == wanted.as_bytes());
+    }
     Ok(())
 }
 
