@@ -56,7 +56,8 @@ impl FrontJudge {
     ///
     /// The error is want of memory, or there would be more than 2^57 entries: then the judge is
     /// spent, and each later call answers the same error. Takes time and memory as `judge` does for
-    /// one of its entries.
+    /// one of its entries: so now and then a call moves what the ones before it put into a list, one
+    /// pass over that.
     #[inline]
     pub fn next(
         &mut self,

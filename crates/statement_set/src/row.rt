@@ -115,8 +115,10 @@ impl Row {
         requires rises { Rises self.old.totals.items }
         ensures rises { Rises self.new.totals.items }
         ensures channel { self.new.channel ≡ self.old.channel }
-        ensures there { IfOk result (λ there. OnTrue there (IsPutIn self.old.totals.items self.new.totals.items total)) }
-        ensures not { IfOk result (λ there. OnFalse there (self.new.totals.items ≡ self.old.totals.items)) }
+        ensures there { IfOk result (λ there. OnTrue there
+            (IsPutIn self.old.totals.items self.new.totals.items total)) }
+        ensures not { IfOk result (λ there. OnFalse there
+            (self.new.totals.items ≡ self.old.totals.items)) }
         ensures err { OnErr result (self.new.totals.items ≡ self.old.totals.items) }
     {
         if self.is_below(total) {

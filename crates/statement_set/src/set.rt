@@ -106,7 +106,8 @@ impl StatementSet {
     }
 
     /// Whether the statement is in the set. Costs a look at one row if its total is the last that was
-    /// put there, and a look-up if not. Costs no memory.
+    /// put there; if not, a look-up in that row, and one among the statements in no row. Costs no
+    /// memory.
     pub fn has(&self, statement: Statement) -> bool
         ensures value { IsTrue result ↔ Contains self.now statement }
     {
