@@ -11,8 +11,9 @@ use std::marker::Model;
 
 /// A set of transactions. Those that come in rising order stand one behind the other: 8 bytes each,
 /// with room made by doubling, and one comparison to add one. Those that come behind a greater one
-/// or once more stand in a tree: so in whatever order they come, to add one and to look one up costs at most a
-/// step for each doubling of their number. Contracts see a list of them. Source: this project.
+/// or once more stand in a tree: so in whatever order they come, to add one and to look one up costs
+/// at most a step for each doubling of their number, but where the room of the list is doubled.
+/// Contracts see a list of them. Source: this project.
 #[derive(Drop)]
 pub(crate) struct TxnSet {
     rising: Vec<TxnId>,

@@ -25,7 +25,7 @@ pub record HoldEntries (schema : SchemaValue) (bytes : List ℕ) (entries : List
 abbrev pub left_in : List Entry → ℕ → ℕ
 left_in entries n = records_left (reverse (take n entries))
 
--- The entries are cut back to so many records behind the first n: these leave as many, and with the next one they leave more.
+-- Over entries alone: they are cut back to so many records behind the first n, which leave as many, and with the next one more.
 pub record IsCutBehind (entries : List Entry) (kept n : ℕ) : Type 0 where
   pub within : n ≤ length entries
   pub leaves : left_in entries n ≡ kept
