@@ -1,7 +1,9 @@
 """Each misuse of the program escrow_site, with its text and its status: the folder stays as it was."""
 from __future__ import annotations
 
+import dataclasses
 import hashlib
+import itertools
 import os
 import shutil
 import subprocess
@@ -284,14 +286,79 @@ def refuse_two_faults(program: Program) -> None:
         for word in ("check", "settle"):
             program.ends([word, first, second], 3, "", told)
     os.remove(f"{second}/log")
-    gone = f"{second}/log: isn't there: put the newest log back; a site without it would sell again what it sold"
-    program.ends(["check", first, second], 3, "", gone)
+    program.ends(["check", first, second], 3, "", f"{second}/log: {GONE}")
     program.ends(["settle", first, second], 3, "", f"{first}/log: {broken}")
     world = World(3, SHOP.fields)
     named = [program.created(f"three_faults{number}", world, number).folder for number in (0, 2)]
     program.file("three_faults0/log", f"{world.log_name(0).decode()}R 1\nR 1\n")
     program.file("three_faults2/log", f"{world.log_name(2).decode()}hello\n")
     program.ends(["settle", *named], 3, "", f"{named[1]}/log: {broken.replace('2', '1')}")
+
+
+GONE = "isn't there: put the newest log back; a site without it would sell again what it sold"
+OTHERS = "isn't the log of this site: put its own newest log back"
+NO_RECORD = "line {} is no record of this site: put its own newest log back"
+
+
+@dataclasses.dataclass(frozen=True)
+class LogKind:
+    """A log of a site of three: its records, None where there is no log, and why it can't be read, or breaks a rule."""
+
+    records: str | None
+    unread: str = ""
+    broken: str = ""
+
+
+ACCEPTS = LogKind("R 1\nA {giver} 0 l 5\n")
+LOG_KINDS = (
+    LogKind("R 1\nR 2\nR"),
+    LogKind("R 1\nhello\nR 1\n", unread=NO_RECORD.format(2)),
+    LogKind("R 1\nR 1\nR 2\nhello\n", unread=NO_RECORD.format(4)),
+    LogKind("R 1\nR 2\nR 2\n", broken=NO_RECORD.format(3)),
+    LogKind(None, unread=GONE),
+    LogKind("of another", unread=OTHERS),
+    ACCEPTS,
+)
+
+
+def put_log(site: Site, kind: LogKind) -> None:
+    if kind.records is None:
+        if os.path.exists(f"{site.folder}/log"):
+            os.remove(f"{site.folder}/log")
+        return
+    owner = (site.number + 1) % site.world.sites if kind.unread == OTHERS else site.number
+    records = kind.records.format(giver=(site.number + 1) % site.world.sites)
+    with open(f"{site.folder}/log", "wb") as file:
+        file.write(site.world.log_name(owner) + records.encode())
+
+
+def first_fault(word: str, logs: list[tuple[Site, LogKind]]) -> str:
+    """What is told: the first log that can't be read, else the lowest site's that breaks a rule. A settling reads no lost log."""
+    for why in ("unread", "broken"):
+        for site, kind in logs:
+            if getattr(kind, why) and (word == "check" or kind.records is not None):
+                return f"{site.folder}/log: {getattr(kind, why)}"
+    return ""
+
+
+def refuse_each_three(program: Program) -> None:
+    """Three sites with each three of these logs: what was wrong first at the program that read all logs before any rule."""
+    sites = [program.created(f"each{number}", World(3, SHOP.fields), number) for number in range(3)]
+    folders = [site.folder for site in sites]
+    for kinds in itertools.product(LOG_KINDS, repeat=3):
+        logs = list(zip(sites, kinds))
+        for site, kind in logs:
+            put_log(site, kind)
+        for word in ("check", "settle"):
+            told = first_fault(word, logs)
+            if told:
+                program.ends([word, *folders], 3, "", told)
+                continue
+            status, _, err = program.run([word, *folders])
+            is_lost = any(kind.records is None for kind in kinds)
+            is_more = any(kind is ACCEPTS and kinds[(at + 1) % 3].records is not None for at, kind in enumerate(kinds))
+            if status != (3 if is_lost or is_more else 0) or is_more != ("which gave 0" in err):
+                raise Fault(f"{word} over {kinds}: {status}, {err!r}")
 
 
 def refuse_too_much(program: Program) -> None:
@@ -349,6 +416,7 @@ MISUSES = (
     refuse_folder_lists,
     refuse_worlds,
     refuse_two_faults,
+    refuse_each_three,
     refuse_too_much,
     refuse_traces,
     refuse_old_trace,
