@@ -4,12 +4,12 @@ ghost use Rattle.std.specs.Prelude.{◌≡◌, ◌≤◌, ◌*◌, ℕ, ◌<◌,
 ghost use Rattle.field_bounds.specs.Schema.{SchemaValue};
 ghost use Rattle.field_bounds.specs.Parts.{part_of};
 ghost use Rattle.field_bounds.specs.Kind.{kind_of, other};
-ghost use Rattle.field_bounds.specs.Effects.{same_txn, is_begun, is_committed, is_dropped, granted_sizes, gifts, gains, total_accepted, cut, share, fresh, Base, escrows_of, begun_txns, is_open};
+ghost use Rattle.field_bounds.specs.Effects.{is_begun, is_committed, is_dropped, granted_sizes, gifts, gains, total_accepted, cut, share, fresh, Base, escrows_of, begun_txns, is_open};
 ghost use Rattle.field_bounds.specs.Owed.{count_open, count_escrows};
 ghost use Rattle.field_bounds.specs.declared.effect.Effect.{Effect};
 ghost use Rattle.central_rules.specs.Fates.{passes, goes_to};
 
-use field_bounds::{Effect, FieldNo, Kind, Schema, SiteNo, TxnId};
+use field_bounds::{Effect, FieldNo, Kind, Schema, SiteNo, TxnId, same_txn};
 
 /// Which escrows a sum goes over, by the fate of their transaction.
 #[derive(Clone, Copy)]
@@ -34,13 +34,6 @@ pub struct Fate {
     pub begun: bool,
     pub committed: bool,
     pub dropped: bool,
-}
-
-/// Whether two ids name one transaction. Costs no memory.
-pub fn same_txn(a: TxnId, b: TxnId) -> bool
-    ensures value { result ≡ same_txn a b }
-{
-    a.epoch == b.epoch && a.number == b.number
 }
 
 /// The fate after one more effect.

@@ -16,7 +16,7 @@ mod same;
 mod site_counts;
 mod verdict;
 
-pub use afresh::same_txn;
+pub use field_bounds::same_txn;
 pub use front::{Bounds, bounds_of, has, lies_between};
 pub use ladder::{AtPlace, fits};
 pub use laws::{tests_are_rules, verdict_is_exact};

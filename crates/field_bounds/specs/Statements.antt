@@ -1,6 +1,6 @@
 -- The statements by which gifts are told (Balegas and others 2015 for transfers as entries that only grow, this project
 -- for the statement).
-use Rattle.std.specs.Prelude.{◌≡◌, ◌⊎◌, List, [], ◌∷◌, Option, Some, None}
+use Rattle.std.specs.Prelude.{◌≡◌, ◌⊎◌, Bool, true, false, List, [], ◌∷◌, Option, Some, None}
 use Rattle.field_bounds.specs.declared.id.SiteNo.{SiteNo}
 use Rattle.field_bounds.specs.declared.entry.Statement.{Statement}
 use Rattle.field_bounds.specs.declared.entry.Command.{Command}
@@ -32,6 +32,21 @@ told_by from Restart reply = None
 -- The statement that an entry issues, with its site as the giver.
 abbrev pub statement_of : Entry → Option Statement
 statement_of e = told_by e.site e.command e.reply
+
+-- An answer to the command may issue a statement: some reply states a total.
+abbrev pub may_issue : Command → Bool
+may_issue (Give to field kind amount) = true
+may_issue (Restate to field kind) = true
+may_issue (Spare to field kind want) = true
+may_issue Begin = false
+may_issue (Escrow txn field change) = false
+may_issue (Commit txn) = false
+may_issue (Abort txn) = false
+may_issue (Tighten field kind amount) = false
+may_issue (Accept told) = false
+may_issue (Read field) = false
+may_issue (Share field) = false
+may_issue Restart = false
 
 -- Some entry issues the statement.
 abbrev pub IsIssued : Statement → List Entry → Type 0

@@ -1,5 +1,8 @@
 //! How sites, fields and transactions are named.
 
+ghost use Rattle.std.specs.Prelude.{◌≡◌};
+ghost use Rattle.field_bounds.specs.Effects.{same_txn};
+
 /// A site of a schema by its number, from 0. A value may lie outside any schema.
 #[derive(Clone, Copy, Debug, PartialEq, Eq, PartialOrd, Ord, Hash)]
 pub struct SiteNo(pub u16);
@@ -13,4 +16,12 @@ pub struct FieldNo(pub u16);
 pub struct TxnId {
     pub epoch: u32,
     pub number: u32,
+}
+
+/// Whether two ids name one transaction: their epochs are alike, and their numbers. Costs no memory.
+#[inline(always)]
+pub fn same_txn(one: TxnId, other: TxnId) -> bool
+    ensures value { result ≡ same_txn one other }
+{
+    one.epoch == other.epoch && one.number == other.number
 }

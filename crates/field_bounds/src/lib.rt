@@ -26,7 +26,7 @@ pub use entry::{Command, Entry, Escrow, Last, Refusal, Reply, Statement};
 pub use fault::SchemaFault;
 pub use field::FieldSpec;
 pub use gift_rows::{worked_flight, worked_gifts, wrong_gifts};
-pub use id::{FieldNo, SiteNo, TxnId};
+pub use id::{FieldNo, SiteNo, TxnId, same_txn};
 pub use kind::Kind;
 pub use laws::{
     bounds_never_loosen, one_central_store, outcomes_lie_between, restarts_settle, share_is_exact,
@@ -36,5 +36,5 @@ pub use restart_rows::{worked_doubt, worked_restarts, wrong_restarts};
 pub use schema::Schema;
 pub use site_rows::{worked_runs, worked_sites, worked_values, wrong_replies, wrong_shares};
 pub use spare::spared_amount;
-pub use statements::statement_of;
+pub use statements::{may_issue, statement_of};
 pub use tighten_rows::{worked_bounds, worked_tightenings, wrong_tightenings, wrong_traces};

@@ -1,7 +1,9 @@
 //! The statements that entries issue.
 
-ghost use Rattle.std.specs.Prelude.{◌≡◌};
-ghost use Rattle.field_bounds.specs.Statements.{statement_of};
+ghost use Rattle.std.specs.Prelude.{◌≡◌, false, None};
+ghost use Rattle.field_bounds.specs.declared.id.SiteNo.{SiteNo};
+ghost use Rattle.field_bounds.specs.declared.entry.Reply.{Reply};
+ghost use Rattle.field_bounds.specs.Statements.{statement_of, told_by, may_issue};
 
 use crate::entry::{Command, Entry, Reply, Statement};
 
@@ -52,4 +54,18 @@ pub fn statement_of(entry: &Entry) -> Option<Statement>
             _,
         ) => None,
     }
+}
+
+/// Whether an answer to the command may issue a statement: where not, none does, whatever the reply.
+/// Costs no memory.
+#[inline(always)]
+pub fn may_issue(command: Command) -> bool
+    ensures value { result ≡ may_issue command }
+    ensures none { result ≡ false → (from : SiteNo) (reply : Reply) →
+        told_by from command reply ≡ None }
+{
+    matches!(
+        command,
+        Command::Give { .. } | Command::Restate { .. } | Command::Spare { .. }
+    )
 }
