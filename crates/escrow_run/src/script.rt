@@ -172,10 +172,10 @@ impl Script {
 /// makes such ones of std's. No call is made again after one that failed.
 ///
 /// Output is written before each read, once 64 KiB of it have gathered behind a line, and at the
-/// end. Costs 128 KiB for input and somewhat more than 64 KiB for output, and memory for the world, which keeps
-/// each entry in its trace and in its site's history. A line that reaches for a value costs what
-/// `reach_in` does, so a look at all entries so far, once more for each site that moves the field,
-/// and memory for what is open and what was given.
+/// end. Costs 128 KiB for input and somewhat more than 64 KiB for output, and memory for the world,
+/// which keeps each entry in its trace. A line that reaches for a value costs what `reach_in` does,
+/// so a look at all entries so far, once more for each site that moves the field, and memory for
+/// what is open and what was given.
 ///
 /// Source: O'Neil 1986 for the central store, Balegas and others 2015 for rights that are divided
 /// among sites and given, this project for the script.

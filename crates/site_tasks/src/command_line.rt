@@ -71,7 +71,8 @@ const CHECK_ABOUT: &str = "Checks the logs of all sites of a world together";
 const CHECK_EXAMPLE: &str = "\
 The sites are stopped, or the folders are copies of one moment: of each site of the
 world one folder, in any order. It reads each log once, takes no lock, and writes
-nothing into a folder. It takes memory for all records.
+nothing into a folder. It takes memory for one log at a time, and for the totals
+that each stands for.
 
 It is refused where a site accepted more than was given to it by the log of the
 site that gave. Else no right was made or lost, and each field has one value:
