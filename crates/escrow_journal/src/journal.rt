@@ -151,9 +151,10 @@ impl Journal {
         ensures ok { OnOk result (self.new ≡ self.old ++ (txn, []) ∷ []) }
         ensures err { OnErr result (self.new ≡ self.old) }
     {
+        self.rows.reserve(1)?;
         let mut escrows = mem::replace(&mut self.spare, Vec::new(*self.rows.allocator()));
         escrows.clear();
-        self.rows.push(OpenTransaction { txn, escrows })?;
+        self.rows.push_reserved(OpenTransaction { txn, escrows });
         Ok(())
     }
 

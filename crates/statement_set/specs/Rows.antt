@@ -15,12 +15,12 @@ channel_of told = record { from = told.from; to = told.to; field = told.field; k
 abbrev pub statement_at : Channel → ℕ → Statement
 statement_at channel total = record { from = channel.from; to = channel.to; field = channel.field; kind = channel.kind; total = total }
 
--- What a kind adds to the number of a channel.
+-- What a kind adds to the sum of a channel.
 abbrev pub kind_weight : Kind → ℕ
 kind_weight Lower = 0
 kind_weight Raise = 42275
 
--- Which of so many slots is a channel's.
+-- Which of so many slots is a channel's, by the factors of `Channel::slot`.
 abbrev pub slot_of : Channel → ℕ → ℕ
 slot_of channel slots = (channel.from.0 * 3935 + channel.to.0 * 16875 + channel.field.0 * 15599 + kind_weight channel.kind) % slots
 
@@ -52,6 +52,11 @@ IsOfNone rows channel = (r : ℕ) (row : Row) → slice_get rows r ≡ Some row 
 -- One of so many slots is that of a row's channel.
 abbrev pub IsTaken : List Row → ℕ → ℕ → Type 0
 IsTaken rows slots slot = (r : ℕ) × (row : Row) × (slice_get rows r ≡ Some row) × (slot_of row.channel slots ≡ slot)
+
+-- Beside so many statements in no row there are few slots and rows: at most twice as many slots, or the first 16, and a row for four.
+pub record TakesLittle (rows : Rows) (others : ℕ) : Type 0 where
+  pub few_slots : 16 < length rows.slots.items → length rows.slots.items ≤ 2 * others
+  pub few_rows : 4 * length rows.rows.items ≤ others
 
 -- Each row is told by the slot of its channel, and its totals rise.
 pub record IsFiled (rows : Rows) : Type 0 where

@@ -1,8 +1,8 @@
 //! Rows of statements, each of one channel, that are found without a search.
 
-ghost use Rattle.std.specs.Prelude.{◌≡◌, ◌↔◌, ◌<◌, [], IsTrue, IfOk, OnOk, OnErr, IfSome, IfNone, Contains, length};
+ghost use Rattle.std.specs.Prelude.{◌≡◌, ◌↔◌, ◌+◌, ◌*◌, ◌<◌, ◌≤◌, ℕ, [], IsTrue, IfOk, OnOk, OnErr, IfSome, IfNone, Contains, length};
 ghost use Rattle.std.specs.Bool.{OnTrue, OnFalse};
-ghost use Rattle.statement_set.specs.Rows.{channel_of, slot_of, rows_told, IsFiled, IsOfNone, IsRowOf, IsTaken, IsPutAmong};
+ghost use Rattle.statement_set.specs.Rows.{channel_of, slot_of, rows_told, IsFiled, IsOfNone, IsRowOf, IsTaken, IsPutAmong, TakesLittle};
 
 use crate::row::{Channel, Row};
 use field_bounds::Statement;
@@ -35,6 +35,7 @@ impl Rows {
     pub fn new(alloc: Global) -> Rows
         ensures filed { IsFiled result }
         ensures none { rows_told result.rows.items ≡ [] }
+        ensures little { TakesLittle result 0 }
     {
         Rows {
             slots: Vec::new(alloc),
@@ -83,6 +84,7 @@ impl Rows {
         ensures not { IfOk result (λ there. OnFalse there
             (rows_told self.new.rows.items ≡ rows_told self.old.rows.items)) }
         ensures err { OnErr result (rows_told self.new.rows.items ≡ rows_told self.old.rows.items) }
+        ensures little { (n : ℕ) → TakesLittle self.old n → TakesLittle self.new n }
     {
         self.rows[row].put(statement.total)
     }
@@ -110,6 +112,8 @@ impl Rows {
         ensures filed { IsFiled self.new }
         ensures told { rows_told self.new.rows.items ≡ rows_told self.old.rows.items }
         ensures made { IfOk result (λ made. IfSome made (IsRowOf self.new.rows.items channel)) }
+        ensures slots { length self.new.slots.items ≡ length self.old.slots.items }
+        ensures rows { length self.new.rows.items ≤ length self.old.rows.items + 1 }
     {
         let row = self.rows.len();
         let Ok(spot) = u32::try_from(row) else {
@@ -127,6 +131,7 @@ impl Rows {
         ensures filed { IsFiled self.new }
         ensures some { OnOk result (0 < length self.new.slots.items) }
         ensures same { self.new.rows ≡ self.old.rows }
+        ensures little { (n : ℕ) → TakesLittle self.old n → TakesLittle self.new n }
     {
         if self.slots.is_empty() {
             let alloc = *self.rows.allocator();
@@ -141,6 +146,7 @@ impl Rows {
         requires filed { IsFiled self.old }
         ensures filed { IsFiled self.new }
         ensures same { self.new.rows ≡ self.old.rows }
+        ensures twice { length self.new.slots.items ≤ 2 * length self.old.slots.items }
     {
         let Some(slots) = self.slots.len().checked_mul(2) else {
             return Ok(());
@@ -159,7 +165,9 @@ impl Rows {
     #[inline(never)]
     fn made_for(&mut self, channel: Channel, in_no_row: usize) -> Result<Option<usize>, AllocError>
         requires filed { IsFiled self.old }
+        requires little { TakesLittle self.old in_no_row }
         ensures filed { IsFiled self.new }
+        ensures little { TakesLittle self.new in_no_row }
         ensures told { rows_told self.new.rows.items ≡ rows_told self.old.rows.items }
         ensures made { IfOk result (λ made. IfSome made (IsRowOf self.new.rows.items channel)) }
     {
@@ -186,7 +194,9 @@ impl Rows {
         in_no_row: usize,
     ) -> Result<Option<usize>, AllocError>
         requires filed { IsFiled self.old }
+        requires little { TakesLittle self.old in_no_row }
         ensures filed { IsFiled self.new }
+        ensures little { TakesLittle self.new in_no_row }
         ensures told { rows_told self.new.rows.items ≡ rows_told self.old.rows.items }
         ensures made { IfOk result (λ made. IfSome made (IsRowOf self.new.rows.items channel)) }
     {

@@ -1,7 +1,7 @@
 //! A set of statements: those of a channel that come in rising order in a row, and the rest in an
 //! order in which mostly the totals alone are compared.
 
-ghost use Rattle.std.specs.Prelude.{◌≡◌, ◌↔◌, ◌⊎◌, [], Some, IsTrue, IfOk, OnOk, OnErr, Contains};
+ghost use Rattle.std.specs.Prelude.{◌≡◌, ◌↔◌, ◌⊎◌, ◌≤◌, [], Some, IsTrue, IfOk, OnOk, OnErr, Contains, length};
 ghost use Rattle.std.specs.Bool.{OnTrue, OnFalse};
 ghost use Rattle.field_bounds.specs.declared.entry.Statement.{Statement};
 ghost use Rattle.field_bounds.specs.Statements.{statement_of};
@@ -55,6 +55,7 @@ fn put_among(rest: &mut BTreeSet<Key>, statement: Statement) -> Result<(), Alloc
     ensures ok { OnOk result
         (IsPutAmong (statements_of rest.old.keys) (statements_of rest.new.keys) statement) }
     ensures err { OnErr result (rest.new.keys ≡ rest.old.keys) }
+    ensures no_fewer { length rest.old.keys ≤ length rest.new.keys }
 {
     rest.insert(key_of(statement))?;
     Ok(())
@@ -71,8 +72,9 @@ fn put_among(rest: &mut BTreeSet<Key>, statement: Statement) -> Result<(), Alloc
 /// of totals or channels makes it slower.
 ///
 /// A statement takes 8 to 16 bytes in a row, and 20 to 45 out of one. A row takes 30 to 110 bytes more.
-/// There are no more rows than one for each four statements that are in none, so that the set takes
-/// no more than about twice what it would without rows.
+/// There are no more rows than one for each four statements that are in none, and no more slots, of
+/// 4 bytes, than two for each of those or the first 16, so that the set takes no more than about
+/// twice what it would without rows.
 ///
 /// Source: Balegas and others 2015 for the statements, this project for the set.
 #[derive(Drop)]
@@ -82,16 +84,16 @@ pub struct StatementSet {
 }
 
 impl Model for StatementSet {
-    ghost use Rattle.std.specs.Prelude.{List, ◌++◌};
+    ghost use Rattle.std.specs.Prelude.{List, ◌++◌, length};
     ghost use Rattle.field_bounds.specs.declared.entry.Statement.{Statement};
     ghost use Rattle.statement_set.specs.Keys.{statements_of};
-    ghost use Rattle.statement_set.specs.Rows.{rows_told, IsFiled};
+    ghost use Rattle.statement_set.specs.Rows.{rows_told, IsFiled, TakesLittle};
 
     ghost Value = { List Statement };
 
     ghost view = { λ set. rows_told set.rows.rows.items ++ statements_of set.rest.keys };
 
-    ghost invariant = { λ set. IsFiled set.rows };
+    ghost invariant = { λ set. IsFiled set.rows × TakesLittle set.rows (length set.rest.keys) };
 }
 
 impl StatementSet {

@@ -3,7 +3,7 @@ use Rattle.std.specs.Option.{IfSome}
 use Rattle.field_bounds.specs.declared.entry.Statement.{Statement}
 use Rattle.statement_set.specs.declared.row.Channel.{Channel}
 use Rattle.statement_set.specs.Keys.{statements_of}
-use Rattle.statement_set.specs.Rows.{IsPutAmong, IsRowOf, rows_told}
+use Rattle.statement_set.specs.Rows.{IsPutAmong, IsRowOf, TakesLittle, rows_told}
 use Rattle.statement_set.proofs.Told.{front_put, where_true}
 use Rattle.statement_set.proofs.set.StatementSet.put_in_row.Goals as goal
 
@@ -20,3 +20,9 @@ returns-in-Some-clause-there c =
     (front_put (statements_of c.self.inside.rest.keys) (rows_told c.self.inside.rows.rows.items) (rows_told c.put.new.self.rows.items) c.args.statement
     (subst (λ (before : List Statement). IsPutAmong before (rows_told c.put.new.self.rows.items) c.args.statement) c.row_for.ensures.told put)))
     c.put.ensures.there
+
+pub invariant_of-self-in-Some : goal.invariant_of-self-in-Some
+invariant_of-self-in-Some c = (
+  c.put.ensures.filed,
+  c.put.ensures.little _ (subst (λ (n : ℕ). TakesLittle c.row_for.new.self n) c.len.ensures.len c.row_for.ensures.little),
+)
