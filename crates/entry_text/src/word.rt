@@ -1,6 +1,6 @@
 //! The readers of one word.
 
-ghost use Rattle.std.specs.Prelude.{◌≡◌, ◌==◌, ◌<◌, ◌^◌, [], ◌∷◌, MatchBool, IfSome, Some, length, position, bytes_eq};
+ghost use Rattle.std.specs.Prelude.{◌≡◌, ◌<◌, ◌^◌, [], ◌∷◌, MatchBool, IfSome, Some, length, bytes_eq};
 ghost use Rattle.field_bounds.specs.declared.kind.Kind.{Kind as KindType};
 ghost use Rattle.field_bounds.specs.declared.id.FieldNo.{FieldNo as FieldNumber};
 ghost use Rattle.field_bounds.specs.declared.id.TxnId.{TxnId as Txn};
