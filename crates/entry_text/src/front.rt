@@ -12,46 +12,21 @@ ghost use Rattle.line_words.specs.Words.{line};
 ghost use Rattle.entry_text.specs.Ranges.{SiteFits, IdFits, CommandFits};
 ghost use Rattle.entry_text.specs.Spelling.{id_text, kind_text, field_text, command_words, command_text};
 
-use crate::word::{Fields, is_text};
+use crate::word::{Fields, is_text, small_number, txn_from};
 use field_bounds::{Command, FieldNo, Kind, SiteNo, Statement, TxnId};
 use line_words::{behind, first_number, first_signed, number_and};
 
 // Up to so many fields, a look at each name costs less than a look-up in a map.
 const FEW_FIELDS: u16 = 4;
 
-// A number of u16 in front, and what follows the mark behind it.
+// A site that the bytes begin with, and what follows the space behind it.
 #[inline(always)]
-fn small_and(bytes: &[u8], mark: u8) -> Option<(u16, &[u8])>
-    ensures { IfSome result (λ n. bytes.now ≡ decimal n.0 ++ mark ∷ n.1.now) }
+fn first_site(bytes: &[u8]) -> Option<(SiteNo, &[u8])>
+    ensures { IfSome result (λ s. bytes.now ≡ decimal s.0.0 ++ 32 ∷ s.1.now) }
 {
-    let (number, rest) = number_and(bytes, mark)?;
-    if number > u64::from(u16::MAX) {
-        return None;
-    }
-    Some((number as u16, rest))
-}
-
-// The same of u32.
-#[inline(always)]
-fn medium_and(bytes: &[u8], mark: u8) -> Option<(u32, &[u8])>
-    ensures { IfSome result (λ n. bytes.now ≡ decimal n.0 ++ mark ∷ n.1.now) }
-{
-    let (number, rest) = number_and(bytes, mark)?;
-    if number > u64::from(u32::MAX) {
-        return None;
-    }
-    Some((number as u32, rest))
-}
-
-#[inline(always)]
-fn first_medium(bytes: &[u8]) -> Option<(u32, &[u8])>
-    ensures { IfSome result (λ n. bytes.now ≡ decimal n.0 ++ n.1.now) }
-{
-    let (number, rest) = first_number(bytes)?;
-    if number > u64::from(u32::MAX) {
-        return None;
-    }
-    Some((number as u32, rest))
+    let (number, rest) = number_and(bytes, b' ')?;
+    let site = small_number(number)?;
+    Some((SiteNo(site), rest))
 }
 
 /// A transaction that the bytes begin with, and what follows it.
@@ -60,9 +35,10 @@ pub(crate) fn first_txn(bytes: &[u8]) -> Option<(TxnId, &[u8])>
     ensures cut { IfSome result (λ t. bytes.now ≡ id_text t.0 ++ t.1.now) }
     ensures fits { IfSome result (λ t. IdFits t.0) }
 {
-    let (epoch, rest) = medium_and(bytes, b'.')?;
-    let (number, rest) = first_medium(rest)?;
-    Some((TxnId { epoch, number }, rest))
+    let (epoch, rest) = number_and(bytes, b'.')?;
+    let (number, rest) = first_number(rest)?;
+    let txn = txn_from(epoch, number)?;
+    Some((txn, rest))
 }
 
 #[inline(always)]
@@ -180,8 +156,7 @@ fn first_give<'a>(fields: &Fields<'_>, bytes: &'a [u8]) -> Option<(Command, &'a 
     ensures cut { IfSome result (λ c. bytes.now ≡ line (command_words fields.now c.0) ++ c.1.now) }
     ensures fits { IfSome result (λ c. CommandFits c.0) }
 {
-    let (to, rest) = small_and(behind(bytes, "give ")?, b' ')?;
-    let to = SiteNo(to);
+    let (to, rest) = first_site(behind(bytes, "give ")?)?;
     let (field, rest) = first_field(fields, rest)?;
     let (kind, rest) = first_kind(behind(rest, " ")?)?;
     let (amount, rest) = first_number(behind(rest, " ")?)?;
@@ -200,10 +175,8 @@ fn first_accept<'a>(fields: &Fields<'_>, bytes: &'a [u8]) -> Option<(Command, &'
     ensures cut { IfSome result (λ c. bytes.now ≡ line (command_words fields.now c.0) ++ c.1.now) }
     ensures fits { IfSome result (λ c. CommandFits c.0) }
 {
-    let (from, rest) = small_and(behind(bytes, "accept ")?, b' ')?;
-    let from = SiteNo(from);
-    let (to, rest) = small_and(rest, b' ')?;
-    let to = SiteNo(to);
+    let (from, rest) = first_site(behind(bytes, "accept ")?)?;
+    let (to, rest) = first_site(rest)?;
     let (field, rest) = first_field(fields, rest)?;
     let (kind, rest) = first_kind(behind(rest, " ")?)?;
     let (total, rest) = first_number(behind(rest, " ")?)?;
@@ -283,7 +256,7 @@ pub(crate) fn site_command<'a>(
         ≡ command_text fields.now asked.0 asked.1 ++ asked.2.now) }
     ensures fits { IfSome result (λ asked. SiteFits asked.0 × CommandFits asked.1) }
 {
-    let (site, rest) = small_and(bytes, b' ')?;
+    let (site, rest) = first_site(bytes)?;
     let (command, rest) = first_command(fields, rest)?;
-    Some((SiteNo(site), command, rest))
+    Some((site, command, rest))
 }

@@ -1,6 +1,6 @@
 //! The readers of one word.
 
-ghost use Rattle.std.specs.Prelude.{◌≡◌, ◌==◌, ◌<◌, ◌^◌, [], ◌∷◌, MatchBool, IfSome, Some, length, position, bytes_eq};
+ghost use Rattle.std.specs.Prelude.{◌≡◌, ◌<◌, ◌^◌, [], ◌∷◌, MatchBool, IfSome, Some, length, bytes_eq};
 ghost use Rattle.field_bounds.specs.declared.kind.Kind.{Kind as KindType};
 ghost use Rattle.field_bounds.specs.declared.id.FieldNo.{FieldNo as FieldNumber};
 ghost use Rattle.field_bounds.specs.declared.id.TxnId.{TxnId as Txn};
@@ -13,7 +13,7 @@ ghost use Rattle.entry_text.specs.Ranges.{IdFits, FieldFits};
 ghost use Rattle.entry_text.specs.Reading.{site_of, id_of, kind_of, field_of};
 
 use field_bounds::{FieldNo, Kind, Schema, SiteNo, TxnId};
-use line_words::{Words, read_number};
+use line_words::{Words, read_dotted, read_number};
 use std::marker::Model;
 
 /// The word is this text.
@@ -35,24 +35,23 @@ pub(crate) fn named(line: &mut Words<'_>, text: &str) -> bool
 }
 
 #[inline(always)]
-fn small(word: &[u8]) -> Option<u16>
-    ensures { result ≡ below (2 ^ 16) word.now }
+pub(crate) fn small_number(number: u64) -> Option<u16>
+    ensures { result ≡ limited (2 ^ 16) number }
 {
-    u16::try_from(read_number(word)?).ok()
+    if number > u64::from(u16::MAX) {
+        return None;
+    }
+    Some(number as u16)
 }
 
 #[inline(always)]
-fn medium(word: &[u8]) -> Option<u32>
-    ensures { result ≡ below (2 ^ 32) word.now }
+fn medium_number(number: u64) -> Option<u32>
+    ensures { result ≡ limited (2 ^ 32) number }
 {
-    u32::try_from(read_number(word)?).ok()
-}
-
-#[inline(always)]
-fn place_of_dot(bytes: &[u8]) -> Option<usize>
-    ensures { result ≡ position (λ b. b == 46) bytes.now }
-{
-    bytes.iter().position(|b| *b == b'.')
+    if number > u64::from(u32::MAX) {
+        return None;
+    }
+    Some(number as u32)
 }
 
 /// The fields of a schema, with their number at hand. Contracts see the schema.
@@ -109,7 +108,7 @@ impl<'a> Fields<'a> {
     {
         match word {
             [b'#', digits @ ..] => {
-                let number = small(digits)?;
+                let number = small_number(read_number(digits)?)?;
                 if number < self.count {
                     return None;
                 }
@@ -157,20 +156,6 @@ pub fn number_at(line: &mut Words<'_>) -> Option<u64>
     line.next_number()
 }
 
-#[inline(always)]
-fn small_number(number: u64) -> Option<u16>
-    ensures { result ≡ limited (2 ^ 16) number }
-{
-    u16::try_from(number).ok()
-}
-
-#[inline(always)]
-fn medium_number(number: u64) -> Option<u32>
-    ensures { result ≡ limited (2 ^ 32) number }
-{
-    u32::try_from(number).ok()
-}
-
 // Takes a number of u16.
 #[inline(always)]
 fn small_at(line: &mut Words<'_>) -> Option<u16>
@@ -209,25 +194,25 @@ pub fn site_at(line: &mut Words<'_>) -> Option<SiteNo>
     Some(SiteNo(small_at(line)?))
 }
 
-// The transaction that the word spells.
+/// The transaction of an epoch and a number.
 #[inline(always)]
-#[tactic(auto, unfolding(crate::specs::Reading::id_of))]
-fn txn_of(word: &[u8]) -> Option<TxnId>
-    ensures { result ≡ id_of word.now }
-{
-    let dot = place_of_dot(word)?;
-    let epoch = medium(&word[..dot])?;
-    let number = medium(&word[dot + 1..])?;
-    Some(TxnId { epoch, number })
-}
-
-#[inline(always)]
-fn txn_from(epoch: u64, number: u64) -> Option<TxnId>
-    ensures { result ≡ id_from (epoch, number) }
+pub(crate) fn txn_from(epoch: u64, number: u64) -> Option<TxnId>
+    ensures value { result ≡ id_from (epoch, number) }
+    ensures same { IfSome result (λ t. (t.epoch ≡ epoch) × (t.number ≡ number)) }
 {
     let epoch = medium_number(epoch)?;
     let number = medium_number(number)?;
     Some(TxnId { epoch, number })
+}
+
+// The transaction that the word spells.
+#[inline(always)]
+#[tactic(auto, using(crate::proofs::Taken::id_is))]
+fn txn_of(word: &[u8]) -> Option<TxnId>
+    ensures { result ≡ id_of word.now }
+{
+    let (epoch, number) = read_dotted(word)?;
+    txn_from(epoch, number)
 }
 
 /// Takes a transaction: `EPOCH.NUMBER`, each a number of u32.
@@ -261,6 +246,7 @@ pub fn kind_at(line: &mut Words<'_>) -> Option<Kind>
     if named(line, "raise") {
         return Some(Kind::Raise);
     }
+    // Neither word stands here, so this tells None: it takes off the word that does.
     read_kind(line.next()?)
 }
 

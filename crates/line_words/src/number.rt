@@ -1,10 +1,10 @@
 //! Numbers: decimal digits with no leading zero.
 
-ghost use Rattle.std.specs.Prelude.{◌≡◌, ℕ, ◌<◌, ◌^◌, IfSome, Some, FitsSigned, ℤ, ◌≤◌, MatchBool, slice_index_or, length};
+ghost use Rattle.std.specs.Prelude.{◌≡◌, ℕ, ◌<◌, ◌^◌, IfSome, Some, FitsSigned, ℤ, ◌≤◌, MatchBool, slice_index_or, length, position, ◌==◌};
 ghost use Rattle.std.specs.Int.{w64};
 ghost use Rattle.std.specs.Fmt.{decimal, signed_decimal};
 ghost use Rattle.line_words.specs.Reading.{number_of, negative_of, positive_of, signed_of};
-ghost use Rattle.line_words.specs.Fronts.{below_zero_of, from_zero_of};
+ghost use Rattle.line_words.specs.Fronts.{below_zero_of, from_zero_of, dotted_of};
 
 use crate::front::number_in_front;
 
@@ -112,4 +112,24 @@ pub fn read_signed(word: &[u8]) -> Option<i64>
         [b'-', digits @ ..] => negative(digits),
         _ => positive(word),
     }
+}
+
+#[inline(always)]
+fn place_of_dot(bytes: &[u8]) -> Option<usize>
+    ensures { result ≡ position (λ b. b == 46) bytes.now }
+{
+    bytes.iter().position(|b| *b == b'.')
+}
+
+/// The two numbers that the word spells with a dot between them, each as of `read_number`. None
+/// where the word is no such two. Costs a pass over the word, and no memory.
+#[inline]
+#[tactic(auto, unfolding(crate::specs::Fronts::dotted_of))]
+pub fn read_dotted(word: &[u8]) -> Option<(u64, u64)>
+    ensures value { result ≡ dotted_of word.now }
+{
+    let dot = place_of_dot(word)?;
+    let first = read_number(&word[..dot])?;
+    let second = read_number(&word[dot + 1..])?;
+    Some((first, second))
 }

@@ -106,6 +106,11 @@ fn takes_dotted_numbers(rt: HostRuntime) -> Result<(), Fail> {
     assert_eq!(rt; words.next_dotted(), None);
     assert_eq!(rt; words.next_dotted(), Some((7, 8)));
     assert_eq!(rt; words.next_dotted(), None);
+    assert_eq!(rt;
+        read_dotted(b"10000000000000000000.2"),
+        Some((10000000000000000000, 2))
+    );
+    assert_eq!(rt; read_dotted(b"2.3 "), None);
     Ok(())
 }
 

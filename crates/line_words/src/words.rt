@@ -6,7 +6,7 @@ ghost use Rattle.line_words.specs.Reading.{Gives, word_at, number_of, signed_of}
 ghost use Rattle.line_words.specs.Fronts.{dotted_of};
 
 use crate::front::{left_behind, left_behind_text, number_in_front};
-use crate::number::{below_zero, from_zero, read_number, read_signed};
+use crate::number::{below_zero, from_zero, read_dotted, read_number, read_signed};
 use std::marker::Model;
 
 #[inline(always)]
@@ -14,24 +14,6 @@ fn place_of_space(bytes: &[u8]) -> Option<usize>
     ensures { result ≡ position (λ b. b == 32) bytes.now }
 {
     bytes.iter().position(|b| *b == b' ')
-}
-
-#[inline(always)]
-fn place_of_dot(bytes: &[u8]) -> Option<usize>
-    ensures { result ≡ position (λ b. b == 46) bytes.now }
-{
-    bytes.iter().position(|b| *b == b'.')
-}
-
-// The two numbers that a word spells with a dot between them.
-#[tactic(auto, unfolding(crate::specs::Fronts::dotted_of))]
-fn read_dotted(word: &[u8]) -> Option<(u64, u64)>
-    ensures { result ≡ dotted_of word.now }
-{
-    let dot = place_of_dot(word)?;
-    let first = read_number(&word[..dot])?;
-    let second = read_number(&word[dot + 1..])?;
-    Some((first, second))
 }
 
 /// What is left of a line: its words from here on. A line is cut at each space, so that it has one
