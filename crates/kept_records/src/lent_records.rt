@@ -69,10 +69,22 @@ impl CommonRecord {
     }
 }
 
-/// The lines of some bytes, read as records one after another, up to the first that is none, as
-/// `RecordLines` reads them; but the escrows of a commit stay in the reader's memory, which lends
-/// them. No list of records is made. Contracts see the bytes that are left, and the escrows that
-/// are lent.
+/// What stands next in bytes whose common records are lent.
+#[derive(Drop)]
+pub enum LentLine {
+    /// The text of this record, whose escrows, where it is a commit, the reader lends.
+    Common(CommonRecord),
+    /// The text of this record: a summary, or one that isn't read as a common one.
+    Record(Record),
+    /// A line that is the text of no record.
+    NoRecord,
+    /// No line ends there.
+    End,
+}
+
+/// The lines of some bytes, read as records one after another, up to the first that is none. The
+/// escrows of a commit mostly stay in the reader's memory, which lends them. No list of records is
+/// made. Contracts see the bytes that are left, and the escrows that are lent.
 #[derive(Drop)]
 pub struct LentRecords<'a> {
     left: &'a [u8],
@@ -88,7 +100,7 @@ impl<'a> Model for LentRecords<'a> {
 }
 
 impl<'a> LentRecords<'a> {
-    ghost use Rattle.kept_records.specs.Lent.{HandsCommon, record_told};
+    ghost use Rattle.kept_records.specs.Lent.{HandsCommon, HandsLent, LeavesFewer, record_told};
 
     /// All lines of these bytes. Takes no memory.
     pub fn new(alloc: Global, bytes: &'a [u8]) -> LentRecords<'a>
@@ -114,6 +126,28 @@ impl<'a> LentRecords<'a> {
         ensures all { result.now ≡ self.now.escrows }
     {
         &self.held
+    }
+
+    /// Takes the next line where it is the text of a record, of any kind; else tells why not, and
+    /// leaves the bytes as they are. The escrows of a common record are then lent. The error is want of
+    /// memory; it leaves the bytes too. Costs a pass over the line, and two over a summary. Memory
+    /// is taken for a summary, and for the escrows of a commit that has more of them than each one
+    /// before.
+    #[inline(always)]
+    pub fn next(&mut self, alloc: Global) -> Result<LentLine, AllocError>
+        ensures handed { IfOk result (λ line. HandsLent self.old.left line self.new) }
+        ensures shorter { IfOk result (λ line. LeavesFewer self.old.left line self.new.left) }
+        ensures within { length self.new.left ≤ length self.old.left }
+        ensures stays { OnErr result (self.new.left ≡ self.old.left) }
+    {
+        if let Some(told) = self.next_common() {
+            return Ok(LentLine::Common(told));
+        }
+        match self.next_line(alloc)? {
+            RecordLine::Record(next) => Ok(LentLine::Record(next)),
+            RecordLine::NoRecord => Ok(LentLine::NoRecord),
+            RecordLine::End => Ok(LentLine::End),
+        }
     }
 
     /// Takes the next line where it is the text of a record but a summary; a commit's escrows are
