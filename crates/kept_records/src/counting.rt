@@ -4,7 +4,6 @@ ghost use Rattle.std.specs.Prelude.{IfOk};
 ghost use Rattle.kept_records.specs.Counting.{IsCountOf};
 
 use crate::lent_records::{LentLine, LentRecords};
-use crate::reading_back::is_summary;
 use std::alloc::{AllocError, Global};
 
 /// How many records stand in front of the first line that is none, or in all where there is no such
@@ -31,14 +30,7 @@ pub fn count_log(alloc: Global, bytes: &[u8]) -> Result<LogCount, AllocError>
     let bad_line = 'lines: loop {
         match lines.next(alloc)? {
             LentLine::Common(_) => plain += 1,
-            LentLine::Record(next) => {
-                if is_summary(&next) {
-                    summaries += 1;
-                } else {
-                    plain += 1;
-                }
-                lines.give_back(next);
-            }
+            LentLine::Summary => summaries += 1,
             LentLine::NoRecord => break 'lines Some((plain + summaries) as u64 + 1),
             LentLine::End => break 'lines None,
         }

@@ -1,9 +1,9 @@
 //! The records at the front of bytes, one after another, of which the common ones are lent.
 
-ghost use Rattle.std.specs.Prelude.{◌≡◌, ◌<◌, ◌≤◌, List, IfOk, IfSome, OnErr, length};
+ghost use Rattle.std.specs.Prelude.{◌≡◌, ◌<◌, ◌≤◌, ℕ, List, IfOk, IfSome, OnErr, length};
 ghost use Rattle.field_bounds.specs.declared.entry.Escrow.{Escrow};
 ghost use Rattle.kept_records.specs.Stands.{later};
-ghost use Rattle.kept_records.specs.Lines.{HandsLine, IsFewer};
+ghost use Rattle.kept_records.specs.Lines.{IsRecordAt, HandsLine, IsFewer};
 
 use crate::log::line_feed;
 use crate::reading::{LineFault, read_line};
@@ -69,13 +69,14 @@ impl CommonRecord {
     }
 }
 
-/// What stands next in bytes whose common records are lent.
-#[derive(Drop)]
+/// What stands next in bytes that are read line by line. It is small, so that it is handed out in
+/// registers.
+#[derive(Clone, Copy)]
 pub enum LentLine {
     /// The text of this record, whose escrows, where it is a commit, the reader lends.
     Common(CommonRecord),
-    /// The text of this record: a summary, or one that isn't read as a common one.
-    Record(Record),
+    /// The text of a summary, which the reader lends.
+    Summary,
     /// A line that is the text of no record.
     NoRecord,
     /// No line ends there.
@@ -83,12 +84,14 @@ pub enum LentLine {
 }
 
 /// The lines of some bytes, read as records one after another, up to the first that is none. The
-/// escrows of a commit mostly stay in the reader's memory, which lends them. No list of records is
-/// made. Contracts see the bytes that are left, and the escrows that are lent.
+/// escrows of a commit and a summary stay in the reader's memory, which lends them. No list of
+/// records is made. Contracts see the bytes that are left, the escrows that are lent, and the
+/// summary that was taken last.
 #[derive(Drop)]
 pub struct LentRecords<'a> {
     left: &'a [u8],
     held: Vec<Escrow>,
+    summary: Record,
 }
 
 impl<'a> Model for LentRecords<'a> {
@@ -96,7 +99,7 @@ impl<'a> Model for LentRecords<'a> {
 
     ghost Value = { LentValue };
 
-    ghost view = { λ r. record { left = r.left.now; escrows = r.held.items } };
+    ghost view = { λ r. record { left = r.left.now; escrows = r.held.items; summary = r.summary } };
 }
 
 impl<'a> LentRecords<'a> {
@@ -109,6 +112,7 @@ impl<'a> LentRecords<'a> {
         LentRecords {
             left: bytes,
             held: Vec::new(alloc),
+            summary: Record::Restart { epoch: 0 },
         }
     }
 
@@ -119,8 +123,7 @@ impl<'a> LentRecords<'a> {
         self.left.len()
     }
 
-    /// The escrows of the commit that `next_common` took, where neither it nor `next_line` was called
-    /// since. Takes no memory.
+    /// The escrows of the commit that was taken last. Takes no memory.
     #[inline(always)]
     pub fn escrows(&self) -> &[Escrow]
         ensures all { result.now ≡ self.now.escrows }
@@ -128,11 +131,10 @@ impl<'a> LentRecords<'a> {
         &self.held
     }
 
-    /// Takes the next line where it is the text of a record, of any kind; else tells why not, and
-    /// leaves the bytes as they are. The escrows of a common record are then lent. The error is want of
-    /// memory; it leaves the bytes too. Costs a pass over the line, and two over a summary. Memory
-    /// is taken for a summary, and for the escrows of a commit that has more of them than each one
-    /// before.
+    /// Takes the next line where it is the text of a record, of any kind, which is then lent; else
+    /// tells why not, and leaves the bytes as they are. The error is want of memory; it leaves them
+    /// too. Costs a pass over the line, and two over a summary. Memory is taken for a summary, and
+    /// for the escrows of a commit that has more of them than each one before.
     #[inline(always)]
     pub fn next(&mut self, alloc: Global) -> Result<LentLine, AllocError>
         ensures handed { IfOk result (λ line. HandsLent self.old.left line self.new) }
@@ -140,14 +142,85 @@ impl<'a> LentRecords<'a> {
         ensures within { length self.new.left ≤ length self.old.left }
         ensures stays { OnErr result (self.new.left ≡ self.old.left) }
     {
-        if let Some(told) = self.next_common() {
-            return Ok(LentLine::Common(told));
+        match self.next_common() {
+            Some(told) => Ok(LentLine::Common(told)),
+            None => self.next_lent(alloc),
         }
+    }
+
+    // The same, where the next line may be any.
+    #[inline(never)]
+    fn next_lent(&mut self, alloc: Global) -> Result<LentLine, AllocError>
+        ensures handed { IfOk result (λ line. HandsLent self.old.left line self.new) }
+        ensures shorter { IfOk result (λ line. LeavesFewer self.old.left line self.new.left) }
+        ensures within { length self.new.left ≤ length self.old.left }
+        ensures stays { OnErr result (self.new.left ≡ self.old.left) }
+    {
         match self.next_line(alloc)? {
-            RecordLine::Record(next) => Ok(LentLine::Record(next)),
+            RecordLine::Record(next) => Ok(self.lend(next)),
             RecordLine::NoRecord => Ok(LentLine::NoRecord),
             RecordLine::End => Ok(LentLine::End),
         }
+    }
+
+    // Lends a record that was taken.
+    fn lend(&mut self, next: Record) -> LentLine
+        ensures handed { (old : List ℕ) → IsRecordAt old next self.old.left →
+            HandsLent old result self.new }
+        ensures shorter { (old : List ℕ) → length self.old.left < length old →
+            LeavesFewer old result self.new.left }
+        ensures same { self.new.left ≡ self.old.left }
+    {
+        let told = match next {
+            Record::Commit { txn, escrows } => {
+                self.held = escrows.into_buffer();
+                CommonRecord::Commit { txn }
+            }
+            Record::Gift {
+                to,
+                field,
+                kind,
+                total,
+            } => CommonRecord::Gift {
+                to,
+                field,
+                kind,
+                total,
+            },
+            Record::Accept {
+                from,
+                field,
+                kind,
+                total,
+            } => CommonRecord::Accept {
+                from,
+                field,
+                kind,
+                total,
+            },
+            Record::Tighten { field, kind, total } => CommonRecord::Tighten { field, kind, total },
+            Record::Restart { epoch } => CommonRecord::Restart { epoch },
+            summary => {
+                self.summary = summary;
+                return LentLine::Summary;
+            }
+        };
+        LentLine::Common(told)
+    }
+
+    /// The summary that `next` took last. Takes no memory.
+    pub fn summary(&self) -> &Record
+        ensures value { result.now ≡ self.now.summary }
+    {
+        &self.summary
+    }
+
+    // The same, which is lent no more.
+    pub(crate) fn take_summary(&mut self) -> Record
+        ensures value { result ≡ self.old.summary }
+        ensures same { self.new.left ≡ self.old.left }
+    {
+        mem::replace(&mut self.summary, Record::Restart { epoch: 0 })
     }
 
     /// Takes the next line where it is the text of a record but a summary; a commit's escrows are
@@ -216,21 +289,6 @@ impl<'a> LentRecords<'a> {
             return Ok(Record::Commit { txn, escrows });
         }
         Ok(self.whole(alloc, told))
-    }
-
-    // A record that `next_line` took. A commit has a copy of its escrows, in as much memory as they
-    // take; the memory that they were read into is lent from then on. The error is want of memory.
-    pub(crate) fn copied_line(&mut self, alloc: Global, next: Record) -> Result<Record, AllocError>
-        ensures copied { IfOk result (λ kept. kept ≡ next) }
-        ensures same { self.new.left ≡ self.old.left }
-    {
-        match next {
-            Record::Commit { txn, escrows } => {
-                self.held = escrows.into_buffer();
-                self.copied(alloc, CommonRecord::Commit { txn })
-            }
-            other => Ok(other),
-        }
     }
 
     /// Takes the next line where it is the text of a record, of any kind; else tells why not, and

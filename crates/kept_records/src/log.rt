@@ -63,7 +63,7 @@ pub fn read_front(alloc: Global, bytes: &[u8]) -> Result<Front, AllocError>
     let bad_line = 'lines: loop {
         match lines.next(alloc)? {
             LentLine::Common(told) => records.push(lines.copied(alloc, told)?)?,
-            LentLine::Record(next) => records.push(lines.copied_line(alloc, next)?)?,
+            LentLine::Summary => records.push(lines.take_summary())?,
             LentLine::NoRecord => break 'lines Some(records.len() as u64 + 1),
             LentLine::End => break 'lines None,
         }

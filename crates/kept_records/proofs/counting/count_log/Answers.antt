@@ -9,7 +9,7 @@ use Rattle.kept_records.proofs.Cursors.{fewer}
 use Rattle.kept_records.proofs.Walks.{begins_size, ends_there, bad_there}
 use Rattle.kept_records.proofs.Counts.{Counted, counted_none, told_plain, counted_summary, counted_plain}
 use Rattle.kept_records.proofs.counting.count_log.Goals as goal
-use Rattle.kept_records.proofs.counting.count_log.Goals.{in-NoRecord, in-End, then-is_summary, else-is_summary}
+use Rattle.kept_records.proofs.counting.count_log.Goals.{in-NoRecord, in-End}
 
 pub lines-init : goal.lines-init
 lines-init c =
@@ -34,27 +34,14 @@ lines-preserved-in-Common c =
 
 pub lines-preserved : goal.lines-preserved
 lines-preserved c =
-    let bytes = c.args.bytes.now in
     let before = c.lines in
-    let left = before.lines.left in
-    let next = c.in-Record.next in
-    let new = c.next.new.self.left in
-    let same = c.give_back.ensures.same in
-    let at : IsRecordAt left next new = subst (λ (l : LentLine). HandsLent left l c.next.new.self) c.in-Record.is
-    c.in_ok-next.ensures.handed in
-    let shorter = fewer left new next at.parts in
-    elim c.if-is_summary.branch [
-      | then-is_summary w ↦ record {
-        few = omega (arith, before.invariant.few, shorter, w.plain-is, w.summaries-is, ap length same);
-        counted = rw (w.plain-is, w.summaries-is, same) (counted_summary bytes before.plain before.summaries left next new
-            before.invariant.counted at (sym c.is_summary.ensures.value ∙ w.if-is_summary.true));
-      }
-      | else-is_summary w ↦ record {
-        few = omega (arith, before.invariant.few, shorter, w.plain-is, w.summaries-is, ap length same);
-        counted = rw (w.plain-is, w.summaries-is, same) (counted_plain bytes before.plain before.summaries left next new
-            before.invariant.counted at (sym c.is_summary.ensures.value ∙ w.if-is_summary.false));
-      }
-    ]
+    let lent = c.next.new.self in
+    let taken = subst (λ (l : LentLine). HandsLent before.lines.left l lent) c.in-Summary.is c.in_ok-next.ensures.handed in
+    record {
+      few = omega (arith, before.invariant.few, fewer before.lines.left lent.left lent.summary taken.0.parts);
+      counted = counted_summary c.args.bytes.now before.plain before.summaries before.lines.left lent.summary lent.left
+          before.invariant.counted taken.0 taken.1;
+    }
 
 pub returns : goal.returns
 returns c =
