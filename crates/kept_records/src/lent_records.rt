@@ -123,6 +123,13 @@ impl<'a> LentRecords<'a> {
         self.left.len()
     }
 
+    // The bytes that are left.
+    pub(crate) fn rest(&self) -> &'a [u8]
+        ensures all { result.now ≡ self.now.left }
+    {
+        self.left
+    }
+
     /// The escrows of the commit that was taken last. Takes no memory.
     #[inline(always)]
     pub fn escrows(&self) -> &[Escrow]
@@ -142,10 +149,13 @@ impl<'a> LentRecords<'a> {
         ensures within { length self.new.left ≤ length self.old.left }
         ensures stays { OnErr result (self.new.left ≡ self.old.left) }
     {
-        match self.next_common() {
-            Some(told) => Ok(LentLine::Common(told)),
-            None => self.next_lent(alloc),
-        }
+        // What the call below answers lies in memory; so it is moved, and what this one answers,
+        // which is mostly a common record, stays in registers.
+        let line = match self.next_common() {
+            Some(told) => LentLine::Common(told),
+            None => self.next_lent(alloc)?,
+        };
+        Ok(line)
     }
 
     // The same, where the next line may be any.
@@ -237,9 +247,8 @@ impl<'a> LentRecords<'a> {
         Some(next)
     }
 
-    /// The record that `next_common` told, where neither it nor `next_line` was called since: a
-    /// commit takes the escrows that were lent with it, and `give_back` gives their memory back.
-    /// Takes no memory.
+    /// The record that `next` told, where it wasn't called since: a commit takes the escrows that
+    /// were lent with it, and `give_back` gives their memory back. Takes no memory.
     #[inline(always)]
     pub fn whole(&mut self, alloc: Global, told: CommonRecord) -> Record
         ensures whole { result ≡ record_told told self.old.escrows }

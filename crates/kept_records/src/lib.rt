@@ -36,7 +36,7 @@ pub use medium::{Device, End, Medium, MediumFault, Mishap};
 pub use memory::MemoryMedium;
 pub use reading_back::{LastLines, ReadBack, count_plain, read_back};
 pub use record::{Escrows, Record};
-pub use record_lines::{RecordLine, RecordLines};
+pub use record_lines::RecordLine;
 pub use summary::Summary;
 pub use torn::TornMedium;
 pub use total::{Cut, Cuts, OwnRights, Total, Totals};

@@ -1,4 +1,4 @@
-use Rattle.std.proofs.Common.{◌≡◌, ◌-◌, ◌+◌, ℕ, List, length, Option, Some, sym, ap, subst, ◌∙◌, arith}
+use Rattle.std.proofs.Common.{◌≡◌, ◌-◌, ◌+◌, ℕ, length, Option, Some, sym, ap, subst, ◌∙◌, arith}
 use Rattle.kept_records.specs.declared.lent_records.LentLine.{LentLine}
 use Rattle.kept_records.specs.Logs.{AreGoodRecords}
 use Rattle.kept_records.specs.Lent.{HandsLent}
