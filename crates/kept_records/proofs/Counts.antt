@@ -1,7 +1,6 @@
 -- What records that are counted one after another come to.
 use Rattle.std.proofs.Common.{◌≡◌, ℕ, ◌+◌, true, false, List, [], ◌∷◌, ◌++◌, length, refl, ap, ◌∙◌, arith}
-use Rattle.std.specs.Prelude.{Option, Some, None, IfSome, not}
-use Rattle.std.specs.Option.{is_some}
+use Rattle.std.specs.Prelude.{not}
 use Rattle.std.proofs.lemmas.List.{length-append}
 use Rattle.std.proofs.lemmas.List.Elements.{filter-append}
 use Rattle.field_bounds.specs.declared.entry.Escrow.{Escrow}
@@ -10,7 +9,7 @@ use Rattle.kept_records.specs.declared.lent_records.CommonRecord.{CommonRecord}
 use Rattle.kept_records.specs.declared.lent_records.CommonRecord.TheVariants as common
 use Rattle.kept_records.specs.Stands.{is_summary, plain}
 use Rattle.kept_records.specs.Lines.{IsRecordAt, Begins}
-use Rattle.kept_records.specs.Lent.{LentValue, record_told, HandsCommon}
+use Rattle.kept_records.specs.Lent.{record_told}
 use Rattle.kept_records.proofs.Walks.{begins_none, begins_more}
 
 -- ---- one record more
@@ -52,27 +51,9 @@ counted_plain bytes others summaries old r new so_far at is =
 
 -- ---- a common record is no summary
 
-told_plain : (told : CommonRecord) (escrows : List Escrow) → is_summary (record_told told escrows) ≡ false
+pub told_plain : (told : CommonRecord) (escrows : List Escrow) → is_summary (record_told told escrows) ≡ false
 told_plain (common.Commit txn) escrows = refl
 told_plain (common.Gift to field kind total) escrows = refl
 told_plain (common.Accept from field kind total) escrows = refl
 told_plain (common.Tighten field kind total) escrows = refl
 told_plain (common.Restart epoch) escrows = refl
-
-pub counted_common : (bytes : List ℕ) (others summaries : ℕ) (old : List ℕ) (told : Option CommonRecord) (lent : LentValue)
-    → Counted bytes others summaries old → HandsCommon old told lent → is_some told ≡ true
-    → Counted bytes (others + 1) summaries lent.left
-counted_common bytes others summaries old None lent so_far handed is = absurd cc
-counted_common bytes others summaries old (Some told) lent so_far handed is =
-    counted_plain bytes others summaries old (record_told told lent.escrows) lent.left so_far handed (told_plain told lent.escrows)
-
--- ---- whether one was told
-
-pub one_taken : {A : Type 0} {P : Type 0} (told : Option A) → is_some told ≡ true → IfSome told (λ _. P) → P
-one_taken None is taken = absurd cc
-one_taken (Some x) is taken = taken
-
-pub none_taken : (old : List ℕ) (told : Option CommonRecord) (lent : LentValue) → HandsCommon old told lent → is_some told ≡ false
-    → lent.left ≡ old
-none_taken old None lent handed is = handed
-none_taken old (Some told) lent handed is = absurd cc

@@ -3,9 +3,7 @@
 ghost use Rattle.std.specs.Prelude.{IfOk};
 ghost use Rattle.kept_records.specs.Counting.{IsCountOf};
 
-use crate::lent_records::LentRecords;
-use crate::reading_back::is_summary;
-use crate::record_lines::RecordLine;
+use crate::lent_records::{LentLine, LentRecords};
 use std::alloc::{AllocError, Global};
 
 /// How many records stand in front of the first line that is none, or in all where there is no such
@@ -30,21 +28,11 @@ pub fn count_log(alloc: Global, bytes: &[u8]) -> Result<LogCount, AllocError>
     let mut summaries: usize = 0;
     let mut lines = LentRecords::new(alloc, bytes);
     let bad_line = 'lines: loop {
-        if lines.next_common().is_some() {
-            plain += 1;
-            continue 'lines;
-        }
-        match lines.next_line(alloc)? {
-            RecordLine::Record(next) => {
-                if is_summary(&next) {
-                    summaries += 1;
-                } else {
-                    plain += 1;
-                }
-                lines.give_back(next);
-            }
-            RecordLine::NoRecord => break 'lines Some((plain + summaries) as u64 + 1),
-            RecordLine::End => break 'lines None,
+        match lines.next(alloc)? {
+            LentLine::Common(_) => plain += 1,
+            LentLine::Summary => summaries += 1,
+            LentLine::NoRecord => break 'lines Some((plain + summaries) as u64 + 1),
+            LentLine::End => break 'lines None,
         }
     };
     let length = bytes.len() - lines.left();

@@ -7,9 +7,8 @@ ghost use Rattle.kept_records.specs.Text.{text};
 ghost use Rattle.kept_records.specs.Logs.{Reads, AreAll, AreGoodRecords};
 ghost use Rattle.kept_records.specs.Faults.{TellsBadLine, TellsNoLog};
 
-use crate::lent_records::LentRecords;
+use crate::lent_records::{LentLine, LentRecords};
 use crate::record::Record;
-use crate::record_lines::RecordLine;
 use std::alloc::{AllocError, Global};
 use thiserror::Error;
 
@@ -62,14 +61,11 @@ pub fn read_front(alloc: Global, bytes: &[u8]) -> Result<Front, AllocError>
     let mut records = Vec::new(alloc);
     let mut lines = LentRecords::new(alloc, bytes);
     let bad_line = 'lines: loop {
-        if let Some(told) = lines.next_common() {
-            records.push(lines.copied(alloc, told)?)?;
-            continue 'lines;
-        }
-        match lines.next_line(alloc)? {
-            RecordLine::Record(next) => records.push(lines.copied_line(alloc, next)?)?,
-            RecordLine::NoRecord => break 'lines Some(records.len() as u64 + 1),
-            RecordLine::End => break 'lines None,
+        match lines.next(alloc)? {
+            LentLine::Common(told) => records.push(lines.copied(alloc, told)?)?,
+            LentLine::Summary => records.push(lines.take_summary())?,
+            LentLine::NoRecord => break 'lines Some(records.len() as u64 + 1),
+            LentLine::End => break 'lines None,
         }
     };
     let length = bytes.len() - lines.left();

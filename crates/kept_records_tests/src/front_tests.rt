@@ -3,56 +3,9 @@
 
 use crate::lent_tests::NUMBERS;
 use crate::tests::{NO_RECORDS, RECORDS};
+use crate::told::{Told, by_words};
 use kept_records::*;
-use std::alloc::{AllocError, Global};
-
-/// What records tell: their letters, how many escrows each commit has, and these escrows one behind
-/// the other.
-#[derive(Drop)]
-struct Told {
-    letters: Vec<u8>,
-    sizes: Vec<usize>,
-    fields: Vec<u16>,
-    changes: Vec<i64>,
-}
-
-impl Told {
-    fn new(alloc: Global) -> Told {
-        Told {
-            letters: Vec::new(alloc),
-            sizes: Vec::new(alloc),
-            fields: Vec::new(alloc),
-            changes: Vec::new(alloc),
-        }
-    }
-
-    fn tell(&mut self, kept: &Record) -> Result<(), AllocError> {
-        let letter = match kept {
-            Record::Commit { escrows, .. } => {
-                self.sizes.push(escrows.as_slice().len())?;
-                for escrow in escrows.as_slice() {
-                    self.fields.push(escrow.field.0)?;
-                    self.changes.push(escrow.change)?;
-                }
-                b'C'
-            }
-            Record::Gift { .. } => b'G',
-            Record::Accept { .. } => b'A',
-            Record::Tighten { .. } => b'T',
-            Record::Restart { .. } => b'R',
-            Record::Summary { .. } => b'S',
-        };
-        self.letters.push(letter)?;
-        Ok(())
-    }
-
-    fn is(&self, letters: &[u8], sizes: &[usize], fields: &[u16], changes: &[i64]) -> bool {
-        self.letters.as_slice() == letters
-            && self.sizes.as_slice() == sizes
-            && self.fields.as_slice() == fields
-            && self.changes.as_slice() == changes
-    }
-}
+use std::alloc::Global;
 
 /// What the records tell that are read to a list.
 fn listed(alloc: Global, bytes: &[u8]) -> Option<Told> {
@@ -64,20 +17,14 @@ fn listed(alloc: Global, bytes: &[u8]) -> Option<Told> {
     Some(told)
 }
 
-/// What those tell that are read line by line.
+/// What those tell that are read line by line, each word by word.
 fn walked(alloc: Global, bytes: &[u8]) -> Option<Told> {
-    let mut lines = RecordLines::new(alloc, bytes);
-    let mut told = Told::new(alloc);
-    // Each turn takes a byte at least.
-    for _turn in 0..bytes.len() {
-        if let RecordLine::Record(kept) = lines.next(alloc).ok()? {
-            told.tell(&kept).ok()?;
-            lines.give_back(kept);
-        } else {
-            return Some(told);
-        }
+    let front = read_front(alloc, bytes).ok()?;
+    let log = bytes.get(..front.length)?;
+    match read_records(alloc, log) {
+        Ok(_) => by_words(alloc, log),
+        Err(_) => None,
     }
-    Some(told)
 }
 
 /// How many records but summaries stand in front of the first line that is none, how many bytes all
@@ -97,13 +44,7 @@ fn counted_in_list(alloc: Global, bytes: &[u8]) -> Option<Counted> {
 
 /// Whether each way tells the same of these bytes.
 fn agree(alloc: Global, bytes: &[u8]) -> Option<bool> {
-    let lines = walked(alloc, bytes)?;
-    let same = listed(alloc, bytes)?.is(
-        &lines.letters,
-        &lines.sizes,
-        &lines.fields,
-        &lines.changes,
-    );
+    let same = listed(alloc, bytes)?.is(&walked(alloc, bytes)?);
     Some(same && counted(alloc, bytes)? == counted_in_list(alloc, bytes)?)
 }
 
@@ -151,7 +92,10 @@ fn each_kind_is_read(alloc: Global) -> Option<bool> {
         bytes.extend_from_slice(line.as_bytes()).ok()?;
     }
     let told = listed(alloc, &bytes)?;
-    let read = told.is(b"CGCSCACTRC", &[1, 4, 5, 16, 1], &FIELDS, &CHANGES);
+    let read = told.letters.as_slice() == b"CGCSCACTRC".as_slice()
+        && told.sizes.as_slice() == [1, 4, 5, 16, 1].as_slice()
+        && told.fields.as_slice() == FIELDS.as_slice()
+        && told.changes.as_slice() == CHANGES.as_slice();
     Some(read && counted(alloc, &bytes)? == (9, 188, None))
 }
 

@@ -1,54 +1,67 @@
 //! Records that are lent, beside those that are read from the same bytes word by word.
 
-use crate::tests::{NO_RECORDS, RECORDS};
+use crate::tests::{NO_RECORDS, RECORDS, log_of};
+use crate::told::{Told, by_words};
 use kept_records::*;
 use std::alloc::Global;
 
-/// How many records bytes begin with, how many bytes are left behind them, and whether a line that
-/// is no record is next.
-type Walked = (usize, usize, bool);
+/// What the records tell that bytes begin with, how many bytes are left behind them, and whether a
+/// line that is no record is next.
+type Walked = (Told, usize, bool);
 
 fn lent(alloc: Global, bytes: &[u8]) -> Option<Walked> {
-    let mut records = LentRecords::new(alloc, bytes);
-    let mut count: usize = 0;
+    let mut lines = LentRecords::new(alloc, bytes);
+    let mut told = Told::new(alloc);
     // Each turn takes a byte at least.
-    'lines: for _turn in 0..bytes.len().saturating_add(1) {
-        if let Some(told) = records.next_common() {
-            let whole = records.whole(alloc, told);
-            records.give_back(whole);
-            count = count.saturating_add(1);
-            continue 'lines;
-        }
-        match records.next_line(alloc).ok()? {
-            RecordLine::Record(next) => {
-                records.give_back(next);
-                count = count.saturating_add(1);
+    for _turn in 0..bytes.len().saturating_add(1) {
+        match lines.next(alloc).ok()? {
+            LentLine::Common(next) => {
+                let whole = lines.whole(alloc, next);
+                told.tell(&whole).ok()?;
+                lines.give_back(whole);
             }
-            RecordLine::NoRecord => return Some((count, records.left(), true)),
-            RecordLine::End => return Some((count, records.left(), false)),
+            LentLine::Summary => told.tell(lines.summary()).ok()?,
+            LentLine::NoRecord => return Some((told, lines.left(), true)),
+            LentLine::End => return Some((told, lines.left(), false)),
         }
     }
     None
 }
 
-fn read(alloc: Global, bytes: &[u8]) -> Option<Walked> {
-    let front = read_front(alloc, bytes).ok()?;
-    let left = bytes.len().saturating_sub(front.length);
-    Some((front.records.len(), left, front.bad_line.is_some()))
+/// Of so many bytes of some lines, how many those are that stand in front of the first line that
+/// isn't whole, or that is this one; and whether it is this one.
+fn in_front(lines: &[&str], length: usize, bad: &str) -> (usize, bool) {
+    let mut front: usize = 0;
+    for line in lines {
+        let end = front.saturating_add(line.len());
+        if end > length {
+            return (front, false);
+        }
+        if *line == bad {
+            return (front, true);
+        }
+        front = end;
+    }
+    (front, false)
 }
 
-/// Whether both ways read the same of each front of some lines, one behind the other.
-fn same_fronts(alloc: Global, lines: &[&str]) -> Option<bool> {
-    let mut bytes = Vec::new(alloc);
+/// Whether each front of some lines, one behind the other, is lent as the records that are read word
+/// by word from the lines in front of this one, which is none.
+fn same_fronts(alloc: Global, lines: &[&str], bad: &str) -> Option<bool> {
+    let mut text = String::new(alloc);
     for line in lines {
-        bytes.extend_from_slice(line.as_bytes()).ok()?;
+        text.push_str(*line).ok()?;
     }
-    for length in 0..bytes.len() {
-        if lent(alloc, &bytes[..length])? != read(alloc, &bytes[..length])? {
+    let bytes = text.as_bytes();
+    for length in 0..bytes.len().saturating_add(1) {
+        let (told, left, is_bad) = lent(alloc, bytes.get(..length)?)?;
+        let (front, wanted) = in_front(lines, length, bad);
+        let read = by_words(alloc, &log_of(alloc, text.get(..front)?)?)?;
+        if !told.is(&read) || left != length.saturating_sub(front) || is_bad != wanted {
             return Some(false);
         }
     }
-    Some(lent(alloc, &bytes)? == read(alloc, &bytes)?)
+    Some(true)
 }
 
 /// Lines whose numbers have each length up to the longest, beside the ends of the ranges.
@@ -71,11 +84,23 @@ pub(crate) const NUMBERS: [&str; 16] = [
     "R 12345678\n",
 ];
 
+/// Commits behind one another, and restarts among them.
+const COMMITS: [&str; 7] = [
+    "C 0 1 0 -20 1 7\n",
+    "C 0 2 3 4\n",
+    "R 1\n",
+    "C 1 1 5 -6 7 8 9 -10\n",
+    "R 2\n",
+    "R 3\n",
+    "C 3 1 0 1\n",
+];
+
 #[test]
 fn lent_as_read(rt: HostRuntime) {
     let alloc = rt.alloc();
-    assert_eq!(rt; same_fronts(alloc, &NUMBERS), Some(true));
-    assert_eq!(rt; same_fronts(alloc, &RECORDS), Some(true));
+    assert_eq!(rt; same_fronts(alloc, &COMMITS, ""), Some(true));
+    assert_eq!(rt; same_fronts(alloc, &NUMBERS, ""), Some(true));
+    assert_eq!(rt; same_fronts(alloc, &RECORDS, ""), Some(true));
 }
 
 #[test]
@@ -83,7 +108,7 @@ fn lent_up_to_a_line_that_is_no_record(rt: HostRuntime) {
     let alloc = rt.alloc();
     for line in &NO_RECORDS {
         let lines = ["C 0 1 0 -20\n", *line, "G 1 0 l 5\n", "C 0 2 0 5 1 6\n"];
-        assert_eq!(rt; same_fronts(alloc, &lines), Some(true));
-        assert_eq!(rt; same_fronts(alloc, &lines[1..2]), Some(true));
+        assert_eq!(rt; same_fronts(alloc, &lines, *line), Some(true));
+        assert_eq!(rt; same_fronts(alloc, &lines[1..2], *line), Some(true));
     }
 }

@@ -9,3 +9,5 @@ mod front_tests;
 mod lent_tests;
 #[cfg(test)]
 mod tests;
+#[cfg(test)]
+mod told;

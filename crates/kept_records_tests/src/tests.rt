@@ -208,14 +208,11 @@ fn lines_that_are_no_records(rt: HostRuntime) {
 /// Whether a text begins with a record, or with a line that is none, or with no line; and how many
 /// bytes are left behind the record.
 fn handed_out(alloc: Global, text: &str) -> Option<(Option<bool>, usize)> {
-    let mut lines = RecordLines::new(alloc, text.as_bytes());
+    let mut lines = LentRecords::new(alloc, text.as_bytes());
     let told = match lines.next(alloc).ok()? {
-        RecordLine::Record(next) => {
-            lines.give_back(next);
-            Some(true)
-        }
-        RecordLine::NoRecord => Some(false),
-        RecordLine::End => None,
+        LentLine::Common(_) | LentLine::Summary => Some(true),
+        LentLine::NoRecord => Some(false),
+        LentLine::End => None,
     };
     Some((told, lines.left()))
 }

@@ -1,46 +1,35 @@
-use Rattle.std.proofs.Common.{Vec, Global, ◌≡◌, List, Some, sym, ap, subst, ◌∙◌}
-use Rattle.field_bounds.specs.declared.entry.Escrow.{Escrow}
-use Rattle.kept_records.specs.declared.record.Record.TheVariants.{Commit, Restart}
-use Rattle.kept_records.specs.Cursor.{HandsOut}
-use Rattle.kept_records.specs.Lines.{IsRecordAt}
-use Rattle.kept_records.proofs.Cursors.{kept_behind, fewer}
+use Rattle.std.proofs.Common.{[], Option, Result, sym, subst}
+use Rattle.std.specs.declared.alloc.AllocError.{AllocError}
+use Rattle.std.specs.Prelude.{IfOk}
+use Rattle.kept_records.specs.declared.record.Record.{Record}
+use Rattle.kept_records.specs.declared.record_lines.RecordLine.{RecordLine}
+use Rattle.kept_records.specs.Keeping.{IsKept}
+use Rattle.kept_records.specs.Lines.{HandsLine}
+use Rattle.kept_records.proofs.Cursors.{kept_behind}
+use Rattle.kept_records.proofs.Lines.{no_log}
+use Rattle.kept_records.proofs.Walks.{begins_none, bad_there}
 use Rattle.kept_records.proofs.cursor.Cursor.next.Goals as goal
+use Rattle.kept_records.proofs.cursor.Cursor.next.Goals.{in-Record, in-End}
 
-pub returns-in-Some-clause-log : goal.returns-in-Some-clause-log
-returns-in-Some-clause-log c =
-    let kept = Commit c.in-Some.txn c.commit_at.new.held.items in
-    let at : IsRecordAt c.self.inside.left.now kept c.in-Some.behind.now = c.in-Some.ensures in
-    kept_behind c.args.self.now c.in-Some.behind.now kept c.requires.log (sym c.self.view_is ∙ at.parts) at.fits
+pub returns-clause-log : goal.returns-clause-log
+returns-clause-log c =
+    let old = c.self.inside.lines.left in
+    let new = c.next_line.new.self.left in
+    let kept = subst IsKept (sym c.self.view_is) c.requires.log in
+    let handed = c.in_ok-kept.ensures.handed in
+    elim c.match-branch-2.branch [
+      | in-Record w ↦
+          let at = subst (λ (l : RecordLine). HandsLine old l new) w.in-Record.is handed in
+          subst (λ (r : Result (Option Record) AllocError). IfOk r (λ _. IsKept new)) (sym w.result-is)
+          (kept_behind old new w.in-Record.kept kept at.parts at.fits)
+      | in-End w ↦
+          let none = subst (λ (l : RecordLine). HandsLine old l new) w.in-End.is handed in
+          subst (λ (r : Result (Option Record) AllocError). IfOk r (λ _. IsKept new)) (sym w.result-is) (subst IsKept (sym none.1) kept)
+    ]
 
-pub returns-in-Some-clause-shorter : goal.returns-in-Some-clause-shorter
-returns-in-Some-clause-shorter c =
-    let kept = Commit c.in-Some.txn c.commit_at.new.held.items in
-    let at : IsRecordAt c.self.inside.left.now kept c.in-Some.behind.now = c.in-Some.ensures in
-    fewer c.args.self.now c.in-Some.behind.now kept (sym c.self.view_is ∙ at.parts)
-
-pub returns-in-Some-clause-handed : goal.returns-in-Some-clause-handed
-returns-in-Some-clause-handed c =
-    let kept = Commit c.in-Some.txn c.commit_at.new.held.items in
-    let at : IsRecordAt c.self.inside.left.now kept c.in-Some.behind.now = c.in-Some.ensures in
-    let same : c.new-escrows.result ≡ c.commit_at.new.held.items =
-    c.new-escrows.ensures.all ∙ ap (λ (v : Vec Escrow Global). v.items) c.replace.ensures.value in
-    subst (λ (es : List Escrow). HandsOut c.args.self.now (Some (Commit c.in-Some.txn es)) c.in-Some.behind.now) (sym same)
-    (sym c.self.view_is ∙ at.parts, at.fits)
-
-pub returns-in-Some-restart_at-clause-handed : goal.returns-in-Some-restart_at-clause-handed
-returns-in-Some-restart_at-clause-handed c =
-    let kept = Restart c.in-Some-restart_at.epoch in
-    let at : IsRecordAt c.self.inside.left.now kept c.in-Some-restart_at.behind.now = c.in-Some-restart_at.ensures in
-    (sym c.self.view_is ∙ at.parts, at.fits)
-
-pub returns-in-Some-restart_at-clause-log : goal.returns-in-Some-restart_at-clause-log
-returns-in-Some-restart_at-clause-log c =
-    let kept = Restart c.in-Some-restart_at.epoch in
-    let at : IsRecordAt c.self.inside.left.now kept c.in-Some-restart_at.behind.now = c.in-Some-restart_at.ensures in
-    kept_behind c.args.self.now c.in-Some-restart_at.behind.now kept c.requires.log (sym c.self.view_is ∙ at.parts) at.fits
-
-pub returns-in-Some-restart_at-clause-shorter : goal.returns-in-Some-restart_at-clause-shorter
-returns-in-Some-restart_at-clause-shorter c =
-    let kept = Restart c.in-Some-restart_at.epoch in
-    let at : IsRecordAt c.self.inside.left.now kept c.in-Some-restart_at.behind.now = c.in-Some-restart_at.ensures in
-    fewer c.args.self.now c.in-Some-restart_at.behind.now kept (sym c.self.view_is ∙ at.parts)
+pub unreachable-requires : goal.unreachable-requires
+unreachable-requires c =
+    let old = c.self.inside.lines.left in
+    let kept = subst IsKept (sym c.self.view_is) c.requires.log in
+    let bad = subst (λ (l : RecordLine). HandsLine old l c.next_line.new.self.left) c.in-NoRecord.is c.in_ok-kept.ensures.handed in
+    no_log old 1 (bad_there old [] old 0 (begins_none old) bad.0).0 kept.0 kept.1 kept.2
