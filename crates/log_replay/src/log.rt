@@ -12,7 +12,8 @@ use field_bounds::{Schema, SiteNo};
 use kept_records::Record;
 use std::alloc::{AllocError, Global};
 
-/// What a log came to.
+/// What a list of records came to, as `replay` tells it. Of the bytes of a log `replay_log` tells a
+/// `LogReplayed`.
 #[derive(Drop)]
 pub enum Replayed {
     /// Each record may stand behind those before it, and this is what they stand for, with no

@@ -9,7 +9,9 @@ use field_bounds::{Schema, SiteNo};
 use kept_records::{LentRecords, RecordLine};
 use std::alloc::{AllocError, Global};
 
-/// What the bytes of a log came to. Lines and records are counted from 1.
+/// What the bytes of a log came to, as `replay_log` tells it. Lines and records are counted from 1.
+/// Of records that were read before, `replay` tells a `Replayed`. That is no part of this one: the
+/// length belongs to a standing alone, and a caller takes all three apart at once.
 #[derive(Drop)]
 pub enum LogReplayed {
     /// Each line is a record, and each record may stand behind those before it. This is what they

@@ -20,6 +20,20 @@ fn a_stand_is_told(rt: HostRuntime) {
 }
 
 #[test]
+fn a_stand_ends_before_a_line_that_is_no_record(rt: HostRuntime) {
+    let alloc = rt.alloc();
+    let before = Stand {
+        epoch: 1,
+        length: 16,
+    };
+    assert_eq!(&rt;
+        stand_of(alloc, b"R 1\nC 1 1 0 -15\nR 02\nR 3\n"),
+        Ok(before)
+    );
+    assert_eq!(&rt; stand_of(alloc, b"R 1\nC 1 1 0 -15\nR 2 \n"), Ok(before));
+}
+
+#[test]
 fn an_older_log_is_told(rt: HostRuntime) {
     let seen = Stand {
         epoch: 2,

@@ -1,14 +1,11 @@
-use Rattle.std.proofs.Common.{◌≡◌, ◌-◌, ◌∷◌, [], ◌++◌, ℕ, List, length, sym, ap, subst, ◌∙◌, arith}
-use Rattle.std.specs.List.{flat_map}
-use Rattle.kept_records.specs.declared.record.Record.{Record}
-use Rattle.kept_records.specs.Text.{text}
-use Rattle.kept_records.specs.Stands.{later, greatest}
+use Rattle.std.proofs.Common.{◌-◌, ◌∷◌, [], ◌++◌, ℕ, List, length, sym, ap, subst, ◌∙◌, arith}
+use Rattle.kept_records.specs.Stands.{later}
 use Rattle.kept_records.specs.Lines.{IsRecordAt, HandsLine, Begins}
 use Rattle.kept_records.specs.Lent.{record_told}
 use Rattle.kept_records.proofs.Cursors.{fewer}
 use Rattle.kept_records.proofs.Pushes.{greatest_none, greatest_push}
-use Rattle.kept_records.proofs.Walks.{at_line, begins_none, begins_more, begins_size}
-use Rattle.log_stand.proofs.Fronts.{all_records}
+use Rattle.kept_records.proofs.Walks.{at_line, begins_none, begins_more}
+use Rattle.log_stand.proofs.Fronts.{stopped}
 use Rattle.log_stand.proofs.stand.stand_of.Goals as goal
 
 pub lines-init : goal.lines-init
@@ -71,17 +68,12 @@ overflow_sub-result c = omega (
 pub returns : goal.returns
 returns c =
     let bytes = c.args.bytes.now in
-    let rs = c.lines.invariant.front.0 in
+    let front = c.lines.invariant.front in
     let left = c.lines.lines.left in
-    let so_far = c.lines.invariant.front.1 in
     let new = c.next_line.new.self.left in
     let handed = subst (λ (l : List ℕ). HandsLine l c.in_ok-next.field-0 new) c.in_default.ensures.handed c.in_ok-next.ensures.handed in
     record {
-      stand = λ all rest log.
-          let told = all_records bytes rs left c.in_ok-next.field-0 new so_far handed c.in_default-2.not-Record all rest log in
-          let size : length bytes - c.left.result ≡ length (flat_map text rs) =
-          omega (arith, c.left.ensures.value, ap length told.1, begins_size bytes rs left so_far) in (
-            c.from.ensures ∙ c.lines.invariant.front.2 ∙ ap greatest told.0,
-            size ∙ ap (λ (l : List Record). length (flat_map text l)) told.0,
-          );
+      stand = stopped bytes front.0 left front.1 (record { epoch = c.from.result; length = length bytes - c.left.result })
+          (c.from.ensures ∙ front.2) new (ap (λ (n : ℕ). length bytes - n) c.left.ensures.value) c.in_ok-next.field-0 handed
+          c.in_default-2.not-Record;
     }
