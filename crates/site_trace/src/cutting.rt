@@ -48,8 +48,9 @@ pub(crate) fn count_kept<T: TellsEntry>(entries: &[T], kept: usize) -> Option<us
 /// that without a record.
 ///
 /// None where the entries of the whole trace leave fewer: then it isn't the trace of this log
-/// (`none`). Costs a look at each entry, and for each commit one at the entries since its
-/// transaction was begun; takes no memory.
+/// (`none`). This is the plain form, over a list of the log's records: where they are only counted,
+/// `trace_end_at` does, of which this is made. Costs a look at each entry, and for each commit one at
+/// the entries since its transaction was begun; takes no memory.
 pub fn trace_end(trace: &Trace, log: &[Record]) -> Option<TraceEnd>
     ensures some { IfSome result (IsEnd trace.now (length (plain log.now))) }
     ensures none { IfNone result (records_left (reverse (entries_of trace.now.entries.items))

@@ -10,3 +10,4 @@ pub mod Left
 pub mod HeaderLines
 pub mod AllKnown
 pub mod Gathered
+pub mod NoneBroken

@@ -111,20 +111,22 @@ pub known_within : (schema : SchemaValue) (known : List (Option (List Record))) 
 known_within schema known lost same within from to f k pair =
     within from to f k (known_pair schema (lost_in known) lost (λ s. sym (same s)) from to f pair)
 
-pub first_known : (schema : SchemaValue) (known : List (Option (List Record))) (lost : List Bool) (e : Excess)
-    → ((s : ℕ) → is_lost lost s ≡ is_lost (lost_in known) s) → IsFirstExcess (IsKnownPair schema lost) (known_records known) e
-    → IsFirstExcess (IsKnownPair schema (lost_in known)) (known_records known) e
-first_known schema known lost e same first =
+pub excess_tells : (schema : SchemaValue) (known : List (Option (List Record))) (standings : List Standing) (lost : List Bool) (e : Excess)
+    → StandForKnown schema known standings lost → IsFirstExcess (IsKnownPair schema lost) (known_records known) e
+    → TellsKnownFault schema known (AcceptedMore e)
+excess_tells schema known standings lost e is first =
     let back : (from to f : ℕ) → IsKnownPair schema (lost_in known) from to f → IsKnownPair schema lost from to f =
-    known_pair schema (lost_in known) lost (λ s. sym (same s)) in
-    record {
-      pair = known_pair schema lost (lost_in known) same e.from.0 e.to.0 e.field.0 first.pair;
-      excess = first.excess;
-      receivers = λ from to f k less pair. first.receivers from to f k less (back from to f pair);
-      givers = λ from f k less pair. first.givers from f k less (back from e.to.0 f pair);
-      fields = first.fields;
-      kinds = first.kinds;
-    }
+    known_pair schema (lost_in known) lost (λ s. sym (is.lost_is s)) in (
+      is.stand.lawful,
+      record {
+        pair = known_pair schema lost (lost_in known) is.lost_is e.from.0 e.to.0 e.field.0 first.pair;
+        excess = first.excess;
+        receivers = λ from to f k less pair. first.receivers from to f k less (back from to f pair);
+        givers = λ from f k less pair. first.givers from f k less (back from e.to.0 f pair);
+        fields = first.fields;
+        kinds = first.kinds;
+      },
+    )
 
 pub too_much_tells : (schema : SchemaValue) (known : List (Option (List Record))) (fault : WorldFault) → KnownWithin schema known
     → TellsTooMuch schema known fault → TellsKnownFault schema known fault

@@ -1,6 +1,7 @@
 pub mod Logs
 pub mod States
 pub mod Faults
+pub mod Outcomes
 pub mod Body
 pub mod Lost
 pub mod LostFaults

@@ -40,8 +40,8 @@ fn states_of(
 /// the sites, and answers where each field stands, field by field. Each log is lawful, as the caller
 /// knows that took it in, straight from its bytes, say: no list of its records is needed. Of all
 /// logs of which these are the standings it says what `check_world` says of them. That tells a log
-/// that isn't lawful before anything between two logs, so a caller takes in all logs first. Of the
-/// faults `AcceptedMore` and `NoMemory` are answered here.
+/// that isn't lawful before anything between two logs, so a caller takes in all logs first, and asks
+/// `standings_or_fault`. Of the faults `AcceptedMore` and `NoMemory` are answered here.
 ///
 /// Costs a look for each field and each two sites at what passed between them, and memory for the
 /// answer.
@@ -73,6 +73,9 @@ pub fn check_standings(
 /// in flight are then all that lies between a value and its bounds: no right was made or lost.
 /// `BreaksRule` and `AcceptedMore` name the first that is not so; `NoMemory` can come in place of
 /// any answer.
+///
+/// This is the plain form, over lists of records. A program that has the bytes of the logs needs no
+/// list: it takes in each by `replay_log`, and asks `standings_or_fault` and then `check_standings`.
 ///
 /// The records' numbers lie in the ranges that `Record` tells, as those that were read from a log do.
 /// Costs a pass over each log, and for each field and each two sites a look at what passed between

@@ -13,6 +13,7 @@ mod header_text;
 mod laws;
 mod lost;
 mod lost_sums;
+mod outcomes;
 mod settle;
 mod site_sum;
 mod standings;
@@ -26,4 +27,5 @@ pub use laws::{
     known_logs_bound_each_value, logs_account_for_all_rights, logs_tell_what_the_trace_does,
 };
 pub use lost::{bound_standings, bound_world};
+pub use outcomes::standings_or_fault;
 pub use settle::{settle_standings, settle_world};

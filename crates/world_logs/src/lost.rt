@@ -56,30 +56,6 @@ fn ranges_of(
     Ok(ranges)
 }
 
-/// The ranges of all fields, or the first fault of the known logs, by what they stand for.
-fn bound_by(
-    alloc: Global,
-    schema: &Schema,
-    standings: &[Standing],
-    lost: &[bool],
-) -> Result<Vec<FieldRange>, WorldFault>
-    requires of_known { AreOfKnown schema.now standings.now lost.now }
-    ensures within { IfOk result (λ ranges. (known : List (Option (List Record)))
-        → StandForKnown schema.now known standings.now lost.now
-        → KnownWithin schema.now known) }
-    ensures ranges { IfOk result (λ ranges. (known : List (Option (List Record)))
-        → StandForKnown schema.now known standings.now lost.now
-        → AreRanges schema.now known ranges.items) }
-    ensures fault { IfErr result (λ fault. (known : List (Option (List Record)))
-        → StandForKnown schema.now known standings.now lost.now
-        → TellsKnownFault schema.now known fault) }
-{
-    match first_excess(schema, standings, lost) {
-        Some(excess) => Err(WorldFault::AcceptedMore(excess)),
-        None => ranges_of(alloc, schema, standings, lost),
-    }
-}
-
 /// The standing of a site, or that of no records where there is none.
 fn or_none(
     alloc: Global,
@@ -139,8 +115,13 @@ pub fn bound_standings(
         → TellsKnownFault schema.now known fault) }
 {
     let lost = lost_of(alloc, standings.as_slice())?;
-    let all = filled(alloc, schema, standings)?;
-    bound_by(alloc, schema, all.as_slice(), lost.as_slice())
+    let filled = filled(alloc, schema, standings)?;
+    let all = filled.as_slice();
+    let lost = lost.as_slice();
+    match first_excess(schema, all, lost) {
+        Some(first) => Err(WorldFault::AcceptedMore(first)),
+        None => ranges_of(alloc, schema, all, lost),
+    }
 }
 
 /// Tells, where the logs of some sites are lost, between which values each field's committed value
@@ -156,7 +137,8 @@ pub fn bound_standings(
 /// known one than that has given it, and what the known sites guard and have in flight on each field
 /// is no more than the field is wide. `BreaksRule`, `AcceptedMore` and `TooMuch` name the first that
 /// is not so, and `TooMuch` tells that no lost logs go with the known ones; `NoMemory` can come in
-/// place of any answer. The records' numbers lie in the ranges that `Record` tells. Costs what
+/// place of any answer. The records' numbers lie in the ranges that `Record` tells. It is the plain
+/// form, as `check_world` is, beside `standings_or_fault` and `bound_standings`. Costs what
 /// `check_world` costs.
 pub fn bound_world(
     alloc: Global,
@@ -175,5 +157,10 @@ pub fn bound_world(
 {
     let standings = standings_of(alloc, schema, logs)?;
     let lost = lost_of(alloc, logs)?;
-    bound_by(alloc, schema, standings.as_slice(), lost.as_slice())
+    let all = standings.as_slice();
+    let lost = lost.as_slice();
+    match first_excess(schema, all, lost) {
+        Some(excess) => Err(WorldFault::AcceptedMore(excess)),
+        None => ranges_of(alloc, schema, all, lost),
+    }
 }

@@ -104,8 +104,9 @@ pub fn settle_standings(
 /// which begins at its committed value with the bounds as tightened. Rights in flight are the new
 /// sites' then: none of the old logs and of the old world's statements may be used with it.
 ///
-/// It is answered exactly where `check_world` answers, and the faults are those. Costs what that
-/// costs, and one look-up and one insertion for each field.
+/// It is answered exactly where `check_world` answers, and the faults are those. It is the plain form,
+/// as that is, beside `settle_standings`. Costs what `check_world` costs, and one look-up and one
+/// insertion for each field.
 pub fn settle_world(
     alloc: Global,
     schema: &Schema,

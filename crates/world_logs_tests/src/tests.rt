@@ -8,7 +8,8 @@ ghost use Rattle.kept_records.specs.Text.{IsRecord};
 ghost use Rattle.world_logs.specs.Logs.{records_of, log_of};
 ghost use Rattle.world_logs.specs.Lost.{known_of, known_records};
 ghost use Rattle.world_logs.specs.Body.{StandsForLog, AreForLogs};
-ghost use Rattle.world_logs.specs.LostBody.{StandsIfKnown, AreForKnownLogs};
+ghost use Rattle.world_logs.specs.LostBody.{StandsIfKnown};
+ghost use Rattle.world_logs.specs.Outcomes.{IsOutcome, AreOutcomes};
 
 use check_kit::{STOCK_OF_THREE, STOCK_OF_TWO, schema_of};
 use field_bounds::{FieldNo, FieldSpec, Kind, Schema, SiteNo};
@@ -101,7 +102,9 @@ const REFUSED: [([&str; 2], WorldFault); 10] = [
 ];
 
 /// The same of three sites.
-const REFUSED_OF_THREE: [([&str; 3], WorldFault); 4] = [
+const REFUSED_OF_THREE: [([&str; 3], WorldFault); 5] = [
+    // Of two logs that break a rule the lower site's is told.
+    (["", "G 0 0 l 5\nG 0 0 l 5\n", "T 0 l 14\n"], breaks!(1, 2)),
     (
         ["", "A 2 0 l 1\nA 0 0 l 1\n", "A 0 0 l 1\n"],
         more!(0, 1, Kind::Lower, 0, 1),
@@ -148,27 +151,45 @@ fn checked(
     check_world(alloc, &schema, logs.as_slice())
 }
 
-/// What a site's log stands for, straight from its bytes; or the fault of its first record that
-/// breaks a rule.
-fn standing_of(
+/// What a site's log came to, straight from its bytes.
+fn outcome_of(
     rt: &impl Abort,
     alloc: Global,
     schema: &Schema,
     site: SiteNo,
     text: &str,
-) -> Result<Standing, WorldFault>
+) -> Result<Result<Standing, u64>, WorldFault>
     requires site_in { site.0 < schema.now.sites }
-    ensures { IfOk result (λ standing. StandsForLog schema.now site.0 standing) }
+    ensures { IfOk result (IsOutcome schema.now (StandsForLog schema.now) site.0) }
 {
     match replay_log(alloc, schema, site, text.as_bytes()) {
-        Ok(LogReplayed::Standing { standing, .. }) => Ok(standing),
-        Ok(LogReplayed::BreaksRule { number }) => Err(WorldFault::BreaksRule { site, number }),
+        Ok(LogReplayed::Standing { standing, .. }) => Ok(Ok(standing)),
+        Ok(LogReplayed::BreaksRule { number }) => Ok(Err(number)),
         Ok(LogReplayed::BadLine { .. }) => panic!(rt; "a line is no record"),
         Err(_) => Err(WorldFault::NoMemory),
     }
 }
 
-/// What the log of each site stands for.
+/// What the log of each site came to.
+fn outcomes_of(
+    rt: &impl Abort,
+    alloc: Global,
+    schema: &Schema,
+    texts: &[&str],
+) -> Result<Vec<Result<Standing, u64>>, WorldFault>
+    requires count { length texts.now ≡ schema.now.sites }
+    ensures { IfOk result (λ outcomes. AreOutcomes schema.now (StandsForLog schema.now)
+        outcomes.items) }
+{
+    let mut outcomes = Vec::new(alloc);
+    for number in 0..schema.sites() {
+        let text = texts[usize::from(number)];
+        outcomes.push(outcome_of(rt, alloc, schema, SiteNo(number), text)?)?;
+    }
+    Ok(outcomes)
+}
+
+/// What the log of each site stands for, or the fault of the lowest that breaks a rule.
 fn standings_of(
     rt: &impl Abort,
     alloc: Global,
@@ -178,12 +199,8 @@ fn standings_of(
     requires count { length texts.now ≡ schema.now.sites }
     ensures { IfOk result (λ standings. AreForLogs schema.now standings.items) }
 {
-    let mut standings = Vec::new(alloc);
-    for number in 0..schema.sites() {
-        let text = texts[usize::from(number)];
-        standings.push(standing_of(rt, alloc, schema, SiteNo(number), text)?)?;
-    }
-    Ok(standings)
+    let outcomes = outcomes_of(rt, alloc, schema, texts)?;
+    standings_or_fault(alloc, schema, outcomes)
 }
 
 /// Where each field stands, by what the logs stand for.
@@ -359,8 +376,12 @@ const BOUNDED_OF_THREE: [([Option<&str>; 3], FieldRange); 2] = [
 ];
 
 /// The logs of three sites, of which one is lost, and the first fault of them.
-const UNBOUNDED: [([Option<&str>; 3], WorldFault); 3] = [
+const UNBOUNDED: [([Option<&str>; 3], WorldFault); 4] = [
     ([None, Some("T 0 l 14\n"), Some("")], breaks!(1, 1)),
+    (
+        [None, Some("G 2 0 l 5\nT 0 l 9\n"), Some("T 0 l 14\n")],
+        breaks!(1, 2),
+    ),
     (
         [Some("G 1 0 l 5\n"), Some("A 0 0 l 6\n"), None],
         more!(0, 1, Kind::Lower, 5, 6),
@@ -405,39 +426,43 @@ fn bounded(
     bound_world(alloc, &schema, logs.as_slice())
 }
 
-/// What a site's log stands for, where it isn't lost.
-fn known_standing(
+/// What a site's log came to, or None in place of what it stands for where it is lost.
+fn known_outcome(
     rt: &impl Abort,
     alloc: Global,
     schema: &Schema,
     site: SiteNo,
     text: Option<&str>,
-) -> Result<Option<Standing>, WorldFault>
+) -> Result<Result<Option<Standing>, u64>, WorldFault>
     requires site_in { site.0 < schema.now.sites }
-    ensures { IfOk result (λ standing. StandsIfKnown schema.now site.0 standing) }
+    ensures { IfOk result (IsOutcome schema.now (StandsIfKnown schema.now) site.0) }
 {
-    match text {
-        Some(text) => Ok(Some(standing_of(rt, alloc, schema, site, text)?)),
-        None => Ok(None),
+    let Some(text) = text else {
+        return Ok(Ok(None));
+    };
+    match outcome_of(rt, alloc, schema, site, text)? {
+        Ok(standing) => Ok(Ok(Some(standing))),
+        Err(number) => Ok(Err(number)),
     }
 }
 
-/// What the log of each site stands for, where it isn't lost.
-fn known_standings(
+/// The same of each site.
+fn known_outcomes(
     rt: &impl Abort,
     alloc: Global,
     schema: &Schema,
     texts: &[Option<&str>],
-) -> Result<Vec<Option<Standing>>, WorldFault>
+) -> Result<Vec<Result<Option<Standing>, u64>>, WorldFault>
     requires count { length texts.now ≡ schema.now.sites }
-    ensures { IfOk result (λ standings. AreForKnownLogs schema.now standings.items) }
+    ensures { IfOk result (λ outcomes. AreOutcomes schema.now (StandsIfKnown schema.now)
+        outcomes.items) }
 {
-    let mut standings = Vec::new(alloc);
+    let mut outcomes = Vec::new(alloc);
     for number in 0..schema.sites() {
         let text = texts[usize::from(number)];
-        standings.push(known_standing(rt, alloc, schema, SiteNo(number), text)?)?;
+        outcomes.push(known_outcome(rt, alloc, schema, SiteNo(number), text)?)?;
     }
-    Ok(standings)
+    Ok(outcomes)
 }
 
 /// Between which values each field lies, by what the logs stand for.
@@ -449,7 +474,8 @@ fn bounded_standings(
 ) -> Result<Vec<FieldRange>, WorldFault> {
     let schema = schema_of(alloc, header).expect(rt, "a schema");
     assert!(rt; texts.len() == usize::from(schema.sites()));
-    let standings = known_standings(rt, alloc, &schema, texts)?;
+    let outcomes = known_outcomes(rt, alloc, &schema, texts)?;
+    let standings = standings_or_fault(alloc, &schema, outcomes)?;
     bound_standings(alloc, &schema, standings)
 }
 

@@ -5,8 +5,8 @@ use Rattle.kept_records.specs.declared.record.Record.{Record}
 use Rattle.kept_records.specs.Text.{IsRecord}
 use Rattle.world_logs.specs.Logs.{log_of}
 use Rattle.world_logs.specs.Faults.{TellsUnlawful}
-use Rattle.world_logs.specs.Lost.{known_of}
-use Rattle.world_logs.proofs.LostReadings.{records_are, unlawful_tells, stand_for_known}
+use Rattle.world_logs.specs.Lost.{known_of, known_records}
+use Rattle.world_logs.proofs.LostReadings.{records_are, unlawful_tells, stand_for_known, known_within, excess_tells, too_much_tells}
 use Rattle.world_logs.proofs.lost.bound_world.Goals as goal
 
 pub standings_of-requires-clause-in_range : goal.standings_of-requires-clause-in_range
@@ -23,41 +23,48 @@ returns-in_err-standings-clause-fault c =
     c.in_err-standings.ensures.fault)
     )
 
-pub bound_by-requires : goal.bound_by-requires
-bound_by-requires c =
+pub first_excess-requires : goal.first_excess-requires
+first_excess-requires c =
     record {
-      of_known = (
-        known_of c.args.logs.now,
-        stand_for_known c.args.schema.now c.args.logs.now c.in_ok-standings.standings.items c.as_slice.result.now
-            c.in_ok-lost.lost.items c.as_slice-2.result.now c.requires.count c.in_ok-standings.ensures.stand c.as_slice.ensures.value
-            c.as_slice-2.ensures.value c.in_ok-lost.ensures,
+      of_logs = (
+        known_records (known_of c.args.logs.now),
+        (stand_for_known c.args.schema.now c.args.logs.now c.in_ok-standings.standings.items c.as_slice-all.result.now
+            c.in_ok-lost.lost.items c.as_slice-lost.result.now c.requires.count c.in_ok-standings.ensures.stand c.as_slice-all.ensures.value
+            c.as_slice-lost.ensures.value c.in_ok-lost.ensures).stand,
       );
     }
 
-pub returns-clause-lawful : goal.returns-clause-lawful
-returns-clause-lawful c =
-    let is = stand_for_known c.args.schema.now c.args.logs.now c.in_ok-standings.standings.items c.as_slice.result.now
-    c.in_ok-lost.lost.items c.as_slice-2.result.now c.requires.count c.in_ok-standings.ensures.stand c.as_slice.ensures.value
-    c.as_slice-2.ensures.value c.in_ok-lost.ensures in
-    IfOk-weaker c.bound_by.result _ _ (λ ranges told. is.stand.lawful) c.bound_by.ensures.within
+pub ranges_of-requires : goal.ranges_of-requires
+ranges_of-requires c =
+    record {
+      of_known = (
+        known_of c.args.logs.now,
+        stand_for_known c.args.schema.now c.args.logs.now c.in_ok-standings.standings.items c.as_slice-all.result.now
+            c.in_ok-lost.lost.items c.as_slice-lost.result.now c.requires.count c.in_ok-standings.ensures.stand c.as_slice-all.ensures.value
+            c.as_slice-lost.ensures.value c.in_ok-lost.ensures,
+      );
+    }
 
-pub returns-clause-within : goal.returns-clause-within
-returns-clause-within c =
-    let is = stand_for_known c.args.schema.now c.args.logs.now c.in_ok-standings.standings.items c.as_slice.result.now
-    c.in_ok-lost.lost.items c.as_slice-2.result.now c.requires.count c.in_ok-standings.ensures.stand c.as_slice.ensures.value
-    c.as_slice-2.ensures.value c.in_ok-lost.ensures in
-    IfOk-weaker c.bound_by.result _ _ (λ ranges told. told (known_of c.args.logs.now) is) c.bound_by.ensures.within
+pub returns-in-Some-clause-fault : goal.returns-in-Some-clause-fault
+returns-in-Some-clause-fault c =
+    let known = known_of c.args.logs.now in
+    let is = stand_for_known c.args.schema.now c.args.logs.now c.in_ok-standings.standings.items c.as_slice-all.result.now
+    c.in_ok-lost.lost.items c.as_slice-lost.result.now c.requires.count c.in_ok-standings.ensures.stand c.as_slice-all.ensures.value
+    c.as_slice-lost.ensures.value c.in_ok-lost.ensures in
+    excess_tells c.args.schema.now known c.as_slice-all.result.now c.as_slice-lost.result.now c.in-Some.excess is
+    (c.in-Some.ensures.some (known_records known) is.stand)
 
-pub returns-clause-ranges : goal.returns-clause-ranges
-returns-clause-ranges c =
-    let is = stand_for_known c.args.schema.now c.args.logs.now c.in_ok-standings.standings.items c.as_slice.result.now
-    c.in_ok-lost.lost.items c.as_slice-2.result.now c.requires.count c.in_ok-standings.ensures.stand c.as_slice.ensures.value
-    c.as_slice-2.ensures.value c.in_ok-lost.ensures in
-    IfOk-weaker c.bound_by.result _ _ (λ ranges told. told (known_of c.args.logs.now) is) c.bound_by.ensures.ranges
-
-pub returns-clause-fault : goal.returns-clause-fault
-returns-clause-fault c =
-    let is = stand_for_known c.args.schema.now c.args.logs.now c.in_ok-standings.standings.items c.as_slice.result.now
-    c.in_ok-lost.lost.items c.as_slice-2.result.now c.requires.count c.in_ok-standings.ensures.stand c.as_slice.ensures.value
-    c.as_slice-2.ensures.value c.in_ok-lost.ensures in
-    IfErr-weaker c.bound_by.result _ _ (λ fault told. told (known_of c.args.logs.now) is) c.bound_by.ensures.fault
+pub returns : goal.returns
+returns c =
+    let schema = c.args.schema.now in
+    let known = known_of c.args.logs.now in
+    let is = stand_for_known c.args.schema.now c.args.logs.now c.in_ok-standings.standings.items c.as_slice-all.result.now
+    c.in_ok-lost.lost.items c.as_slice-lost.result.now c.requires.count c.in_ok-standings.ensures.stand c.as_slice-all.ensures.value
+    c.as_slice-lost.ensures.value c.in_ok-lost.ensures in
+    let within = known_within schema known c.as_slice-lost.result.now is.lost_is (c.in-None.ensures.none (known_records known) is.stand) in
+    record {
+      lawful = IfOk-weaker c.ranges_of.result _ _ (λ ranges told. is.stand.lawful) c.ranges_of.ensures.ranges;
+      within = IfOk-weaker c.ranges_of.result _ _ (λ ranges told. within) c.ranges_of.ensures.ranges;
+      ranges = IfOk-weaker c.ranges_of.result _ _ (λ ranges told. told known is) c.ranges_of.ensures.ranges;
+      fault = IfErr-weaker c.ranges_of.result _ _ (λ fault told. too_much_tells schema known fault within (told known is)) c.ranges_of.ensures.fault;
+    }
