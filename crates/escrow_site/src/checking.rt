@@ -2,96 +2,60 @@
 
 ghost use Rattle.std.specs.Prelude.{◌≡◌, ◌<◌, IfOk, length};
 ghost use Rattle.world_logs.specs.Body.{StandsForLog, AreForLogs};
-ghost use Rattle.escrow_site.specs.Folders.{StandsIfKept};
+ghost use Rattle.world_logs.specs.Outcomes.{IsOutcome, AreOutcomes};
 
 use crate::fault::{Fault, Why, refused};
-use crate::folder::{Replayed, bad_record, count_records, replay_folder};
+use crate::folder::{bad_record, replay_folder};
 use crate::progress::tell_reading;
 use crate::worlds::{World, read_world};
 use field_bounds::{FieldNo, Kind, Schema, SiteNo};
-use log_replay::Standing;
+use log_replay::{LogReplayed, Standing};
 use std::alloc::Global;
 use std::io;
-use world_logs::{Excess, FieldState, WorldFault, check_standings};
+use world_logs::{Excess, FieldState, WorldFault, check_standings, standings_or_fault};
 
-// What the log of a site comes to.
-fn replay_site(rt: &HostRuntime, world: &World, site: SiteNo) -> Result<Replayed, Fault>
+/// What the log of a site came to: what it stands for, or the number of its first record that breaks
+/// a rule.
+pub(crate) fn read_outcome(
+    rt: &HostRuntime,
+    world: &World,
+    site: SiteNo,
+) -> Result<Result<Standing, u64>, Fault>
     requires site_in { site.0 < world.now.schema.sites }
-    ensures stands { IfOk result (StandsIfKept world.now.schema site.0) }
+    ensures outcome { IfOk result (IsOutcome world.now.schema (StandsForLog world.now.schema)
+        site.0) }
 {
     let folder = world.named_folder(site)?;
     tell_reading(rt, folder.paths.folder.as_str(), site, world.schema.sites());
-    replay_folder(rt, &folder.paths, &folder.identity, &world.schema, site)
+    match replay_folder(rt, &folder.paths, &folder.identity, &world.schema, site)? {
+        LogReplayed::Standing { standing, .. } => Ok(Ok(standing)),
+        LogReplayed::BadLine { number } => Err(bad_record(rt.alloc(), &folder.paths, number)),
+        LogReplayed::BreaksRule { number } => Ok(Err(number)),
+    }
 }
 
-// Looks whether each line of a site's log is a record.
-fn look_through(rt: &HostRuntime, world: &World, site: SiteNo) -> Result<(), Fault> {
-    let folder = world.named_folder(site)?;
-    tell_reading(rt, folder.paths.folder.as_str(), site, world.schema.sites());
-    count_records(rt, &folder.paths, &folder.identity)?;
-    Ok(())
-}
-
-// Looks through the logs of the sites behind one whose log breaks a rule, but those that are lost.
-fn look_behind(
-    rt: &HostRuntime,
-    world: &World,
-    lost: &[SiteNo],
-    broken: SiteNo,
-) -> Result<(), Fault> {
+// What the logs of all sites came to, in their order. A log that can't be read ends it, so that it is
+// told before any rule.
+fn read_outcomes(rt: &HostRuntime, world: &World) -> Result<Vec<Result<Standing, u64>>, Fault>
+    ensures outcomes { IfOk result (λ outcomes. AreOutcomes world.now.schema
+        (StandsForLog world.now.schema) outcomes.items) }
+{
+    let mut outcomes = Vec::new(rt.alloc());
     for number in 0..world.schema.sites() {
-        let site = SiteNo(number);
-        if number > broken.0 && !lost.contains(&site) {
-            look_through(rt, world, site)?;
-        }
+        outcomes.push(read_outcome(rt, world, SiteNo(number))?)?;
     }
-    Ok(())
-}
-
-// The fault that a record of a site's log breaks a rule. Behind it the other logs that aren't lost are
-// read: one that can't be read is told before any rule.
-fn broken_rule(
-    rt: &HostRuntime,
-    world: &World,
-    lost: &[SiteNo],
-    site: SiteNo,
-    record: u64,
-) -> Fault {
-    if let Err(fault) = look_behind(rt, world, lost, site) {
-        return fault;
-    }
-    match world.named_folder(site) {
-        Ok(folder) => bad_record(rt.alloc(), &folder.paths, record),
-        Err(fault) => fault,
-    }
-}
-
-/// What the log of a site stands for. Where it breaks a rule, the logs behind it that aren't lost are
-/// read, too.
-pub(crate) fn read_standing(
-    rt: &HostRuntime,
-    world: &World,
-    lost: &[SiteNo],
-    site: SiteNo,
-) -> Result<Standing, Fault>
-    requires site_in { site.0 < world.now.schema.sites }
-    ensures stands { IfOk result (StandsForLog world.now.schema site.0) }
-{
-    match replay_site(rt, world, site)? {
-        Replayed::Standing { standing, .. } => Ok(standing),
-        Replayed::BreaksRule { number } => Err(broken_rule(rt, world, lost, site, number)),
-    }
+    Ok(outcomes)
 }
 
 /// What the logs of all sites stand for, in their order.
 pub(crate) fn read_standings(rt: &HostRuntime, world: &World) -> Result<Vec<Standing>, Fault>
     ensures for_logs { IfOk result (λ standings. AreForLogs world.now.schema standings.items) }
 {
-    let mut standings = Vec::new(rt.alloc());
-    for number in 0..world.schema.sites() {
-        standings.push(read_standing(rt, world, &[], SiteNo(number))?)?;
+    let outcomes = read_outcomes(rt, world)?;
+    match standings_or_fault(rt.alloc(), &world.schema, outcomes) {
+        Ok(standings) => Ok(standings),
+        Err(fault) => Err(logs_fault(rt.alloc(), world, fault)),
     }
-    Ok(standings)
 }
 
 // The name of a field.

@@ -1,13 +1,13 @@
 //! A site's folder: where its files lie, and what they hold.
 
 ghost use Rattle.std.specs.Prelude.{◌<◌, IfOk};
-ghost use Rattle.escrow_site.specs.Folders.{StandsIfKept};
+ghost use Rattle.escrow_site.specs.Folders.{TellsOutcome};
 
 use crate::fault::{Fault, Why, failed, header_words, refused};
 use field_bounds::{Schema, SiteNo};
 use file_medium::{HostFile, OpenLogFault, Opening, open_log};
 use kept_records::{LogCount, count_log};
-use log_replay::{LogReplayed, Standing, replay_log};
+use log_replay::{LogReplayed, replay_log};
 use site_folder::{Identity, IdentityFault, log_name, read_identity};
 use std::alloc::{AllocError, Global};
 use std::fs;
@@ -117,35 +117,22 @@ pub(crate) fn count_records(
     }
 }
 
-/// What a log comes to, each line of which is a record.
-#[derive(Drop)]
-pub(crate) enum Replayed {
-    /// What its records stand for, and their length in bytes.
-    Standing { standing: Standing, length: usize },
-    /// This record, counted from 1, is the first that breaks a rule.
-    BreaksRule { number: u64 },
-}
-
-/// What the log of the folder comes to as that of this site under this schema, each line of which is
-/// a record. It is read without its lock.
+/// What the log of the folder comes to as that of this site under this schema. It is read without its
+/// lock.
 pub(crate) fn replay_folder(
     rt: &HostRuntime,
     paths: &Paths,
     identity: &Identity,
     schema: &Schema,
     site: SiteNo,
-) -> Result<Replayed, Fault>
+) -> Result<LogReplayed, Fault>
     requires site_in { site.0 < schema.now.sites }
-    ensures stands { IfOk result (StandsIfKept schema.now site.0) }
+    ensures outcome { IfOk result (TellsOutcome schema.now site.0) }
 {
     let alloc = rt.alloc();
     let bytes = read_file(rt, paths.log.as_str(), Why::NoLog)?;
     let records = behind_name(alloc, paths, identity, bytes.as_slice())?;
-    match replay_log(alloc, schema, site, records)? {
-        LogReplayed::Standing { standing, length } => Ok(Replayed::Standing { standing, length }),
-        LogReplayed::BadLine { number } => Err(bad_record(alloc, paths, number)),
-        LogReplayed::BreaksRule { number } => Ok(Replayed::BreaksRule { number }),
-    }
+    Ok(replay_log(alloc, schema, site, records)?)
 }
 
 /// Why a file wasn't opened, as a fault at its path; or why it is refused where it isn't there.

@@ -2,15 +2,18 @@
 
 ghost use Rattle.std.specs.Prelude.{◌≡◌, ◌<◌, IfOk, length};
 ghost use Rattle.world_logs.specs.LostBody.{StandsIfKnown, AreForKnownLogs};
+ghost use Rattle.world_logs.specs.Outcomes.{IsOutcome, AreOutcomes};
 
-use crate::checking::{logs_fault, read_standing, read_standings};
+use crate::checking::{logs_fault, read_outcome, read_standings};
 use crate::fault::{Fault, failed};
 use crate::worlds::{World, read_world};
 use field_bounds::{FieldNo, Schema, SiteNo};
 use log_replay::Standing;
 use std::alloc::{AllocError, Global};
 use std::{fs, io};
-use world_logs::{FieldRange, HeaderFault, bound_standings, settle_standings, write_header};
+use world_logs::{
+    FieldRange, HeaderFault, bound_standings, settle_standings, standings_or_fault, write_header,
+};
 
 // Whether the log of a site is lost: no folder of it is named, or none is in its folder.
 fn is_lost(rt: &HostRuntime, world: &World, site: SiteNo) -> Result<bool, Fault> {
@@ -36,20 +39,40 @@ fn lost_sites(rt: &HostRuntime, world: &World) -> Result<Vec<SiteNo>, Fault> {
     Ok(lost)
 }
 
-// What the log of a site stands for, or None where it is lost.
+// What the log of a site came to, or None in place of what it stands for where it is lost.
 fn read_known(
     rt: &HostRuntime,
     world: &World,
     lost: &[SiteNo],
     site: SiteNo,
-) -> Result<Option<Standing>, Fault>
+) -> Result<Result<Option<Standing>, u64>, Fault>
     requires site_in { site.0 < world.now.schema.sites }
-    ensures stands { IfOk result (StandsIfKnown world.now.schema site.0) }
+    ensures outcome { IfOk result (IsOutcome world.now.schema (StandsIfKnown world.now.schema)
+        site.0) }
 {
     if lost.contains(&site) {
-        return Ok(None);
+        return Ok(Ok(None));
     }
-    Ok(Some(read_standing(rt, world, lost, site)?))
+    match read_outcome(rt, world, site)? {
+        Ok(standing) => Ok(Ok(Some(standing))),
+        Err(number) => Ok(Err(number)),
+    }
+}
+
+// The same of all sites, in their order.
+fn read_all_known(
+    rt: &HostRuntime,
+    world: &World,
+    lost: &[SiteNo],
+) -> Result<Vec<Result<Option<Standing>, u64>>, Fault>
+    ensures outcomes { IfOk result (λ outcomes. AreOutcomes world.now.schema
+        (StandsIfKnown world.now.schema) outcomes.items) }
+{
+    let mut outcomes = Vec::new(rt.alloc());
+    for number in 0..world.schema.sites() {
+        outcomes.push(read_known(rt, world, lost, SiteNo(number))?)?;
+    }
+    Ok(outcomes)
 }
 
 // What the logs of all sites stand for, in their order, where they aren't lost.
@@ -61,11 +84,11 @@ fn read_known_standings(
     ensures for_logs { IfOk result (λ standings. AreForKnownLogs world.now.schema
         standings.items) }
 {
-    let mut standings = Vec::new(rt.alloc());
-    for number in 0..world.schema.sites() {
-        standings.push(read_known(rt, world, lost, SiteNo(number))?)?;
+    let outcomes = read_all_known(rt, world, lost)?;
+    match standings_or_fault(rt.alloc(), &world.schema, outcomes) {
+        Ok(standings) => Ok(standings),
+        Err(fault) => Err(logs_fault(rt.alloc(), world, fault)),
     }
-    Ok(standings)
 }
 
 // Settles the world by the logs of all sites.

@@ -7,10 +7,10 @@ ghost use Rattle.field_bounds.specs.Parts.{field_at};
 ghost use Rattle.site_rights.specs.Rights.{guarded_at};
 
 use crate::fault::Fault;
-use crate::folder::{Paths, Replayed, bad_record, read_site, replay_folder};
+use crate::folder::{Paths, bad_record, read_site, replay_folder};
 use field_bounds::{FieldNo, Kind, Schema, SiteNo};
 use gift_ledger::{FieldAccounts, Ledger};
-use log_replay::Standing;
+use log_replay::{LogReplayed, Standing};
 use site_folder::Identity;
 use site_rights::Rights;
 use std::alloc::Global;
@@ -29,8 +29,10 @@ fn read_records(rt: &HostRuntime, paths: &Paths, identity: &Identity) -> Result<
         ≡ length identity.now.schema.fields) }
 {
     match replay_folder(rt, paths, identity, identity.schema(), identity.number())? {
-        Replayed::Standing { standing, length } => Ok(Shown { length, standing }),
-        Replayed::BreaksRule { number } => Err(bad_record(rt.alloc(), paths, number)),
+        LogReplayed::Standing { standing, length } => Ok(Shown { length, standing }),
+        LogReplayed::BadLine { number } | LogReplayed::BreaksRule { number } => {
+            Err(bad_record(rt.alloc(), paths, number))
+        }
     }
 }
 
