@@ -12,6 +12,7 @@ ghost use Rattle.site_step.specs.Opening.{TellsLine, SparesLogs, FailsUnder, fai
 
 mod alone;
 mod committing;
+mod ending;
 mod gifts;
 mod identity;
 mod keeping;

@@ -6,6 +6,7 @@ ghost use Rattle.kept_state.specs.Keeps.{record_at};
 ghost use Rattle.site_step.specs.Site.{here, Applies};
 
 use super::Site;
+use super::ending::end_append;
 use crate::extent::is_due;
 use field_bounds::{Command, Entry, Reply};
 use history::History;
@@ -16,8 +17,7 @@ impl<M: Medium, H: History<Entry>> Site<M, H> {
     /// Carries out this record of a command, once it stands whole, and adds the command's entry, as
     /// `write` does. Costs less than that where no summary is due behind the record, as mostly.
     // A summary that isn't due has over 100 bytes, which `write` moves from call to call: so where
-    // none is, this doesn't speak of one. It stands in one piece because the site isn't sound
-    // between its parts.
+    // none is, this doesn't speak of one.
     pub(super) fn keep(
         &mut self,
         alloc: Global,
@@ -36,27 +36,10 @@ impl<M: Medium, H: History<Entry>> Site<M, H> {
             return self.write(alloc, command, kept, reply);
         }
         self.history.reserve(1)?;
-        match append_record(&mut self.line, &mut self.medium, kept)? {
-            Ok(()) => {
-                self.accounts.carry_out(&self.schema, kept);
-                self.extent.extend(self.line.len());
-                self.history.push_reserved(Entry {
-                    site: self.number,
-                    command,
-                    reply,
-                });
-                Ok(reply)
-            }
-            Err(_) => {
-                self.up = false;
-                self.doubt = Some(self.extent.count);
-                self.history.push_reserved(Entry {
-                    site: self.number,
-                    command,
-                    reply: Reply::Unsure,
-                });
-                Ok(Reply::Unsure)
-            }
+        end_append! {
+            self, command, reply;
+            append_record(&mut self.line, &mut self.medium, kept)? =>
+                self.accounts.carry_out(&self.schema, kept)
         }
     }
 }

@@ -5,6 +5,7 @@ ghost use Rattle.field_bounds.specs.Owed.{first, refusals};
 ghost use Rattle.site_step.specs.Site.{here, Applies};
 
 use super::Site;
+use super::ending::end_append;
 use crate::extent::is_due;
 use field_bounds::{Command, Entry, Reply, TxnId};
 use history::History;
@@ -17,8 +18,7 @@ impl<M: Medium, H: History<Entry>> Site<M, H> {
     /// is written.
     // Commits are most of what is written. So where no summary is due behind the record, it is
     // written from the escrows where they stand, with no list made of them and one step for each;
-    // where one is due, `write` does it. It stands in one piece because the site isn't sound between
-    // its parts.
+    // where one is due, `write` does it.
     pub(super) fn commit(&mut self, alloc: Global, txn: TxnId) -> Result<Reply, AllocError>
         requires unrefused { first (refusals (here self.old) (Command.Commit txn)) ≡ None }
         ensures ok { IfOk result (λ reply. Applies self.old (Command.Commit txn) reply self.new) }
@@ -35,27 +35,10 @@ impl<M: Medium, H: History<Entry>> Site<M, H> {
             return self.write(alloc, command, &kept, Reply::Committed);
         }
         self.history.reserve(1)?;
-        match append_commit(&mut self.line, &mut self.medium, txn, escrows)? {
-            Ok(()) => {
-                self.accounts.spend(txn);
-                self.extent.extend(self.line.len());
-                self.history.push_reserved(Entry {
-                    site: self.number,
-                    command,
-                    reply: Reply::Committed,
-                });
-                Ok(Reply::Committed)
-            }
-            Err(_) => {
-                self.up = false;
-                self.doubt = Some(self.extent.count);
-                self.history.push_reserved(Entry {
-                    site: self.number,
-                    command,
-                    reply: Reply::Unsure,
-                });
-                Ok(Reply::Unsure)
-            }
+        end_append! {
+            self, command, Reply::Committed;
+            append_commit(&mut self.line, &mut self.medium, txn, escrows)? =>
+                self.accounts.spend(txn)
         }
     }
 }

@@ -13,6 +13,7 @@ ghost use Rattle.site_step.specs.Site.{here, Applies};
 ghost use Rattle.site_step.specs.State.{is_carried};
 
 use super::Site;
+use super::ending::end_append;
 use crate::extent::due_behind;
 use field_bounds::{Command, Entry, FieldNo, Kind, Refusal, Reply, TxnId};
 use history::History;
@@ -98,27 +99,10 @@ impl<M: Medium, H: History<Entry>> Site<M, H> {
     {
         self.history.reserve(1)?;
         let due = self.due(alloc, command, kept)?;
-        match append_piece(&mut self.line, &mut self.medium, kept, due)? {
-            Ok(()) => {
-                self.accounts.carry_out(&self.schema, kept);
-                self.extent.extend(self.line.len());
-                self.history.push_reserved(Entry {
-                    site: self.number,
-                    command,
-                    reply,
-                });
-                Ok(reply)
-            }
-            Err(_) => {
-                self.up = false;
-                self.doubt = Some(self.extent.count);
-                self.history.push_reserved(Entry {
-                    site: self.number,
-                    command,
-                    reply: Reply::Unsure,
-                });
-                Ok(Reply::Unsure)
-            }
+        end_append! {
+            self, command, reply;
+            append_piece(&mut self.line, &mut self.medium, kept, due)? =>
+                self.accounts.carry_out(&self.schema, kept)
         }
     }
 

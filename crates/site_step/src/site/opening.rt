@@ -1,7 +1,8 @@
 //! What a site finds on the medium over which it is opened.
 
-ghost use Rattle.std.specs.Prelude.{◌≡◌, ◌<◌, ◌≤◌, [], ◌∷◌, true, Some, length, IfOk, IfErr};
+ghost use Rattle.std.specs.Prelude.{◌≡◌, ◌<◌, ◌≤◌, ◌+◌, ◌^◌, [], ◌∷◌, ◌++◌, true, Some, length, IfOk, IfErr};
 ghost use Rattle.kept_records.specs.Stands.{plain};
+ghost use Rattle.kept_records.specs.Lent.{record_told};
 ghost use Rattle.kept_records.specs.declared.medium.MediumFault.TheVariants as faults;
 ghost use Rattle.kept_records.specs.declared.medium.Mishap.TheVariants.{Read};
 ghost use Rattle.site_step.specs.declared.site.opening.OpenFault.TheVariants.{Device, NoMemory};
@@ -10,7 +11,7 @@ ghost use Rattle.site_step.specs.Opening.{TellsLine, SparesLogs, FailsUnder, IsF
 use crate::extent::Extent;
 use field_bounds::{Schema, SiteNo};
 use history::{GhostHistory, History};
-use kept_records::{LentRecords, Medium, MediumFault, Record, RecordLine};
+use kept_records::{CommonRecord, LentRecords, Medium, MediumFault, Record, RecordLine};
 use log_replay::{Standing, take_next};
 use std::alloc::{AllocError, Global};
 use thiserror::Error;
@@ -101,6 +102,26 @@ fn plain_count(kept: &Record) -> usize
     }
 }
 
+/// Notes a record that is lent, and leaves the lines as they are. The list that only proofs see
+/// takes a whole one, so its escrows go into it, and come back to the reader, which reads the next
+/// into their memory. Once this is inlined nothing is moved.
+#[inline(always)]
+fn note_lent(
+    alloc: Global,
+    based: &mut GhostHistory<Record>,
+    lines: &mut LentRecords,
+    told: CommonRecord,
+)
+    requires room { length based.old.list.items + 1 < 2 ^ 63 }
+    ensures items { based.new.list.items
+        ≡ based.old.list.items ++ record_told told lines.old.escrows ∷ [] }
+    ensures left { lines.new.left ≡ lines.old.left }
+{
+    let next = lines.whole(alloc, told);
+    based.note(&next);
+    lines.give_back(next);
+}
+
 /// The records in the bytes, and what they stand for. Each is read from its line and taken in
 /// before the next, and no list of them is made.
 fn find(alloc: Global, schema: &Schema, site: SiteNo, bytes: &[u8]) -> Result<Found, OpenFault>
@@ -118,20 +139,17 @@ fn find(alloc: Global, schema: &Schema, site: SiteNo, bytes: &[u8]) -> Result<Fo
     let mut count: usize = 0;
     let mut lines = LentRecords::new(alloc, bytes);
     'lines: loop {
+        number += 1;
         if let Some(told) = lines.next_common() {
-            number += 1;
             if !standing.take_common(schema, told, lines.escrows()) {
                 return Err(OpenFault::Line(number));
             }
             count += 1;
-            let next = lines.whole(alloc, told);
-            based.note(&next);
-            lines.give_back(next);
+            note_lent(alloc, &mut based, &mut lines, told);
             continue 'lines;
         }
         match lines.next_line(alloc)? {
             RecordLine::Record(next) => {
-                number += 1;
                 if !take_next(alloc, schema, &mut standing, &next)? {
                     return Err(OpenFault::Line(number));
                 }
@@ -139,7 +157,7 @@ fn find(alloc: Global, schema: &Schema, site: SiteNo, bytes: &[u8]) -> Result<Fo
                 based.note(&next);
                 lines.give_back(next);
             }
-            RecordLine::NoRecord => return Err(OpenFault::Line(number + 1)),
+            RecordLine::NoRecord => return Err(OpenFault::Line(number)),
             RecordLine::End => break 'lines,
         }
     }

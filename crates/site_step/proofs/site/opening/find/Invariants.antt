@@ -1,20 +1,10 @@
 -- The records in front of the lines that are left were taken in.
-use Rattle.std.proofs.Common.{◌≡◌, ◌+◌, ◌*◌, ◌≤◌, length}
-use Rattle.kept_records.specs.Lines.{Begins}
-use Rattle.kept_records.specs.Stands.{Lawful, plain}
-use Rattle.log_replay.specs.Standing.{IsStandingFor}
+use Rattle.std.proofs.Common.{length}
+use Rattle.site_step.proofs.Fronts.{HasRead}
 use Rattle.site_step.proofs.site.opening.find.Given as goal
 
 abbrev pub invariant-lines : goal.invariant-lines
-invariant-lines l = record {
-  front : Begins l.bytes l.based.list.items l.lines.left;
-  number_is : l.number ≡ length l.based.list.items;
-  count_is : l.count ≡ length (plain l.based.list.items);
-  fewer : l.count ≤ l.number;
-  small : 2 * l.number + length l.lines.left ≤ length l.bytes;
-  lawful : Lawful l.fn.schema l.fn.site.0 l.based.list.items;
-  standing : IsStandingFor l.fn.schema l.fn.site.0 l.based.list.items l.standing;
-}
+invariant-lines l = HasRead l.fn.schema l.fn.site.0 l.bytes l.based.list.items l.number l.count l.standing l.lines.left
 
 abbrev pub decreases-lines : goal.decreases-lines
 decreases-lines l = length l.lines.left
