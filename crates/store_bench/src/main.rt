@@ -1,10 +1,10 @@
 //! What users of a store wait for, for `bench/run`: jobs over inputs that are made from a seed,
 //! through the store's public calls.
 //!
-//! The arguments are the job, `runs`, `restarts`, `reaches`, `audits`, `starts`, `serves` or `all`,
-//! the seed, and how many lines the job has, or transactions for `starts`; and how many times over
-//! `reaches` takes inputs, once where nothing is said. It writes the name of each job and the
-//! digest of all that the calls answered.
+//! The arguments are the job, `runs`, `restarts`, `reaches`, `audits`, `starts`, `serves`, `sets` or
+//! `all`, the seed, and how many lines the job has, or transactions for `starts`, or statements for
+//! `sets`; and how many times over `reaches` takes inputs, once where nothing is said. It writes the
+//! name of each job and the digest of all that the calls answered.
 #![tactic(auto)]
 
 mod dice;
@@ -12,6 +12,7 @@ mod digest;
 mod jobs;
 mod kinds;
 mod script;
+mod sets;
 mod sites;
 
 use dice::Dice;
@@ -23,7 +24,9 @@ use std::process::ExitCode;
 use std::rt::Env;
 use std::thread::Threads;
 
-const JOBS: [&str; 6] = ["runs", "restarts", "reaches", "audits", "starts", "serves"];
+const JOBS: [&str; 7] = [
+    "runs", "restarts", "reaches", "audits", "starts", "serves", "sets",
+];
 
 /// What one job comes to.
 fn done(
@@ -42,6 +45,7 @@ fn done(
         "audits" => Ok(jobs::audits(rt, alloc, &mut dice, lines)?),
         "starts" => sites::starts(alloc, &mut dice, lines),
         "serves" => sites::serves(alloc, &mut dice, lines),
+        "sets" => Ok(sets::sets(alloc, &mut dice, lines)?),
         _ => Err(Stopped),
     }
 }
