@@ -103,21 +103,28 @@ grew_map w x y had mid has f ids i d below g h =
     grew_as w y had has (map f (take i ids) ++ f (get_or ids i d) ∷ []) (map f (take (i + 1) ids)) (sym (map_more f ids i d below))
     (grew_on w x y had mid has (map f (take i ids)) (f (get_or ids i d) ∷ []) g h)
 
--- one more turn of a loop over sites
+-- one more turn of a loop over sites, told by what the turns before it left
+pub turn_is : (w x : WorldValue) (f : SchemaValue → ℕ → List Task) (i : ℕ)
+    → x ≡ with_steps w (steps_of_tasks w.schema w.steps (over_sites i (f w.schema)))
+    → steps_of_tasks w.schema w.steps (over_sites i (f w.schema)) ++ steps_of_tasks x.schema x.steps (f x.schema i)
+    ≡ steps_of_tasks w.schema w.steps (over_sites (i + 1) (f w.schema))
+turn_is w x f i world =
+    let done = steps_of_tasks w.schema w.steps (over_sites i (f w.schema)) in
+    let next : steps_of_tasks x.schema x.steps (f x.schema i) ≡ steps_of_tasks w.schema (w.steps ++ done) (f w.schema i) =
+    ap (λ (v : WorldValue). steps_of_tasks v.schema v.steps (f v.schema i)) world in
+    let longer : suc i ≡ i + 1 = omega arith in
+    ap (λ (l : List WorldStep). done ++ l) next
+    ∙ sym (planned_append w.schema w.steps (over_sites i (f w.schema)) (f w.schema i))
+    ∙ ap (λ (n : ℕ). steps_of_tasks w.schema w.steps (over_sites n (f w.schema))) longer
+
 pub grew_over : (w x y : WorldValue) (had mid has : List StepTaken) (f : SchemaValue → ℕ → List Task) (i : ℕ)
     → Grew w had (steps_of_tasks w.schema w.steps (over_sites i (f w.schema))) x mid
     → Grew x mid (steps_of_tasks x.schema x.steps (f x.schema i)) y has
     → Grew w had (steps_of_tasks w.schema w.steps (over_sites (i + 1) (f w.schema))) y has
 grew_over w x y had mid has f i g h =
     let done = steps_of_tasks w.schema w.steps (over_sites i (f w.schema)) in
-    let next : steps_of_tasks x.schema x.steps (f x.schema i) ≡ steps_of_tasks w.schema (w.steps ++ done) (f w.schema i) =
-    ap (λ (v : WorldValue). steps_of_tasks v.schema v.steps (f v.schema i)) g.world in
-    let longer : suc i ≡ i + 1 = omega arith in
     grew_as w y had has (done ++ steps_of_tasks x.schema x.steps (f x.schema i))
-    (steps_of_tasks w.schema w.steps (over_sites (i + 1) (f w.schema)))
-    (ap (λ (l : List WorldStep). done ++ l) next
-    ∙ sym (planned_append w.schema w.steps (over_sites i (f w.schema)) (f w.schema i))
-    ∙ ap (λ (n : ℕ). steps_of_tasks w.schema w.steps (over_sites n (f w.schema))) longer)
+    (steps_of_tasks w.schema w.steps (over_sites (i + 1) (f w.schema))) (turn_is w x f i g.world)
     (grew_on w x y had mid has done (steps_of_tasks x.schema x.steps (f x.schema i)) g h)
 
 -- one task
@@ -127,15 +134,23 @@ grew_task w x had has task g = grew_as w x had has (task (trace_of w)) (steps_of
     (sym (append-nil (task (trace_of w)))) g
 
 -- two tasks, the second told by what the first left
+pub both_are : (w x : WorldValue) (a b : SchemaValue → List Task)
+    → x ≡ with_steps w (steps_of_tasks w.schema w.steps (a w.schema))
+    → steps_of_tasks w.schema w.steps (a w.schema) ++ steps_of_tasks x.schema x.steps (b x.schema)
+    ≡ steps_of_tasks w.schema w.steps (a w.schema ++ b w.schema)
+both_are w x a b world =
+    let done = steps_of_tasks w.schema w.steps (a w.schema) in
+    let next : steps_of_tasks x.schema x.steps (b x.schema) ≡ steps_of_tasks w.schema (w.steps ++ done) (b w.schema) =
+    ap (λ (v : WorldValue). steps_of_tasks v.schema v.steps (b v.schema)) world in
+    ap (λ (l : List WorldStep). done ++ l) next ∙ sym (planned_append w.schema w.steps (a w.schema) (b w.schema))
+
 pub grew_tasks : (w x y : WorldValue) (had mid has : List StepTaken) (a b : SchemaValue → List Task)
     → Grew w had (steps_of_tasks w.schema w.steps (a w.schema)) x mid → Grew x mid (steps_of_tasks x.schema x.steps (b x.schema)) y has
     → Grew w had (steps_of_tasks w.schema w.steps (a w.schema ++ b w.schema)) y has
 grew_tasks w x y had mid has a b g h =
     let done = steps_of_tasks w.schema w.steps (a w.schema) in
-    let next : steps_of_tasks x.schema x.steps (b x.schema) ≡ steps_of_tasks w.schema (w.steps ++ done) (b w.schema) =
-    ap (λ (v : WorldValue). steps_of_tasks v.schema v.steps (b v.schema)) g.world in
     grew_as w y had has (done ++ steps_of_tasks x.schema x.steps (b x.schema)) (steps_of_tasks w.schema w.steps (a w.schema ++ b w.schema))
-    (ap (λ (l : List WorldStep). done ++ l) next ∙ sym (planned_append w.schema w.steps (a w.schema) (b w.schema)))
+    (both_are w x a b g.world)
     (grew_on w x y had mid has done (steps_of_tasks x.schema x.steps (b x.schema)) g h)
 
 -- two tasks of one place

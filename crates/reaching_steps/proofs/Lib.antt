@@ -12,6 +12,7 @@ pub mod Moving
 pub mod Clear
 pub mod Reaching
 pub mod Growing
+pub mod Fronts
 pub mod Few
 pub mod FirstNumber
 pub mod Walking

@@ -1,5 +1,5 @@
 -- What the parts of the body do (this project).
-use Rattle.std.specs.Prelude.{All, ℤ, unsigned_abs, ◌==◌, if◌then◌else◌, ◌≡◌, Bool, ◌||◌, ℕ, nat_lt, List, [], ◌∷◌, ◌++◌, Option, Some, None}
+use Rattle.std.specs.Prelude.{All, ℤ, unsigned_abs, ◌==◌, if◌then◌else◌, ◌≡◌, Bool, ◌||◌, ℕ, nat_lt, List, [], ◌∷◌, ◌++◌, Option, Some, None, Result, Ok, Err}
 use Rattle.field_bounds.specs.declared.id.SiteNo.{SiteNo}
 use Rattle.field_bounds.specs.declared.id.FieldNo.{FieldNo}
 use Rattle.field_bounds.specs.Schema.{SchemaValue}
@@ -12,7 +12,7 @@ use Rattle.field_bounds.specs.Effects.{fresh, cut}
 use Rattle.field_bounds.specs.Owed.{place, interval_at}
 use Rattle.world_steps.specs.declared.step.WorldStep.{WorldStep}
 use Rattle.world_steps.specs.View.{WorldValue}
-use Rattle.reaching_steps.specs.Taken.{steps_of, with_steps, AreAnswered}
+use Rattle.reaching_steps.specs.Taken.{steps_of, with_steps, TookFront, AreAnswered}
 use Rattle.reaching_steps.specs.declared.taken.StepTaken.{StepTaken}
 use Rattle.reaching_steps.specs.declared.fault.ReachFault.{ReachFault}
 use Rattle.reaching_steps.specs.declared.fault.ReachFault.TheVariants.{NotUp, InFlight, Unstated, Tightened, Numbers, Outside, NoMemory}
@@ -30,6 +30,11 @@ pub record Grew (before : WorldValue) (had : List StepTaken) (more : List WorldS
   pub taken : has ≡ had ++ added
   pub steps : steps_of added ≡ more
   pub answered : AreAnswered before added
+
+-- At Ok the trial world and the list have grown by these steps; at want of memory the world has taken a front of them.
+abbrev pub CarriedOut : {A E : Type 0} → Result A E → WorldValue → List StepTaken → List WorldStep → WorldValue → List StepTaken → Type 0
+CarriedOut (Ok done) before had more later has = Grew before had more later has
+CarriedOut (Err fault) before had more later has = TookFront before more later
 
 -- The steps that take a field to the target were taken, and answered so.
 pub record HasReached (w : WorldValue) (site : SiteNo) (field : FieldNo) (target : ℤ) (later : WorldValue) (taken : List StepTaken)

@@ -23,6 +23,5 @@ mod trial;
 pub use fault::ReachFault;
 pub use laws::{no_narrower_interval_is_safe, reach_meets};
 pub use rows::worked_reaches;
-pub use steps::reach;
 pub use taken::StepTaken;
-pub use taking::reach_in;
+pub use taking::{reach, reach_in};

@@ -41,8 +41,7 @@ pub(crate) fn rights_at(
         (at_site trial.now.schema (trace_of trial.now) site.0)) }
     ensures small { IfOk result (λ rights. (rights.0 ≤ max_change) × (rights.1 ≤ max_change)) }
 {
-    let mut other = None;
-    let standing = trial.standing_at(site, field, &mut other)?;
+    let standing = trial.standing_at(site, field)?;
     let (own, free) = rights_of(trial.world().schema(), standing, site, field, kind);
     Ok((own as u64, free as u64))
 }
@@ -88,8 +87,7 @@ pub(crate) fn given_at(
     ensures value { IfOk result (λ total. total ≡ given_between trial.now.schema
         (trace_of trial.now) field.0 kind from.0 to.0) }
 {
-    let mut other = None;
-    let standing = trial.standing_at(from, field, &mut other)?;
+    let standing = trial.standing_at(from, field)?;
     let total = gifts_in(&standing.gifts, Receivers::OneSite(to), field, kind);
     Ok(total as u64)
 }
@@ -106,8 +104,7 @@ pub(crate) fn accepted_at(
     ensures value { IfOk result (λ total. total ≡ accepted_between trial.now.schema
         (trace_of trial.now) field.0 kind from.0 to.0) }
 {
-    let mut other = None;
-    let standing = trial.standing_at(to, field, &mut other)?;
+    let standing = trial.standing_at(to, field)?;
     Ok(accepted_in(&standing.gifts, from, field, kind))
 }
 
@@ -136,8 +133,7 @@ fn moved_at(trial: &Trial, site: SiteNo, field: FieldNo) -> Result<(u128, u128),
     ensures near { IfOk result (λ moved. (moved.0 ≤ 100_000_000_000_000_000_000)
         × (moved.1 ≤ 100_000_000_000_000_000_000)) }
 {
-    let mut other = None;
-    let standing = trial.standing_at(site, field, &mut other)?;
+    let standing = trial.standing_at(site, field)?;
     Ok(apart(standing.raised, standing.lowered))
 }
 
@@ -184,8 +180,7 @@ pub(crate) fn has_cut(
         (cut (fresh trial.now.schema site.0) field.0 kind
         (at_site trial.now.schema (trace_of trial.now) site.0))) }
 {
-    let mut other = None;
-    let standing = trial.standing_at(site, field, &mut other)?;
+    let standing = trial.standing_at(site, field)?;
     Ok(0 < gifts_in(&standing.gifts, Receivers::ForGood, field, kind))
 }
 
@@ -205,8 +200,7 @@ pub(crate) fn guarded_at(
     ensures small { IfOk result (λ rights. rights ≤ max_change) }
 {
     let (own, _) = rights_at(trial, site, field, kind)?;
-    let mut other = None;
-    let standing = trial.standing_at(site, field, &mut other)?;
+    let standing = trial.standing_at(site, field)?;
     let gone = gifts_in(&standing.gifts, Receivers::ForGood, field, kind);
     Ok((gone + u128::from(own)) as u64)
 }

@@ -235,18 +235,8 @@ pub(crate) fn note(
             end(standing, txn);
             Ok(())
         }
-        Effect::Gives {
-            to: _,
-            field: at,
-            kind: _,
-            amount: _,
-        } => push_on(&mut standing.gifts, effect, at, field),
-        Effect::Accepts {
-            from: _,
-            field: at,
-            kind: _,
-            total: _,
-        } => push_on(&mut standing.gifts, effect, at, field),
+        Effect::Gives { field: at, .. } => push_on(&mut standing.gifts, effect, at, field),
+        Effect::Accepts { field: at, .. } => push_on(&mut standing.gifts, effect, at, field),
         Effect::Stops => {
             standing.txns.clear();
             standing.held.clear();

@@ -1,14 +1,12 @@
 //! The steps, tried one after another on a trial.
 
-ghost use Rattle.std.specs.Prelude.{◌≡◌, ◌≢◌, ◌<◌, ◌++◌, [], ◌∷◌, IfOk, IfErr, OnOk, All, None, Some, if◌then◌else◌};
-ghost use Rattle.field_bounds.specs.Central.{own, committed_value};
+ghost use Rattle.std.specs.Prelude.{◌≡◌, ◌≢◌, ◌<◌, [], ◌∷◌, IfOk, IfErr, OnOk, OnErr, All, None, Some, if◌then◌else◌};
 ghost use Rattle.field_bounds.specs.declared.kind.Kind.TheVariants as kinds;
-ghost use Rattle.world_steps.specs.World.{StepFits, statements_issued, trace_by};
+ghost use Rattle.world_steps.specs.World.{StepFits, statements_issued};
 ghost use Rattle.world_steps.specs.View.{trace_of};
-ghost use Rattle.reaching_steps.specs.Reach.{is_wanting, number_of, telling, steps_of_tasks, over_sites, aborts, restates, delivers, passes_on, moves, move_tasks, tasks, reach_steps, reach_fault, IsFine};
-ghost use Rattle.reaching_steps.specs.Body.{Explains, Grew, HasReached, Does, DoesWhereFit};
-ghost use Rattle.reaching_steps.specs.Taken.{steps_of};
-ghost use Rattle.reaching_steps.specs.Tight.{IsUnhindered, LiesWithin};
+ghost use Rattle.reaching_steps.specs.Reach.{is_wanting, number_of, telling, steps_of_tasks, over_sites, aborts, restates, delivers, passes_on, moves, move_tasks, tasks, reach_steps, reach_fault};
+ghost use Rattle.reaching_steps.specs.Body.{Explains, CarriedOut, HasReached, DoesWhereFit};
+ghost use Rattle.reaching_steps.specs.Taken.{steps_of, TookFront};
 ghost use Rattle.reaching_steps.specs.declared.fault.ReachFault.TheVariants.{NoMemory};
 
 use crate::fault::ReachFault;
@@ -16,9 +14,9 @@ use crate::faults::fault_of;
 use crate::readers::{change_at, is_at, next_at, number_wanted, open_at};
 use crate::taken::StepTaken;
 use crate::trial::Trial;
-use field_bounds::{Command, FieldNo, Kind, Schema, SiteNo};
+use field_bounds::{Command, FieldNo, Kind, SiteNo};
 use std::alloc::{AllocError, Global};
-use world_steps::{Luck, World, WorldStep};
+use world_steps::{Luck, WorldStep};
 
 /// One step, taken in the trial and noted with what answered it.
 fn take(
@@ -28,8 +26,8 @@ fn take(
     step: WorldStep,
 ) -> Result<(), AllocError>
     requires fits { StepFits trial.old.schema step }
-    ensures grew { OnOk result (Grew trial.old taken.old.items
-        (step ∷ []) trial.new taken.new.items) }
+    ensures grew { CarriedOut result trial.old taken.old.items
+        (step ∷ []) trial.new taken.new.items }
 {
     let reply = trial.step(alloc, &step)?;
     taken.push(StepTaken { step, reply })?;
@@ -46,8 +44,8 @@ fn ask(
 ) -> Result<(), AllocError>
     requires fits { StepFits trial.old.schema (Rattle.reaching_steps.specs.Reach.fine site.0
         command) }
-    ensures grew { OnOk result (Grew trial.old taken.old.items
-        (Rattle.reaching_steps.specs.Reach.fine site.0 command ∷ []) trial.new taken.new.items) }
+    ensures grew { CarriedOut result trial.old taken.old.items
+        (Rattle.reaching_steps.specs.Reach.fine site.0 command ∷ []) trial.new taken.new.items }
 {
     take(
         alloc,
@@ -70,8 +68,8 @@ fn abort_open(
     site: SiteNo,
 ) -> Result<(), AllocError>
     requires in_schema { site.0 < trial.old.schema.sites }
-    ensures grew { OnOk result (Grew trial.old taken.old.items
-        (aborts trial.old.schema named.0 site.0 (trace_of trial.old)) trial.new taken.new.items) }
+    ensures grew { CarriedOut result trial.old taken.old.items
+        (aborts trial.old.schema named.0 site.0 (trace_of trial.old)) trial.new taken.new.items }
 {
     if site.0 == named.0 {
         return Ok(());
@@ -101,9 +99,8 @@ fn tell_again(
         then Some (number_of (telling trial.old.schema
         (trace_of trial.old) field.0 kind from.0 to.0) (statements_issued (trace_of trial.old)))
         else None) }
-    ensures grew { OnOk result (Grew trial.old taken.old.items
-        (restates trial.old.schema named.0 field.0 from.0 to.0 kind (trace_of trial.old)) trial.new
-        taken.new.items) }
+    ensures grew { CarriedOut result trial.old taken.old.items
+        (restates trial.old.schema named.0 field.0 from.0 to.0 kind (trace_of trial.old)) trial.new taken.new.items }
 {
     if which == 0 {
         ask(
@@ -131,9 +128,8 @@ fn deliver(
 ) -> Result<(), AllocError>
     requires giver { from.0 < trial.old.schema.sites }
     requires receiver { to.0 < trial.old.schema.sites }
-    ensures grew { OnOk result (Grew trial.old taken.old.items
-        (delivers trial.old.schema named.0 field.0 from.0 to.0 kind (trace_of trial.old)) trial.new
-        taken.new.items) }
+    ensures grew { CarriedOut result trial.old taken.old.items
+        (delivers trial.old.schema named.0 field.0 from.0 to.0 kind (trace_of trial.old)) trial.new taken.new.items }
 {
     let wanted = number_wanted(trial, named, field, from, to, kind)?;
     match wanted {
@@ -163,11 +159,10 @@ fn pass_on(
 ) -> Result<(), AllocError>
     requires giver { from.0 < trial.old.schema.sites }
     requires receiver { to.0 < trial.old.schema.sites }
-    ensures grew { OnOk result (Grew trial.old taken.old.items
+    ensures grew { CarriedOut result trial.old taken.old.items
         (steps_of_tasks trial.old.schema trial.old.steps
         (restates trial.old.schema named.0 field.0 from.0 to.0 kind
-        ∷ delivers trial.old.schema named.0 field.0 from.0 to.0 kind ∷ []))
-        trial.new taken.new.items) }
+        ∷ delivers trial.old.schema named.0 field.0 from.0 to.0 kind ∷ [])) trial.new taken.new.items }
 {
     let wanted = number_wanted(trial, named, field, from, to, kind)?;
     match wanted {
@@ -190,9 +185,8 @@ fn move_field(
     site: SiteNo,
 ) -> Result<(), AllocError>
     requires in_schema { site.0 < trial.old.schema.sites }
-    ensures grew { OnOk result (Grew trial.old taken.old.items
-        (moves trial.old.schema named.0 field.0 target site.0 (trace_of trial.old)) trial.new
-        taken.new.items) }
+    ensures grew { CarriedOut result trial.old taken.old.items
+        (moves trial.old.schema named.0 field.0 target site.0 (trace_of trial.old)) trial.new taken.new.items }
 {
     if site.0 == named.0 {
         return Ok(());
@@ -224,10 +218,9 @@ fn abort_all(
     sites: u16,
 ) -> Result<(), AllocError>
     requires all { sites ≡ trial.old.schema.sites }
-    ensures grew { OnOk result (Grew trial.old taken.old.items
+    ensures grew { CarriedOut result trial.old taken.old.items
         (steps_of_tasks trial.old.schema trial.old.steps
-        (over_sites sites (λ s. aborts trial.old.schema named.0 s ∷ []))) trial.new
-        taken.new.items) }
+        (over_sites sites (λ s. aborts trial.old.schema named.0 s ∷ []))) trial.new taken.new.items }
 {
     for s in 0..sites {
         abort_open(alloc, trial, taken, named, SiteNo(s))?;
@@ -247,10 +240,9 @@ fn pass_from(
 ) -> Result<(), AllocError>
     requires in_schema { from.0 < trial.old.schema.sites }
     requires all { sites ≡ trial.old.schema.sites }
-    ensures grew { OnOk result (Grew trial.old taken.old.items
+    ensures grew { CarriedOut result trial.old taken.old.items
         (steps_of_tasks trial.old.schema trial.old.steps
-        (over_sites sites (λ to. passes_on trial.old.schema named.0 field.0 from.0 to)))
-        trial.new taken.new.items) }
+        (over_sites sites (λ to. passes_on trial.old.schema named.0 field.0 from.0 to))) trial.new taken.new.items }
 {
     for to in 0..sites {
         pass_on(
@@ -287,11 +279,10 @@ fn pass_all(
     sites: u16,
 ) -> Result<(), AllocError>
     requires all { sites ≡ trial.old.schema.sites }
-    ensures grew { OnOk result (Grew trial.old taken.old.items
+    ensures grew { CarriedOut result trial.old taken.old.items
         (steps_of_tasks trial.old.schema trial.old.steps
         (over_sites sites (λ from. over_sites sites
-        (λ to. passes_on trial.old.schema named.0 field.0 from to)))) trial.new
-        taken.new.items) }
+        (λ to. passes_on trial.old.schema named.0 field.0 from to)))) trial.new taken.new.items }
 {
     for from in 0..sites {
         pass_from(alloc, trial, taken, named, field, sites, SiteNo(from))?;
@@ -310,9 +301,9 @@ fn move_all(
     sites: u16,
 ) -> Result<(), AllocError>
     requires all { sites ≡ trial.old.schema.sites }
-    ensures grew { OnOk result (Grew trial.old taken.old.items
+    ensures grew { CarriedOut result trial.old taken.old.items
         (steps_of_tasks trial.old.schema trial.old.steps
-        (move_tasks trial.old.schema named.0 field.0 target sites)) trial.new taken.new.items) }
+        (move_tasks trial.old.schema named.0 field.0 target sites)) trial.new taken.new.items }
 {
     for s in 0..sites {
         move_field(alloc, trial, taken, named, field, target, SiteNo(s))?;
@@ -332,6 +323,8 @@ fn plan(
     requires all { sites ≡ trial.old.schema.sites }
     ensures reached { IfOk result (λ taken. HasReached trial.old named field target trial.new
         taken.items) }
+    ensures front { OnErr result (TookFront trial.old
+        (reach_steps trial.old.schema trial.old.steps named field target) trial.new) }
 {
     let mut taken = Vec::new(alloc);
     let there = is_at(trial, field, target)?;
@@ -355,6 +348,8 @@ fn plan_clear(
     requires clear { reach_fault trial.old.schema (trace_of trial.old) named field target ≡ None }
     ensures reached { IfOk result (λ taken. HasReached trial.old named field target trial.new
         taken.items) }
+    ensures front { OnErr result (TookFront trial.old
+        (reach_steps trial.old.schema trial.old.steps named field target) trial.new) }
     ensures does { IfOk result (λ taken. DoesWhereFit trial.old named field target
         (steps_of taken.items)) }
 {
@@ -363,7 +358,7 @@ fn plan_clear(
 }
 
 /// The steps, told and taken on a trial in which no other step was tried yet, or the first fault,
-/// at which none was taken.
+/// at which none was taken, or want of memory, at which a front of them may have been.
 pub(crate) fn reach_on(
     alloc: Global,
     trial: &mut Trial,
@@ -380,6 +375,8 @@ pub(crate) fn reach_on(
     ensures does { IfOk result (λ taken. DoesWhereFit trial.old site field target
         (steps_of taken.items)) }
     ensures same { IfErr result (λ fault. fault ≢ NoMemory → trial.new ≡ trial.old) }
+    ensures front { OnErr result (TookFront trial.old
+        (reach_steps trial.old.schema trial.old.steps site field target) trial.new) }
 {
     let Ok(found) = fault_of(trial, site, field, target) else {
         return Err(ReachFault::NoMemory);
@@ -391,64 +388,4 @@ pub(crate) fn reach_on(
             Err(_) => Err(ReachFault::NoMemory),
         },
     }
-}
-
-/// The steps alone.
-fn steps_alone(alloc: Global, taken: &[StepTaken]) -> Result<Vec<WorldStep>, AllocError>
-    ensures steps { IfOk result (λ steps. steps.items ≡ steps_of taken.now) }
-{
-    let mut steps = Vec::new(alloc);
-    for one in taken {
-        steps.push(one.step)?;
-    }
-    Ok(steps)
-}
-
-/// The steps at other sites after which the committed value of a field is the target: told by the
-/// steps that a world has taken, all with luck that is fine (`steps`). First the open transactions
-/// of the other sites are aborted, in order of site and begin; then what the sites gave each other
-/// on the field is taken in, told again where its statement was never issued; last, each site but
-/// the named one moves the field as far towards the target as its share lets it. Where the target
-/// is the committed value there are no steps.
-///
-/// The fault is the first that holds, in the order of `ReachFault`, or want of memory (`fault`),
-/// and where there are steps none holds (`clear`).
-///
-/// Taken after the world's own steps, they leave the named site as it is, and the target is the
-/// committed value (`does`). Where no fault but Outside stands in the way, every value from lo to hi
-/// of the interval that the named site reads is such a target, unless memory is wanting (`tight`):
-/// so an interval that leaves one out would be wrong in some run.
-///
-/// The site is tried on a world of its own. Costs taking the world's steps once more, reading the
-/// trace once, and once more for each site that moves the field; while it is read, for each grant,
-/// commit and abort a look through the open transactions of its site, 64 at most, and for each spare
-/// of the field in doubt that was kept, for each site what was given and accepted on the field at the
-/// sparing one before it; for each two sites, what both gave and accepted on the field; and for each
-/// statement that is looked for all that were issued.
-pub fn reach(
-    alloc: Global,
-    world: &World,
-    site: SiteNo,
-    field: FieldNo,
-    target: i64,
-) -> Result<Vec<WorldStep>, ReachFault>
-    ensures clear { OnOk result (reach_fault world.now.schema (trace_of world.now) site field target
-        ≡ None) }
-    ensures fault { IfErr result (λ fault. Explains fault
-        (reach_fault world.now.schema (trace_of world.now) site field target)) }
-    ensures steps { IfOk result (λ taken. taken.items
-        ≡ reach_steps world.now.schema world.now.steps site field target) }
-    ensures does { IfOk result (λ taken. Does world.now site field target taken.items) }
-    ensures tight { IfErr result (λ fault. IsUnhindered world.now.schema (trace_of world.now)
-        site field → LiesWithin world.now.schema (trace_of world.now) site field target
-        → fault ≡ NoMemory) }
-{
-    let Ok(mut trial) = Trial::new(alloc, world, field) else {
-        return Err(ReachFault::NoMemory);
-    };
-    let taken = reach_on(alloc, &mut trial, site, field, target)?;
-    let Ok(steps) = steps_alone(alloc, &taken) else {
-        return Err(ReachFault::NoMemory);
-    };
-    Ok(steps)
 }

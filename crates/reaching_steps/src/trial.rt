@@ -1,28 +1,26 @@
 //! A world on which steps are tried.
 
-ghost use Rattle.std.specs.Prelude.{◌≡◌, ◌<◌, ◌++◌, [], ◌∷◌, All, IfOk, OnOk, reverse};
+ghost use Rattle.std.specs.Prelude.{◌≡◌, ◌<◌, ◌++◌, [], ◌∷◌, IfOk, OnOk, OnErr, reverse};
 ghost use Rattle.field_bounds.specs.Effects.{open_txns};
 ghost use Rattle.reaching_steps.specs.Standing.{Tells};
 ghost use Rattle.field_bounds.specs.Limits.{IsSchema};
 ghost use Rattle.field_bounds.specs.Central.{at_site, IsSound};
 ghost use Rattle.world_steps.specs.World.{StepFits};
 ghost use Rattle.world_steps.specs.View.{trace_of, Answers};
+ghost use Rattle.reaching_steps.specs.Taken.{TookFront};
 ghost use Rattle.reaching_steps.specs.Told.{IsToldBy};
 
-use crate::site_effects::standing_at;
-use crate::site_table::{renew, table_of};
+use crate::site_table::renew;
 use crate::standing::Standing;
-use field_bounds::{FieldNo, Schema, SiteNo, TxnId};
+use field_bounds::{FieldNo, SiteNo, TxnId};
 use std::alloc::{AllocError, Global};
 use std::marker::Model;
 use world_steps::{StepReply, World, WorldStep};
 
-/// A world of its own, in which the steps are tried that a world is to be told, with a table of
-/// where each site stands on one field: the trace is read once for all that is asked of it. Where
-/// want of memory came between a step and the table, the table is read no more.
+/// A world, with a table of where each site stands on one field: the trace is read once for all that
+/// is asked of it. Where want of memory came between a step and the table, the table is read no more.
 #[derive(Drop)]
 pub(crate) struct Trial {
-    alloc: Global,
     world: World,
     field: FieldNo,
     told: Vec<Standing>,
@@ -40,46 +38,13 @@ impl Model for Trial {
     ghost invariant = { λ t. IsTrial t.world t.field.0 t.told.items t.is_whole };
 }
 
-/// A world of a schema in which these steps were taken. The error is want of memory.
-fn replay(alloc: Global, schema: &Schema, steps: &[WorldStep]) -> Result<World, AllocError>
-    requires fit { All (StepFits schema.now) steps.now }
-    ensures taken { IfOk result (λ replayed. replayed ≡ record {
-      schema = schema.now;
-      steps = steps.now;
-    }) }
-{
-    let mut replayed = World::new(alloc, schema.copy()?)?;
-    for step in steps {
-        replayed.step(alloc, step)?;
-    }
-    Ok(replayed)
-}
-
 impl Trial {
-    /// The trial of a world, in which no other step was tried yet. The error is want of memory.
-    pub(crate) fn new(alloc: Global, world: &World, field: FieldNo) -> Result<Trial, AllocError>
-        ensures same { IfOk result (λ trial. trial ≡ world.now) }
-        ensures fit { All (StepFits world.now.schema) world.now.steps }
-    {
-        let steps = world.steps(alloc)?;
-        let replayed = replay(alloc, world.schema(), &steps)?;
-        let told = table_of(alloc, &replayed, field)?;
-        Ok(Trial {
-            alloc,
-            world: replayed,
-            field,
-            told,
-            is_whole: true,
-        })
-    }
-
-    /// The trial on a world itself, by its table.
-    pub(crate) fn of(alloc: Global, world: World, told: Vec<Standing>, field: FieldNo) -> Trial
+    /// The trial on a world, in which no other step was tried yet, by its table.
+    pub(crate) fn of(world: World, told: Vec<Standing>, field: FieldNo) -> Trial
         requires told { IsToldBy world field.0 told.items }
         ensures same { result ≡ world }
     {
         Trial {
-            alloc,
             world,
             field,
             told,
@@ -94,7 +59,8 @@ impl Trial {
         self.world
     }
 
-    /// Tries one step: what it made. The error is want of memory.
+    /// Tries one step: what it made. The error is want of memory, and the step may have been taken
+    /// then.
     pub(crate) fn step(&mut self, alloc: Global, step: &WorldStep) -> Result<StepReply, AllocError>
         requires fits { StepFits self.old.schema step.now }
         ensures steps { OnOk result (self.new ≡ record self.old {
@@ -102,6 +68,7 @@ impl Trial {
               self.old.steps ++ step.now ∷ [];
         }) }
         ensures answers { IfOk result (λ reply. Answers reply self.old step.now self.new) }
+        ensures front { OnErr result (TookFront self.old (step.now ∷ []) self.new) }
     {
         let was_whole = self.is_whole;
         self.is_whole = false;
@@ -132,15 +99,9 @@ impl Trial {
         Ok(&self.told[usize::from(site.0)].txns)
     }
 
-    /// Where a site stands on a field: the table tells it of the field that the trial is of, at the
-    /// cost of a look; on another the trace is read, and what it tells is put into `other`. The
-    /// error is want of memory, here or in an earlier step.
-    pub(crate) fn standing_at<'a>(
-        &'a self,
-        site: SiteNo,
-        field: FieldNo,
-        other: &'a mut Option<Standing>,
-    ) -> Result<&'a Standing, AllocError>
+    /// Where a site stands on the field that the trial is of, at the cost of a look. The error tells
+    /// that the table doesn't know: memory was wanting in an earlier step, or the field is another.
+    pub(crate) fn standing_at(&self, site: SiteNo, field: FieldNo) -> Result<&Standing, AllocError>
         requires in_schema { site.0 < self.now.schema.sites }
         ensures value { IfOk result (λ told. Tells field.0 told.now
             (at_site self.now.schema (trace_of self.now) site.0)) }
@@ -154,8 +115,7 @@ impl Trial {
         }
         let known = self.field;
         if known.0 != field.0 {
-            let read = standing_at(self.alloc, &self.world, site, field)?;
-            return Ok(other.insert(read));
+            return Err(AllocError);
         }
         Ok(&self.told[usize::from(site.0)])
     }

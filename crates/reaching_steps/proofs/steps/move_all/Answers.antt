@@ -1,5 +1,7 @@
 use Rattle.std.proofs.Math.Facts.{to_z-of_z}
 use Rattle.reaching_steps.proofs.Growing.{moves_start, moves_on}
+use Rattle.std.proofs.Common.{rules}
+use Rattle.reaching_steps.proofs.Fronts.{moves_front}
 use Rattle.reaching_steps.proofs.steps.move_all.Goals as goal
 
 pub loop-s-init : goal.loop-s-init
@@ -14,3 +16,12 @@ loop-s-preserved c =
     let did = rw same at c.in_ok-move_field.ensures.grew in
     rw same (moves_on c.args.trial.now c.loop-s.trial c.move_field.new.trial _ _ _ c.args.named.0 c.args.field.0 c.args.target c.loop-s.s
     before did)
+
+pub returns-in_err-move_field : goal.returns-in_err-move_field
+returns-in_err-move_field c =
+    let same = to_z-of_z c.ranges.target in
+    let before = rw same at c.loop-s.invariant in
+    let did = rw same at c.in_err-move_field.ensures.grew in
+    let t = rw same (moves_front c.args.trial.now c.loop-s.trial c.move_field.new.trial _ _ c.args.named.0 c.args.field.0 c.args.target
+    c.loop-s.s c.args.sites c.loop-s-test.true before did) in
+    search (rules, t)

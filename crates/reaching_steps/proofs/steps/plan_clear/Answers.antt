@@ -1,11 +1,12 @@
 use Rattle.std.proofs.Common.{◌∙◌, ap, subst}
-use Rattle.std.specs.Prelude.{IfOk, ℤ}
+use Rattle.std.specs.Prelude.{IfOk, OnErr, ℤ}
 use Rattle.std.proofs.Math.Facts.{to_z-of_z}
 use Rattle.field_bounds.specs.Schema.{SchemaValue}
 use Rattle.field_bounds.specs.Limits.{IsSchema}
 use Rattle.world_steps.specs.View.{WorldValue}
 use Rattle.reaching_steps.specs.Body.{HasReached, DoesWhereFit}
-use Rattle.reaching_steps.specs.Taken.{steps_of}
+use Rattle.reaching_steps.specs.Reach.{reach_steps}
+use Rattle.reaching_steps.specs.Taken.{steps_of, TookFront}
 use Rattle.reaching_steps.proofs.Firsts.{if_ok}
 use Rattle.reaching_steps.proofs.Growing.{does}
 use Rattle.reaching_steps.proofs.steps.plan_clear.Goals as goal
@@ -24,4 +25,6 @@ returns c =
           (λ taken. DoesWhereFit w c.args.named c.args.field c.args.target (steps_of taken.items))
           (λ taken is fit. does w c.args.named c.args.field c.args.target (steps_of taken.items) good fit c.requires.clear is.steps)
           reached;
+      front = subst (λ (z : ℤ). OnErr c.plan.result (TookFront w (reach_steps w.schema w.steps c.args.named c.args.field z) c.plan.new.trial))
+          same c.plan.ensures.front;
     }

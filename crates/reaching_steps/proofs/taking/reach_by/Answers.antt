@@ -1,10 +1,10 @@
 use Rattle.std.proofs.Common.{◌≡◌, ◌≢◌, ◌∙◌, sym, subst}
 use Rattle.std.proofs.Math.Facts.{to_z-of_z}
-use Rattle.std.specs.Prelude.{IfOk, IfErr, ℤ}
+use Rattle.std.specs.Prelude.{IfOk, IfErr, OnErr, ℤ}
 use Rattle.world_steps.specs.View.{WorldValue, trace_of}
-use Rattle.reaching_steps.specs.Reach.{reach_fault}
+use Rattle.reaching_steps.specs.Reach.{reach_fault, reach_steps}
 use Rattle.reaching_steps.specs.Body.{Explains, HasReached, DoesWhereFit}
-use Rattle.reaching_steps.specs.Taken.{steps_of}
+use Rattle.reaching_steps.specs.Taken.{steps_of, TookFront}
 use Rattle.reaching_steps.specs.declared.fault.ReachFault.TheVariants.{NoMemory}
 use Rattle.reaching_steps.proofs.taking.reach_by.Goals as goal
 
@@ -50,3 +50,16 @@ returns-clause-same c =
     c.reach_on-result.ensures.same in
     subst (λ (x : WorldValue). IfErr r (λ fault. fault ≢ NoMemory → c.into_world.result ≡ x))
     (c.of-trial.ensures.same ∙ c.replace.ensures.value) back
+
+pub returns-clause-front : goal.returns-clause-front
+returns-clause-front c =
+    let r = c.reach_on-result.result in
+    let t = c.of-trial.result in
+    let s = c.args.site in
+    let f = c.args.field in
+    let front = subst (λ (z : ℤ). OnErr r (TookFront t (reach_steps t.schema t.steps s f z) c.reach_on-result.new.trial))
+    (to_z-of_z c.ranges.target) c.reach_on-result.ensures.front in
+    let there = subst (λ (y : WorldValue). OnErr r (TookFront t (reach_steps t.schema t.steps s f c.args.target) y))
+    (sym c.into_world.ensures.same) front in
+    subst (λ (x : WorldValue). OnErr r (TookFront x (reach_steps x.schema x.steps s f c.args.target) c.into_world.result))
+    (c.of-trial.ensures.same ∙ c.replace.ensures.value) there

@@ -3,10 +3,7 @@ use Rattle.std.proofs.lemmas.List.{length-reverse}
 use Rattle.field_bounds.specs.declared.entry.Entry.{Entry}
 use Rattle.field_bounds.specs.Central.{at_site}
 use Rattle.world_steps.specs.View.{WorldValue, trace_of}
-use Rattle.reaching_steps.specs.declared.standing.Standing.{Standing}
-use Rattle.reaching_steps.specs.Standing.{Stands, Tells}
-use Rattle.reaching_steps.proofs.Reading.{site_few}
-use Rattle.reaching_steps.proofs.Standings.{told_so}
+use Rattle.reaching_steps.specs.Standing.{Tells}
 use Rattle.reaching_steps.proofs.Table.{told_of}
 use Rattle.reaching_steps.proofs.trial.Trial.standing_at.Goals as goal
 
@@ -22,18 +19,3 @@ returns-clause-value c =
     (told_of w c.self.inside.world c.self.inside.field.0 c.self.inside.told.items c.self.inside.is_whole c.args.site.0
     c.from.result c.index.result.now (sym c.self.view_is) c.self.invariant
     c.if-not-self.false c.requires.in_schema c.from.ensures c.index.ensures few)
-
-pub returns-then-known-field-clause-value : goal.returns-then-known-field-clause-value
-returns-then-known-field-clause-value c =
-    let w = c.args.self.now in
-    let short : length c.trace-trace.result.now ≤ 18446744073709551615 = search rules in
-    let few : length (trace_of w) ≤ 18446744073709551615 =
-    subst (λ (x : WorldValue). length (trace_of x) ≤ 18446744073709551615) c.self.view_is
-    (subst (λ (l : List Entry). length l ≤ 18446744073709551615) c.trace-trace.ensures.world
-    (omega (arith, short, length-reverse c.trace-trace.result.now))) in
-    let read : Stands c.args.field.0 c.in_ok-read.read (at_site w.schema (trace_of w) c.args.site.0) =
-    subst (λ (x : WorldValue). Stands c.args.field.0 c.in_ok-read.read (at_site x.schema (trace_of x) c.args.site.0)) c.self.view_is
-    c.in_ok-read.ensures.value in
-    subst (λ (x : Standing). Tells c.args.field.0 x (at_site w.schema (trace_of w) c.args.site.0)) (sym c.insert.ensures.value)
-    (told_so c.args.field.0 c.in_ok-read.read (at_site w.schema (trace_of w) c.args.site.0) read
-    (omega (arith, few, site_few w.schema c.args.site.0 (trace_of w))))

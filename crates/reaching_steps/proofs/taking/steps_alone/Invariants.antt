@@ -1,6 +1,6 @@
 use Rattle.std.proofs.Common.{◌≡◌, take}
 use Rattle.reaching_steps.specs.Taken.{steps_of}
-use Rattle.reaching_steps.proofs.steps.steps_alone.Given as goal
+use Rattle.reaching_steps.proofs.taking.steps_alone.Given as goal
 
 abbrev pub invariant-loop-one : goal.invariant-loop-one
 invariant-loop-one l = l.steps.items ≡ steps_of (take l.one-index l.taken)
