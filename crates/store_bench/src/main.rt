@@ -3,8 +3,8 @@
 //!
 //! The arguments are the job, `runs`, `restarts`, `reaches`, `held_reaches`, `audits`, `starts`,
 //! `serves` or `all`, the seed, and how many lines the job has, or transactions for `starts`; and how
-//! many times over `reaches` takes inputs, once where nothing is said. It writes the name of each job and the
-//! digest of all that the calls answered.
+//! many times over `reaches` takes inputs, once where nothing is said. It writes the name of each job
+//! and the digest of all that the calls answered.
 #![tactic(auto)]
 
 mod dice;
