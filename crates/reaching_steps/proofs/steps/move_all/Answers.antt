@@ -22,6 +22,6 @@ returns-in_err-move_field c =
     let same = to_z-of_z c.ranges.target in
     let before = rw same at c.loop-s.invariant in
     let did = rw same at c.in_err-move_field.ensures.grew in
-    let t = rw same (moves_front c.args.trial.now c.loop-s.trial c.move_field.new.trial _ _ c.args.named.0 c.args.field.0 c.args.target
-    c.loop-s.s c.args.sites c.loop-s-test.true before did) in
+    let t = moves_front c.args.trial.now c.loop-s.trial c.move_field.new.trial _ _ c.args.named.0 c.args.field.0 c.args.target
+    c.loop-s.s c.args.sites c.loop-s-test.true before did in
     search (rules, t)

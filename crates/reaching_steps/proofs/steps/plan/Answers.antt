@@ -15,6 +15,7 @@ returns c =
           c.abort_all.new.taken.items c.pass_all.new.taken.items c.move_all.new.taken.items
           c.args.named.0 c.args.field.0 c.args.target c.args.sites c.requires.all c.new-taken.ensures.items (sym there ∙ c.if-there.false)
           c.in_ok-abort_all.ensures.grew c.in_ok-pass_all.ensures.grew last;
+      front = tt;
     }
 
 pub returns-then-there : goal.returns-then-there
@@ -24,6 +25,7 @@ returns-then-there c =
     record {
       reached = planned_none c.args.trial.now c.new-taken.result.items c.args.named c.args.field c.args.target c.new-taken.ensures.items
           (sym there ∙ c.if-there.true);
+      front = tt;
     }
 
 pub returns-in_err-there-clause-front : goal.returns-in_err-there-clause-front
@@ -34,14 +36,16 @@ returns-in_err-there-clause-front c =
 
 pub returns-in_err-abort_all-clause-front : goal.returns-in_err-abort_all-clause-front
 returns-in_err-abort_all-clause-front c =
-    let there = rw to_z-of_z c.ranges.target at c.in_ok-there.ensures.value in
+    let same = to_z-of_z c.ranges.target in
+    let there = rw same at c.in_ok-there.ensures.value in
     let t = front_of_aborts c.args.trial.now c.args.named.0 c.args.field.0 c.args.target c.args.sites c.requires.all
     (sym there ∙ c.if-there.false) c.abort_all.new.trial c.in_err-abort_all.ensures.grew in
     search (rules, t)
 
 pub returns-in_err-pass_all-clause-front : goal.returns-in_err-pass_all-clause-front
 returns-in_err-pass_all-clause-front c =
-    let there = rw to_z-of_z c.ranges.target at c.in_ok-there.ensures.value in
+    let same = to_z-of_z c.ranges.target in
+    let there = rw same at c.in_ok-there.ensures.value in
     let t = front_of_passing c.args.trial.now c.args.named.0 c.args.field.0 c.args.target c.args.sites c.requires.all
     (sym there ∙ c.if-there.false) c.abort_all.new.trial c.pass_all.new.trial c.new-taken.result.items c.abort_all.new.taken.items
     c.in_ok-abort_all.ensures.grew c.in_err-pass_all.ensures.grew in
@@ -49,8 +53,9 @@ returns-in_err-pass_all-clause-front c =
 
 pub returns-in_err-move_all-clause-front : goal.returns-in_err-move_all-clause-front
 returns-in_err-move_all-clause-front c =
-    let there = rw to_z-of_z c.ranges.target at c.in_ok-there.ensures.value in
-    let last = rw to_z-of_z c.ranges.target at c.in_err-move_all.ensures.grew in
+    let same = to_z-of_z c.ranges.target in
+    let there = rw same at c.in_ok-there.ensures.value in
+    let last = rw same at c.in_err-move_all.ensures.grew in
     let t = front_of_moves c.args.trial.now c.args.named.0 c.args.field.0 c.args.target c.args.sites c.requires.all
     (sym there ∙ c.if-there.false) c.abort_all.new.trial c.pass_all.new.trial c.move_all.new.trial c.new-taken.result.items
     c.abort_all.new.taken.items c.pass_all.new.taken.items c.in_ok-abort_all.ensures.grew c.in_ok-pass_all.ensures.grew last in

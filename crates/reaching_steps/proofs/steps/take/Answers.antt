@@ -4,5 +4,5 @@ use Rattle.reaching_steps.proofs.steps.take.Goals as goal
 
 pub returns-in_err-push : goal.returns-in_err-push
 returns-in_err-push c =
-    let t = took_all c.args.trial.now c.step-reply.new.self (c.args.step ∷ []) c.in_ok-reply.ensures.steps in
+    let t = took_all c.args.trial.now c.step.new.self (c.args.step ∷ []) c.in_ok-reply.ensures.steps in
     search (rules, t)
