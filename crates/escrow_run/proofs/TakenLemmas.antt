@@ -1,18 +1,24 @@
 -- What answers steps that were taken, told after the last of them.
-use Rattle.std.proofs.Common.{◌≡◌, ℕ, ◌+◌, ◌<◌, List, [], ◌∷◌, ◌++◌, length, take, drop, get_or, None, refl, sym, ap, subst, ◌∙◌, codes}
+use Rattle.std.proofs.Common.{◌≡◌, All, ℕ, ◌+◌, ◌<◌, List, [], ◌∷◌, ◌++◌, length, take, drop, get_or, None, refl, sym, ap, subst, ◌∙◌, codes}
 use Rattle.std.specs.Fmt.{decimal}
 use Rattle.std.proofs.lemmas.List.{take-append-drop, map_more, length-map}
+use Rattle.std.proofs.lemmas.List.Elements.{All-nil, All-cons}
 use Rattle.entry_text.proofs.Fronts.{front_still_kept}
 use Rattle.field_bounds.specs.Schema.{SchemaValue}
+use Rattle.field_bounds.specs.declared.id.SiteNo.{SiteNo}
+use Rattle.field_bounds.specs.declared.entry.Command.{Command}
+use Rattle.kept_state.specs.declared.luck.Luck.{Luck}
 use Rattle.world_steps.specs.declared.step.WorldStep.{WorldStep}
-use Rattle.world_steps.specs.View.{WorldValue, trace_of}
+use Rattle.world_steps.specs.declared.step.WorldStep.TheVariants.{Do}
+use Rattle.world_steps.specs.declared.step.StepReply.TheVariants.{NoStatement}
+use Rattle.world_steps.specs.View.{WorldValue, trace_of, Answers}
 use Rattle.reaching_steps.specs.declared.taken.StepTaken.{StepTaken}
 use Rattle.reaching_steps.specs.Taken.{steps_of, with_steps, AreAnswered}
 use Rattle.reaching_steps.specs.Reach.{reach_steps, reach_fault}
 use Rattle.reaching_steps.proofs.Growing.{with_both, answered_at}
 use Rattle.escrow_run.specs.declared.aim.Aim.{Aim}
 use Rattle.escrow_run.specs.Text.{line_text, Aims}
-use Rattle.escrow_run.specs.Run.{Answered, HasTaken, Tells}
+use Rattle.escrow_run.specs.Run.{Answered, HasTaken, IsAnswered, Tells}
 use Rattle.escrow_run.proofs.AimLemmas.{asks_reach}
 use Rattle.escrow_run.proofs.AnswerLemmas.{answered_many, took_more}
 
@@ -37,6 +43,20 @@ tells_more schema taken i d out between grown below before one = λ old same ans
     subst (λ (l : List WorldStep). HasTaken l old (with_steps old l) out grown) (sym all)
     (subst (λ (w : WorldValue). HasTaken (front ++ step ∷ []) old w out grown) (with_both old front (step ∷ []))
     (took_more front step old middle (with_steps middle (step ∷ [])) out between grown (before old same answered) last))
+
+-- ---- that some world answered them
+
+pub all_answered : (w : WorldValue) (taken : List StepTaken) → AreAnswered w taken → All IsAnswered taken
+all_answered w [] h = All-nil IsAnswered
+all_answered w (one ∷ later) h =
+    All-cons IsAnswered one later (w, (with_steps w (one.step ∷ []), h.0)) (all_answered (with_steps w (one.step ∷ [])) later h.1)
+
+-- a site that is asked makes an entry
+pub always_made : (one : StepTaken) (site : SiteNo) (command : Command) (luck : Luck) → IsAnswered one → one.reply ≡ NoStatement
+    → one.step ≡ Do site command luck → ⊥
+always_made one site command luck h none is =
+    let by : Answers NoStatement h.0 (Do site command luck) h.1.0 = rw (none, is) at h.1.1 in
+    cc by.0
 
 -- ---- what stands in front
 

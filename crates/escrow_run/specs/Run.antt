@@ -9,7 +9,7 @@ use Rattle.script_input.specs.declared.streams.End.{End}
 use Rattle.entry_text.specs.Lines.{max_line}
 use Rattle.escrow_run.specs.Text.{AreReplies, IsAnswer, HasText, IsTextOf}
 use Rattle.world_steps.specs.declared.step.WorldStep.{WorldStep}
-use Rattle.world_steps.specs.View.{WorldValue}
+use Rattle.world_steps.specs.View.{WorldValue, Answers as AnswersStep}
 use Rattle.reaching_steps.specs.declared.taken.StepTaken.{StepTaken}
 use Rattle.reaching_steps.specs.Taken.{steps_of, with_steps, AreAnswered}
 use Rattle.script_input.specs.Lines.{whole_lines, script_lines}
@@ -31,6 +31,10 @@ pub record HasTaken (steps : List WorldStep) (old new : WorldValue) (out grown :
   pub taken : new ≡ record old { steps = old.steps ++ steps }
   pub answered : AreReplies old.schema (reverse old.steps) (reverse steps) replies
   pub written : grown ≡ out ++ replies
+
+-- Some world answered a step so.
+abbrev pub IsAnswered : StepTaken → Type 0
+IsAnswered one = (old : WorldValue) × ((new : WorldValue) × AnswersStep one.reply old one.step new)
 
 -- What is to be written has grown by what answers steps, by whatever world of the schema they were taken and answered so.
 abbrev pub Tells : SchemaValue → List StepTaken → List ℕ → List ℕ → Type 0

@@ -4,7 +4,7 @@ ghost use Rattle.std.specs.Prelude.{◌≡◌, [], ◌∷◌, ◌++◌, length, 
 ghost use Rattle.std.specs.Fmt.{decimal};
 ghost use Rattle.entry_text.specs.Spelling.{command_text, entry_text};
 ghost use Rattle.escrow_run.specs.Text.{line_text};
-ghost use Rattle.escrow_run.specs.Run.{Tells};
+ghost use Rattle.escrow_run.specs.Run.{IsAnswered, Tells};
 
 use crate::aim::{Aim, reason};
 use crate::level::{Level, gifts};
@@ -93,6 +93,7 @@ fn add_answered(
 
 // Adds what answered a step that was taken: the text of its entry, or the remark.
 fn add_reply(out: &mut Vec<u8>, schema: &Schema, one: &StepTaken) -> Result<(), AllocError>
+    requires answered { IsAnswered one.now }
     ensures ok { OnOk result (Tells schema.now (one.now ∷ []) out.old.items out.new.items) }
     ensures grows { OnOk result (take (length out.old.items) out.new.items ≡ out.old.items) }
     ensures err { OnErr result (take (length out.old.items) out.new.items ≡ out.old.items) }
@@ -100,7 +101,7 @@ fn add_reply(out: &mut Vec<u8>, schema: &Schema, one: &StepTaken) -> Result<(), 
     match one.reply {
         StepReply::Made(entry) => add_made(out, schema, entry),
         StepReply::NoStatement => match one.step {
-            WorldStep::Do { .. } => Ok(()),
+            WorldStep::Do { .. } => unreachable!(),
             WorldStep::Deliver { k, .. } => add_remark(out, k),
         },
     }
@@ -108,6 +109,7 @@ fn add_reply(out: &mut Vec<u8>, schema: &Schema, one: &StepTaken) -> Result<(), 
 
 // Adds what answered steps that were taken, one after another.
 fn add_replies(out: &mut Vec<u8>, schema: &Schema, taken: &[StepTaken]) -> Result<(), AllocError>
+    requires answered { All IsAnswered taken.now }
     ensures ok { OnOk result (Tells schema.now taken.now out.old.items out.new.items) }
     ensures err { OnErr result (take (length out.old.items) out.new.items ≡ out.old.items) }
 {
@@ -124,6 +126,7 @@ fn add_taken(
     line: &[u8],
     taken: &[StepTaken],
 ) -> Result<(), AllocError>
+    requires answered { All IsAnswered taken.now }
     ensures ok { OnOk result (Tells schema.now taken.now
         (out.old.items ++ line_text (line.now ++ codes " -> steps " ++ decimal (length taken.now)))
         out.new.items) }

@@ -8,7 +8,7 @@ ghost use Rattle.field_bounds.specs.Kind.{kind_of, same_kind};
 ghost use Rattle.field_bounds.specs.Effects.{same_txn};
 ghost use Rattle.reaching_steps.specs.Standing.{is_of, size_in, counted_of, held_sizes, pushed, Grows, Stands, Notes};
 
-use field_bounds::{Effect, FieldNo, Kind, TxnId};
+use field_bounds::{Effect, FieldNo, Kind, TxnId, same_txn};
 use std::alloc::{AllocError, Global};
 
 /// What an open transaction holds on the field: the sizes of its lowering escrows, and of its
@@ -44,14 +44,6 @@ pub(crate) fn standing_at_first(alloc: Global) -> Standing
         lowered: 0,
         gifts: Vec::new(alloc),
     }
-}
-
-/// Whether two ids name one transaction.
-#[inline(always)]
-fn same_txn(one: TxnId, other: TxnId) -> bool
-    ensures value { result ≡ same_txn one other }
-{
-    one.epoch == other.epoch && one.number == other.number
 }
 
 /// Whether a transaction is this one, or any where none is named.

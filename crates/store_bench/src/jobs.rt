@@ -148,7 +148,7 @@ const REACHES: [Part; 3] = [
 ];
 
 /// Runs a script, and takes in what it writes.
-fn run(alloc: Global, script: &Script, digest: Digest) -> Digest {
+pub fn run(alloc: Global, script: &Script, digest: Digest) -> Digest {
     let mut writer = Watched::new(digest);
     let ended = run_script(alloc, &mut Watched::new(script.bytes()), &mut writer);
     let mut digest = writer.into_inner();

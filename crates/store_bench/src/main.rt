@@ -1,14 +1,15 @@
 //! What users of a store wait for, for `bench/run`: jobs over inputs that are made from a seed,
 //! through the store's public calls.
 //!
-//! The arguments are the job, `runs`, `restarts`, `reaches`, `audits`, `starts`, `serves`, `sets` or
-//! `all`, the seed, and how many lines the job has, or transactions for `starts`, or statements for
-//! `sets`; and how many times over `reaches` takes inputs, once where nothing is said. It writes the
-//! name of each job and the digest of all that the calls answered.
+//! The arguments are the job, `runs`, `restarts`, `reaches`, `held_reaches`, `audits`, `starts`,
+//! `serves`, `sets` or `all`, the seed, and how many lines the job has, or transactions for `starts`,
+//! or statements for `sets`; and how many times over `reaches` takes inputs, once where nothing is
+//! said. It writes the name of each job and the digest of all that the calls answered.
 #![tactic(auto)]
 
 mod dice;
 mod digest;
+mod held_reaches;
 mod jobs;
 mod kinds;
 mod script;
@@ -24,8 +25,15 @@ use std::process::ExitCode;
 use std::rt::Env;
 use std::thread::Threads;
 
-const JOBS: [&str; 7] = [
-    "runs", "restarts", "reaches", "audits", "starts", "serves", "sets",
+const JOBS: [&str; 8] = [
+    "runs",
+    "restarts",
+    "reaches",
+    "held_reaches",
+    "audits",
+    "starts",
+    "serves",
+    "sets",
 ];
 
 /// What one job comes to.
@@ -42,6 +50,7 @@ fn done(
         "runs" => Ok(jobs::runs(alloc, &mut dice, lines)?),
         "restarts" => Ok(jobs::restarts(alloc, &mut dice, lines)?),
         "reaches" => Ok(jobs::reaches(alloc, &mut dice, lines, rounds)?),
+        "held_reaches" => Ok(held_reaches::held_reaches(alloc, &mut dice, lines)?),
         "audits" => Ok(jobs::audits(rt, alloc, &mut dice, lines)?),
         "starts" => sites::starts(alloc, &mut dice, lines),
         "serves" => sites::serves(alloc, &mut dice, lines),

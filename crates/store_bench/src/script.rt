@@ -220,6 +220,27 @@ impl Script {
         self.end()
     }
 
+    /// A spare of at most so many rights to lower, whose record is torn after so many bytes: no
+    /// statement of it is issued.
+    pub fn torn_spare(
+        &mut self,
+        site: u16,
+        to: u16,
+        field: u16,
+        want: u64,
+        kept: u64,
+    ) -> Result<(), AllocError> {
+        self.at(site, " spare ")?;
+        self.number(u64::from(to))?;
+        self.put(" ")?;
+        self.field(field)?;
+        self.put(" lower ")?;
+        self.number(want)?;
+        self.put(" torn ")?;
+        self.number(kept)?;
+        self.end()
+    }
+
     /// So many rights to raise are given up for good.
     pub fn tighten(&mut self, site: u16, field: u16, amount: u64) -> Result<(), AllocError> {
         self.at(site, " tighten ")?;

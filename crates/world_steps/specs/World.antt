@@ -26,21 +26,6 @@ abbrev pub statements_issued : List Entry → List Statement
 statements_issued [] = []
 statements_issued (e ∷ t) = with_statement (statement_of e) (statements_issued t)
 
--- An answer to the command may issue a statement.
-abbrev pub may_issue : Command → Bool
-may_issue (Give to field kind amount) = true
-may_issue (Restate to field kind) = true
-may_issue (Spare to field kind want) = true
-may_issue Begin = false
-may_issue (Escrow txn field change) = false
-may_issue (Commit txn) = false
-may_issue (Abort txn) = false
-may_issue (Tighten field kind amount) = false
-may_issue (Accept told) = false
-may_issue (Read field) = false
-may_issue (Share field) = false
-may_issue Restart = false
-
 -- The statement of a number, counted from 1 for the oldest.
 abbrev pub statement_at : ℕ → List Statement → Option Statement
 statement_at k [] = None

@@ -5,15 +5,15 @@ ghost use Rattle.field_bounds.specs.declared.entry.Entry.{Entry};
 ghost use Rattle.field_bounds.specs.declared.entry.Last.{Last};
 ghost use Rattle.field_bounds.specs.Schema.{SchemaValue};
 ghost use Rattle.field_bounds.specs.Effects.{fresh};
-ghost use Rattle.field_bounds.specs.Statements.{statement_of};
+ghost use Rattle.field_bounds.specs.Statements.{statement_of, may_issue};
 ghost use Rattle.kept_records.specs.declared.medium.Mishap.TheVariants as mishaps;
 ghost use Rattle.kept_state.specs.Luck.{Lucky, own_lucky, lucky_reply};
 ghost use Rattle.site_step.specs.Site.{Finds};
-ghost use Rattle.world_steps.specs.World.{statements_issued, with_statement, statement_at, may_issue, question_of, luck_of};
+ghost use Rattle.world_steps.specs.World.{statements_issued, with_statement, statement_at, question_of, luck_of};
 ghost use Rattle.world_steps.specs.Standing.{Once, AllFollow, AreCalm};
 
 use crate::step::WorldStep;
-use field_bounds::{Command, Entry, Reply, SiteNo, Statement, statement_of};
+use field_bounds::{Command, Entry, Reply, SiteNo, Statement, may_issue, statement_of};
 use history::GhostHistory;
 use kept_records::{Mishap, TornMedium};
 use kept_state::Luck;
@@ -30,17 +30,6 @@ pub(crate) fn note(told: &mut Vec<Statement>, entry: &Entry)
     if let Some(statement) = statement_of(entry) {
         told.push_reserved(statement);
     }
-}
-
-/// Whether an answer to the command may issue a statement.
-#[inline(always)]
-fn may_issue(command: Command) -> bool
-    ensures { result ≡ may_issue command }
-{
-    matches!(
-        command,
-        Command::Give { .. } | Command::Restate { .. } | Command::Spare { .. }
-    )
 }
 
 /// Gets room for the statement that an answer to the command issues, where it may issue one. The

@@ -1,4 +1,4 @@
-use Rattle.std.proofs.Common.{◌≡◌, ◌≢◌, [], None, ◌∙◌, ap, sym, subst, rules}
+use Rattle.std.proofs.Common.{◌≡◌, ◌≢◌, [], None, All, ◌∙◌, ap, sym, subst, rules}
 use Rattle.std.proofs.lemmas.Result.{on_ok_weaker}
 use Rattle.reaching_steps.specs.declared.fault.ReachFault.{ReachFault}
 use Rattle.reaching_steps.specs.declared.fault.ReachFault.TheVariants.{NoMemory}
@@ -7,11 +7,17 @@ use Rattle.reaching_steps.specs.Body.{Explains}
 use Rattle.reaching_steps.specs.Taken.{steps_of, with_steps, AreAnswered}
 use Rattle.world_steps.specs.View.{WorldValue, trace_of}
 use Rattle.escrow_run.specs.Reach.{IsReason}
-use Rattle.escrow_run.specs.Run.{Answered}
+use Rattle.escrow_run.specs.Run.{IsAnswered, Answered}
 use Rattle.escrow_run.proofs.AimLemmas.{asks_in_vain}
 use Rattle.escrow_run.proofs.AnswerLemmas.{answered_many, took_none}
-use Rattle.escrow_run.proofs.TakenLemmas.{answered_reach}
+use Rattle.escrow_run.proofs.TakenLemmas.{all_answered, answered_reach}
 use Rattle.escrow_run.proofs.machine.Machine.reach_for.Goals as goal
+
+pub add_taken-requires : goal.add_taken-requires
+add_taken-requires c = record {
+  answered = subst (λ l. All IsAnswered l) (sym c.as_slice.ensures.value)
+      (all_answered c.args.self.now.world c.in-Ok.taken.items c.in-Ok.ensures.answered);
+}
 
 pub returns-in-Ok-clause-ok : goal.returns-in-Ok-clause-ok
 returns-in-Ok-clause-ok c =
