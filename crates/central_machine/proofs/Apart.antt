@@ -35,7 +35,7 @@ other u t less =
     ]
 
 -- one more, that ranks above the top
-among_more : (u : TxnId) (ts : List TxnId) (t : TxnId) → is_among u ts ≡ false → same_txn t u ≡ false → is_among u (ts ++ t ∷ []) ≡ false
+pub among_more : (u : TxnId) (ts : List TxnId) (t : TxnId) → is_among u ts ≡ false → same_txn t u ≡ false → is_among u (ts ++ t ∷ []) ≡ false
 among_more u [] t none apart = rw apart refl
 among_more u (x ∷ xs) t none apart =
     let parts = or_parts (same_txn x u) (is_among u xs) none in

@@ -8,6 +8,7 @@ pub mod Rows
 pub mod Puts
 pub mod Ending
 pub mod Opened
+pub mod Held
 pub mod Ended
 pub mod Doubts
 pub mod Sites

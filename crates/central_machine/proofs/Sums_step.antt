@@ -1,6 +1,5 @@
 -- The sums of the fields of a window over a legal trace, when the next entry of a site is taken in.
-use Rattle.std.proofs.Common.{◌≡◌, ◌≢◌, ℕ, ◌+◌, ◌<◌, ◌≤◌, Bool, true, false, List, ◌∷◌, refl, sym, ◌∙◌, ap, arith, subst, Option, Some, None}
-use Rattle.std.specs.Prelude.{length}
+use Rattle.std.proofs.Common.{◌≡◌, ◌≢◌, ℕ, ◌+◌, ◌≤◌, Bool, true, false, List, ◌∷◌, refl, sym, ◌∙◌, ap, arith, subst, Option, Some, None}
 use Rattle.field_bounds.specs.declared.kind.Kind.{Kind}
 use Rattle.field_bounds.specs.declared.kind.Kind.TheVariants.{Lower, Raise}
 use Rattle.field_bounds.specs.declared.effect.Effect.{Effect}
@@ -24,7 +23,8 @@ use Rattle.central_machine.specs.declared.window.Window.{Window}
 use Rattle.central_machine.specs.declared.field_sums.FieldSums.{FieldSums}
 use Rattle.central_machine.specs.Amounts.{amount}
 use Rattle.central_machine.specs.Running.{Describes, effect_by, doubt, settled_effect}
-use Rattle.central_machine.specs.Sums.{AreSums, IsWindow, SettlesDoubt, ClosesAll, SumsTake, SumsAfter}
+use Rattle.central_machine.specs.Open.{all_escrows}
+use Rattle.central_machine.specs.Sums.{AreSums, SettlesDoubt, Closes, SumsTake, SumsAfter}
 use Rattle.central_machine.proofs.Doubts.{dropped, restart_settles}
 use Rattle.central_machine.proofs.Opened.{AreOpen}
 use Rattle.central_machine.proofs.Sites.{agrees, is_restarted, never_restarted}
@@ -128,7 +128,7 @@ module _ (schema : SchemaValue) (good : IsSchema schema) (e : Entry) (t : List E
       given None k = omega arith
       given (Some x) k = cut_moves schema base es f k x
 
-  module _ (w : Window) (in_schema : IsWindow schema w) (n : FieldSums) (is : AreSums schema w t n) (x : Numbers)
+  module _ (w : Window) (n : FieldSums) (is : AreSums schema w t n) (x : Numbers)
       (describes : Describes schema base es x) where
     front : IsSound schema t
     front = sound_front schema e t sound
@@ -156,25 +156,24 @@ module _ (schema : SchemaValue) (good : IsSchema schema) (e : Entry) (t : List E
 
     restarted : (kept : Bool) (m : FieldSums) → at_site schema (e ∷ t) e.site.0 ≡ Stops ∷ effects base kept (own e.site.0 t)
         → (mid : FieldSums) → SettlesDoubt w (settled_effect kept (doubt base (own e.site.0 t))) x.journal.rows.items n mid
-        → ClosesAll w mid m x → AreSums schema w (e ∷ t) m
+        → Closes w mid m (all_escrows x.journal.rows.items) → AreSums schema w (e ∷ t) m
     restarted kept m same mid first then =
         let o = own e.site.0 t in
         let d = settled_effect kept (doubt base o) in
         let settles = restart_settles schema e.site.0 base o (front.runs e.site.0 sound.sites.1) kept in
         let whole_is : at_site schema (e ∷ t) e.site.0 ≡ Stops ∷ with_effect true d es = same ∙ ap (λ (y : List Effect). Stops ∷ y) settles in
         let lawful = subst (λ (y : List Effect). IsLawful schema base y) whole_is lawful_now in
-        let inside : (f : ℕ) → f < w.count → w.first + f < length schema.fields = λ f l. omega (arith, l, in_schema) in
         sums_moved schema good w e t sound n m (λ f k. 0) (λ f k. held_rights (w.first + f) k es)
         (λ f k. committed_in_doubt (w.first + f) k es d) (λ f k. given_in_doubt (w.first + f) k d)
         (λ f l. by_restart d lawful whole_is (w.first + f))
-        (stops_all schema good w t front n is base es x.journal.rows.items open_rows d x mid m
-        (λ f k l. describes.held (w.first + f) k (inside f l))
+        (stops_all schema good w t front n is base es x.journal.rows.items open_rows d mid m
+        (run_is_lawful schema e.site.0 base o (front.runs e.site.0 sound.sites.1) false)
         (settled_by schema good w t front n is base es x.journal.rows.items open_rows d mid lawful.0 first) then) is
 
     abbrev Next : Command → Reply → Type 0
     Next c r =
         (m : FieldSums) → at_site schema (e ∷ t) e.site.0 ≡ after base false c r (effects base (doubt_kept_before false r) (own e.site.0 t))
-        → SumsAfter w (effect_by (amount x.free) c r) r (doubt base (own e.site.0 t)) x n m → AreSums schema w (e ∷ t) m
+        → SumsAfter w (effect_by (amount x.free) c r) r (doubt base (own e.site.0 t)) x.journal.rows.items n m → AreSums schema w (e ∷ t) m
 
     sure : (c : Command) (r : Reply) → is_restarted r ≡ false → effect_by (amount x.free) c r ≡ effect_of base es c r → (m : FieldSums)
         → at_site schema (e ∷ t) e.site.0 ≡ with_effect true (effect_of base es c r) es
@@ -212,10 +211,10 @@ module _ (schema : SchemaValue) (good : IsSchema schema) (e : Entry) (t : List E
     next c r fits told = by_reply c r refl told
 
     pub sums_step : (d : Option Effect) (m : FieldSums) → d ≡ doubt base (own e.site.0 t)
-        → SumsAfter w (effect_by (amount x.free) e.command e.reply) e.reply d x n m → AreSums schema w (e ∷ t) m
+        → SumsAfter w (effect_by (amount x.free) e.command e.reply) e.reply d x.journal.rows.items n m → AreSums schema w (e ∷ t) m
     sums_step d m is_doubt took =
         let fits = sound_fits schema e t sound in
         next e.command e.reply fits
         (agrees schema e.site.0 base (own e.site.0 t) (amount x.free) describes.free e.command e.reply fits) m
         (ap (λ (o : List Entry). effects base false o) (own_here e.site.0 e t refl))
-        (subst (λ (y : Option Effect). SumsAfter w (effect_by (amount x.free) e.command e.reply) e.reply y x n m) is_doubt took)
+        (subst (λ (y : Option Effect). SumsAfter w (effect_by (amount x.free) e.command e.reply) e.reply y x.journal.rows.items n m) is_doubt took)

@@ -15,12 +15,13 @@ use Rattle.field_bounds.specs.Central.{IsSound}
 use Rattle.field_bounds.proofs.Lawful.{IsLawful}
 use Rattle.field_bounds.proofs.Headline.{within_bounds}
 use Rattle.central_machine.specs.declared.journal.OpenTransaction.{OpenTransaction}
-use Rattle.central_machine.specs.declared.numbers.Numbers.{Numbers}
 use Rattle.central_machine.specs.declared.window.Window.{Window}
 use Rattle.central_machine.specs.declared.field_sums.FieldSums.{FieldSums}
 use Rattle.central_machine.specs.Amounts.{amount, has_slot, capped_sum}
-use Rattle.central_machine.specs.Sums.{AreSums, SettlesDoubt, ClosesAll, SumsTake}
+use Rattle.central_machine.specs.Open.{all_escrows}
+use Rattle.central_machine.specs.Sums.{AreSums, SettlesDoubt, Closes, SumsTake}
 use Rattle.central_machine.proofs.Small.{all_narrow}
+use Rattle.central_machine.proofs.Held.{all_held}
 use Rattle.central_machine.proofs.Opened.{AreOpen, taken_at}
 use Rattle.central_machine.proofs.Windows.{capped_there}
 use Rattle.central_machine.proofs.Moves.{opened_by, closed_by, committed_by, given_up_by}
@@ -207,13 +208,12 @@ module _ (schema : SchemaValue) (good : IsSchema schema) (w : Window) (t : List 
         }
 
     -- and the stop behind it closes all that the site holds
-    pub stops_all : (d : Option Effect) (x : Numbers) (mid m : FieldSums)
-        → ((f : ℕ) (k : Kind) → f < w.count → amount x.held (w.first + f) k ≡ held_rights (w.first + f) k es)
+    pub stops_all : (d : Option Effect) (mid m : FieldSums) → IsLawful schema base es
         → Settled w n mid (λ f k. committed_in_doubt (w.first + f) k es d) (λ f k. given_in_doubt (w.first + f) k d)
-        → ClosesAll w mid m x
+        → Closes w mid m (all_escrows rows)
         → Moved w n m (λ f k. 0) (λ f k. held_rights (w.first + f) k es) (λ f k. committed_in_doubt (w.first + f) k es d)
         (λ f k. given_in_doubt (w.first + f) k d)
-    stops_all d x mid m holds first then = record {
+    stops_all d mid m lawful first then = record {
       room_places = λ g. ap (λ a. has_slot a g) then.rest.room ∙ first.room_places g;
       aside_places = λ g. then.places g ∙ ap (λ a. has_slot a g) first.aside_same;
       cut_places = λ g. ap (λ a. has_slot a g) then.rest.cut ∙ first.cut_places g;
@@ -225,7 +225,7 @@ module _ (schema : SchemaValue) (good : IsSchema schema) (w : Window) (t : List 
             arith,
             fits,
             same,
-            holds f k l,
+            all_held es rows are schema base lawful (w.first + f) k,
             then.less f k l (ap (λ a. has_slot a f) first.aside_same ∙ is.aside_in f l),
           );
       cut = λ f k l. ap (λ a. amount a f k) then.rest.cut ∙ first.cut f k l;

@@ -7,13 +7,16 @@ use Rattle.field_bounds.specs.declared.entry.Escrow.{Escrow}
 use Rattle.field_bounds.specs.Kind.{same_kind, kind_of, other}
 use Rattle.field_bounds.specs.Effects.{takes}
 use Rattle.central_machine.specs.declared.amounts.Amounts.{Amounts}
+use Rattle.central_machine.specs.declared.journal.OpenTransaction.{OpenTransaction}
 use Rattle.central_machine.specs.declared.window.Window.{Window}
+use Rattle.central_machine.specs.declared.field_sums.FieldSums.{FieldSums}
 use Rattle.central_machine.specs.Amounts.{amount, has_slot, IsPut, capped_sum}
 use Rattle.central_machine.specs.Running.{sizes_taken}
-use Rattle.central_machine.specs.Sums.{window_place, is_in, Grows, Shrinks}
+use Rattle.central_machine.specs.Open.{all_escrows}
+use Rattle.central_machine.specs.Sums.{window_place, is_in, Grows, Shrinks, Closes}
 use Rattle.central_machine.proofs.Puts.{same_place}
 use Rattle.central_machine.proofs.Places.{some_is}
-use Rattle.central_machine.proofs.Ending.{turned_same, weigh_turned, less_less, more_more, one_more}
+use Rattle.central_machine.proofs.Ending.{turned_same, weigh_turned, less_less, more_more, one_more, row_less}
 
 -- ---- the place of a field
 
@@ -148,3 +151,14 @@ module _ (w : Window) (xs : List Escrow) (i : ℕ) (d : Escrow) (below : i < len
       (weigh_turned (eqb (get_or xs i d).field.0 (w.first + f)) _ _ (unsigned_abs (get_or xs i d).change)
       (turned_same true (kind_of (get_or xs i d).change) k)))
       ∙ ap (λ (n : ℕ). capped_sum (amount first f k + n)) (sym (one_more xs i d below (w.first + f) (other k)))
+
+-- the escrows of one row more aren't open any more
+pub closes_row : (w : Window) (n m o : FieldSums) (rows : List OpenTransaction) (i : ℕ) (d : OpenTransaction) → i < length rows
+    → (xs : List Escrow) → xs ≡ (get_or rows i d).escrows.items → Closes w n m (all_escrows (take i rows)) → Closes w m o xs
+    → Closes w n o (all_escrows (take (i + 1) rows))
+closes_row w n m o rows i d below xs is first then = record {
+  less = λ f k inside slot. row_less rows i d below (w.first + f) k xs is (amount n.aside f k) (amount m.aside f k) (amount o.aside f k)
+      (first.less f k inside slot) (then.less f k inside (first.places f ∙ slot));
+  places = λ g. then.places g ∙ first.places g;
+  rest = record { room = then.rest.room ∙ first.rest.room; cut = then.rest.cut ∙ first.rest.cut };
+}

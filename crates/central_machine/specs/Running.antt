@@ -18,7 +18,7 @@ use Rattle.central_machine.specs.declared.numbers.Numbers.{Numbers}
 use Rattle.central_machine.specs.declared.site_totals.SiteTotals.{SiteTotals}
 use Rattle.central_machine.specs.Ledger.{told, has_spot, IsTold}
 use Rattle.central_machine.specs.Amounts.{amount, has_slot, IsPut, capped_sum}
-use Rattle.central_machine.specs.Open.{txns_of, escrows_at, IsOpened, IsAdded, IsClosed}
+use Rattle.central_machine.specs.Open.{txns_of, escrows_at, all_escrows, IsOpened, IsAdded, IsClosed}
 
 -- ---- the numbers of one site
 
@@ -93,11 +93,12 @@ pub record Ends (n m : Numbers) (txn : TxnId) (committed : Bool) : Type 0 where
   pub open_rows : IsClosed n.journal.rows.items m.journal.rows.items txn
   pub rest : KeepsLedgers n m
 
--- All that is held goes free, and nothing is open.
+-- The escrows of all open transactions end, and nothing is open.
 pub record StopsAll (n m : Numbers) : Type 0 where
-  pub held : (f : ℕ) (k : Kind) → f < n.stride → has_slot n.held f ≡ true → amount m.held f k ≡ 0
-  pub free : (f : ℕ) (k : Kind) → f < n.stride → has_slot n.free f ≡ true → has_slot n.held f ≡ true
-      → amount m.free f k ≡ capped_sum (amount n.free f k + amount n.held f k)
+  pub held : (f : ℕ) (k : Kind) → has_slot n.held f ≡ true
+      → amount m.held f k ≡ amount n.held f k - sizes_taken f k (all_escrows n.journal.rows.items)
+  pub free : (f : ℕ) (k : Kind) → has_slot n.free f ≡ true → amount n.free f k ≤ 18446744073709551615
+      → amount m.free f k ≡ capped_sum (amount n.free f k + sizes_taken f k (all_escrows n.journal.rows.items))
   pub held_places : (g : ℕ) → has_slot m.held g ≡ has_slot n.held g
   pub free_places : (g : ℕ) → has_slot m.free g ≡ has_slot n.free g
   pub open_rows : m.journal.rows.items ≡ []

@@ -15,11 +15,10 @@ use Rattle.field_bounds.specs.Effects.{says_doubt_kept}
 use Rattle.field_bounds.specs.Central.{committed_value, open_sizes, cuts}
 use Rattle.central_machine.specs.declared.amounts.Amounts.{Amounts}
 use Rattle.central_machine.specs.declared.journal.OpenTransaction.{OpenTransaction}
-use Rattle.central_machine.specs.declared.numbers.Numbers.{Numbers}
 use Rattle.central_machine.specs.declared.window.Window.{Window}
 use Rattle.central_machine.specs.declared.field_sums.FieldSums.{FieldSums}
 use Rattle.central_machine.specs.Amounts.{amount, has_slot, capped_sum}
-use Rattle.central_machine.specs.Open.{escrows_at}
+use Rattle.central_machine.specs.Open.{escrows_at, all_escrows}
 use Rattle.central_machine.specs.Running.{sizes_taken, settled_effect}
 
 -- The place of a field in a window, if it lies there.
@@ -85,13 +84,6 @@ pub record Closes (w : Window) (n m : FieldSums) (escrows : List EscrowOf) : Typ
   pub places : (g : ℕ) → has_slot m.aside g ≡ has_slot n.aside g
   pub rest : KeepsRest n m
 
--- What is open less all that a site holds.
-pub record ClosesAll (w : Window) (n m : FieldSums) (x : Numbers) : Type 0 where
-  pub less : (f : ℕ) (k : Kind) → f < w.count → has_slot n.aside f ≡ true
-      → amount m.aside f k ≡ amount n.aside f k - amount x.held (w.first + f) k
-  pub places : (g : ℕ) → has_slot m.aside g ≡ has_slot n.aside g
-  pub rest : KeepsRest n m
-
 -- Escrows are committed, and then aren't open any more.
 pub record CommitsAndCloses (w : Window) (n m : FieldSums) (escrows : List EscrowOf) : Type 0 where
   pub mid : FieldSums
@@ -111,23 +103,23 @@ SumsTake w (Some (Accepts from field kind total)) rows n m = m ≡ n
 SumsTake w (Some Stops) rows n m = m ≡ n
 
 -- The sums after one more reply, with this effect where it isn't in doubt.
-abbrev pub SumsAfter : Window → Option Effect → Reply → Option Effect → Numbers → FieldSums → FieldSums → Type 0
-SumsAfter w effect (Begun txn) d x n m = SumsTake w effect x.journal.rows.items n m
-SumsAfter w effect Granted d x n m = SumsTake w effect x.journal.rows.items n m
-SumsAfter w effect Committed d x n m = SumsTake w effect x.journal.rows.items n m
-SumsAfter w effect Aborted d x n m = SumsTake w effect x.journal.rows.items n m
-SumsAfter w effect (Given total) d x n m = SumsTake w effect x.journal.rows.items n m
-SumsAfter w effect (Stated total) d x n m = SumsTake w effect x.journal.rows.items n m
-SumsAfter w effect (Spared amount total) d x n m = SumsTake w effect x.journal.rows.items n m
-SumsAfter w effect (Tightened total) d x n m = SumsTake w effect x.journal.rows.items n m
-SumsAfter w effect (Accepted gain) d x n m = SumsTake w effect x.journal.rows.items n m
-SumsAfter w effect (Between lo hi) d x n m = SumsTake w effect x.journal.rows.items n m
-SumsAfter w effect (Shares lower raise) d x n m = SumsTake w effect x.journal.rows.items n m
-SumsAfter w effect (Restarted epoch found) d x n m =
-    (mid : FieldSums) × SettlesDoubt w (settled_effect (says_doubt_kept found) d) x.journal.rows.items n mid × ClosesAll w mid m x
-SumsAfter w effect Unsure d x n m = m ≡ n
-SumsAfter w effect StillDown d x n m = SumsTake w effect x.journal.rows.items n m
-SumsAfter w effect (Refused refusal) d x n m = SumsTake w effect x.journal.rows.items n m
+abbrev pub SumsAfter : Window → Option Effect → Reply → Option Effect → List OpenTransaction → FieldSums → FieldSums → Type 0
+SumsAfter w effect (Begun txn) d rows n m = SumsTake w effect rows n m
+SumsAfter w effect Granted d rows n m = SumsTake w effect rows n m
+SumsAfter w effect Committed d rows n m = SumsTake w effect rows n m
+SumsAfter w effect Aborted d rows n m = SumsTake w effect rows n m
+SumsAfter w effect (Given total) d rows n m = SumsTake w effect rows n m
+SumsAfter w effect (Stated total) d rows n m = SumsTake w effect rows n m
+SumsAfter w effect (Spared amount total) d rows n m = SumsTake w effect rows n m
+SumsAfter w effect (Tightened total) d rows n m = SumsTake w effect rows n m
+SumsAfter w effect (Accepted gain) d rows n m = SumsTake w effect rows n m
+SumsAfter w effect (Between lo hi) d rows n m = SumsTake w effect rows n m
+SumsAfter w effect (Shares lower raise) d rows n m = SumsTake w effect rows n m
+SumsAfter w effect (Restarted epoch found) d rows n m =
+    (mid : FieldSums) × SettlesDoubt w (settled_effect (says_doubt_kept found) d) rows n mid × Closes w mid m (all_escrows rows)
+SumsAfter w effect Unsure d rows n m = m ≡ n
+SumsAfter w effect StillDown d rows n m = SumsTake w effect rows n m
+SumsAfter w effect (Refused refusal) d rows n m = SumsTake w effect rows n m
 
 -- The amounts at a place are how far the start value of a field stands above the floor and below the ceiling.
 pub record IsRoom (schema : SchemaValue) (field : ℕ) (a : Amounts) (place : ℕ) : Type 0 where

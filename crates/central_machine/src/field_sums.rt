@@ -4,13 +4,12 @@ ghost use Rattle.std.specs.Prelude.{◌≡◌, ℕ, ◌+◌, ◌-◌, ◌<◌, �
 ghost use Rattle.field_bounds.specs.declared.kind.Kind.{Kind};
 ghost use Rattle.field_bounds.specs.Kind.{kind_of, other};
 ghost use Rattle.central_machine.specs.Amounts.{amount, has_slot, IsPut, capped_sum};
-ghost use Rattle.central_machine.specs.Open.{escrows_at};
+ghost use Rattle.central_machine.specs.Open.{escrows_at, all_escrows};
 ghost use Rattle.central_machine.specs.Running.{sizes_taken};
-ghost use Rattle.central_machine.specs.Sums.{Grows, Shrinks, Moves, Tightens, SettlesDoubt, Closes, ClosesAll, CommitsAndCloses, SetAside, SumsTake, SumsAfter, AreSums, IsWindow};
+ghost use Rattle.central_machine.specs.Sums.{Grows, Shrinks, Moves, Tightens, SettlesDoubt, Closes, CommitsAndCloses, SetAside, SumsTake, SumsAfter, AreSums, IsWindow};
 
 use crate::amounts::Amounts;
-use crate::journal::Journal;
-use crate::numbers::Numbers;
+use crate::journal::{Journal, OpenTransaction};
 use crate::site_totals::settled;
 use crate::window::Window;
 use field_bounds::{Effect, Escrow, FieldNo, Kind, Reply, Schema};
@@ -103,28 +102,6 @@ fn add_all(amounts: &mut Amounts, window: Window, escrows: &[Escrow])
 {
     for escrow in escrows {
         add_one(amounts, window, *escrow);
-    }
-}
-
-/// Takes from the amount at a place what a site holds of the field there, of a kind.
-fn take_held(amounts: &mut Amounts, held: &Amounts, window: Window, place: u16, kind: Kind)
-    ensures { IsPut amounts.old amounts.new place kind
-        (amount amounts.old place kind - amount held.now (window.first + place) kind) }
-{
-    let field = usize::from(window.first) + usize::from(place);
-    shrink_at(amounts, usize::from(place), kind, held.at(field, kind));
-}
-
-/// Takes all that a site holds of the fields of a window.
-fn take_all_held(amounts: &mut Amounts, held: &Amounts, window: Window)
-    ensures less { (f : ℕ) (k : Kind) → f < window.count → has_slot amounts.old f ≡ true →
-        amount amounts.new f k
-        ≡ amount amounts.old f k - amount held.now (window.first + f) k }
-    ensures places { (g : ℕ) → has_slot amounts.new g ≡ has_slot amounts.old g }
-{
-    for place in 0..window.count {
-        take_held(amounts, held, window, place, Kind::Lower);
-        take_held(amounts, held, window, place, Kind::Raise);
     }
 }
 
@@ -224,33 +201,36 @@ impl FieldSums {
         }
     }
 
-    /// Nothing that a site holds is open any more. Costs a step for each field of the window.
-    fn close_all(&mut self, window: Window, numbers: &Numbers)
-        ensures { ClosesAll window self.old self.new numbers.now }
+    /// The escrows of all rows aren't open any more.
+    fn close_all(&mut self, window: Window, rows: &[OpenTransaction])
+        ensures { Closes window self.old self.new (all_escrows rows.now) }
     {
-        take_all_held(&mut self.aside, &numbers.held, window);
+        for row in rows {
+            self.close(window, &row.escrows);
+        }
     }
 
-    /// Takes in a reply with what it puts into effect, at a site of these numbers where this is in
-    /// doubt. After a restart nothing is held there.
+    /// Takes in a reply with what it puts into effect, at a site where these transactions are open and
+    /// this is in doubt. After a restart none is open there: that costs a step for each of their escrows.
     #[inline(always)]
     pub fn after(
         &mut self,
         window: Window,
-        numbers: &Numbers,
+        journal: &Journal,
         doubt: Option<Effect>,
         effect: Option<Effect>,
         reply: Reply,
     )
-        ensures { SumsAfter window effect reply doubt numbers.now self.old self.new }
+        ensures { SumsAfter window effect reply doubt journal.now.rows.items self.old
+            self.new }
     {
         match reply {
             Reply::Restarted { last, .. } => {
-                self.settle(window, &numbers.journal, settled(last, doubt));
-                self.close_all(window, numbers);
+                self.settle(window, journal, settled(last, doubt));
+                self.close_all(window, &journal.rows);
             }
             Reply::Unsure => {}
-            _ => self.take(window, &numbers.journal, effect),
+            _ => self.take(window, journal, effect),
         }
     }
 }

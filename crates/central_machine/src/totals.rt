@@ -109,7 +109,9 @@ impl Totals {
         match self.sites.get_mut(usize::from(entry.site.0)) {
             Some(site) => {
                 let effect = site.effect_by(entry);
-                self.sums.after(self.window, &site.numbers, site.doubt, effect, entry.reply);
+                let journal = &site.numbers.journal;
+                self.sums
+                    .after(self.window, journal, site.doubt, effect, entry.reply);
                 site.put_in(alloc, effect, entry)
             }
             None => Ok(()),

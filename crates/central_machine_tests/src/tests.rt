@@ -194,6 +194,30 @@ fn a_commit_in_doubt(rt: HostRuntime) {
     assert_rows(&rt, rt.alloc(), &IN_DOUBT);
 }
 
+const OPEN_AT_A_RESTART: [Row; 4] = rows! {
+    [0 begin -> begun 0.1] [0 escrow 0.1 stock -5 -> granted]
+        [0 begin -> begun 0.2] [0 escrow 0.2 stock -3 -> granted] [0 escrow 0.2 stock 4 -> granted]
+        [0 begin -> begun 0.3] [0 escrow 0.3 stock -10 -> granted] [0 commit 0.3 -> unsure]
+        [0 restart -> restarted 1 kept] [0 share stock -> share 10 40] => legal;
+    [0 begin -> begun 0.1] [0 escrow 0.1 stock -5 -> granted]
+        [0 begin -> begun 0.2] [0 escrow 0.2 stock -3 -> granted] [0 escrow 0.2 stock 4 -> granted]
+        [0 begin -> begun 0.3] [0 escrow 0.3 stock -10 -> granted] [0 commit 0.3 -> unsure]
+        [0 restart -> restarted 1 lost] [0 share stock -> share 20 30] => legal;
+    [0 begin -> begun 0.1] [0 escrow 0.1 stock -5 -> granted]
+        [0 begin -> begun 0.2] [0 escrow 0.2 stock -3 -> granted] [0 escrow 0.2 stock 4 -> granted]
+        [0 restart -> restarted 1 nothing] [1 begin -> begun 0.1] [1 escrow 0.1 stock -40 -> granted] => illegal 8 Reply;
+    [0 begin -> begun 0.1] [0 escrow 0.1 stock -5 -> granted]
+        [0 begin -> begun 0.2] [0 escrow 0.2 stock -3 -> granted] [0 escrow 0.2 stock 4 -> granted]
+        [0 restart -> restarted 1 nothing] [1 begin -> begun 0.1] [1 escrow 0.1 stock 60 -> granted] => illegal 8 Reply;
+};
+
+// A restart ends all that is open at its site: the shares have it again, and others may be granted
+// all that lies within the bounds.
+#[test]
+fn what_is_open_at_a_restart(rt: HostRuntime) {
+    assert_rows(&rt, rt.alloc(), &OPEN_AT_A_RESTART);
+}
+
 // The replies of the rows below are what no site owes, so that only the sums tell which rule is
 // broken first.
 
