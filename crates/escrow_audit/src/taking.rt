@@ -1,6 +1,6 @@
 //! Where the entries of an input go, as they are read.
 
-ghost use Rattle.std.specs.Prelude.{◌≡◌, ◌≢◌, List, [], ◌∷◌, ◌++◌, length, IfOk, OnOk};
+ghost use Rattle.std.specs.Prelude.{◌≡◌, ◌≢◌, List, [], ◌∷◌, ◌++◌, length, IfOk, IsOk, OnOk};
 ghost use Rattle.field_bounds.specs.Schema.{SchemaValue};
 ghost use Rattle.field_bounds.specs.declared.entry.Entry.{Entry};
 ghost use Rattle.central_rules.specs.Verdict.{verdict_of, read_for};
@@ -108,8 +108,13 @@ impl TakesEntries for JudgedEntries {
         JudgedEntries::Fresh
     }
 
+    // A want of memory waits for the end: a line behind may still be a bad entry.
     #[inline(always)]
-    fn take_in(&mut self, alloc: Global, schema: &Schema, entry: &Entry) -> Result<(), AllocError> {
+    fn take_in(&mut self, alloc: Global, schema: &Schema, entry: &Entry) -> Result<(), AllocError>
+        ensures taken { OnOk result ((entries : List Entry) → AreJudged schema.now entries self.old
+            → AreJudged schema.now (entries ++ entry.now ∷ []) self.new) }
+        ensures waits { IsOk result }
+    {
         self.begin(alloc, schema);
         let JudgedEntries::Legal(judge) = self else {
             return Ok(());

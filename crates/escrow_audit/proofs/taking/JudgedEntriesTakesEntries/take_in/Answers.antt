@@ -8,19 +8,19 @@ use Rattle.escrow_audit.specs.Judged.{AreJudged}
 use Rattle.escrow_audit.proofs.Judged.{still_judged}
 use Rattle.escrow_audit.proofs.taking.JudgedEntriesTakesEntries.take_in.Goals as goal
 
-pub returns-in_default : goal.returns-in_default
-returns-in_default c = λ entries are.
+pub returns-in_default-clause-taken : goal.returns-in_default-clause-taken
+returns-in_default-clause-taken c = λ entries are.
     still_judged c.args.schema.now entries c.args.entry.now c.begin.new.self c.begin.ensures.begun c.in_default.not-Legal
     (c.begin.ensures.judged entries are)
 
-pub returns-in-Ok-None : goal.returns-in-Ok-None
-returns-in-Ok-None c = λ entries are.
+pub returns-in-Ok-None-clause-taken : goal.returns-in-Ok-None-clause-taken
+returns-in-Ok-None-clause-taken c = λ entries are.
     let judged : HasJudged c.args.schema.now entries c.in-Legal.judge =
     subst (λ (j : JudgedEntries). AreJudged c.args.schema.now entries j) c.in-Legal.is (c.begin.ensures.judged entries are) in
     c.in-Ok-None.ensures.taken entries judged c.in-Ok-None.field-0-is
 
-pub returns-in-Ok-Some : goal.returns-in-Ok-Some
-returns-in-Ok-Some c = λ entries are.
+pub returns-in-Ok-Some-clause-taken : goal.returns-in-Ok-Some-clause-taken
+returns-in-Ok-Some-clause-taken c = λ entries are.
     let schema = c.args.schema.now in
     let judged : HasJudged schema entries c.in-Legal.judge =
     subst (λ (j : JudgedEntries). AreJudged schema entries j) c.in-Legal.is (c.begin.ensures.judged entries are) in
