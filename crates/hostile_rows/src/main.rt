@@ -6,6 +6,7 @@
 
 mod desk;
 mod moves;
+mod reach;
 mod refused;
 mod site;
 mod workers;
@@ -35,7 +36,7 @@ fn tell_sites(rt: &impl Print, alloc: Global, refusals: &mut Refusals) -> io::Re
     Ok(())
 }
 
-/// A desk, the plan and the workers.
+/// A desk, the plan, a reach and the workers.
 fn tell_others<R>(rt: &R, alloc: Global, refusals: &mut Refusals) -> io::Result<()>
 where
     R: Threads + Wait + Print + Sync,
@@ -43,6 +44,7 @@ where
     let (count, told) = desk::count_told(rt, alloc, refusals).unwrap_or((0, false));
     println!(rt; "desk, a commit: {count} receipts as told, closed and checked: {told}")?;
     println!(rt; "moves: {}", moves::are_told(alloc, refusals))?;
+    println!(rt; "a reach: {}", reach::is_told(alloc, refusals))?;
     println!(rt;
         "workers, a gift: {}",
         workers::are_told(rt, alloc, refusals)

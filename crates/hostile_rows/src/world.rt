@@ -88,7 +88,7 @@ const TORN_TIGHTENING: [Told; 3] = [
 ];
 
 /// A world in which no step was taken, of two tries.
-fn fresh_world(alloc: Global, refusals: &mut Refusals) -> Option<World> {
+pub fn fresh_world(alloc: Global, refusals: &mut Refusals) -> Option<World> {
     for _ in 0..2 {
         if let Some(schema) = stock_of_two(alloc)
             && let Ok(world) = World::new(alloc, schema)
@@ -101,7 +101,7 @@ fn fresh_world(alloc: Global, refusals: &mut Refusals) -> Option<World> {
 }
 
 /// The free rights at a site of the world's schema; None at a stranger.
-fn share_at(world: &World, site: u16) -> Option<(u64, u64)> {
+pub fn share_at(world: &World, site: u16) -> Option<(u64, u64)> {
     if site >= world.schema().sites() {
         return None;
     }
@@ -151,7 +151,7 @@ fn reply_of(
 }
 
 /// Whether the twin takes the step too, of two tries.
-fn follows(alloc: Global, twin: &mut World, step: WorldStep, refusals: &mut Refusals) -> bool {
+pub fn follows(alloc: Global, twin: &mut World, step: WorldStep, refusals: &mut Refusals) -> bool {
     for _ in 0..2 {
         match take_step(alloc, twin, step) {
             None => return false,
