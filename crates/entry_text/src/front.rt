@@ -12,7 +12,7 @@ ghost use Rattle.line_words.specs.Words.{line};
 ghost use Rattle.entry_text.specs.Ranges.{SiteFits, IdFits, CommandFits};
 ghost use Rattle.entry_text.specs.Spelling.{id_text, kind_text, field_text, command_words, command_text};
 
-use crate::word::{Fields, is_text, small_number, txn_from};
+use crate::word::{Fields, is_text, medium_number, small_number};
 use field_bounds::{Command, FieldNo, Kind, SiteNo, Statement, TxnId};
 use line_words::{behind, first_number, first_signed, number_and};
 
@@ -29,16 +29,18 @@ fn first_site(bytes: &[u8]) -> Option<(SiteNo, &[u8])>
     Some((SiteNo(site), rest))
 }
 
-/// A transaction that the bytes begin with, and what follows it.
+/// A transaction that the bytes begin with, and what follows it. The epoch is narrowed before the number
+/// is read: together they would both have to be held, 20 instructions a line.
 #[inline(always)]
 pub(crate) fn first_txn(bytes: &[u8]) -> Option<(TxnId, &[u8])>
     ensures cut { IfSome result (λ t. bytes.now ≡ id_text t.0 ++ t.1.now) }
     ensures fits { IfSome result (λ t. IdFits t.0) }
 {
     let (epoch, rest) = number_and(bytes, b'.')?;
+    let epoch = medium_number(epoch)?;
     let (number, rest) = first_number(rest)?;
-    let txn = txn_from(epoch, number)?;
-    Some((txn, rest))
+    let number = medium_number(number)?;
+    Some((TxnId { epoch, number }, rest))
 }
 
 #[inline(always)]

@@ -34,6 +34,7 @@ pub(crate) fn named(line: &mut Words<'_>, text: &str) -> bool
     line.take_text(text)
 }
 
+// The number, where it is one of u16.
 #[inline(always)]
 pub(crate) fn small_number(number: u64) -> Option<u16>
     ensures { result ≡ limited (2 ^ 16) number }
@@ -44,9 +45,11 @@ pub(crate) fn small_number(number: u64) -> Option<u16>
     Some(number as u16)
 }
 
+// The number, where it is one of u32.
 #[inline(always)]
-fn medium_number(number: u64) -> Option<u32>
-    ensures { result ≡ limited (2 ^ 32) number }
+pub(crate) fn medium_number(number: u64) -> Option<u32>
+    ensures value { result ≡ limited (2 ^ 32) number }
+    ensures same { IfSome result (λ n. n ≡ number) }
 {
     if number > u64::from(u32::MAX) {
         return None;
@@ -194,11 +197,10 @@ pub fn site_at(line: &mut Words<'_>) -> Option<SiteNo>
     Some(SiteNo(small_at(line)?))
 }
 
-/// The transaction of an epoch and a number.
+// The transaction of an epoch and a number.
 #[inline(always)]
-pub(crate) fn txn_from(epoch: u64, number: u64) -> Option<TxnId>
-    ensures value { result ≡ id_from (epoch, number) }
-    ensures same { IfSome result (λ t. (t.epoch ≡ epoch) × (t.number ≡ number)) }
+fn txn_from(epoch: u64, number: u64) -> Option<TxnId>
+    ensures { result ≡ id_from (epoch, number) }
 {
     let epoch = medium_number(epoch)?;
     let number = medium_number(number)?;

@@ -9,4 +9,4 @@ returns-in_err-epoch c =
 pub returns : goal.returns
 returns c =
     gives_more _ _ c.args.line.now (c.in_ok-epoch.epoch, c.in_ok-epoch.number) id_from _ _ (id_at_is c.args.line.now) c.in_ok-epoch.ensures.word
-    c.txn_from.ensures.value
+    c.txn_from.ensures
