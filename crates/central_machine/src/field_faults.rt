@@ -19,6 +19,9 @@ use rayon::prelude::*;
 use std::alloc::{AllocError, Global};
 use std::thread::Threads;
 
+// So many fields have sums of 48 KB: what the processor's nearest memory holds.
+const FIELDS_IN_A_WINDOW: u16 = 1_024;
+
 /// The first entry that breaks a rule on the fields of a window.
 fn window_fault(
     alloc: Global,
@@ -101,13 +104,15 @@ fn window_size(schema: &Schema, windows: usize) -> u16
     (fields - 1) / windows + 1
 }
 
-/// How many windows there are at most: with the other parts they keep the processors busy.
-fn window_count(threads: usize) -> usize {
-    threads.saturating_sub(1).max(1)
+/// How many windows there are at most. A window takes in all entries, so that one of few fields costs
+/// nearly as much as one of many: there is one more for each so many fields, and none without a
+/// processor beside the one that the other parts have.
+fn window_count(threads: usize, fields: u16) -> usize {
+    let worth = usize::from(fields / FIELDS_IN_A_WINDOW) + 1;
+    threads.saturating_sub(1).min(worth).max(1)
 }
 
-/// What the windows of all fields find first: a window for each processor but one, which the other
-/// parts have.
+/// What the windows of all fields find first.
 pub fn field_faults(
     rt: &(impl Threads + Sync),
     alloc: Global,
@@ -116,7 +121,8 @@ pub fn field_faults(
 ) -> Result<Vec<Option<Fault>>, AllocError>
     ensures { IfOk result (λ faults. AreFieldFaults schema.now entries.now faults.items) }
 {
-    let size = window_size(schema, window_count(current_num_threads(rt)));
+    let count = window_count(current_num_threads(rt), schema.fields());
+    let size = window_size(schema, count);
     let windows = windows_of(alloc, schema, size)?;
     windows_faults(rt, alloc, schema, entries, &windows)
 }

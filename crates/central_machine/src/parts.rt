@@ -79,11 +79,11 @@ fn judge_parts(
 /// entry, and `rule` the first rule that it breaks over the front before it (`illegal`). Over a
 /// sound trace it is Legal (`sound`).
 ///
-/// The error is want of memory. There is a window for each processor but one, or one for each field;
-/// a window takes time as `judge` does but for the look-ups of statements and replies, and memory as
-/// `judge` does but for the statements, with the first three numbers for its own fields alone. The
-/// other parts take time and memory as `judge` does, and a number for each entry. Over fewer than 50
-/// entries the parts take turns in the caller's thread.
+/// The error is want of memory. There is one window, and one more for each 1,024 fields, as long as
+/// processors are left for them; a window takes time as `judge` does but for the look-ups of statements
+/// and replies, and memory as `judge` does but for the statements, with the first three numbers for its
+/// own fields alone. The other parts take time and memory as `judge` does, and a number for each entry.
+/// Over fewer than 50 entries the parts take turns in the caller's thread.
 ///
 /// Source: O'Neil 1986 for the central store, this project for the judge and its parts.
 pub fn judge_fields(
