@@ -48,7 +48,7 @@ impl Channel {
     /// Which of so many slots is the channel's. By these factors no two channels of 64 sites and 256
     /// fields have one sum, so among enough slots each has one of its own, and those of a few sites
     /// and fields mostly have among few. No more is asked of the factors. Others are found by trying:
-    /// of four numbers below 60,000, taken by chance, about one set in two serves, as a short program
+    /// of four numbers below 60,000, taken by chance, about one set in three serves, as a short program
     /// shows that goes through all those channels and looks for a sum that comes twice.
     #[inline(always)]
     pub fn slot(self, slots: usize) -> usize
