@@ -55,7 +55,7 @@ def arguments() -> argparse.Namespace:
 
 
 def tell(line: str) -> bool:
-    """Writes a line to standard output, and tells a fault. Whoever reads may have gone, as `head` does: that is none."""
+    """Writes a line to standard output, and tells a fault. That the reader has gone, as `head` does, is none."""
     try:
         print(line, flush=True)
         return True

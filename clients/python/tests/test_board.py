@@ -496,7 +496,7 @@ class OverHttp(unittest.TestCase):
         self.assertEqual([told["missing"] for told in (whole, old, less)], [[], [], [0]])
 
     def test_once_without_a_reader(self) -> None:
-        """Where nobody reads any more, as behind `head`, it ends without a word, by the same statuses; a full disk is told."""
+        """Where nobody reads any more, as behind `head`, it ends without a word, by its statuses; a full disk is told."""
         for folders, status in ((self.folders, 0), (self.folders[1:], 3)):
             read, write = os.pipe()
             os.close(read)

@@ -38,7 +38,8 @@ class InstallTest(unittest.TestCase):
 
     def run_copy(self, *words: str) -> tuple[int, str, list[str]]:
         """The status, what was told, and the packages that Debian was asked for."""
-        done = subprocess.run([self.copy, *words], env=self.env, capture_output=True, text=True, check=False, timeout=60)
+        done = subprocess.run([self.copy, *words], env=self.env, capture_output=True, text=True, check=False,
+                              timeout=60)
         if not os.path.exists(self.asked):
             return done.returncode, done.stderr, []
         with open(self.asked, encoding="utf-8") as file:
