@@ -20,7 +20,12 @@ VERSION_1 = {
 }  # fmt: skip
 """Each kind of record: of 20 rights to lower 7 were given, 3 accepted and 2 spent; of 30 to raise 5 given up, and 2
 came."""
-SECTIONS = ("Choose floors and ceilings", "Reservations that last", "Begin a new world")
+SECTIONS = {
+    "Choose floors and ceilings": "escrow_site: the logs of these sites are lost: 1 2: put the newest ones back to settle\n",
+    "Reservations that last": "",
+    "Begin a new world": "",
+}
+"""What stands on standard error, by section."""
 
 
 def blocks(section: str) -> list[str]:
@@ -39,13 +44,13 @@ class OperatingTest(SiteTest):
         os.mkdir(programs)
         os.symlink(escrow_site(), os.path.join(programs, "escrow_site"))
         environment = {**os.environ, "PATH": f"{programs}:{os.environ['PATH']}"}
-        for section in SECTIONS:
+        for section, fault in SECTIONS.items():
             with self.subTest(section):
                 typed, printed = blocks(section)
                 words = ["sh", "-c", typed]
-                told = subprocess.run(words, cwd=self.place, env=environment, stdout=subprocess.PIPE, text=True,
+                told = subprocess.run(words, cwd=self.place, env=environment, capture_output=True, text=True,
                                       check=False, timeout=60)
-                self.assertEqual(told.stdout, printed)
+                self.assertEqual((told.stdout, told.stderr), (printed, fault))
 
 
 class VersionTest(SiteTest):
