@@ -54,12 +54,28 @@ def arguments() -> argparse.Namespace:
     return args
 
 
+def tell(line: str) -> bool:
+    """Writes a line to standard output, and tells a fault. That the reader has gone, as `head` does, is none."""
+    try:
+        print(line, flush=True)
+        return True
+    except OSError as fault:
+        nowhere = os.open(os.devnull, os.O_WRONLY)
+        os.dup2(nowhere, sys.stdout.fileno())  # else the end of the program would write what is left once more
+        os.close(nowhere)
+        if isinstance(fault, BrokenPipeError):
+            return True
+        print(f"escrow_board: standard output: {fault.strerror}", file=sys.stderr)
+        return False
+
+
 def once(args: argparse.Namespace) -> int:
     """Looks twice, since a giver's log has to be read behind what others accepted of it, and tells the second."""
     board = Board(args.program, args.folders, every=0, rest=0)
     board.told()
     told = board.told()
-    print(json.dumps(told))
+    if not tell(json.dumps(told)):
+        return 1
     return 3 if told["alarms"] or told["missing"] else 0
 
 
@@ -73,7 +89,7 @@ def main() -> int:
     except OSError as fault:
         print(f"escrow_board: {args.host}:{args.port}: {fault.strerror}", file=sys.stderr)
         return 1
-    print(f"escrow_board: {server.url}", flush=True)
+    tell(f"escrow_board: {server.url}")
     try:
         server.serve_forever()
     except KeyboardInterrupt:

@@ -458,10 +458,10 @@ class OverHttp(unittest.TestCase):
         finally:
             line.close()
 
-    def run_board(self, *arguments: str) -> subprocess.Popen[str]:
+    def run_board(self, *arguments: str, stdout: int = subprocess.PIPE) -> subprocess.Popen[str]:
         """The program of the board."""
         return subprocess.Popen([sys.executable, "-m", "escrow_board", *arguments], cwd=PACKAGES, text=True,
-                                stdout=subprocess.PIPE, stderr=subprocess.PIPE)
+                                stdout=stdout, stderr=subprocess.PIPE)
 
     def test_command_line(self) -> None:
         """It tells where the page is, answers the page and its JSON and nothing else, and not to pages of other names."""
@@ -494,6 +494,18 @@ class OverHttp(unittest.TestCase):
         self.assertEqual([(it["from"], it["to"], it["rights"]) for it in whole["fields"][0]["flights"]], [(0, 1, 1)])
         self.assertEqual([len(told["alarms"]) for told in (whole, old, less)], [0, 1, 0])
         self.assertEqual([told["missing"] for told in (whole, old, less)], [[], [], [0]])
+
+    def test_once_without_a_reader(self) -> None:
+        """Where nobody reads any more, as behind `head`, it ends without a word, by its statuses; a full disk is told."""
+        for folders, status in ((self.folders, 0), (self.folders[1:], 3)):
+            read, write = os.pipe()
+            os.close(read)
+            with self.run_board(*folders, "--once", stdout=write) as board:
+                os.close(write)
+                self.assertEqual((board.communicate(timeout=60)[1], board.returncode), ("", status))
+        with open("/dev/full", "wb") as full, self.run_board(*self.folders, "--once", stdout=full.fileno()) as board:
+            told = "escrow_board: standard output: No space left on device\n"
+            self.assertEqual((board.communicate(timeout=60)[1], board.returncode), (told, 1))
 
     def test_faults_of_the_command_line(self) -> None:
         """No folder, no such program, and a time or a port that is none, end with status 2."""
