@@ -12,7 +12,7 @@ ghost use Rattle.line_words.specs.Words.{line};
 ghost use Rattle.entry_text.specs.Ranges.{SiteFits, IdFits, CommandFits};
 ghost use Rattle.entry_text.specs.Spelling.{id_text, kind_text, field_text, command_words, command_text};
 
-use crate::word::{Fields, is_text, medium_number, small_number};
+use crate::word::{Fields, is_text, small_number};
 use field_bounds::{Command, FieldNo, Kind, SiteNo, Statement, TxnId};
 use line_words::{behind, first_number, first_signed, number_and};
 
@@ -29,17 +29,39 @@ fn first_site(bytes: &[u8]) -> Option<(SiteNo, &[u8])>
     Some((SiteNo(site), rest))
 }
 
-/// A transaction that the bytes begin with, and what follows it. The epoch is narrowed before the number
-/// is read: together they would both have to be held, 20 instructions a line.
+// A number of u32 that the bytes begin with, and what follows the mark behind it. Here and below the
+// number is tested where it stands: an Option between costs 6 instructions for each transaction.
+#[inline(always)]
+fn medium_and(bytes: &[u8], mark: u8) -> Option<(u32, &[u8])>
+    ensures { IfSome result (λ n. bytes.now ≡ decimal n.0 ++ mark ∷ n.1.now) }
+{
+    let (number, rest) = number_and(bytes, mark)?;
+    if number > u64::from(u32::MAX) {
+        return None;
+    }
+    Some((number as u32, rest))
+}
+
+// The same with no mark behind it.
+#[inline(always)]
+fn first_medium(bytes: &[u8]) -> Option<(u32, &[u8])>
+    ensures { IfSome result (λ n. bytes.now ≡ decimal n.0 ++ n.1.now) }
+{
+    let (number, rest) = first_number(bytes)?;
+    if number > u64::from(u32::MAX) {
+        return None;
+    }
+    Some((number as u32, rest))
+}
+
+/// A transaction that the bytes begin with, and what follows it.
 #[inline(always)]
 pub(crate) fn first_txn(bytes: &[u8]) -> Option<(TxnId, &[u8])>
     ensures cut { IfSome result (λ t. bytes.now ≡ id_text t.0 ++ t.1.now) }
     ensures fits { IfSome result (λ t. IdFits t.0) }
 {
-    let (epoch, rest) = number_and(bytes, b'.')?;
-    let epoch = medium_number(epoch)?;
-    let (number, rest) = first_number(rest)?;
-    let number = medium_number(number)?;
+    let (epoch, rest) = medium_and(bytes, b'.')?;
+    let (number, rest) = first_medium(rest)?;
     Some((TxnId { epoch, number }, rest))
 }
 

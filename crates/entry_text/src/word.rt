@@ -47,9 +47,8 @@ pub(crate) fn small_number(number: u64) -> Option<u16>
 
 // The number, where it is one of u32.
 #[inline(always)]
-pub(crate) fn medium_number(number: u64) -> Option<u32>
-    ensures value { result ≡ limited (2 ^ 32) number }
-    ensures same { IfSome result (λ n. n ≡ number) }
+fn medium_number(number: u64) -> Option<u32>
+    ensures { result ≡ limited (2 ^ 32) number }
 {
     if number > u64::from(u32::MAX) {
         return None;

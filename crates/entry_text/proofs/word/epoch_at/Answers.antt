@@ -11,4 +11,4 @@ returns-in_err-number c =
 pub returns : goal.returns
 returns c =
     gives_more _ _ c.args.line.now c.in_ok-number.number (limited (2 ^ 32)) _ _ (below_at (2 ^ 32) c.args.line.now) c.in_ok-number.ensures.word
-    c.medium_number.ensures.value
+    c.medium_number.ensures
