@@ -7,7 +7,7 @@ use Rattle.script_input.specs.declared.fault.ScriptFault.{ScriptFault}
 use Rattle.script_input.specs.declared.streams.End.{End}
 use Rattle.script_input.specs.Lines.{script_lines}
 use Rattle.script_input.specs.Faults.{HasEndedAt, IsWithin}
-use Rattle.script_input.specs.Reader.{StopsAt}
+use Rattle.script_input.specs.Reader.{StopsAt, ReadsNoFurther}
 use Rattle.escrow_audit.specs.declared.reading.Found.{Found}
 use Rattle.escrow_audit.specs.declared.reading.Found.TheVariants.{Entries, BadEntry}
 use Rattle.escrow_audit.specs.declared.answer.AuditEnd.{AuditEnd}
@@ -43,3 +43,8 @@ Tells from to last end text =
 -- The fault came behind lines that have no bad entry.
 abbrev pub FaultsIn : Option (List ℕ) → Option (List ℕ) → End → ScriptFault → Type 0
 FaultsIn from to last fault = (given : List (List ℕ)) × (IsGood given × StopsAt from to last given fault)
+
+-- Want of memory came for the header, and no more was read than its line needs; or what was read has its answer: the first
+-- bad entry, or the verdict at the end of an input within the limits whose lines are all good.
+abbrev pub WantsIn : Option (List ℕ) → Option (List ℕ) → End → Type 0
+WantsIn from to last = ReadsNoFurther from to [] ⊎ ((end : AuditEnd) × ((text : List ℕ) × Tells from to last end text))

@@ -1,8 +1,9 @@
-use Rattle.std.proofs.Common.{◌+◌, [], ◌∷◌, ◌++◌, Ok, sym, ◌∙◌, subst, arith}
+use Rattle.std.proofs.Common.{◌+◌, [], ◌∷◌, ◌++◌, Ok, refl, sym, ◌∙◌, subst, inl, arith}
 use Rattle.std.proofs.KnownBytes.{Consumes-nil}
 use Rattle.std.proofs.lemmas.List.{length_push}
 use Rattle.std.proofs.lemmas.Result.{err_from_is_err_and}
 use Rattle.script_input.specs.Reader.{given_line, Nexts}
+use Rattle.script_input.proofs.ReaderLemmas.{no_further_none}
 use Rattle.escrow_audit.specs.Audit.{IsBadEntry, HasEntries}
 use Rattle.escrow_audit.specs.Reading.{Notes}
 use Rattle.escrow_audit.proofs.Entries.{HasEntries-more, finds_bad, finds_long, faults_no_memory}
@@ -89,3 +90,9 @@ returns-in-End-clause-ok g c =
         (all.ended, (all.within, (inv.entries, (subst (HasEntries c.lines.schema inv.entries) (sym all.all) inv.has, inv.taken)))),
       ),
     )
+
+pub returns-in_err-lines-clause-memory : goal.returns-in_err-lines-clause-memory
+returns-in_err-lines-clause-memory g c =
+    let from = g.R.Source.bytes c.args.reader.now in
+    let p = err_from_is_err_and c.from_residual.result c.from_residual.ensures.1 in
+    rw (p.1, p.2) (λ e waits. no_further_none from from (inl refl))
