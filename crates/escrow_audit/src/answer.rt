@@ -1,6 +1,6 @@
 //! What an audit answers, and its text.
 
-ghost use Rattle.std.specs.Prelude.{◌≡◌, ◌≢◌, ◌++◌, ◌∷◌, [], List, codes, string_bytes, length, IfOk, IfErr, OnOk, OnErr, false};
+ghost use Rattle.std.specs.Prelude.{◌≡◌, ◌≢◌, ◌++◌, ◌∷◌, [], List, codes, string_bytes, length, IfOk, IfErr, OnOk, OnErr, true, false};
 ghost use Rattle.std.specs.Io.KnownBytes.{Appends};
 ghost use Rattle.std.specs.Fmt.{decimal};
 ghost use Rattle.field_bounds.specs.Schema.{SchemaValue};
@@ -140,6 +140,8 @@ fn answer_by_fields<R: Source>(
         → HasFailed (R.last reader.new)) }
     ensures reads { CountsReads result (R.failures reader.old) (R.failures reader.new) }
     ensures other { IfErr result (λ fault. fault ≢ ScriptFault.Write) }
+    ensures memory { IfErr result (λ fault. fault ≡ ScriptFault.NoMemory
+        → WantsIn true (R.bytes reader.old) (R.bytes reader.new) (R.last reader.new)) }
 {
     match read_entries::<R, Vec<Entry>>(alloc, reader)? {
         Found::Entries(schema, entries) => {
@@ -163,7 +165,7 @@ fn answer_in_one_pass<R: Source>(
     ensures reads { CountsReads result (R.failures reader.old) (R.failures reader.new) }
     ensures other { IfErr result (λ fault. fault ≢ ScriptFault.Write) }
     ensures memory { IfErr result (λ fault. fault ≡ ScriptFault.NoMemory
-        → WantsIn (R.bytes reader.old) (R.bytes reader.new) (R.last reader.new)) }
+        → WantsIn false (R.bytes reader.old) (R.bytes reader.new) (R.last reader.new)) }
 {
     match read_entries::<R, JudgedEntries>(alloc, reader)? {
         Found::Entries(_, judged) => Ok(tell_judged(alloc, &judged)?),
@@ -186,8 +188,8 @@ fn answer<R: Source>(
         → HasFailed (R.last reader.new)) }
     ensures reads { CountsReads result (R.failures reader.old) (R.failures reader.new) }
     ensures other { IfErr result (λ fault. fault ≢ ScriptFault.Write) }
-    ensures memory { IfErr result (λ fault. fault ≡ ScriptFault.NoMemory → fields ≡ false
-        → WantsIn (R.bytes reader.old) (R.bytes reader.new) (R.last reader.new)) }
+    ensures memory { IfErr result (λ fault. fault ≡ ScriptFault.NoMemory
+        → WantsIn fields (R.bytes reader.old) (R.bytes reader.new) (R.last reader.new)) }
 {
     if fields {
         answer_by_fields(rt, alloc, reader)
@@ -262,9 +264,10 @@ pub fn audit_text<R: Source, W: Sink>(
     // One read failed in this call at a read fault, and else none.
     ensures reads { CountsReads result (R.failures reader.old) (R.failures reader.new) }
 
-    // In one pass want of memory comes for the header, or where what was read has its answer.
-    ensures memory { IfErr result (λ fault. fault ≡ ScriptFault.NoMemory → fields ≡ false
-        → WantsIn (R.bytes reader.old) (R.bytes reader.new) (R.last reader.new)) }
+    // Want of memory comes where what was read has its answer, or else for the header or, with
+    // `fields`, for an entry.
+    ensures memory { IfErr result (λ fault. fault ≡ ScriptFault.NoMemory
+        → WantsIn fields (R.bytes reader.old) (R.bytes reader.new) (R.last reader.new)) }
 
     // One write was refused in this call at a write fault, and else none.
     ensures writes { CountsWrites result (W.refusals writer.old) (W.refusals writer.new) }

@@ -16,25 +16,26 @@ pub(crate) trait TakesEntries: Drop {
     /// It has taken in these entries under this schema, the oldest first.
     ghost has_taken: { SchemaValue → List Entry → Self → Type 0 };
 
-    /// A want of memory waits for the end of the input.
-    ghost waits: { Bool };
+    /// Each entry is kept, and a want of memory for that is told at once. Any other waits for the
+    /// end of the input.
+    ghost keeps: { Bool };
 
     /// Before the first entry.
     fn before_all(alloc: Global, schema: &Schema) -> Self
         ensures { has_taken schema.now [] result };
 
-    /// One more entry, behind the others. The error is want of memory, where that doesn't wait.
+    /// One more entry, behind the others. The error is want of memory to keep it.
     fn take_in(&mut self, alloc: Global, schema: &Schema, entry: &Entry) -> Result<(), AllocError>
         ensures taken { OnOk result ((entries : List Entry) → has_taken schema.now entries self.old →
             has_taken schema.now (entries ++ entry.now ∷ []) self.new) }
-        ensures told { OnErr result (waits ≡ false) };
+        ensures told { OnErr result (keeps ≡ true) };
 }
 
 // The entries are kept.
 impl TakesEntries for Vec<Entry> {
     ghost has_taken = { λ schema entries kept. kept.items ≡ entries };
 
-    ghost waits = { false };
+    ghost keeps = { true };
 
     fn before_all(alloc: Global, _schema: &Schema) -> Vec<Entry> {
         Vec::new(alloc)
@@ -110,7 +111,7 @@ impl JudgedEntries {
 impl TakesEntries for JudgedEntries {
     ghost has_taken = { AreJudged };
 
-    ghost waits = { true };
+    ghost keeps = { false };
 
     fn before_all(_alloc: Global, _schema: &Schema) -> JudgedEntries {
         JudgedEntries::Fresh

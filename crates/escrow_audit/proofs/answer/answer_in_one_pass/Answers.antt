@@ -1,9 +1,9 @@
-use Rattle.std.proofs.Common.{subst}
+use Rattle.std.proofs.Common.{subst, false}
 use Rattle.std.proofs.lemmas.Result.{err_from_is_err_and}
 use Rattle.escrow_audit.specs.Judged.{AreJudged}
 use Rattle.escrow_audit.specs.Reading.{FindsIn}
 use Rattle.escrow_audit.proofs.Entries.{faults_no_memory}
-use Rattle.escrow_audit.proofs.Told.{tells_verdict, wants_verdict, wants_bad}
+use Rattle.escrow_audit.proofs.Told.{tells_verdict, wants_found}
 use Rattle.escrow_audit.proofs.answer.answer_in_one_pass.Goals as goal
 
 pub returns-in_err-tell_judged-in-Entries-clause-fault : goal.returns-in_err-tell_judged-in-Entries-clause-fault
@@ -33,21 +33,10 @@ returns-in_err-bad_entry-in-BadEntry-clause-fault g c =
 
 pub returns-in_err-tell_judged-in-Entries-clause-memory : goal.returns-in_err-tell_judged-in-Entries-clause-memory
 returns-in_err-tell_judged-in-Entries-clause-memory g c =
-    let from = g.R.Source.bytes c.args.reader.now in
-    let to = g.R.Source.bytes c.read_entries.new.reader in
-    let last = g.R.Source.last c.read_entries.new.reader in
-    let found = subst (λ f. FindsIn AreJudged from to last f) c.in-Entries.is c.in_ok-judged.ensures.ok in
-    let (read, (consumed, (ended, (within, (entries, (has, are)))))) = found in
-    let p = err_from_is_err_and c.from_residual-in_err-tell_judged-in-Entries.result
-    c.from_residual-in_err-tell_judged-in-Entries.ensures.1 in
-    rw (p.1, p.2) (λ e. wants_verdict from to last c.in-Entries.field-0 entries read consumed ended within has)
+    let p = err_from_is_err_and c.from_residual-in_err-tell_judged-in-Entries.result c.from_residual-in_err-tell_judged-in-Entries.ensures.1 in
+    rw (p.1, p.2) (λ e. wants_found _ false _ _ _ _ c.in_ok-judged.ensures.ok)
 
 pub returns-in_err-bad_entry-in-BadEntry-clause-memory : goal.returns-in_err-bad_entry-in-BadEntry-clause-memory
 returns-in_err-bad_entry-in-BadEntry-clause-memory g c =
-    let from = g.R.Source.bytes c.args.reader.now in
-    let to = g.R.Source.bytes c.read_entries.new.reader in
-    let last = g.R.Source.last c.read_entries.new.reader in
-    let found = subst (λ f. FindsIn AreJudged from to last f) c.in-BadEntry.is c.in_ok-judged.ensures.ok in
-    let p = err_from_is_err_and c.from_residual-in_err-bad_entry-in-BadEntry.result
-    c.from_residual-in_err-bad_entry-in-BadEntry.ensures.1 in
-    rw (p.1, p.2) (λ e. wants_bad from to last found.0 c.in-BadEntry.number found.1.0 found.1.1)
+    let p = err_from_is_err_and c.from_residual-in_err-bad_entry-in-BadEntry.result c.from_residual-in_err-bad_entry-in-BadEntry.ensures.1 in
+    rw (p.1, p.2) (λ e. wants_found _ false _ _ _ _ c.in_ok-judged.ensures.ok)
