@@ -230,8 +230,8 @@ fn answer<R: Source>(
 ///
 /// Costs 128 KiB for input, memory for the judge and, with `fields`, for the entries, and time in
 /// proportion to the input. Want of memory for the judge is told only where all lines are good
-/// and the input was read to its end, within the limits; for an entry as it is read, and for the
-/// header before more is read than that needs.
+/// and the input was read to its end, within the limits; for the header and, with `fields`, for an
+/// entry it is told before more is read than that line needs.
 ///
 /// Source: O'Neil 1986 for the central store, Balegas and others 2015 for rights that are divided
 /// among sites and given, this project for the audit.
