@@ -1,5 +1,5 @@
 -- The entries of lines, one more line at a time, and what the reading finds.
-use Rattle.std.proofs.Common.{◌≡◌, ℕ, ◌+◌, ◌<◌, List, [], ◌∷◌, ◌++◌, Option, length, inl, inr, refl, sym, ap, subst, ◌∙◌, arith}
+use Rattle.std.proofs.Common.{◌≡◌, ℕ, ◌+◌, ◌<◌, List, [], ◌∷◌, ◌++◌, Option, Bool, true, length, ◌⊎◌, inl, inr, refl, sym, ap, subst, ◌∙◌, arith}
 use Rattle.std.specs.Io.KnownBytes.{Consumes}
 use Rattle.field_bounds.specs.Schema.{SchemaValue}
 use Rattle.field_bounds.specs.declared.entry.Entry.{Entry}
@@ -8,10 +8,10 @@ use Rattle.script_input.specs.declared.fault.ScriptFault.TheVariants.{NoMemory}
 use Rattle.script_input.specs.declared.streams.End.{End}
 use Rattle.script_input.specs.declared.reader.LineReader.{LineReader}
 use Rattle.script_input.specs.Faults.{HasEndedAt}
-use Rattle.script_input.specs.Reader.{Reads}
+use Rattle.script_input.specs.Reader.{Reads, ReadsNoFurther}
 use Rattle.script_input.proofs.NextLemmas.{HasNext, next_given, next_long, stops_no_memory}
 use Rattle.escrow_audit.specs.Audit.{AreEntries, HasEntries, IsBadEntry, FindsBad}
-use Rattle.escrow_audit.specs.Reading.{Notes, FindsIn, FaultsIn}
+use Rattle.escrow_audit.specs.Reading.{Notes, FindsIn, FaultsIn, WantsAt}
 use Rattle.escrow_audit.specs.declared.reading.Found.TheVariants.{BadEntry}
 
 -- a line behind entries that begin with one
@@ -89,3 +89,18 @@ module _ {E : Type 0} (taken : SchemaValue → List Entry → E → Type 0) (fro
 
 pub faults_no_memory : (from to : Option (List ℕ)) (last : End) (read : List ℕ) → Consumes from to read → FaultsIn from to last NoMemory
 faults_no_memory from to last read consumed = ([], (inl refl, stops_no_memory from to last read consumed))
+
+-- for the header
+pub wants_header : (keeps : Bool) (from to : Option (List ℕ)) → ReadsNoFurther from to [] → WantsAt keeps from to
+wants_header keeps from to reads = record { given = []; good = inl refl; header = λ e. refl; no_further = reads }
+
+-- for a line behind it, of which it is known
+pub wants_on : (from was to : Option (List ℕ)) (schema : SchemaValue) (entries : List Entry) (given : List (List ℕ)) → HasEntries schema entries given
+    → WantsAt true from was → (to ≡ was) ⊎ ReadsNoFurther from to given → WantsAt true from to
+wants_on from was to schema entries given has wants (inl same) = subst (λ (t : Option (List ℕ)). WantsAt true from t) (sym same) wants
+wants_on from was to schema entries given has wants (inr reads) =
+    record { given = given; good = inr (schema, (entries, has)); header = λ e. cc; no_further = reads }
+
+-- and where that entry is kept
+pub wants_entry : (keeps : Bool) (from to : Option (List ℕ)) → keeps ≡ true → WantsAt true from to → WantsAt keeps from to
+wants_entry keeps from to e wants = subst (λ (k : Bool). WantsAt k from to) (sym e) wants

@@ -1,5 +1,5 @@
 -- What is answered of a reading.
-use Rattle.std.proofs.Common.{◌≡◌, ℕ, List, [], Option, length, refl, sym, subst, append-nil}
+use Rattle.std.proofs.Common.{◌≡◌, ℕ, List, [], Option, length, refl, sym, subst, inr, Bool, append-nil}
 use Rattle.std.specs.Io.KnownBytes.{Consumes}
 use Rattle.field_bounds.specs.Schema.{SchemaValue}
 use Rattle.field_bounds.specs.declared.entry.Entry.{Entry}
@@ -13,8 +13,10 @@ use Rattle.script_input.specs.Lines.{script_lines}
 use Rattle.script_input.specs.Faults.{HasEndedAt, IsWithin}
 use Rattle.escrow_audit.specs.declared.answer.AuditEnd.{AuditEnd}
 use Rattle.escrow_audit.specs.declared.answer.AuditEnd.TheVariants as ends
-use Rattle.escrow_audit.specs.Audit.{HasEntries, verdict_text, end_of, Fails}
-use Rattle.escrow_audit.specs.Reading.{Tells}
+use Rattle.escrow_audit.specs.Audit.{HasEntries, verdict_text, end_of, bad_entry_text, Fails}
+use Rattle.escrow_audit.specs.Reading.{FindsIn, Tells, WantsIn}
+use Rattle.escrow_audit.specs.declared.reading.Found.{Found}
+use Rattle.escrow_audit.specs.declared.reading.Found.TheVariants.{Entries, BadEntry}
 
 -- the answer wasn't written whole
 pub Fails-write : (from to before after : Option (List ℕ)) (last : End) (end : AuditEnd) (text bytes : List ℕ) → Tells from to last end text
@@ -48,3 +50,13 @@ module _ (from to : Option (List ℕ)) (last : End) (schema : SchemaValue) (entr
     (consumed, (within, (ended, record { schema = schema; entries = entries; good = has; ended = is; told = told }))),
   )
   tells_verdict ends.BadEntry text consumed ended within has is told = absurd (no_bad_entry (verdict_of schema entries) is)
+
+-- memory for the answer to what was found may be wanting
+pub wants_found : {E : Type 0} (taken : SchemaValue → List Entry → E → Type 0) (keeps : Bool) (from to : Option (List ℕ)) (last : End) (found : Found E)
+    → FindsIn taken from to last found → WantsIn keeps from to last
+wants_found taken keeps from to last (Entries schema all) (read, (consumed, (ended, (within, (entries, (has, are)))))) =
+    let v = verdict_of schema entries in
+    let text = verdict_text v (length entries) in
+    inr (end_of v, (text, tells_verdict from to last schema entries read (end_of v) text consumed ended within has refl refl))
+wants_found taken keeps from to last (BadEntry number) (read, (consumed, finds)) =
+    inr (ends.BadEntry, (bad_entry_text number, (read, (consumed, (tt, (number, (finds, refl)))))))

@@ -1,5 +1,5 @@
 -- What the reading of an input finds (this project).
-use Rattle.std.specs.Prelude.{◌≡◌, ℕ, List, [], ◌∷◌, ◌++◌, ◌⊎◌, Option}
+use Rattle.std.specs.Prelude.{◌≡◌, ℕ, List, [], ◌∷◌, ◌++◌, ◌⊎◌, Option, Bool, false}
 use Rattle.std.specs.Io.KnownBytes.{Consumes}
 use Rattle.field_bounds.specs.Schema.{SchemaValue}
 use Rattle.field_bounds.specs.declared.entry.Entry.{Entry}
@@ -7,7 +7,7 @@ use Rattle.script_input.specs.declared.fault.ScriptFault.{ScriptFault}
 use Rattle.script_input.specs.declared.streams.End.{End}
 use Rattle.script_input.specs.Lines.{script_lines}
 use Rattle.script_input.specs.Faults.{HasEndedAt, IsWithin}
-use Rattle.script_input.specs.Reader.{StopsAt}
+use Rattle.script_input.specs.Reader.{StopsAt, ReadsNoFurther}
 use Rattle.escrow_audit.specs.declared.reading.Found.{Found}
 use Rattle.escrow_audit.specs.declared.reading.Found.TheVariants.{Entries, BadEntry}
 use Rattle.escrow_audit.specs.declared.answer.AuditEnd.{AuditEnd}
@@ -43,3 +43,16 @@ Tells from to last end text =
 -- The fault came behind lines that have no bad entry.
 abbrev pub FaultsIn : Option (List ℕ) → Option (List ℕ) → End → ScriptFault → Type 0
 FaultsIn from to last fault = (given : List (List ℕ)) × (IsGood given × StopsAt from to last given fault)
+
+-- Want of memory came for a line of the last piece that was read, and the lines in front of that piece are good: for the
+-- header, so that there are none; or for an entry, where the entries are kept.
+pub record WantsAt (keeps : Bool) (from to : Option (List ℕ)) : Type 0 where
+  pub given : List (List ℕ)
+  pub good : IsGood given
+  pub header : keeps ≡ false → given ≡ []
+  pub no_further : ReadsNoFurther from to given
+
+-- So it came, or what was read has its answer: the first bad entry, or the verdict at the end of an input within the limits
+-- whose lines are all good.
+abbrev pub WantsIn : Bool → Option (List ℕ) → Option (List ℕ) → End → Type 0
+WantsIn keeps from to last = WantsAt keeps from to ⊎ ((end : AuditEnd) × ((text : List ℕ) × Tells from to last end text))

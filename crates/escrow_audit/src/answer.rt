@@ -1,6 +1,6 @@
 //! What an audit answers, and its text.
 
-ghost use Rattle.std.specs.Prelude.{◌≡◌, ◌≢◌, ◌++◌, ◌∷◌, [], List, codes, string_bytes, length, IfOk, IfErr, OnOk, OnErr};
+ghost use Rattle.std.specs.Prelude.{◌≡◌, ◌≢◌, ◌++◌, ◌∷◌, [], List, codes, string_bytes, length, IfOk, IfErr, OnOk, OnErr, true, false};
 ghost use Rattle.std.specs.Io.KnownBytes.{Appends};
 ghost use Rattle.std.specs.Fmt.{decimal};
 ghost use Rattle.field_bounds.specs.Schema.{SchemaValue};
@@ -9,7 +9,7 @@ ghost use Rattle.central_rules.specs.Verdict.{verdict_of};
 ghost use Rattle.script_input.specs.Streams.{HasFailed, GaveNothing, HasRefused, AppendsPrefix};
 ghost use Rattle.script_input.specs.Faults.{CountsReads, CountsWrites};
 ghost use Rattle.escrow_audit.specs.Judged.{AreJudged};
-ghost use Rattle.escrow_audit.specs.Reading.{Tells, FaultsIn};
+ghost use Rattle.escrow_audit.specs.Reading.{Tells, FaultsIn, WantsIn};
 ghost use Rattle.escrow_audit.specs.Audit.{rule_text, verdict_text, end_of, bad_entry_text, Audits, Fails};
 
 use crate::reading::{Found, read_entries};
@@ -140,6 +140,8 @@ fn answer_by_fields<R: Source>(
         → HasFailed (R.last reader.new)) }
     ensures reads { CountsReads result (R.failures reader.old) (R.failures reader.new) }
     ensures other { IfErr result (λ fault. fault ≢ ScriptFault.Write) }
+    ensures memory { IfErr result (λ fault. fault ≡ ScriptFault.NoMemory
+        → WantsIn true (R.bytes reader.old) (R.bytes reader.new) (R.last reader.new)) }
 {
     match read_entries::<R, Vec<Entry>>(alloc, reader)? {
         Found::Entries(schema, entries) => {
@@ -162,6 +164,8 @@ fn answer_in_one_pass<R: Source>(
         → HasFailed (R.last reader.new)) }
     ensures reads { CountsReads result (R.failures reader.old) (R.failures reader.new) }
     ensures other { IfErr result (λ fault. fault ≢ ScriptFault.Write) }
+    ensures memory { IfErr result (λ fault. fault ≡ ScriptFault.NoMemory
+        → WantsIn false (R.bytes reader.old) (R.bytes reader.new) (R.last reader.new)) }
 {
     match read_entries::<R, JudgedEntries>(alloc, reader)? {
         Found::Entries(_, judged) => Ok(tell_judged(alloc, &judged)?),
@@ -184,6 +188,8 @@ fn answer<R: Source>(
         → HasFailed (R.last reader.new)) }
     ensures reads { CountsReads result (R.failures reader.old) (R.failures reader.new) }
     ensures other { IfErr result (λ fault. fault ≢ ScriptFault.Write) }
+    ensures memory { IfErr result (λ fault. fault ≡ ScriptFault.NoMemory
+        → WantsIn fields (R.bytes reader.old) (R.bytes reader.new) (R.last reader.new)) }
 {
     if fields {
         answer_by_fields(rt, alloc, reader)
@@ -224,7 +230,8 @@ fn answer<R: Source>(
 ///
 /// Costs 128 KiB for input, memory for the judge and, with `fields`, for the entries, and time in
 /// proportion to the input. Want of memory for the judge is told only where all lines are good
-/// and the input was read to its end, within the limits.
+/// and the input was read to its end, within the limits; for the header and, with `fields`, for an
+/// entry it is told before more is read than that line needs.
 ///
 /// Source: O'Neil 1986 for the central store, Balegas and others 2015 for rights that are divided
 /// among sites and given, this project for the audit.
@@ -256,6 +263,11 @@ pub fn audit_text<R: Source, W: Sink>(
 
     // One read failed in this call at a read fault, and else none.
     ensures reads { CountsReads result (R.failures reader.old) (R.failures reader.new) }
+
+    // Want of memory comes where what was read has its answer, or else for the header or, with
+    // `fields`, for an entry.
+    ensures memory { IfErr result (λ fault. fault ≡ ScriptFault.NoMemory
+        → WantsIn fields (R.bytes reader.old) (R.bytes reader.new) (R.last reader.new)) }
 
     // One write was refused in this call at a write fault, and else none.
     ensures writes { CountsWrites result (W.refusals writer.old) (W.refusals writer.new) }

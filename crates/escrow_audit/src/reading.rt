@@ -1,9 +1,9 @@
 //! The reading of an input, line by line.
 
-ghost use Rattle.std.specs.Prelude.{◌≡◌, ◌≢◌, ◌∷◌, ◌++◌, [], IfOk, IfErr, true, false};
+ghost use Rattle.std.specs.Prelude.{◌≡◌, ◌≢◌, ◌∷◌, ◌++◌, [], IfOk, IfErr, OnErr, true, false};
 ghost use Rattle.script_input.specs.Streams.{HasFailed};
 ghost use Rattle.script_input.specs.Faults.{CountsReads};
-ghost use Rattle.escrow_audit.specs.Reading.{TakesIn, FindsIn, FaultsIn};
+ghost use Rattle.escrow_audit.specs.Reading.{TakesIn, FindsIn, FaultsIn, WantsAt};
 ghost use Rattle.escrow_audit.specs.Audit.{IsBadEntry};
 
 use crate::remark::is_remark;
@@ -32,6 +32,7 @@ fn note<E: TakesEntries>(
     ensures good { IfOk result (λ good. good ≡ true
         → TakesIn E.has_taken schema.now line.now taken.old taken.new) }
     ensures bad { IfOk result (λ good. good ≡ false → IsBadEntry schema.now line.now) }
+    ensures told { OnErr result (E.keeps ≡ true) }
 {
     if line.len() > MAX_LINE {
         return Ok(false);
@@ -57,6 +58,10 @@ pub(crate) fn read_entries<R: Source, E: TakesEntries>(
         → HasFailed (R.last reader.new)) }
     ensures reads { CountsReads result (R.failures reader.old) (R.failures reader.new) }
     ensures other { IfErr result (λ fault. fault ≢ ScriptFault.Write) }
+
+    // Where no entry is kept, want of memory comes for the header alone.
+    ensures memory { IfErr result (λ fault. fault ≡ ScriptFault.NoMemory
+        → WantsAt E.keeps (R.bytes reader.old) (R.bytes reader.new)) }
 {
     let mut lines = LineReader::new(alloc)?;
     let schema = lines.header(alloc, reader)?;

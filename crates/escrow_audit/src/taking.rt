@@ -1,6 +1,6 @@
 //! Where the entries of an input go, as they are read.
 
-ghost use Rattle.std.specs.Prelude.{◌≡◌, ◌≢◌, List, [], ◌∷◌, ◌++◌, length, IfOk, IsOk, OnOk};
+ghost use Rattle.std.specs.Prelude.{◌≡◌, ◌≢◌, Bool, true, false, List, [], ◌∷◌, ◌++◌, length, IfOk, OnOk, OnErr};
 ghost use Rattle.field_bounds.specs.Schema.{SchemaValue};
 ghost use Rattle.field_bounds.specs.declared.entry.Entry.{Entry};
 ghost use Rattle.central_rules.specs.Verdict.{verdict_of, read_for};
@@ -16,19 +16,26 @@ pub(crate) trait TakesEntries: Drop {
     /// It has taken in these entries under this schema, the oldest first.
     ghost has_taken: { SchemaValue → List Entry → Self → Type 0 };
 
+    /// Each entry is kept, and a want of memory for that is told at once. Any other waits for the
+    /// end of the input.
+    ghost keeps: { Bool };
+
     /// Before the first entry.
     fn before_all(alloc: Global, schema: &Schema) -> Self
         ensures { has_taken schema.now [] result };
 
-    /// One more entry, behind the others. The error is want of memory.
+    /// One more entry, behind the others. The error is want of memory to keep it.
     fn take_in(&mut self, alloc: Global, schema: &Schema, entry: &Entry) -> Result<(), AllocError>
-        ensures { OnOk result ((entries : List Entry) → has_taken schema.now entries self.old →
-            has_taken schema.now (entries ++ entry.now ∷ []) self.new) };
+        ensures taken { OnOk result ((entries : List Entry) → has_taken schema.now entries self.old →
+            has_taken schema.now (entries ++ entry.now ∷ []) self.new) }
+        ensures told { OnErr result (keeps ≡ true) };
 }
 
 // The entries are kept.
 impl TakesEntries for Vec<Entry> {
     ghost has_taken = { λ schema entries kept. kept.items ≡ entries };
+
+    ghost keeps = { true };
 
     fn before_all(alloc: Global, _schema: &Schema) -> Vec<Entry> {
         Vec::new(alloc)
@@ -104,17 +111,15 @@ impl JudgedEntries {
 impl TakesEntries for JudgedEntries {
     ghost has_taken = { AreJudged };
 
+    ghost keeps = { false };
+
     fn before_all(_alloc: Global, _schema: &Schema) -> JudgedEntries {
         JudgedEntries::Fresh
     }
 
     // A want of memory waits for the end: a line behind may still be a bad entry.
     #[inline(always)]
-    fn take_in(&mut self, alloc: Global, schema: &Schema, entry: &Entry) -> Result<(), AllocError>
-        ensures taken { OnOk result ((entries : List Entry) → AreJudged schema.now entries self.old
-            → AreJudged schema.now (entries ++ entry.now ∷ []) self.new) }
-        ensures waits { IsOk result }
-    {
+    fn take_in(&mut self, alloc: Global, schema: &Schema, entry: &Entry) -> Result<(), AllocError> {
         self.begin(alloc, schema);
         let JudgedEntries::Legal(judge) = self else {
             return Ok(());

@@ -3,6 +3,7 @@
 mod behind;
 mod faults;
 mod hostile;
+mod memory;
 
 use check_kit::{STOCK_OF_TWO, text_of_two};
 use escrow_audit::{AuditEnd, ScriptFault, Sink, Source, Watched, audit_text};

@@ -2,7 +2,7 @@
 use Rattle.std.proofs.Common.{◌≡◌, ◌≢◌, ℕ, zero, suc, ◌+◌, ◌<◌, ◌≤◌, List, [], ◌∷◌, ◌++◌, Option, Ok, true, false, length, take, drop, refl, sym, ap, ◌∙◌, subst, append_assoc, append-nil, inl, inr, ◌⊎◌, arith}
 use Rattle.std.specs.List.{All}
 use Rattle.std.specs.Io.KnownBytes.{Consumes, Keeps}
-use Rattle.std.proofs.KnownBytes.{Consumes-nil, Consumes-kept}
+use Rattle.std.proofs.KnownBytes.{Consumes-nil, Consumes-kept, Consumes-trans}
 use Rattle.std.proofs.lemmas.List.{length-append, length_push, length-take-le, length-drop, take-take, take-append-drop, take_all, nil_from_length}
 use Rattle.std.proofs.lemmas.List.Elements.{All-take}
 use Rattle.script_input.specs.declared.streams.End.{End}
@@ -16,7 +16,7 @@ use Rattle.script_input.specs.declared.fault.ScriptFault.TheVariants as faults
 use Rattle.script_input.specs.declared.fault.ScriptFault.TheVariants.{Read, TooLong}
 use Rattle.script_input.specs.Lines.{whole_lines, last_part, last_line, lines_of, with_header}
 use Rattle.script_input.specs.Faults.{HasEndedAt, IsWithin, TellsHeader}
-use Rattle.script_input.specs.Reader.{pending, given_line, IsFresh, IsDue, IsBehind, Reads, EndsLine, GivesLine, GivesPassed, FindsLong, StopsAt, HasGiven, HasPassed, Nexts}
+use Rattle.script_input.specs.Reader.{pending, given_line, IsFresh, IsDue, IsBehind, Reads, EndsLine, GivesLine, GivesPassed, FindsLong, StopsAt, ReadsNoFurther, HasGiven, HasPassed, Nexts}
 use Rattle.script_input.proofs.LineLemmas.{whole_lines-unbroken, last_part-unbroken, whole_lines-broken, last_part-broken, last_line-some, with_header-last, last_part_after-none, within-unbroken, some_after_line}
 
 -- ---- how many lines there are
@@ -216,6 +216,17 @@ module _ (from to : Option (List ℕ)) (last : End) (old : LineReader) (given : 
         );
       }
 
+  -- and a read brings one piece
+  pub reads_no_further : (later : Option (List ℕ)) (piece : List ℕ) → IsDue old → Consumes to later piece → length piece ≤ 65536
+      → ReadsNoFurther from later given
+  reads_no_further later piece due got most = record {
+    front = reads.gone ++ pending old;
+    piece = piece;
+    consumed = Consumes-trans from to later (reads.gone ++ pending old) piece reads.consumed got;
+    whole = whole_lines-unbroken reads.gone (pending old) due.unbroken ∙ sym (behind_open due.not_ended).whole;
+    most = most;
+  }
+
 -- ---- what is found
 
 pub zero_or_some : (n : ℕ) → (n ≡ 0) ⊎ (0 < n)
@@ -324,6 +335,17 @@ reads_none from last r fresh = record {
   lines = fresh.lines;
   place = inl (record { whole = refl; passed = fresh.passed });
 }
+
+-- and while none is needed
+pub no_further_none : (from to : Option (List ℕ)) → (to ≡ from) ⊎ ReadsNoFurther from to [] → ReadsNoFurther from to []
+no_further_none from to (inl same) = record {
+  front = [];
+  piece = [];
+  consumed = subst (λ (t : Option (List ℕ)). Consumes from t []) (sym same) (Consumes-nil from);
+  whole = refl;
+  most = omega arith;
+}
+no_further_none from to (inr reads) = reads
 
 -- what was passed over before reads stays so
 pub nexts_from : (from to : Option (List ℕ)) (last : End) (given : List (List ℕ)) (old middle new : LineReader) (most : ℕ) (next : NextLine)

@@ -163,6 +163,14 @@ pub record StopsAt (from to : Option (List ℕ)) (last : End) (given : List (Lis
   pub whole : whole_lines front ≡ given
   pub why : Explains fault front back (HasEndedAt to last)
 
+-- In front of the last piece that was read, of at most 65,536 bytes, these lines stand whole, and no other.
+pub record ReadsNoFurther (from to : Option (List ℕ)) (given : List (List ℕ)) : Type 0 where
+  pub front : List ℕ
+  pub piece : List ℕ
+  pub consumed : Consumes from to (front ++ piece)
+  pub whole : whole_lines front ≡ given
+  pub most : length piece ≤ 65536
+
 -- What comes next, behind the lines that were given.
 abbrev pub Nexts : Option (List ℕ) → Option (List ℕ) → End → List (List ℕ) → LineReader → LineReader → ℕ
     → Result NextLine ScriptFault → Type 0

@@ -64,7 +64,7 @@ fn schema_of_line(alloc: Global, line: &[u8]) -> Result<Schema, ScriptFault>
 }
 
 impl LineReader {
-    ghost use Rattle.script_input.specs.Reader.{pending, given_line, lines_given, passed_over, ahead_of, IsDue, IsPlain, PassesOn, IsFresh, Reads, Finds, Nexts, Falls, StopsAt, HasHeader, HasGiven, HasPassed};
+    ghost use Rattle.script_input.specs.Reader.{pending, given_line, lines_given, passed_over, ahead_of, IsDue, IsPlain, PassesOn, IsFresh, Reads, Finds, Nexts, Falls, StopsAt, ReadsNoFurther, HasHeader, HasGiven, HasPassed};
 
     /// A reader of lines before its first read. Costs 128 KiB. The error is want of memory.
     pub fn new(alloc: Global) -> Result<LineReader, AllocError>
@@ -273,6 +273,11 @@ impl LineReader {
         ensures fault { IfErr result (λ fault. fault ≡ ScriptFault.Read) }
         ensures failed { OnErr result (HasFailed (R.last reader.new)) }
 
+        // What was read before has no more whole line.
+        ensures no_further { (from : Option (List ℕ)) (given : List (List ℕ))
+            → Reads from (R.bytes reader.old) (R.last reader.old) self.old given
+            → ReadsNoFurther from (R.bytes reader.new) given }
+
         // One read failed at a fault, and else none.
         ensures reads { CountsReads result (R.failures reader.old) (R.failures reader.new) }
     {
@@ -299,7 +304,15 @@ impl LineReader {
         ensures failed { IfErr result (λ fault. fault ≡ ScriptFault.Read
             → HasFailed (R.last reader.new)) }
         ensures reads { CountsReads result (R.failures reader.old) (R.failures reader.new) }
+        ensures fault { IfErr result (λ fault. (fault ≡ ScriptFault.Read)
+            ⊎ (fault ≡ ScriptFault.TooLong)) }
         ensures other { IfErr result (λ fault. fault ≢ ScriptFault.Write) }
+
+        // More is read only where what was read has no more whole line.
+        ensures no_further { (from : Option (List ℕ)) (given : List (List ℕ))
+            → Reads from (R.bytes reader.old) (R.last reader.old) self.old given
+            → (R.bytes reader.new ≡ R.bytes reader.old)
+            ⊎ ReadsNoFurther from (R.bytes reader.new) given }
 
         // There is an end to it.
         ensures ahead { IfOk result (λ next. next ≢ NextLine.End
@@ -333,6 +346,9 @@ impl LineReader {
             → HasFailed (R.last reader.new)) }
         ensures reads { CountsReads result (R.failures reader.old) (R.failures reader.new) }
         ensures other { IfErr result (λ fault. fault ≢ ScriptFault.Write) }
+
+        // No more is read than the first line needs, at each fault too.
+        ensures no_further { ReadsNoFurther (R.bytes reader.old) (R.bytes reader.new) [] }
     {
         match self.next(reader, MAX_HEADER)? {
             NextLine::Line => schema_of_line(alloc, self.line()),

@@ -1,11 +1,12 @@
-use Rattle.std.proofs.Common.{◌+◌, [], ◌∷◌, ◌++◌, Ok, sym, ◌∙◌, subst, arith}
+use Rattle.std.proofs.Common.{◌+◌, [], ◌∷◌, ◌++◌, Ok, refl, sym, ◌∙◌, subst, inl, arith}
 use Rattle.std.proofs.KnownBytes.{Consumes-nil}
 use Rattle.std.proofs.lemmas.List.{length_push}
 use Rattle.std.proofs.lemmas.Result.{err_from_is_err_and}
 use Rattle.script_input.specs.Reader.{given_line, Nexts}
+use Rattle.script_input.proofs.ReaderLemmas.{no_further_none}
 use Rattle.escrow_audit.specs.Audit.{IsBadEntry, HasEntries}
 use Rattle.escrow_audit.specs.Reading.{Notes}
-use Rattle.escrow_audit.proofs.Entries.{HasEntries-more, finds_bad, finds_long, faults_no_memory}
+use Rattle.escrow_audit.proofs.Entries.{HasEntries-more, finds_bad, finds_long, faults_no_memory, wants_header, wants_on, wants_entry}
 use Rattle.escrow_audit.proofs.reading.read_entries.Goals as goal
 
 pub returns-in_err-lines-clause-fault : goal.returns-in_err-lines-clause-fault
@@ -53,6 +54,7 @@ lines-preserved g c =
           (subst (λ l. Notes c.lines.schema l inv.entries noted.0) c.line.ensures.line noted.1.0);
       taken = noted.1.1;
       none = line.passed;
+      wants = wants_on from _ to c.lines.schema inv.entries inv.given inv.has inv.wants (c.in_ok-next.ensures.no_further from inv.given inv.reads);
       failures = c.in_ok-next.ensures.reads ∙ inv.failures;
     }
 
@@ -89,3 +91,18 @@ returns-in-End-clause-ok g c =
         (all.ended, (all.within, (inv.entries, (subst (HasEntries c.lines.schema inv.entries) (sym all.all) inv.has, inv.taken)))),
       ),
     )
+
+pub returns-in_err-lines-clause-memory : goal.returns-in_err-lines-clause-memory
+returns-in_err-lines-clause-memory g c =
+    let from = g.R.Source.bytes c.args.reader.now in
+    let p = err_from_is_err_and c.from_residual.result c.from_residual.ensures.1 in
+    rw (p.1, p.2) (λ e. wants_header _ from from (no_further_none from from (inl refl)))
+
+pub returns-in_err-note-in-Line-clause-memory : goal.returns-in_err-note-in-Line-clause-memory
+returns-in_err-note-in-Line-clause-memory g c =
+    let from = g.R.Source.bytes c.args.reader.now in
+    let to = g.R.Source.bytes c.next.new.reader in
+    let inv = c.lines.invariant in
+    let p = err_from_is_err_and c.from_residual-in_err-note-in-Line.result c.from_residual-in_err-note-in-Line.ensures.1 in
+    rw (p.1, p.2) (λ e. wants_entry g.E.TakesEntries.keeps from to c.in_err-note-in-Line.ensures.told
+    (wants_on from _ to c.lines.schema inv.entries inv.given inv.has inv.wants (c.in_ok-next.ensures.no_further from inv.given inv.reads)))

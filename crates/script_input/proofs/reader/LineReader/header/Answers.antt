@@ -4,7 +4,7 @@ use Rattle.field_bounds.specs.Header.{schema_of}
 use Rattle.script_input.specs.Faults.{TellsHeader}
 use Rattle.script_input.specs.Lines.{lines_of}
 use Rattle.script_input.specs.Reader.{Nexts}
-use Rattle.script_input.proofs.ReaderLemmas.{reads_none, stops_header, stops_long, header_there}
+use Rattle.script_input.proofs.ReaderLemmas.{reads_none, no_further_none, stops_header, stops_long, header_there}
 use Rattle.script_input.proofs.reader.LineReader.header.Goals as goal
 
 pub returns-in_err-next-clause-err : goal.returns-in_err-next-clause-err
@@ -60,3 +60,21 @@ returns-in-Long-clause-err g c =
     stops_long from to last c.next.new.self
     (subst (λ n. Nexts from to last [] c.args.self.now c.next.new.self 65536 (Ok n)) c.in-Long.is
     (c.in_ok-next.ensures.next from [] (reads_none from (g.R.Source.last c.args.reader.now) c.args.self.now c.requires.first)))
+
+pub returns-in_err-next-clause-no_further : goal.returns-in_err-next-clause-no_further
+returns-in_err-next-clause-no_further g c =
+    let from = g.R.Source.bytes c.args.reader.now in
+    no_further_none from (g.R.Source.bytes c.next.new.reader)
+    (c.in_err-next.ensures.no_further from [] (reads_none from (g.R.Source.last c.args.reader.now) c.args.self.now c.requires.first))
+
+pub returns-in-Line-clause-no_further : goal.returns-in-Line-clause-no_further
+returns-in-Line-clause-no_further g c =
+    let from = g.R.Source.bytes c.args.reader.now in
+    no_further_none from (g.R.Source.bytes c.next.new.reader)
+    (c.in_ok-next.ensures.no_further from [] (reads_none from (g.R.Source.last c.args.reader.now) c.args.self.now c.requires.first))
+
+pub returns-in-Long-clause-no_further : goal.returns-in-Long-clause-no_further
+returns-in-Long-clause-no_further g c =
+    let from = g.R.Source.bytes c.args.reader.now in
+    no_further_none from (g.R.Source.bytes c.next.new.reader)
+    (c.in_ok-next.ensures.no_further from [] (reads_none from (g.R.Source.last c.args.reader.now) c.args.self.now c.requires.first))

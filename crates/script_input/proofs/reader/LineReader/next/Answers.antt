@@ -1,4 +1,4 @@
-use Rattle.std.proofs.Common.{Ok, IfNone, subst, ◌∙◌, arith}
+use Rattle.std.proofs.Common.{Ok, IfNone, subst, ◌∙◌, inr, arith}
 use Rattle.std.proofs.lemmas.Result.{err_from_is_err_and}
 use Rattle.script_input.specs.Reader.{Finds, Falls, PassesOn}
 use Rattle.script_input.proofs.ReaderLemmas.{nexts_from}
@@ -24,6 +24,9 @@ pieces-preserved g c =
       reads = λ from given reads. c.in_ok-read.ensures.ok from given
           (subst (λ f. Finds from (g.R.Source.bytes c.pieces.reader) (g.R.Source.last c.pieces.reader) given c.pieces.self c.find.new.self c.args.most (Ok f))
           c.in_default.is (c.in_ok-next.ensures.next from _ _ given (inv.reads from given reads)));
+      no_further = λ from given reads. inr (c.in_ok-read.ensures.no_further from given
+          (subst (λ f. Finds from (g.R.Source.bytes c.pieces.reader) (g.R.Source.last c.pieces.reader) given c.pieces.self c.find.new.self c.args.most (Ok f))
+          c.in_default.is (c.in_ok-next.ensures.next from _ _ given (inv.reads from given reads))));
       failures = c.in_ok-read.ensures.reads ∙ inv.failures;
     }
 
@@ -31,5 +34,11 @@ pub returns-in_err-read-clause-next : goal.returns-in_err-read-clause-next
 returns-in_err-read-clause-next g c = λ from given reads.
     let p = err_from_is_err_and c.from_residual-in_err-read.result c.from_residual-in_err-read.ensures.1 in
     rw (p.1, p.2) (c.in_err-read.ensures.err from given
+    (subst (λ f. Finds from (g.R.Source.bytes c.pieces.reader) (g.R.Source.last c.pieces.reader) given c.pieces.self c.find.new.self c.args.most (Ok f))
+    c.in_default.is (c.in_ok-next.ensures.next from _ _ given (c.pieces.invariant.reads from given reads))))
+
+pub returns-in_err-read-clause-no_further : goal.returns-in_err-read-clause-no_further
+returns-in_err-read-clause-no_further g c = λ from given reads.
+    inr (c.in_err-read.ensures.no_further from given
     (subst (λ f. Finds from (g.R.Source.bytes c.pieces.reader) (g.R.Source.last c.pieces.reader) given c.pieces.self c.find.new.self c.args.most (Ok f))
     c.in_default.is (c.in_ok-next.ensures.next from _ _ given (c.pieces.invariant.reads from given reads))))

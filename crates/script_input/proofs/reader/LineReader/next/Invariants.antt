@@ -1,5 +1,5 @@
-use Rattle.std.proofs.Common.{◌≡◌, ℕ, ◌≤◌, List, Option}
-use Rattle.script_input.specs.Reader.{ahead_of, Reads}
+use Rattle.std.proofs.Common.{◌≡◌, ℕ, ◌≤◌, ◌⊎◌, List, Option}
+use Rattle.script_input.specs.Reader.{ahead_of, Reads, ReadsNoFurther}
 use Rattle.script_input.proofs.reader.LineReader.next.Given as goal
 
 abbrev pub invariant-pieces : goal.invariant-pieces
@@ -10,6 +10,9 @@ invariant-pieces g l = record {
   reads : (from : Option (List ℕ)) (given : List (List ℕ))
       → Reads from (g.R.Source.bytes l.initial.reader) (g.R.Source.last l.initial.reader) l.initial.self given
       → Reads from (g.R.Source.bytes l.reader) (g.R.Source.last l.reader) l.self given;
+  no_further : (from : Option (List ℕ)) (given : List (List ℕ))
+      → Reads from (g.R.Source.bytes l.initial.reader) (g.R.Source.last l.initial.reader) l.initial.self given
+      → (g.R.Source.bytes l.reader ≡ g.R.Source.bytes l.initial.reader) ⊎ ReadsNoFurther from (g.R.Source.bytes l.reader) given;
   failures : g.R.Source.failures l.reader ≡ g.R.Source.failures l.initial.reader;
 }
 
