@@ -5,7 +5,8 @@ ghost use Rattle.field_bounds.specs.Central.{IsSound, IsCentral};
 ghost use Rattle.central_rules.specs.declared.verdict.Rule.{Rule};
 ghost use Rattle.central_rules.specs.declared.verdict.Verdict.TheVariants.{Legal, Illegal};
 ghost use Rattle.central_rules.specs.Verdict.{IsFirstBad, verdict_of};
-ghost use Rattle.central_machine.specs.Parts.{AreRestFaults, IsFieldsFault, AreFaults};
+ghost use Rattle.central_machine.specs.declared.part.Part.TheVariants.{OnFields};
+ghost use Rattle.central_machine.specs.Parts.{AreRestFaults, IsFault, AreFaults};
 
 use crate::field_faults::fields_fault;
 use crate::joined::earliest;
@@ -31,7 +32,8 @@ fn faults_of(
         rt,
         entries.len(),
         || -> Result<Option<Fault>, AllocError>
-            ensures { IfOk result (λ fault. IsFieldsFault schema.entry.now entries.entry.now fault) }
+            ensures { IfOk result (λ fault. IsFault schema.entry.now entries.entry.now OnFields
+                fault) }
         { fields_fault(alloc, schema, entries) },
         || -> Result<Vec<Option<Fault>>, AllocError>
             ensures { IfOk result (λ faults. AreRestFaults schema.entry.now entries.entry.now
