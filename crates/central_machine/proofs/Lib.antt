@@ -17,14 +17,13 @@ pub mod Rows_told
 pub mod Parallel
 pub mod Places
 pub mod Found
-pub mod Windows
+pub mod Sums_put
 pub mod Moves
 pub mod Sums_more
 pub mod Sums_taken
 pub mod Sums_step
 pub mod Room
 pub mod Totals_more
-pub mod Covered
 pub mod Told_first
 pub mod Gathered
 pub mod Apart

@@ -1,5 +1,5 @@
--- The sums of the fields of a window, when the next entry is taken in.
-use Rattle.std.proofs.Common.{◌≡◌, ℕ, ◌+◌, ◌-◌, ◌<◌, ◌≤◌, List, ◌∷◌, ◌∙◌, ap, arith}
+-- The sums of the fields, when the next entry is taken in.
+use Rattle.std.proofs.Common.{◌≡◌, ℕ, ◌+◌, ◌-◌, ◌<◌, ◌≤◌, List, ◌∷◌, length, ◌∙◌, ap, arith}
 use Rattle.std.proofs.lemmas.Int.{ints}
 use Rattle.std.specs.Prelude.{pos, ◌+ℤ◌, ◌-ℤ◌}
 use Rattle.field_bounds.specs.declared.kind.Kind.{Kind}
@@ -16,7 +16,6 @@ use Rattle.field_bounds.specs.Central.{at_site, committed_value, open_sizes, cut
 use Rattle.field_bounds.proofs.Lawful.{IsLawful}
 use Rattle.field_bounds.proofs.Headline.{within_bounds}
 use Rattle.field_bounds.proofs.Traces.{sound_front}
-use Rattle.central_machine.specs.declared.window.Window.{Window}
 use Rattle.central_machine.specs.declared.field_sums.FieldSums.{FieldSums}
 use Rattle.central_machine.specs.Amounts.{amount, has_slot, capped_sum}
 use Rattle.central_machine.specs.Sums.{AreSums}
@@ -133,30 +132,30 @@ module _ (schema : SchemaValue) (good : IsSchema schema) (e : Entry) (t : List E
     pub cut_more : (k : Kind) (a b : ℕ) → a ≡ cuts schema t f k → b ≡ capped_sum (a + given k) → b ≡ cuts schema (e ∷ t) f k
     cut_more k a b was now = omega (arith, was, now, is.cuts k, cut_small k)
 
--- the sums of a window, each moved so
-pub record Moved (w : Window) (n m : FieldSums) (opened closed committed given : ℕ → Kind → ℕ) : Type 0 where
+-- the sums, each moved so
+pub record Moved (schema : SchemaValue) (n m : FieldSums) (opened closed committed given : ℕ → Kind → ℕ) : Type 0 where
   pub room_places : (g : ℕ) → has_slot m.room g ≡ has_slot n.room g
   pub aside_places : (g : ℕ) → has_slot m.aside g ≡ has_slot n.aside g
   pub cut_places : (g : ℕ) → has_slot m.cut g ≡ has_slot n.cut g
-  pub room : (f : ℕ) (k : Kind) → f < w.count → amount m.room f k ≡ capped_sum (amount n.room f k + committed f (other k)) - committed f k
-  pub aside : (f : ℕ) (k : Kind) → f < w.count → amount m.aside f k ≡ capped_sum (amount n.aside f k + opened f k) - closed f k
-  pub cut : (f : ℕ) (k : Kind) → f < w.count → amount m.cut f k ≡ capped_sum (amount n.cut f k + given f k)
+  pub room : (f : ℕ) (k : Kind) → f < length schema.fields → amount m.room f k ≡ capped_sum (amount n.room f k + committed f (other k)) - committed f k
+  pub aside : (f : ℕ) (k : Kind) → f < length schema.fields → amount m.aside f k ≡ capped_sum (amount n.aside f k + opened f k) - closed f k
+  pub cut : (f : ℕ) (k : Kind) → f < length schema.fields → amount m.cut f k ≡ capped_sum (amount n.cut f k + given f k)
 
 -- so they are those of the front with the entry
-pub sums_moved : (schema : SchemaValue) → IsSchema schema → (w : Window) (e : Entry) (t : List Entry) → IsSound schema (e ∷ t)
+pub sums_moved : (schema : SchemaValue) → IsSchema schema → (e : Entry) (t : List Entry) → IsSound schema (e ∷ t)
     → (n m : FieldSums) (opened closed committed given : ℕ → Kind → ℕ)
-    → ((f : ℕ) → f < w.count → Shifts schema e t (w.first + f) (opened f) (closed f) (committed f) (given f))
-    → Moved w n m opened closed committed given → AreSums schema w t n → AreSums schema w (e ∷ t) m
-sums_moved schema good w e t sound n m opened closed committed given shifts took is = record {
+    → ((f : ℕ) → f < length schema.fields → Shifts schema e t f (opened f) (closed f) (committed f) (given f))
+    → Moved schema n m opened closed committed given → AreSums schema t n → AreSums schema (e ∷ t) m
+sums_moved schema good e t sound n m opened closed committed given shifts took is = record {
   room_in = λ f l. took.room_places f ∙ is.room_in f l;
   aside_in = λ f l. took.aside_places f ∙ is.aside_in f l;
   cut_in = λ f l. took.cut_places f ∙ is.cut_in f l;
-  low = λ f l. low_more schema good e t sound (w.first + f) (opened f) (closed f) (committed f) (given f) (shifts f l)
+  low = λ f l. low_more schema good e t sound f (opened f) (closed f) (committed f) (given f) (shifts f l)
       (amount n.room f Lower) (amount m.room f Lower) (is.low f l) (took.room f Lower l);
-  high = λ f l. high_more schema good e t sound (w.first + f) (opened f) (closed f) (committed f) (given f) (shifts f l)
+  high = λ f l. high_more schema good e t sound f (opened f) (closed f) (committed f) (given f) (shifts f l)
       (amount n.room f Raise) (amount m.room f Raise) (is.high f l) (took.room f Raise l);
-  aside = λ f k l. aside_more schema good e t sound (w.first + f) (opened f) (closed f) (committed f) (given f) (shifts f l) k
+  aside = λ f k l. aside_more schema good e t sound f (opened f) (closed f) (committed f) (given f) (shifts f l) k
       (amount n.aside f k) (amount m.aside f k) (is.aside f k l) (took.aside f k l);
-  cut = λ f k l. cut_more schema good e t sound (w.first + f) (opened f) (closed f) (committed f) (given f) (shifts f l) k
+  cut = λ f k l. cut_more schema good e t sound f (opened f) (closed f) (committed f) (given f) (shifts f l) k
       (amount n.cut f k) (amount m.cut f k) (is.cut f k l) (took.cut f k l);
 }

@@ -1,4 +1,4 @@
--- The sums of the fields of a window over a legal trace, when the next entry of a site is taken in.
+-- The sums of the fields over a legal trace, when the next entry of a site is taken in.
 use Rattle.std.proofs.Common.{◌≡◌, ◌≢◌, ℕ, ◌+◌, ◌≤◌, Bool, true, false, List, ◌∷◌, refl, sym, ◌∙◌, ap, arith, subst, Option, Some, None}
 use Rattle.field_bounds.specs.declared.kind.Kind.{Kind}
 use Rattle.field_bounds.specs.declared.kind.Kind.TheVariants.{Lower, Raise}
@@ -19,7 +19,6 @@ use Rattle.field_bounds.proofs.Lawful.{IsLawful}
 use Rattle.field_bounds.proofs.Runs.{run_is_lawful}
 use Rattle.field_bounds.proofs.Traces.{own_here, sound_front, sound_fits}
 use Rattle.central_machine.specs.declared.numbers.Numbers.{Numbers}
-use Rattle.central_machine.specs.declared.window.Window.{Window}
 use Rattle.central_machine.specs.declared.field_sums.FieldSums.{FieldSums}
 use Rattle.central_machine.specs.Amounts.{amount}
 use Rattle.central_machine.specs.Running.{Describes, effect_by, doubt, settled_effect}
@@ -128,7 +127,7 @@ module _ (schema : SchemaValue) (good : IsSchema schema) (e : Entry) (t : List E
       given None k = omega arith
       given (Some x) k = cut_moves schema base es f k x
 
-  module _ (w : Window) (n : FieldSums) (is : AreSums schema w t n) (x : Numbers)
+  module _ (n : FieldSums) (is : AreSums schema t n) (x : Numbers)
       (describes : Describes schema base es x) where
     front : IsSound schema t
     front = sound_front schema e t sound
@@ -141,43 +140,43 @@ module _ (schema : SchemaValue) (good : IsSchema schema) (e : Entry) (t : List E
 
     -- the sums follow what takes effect
     taken : (d : Option Effect) (m : FieldSums) → d ≢ Some Stops → at_site schema (e ∷ t) e.site.0 ≡ with_effect true d es
-        → SumsTake w d x.journal.rows.items n m → AreSums schema w (e ∷ t) m
+        → SumsTake d x.journal.rows.items n m → AreSums schema (e ∷ t) m
     taken None m plain same took =
-        subst (λ (y : FieldSums). AreSums schema w (e ∷ t) y) (sym took)
-        (sums_moved schema good w e t sound n n (λ f k. 0) (λ f k. 0) (λ f k. 0) (λ f k. 0)
-        (λ f l. no_effect same (w.first + f)) (still schema good w t front n is) is)
+        subst (λ (y : FieldSums). AreSums schema (e ∷ t) y) (sym took)
+        (sums_moved schema good e t sound n n (λ f k. 0) (λ f k. 0) (λ f k. 0) (λ f k. 0)
+        (λ f l. no_effect same f) (still schema good t front n is) is)
     taken (Some d) m plain same took =
         let lawful = subst (λ (y : List Effect). IsLawful schema base y) same lawful_now in
-        sums_moved schema good w e t sound n m (λ f k. opened_by (w.first + f) k d) (λ f k. closed_by (w.first + f) k es d)
-        (λ f k. committed_by (w.first + f) k es d) (λ f k. given_up_by (w.first + f) k d)
-        (λ f l. by_effect schema good e t sound (w.first + f) d lawful same)
-        (moves_by schema good w t front n is base es x.journal.rows.items open_rows d m (λ (h : d ≡ Stops). plain (ap (λ (y : Effect). Some y) h))
+        sums_moved schema good e t sound n m (λ f k. opened_by f k d) (λ f k. closed_by f k es d)
+        (λ f k. committed_by f k es d) (λ f k. given_up_by f k d)
+        (λ f l. by_effect schema good e t sound f d lawful same)
+        (moves_by schema good t front n is base es x.journal.rows.items open_rows d m (λ (h : d ≡ Stops). plain (ap (λ (y : Effect). Some y) h))
         lawful took) is
 
     restarted : (kept : Bool) (m : FieldSums) → at_site schema (e ∷ t) e.site.0 ≡ Stops ∷ effects base kept (own e.site.0 t)
-        → (mid : FieldSums) → SettlesDoubt w (settled_effect kept (doubt base (own e.site.0 t))) x.journal.rows.items n mid
-        → Closes w mid m (all_escrows x.journal.rows.items) → AreSums schema w (e ∷ t) m
+        → (mid : FieldSums) → SettlesDoubt (settled_effect kept (doubt base (own e.site.0 t))) x.journal.rows.items n mid
+        → Closes mid m (all_escrows x.journal.rows.items) → AreSums schema (e ∷ t) m
     restarted kept m same mid first then =
         let o = own e.site.0 t in
         let d = settled_effect kept (doubt base o) in
         let settles = restart_settles schema e.site.0 base o (front.runs e.site.0 sound.sites.1) kept in
         let whole_is : at_site schema (e ∷ t) e.site.0 ≡ Stops ∷ with_effect true d es = same ∙ ap (λ (y : List Effect). Stops ∷ y) settles in
         let lawful = subst (λ (y : List Effect). IsLawful schema base y) whole_is lawful_now in
-        sums_moved schema good w e t sound n m (λ f k. 0) (λ f k. held_rights (w.first + f) k es)
-        (λ f k. committed_in_doubt (w.first + f) k es d) (λ f k. given_in_doubt (w.first + f) k d)
-        (λ f l. by_restart d lawful whole_is (w.first + f))
-        (stops_all schema good w t front n is base es x.journal.rows.items open_rows d mid m
+        sums_moved schema good e t sound n m (λ f k. 0) (λ f k. held_rights f k es)
+        (λ f k. committed_in_doubt f k es d) (λ f k. given_in_doubt f k d)
+        (λ f l. by_restart d lawful whole_is f)
+        (stops_all schema good t front n is base es x.journal.rows.items open_rows d mid m
         (run_is_lawful schema e.site.0 base o (front.runs e.site.0 sound.sites.1) false)
-        (settled_by schema good w t front n is base es x.journal.rows.items open_rows d mid lawful.0 first) then) is
+        (settled_by schema good t front n is base es x.journal.rows.items open_rows d mid lawful.0 first) then) is
 
     abbrev Next : Command → Reply → Type 0
     Next c r =
         (m : FieldSums) → at_site schema (e ∷ t) e.site.0 ≡ after base false c r (effects base (doubt_kept_before false r) (own e.site.0 t))
-        → SumsAfter w (effect_by (amount x.free) c r) r (doubt base (own e.site.0 t)) x.journal.rows.items n m → AreSums schema w (e ∷ t) m
+        → SumsAfter (effect_by (amount x.free) c r) r (doubt base (own e.site.0 t)) x.journal.rows.items n m → AreSums schema (e ∷ t) m
 
     sure : (c : Command) (r : Reply) → is_restarted r ≡ false → effect_by (amount x.free) c r ≡ effect_of base es c r → (m : FieldSums)
         → at_site schema (e ∷ t) e.site.0 ≡ with_effect true (effect_of base es c r) es
-        → SumsTake w (effect_by (amount x.free) c r) x.journal.rows.items n m → AreSums schema w (e ∷ t) m
+        → SumsTake (effect_by (amount x.free) c r) x.journal.rows.items n m → AreSums schema (e ∷ t) m
     sure c r plain told m same took =
         taken (effect_by (amount x.free) c r) m (never_stops (amount x.free) c r plain)
         (same ∙ ap (λ (d : Option Effect). with_effect true d es) (sym told)) took
@@ -211,10 +210,10 @@ module _ (schema : SchemaValue) (good : IsSchema schema) (e : Entry) (t : List E
     next c r fits told = by_reply c r refl told
 
     pub sums_step : (d : Option Effect) (m : FieldSums) → d ≡ doubt base (own e.site.0 t)
-        → SumsAfter w (effect_by (amount x.free) e.command e.reply) e.reply d x.journal.rows.items n m → AreSums schema w (e ∷ t) m
+        → SumsAfter (effect_by (amount x.free) e.command e.reply) e.reply d x.journal.rows.items n m → AreSums schema (e ∷ t) m
     sums_step d m is_doubt took =
         let fits = sound_fits schema e t sound in
         next e.command e.reply fits
         (agrees schema e.site.0 base (own e.site.0 t) (amount x.free) describes.free e.command e.reply fits) m
         (ap (λ (o : List Entry). effects base false o) (own_here e.site.0 e t refl))
-        (subst (λ (y : Option Effect). SumsAfter w (effect_by (amount x.free) e.command e.reply) e.reply y x.journal.rows.items n m) is_doubt took)
+        (subst (λ (y : Option Effect). SumsAfter (effect_by (amount x.free) e.command e.reply) e.reply y x.journal.rows.items n m) is_doubt took)

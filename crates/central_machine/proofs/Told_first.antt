@@ -2,9 +2,8 @@
 use Rattle.std.proofs.Common.{◌≡◌, ℕ, zero, suc, ◌+◌, ◌*◌, ◌<◌, ◌≤◌, Bool, true, false, cond, ◌&&◌, ◌||◌, List, [], ◌∷◌, length, reverse, take_all, refl, sym, ◌∙◌, ap, subst, inl, inr, arith, eqb, ltb, Some, None, Option}
 use Rattle.std.specs.Prelude.{slice_get, slice_index_or, ◌⊎◌}
 use Rattle.std.specs.List.{Contains}
-use Rattle.std.proofs.lemmas.Bool.{cases_eq, cases_lt, or_cases, and_parts, and_cases, eqb-true, eqb-false, ltb-true, ltb-false, eq-eqb}
+use Rattle.std.proofs.lemmas.Bool.{cases_eq, or_cases, and_parts, and_cases, eqb-true, eqb-false, ltb-true, ltb-false, eq-eqb}
 use Rattle.std.proofs.lemmas.Option.{get_or_from_slice_get, slice_get_cases}
-use Rattle.field_bounds.specs.declared.id.FieldNo.{FieldNo}
 use Rattle.field_bounds.specs.declared.entry.Entry.{Entry}
 use Rattle.field_bounds.specs.Schema.{SchemaValue}
 use Rattle.central_rules.specs.declared.verdict.Rule.{Rule}
@@ -12,13 +11,10 @@ use Rattle.central_rules.specs.declared.verdict.Rule.TheVariants.{Site, Grant, S
 use Rattle.central_rules.specs.declared.verdict.Verdict.TheVariants.{Legal, Illegal}
 use Rattle.central_rules.specs.Verdict.{broken_rule, first_broken, rules, verdict_back, verdict_of, test_of}
 use Rattle.central_rules.proofs.Verdicts.{none_broken, stop_here}
-use Rattle.central_machine.specs.declared.window.Window.{Window}
 use Rattle.central_machine.specs.declared.part.Part.{Part}
 use Rattle.central_machine.specs.declared.part.Part.TheVariants.{Statements, AtSite, OnFields}
 use Rattle.central_machine.specs.declared.part.Fault.{Fault}
-use Rattle.central_machine.specs.Sums.{is_in}
-use Rattle.central_machine.specs.Parts.{front_of, field_of, lies_in, window_test, part_rule, IsBefore, IsFault, HasFault, AreFaults, rank, is_before, earlier, earliest}
-use Rattle.central_machine.proofs.Covered.{IsOutside, quiet_grant, quiet_shortage, quiet_interval, own_inside}
+use Rattle.central_machine.specs.Parts.{front_of, field_tests, part_rule, IsBefore, IsFault, HasFault, AreFaults, rank, is_before, earlier, earliest}
 use Rattle.central_machine.proofs.Places.{some_is, front_next}
 use Rattle.central_machine.proofs.Totals_more.{legal_next}
 
@@ -181,10 +177,6 @@ module _ (schema : SchemaValue) (t : List Entry) (e : Entry) where
   abbrev told_tests : List (Bool × Rule)
   told_tests = (test_of schema t e Site, Site) ∷ (test_of schema t e Told, Told) ∷ []
 
-  abbrev window_tests : Window → List (Bool × Rule)
-  window_tests w = (window_test schema w t e Grant, Grant) ∷ (window_test schema w t e Shortage, Shortage)
-      ∷ (window_test schema w t e Interval, Interval) ∷ []
-
   -- a rule that a part names is broken
   fails : (part : Part) (r : Rule) → part_rule schema t e part ≡ Some r → test_of schema t e r ≡ false
   fails Statements r h = fails_in (test_of schema t e) told_tests ((λ x. x), ((λ x. x), tt)) r h
@@ -193,25 +185,15 @@ module _ (schema : SchemaValue) (t : List Entry) (e : Entry) where
       at : (b : Bool) → cond b (first_broken ((test_of schema t e Owed, Owed) ∷ [])) None ≡ Some r → test_of schema t e r ≡ false
       at true h = fails_in (test_of schema t e) ((test_of schema t e Owed, Owed) ∷ []) ((λ x. x), tt) r h
       at false h = cc
-  fails (OnFields w) r h = at (ltb e.site.0 schema.sites) h
+  fails OnFields r h = at (ltb e.site.0 schema.sites) h
     where
-      inner : (b x : Bool) → cond b x true ≡ false → x ≡ false
-      inner true x isnt = isnt
-      inner false x isnt = cc
-
-      at : (b : Bool) → cond b (first_broken (window_tests w)) None ≡ Some r → test_of schema t e r ≡ false
-      at true h = fails_in (test_of schema t e) (window_tests w) (
-        inner (lies_in w (field_of e.command)) (test_of schema t e Grant),
-        (
-          inner (lies_in w (field_of e.command)) (test_of schema t e Shortage),
-          (inner (lies_in w (field_of e.command)) (test_of schema t e Interval), tt),
-        ),
-      ) r h
+      at : (b : Bool) → cond b (first_broken (field_tests schema t e)) None ≡ Some r → test_of schema t e r ≡ false
+      at true h = fails_in (test_of schema t e) (field_tests schema t e) ((λ x. x), ((λ x. x), ((λ x. x), tt))) r h
       at false h = cc
 
   module _ (n : ℕ) (statements : Clear n (part_rule schema t e Statements))
       (sites : (s : ℕ) → s < schema.sites → Clear n (part_rule schema t e (AtSite s)))
-      (fields : (f : ℕ) → f < length schema.fields → (w : Window) × (is_in w f ≡ true) × Clear n (part_rule schema t e (OnFields w))) where
+      (fields : Clear n (part_rule schema t e OnFields)) where
     first_two : HoldBelow n told_tests
     first_two = hold_below n 0 told_tests (omega arith, (omega arith, tt)) statements
 
@@ -222,40 +204,17 @@ module _ (schema : SchemaValue) (t : List Entry) (e : Entry) where
         (eq-eqb e.site.0 e.site.0 refl) (sites e.site.0 inside) in
         (hold_below n 0 ((test_of schema t e Owed, Owed) ∷ []) (omega arith, tt) mine).0 less
 
-    -- the window in which the entry's field lies, or none where it names none of the schema
-    where_is : (o : Option FieldNo) → ((w : Window) × (lies_in w o ≡ true) × Clear n (part_rule schema t e (OnFields w))) ⊎ IsOutside schema o
-    where_is None = inr tt
-    where_is (Some field) =
-        elim (cases_lt field.0 (length schema.fields)) [
-          | inl below ↦ inl (fields field.0 below)
-          | inr past ↦ inr past
-        ]
-
-    fields_hold : 0 < n → (1 < n → test_of schema t e Grant ≡ true) × (2 < n → test_of schema t e Shortage ≡ true)
-        × (3 < n → test_of schema t e Interval ≡ true)
+    fields_hold : 0 < n → HoldBelow n (field_tests schema t e)
     fields_hold some =
-        elim (where_is (field_of e.command)) [
-          | inl there ↦
-              let clear = subst (λ (b : Bool). Clear n (cond b (first_broken (window_tests there.0)) None)) (first_two.0 some) there.2 in
-              let all = hold_below n 1 (window_tests there.0) (omega arith, (omega arith, (omega arith, tt))) clear in
-              let own = own_inside schema there.0 t e there.1 in (
-                λ less. sym own.grant ∙ all.0 less,
-                λ less. sym own.shortage ∙ all.1.0 less,
-                λ less. sym own.interval ∙ all.1.1.0 less,
-              )
-          | inr out ↦ (
-            λ less. quiet_grant schema t e.command e.reply out,
-            λ less. quiet_shortage schema t e.site.0 e.command e.reply out,
-            λ less. quiet_interval schema t e.command e.reply out,
-          )
-        ]
+        hold_below n 1 (field_tests schema t e) (omega arith, (omega arith, (omega arith, tt)))
+        (subst (λ (b : Bool). Clear n (cond b (first_broken (field_tests schema t e)) None)) (first_two.0 some) fields)
 
     -- so each rule before the n-th holds
     holds : (r : Rule) → rank r < n → test_of schema t e r ≡ true
     holds Site less = first_two.0 less
     holds Grant less = (fields_hold (omega (arith, less))).0 less
-    holds Shortage less = (fields_hold (omega (arith, less))).1 less
-    holds Interval less = (fields_hold (omega (arith, less))).2 less
+    holds Shortage less = (fields_hold (omega (arith, less))).1.0 less
+    holds Interval less = (fields_hold (omega (arith, less))).1.1.0 less
     holds Told less = first_two.1.0 less
     holds Owed less = owed_holds less
 
@@ -281,7 +240,7 @@ module _ (schema : SchemaValue) (entries : List Entry) (faults : List (Option Fa
   unbroken i e at before legal =
       all_hold_none schema (front_of entries i) e (λ r. holds schema (front_of entries i) e 6 (clear Statements are.statements)
       (λ s below. clear (AtSite s) (are.sites s below))
-      (λ f below. let there = are.fields f below in (there.0, there.1, clear (OnFields there.0) there.2)) r
+      (clear OnFields are.fields) r
       (let small = rank_small r in omega (arith, small)))
     where
       clear : (part : Part) → HasFault schema entries faults part → Clear 6 (part_rule schema (front_of entries i) e part)
@@ -349,7 +308,7 @@ module _ (schema : SchemaValue) (entries : List Entry) (faults : List (Option Fa
           first_is schema (front_of entries f.place) e f.rule
           (λ b less. holds schema (front_of entries f.place) e (rank f.rule) (clear Statements are.statements)
           (λ s below. clear (AtSite s) (are.sites s below))
-          (λ g below. let there = are.fields g below in (there.0, there.1, clear (OnFields there.0) there.2)) b less)
+          (clear OnFields are.fields) b less)
           (fails schema (front_of entries f.place) e finder.0 f.rule (finder.1.failed f e refl at legal_there))
 
       at_entry : Illegal (f.place + 1) f.rule ≡ verdict_of schema entries

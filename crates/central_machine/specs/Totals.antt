@@ -7,18 +7,16 @@ use Rattle.central_machine.specs.declared.site_totals.SiteTotals.{SiteTotals}
 use Rattle.central_machine.specs.declared.totals.Totals.{Totals}
 use Rattle.central_machine.specs.declared.running.Running.{Running}
 use Rattle.central_machine.specs.Running.{IsSite}
-use Rattle.central_machine.specs.Sums.{AreSums, IsWindow, IsWhole}
+use Rattle.central_machine.specs.Sums.{AreSums}
 use Rattle.statement_set.specs.Issued.{HasIssued}
 
--- The totals are those of a front: the sums of the fields of a window, and the totals of each site.
+-- The totals are those of a front: the sums of the fields, and the totals of each site.
 pub record AreTotals (schema : SchemaValue) (t : List Entry) (x : Totals) : Type 0 where
-  pub in_schema : IsWindow schema x.window
-  pub sums : AreSums schema x.window t x.sums
+  pub sums : AreSums schema t x.sums
   pub count : length x.sites.items ≡ schema.sites
   pub sites : (s : ℕ) (y : SiteTotals) → slice_get x.sites.items s ≡ Some y → IsSite schema s (own s t) y
 
--- They are those of all fields, with the statements issued.
+-- The totals of a judge that goes over the entries: those of a front, with the statements issued.
 pub record AreRunning (schema : SchemaValue) (t : List Entry) (x : Running) : Type 0 where
-  pub whole : IsWhole schema x.totals.window
   pub totals : AreTotals schema t x.totals
   pub issued : HasIssued x.issued t

@@ -1,12 +1,11 @@
 //! Amounts of both kinds, by number.
 
-ghost use Rattle.std.specs.Prelude.{◌≡◌, ◌<◌, ◌+◌, ℕ, pos, ◌+ℤ◌, ◌≤ℤ◌, true, IfOk, length, slice_index_or};
+ghost use Rattle.std.specs.Prelude.{◌≡◌, ◌<◌, ℕ, pos, ◌+ℤ◌, ◌≤ℤ◌, true, IfOk, length, slice_index_or};
 ghost use Rattle.field_bounds.specs.declared.kind.Kind.{Kind};
 ghost use Rattle.field_bounds.specs.Parts.{part_of};
 ghost use Rattle.central_machine.specs.Amounts.{amount, has_slot, IsPut};
-ghost use Rattle.central_machine.specs.Sums.{IsWindow, IsRoom};
+ghost use Rattle.central_machine.specs.Sums.{IsRoom};
 
-use crate::window::Window;
 use central_rules::bounds_of;
 use field_bounds::{FieldNo, Kind, Schema, SiteNo};
 use std::alloc::{AllocError, Global};
@@ -68,18 +67,15 @@ impl Amounts {
         })
     }
 
-    /// By how much the start value of each field of a window may fall and rise within the schema's
-    /// bounds.
-    pub fn rooms(alloc: Global, schema: &Schema, window: Window) -> Result<Amounts, AllocError>
-        requires in_schema { IsWindow schema.now window }
-        ensures { IfOk result (λ made. (f : ℕ) → f < window.count →
-            IsRoom schema.now (window.first + f) made f) }
+    /// By how much the start value of each field may fall and rise within the schema's bounds.
+    pub fn rooms(alloc: Global, schema: &Schema) -> Result<Amounts, AllocError>
+        ensures { IfOk result (λ made. (f : ℕ) → f < length schema.now.fields →
+            IsRoom schema.now f made) }
     {
-        let _fields = schema.fields();
         let mut lower = Vec::new(alloc);
         let mut raise = Vec::new(alloc);
-        for place in 0..window.count {
-            let bounds = bounds_of(schema, FieldNo(window.first + place));
+        for field in 0..schema.fields() {
+            let bounds = bounds_of(schema, FieldNo(field));
             lower.push(distance(bounds.floor, bounds.value))?;
             raise.push(distance(bounds.value, bounds.ceiling))?;
         }

@@ -26,7 +26,6 @@ mod spread;
 mod statements;
 mod threads;
 mod totals;
-mod window;
 
 pub use central_rules::{Rule, Verdict, judge_plain, verdict_is_exact};
 pub use front_judge::FrontJudge;

@@ -1,15 +1,14 @@
 //! The parts of the judge's work, and what a part finds.
 
-use crate::window::Window;
 use central_rules::Rule;
 
 /// A part of the work: the rules Site and Statement, the rule Reply at one site, or the rules
-/// Grant, Shortage and Interval on the fields of a window.
+/// Grant, Shortage and Interval.
 #[derive(Clone, Copy)]
 pub enum Part {
     Statements,
     AtSite(u16),
-    OnFields(Window),
+    OnFields,
 }
 
 /// A bad entry, by its place, and a rule that it breaks.

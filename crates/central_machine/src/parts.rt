@@ -5,9 +5,10 @@ ghost use Rattle.field_bounds.specs.Central.{IsSound, IsCentral};
 ghost use Rattle.central_rules.specs.declared.verdict.Rule.{Rule};
 ghost use Rattle.central_rules.specs.declared.verdict.Verdict.TheVariants.{Legal, Illegal};
 ghost use Rattle.central_rules.specs.Verdict.{IsFirstBad, verdict_of};
-ghost use Rattle.central_machine.specs.Parts.{AreRestFaults, AreFieldFaults, AreFaults};
+ghost use Rattle.central_machine.specs.declared.part.Part.TheVariants.{OnFields};
+ghost use Rattle.central_machine.specs.Parts.{AreRestFaults, IsFault, AreFaults};
 
-use crate::field_faults::field_faults;
+use crate::field_faults::fields_fault;
 use crate::joined::earliest;
 use crate::judging::length_of;
 use crate::part::Fault;
@@ -30,18 +31,18 @@ fn faults_of(
     let (of_fields, of_rest) = both(
         rt,
         entries.len(),
-        || -> Result<Vec<Option<Fault>>, AllocError>
-            ensures { IfOk result (λ faults. AreFieldFaults schema.entry.now entries.entry.now
-                faults.items) }
-        { field_faults(rt, alloc, schema, entries) },
+        || -> Result<Option<Fault>, AllocError>
+            ensures { IfOk result (λ fault. IsFault schema.entry.now entries.entry.now OnFields
+                fault) }
+        { fields_fault(alloc, schema, entries) },
         || -> Result<Vec<Option<Fault>>, AllocError>
             ensures { IfOk result (λ faults. AreRestFaults schema.entry.now entries.entry.now
                 faults.items) }
         { rest_faults(rt, alloc, schema, entries) },
     );
-    let fields = of_fields?;
+    let fault = of_fields?;
     let mut faults = of_rest?;
-    faults.extend_from_slice(&fields)?;
+    faults.push(fault)?;
     Ok(faults)
 }
 
@@ -69,21 +70,19 @@ fn judge_parts(
 }
 
 /// The verdict on entries, the oldest first, as `judge` answers it, with the work done by threads.
-/// The fields are divided into windows, of which each is a part that goes once over the entries and
-/// tests the rules Grant, Shortage and Interval on its fields. The rules Site and Statement are one
-/// part more, and Reply at each site is one, over that site's own entries, whose places are listed
-/// once. No part leaves out a rule because another holds. The verdict is the least place that a
-/// part tells, and of the rules told there the first in their order.
+/// The rules Grant, Shortage and Interval are one part, over all fields; Site and Statement another;
+/// Reply at each site is one, over that site's own entries, whose places are listed once. No part
+/// leaves out a rule because another holds. The verdict is the least place that a part tells, and of
+/// the rules told there the first in their order.
 ///
 /// It is Legal exactly where the trace is sound and central (`legal`); else `at` is the first bad
 /// entry, and `rule` the first rule that it breaks over the front before it (`illegal`). Over a
 /// sound trace it is Legal (`sound`).
 ///
-/// The error is want of memory. There is one window, and one more for each 1,024 fields, as long as
-/// processors are left for them; a window takes time as `judge` does but for the look-ups of statements
-/// and replies, and memory as `judge` does but for the statements, with the first three numbers for its
-/// own fields alone. The other parts take time and memory as `judge` does, and a number for each entry.
-/// Over fewer than 50 entries the parts take turns in the caller's thread.
+/// The error is want of memory. The part of the fields takes time as `judge` does but for the look-ups
+/// of statements and replies, and memory as `judge` does but for the statements. The other parts take
+/// time and memory as `judge` does, and a number for each entry. Over fewer than 50 entries the parts
+/// take turns in the caller's thread.
 ///
 /// Source: O'Neil 1986 for the central store, this project for the judge and its parts.
 pub fn judge_fields(

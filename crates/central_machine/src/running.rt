@@ -12,7 +12,6 @@ ghost use Rattle.central_machine.specs.Parts.{field_tests};
 use crate::known::by_entry;
 use crate::statements;
 use crate::totals::Totals;
-use crate::window::Window;
 use central_rules::Rule;
 use field_bounds::{Command, Entry, Reply, Schema};
 use statement_set::StatementSet;
@@ -31,7 +30,7 @@ impl Running {
         ensures { IfOk result (λ made. AreRunning schema.now [] made) }
     {
         Ok(Running {
-            totals: Totals::new(alloc, schema, Window::whole(schema))?,
+            totals: Totals::new(alloc, schema)?,
             issued: StatementSet::new(alloc),
         })
     }

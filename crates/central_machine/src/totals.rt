@@ -9,7 +9,6 @@ ghost use Rattle.central_rules.specs.declared.verdict.Rule.TheVariants.{Reply as
 ghost use Rattle.central_rules.specs.Verdict.{broken_rule, verdict_back, test_of};
 ghost use Rattle.central_machine.specs.Parts.{field_broken};
 ghost use Rattle.central_machine.specs.Running.{IsSite};
-ghost use Rattle.central_machine.specs.Sums.{IsWindow};
 ghost use Rattle.central_machine.specs.Totals.{AreTotals};
 ghost use Rattle.central_rules.specs.Replies.{reply_test};
 ghost use Rattle.field_bounds.specs.Owed.{place};
@@ -19,15 +18,13 @@ use crate::field_tests::shortage_holds;
 use crate::known::by_entry;
 use crate::owed::RunningSite;
 use crate::site_totals::SiteTotals;
-use crate::window::Window;
 use central_rules::{Rule, fits};
 use field_bounds::{Command, Entry, Reply, Schema, SiteNo};
 use std::alloc::{AllocError, Global};
 
-/// The totals of a front: the sums of the fields of a window, and the totals of each site.
+/// The totals of a front: the sums of the fields, and the totals of each site.
 #[derive(Drop)]
 pub struct Totals {
-    pub window: Window,
     pub sums: FieldSums,
     pub sites: Vec<SiteTotals>,
 }
@@ -62,18 +59,12 @@ fn sites_of(alloc: Global, schema: &Schema) -> Result<Vec<SiteTotals>, AllocErro
 
 impl Totals {
     /// The totals of no entries.
-    pub fn new(alloc: Global, schema: &Schema, window: Window) -> Result<Totals, AllocError>
-        requires in_schema { IsWindow schema.now window }
-        ensures totals { IfOk result (λ made. AreTotals schema.now [] made) }
-        ensures window { IfOk result (λ made. made.window ≡ window) }
+    pub fn new(alloc: Global, schema: &Schema) -> Result<Totals, AllocError>
+        ensures { IfOk result (λ made. AreTotals schema.now [] made) }
     {
-        let sums = FieldSums::new(alloc, schema, window)?;
+        let sums = FieldSums::new(alloc, schema)?;
         let sites = sites_of(alloc, schema)?;
-        Ok(Totals {
-            window,
-            sums,
-            sites,
-        })
+        Ok(Totals { sums, sites })
     }
 
     /// Whether the entry keeps the rule on replies: it is one that the site owes.
@@ -99,19 +90,17 @@ impl Totals {
         schema: &Schema,
         entry: &Entry,
     ) -> Result<(), AllocError>
-        ensures totals { OnOk result ((t : List Entry) → length t < 230584300921369395 →
+        ensures { OnOk result ((t : List Entry) → length t < 230584300921369395 →
             AreTotals schema.now t self.old → verdict_back schema.now t ≡ Legal →
             broken_rule schema.now t entry.now ≡ None →
             AreTotals schema.now (entry.now ∷ t) self.new) }
-        ensures window { self.new.window ≡ self.old.window }
     {
         let _sites = schema.sites();
         match self.sites.get_mut(usize::from(entry.site.0)) {
             Some(site) => {
                 let effect = site.effect_by(entry);
                 let journal = &site.numbers.journal;
-                self.sums
-                    .after(self.window, journal, site.doubt, effect, entry.reply);
+                self.sums.after(journal, site.doubt, effect, entry.reply);
                 site.put_in(alloc, effect, entry)
             }
             None => Ok(()),
@@ -120,22 +109,20 @@ impl Totals {
 
     /// The same for an entry of any kind.
     fn step_any(&mut self, alloc: Global, schema: &Schema, entry: &Entry) -> Result<(), AllocError>
-        ensures totals { OnOk result ((t : List Entry) → length t < 230584300921369395 →
+        ensures { OnOk result ((t : List Entry) → length t < 230584300921369395 →
             AreTotals schema.now t self.old → verdict_back schema.now t ≡ Legal →
             broken_rule schema.now t entry.now ≡ None →
             AreTotals schema.now (entry.now ∷ t) self.new) }
-        ensures window { self.new.window ≡ self.old.window }
     {
         self.step_by(alloc, schema, entry)
     }
 
     /// The same, with the common entries each on a way of its own.
     pub fn step(&mut self, alloc: Global, schema: &Schema, entry: &Entry) -> Result<(), AllocError>
-        ensures totals { OnOk result ((t : List Entry) → length t < 230584300921369395 →
+        ensures { OnOk result ((t : List Entry) → length t < 230584300921369395 →
             AreTotals schema.now t self.old → verdict_back schema.now t ≡ Legal →
             broken_rule schema.now t entry.now ≡ None →
             AreTotals schema.now (entry.now ∷ t) self.new) }
-        ensures window { self.new.window ≡ self.old.window }
     {
         by_entry! {
             entry;
@@ -144,23 +131,23 @@ impl Totals {
         }
     }
 
-    /// The first rule on the fields of the window that the next entry breaks: of Grant, Shortage and
-    /// Interval, each by its own test.
+    /// The first rule on fields that the next entry breaks: of Grant, Shortage and Interval, each by its
+    /// own test.
     #[inline(always)]
     pub fn field_broken(&self, schema: &Schema, entry: &Entry) -> Option<Rule>
         ensures { (t : List Entry) → AreTotals schema.now t self.now →
-            result ≡ field_broken schema.now self.now.window t entry.now }
+            result ≡ field_broken schema.now t entry.now }
     {
         let Some(site) = self.sites.get(usize::from(entry.site.0)) else {
             return None;
         };
-        if !self.sums.grant_holds(self.window, entry) {
+        if !self.sums.grant_holds(schema, entry) {
             return Some(Rule::Grant);
         }
-        if !shortage_holds(&site.numbers.free, self.window, entry) {
+        if !shortage_holds(schema, &site.numbers.free, entry) {
             return Some(Rule::Shortage);
         }
-        if !self.sums.interval_holds(self.window, schema, entry) {
+        if !self.sums.interval_holds(schema, entry) {
             return Some(Rule::Interval);
         }
         None

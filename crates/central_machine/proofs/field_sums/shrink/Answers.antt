@@ -1,11 +1,7 @@
-use Rattle.std.proofs.Common.{sym, ◌∙◌}
-use Rattle.central_machine.proofs.Windows.{shrunk, not_shrunk}
+use Rattle.central_machine.proofs.Sums_put.{shrunk}
 use Rattle.central_machine.proofs.field_sums.shrink.Goals as goal
 
-pub returns-in-Some : goal.returns-in-Some
-returns-in-Some c =
-    shrunk c.args.window c.args.field.0 c.in-Some.place _ c.args.amounts.now c.shrink_at.new.amounts c.args.kind c.args.size
-    (sym c.place.ensures ∙ c.in-Some.is) c.from.ensures c.shrink_at.ensures
-
-pub returns-in-None : goal.returns-in-None
-returns-in-None c = not_shrunk c.args.window c.args.field.0 c.args.amounts.now c.args.kind c.args.size (sym c.place.ensures ∙ c.in-None.is)
+pub returns : goal.returns
+returns c =
+    shrunk c.args.field.0 c.args.amounts.now c.put.new.self c.args.kind c.args.size
+    (rw (c.saturating_sub-left.ensures, c.at.ensures, c.from-place.ensures) at c.put.ensures)

@@ -19,27 +19,26 @@ each_more P xs n x long was now f below =
           (was f (omega (arith, below, apart)))
     ]
 
-pub loop-place-preserved : goal.loop-place-preserved
-loop-place-preserved c =
-    let was = c.loop-place.invariant in
+pub loop-field-preserved : goal.loop-field-preserved
+loop-field-preserved c =
+    let was = c.loop-field.invariant in
     let schema = c.args.schema.now in
-    let w = c.args.window in
     let b = c.bounds_of-bounds in
     let lowers = c.in_ok-push.ensures.items in
     let raises = c.in_ok-push-2.ensures.items in
-    let room : (field_at schema (w.first + c.loop-place.place)).floor +ℤ pos c.distance.result ≡ (field_at schema (w.first + c.loop-place.place)).value =
+    let room : (field_at schema c.loop-field.field).floor +ℤ pos c.distance.result ≡ (field_at schema c.loop-field.field).value =
     omega (arith, ints, c.distance.ensures, b.ensures.floor, b.ensures.value) in
-    let above : (field_at schema (w.first + c.loop-place.place)).value +ℤ pos c.distance-in-loop-place.result ≡ (field_at schema (w.first + c.loop-place.place)).ceiling =
-    omega (arith, ints, c.distance-in-loop-place.ensures, b.ensures.value, b.ensures.ceiling) in
+    let above : (field_at schema c.loop-field.field).value +ℤ pos c.distance-in-loop-field.result ≡ (field_at schema c.loop-field.field).ceiling =
+    omega (arith, ints, c.distance-in-loop-field.ensures, b.ensures.value, b.ensures.ceiling) in
     record {
-      lowers = omega (arith, was.lowers, ap length lowers, length-append c.loop-place.lower.items (c.distance.result ∷ []));
-      raises = omega (arith, was.raises, ap length raises, length-append c.loop-place.raise.items (c.distance-in-loop-place.result ∷ []));
-      low = λ f below. subst (λ (xs : List ℕ). ((field_at schema (w.first + f)).floor +ℤ pos (get_or xs f 0)) ≡ (field_at schema (w.first + f)).value)
+      lowers = omega (arith, was.lowers, ap length lowers, length-append c.loop-field.lower.items (c.distance.result ∷ []));
+      raises = omega (arith, was.raises, ap length raises, length-append c.loop-field.raise.items (c.distance-in-loop-field.result ∷ []));
+      low = λ f below. subst (λ (xs : List ℕ). ((field_at schema f).floor +ℤ pos (get_or xs f 0)) ≡ (field_at schema f).value)
           (sym lowers)
-          (each_more (λ (g y : ℕ). ((field_at schema (w.first + g)).floor +ℤ pos y) ≡ (field_at schema (w.first + g)).value)
-          c.loop-place.lower.items c.loop-place.place c.distance.result was.lowers was.low room f below);
-      high = λ f below. subst (λ (xs : List ℕ). ((field_at schema (w.first + f)).value +ℤ pos (get_or xs f 0)) ≡ (field_at schema (w.first + f)).ceiling)
+          (each_more (λ (g y : ℕ). ((field_at schema g).floor +ℤ pos y) ≡ (field_at schema g).value)
+          c.loop-field.lower.items c.loop-field.field c.distance.result was.lowers was.low room f below);
+      high = λ f below. subst (λ (xs : List ℕ). ((field_at schema f).value +ℤ pos (get_or xs f 0)) ≡ (field_at schema f).ceiling)
           (sym raises)
-          (each_more (λ (g y : ℕ). ((field_at schema (w.first + g)).value +ℤ pos y) ≡ (field_at schema (w.first + g)).ceiling)
-          c.loop-place.raise.items c.loop-place.place c.distance-in-loop-place.result was.raises was.high above f below);
+          (each_more (λ (g y : ℕ). ((field_at schema g).value +ℤ pos y) ≡ (field_at schema g).ceiling)
+          c.loop-field.raise.items c.loop-field.field c.distance-in-loop-field.result was.raises was.high above f below);
     }

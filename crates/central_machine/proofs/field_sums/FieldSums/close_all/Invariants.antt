@@ -4,4 +4,4 @@ use Rattle.central_machine.specs.Sums.{Closes}
 use Rattle.central_machine.proofs.field_sums.FieldSums.close_all.Given as goal
 
 abbrev pub invariant-loop-row : goal.invariant-loop-row
-invariant-loop-row l = Closes l.window l.fn.self l.self (all_escrows (take l.row-index l.rows))
+invariant-loop-row l = Closes l.fn.self l.self (all_escrows (take l.row-index l.rows))
