@@ -1,6 +1,7 @@
 //! Why a task ends before it is done, in words that name the file and say what to do.
 
 use field_bounds::SchemaFault;
+use file_medium::{FileCall, FileFault};
 use std::alloc::{AllocError, AllocFailed, Global};
 use std::io;
 use std::io::ErrorKind;
@@ -83,6 +84,9 @@ pub(crate) enum Fault {
     System(String, io::Error),
     #[error("{0}: device fault: nothing more is answered")]
     Device(String),
+    /// The same, with the call that failed, what the system told, and what to do.
+    #[error("{0}: device fault: {1}: {2}: nothing more is answered: {3}")]
+    DeviceCall(String, &'static str, io::Error, &'static str),
     #[error("{0}: in use: another process serves it")]
     Busy(String),
     /// No folder of this site is named.
@@ -127,7 +131,7 @@ impl Fault {
             | Fault::Stuck(..)
             | Fault::NotReadBack => 3,
             Fault::NoMemory => 4,
-            Fault::System(..) | Fault::Device(_) => 5,
+            Fault::System(..) | Fault::Device(_) | Fault::DeviceCall(..) => 5,
             Fault::Busy(_) => 6,
         }
     }
@@ -191,5 +195,38 @@ pub(crate) fn device_fault(alloc: Global, path: &str) -> Fault {
     match String::from_str(alloc, path) {
         Ok(path) => Fault::Device(path),
         Err(_) => Fault::NoMemory,
+    }
+}
+
+// What a call of a file is called.
+fn call_word(call: FileCall) -> &'static str {
+    match call {
+        FileCall::Read => "read",
+        FileCall::Write => "write",
+        FileCall::Cut => "cut",
+        FileCall::Sync => "sync",
+    }
+}
+
+// What is to be done where a call of a file failed. A sync that failed is told once: what the system
+// has in memory may not be what the disk has, until the machine is started anew.
+fn remedy(call: FileCall, kind: ErrorKind) -> &'static str {
+    match (call, kind) {
+        (FileCall::Sync, _) => "start the machine anew before it is served again",
+        (_, ErrorKind::StorageFull | ErrorKind::QuotaExceeded | ErrorKind::FileTooLarge) => {
+            "make room, and serve it again"
+        }
+        (_, _) => "look after the disk, and serve it again",
+    }
+}
+
+/// A device fault with the call that failed, where that is known.
+pub(crate) fn with_call(fault: Fault, failed: Option<FileFault>) -> Fault {
+    match (fault, failed) {
+        (Fault::Device(path), Some(FileFault { call, error })) => {
+            let remedy = remedy(call, error.kind());
+            Fault::DeviceCall(path, call_word(call), error, remedy)
+        }
+        (fault, _) => fault,
     }
 }

@@ -1,10 +1,10 @@
 //! The command `serve`.
 
-use crate::fault::{Fault, Why, device_fault, refused};
+use crate::fault::{Fault, Why, device_fault, refused, with_call};
 use crate::folder::{Paths, behind_name, lock_log, read_file, read_site};
 use crate::tracing::trace_for;
-use crate::unsynced::UnsyncedFile;
-use file_medium::{HostFile, LogFile};
+use crate::unsynced::{TellsFault, UnsyncedFile};
+use file_medium::{FileFault, HostFile, LogFile};
 use log_stand::{Stand, stand_of};
 use named_log::{NameFault, NamedLog};
 use script_input::{Sink, Source, Watched};
@@ -150,18 +150,43 @@ fn serve_log<F: LogFile + Drop, T: LogFile>(
     serve_streams(alloc, paths, &mut service, trace, &mut reader, &mut writer)
 }
 
-// Serves the site over its files, unless the log is another one.
-fn serve_files<F: LogFile + Drop>(
+// Serves the site over its files, which are lent, unless the log is another one.
+fn serve_lent<F: TellsFault>(
+    rt: &HostRuntime,
+    paths: &Paths,
+    identity: &Identity,
+    file: &mut F,
+    trace: &mut Option<F>,
+) -> Result<(), Fault> {
+    let log = open_named(rt.alloc(), paths, identity, file)?;
+    match trace {
+        Some(trace) => serve_log(rt, paths, identity, log, trace),
+        None => serve_log(rt, paths, identity, log, &mut NoTrace),
+    }
+}
+
+// The call that failed last, of the log, or of the trace where none of the log's did.
+fn failed_call<F: TellsFault>(file: &mut F, trace: &mut Option<F>) -> Option<FileFault> {
+    match (file.take_fault(), trace) {
+        (Some(failed), _) => Some(failed),
+        (None, Some(trace)) => trace.take_fault(),
+        (None, None) => None,
+    }
+}
+
+// Serves the site over its files. At a device fault the call that failed is told.
+fn serve_files<F: TellsFault>(
     rt: &HostRuntime,
     paths: &Paths,
     identity: &Identity,
     file: F,
     trace: Option<F>,
 ) -> Result<(), Fault> {
-    let log = open_named(rt.alloc(), paths, identity, file)?;
-    match trace {
-        Some(mut trace) => serve_log(rt, paths, identity, log, &mut trace),
-        None => serve_log(rt, paths, identity, log, &mut NoTrace),
+    let mut file = file;
+    let mut trace = trace;
+    match serve_lent(rt, paths, identity, &mut file, &mut trace) {
+        Ok(()) => Ok(()),
+        Err(fault) => Err(with_call(fault, failed_call(&mut file, &mut trace))),
     }
 }
 

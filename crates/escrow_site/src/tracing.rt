@@ -1,6 +1,6 @@
 //! The trace of a served site, beside its log.
 
-use crate::fault::{Fault, Why, device_fault, failed, refused};
+use crate::fault::{Fault, Why, device_fault, failed, refused, with_call};
 use crate::folder::{Paths, count_records, file_fault, read_file};
 use field_bounds::{Entry, Schema};
 use file_medium::{FileFailed, HostFile, LogFile, Opening, open_log};
@@ -154,7 +154,10 @@ fn cut_back(
     }
     match file.cut(length as u64) {
         Ok(()) => Ok(()),
-        Err(FileFailed) => Err(device_fault(alloc, paths.trace.as_str())),
+        Err(FileFailed) => {
+            let fault = device_fault(alloc, paths.trace.as_str());
+            Err(with_call(fault, file.take_fault()))
+        }
     }
 }
 

@@ -1,8 +1,20 @@
-//! A file of the system that isn't synced.
+//! A file of the system that isn't synced, and what files tell of a call that failed.
 
 ghost use Rattle.std.specs.Prelude.{None};
 
-use file_medium::{FileFailed, HostFile, LogFile};
+use file_medium::{FileFailed, FileFault, HostFile, LogFile};
+
+/// A file that tells which call of it failed, and why.
+pub(crate) trait TellsFault: LogFile + Drop {
+    /// The last call that failed, where one did.
+    fn take_fault(&mut self) -> Option<FileFault>;
+}
+
+impl TellsFault for HostFile {
+    fn take_fault(&mut self) -> Option<FileFault> {
+        HostFile::take_fault(self)
+    }
+}
 
 /// A log whose bytes are safe from a stop of the process, and not from one of the machine: a sync
 /// is answered without one. Read, and not proved, as `HostFile` is.
@@ -36,5 +48,11 @@ impl LogFile for UnsyncedFile {
 
     fn sync(&mut self) -> Result<(), FileFailed> {
         Ok(())
+    }
+}
+
+impl TellsFault for UnsyncedFile {
+    fn take_fault(&mut self) -> Option<FileFault> {
+        self.file.take_fault()
     }
 }

@@ -3,13 +3,22 @@
 ghost use Rattle.std.specs.Prelude.{None};
 
 use crate::log_file::{FileFailed, LogFile};
+use crate::memory_file::FileCall;
 use std::fs::{File, Files, OpenOptions, TryLockError};
 use std::io::{self, Write};
 use std::os::unix::fs::FileExt;
 use std::path::Path;
 use thiserror::Error;
 
-/// A log in a file of the system, locked for its owner as long as this value lives.
+/// A call of a file of the system that failed, and what the system told of it.
+#[derive(Debug, Drop)]
+pub struct FileFault {
+    pub call: FileCall,
+    pub error: io::Error,
+}
+
+/// A log in a file of the system, locked for its owner as long as this value lives. It keeps the last
+/// call that failed, for who tells people.
 ///
 /// This is the one place in which it is read, and not proved, that a file keeps the law of
 /// `LogFile`: no contract can see what a file of the system holds, so `bytes` and `safe` are None,
@@ -18,6 +27,20 @@ use thiserror::Error;
 #[derive(Drop)]
 pub struct HostFile {
     file: File,
+    last_fault: Option<FileFault>,
+}
+
+impl HostFile {
+    // Notes a call that failed.
+    fn note(&mut self, call: FileCall, error: io::Error) -> FileFailed {
+        self.last_fault = Some(FileFault { call, error });
+        FileFailed
+    }
+
+    /// The last call that failed since this was asked, or None where none did. Costs no memory.
+    pub fn take_fault(&mut self) -> Option<FileFault> {
+        self.last_fault.take()
+    }
 }
 
 impl LogFile for HostFile {
@@ -26,19 +49,31 @@ impl LogFile for HostFile {
     ghost safe = { λ f. None };
 
     fn read_at(&mut self, at: u64, buffer: &mut [u8]) -> Result<usize, FileFailed> {
-        self.file.read_at(buffer, at).map_err(|_| FileFailed)
+        match self.file.read_at(buffer, at) {
+            Ok(count) => Ok(count),
+            Err(error) => Err(self.note(FileCall::Read, error)),
+        }
     }
 
     fn write(&mut self, piece: &[u8]) -> Result<usize, FileFailed> {
-        self.file.write(piece).map_err(|_| FileFailed)
+        match self.file.write(piece) {
+            Ok(count) => Ok(count),
+            Err(error) => Err(self.note(FileCall::Write, error)),
+        }
     }
 
     fn cut(&mut self, kept: u64) -> Result<(), FileFailed> {
-        self.file.set_len(kept).map_err(|_| FileFailed)
+        match self.file.set_len(kept) {
+            Ok(()) => Ok(()),
+            Err(error) => Err(self.note(FileCall::Cut, error)),
+        }
     }
 
     fn sync(&mut self) -> Result<(), FileFailed> {
-        self.file.sync_data().map_err(|_| FileFailed)
+        match self.file.sync_data() {
+            Ok(()) => Ok(()),
+            Err(error) => Err(self.note(FileCall::Sync, error)),
+        }
     }
 }
 
@@ -86,7 +121,10 @@ pub fn open_log<R: Files<File = File>>(
     }
     file.sync_all()?;
     File::open(rt, folder_of(path))?.sync_all()?;
-    Ok(HostFile { file })
+    Ok(HostFile {
+        file,
+        last_fault: None,
+    })
 }
 
 /// The file, opened to be read and added to.

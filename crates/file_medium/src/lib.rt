@@ -9,7 +9,7 @@ mod medium;
 mod memory_file;
 
 pub use copying::{read_whole, write_front};
-pub use host::{HostFile, OpenLogFault, Opening, open_log};
+pub use host::{FileFault, HostFile, OpenLogFault, Opening, open_log};
 pub use log_file::{FileFailed, LogFile};
 pub use medium::{Durability, FileMedium};
 pub use memory_file::{FileCall, FileMishap, MemoryFile};
