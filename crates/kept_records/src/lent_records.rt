@@ -2,7 +2,6 @@
 
 ghost use Rattle.std.specs.Prelude.{◌≡◌, ◌<◌, ◌≤◌, List, IfOk, IfSome, OnErr, length};
 ghost use Rattle.field_bounds.specs.declared.entry.Escrow.{Escrow};
-ghost use Rattle.kept_records.specs.Stands.{later};
 ghost use Rattle.kept_records.specs.Lines.{HandsLine, IsFewer};
 
 use crate::log::line_feed;
@@ -48,25 +47,6 @@ pub enum CommonRecord {
     Restart {
         epoch: u32,
     },
-}
-
-impl CommonRecord {
-    ghost use Rattle.kept_records.specs.Lent.{record_told};
-
-    /// The epoch behind it, where it is this one before it: the greater one of that and a restart's.
-    /// Costs no memory.
-    #[inline(always)]
-    pub fn epoch_behind(self, epoch: u32) -> u32
-        ensures value { (escrows : List Escrow) → result ≡ later epoch (record_told self escrows) }
-    {
-        match self {
-            CommonRecord::Commit { .. }
-            | CommonRecord::Gift { .. }
-            | CommonRecord::Accept { .. }
-            | CommonRecord::Tighten { .. } => epoch,
-            CommonRecord::Restart { epoch: new } => epoch.max(new),
-        }
-    }
 }
 
 /// The lines of some bytes, read as records one after another, up to the first that is none. The
