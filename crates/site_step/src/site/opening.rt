@@ -11,7 +11,7 @@ ghost use Rattle.site_step.specs.Opening.{TellsLine, SparesLogs, FailsUnder, IsF
 use crate::extent::Extent;
 use field_bounds::{Schema, SiteNo};
 use history::{GhostHistory, History};
-use kept_records::{CommonRecord, LentRecords, Medium, MediumFault, Record, RecordLine};
+use kept_records::{CommonRecord, LentRecords, Medium, MediumFault, Record, RecordLine, by_line};
 use log_replay::{Standing, take_next};
 use std::alloc::{AllocError, Global};
 use thiserror::Error;
@@ -138,28 +138,26 @@ fn find(alloc: Global, schema: &Schema, site: SiteNo, bytes: &[u8]) -> Result<Fo
     let mut number: u64 = 0;
     let mut count: usize = 0;
     let mut lines = LentRecords::new(alloc, bytes);
-    'lines: loop {
-        number += 1;
-        if let Some(told) = lines.next_common() {
+    by_line! { 'lines: lines.next_common(), lines.next_line(alloc)?;
+        Some(told) => {
+            number += 1;
             if !standing.take_common(schema, told, lines.escrows()) {
                 return Err(OpenFault::Line(number));
             }
             count += 1;
             note_lent(alloc, &mut based, &mut lines, told);
-            continue 'lines;
-        }
-        match lines.next_line(alloc)? {
-            RecordLine::Record(next) => {
-                if !take_next(alloc, schema, &mut standing, &next)? {
-                    return Err(OpenFault::Line(number));
-                }
-                count += plain_count(&next);
-                based.note(&next);
-                lines.give_back(next);
+        },
+        RecordLine::Record(next) => {
+            number += 1;
+            if !take_next(alloc, schema, &mut standing, &next)? {
+                return Err(OpenFault::Line(number));
             }
-            RecordLine::NoRecord => return Err(OpenFault::Line(number)),
-            RecordLine::End => break 'lines,
-        }
+            count += plain_count(&next);
+            based.note(&next);
+            lines.give_back(next);
+        },
+        RecordLine::NoRecord => return Err(OpenFault::Line(number + 1)),
+        RecordLine::End => break 'lines,
     }
     let length = bytes.len() - lines.left();
     Ok(Found {
