@@ -5,7 +5,7 @@ ghost use Rattle.kept_records.specs.Counting.{IsCountOf};
 
 use crate::by_line;
 use crate::lent_records::LentRecords;
-use crate::reading_back::is_summary;
+use crate::reading_back::plain_count;
 use crate::record_lines::RecordLine;
 use std::alloc::{AllocError, Global};
 
@@ -33,11 +33,9 @@ pub fn count_log(alloc: Global, bytes: &[u8]) -> Result<LogCount, AllocError>
     let bad_line = by_line! { 'lines: lines.next_common(), lines.next_line(alloc)?;
         Some(_) => plain += 1,
         RecordLine::Record(next) => {
-            if is_summary(&next) {
-                summaries += 1;
-            } else {
-                plain += 1;
-            }
+            let one = plain_count(&next);
+            plain += one;
+            summaries += 1 - one;
             lines.give_back(next);
         },
         RecordLine::NoRecord => break 'lines Some((plain + summaries) as u64 + 1),

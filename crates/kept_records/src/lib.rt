@@ -35,7 +35,7 @@ pub use lent_records::{CommonRecord, LentRecords};
 pub use log::{Front, RecordFault, read_front, read_records};
 pub use medium::{Device, End, Medium, MediumFault, Mishap};
 pub use memory::MemoryMedium;
-pub use reading_back::{LastLines, ReadBack, count_plain, read_back};
+pub use reading_back::{LastLines, ReadBack, count_plain, plain_count, read_back};
 pub use record::{Escrows, Record};
 pub use record_lines::RecordLine;
 pub use summary::Summary;

@@ -1,13 +1,12 @@
-use Rattle.std.proofs.Common.{◌≡◌, ◌-◌, ◌+◌, ℕ, List, length, Option, Some, sym, ap, subst, ◌∙◌, arith}
+use Rattle.std.proofs.Common.{◌≡◌, ◌-◌, ◌+◌, ℕ, List, length, Option, Some, refl, sym, ap, subst, ◌∙◌, arith}
 use Rattle.std.specs.List.{flat_map}
 use Rattle.kept_records.specs.Text.{text}
 use Rattle.kept_records.specs.Logs.{AreGoodRecords}
-use Rattle.kept_records.specs.Lent.{record_told}
 use Rattle.kept_records.proofs.Cursors.{fewer}
 use Rattle.kept_records.proofs.Walks.{at_line, bad_at_line, end_at_line, begins_size, ends_there, bad_there}
-use Rattle.kept_records.proofs.Counts.{Counted, counted_none, told_plain, counted_summary, counted_plain}
+use Rattle.kept_records.proofs.Counts.{Counted, counted_none, counted_more, lent_plain}
 use Rattle.kept_records.proofs.counting.count_log.Goals as goal
-use Rattle.kept_records.proofs.counting.count_log.Goals.{in-NoRecord, in-End, then-is_summary, else-is_summary}
+use Rattle.kept_records.proofs.counting.count_log.Goals.{in-NoRecord, in-End}
 
 pub lines-init : goal.lines-init
 lines-init c =
@@ -20,36 +19,23 @@ lines-init c =
 pub lines-preserved-in-Some : goal.lines-preserved-in-Some
 lines-preserved-in-Some c =
     let before = c.lines in
-    let lent = c.next_common.new.self in
-    let told = c.in-Some.field-0 in
     record {
       few = omega (arith, before.invariant.few, c.in-Some.ensures.shorter);
-      counted = counted_plain c.args.bytes.now before.plain before.summaries before.lines.left (record_told told lent.escrows) lent.left
-          before.invariant.counted c.in-Some.ensures.handed (told_plain told lent.escrows);
+      counted = counted_more before.invariant.counted c.in-Some.ensures.handed refl
+          (ap (λ (n : ℕ). before.plain + n) (sym (lent_plain c.in-Some.field-0 c.next_common.new.self.escrows))) (omega arith);
     }
 
 pub lines-preserved : goal.lines-preserved
 lines-preserved c =
-    let bytes = c.args.bytes.now in
     let before = c.lines in
-    let left = before.lines.left in
-    let next = c.in-Record.next in
-    let new = c.next_line.new.self.left in
     let same = c.give_back.ensures.same in
     let at = at_line _ c.in_default.ensures.handed c.in_ok-next.ensures.handed c.in-Record.is in
-    let shorter = fewer left new next at.parts in
-    elim c.if-is_summary.branch [
-      | then-is_summary w ↦ record {
-        few = omega (arith, before.invariant.few, shorter, w.plain-is, w.summaries-is, ap length same);
-        counted = rw (w.plain-is, w.summaries-is, same) (counted_summary bytes before.plain before.summaries left next new
-            before.invariant.counted at (sym c.is_summary.ensures.value ∙ w.if-is_summary.true));
-      }
-      | else-is_summary w ↦ record {
-        few = omega (arith, before.invariant.few, shorter, w.plain-is, w.summaries-is, ap length same);
-        counted = rw (w.plain-is, w.summaries-is, same) (counted_plain bytes before.plain before.summaries left next new
-            before.invariant.counted at (sym c.is_summary.ensures.value ∙ w.if-is_summary.false));
-      }
-    ]
+    let few = c.plain_count-one.ensures.few in
+    record {
+      few = omega (arith, before.invariant.few, fewer _ _ _ at.parts, ap length same, few);
+      counted = counted_more before.invariant.counted at same
+          (ap (λ (n : ℕ). before.plain + n) c.plain_count-one.ensures.value) (omega (arith, few));
+    }
 
 pub returns : goal.returns
 returns c =
