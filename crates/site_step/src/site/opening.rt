@@ -1,7 +1,6 @@
 //! What a site finds on the medium over which it is opened.
 
 ghost use Rattle.std.specs.Prelude.{◌≡◌, ◌<◌, ◌≤◌, ◌+◌, ◌^◌, [], ◌∷◌, ◌++◌, true, Some, length, IfOk, IfErr};
-ghost use Rattle.kept_records.specs.Stands.{plain};
 ghost use Rattle.kept_records.specs.Lent.{record_told};
 ghost use Rattle.kept_records.specs.declared.medium.MediumFault.TheVariants as faults;
 ghost use Rattle.kept_records.specs.declared.medium.Mishap.TheVariants.{Read};
@@ -11,7 +10,9 @@ ghost use Rattle.site_step.specs.Opening.{TellsLine, SparesLogs, FailsUnder, IsF
 use crate::extent::Extent;
 use field_bounds::{Schema, SiteNo};
 use history::{GhostHistory, History};
-use kept_records::{CommonRecord, LentRecords, Medium, MediumFault, Record, RecordLine, by_line};
+use kept_records::{
+    CommonRecord, LentRecords, Medium, MediumFault, Record, RecordLine, by_line, plain_count,
+};
 use log_replay::{Standing, take_next};
 use std::alloc::{AllocError, Global};
 use thiserror::Error;
@@ -85,21 +86,6 @@ pub(super) fn read_base<M: Medium>(
 {
     let bytes = medium.read_all(alloc)?;
     find(alloc, schema, site, &bytes)
-}
-
-/// How many records one counts for: a summary for none.
-fn plain_count(kept: &Record) -> usize
-    ensures value { result ≡ length (plain (kept.now ∷ [])) }
-    ensures few { result ≤ 1 }
-{
-    match kept {
-        Record::Summary { .. } => 0,
-        Record::Commit { .. }
-        | Record::Gift { .. }
-        | Record::Accept { .. }
-        | Record::Tighten { .. }
-        | Record::Restart { .. } => 1,
-    }
 }
 
 /// Notes a record that is lent, and leaves the lines as they are. The list that only proofs see

@@ -2,9 +2,10 @@ use Rattle.std.proofs.Common.{List, ◌+◌, sym, ap, subst}
 use Rattle.field_bounds.specs.declared.entry.Escrow.{Escrow}
 use Rattle.kept_records.specs.Text.{IsRecord}
 use Rattle.kept_records.specs.Lent.{record_told}
+use Rattle.kept_records.proofs.Counts.{lent_plain}
 use Rattle.kept_records.proofs.Walks.{at_line, bad_at_line}
 use Rattle.log_replay.proofs.StandingLaws.{has_places}
-use Rattle.site_step.proofs.Fronts.{lent_plain, read_more, broken_line, broken_log, bad_line, bad_log}
+use Rattle.site_step.proofs.Fronts.{read_more, broken_line, broken_log, bad_line, bad_log}
 use Rattle.site_step.proofs.site.opening.find.Goals as goal
 
 pub take_common-requires-clause-places : goal.take_common-requires-clause-places
