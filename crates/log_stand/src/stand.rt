@@ -26,7 +26,8 @@ impl Stand {
     }
 }
 
-// The epoch behind a record.
+// The epoch behind a record. Once this is inlined nothing of a lent record is moved.
+#[inline(always)]
 fn later(epoch: u32, next: &Record) -> u32
     ensures { result ≡ later epoch next.now }
 {
