@@ -36,11 +36,19 @@ starts_bad left end cut none = record {
   none = no_record (take end left) cut.front none;
 }
 
--- the record of a line, where the bytes stayed before it
-pub at_line : (old same new : List ℕ) (line : RecordLine) (r : Record) → same ≡ old → line ≡ lines.Record r → HandsLine same line new
-    → IsRecordAt old r new
-at_line old same new line r stays is handed =
-    subst (λ (l : List ℕ). IsRecordAt l r new) stays (subst (λ (l : RecordLine). HandsLine same l new) is handed)
+-- what the line is, where the bytes stayed before it
+module _ {old same : List ℕ} {line : RecordLine} (new : List ℕ) (stays : same ≡ old) (handed : HandsLine same line new) where
+  handed_as : (is : RecordLine) → line ≡ is → HandsLine old is new
+  handed_as is e = subst (λ (l : List ℕ). HandsLine l is new) stays (subst (λ (l : RecordLine). HandsLine same l new) e handed)
+
+  pub at_line : {r : Record} → line ≡ lines.Record r → IsRecordAt old r new
+  at_line {r = r} e = handed_as (lines.Record r) e
+
+  pub bad_at_line : line ≡ lines.NoRecord → StartsBad old × (new ≡ old)
+  bad_at_line e = handed_as lines.NoRecord e
+
+  pub end_at_line : line ≡ lines.End → HasNoLf old × (new ≡ old)
+  end_at_line e = handed_as lines.End e
 
 -- ---- many lines
 

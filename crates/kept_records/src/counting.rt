@@ -3,7 +3,10 @@
 ghost use Rattle.std.specs.Prelude.{IfOk};
 ghost use Rattle.kept_records.specs.Counting.{IsCountOf};
 
-use crate::lent_records::{LentLine, LentRecords};
+use crate::by_line;
+use crate::lent_records::LentRecords;
+use crate::reading_back::plain_count;
+use crate::record_lines::RecordLine;
 use std::alloc::{AllocError, Global};
 
 /// How many records stand in front of the first line that is none, or in all where there is no such
@@ -27,13 +30,16 @@ pub fn count_log(alloc: Global, bytes: &[u8]) -> Result<LogCount, AllocError>
     let mut plain: usize = 0;
     let mut summaries: usize = 0;
     let mut lines = LentRecords::new(alloc, bytes);
-    let bad_line = 'lines: loop {
-        match lines.next(alloc)? {
-            LentLine::Common(_) => plain += 1,
-            LentLine::Summary => summaries += 1,
-            LentLine::NoRecord => break 'lines Some((plain + summaries) as u64 + 1),
-            LentLine::End => break 'lines None,
-        }
+    let bad_line = by_line! { 'lines: lines.next_common(), lines.next_line(alloc)?;
+        Some(_) => plain += 1,
+        RecordLine::Record(next) => {
+            let one = plain_count(&next);
+            plain += one;
+            summaries += 1 - one;
+            lines.give_back(next);
+        },
+        RecordLine::NoRecord => break 'lines Some((plain + summaries) as u64 + 1),
+        RecordLine::End => break 'lines None,
     };
     let length = bytes.len() - lines.left();
     Ok(LogCount {

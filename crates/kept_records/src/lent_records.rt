@@ -1,9 +1,8 @@
 //! The records at the front of bytes, one after another, of which the common ones are lent.
 
-ghost use Rattle.std.specs.Prelude.{◌≡◌, ◌<◌, ◌≤◌, ℕ, List, IfOk, IfSome, OnErr, length};
+ghost use Rattle.std.specs.Prelude.{◌≡◌, ◌<◌, ◌≤◌, List, IfOk, IfSome, OnErr, length};
 ghost use Rattle.field_bounds.specs.declared.entry.Escrow.{Escrow};
-ghost use Rattle.kept_records.specs.Stands.{later};
-ghost use Rattle.kept_records.specs.Lines.{IsRecordAt, HandsLine, IsFewer};
+ghost use Rattle.kept_records.specs.Lines.{HandsLine, IsFewer};
 
 use crate::log::line_feed;
 use crate::reading::{LineFault, read_line};
@@ -50,48 +49,14 @@ pub enum CommonRecord {
     },
 }
 
-impl CommonRecord {
-    ghost use Rattle.kept_records.specs.Lent.{record_told};
-
-    /// The epoch behind it, where it is this one before it: the greater one of that and a restart's.
-    /// Costs no memory.
-    #[inline(always)]
-    pub fn epoch_behind(self, epoch: u32) -> u32
-        ensures value { (escrows : List Escrow) → result ≡ later epoch (record_told self escrows) }
-    {
-        match self {
-            CommonRecord::Commit { .. }
-            | CommonRecord::Gift { .. }
-            | CommonRecord::Accept { .. }
-            | CommonRecord::Tighten { .. } => epoch,
-            CommonRecord::Restart { epoch: new } => epoch.max(new),
-        }
-    }
-}
-
-/// What stands next in bytes that are read line by line. It is small, so that it is handed out in
-/// registers.
-#[derive(Clone, Copy)]
-pub enum LentLine {
-    /// The text of this record, whose escrows, where it is a commit, the reader lends.
-    Common(CommonRecord),
-    /// The text of a summary, which the reader lends.
-    Summary,
-    /// A line that is the text of no record.
-    NoRecord,
-    /// No line ends there.
-    End,
-}
-
 /// The lines of some bytes, read as records one after another, up to the first that is none. The
-/// escrows of a commit and a summary stay in the reader's memory, which lends them. No list of
-/// records is made. Contracts see the bytes that are left, the escrows that are lent, and the
-/// summary that was taken last.
+/// escrows of a commit stay in the reader's memory, which lends them. No list of records is made.
+/// `by_line!` walks over the lines. Contracts see the bytes that are left, and the escrows that are
+/// lent.
 #[derive(Drop)]
 pub struct LentRecords<'a> {
     left: &'a [u8],
     held: Vec<Escrow>,
-    summary: Record,
 }
 
 impl<'a> Model for LentRecords<'a> {
@@ -99,11 +64,11 @@ impl<'a> Model for LentRecords<'a> {
 
     ghost Value = { LentValue };
 
-    ghost view = { λ r. record { left = r.left.now; escrows = r.held.items; summary = r.summary } };
+    ghost view = { λ r. record { left = r.left.now; escrows = r.held.items } };
 }
 
 impl<'a> LentRecords<'a> {
-    ghost use Rattle.kept_records.specs.Lent.{HandsCommon, HandsLent, LeavesFewer, record_told};
+    ghost use Rattle.kept_records.specs.Lent.{HandsCommon, record_told};
 
     /// All lines of these bytes. Takes no memory.
     pub fn new(alloc: Global, bytes: &'a [u8]) -> LentRecords<'a>
@@ -112,7 +77,6 @@ impl<'a> LentRecords<'a> {
         LentRecords {
             left: bytes,
             held: Vec::new(alloc),
-            summary: Record::Restart { epoch: 0 },
         }
     }
 
@@ -130,107 +94,13 @@ impl<'a> LentRecords<'a> {
         self.left
     }
 
-    /// The escrows of the commit that was taken last. Takes no memory.
+    /// The escrows of the commit that `next_common` took, where neither it nor `next_line` was called
+    /// since. Takes no memory.
     #[inline(always)]
     pub fn escrows(&self) -> &[Escrow]
         ensures all { result.now ≡ self.now.escrows }
     {
         &self.held
-    }
-
-    /// Takes the next line where it is the text of a record, of any kind, which is then lent; else
-    /// tells why not, and leaves the bytes as they are. The error is want of memory; it leaves them
-    /// too. Costs a pass over the line, and two over a summary. Memory is taken for a summary, and
-    /// for the escrows of a commit that has more of them than each one before.
-    #[inline(always)]
-    pub fn next(&mut self, alloc: Global) -> Result<LentLine, AllocError>
-        ensures handed { IfOk result (λ line. HandsLent self.old.left line self.new) }
-        ensures shorter { IfOk result (λ line. LeavesFewer self.old.left line self.new.left) }
-        ensures within { length self.new.left ≤ length self.old.left }
-        ensures stays { OnErr result (self.new.left ≡ self.old.left) }
-    {
-        // What the call below answers lies in memory; so it is moved, and what this one answers,
-        // which is mostly a common record, stays in registers.
-        let line = match self.next_common() {
-            Some(told) => LentLine::Common(told),
-            None => self.next_lent(alloc)?,
-        };
-        Ok(line)
-    }
-
-    // The same, where the next line may be any.
-    #[inline(never)]
-    fn next_lent(&mut self, alloc: Global) -> Result<LentLine, AllocError>
-        ensures handed { IfOk result (λ line. HandsLent self.old.left line self.new) }
-        ensures shorter { IfOk result (λ line. LeavesFewer self.old.left line self.new.left) }
-        ensures within { length self.new.left ≤ length self.old.left }
-        ensures stays { OnErr result (self.new.left ≡ self.old.left) }
-    {
-        match self.next_line(alloc)? {
-            RecordLine::Record(next) => Ok(self.lend(next)),
-            RecordLine::NoRecord => Ok(LentLine::NoRecord),
-            RecordLine::End => Ok(LentLine::End),
-        }
-    }
-
-    // Lends a record that was taken.
-    fn lend(&mut self, next: Record) -> LentLine
-        ensures handed { (old : List ℕ) → IsRecordAt old next self.old.left →
-            HandsLent old result self.new }
-        ensures shorter { (old : List ℕ) → length self.old.left < length old →
-            LeavesFewer old result self.new.left }
-        ensures same { self.new.left ≡ self.old.left }
-    {
-        let told = match next {
-            Record::Commit { txn, escrows } => {
-                self.held = escrows.into_buffer();
-                CommonRecord::Commit { txn }
-            }
-            Record::Gift {
-                to,
-                field,
-                kind,
-                total,
-            } => CommonRecord::Gift {
-                to,
-                field,
-                kind,
-                total,
-            },
-            Record::Accept {
-                from,
-                field,
-                kind,
-                total,
-            } => CommonRecord::Accept {
-                from,
-                field,
-                kind,
-                total,
-            },
-            Record::Tighten { field, kind, total } => CommonRecord::Tighten { field, kind, total },
-            Record::Restart { epoch } => CommonRecord::Restart { epoch },
-            summary => {
-                self.summary = summary;
-                return LentLine::Summary;
-            }
-        };
-        LentLine::Common(told)
-    }
-
-    /// The summary that `next` took last. Takes no memory.
-    pub fn summary(&self) -> &Record
-        ensures value { result.now ≡ self.now.summary }
-    {
-        &self.summary
-    }
-
-    // The same, which is lent no more.
-    pub(crate) fn take_summary(&mut self) -> Record
-        ensures value { result ≡ self.old.summary }
-        ensures same { self.new.left ≡ self.old.left }
-    {
-        mem::replace(&mut self.summary, Record::Restart { epoch: 0 })
     }
 
     /// Takes the next line where it is the text of a record but a summary; a commit's escrows are
@@ -247,8 +117,9 @@ impl<'a> LentRecords<'a> {
         Some(next)
     }
 
-    /// The record that `next` told, where it wasn't called since: a commit takes the escrows that
-    /// were lent with it, and `give_back` gives their memory back. Takes no memory.
+    /// The record that `next_common` told, where neither it nor `next_line` was called since: a
+    /// commit takes the escrows that were lent with it, and `give_back` gives their memory back.
+    /// Takes no memory.
     #[inline(always)]
     pub fn whole(&mut self, alloc: Global, told: CommonRecord) -> Record
         ensures whole { result ≡ record_told told self.old.escrows }
@@ -286,18 +157,21 @@ impl<'a> LentRecords<'a> {
         }
     }
 
-    // The same record; but the lent escrows stay lent, and a commit has a copy of them, in as much
-    // memory as they take. The error is want of that.
-    #[inline(always)]
-    pub(crate) fn copied(&mut self, alloc: Global, told: CommonRecord) -> Result<Record, AllocError>
-        ensures copied { IfOk result (λ kept. kept ≡ record_told told self.old.escrows) }
+    // A record that was taken, to be kept: a commit has a copy of its escrows, in no more memory than
+    // they take, and the memory that they were read into is given back. The error is want of memory.
+    pub(crate) fn kept(&mut self, alloc: Global, next: Record) -> Result<Record, AllocError>
+        ensures same_record { IfOk result (λ kept. kept ≡ next) }
         ensures same { self.new.left ≡ self.old.left }
     {
-        if let CommonRecord::Commit { txn } = told {
-            let escrows = Escrows::new(Vec::from_slice(alloc, &self.held)?);
-            return Ok(Record::Commit { txn, escrows });
+        match next {
+            Record::Commit { txn, escrows } => {
+                let copy = Vec::from_slice(alloc, escrows.as_slice())?;
+                self.held = escrows.into_buffer();
+                let escrows = Escrows::new(copy);
+                Ok(Record::Commit { txn, escrows })
+            }
+            other => Ok(other),
         }
-        Ok(self.whole(alloc, told))
     }
 
     /// Takes the next line where it is the text of a record, of any kind; else tells why not, and

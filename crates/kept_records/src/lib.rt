@@ -8,6 +8,7 @@ mod keeping;
 mod laws;
 mod lent_records;
 mod log;
+mod macros;
 mod medium;
 mod memory;
 mod reading;
@@ -30,11 +31,11 @@ pub use laws::{
     kept_bytes_tell_what_stands, no_text_begins_another, summaries_tell_nothing_new,
     summary_tells_what_stands, torn_end_keeps_records, torn_piece_leaves_a_front,
 };
-pub use lent_records::{CommonRecord, LentLine, LentRecords};
+pub use lent_records::{CommonRecord, LentRecords};
 pub use log::{Front, RecordFault, read_front, read_records};
 pub use medium::{Device, End, Medium, MediumFault, Mishap};
 pub use memory::MemoryMedium;
-pub use reading_back::{LastLines, ReadBack, count_plain, read_back};
+pub use reading_back::{LastLines, ReadBack, count_plain, plain_count, read_back};
 pub use record::{Escrows, Record};
 pub use record_lines::RecordLine;
 pub use summary::Summary;

@@ -7,8 +7,10 @@ ghost use Rattle.kept_records.specs.Text.{text};
 ghost use Rattle.kept_records.specs.Logs.{Reads, AreAll, AreGoodRecords};
 ghost use Rattle.kept_records.specs.Faults.{TellsBadLine, TellsNoLog};
 
-use crate::lent_records::{LentLine, LentRecords};
+use crate::by_line;
+use crate::lent_records::LentRecords;
 use crate::record::Record;
+use crate::record_lines::RecordLine;
 use std::alloc::{AllocError, Global};
 use thiserror::Error;
 
@@ -60,13 +62,14 @@ pub fn read_front(alloc: Global, bytes: &[u8]) -> Result<Front, AllocError>
 {
     let mut records = Vec::new(alloc);
     let mut lines = LentRecords::new(alloc, bytes);
-    let bad_line = 'lines: loop {
-        match lines.next(alloc)? {
-            LentLine::Common(told) => records.push(lines.copied(alloc, told)?)?,
-            LentLine::Summary => records.push(lines.take_summary())?,
-            LentLine::NoRecord => break 'lines Some(records.len() as u64 + 1),
-            LentLine::End => break 'lines None,
-        }
+    let bad_line = by_line! { 'lines: lines.next_common(), lines.next_line(alloc)?;
+        Some(told) => {
+            let next = lines.whole(alloc, told);
+            records.push(lines.kept(alloc, next)?)?;
+        },
+        RecordLine::Record(next) => records.push(lines.kept(alloc, next)?)?,
+        RecordLine::NoRecord => break 'lines Some(records.len() as u64 + 1),
+        RecordLine::End => break 'lines None,
     };
     let length = bytes.len() - lines.left();
     Ok(Front {

@@ -1,12 +1,12 @@
 //! Reading what a site needs of its log for a restart, from its end.
 
-ghost use Rattle.std.specs.Prelude.{◌≡◌, ◌≤◌, ◌<◌, ◌⊎◌, List, ℕ, IfOk, IfSome, None, length, drop};
+ghost use Rattle.std.specs.Prelude.{◌≡◌, ◌≤◌, ◌<◌, ◌⊎◌, [], ◌∷◌, List, ℕ, IfOk, IfSome, None, length, drop};
 ghost use Rattle.std.specs.List.{flat_map};
 ghost use Rattle.kept_records.specs.Text.{text};
 ghost use Rattle.kept_records.specs.Logs.{AreAll};
 ghost use Rattle.kept_records.specs.Keeping.{IsKept};
 ghost use Rattle.kept_records.specs.Cursor.{HandsSummary};
-ghost use Rattle.kept_records.specs.Stands.{is_summary, plain};
+ghost use Rattle.kept_records.specs.Stands.{plain};
 ghost use Rattle.kept_records.specs.Medium.{CountsRead, ReadFate};
 ghost use Rattle.kept_records.specs.ReadingBack.{PartsAt, AreBehind, AreLast, IsWhole, IsSummaryLine, IsLastLine, EndsAt, ReadsEnd};
 
@@ -193,22 +193,22 @@ pub fn count_plain(records: &[Record]) -> usize
 {
     let mut count = 0;
     for record in records {
-        if !is_summary(record) {
-            count += 1;
-        }
+        count += plain_count(record);
     }
     count
 }
 
-pub(crate) fn is_summary(kept: &Record) -> bool
-    ensures value { result ≡ is_summary kept.now }
+/// How many records one counts for: a summary for none. Costs no memory.
+pub fn plain_count(kept: &Record) -> usize
+    ensures value { result ≡ length (plain (kept.now ∷ [])) }
+    ensures few { result ≤ 1 }
 {
     match kept {
-        Record::Summary { .. } => true,
+        Record::Summary { .. } => 0,
         Record::Commit { .. }
         | Record::Gift { .. }
         | Record::Accept { .. }
         | Record::Tighten { .. }
-        | Record::Restart { .. } => false,
+        | Record::Restart { .. } => 1,
     }
 }

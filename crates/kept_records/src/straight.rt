@@ -93,7 +93,7 @@ fn short_number(bytes: &[u8]) -> Option<(u64, &[u8])>
 // The same, however many bytes are there. Nothing here is a call in the end: what was read stays in
 // registers.
 #[inline(always)]
-fn number(bytes: &[u8]) -> Option<(u64, &[u8])>
+fn number_at_front(bytes: &[u8]) -> Option<(u64, &[u8])>
     ensures spelled { IfSome result (λ read. bytes.now ≡ decimal read.0 ++ read.1.now) }
     ensures small { IfSome result (λ read. read.0 < 10 ^ 18) }
 {
@@ -106,7 +106,7 @@ fn number(bytes: &[u8]) -> Option<(u64, &[u8])>
 
 // What stands behind a byte that the bytes begin with.
 #[inline(always)]
-fn behind(bytes: &[u8], first: u8) -> Option<&[u8]>
+fn behind_byte(bytes: &[u8], first: u8) -> Option<&[u8]>
     ensures { IfSome result (λ behind. bytes.now ≡ first ∷ behind.now) }
 {
     match bytes {
@@ -122,7 +122,7 @@ fn number_behind_space(bytes: &[u8], least: u64, most: u64) -> Option<(u64, &[u8
     ensures least { IfSome result (λ read. least ≤ read.0) }
     ensures most { IfSome result (λ read. read.0 ≤ most) }
 {
-    let (value, left) = number(behind(bytes, b' ')?)?;
+    let (value, left) = number_at_front(behind_byte(bytes, b' ')?)?;
     if least <= value && value <= most {
         Some((value, left))
     } else {
@@ -159,12 +159,12 @@ fn change_of(below: bool, size: u64) -> i64
 // A change, and what stands behind it. Its sign is as likely the one as the other, so no branch is
 // taken by it.
 #[inline(always)]
-fn change(bytes: &[u8]) -> Option<(i64, &[u8])>
+fn change_at_front(bytes: &[u8]) -> Option<(i64, &[u8])>
     ensures spelled { IfSome result (λ read. bytes.now ≡ signed_decimal read.0 ++ read.1.now) }
     ensures range { IfSome result (λ read. IsChange read.0) }
 {
     let (below, digits) = sign(bytes);
-    let (size, behind) = number(digits)?;
+    let (size, behind) = number_at_front(digits)?;
     if 1 <= size && size <= MAX_CHANGE {
         Some((change_of(below, size), behind))
     } else {
@@ -180,7 +180,7 @@ fn escrow(bytes: &[u8]) -> Option<(Escrow, &[u8])>
     ensures range { IfSome result (λ read. IsEscrow read.0) }
 {
     let (field, left) = number_behind_space(bytes, 0, MAX_PLACE)?;
-    let (change, left) = change(behind(left, b' ')?)?;
+    let (change, left) = change_at_front(behind_byte(left, b' ')?)?;
     let escrow = Escrow {
         field: FieldNo(field as u16),
         change,
@@ -205,7 +205,7 @@ fn escrows<'a>(held: &mut Vec<Escrow>, bytes: &'a [u8]) -> Option<&'a [u8]>
         held.push_reserved(escrow);
         left = more;
     }
-    behind(left, b'\n')
+    behind_byte(left, b'\n')
 }
 
 /// The transaction of the commit whose text the bytes begin with, and what stands behind the text.
@@ -218,7 +218,7 @@ pub(crate) fn commit_at<'a>(held: &mut Vec<Escrow>, bytes: &'a [u8]) -> Option<(
     if held.capacity() == 0 {
         return None;
     }
-    let words = behind(bytes, b'C')?;
+    let words = behind_byte(bytes, b'C')?;
     let (epoch, left) = number_behind_space(words, 0, u64::from(MAX_EPOCH))?;
     let (number, left) = number_behind_space(left, 1, u64::from(MAX_NUMBER))?;
     let rest = escrows(held, left)?;
@@ -239,9 +239,9 @@ pub(crate) fn commit_at<'a>(held: &mut Vec<Escrow>, bytes: &'a [u8]) -> Option<(
 pub(crate) fn restart_at(bytes: &[u8]) -> Option<(u32, &[u8])>
     ensures { IfSome result (λ read. IsRestartAt bytes.now read.0 read.1.now) }
 {
-    let words = behind(bytes, b'R')?;
+    let words = behind_byte(bytes, b'R')?;
     let (epoch, left) = number_behind_space(words, 1, u64::from(MAX_EPOCH))?;
-    let rest = behind(left, b'\n')?;
+    let rest = behind_byte(left, b'\n')?;
     Some((epoch as u32, rest))
 }
 
@@ -269,7 +269,7 @@ fn total_line(bytes: &[u8]) -> Option<(Total, &[u8])>
     let (field, left) = number_behind_space(left, 0, MAX_PLACE)?;
     let (kind, left) = kind_behind_space(left)?;
     let (total, left) = number_behind_space(left, 1, MAX_TOTAL)?;
-    let rest = behind(left, b'\n')?;
+    let rest = behind_byte(left, b'\n')?;
     let told = Total {
         site: SiteNo(site as u16),
         field: FieldNo(field as u16),
@@ -289,7 +289,7 @@ fn cut_line(bytes: &[u8]) -> Option<(Cut, &[u8])>
     let (field, left) = number_behind_space(bytes, 0, MAX_PLACE)?;
     let (kind, left) = kind_behind_space(left)?;
     let (total, left) = number_behind_space(left, 1, MAX_CHANGE)?;
-    let rest = behind(left, b'\n')?;
+    let rest = behind_byte(left, b'\n')?;
     let told = Cut {
         field: FieldNo(field as u16),
         kind,

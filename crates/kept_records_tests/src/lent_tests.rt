@@ -3,29 +3,29 @@
 use crate::tests::{NO_RECORDS, RECORDS, log_of};
 use crate::told::{Told, by_words};
 use kept_records::*;
-use std::alloc::Global;
+use std::alloc::{AllocError, Global};
 
 /// What the records tell that bytes begin with, how many bytes are left behind them, and whether a
 /// line that is no record is next.
 type Walked = (Told, usize, bool);
 
-fn lent(alloc: Global, bytes: &[u8]) -> Option<Walked> {
+fn lent(alloc: Global, bytes: &[u8]) -> Result<Walked, AllocError> {
     let mut lines = LentRecords::new(alloc, bytes);
     let mut told = Told::new(alloc);
-    // Each turn takes a byte at least.
-    for _turn in 0..bytes.len().saturating_add(1) {
-        match lines.next(alloc).ok()? {
-            LentLine::Common(next) => {
-                let whole = lines.whole(alloc, next);
-                told.tell(&whole).ok()?;
-                lines.give_back(whole);
-            }
-            LentLine::Summary => told.tell(lines.summary()).ok()?,
-            LentLine::NoRecord => return Some((told, lines.left(), true)),
-            LentLine::End => return Some((told, lines.left(), false)),
-        }
-    }
-    None
+    let is_bad = by_line! { 'lines: lines.next_common(), lines.next_line(alloc)?;
+        Some(next) => {
+            let whole = lines.whole(alloc, next);
+            told.tell(&whole)?;
+            lines.give_back(whole);
+        },
+        RecordLine::Record(next) => {
+            told.tell(&next)?;
+            lines.give_back(next);
+        },
+        RecordLine::NoRecord => break 'lines true,
+        RecordLine::End => break 'lines false,
+    };
+    Ok((told, lines.left(), is_bad))
 }
 
 /// Of so many bytes of some lines, how many those are that stand in front of the first line that
@@ -54,7 +54,7 @@ fn same_fronts(alloc: Global, lines: &[&str], bad: &str) -> Option<bool> {
     }
     let bytes = text.as_bytes();
     for length in 0..bytes.len().saturating_add(1) {
-        let (told, left, is_bad) = lent(alloc, bytes.get(..length)?)?;
+        let (told, left, is_bad) = lent(alloc, bytes.get(..length)?).ok()?;
         let (front, wanted) = in_front(lines, length, bad);
         let read = by_words(alloc, &log_of(alloc, text.get(..front)?)?)?;
         if !told.is(&read) || left != length.saturating_sub(front) || is_bad != wanted {

@@ -209,10 +209,14 @@ fn lines_that_are_no_records(rt: HostRuntime) {
 /// bytes are left behind the record.
 fn handed_out(alloc: Global, text: &str) -> Option<(Option<bool>, usize)> {
     let mut lines = LentRecords::new(alloc, text.as_bytes());
-    let told = match lines.next(alloc).ok()? {
-        LentLine::Common(_) | LentLine::Summary => Some(true),
-        LentLine::NoRecord => Some(false),
-        LentLine::End => None,
+    let told = if lines.next_common().is_some() {
+        Some(true)
+    } else {
+        match lines.next_line(alloc).ok()? {
+            RecordLine::Record(_) => Some(true),
+            RecordLine::NoRecord => Some(false),
+            RecordLine::End => None,
+        }
     };
     Some((told, lines.left()))
 }

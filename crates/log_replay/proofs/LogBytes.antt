@@ -1,6 +1,5 @@
 -- What the lines of a log that are read one after another come to, taken in or passed over.
-use Rattle.std.proofs.Common.{◌≡◌, ℕ, ◌+◌, ◌-◌, true, false, List, [], ◌∷◌, ◌++◌, length, Option, Some, None, refl, sym, ap, subst, ◌∙◌, arith, append_assoc}
-use Rattle.std.specs.Prelude.{is_some}
+use Rattle.std.proofs.Common.{◌≡◌, ℕ, ◌+◌, ◌-◌, true, false, List, [], ◌∷◌, ◌++◌, length, None, refl, sym, ap, subst, ◌∙◌, arith, append_assoc}
 use Rattle.std.specs.List.{flat_map, AllByRecursion}
 use Rattle.std.proofs.lemmas.List.{length-append}
 use Rattle.std.proofs.lemmas.List.Concat.{flat_map-append}
@@ -9,8 +8,6 @@ use Rattle.kept_records.specs.declared.record.Record.{Record}
 use Rattle.kept_records.specs.Text.{text, IsRecord}
 use Rattle.kept_records.specs.Logs.{HasNoLf, IsLog, IsBadLine, AreGoodRecords}
 use Rattle.kept_records.specs.Lines.{Begins, IsRecordAt}
-use Rattle.kept_records.specs.declared.lent_records.CommonRecord.{CommonRecord}
-use Rattle.kept_records.specs.Lent.{LentValue, record_told, HandsCommon}
 use Rattle.kept_records.proofs.Pushes.{lawful_push}
 use Rattle.kept_records.proofs.Walks.{begins_more, begins_size, ends_there}
 use Rattle.log_replay.specs.declared.standing.Standing.{Standing}
@@ -58,18 +55,7 @@ good_behind bytes rs left more rest so_far log =
     ends_there bytes (rs ++ more) rest (length (flat_map text (rs ++ more))) (begins_all bytes rs more left rest so_far log.parts log.each)
     log.no_lf refl
 
--- a line that is passed over is a record
-pub handed_one : (old : List ℕ) (next : Option CommonRecord) (new : LentValue) → is_some next ≡ true → HandsCommon old next new
-    → (r : Record) × IsRecordAt old r new.left
-handed_one old (Some r) new some at = (record_told r new.escrows, at)
-handed_one old None new some at = absurd cc
-
-pub handed_none : (old : List ℕ) (next : Option CommonRecord) (new : LentValue) → is_some next ≡ false → HandsCommon old next new
-    → new.left ≡ old
-handed_none old (Some r) new none same = absurd cc
-handed_none old None new none same = same
-
--- and so is it behind others
+-- a record is passed over
 pub passed_over : (bytes : List ℕ) (broken number : ℕ) (left new : List ℕ) (r : Record)
     → ((rs : List Record) × Begins bytes rs left × (number ≡ broken + length rs)) → IsRecordAt left r new
     → (rs : List Record) × Begins bytes rs new × (number + 1 ≡ broken + length rs)

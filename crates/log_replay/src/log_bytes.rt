@@ -6,7 +6,7 @@ ghost use Rattle.log_replay.specs.LogBytes.{TellsLog, TellsBehind};
 use crate::log::take_next;
 use crate::standing::Standing;
 use field_bounds::{Schema, SiteNo};
-use kept_records::{LentRecords, RecordLine};
+use kept_records::{LentRecords, RecordLine, by_line};
 use std::alloc::{AllocError, Global};
 
 /// What the bytes of a log came to, as `replay_log` tells it. Lines and records are counted from 1.
@@ -36,19 +36,14 @@ fn behind_broken(
     ensures tells { IfOk result (λ replayed. TellsBehind broken lines.old.left replayed) }
 {
     let mut line = broken;
-    'lines: loop {
-        if lines.next_common().is_some() {
+    by_line! { 'lines: lines.next_common(), lines.next_line(alloc)?;
+        Some(_) => line += 1,
+        RecordLine::Record(record) => {
             line += 1;
-            continue 'lines;
-        }
-        match lines.next_line(alloc)? {
-            RecordLine::Record(record) => {
-                line += 1;
-                lines.give_back(record);
-            }
-            RecordLine::NoRecord => return Ok(LogReplayed::BadLine { number: line + 1 }),
-            RecordLine::End => return Ok(LogReplayed::BreaksRule { number: broken }),
-        }
+            lines.give_back(record);
+        },
+        RecordLine::NoRecord => return Ok(LogReplayed::BadLine { number: line + 1 }),
+        RecordLine::End => return Ok(LogReplayed::BreaksRule { number: broken }),
     }
 }
 
@@ -74,26 +69,23 @@ pub fn replay_log(
     let mut standing = Standing::new(alloc, schema, site)?;
     let mut number: u64 = 0;
     let mut lines = LentRecords::new(alloc, bytes);
-    'lines: loop {
-        if let Some(next) = lines.next_common() {
+    by_line! { 'lines: lines.next_common(), lines.next_line(alloc)?;
+        Some(next) => {
             number += 1;
             if !standing.take_common(schema, next, lines.escrows()) {
                 return behind_broken(alloc, &mut lines, number);
             }
-            continue 'lines;
-        }
-        match lines.next_line(alloc)? {
-            RecordLine::Record(record) => {
-                number += 1;
-                let may = take_next(alloc, schema, &mut standing, &record)?;
-                lines.give_back(record);
-                if !may {
-                    return behind_broken(alloc, &mut lines, number);
-                }
+        },
+        RecordLine::Record(record) => {
+            number += 1;
+            let may = take_next(alloc, schema, &mut standing, &record)?;
+            lines.give_back(record);
+            if !may {
+                return behind_broken(alloc, &mut lines, number);
             }
-            RecordLine::NoRecord => return Ok(LogReplayed::BadLine { number: number + 1 }),
-            RecordLine::End => break 'lines,
-        }
+        },
+        RecordLine::NoRecord => return Ok(LogReplayed::BadLine { number: number + 1 }),
+        RecordLine::End => break 'lines,
     }
     let length = bytes.len() - lines.left();
     Ok(LogReplayed::Standing { standing, length })

@@ -8,7 +8,7 @@ ghost use Rattle.log_replay.specs.Resuming.{IsEnd, BeginsAt};
 
 use crate::standing::Standing;
 use field_bounds::{Schema, SiteNo};
-use kept_records::{LentRecords, ReadBack, RecordLine};
+use kept_records::{LentRecords, ReadBack, RecordLine, by_line};
 use std::alloc::{AllocError, Global};
 
 /// What a lawful log came to, and how many records were taken in for it.
@@ -65,23 +65,20 @@ pub fn resume(
     let mut standing = begin(alloc, schema, site, end)?;
     let mut turns: u64 = 0;
     let mut records = LentRecords::new(alloc, end.lines.as_slice());
-    'records: loop {
-        if let Some(next) = records.next_common() {
+    by_line! { 'records: records.next_common(), records.next_line(alloc)?;
+        Some(next) => {
             turns += 1;
             let may = standing.take_common(schema, next, records.escrows());
             prove!(may);
-            continue 'records;
-        }
-        match records.next_line(alloc)? {
-            RecordLine::Record(record) => {
-                turns += 1;
-                let may = standing.take_in(schema, &record);
-                prove!(may);
-                records.give_back(record);
-            }
-            RecordLine::NoRecord => unreachable!(),
-            RecordLine::End => break 'records,
-        }
+        },
+        RecordLine::Record(record) => {
+            turns += 1;
+            let may = standing.take_in(schema, &record);
+            prove!(may);
+            records.give_back(record);
+        },
+        RecordLine::NoRecord => unreachable!(),
+        RecordLine::End => break 'records,
     }
     Ok(Resumed { standing, turns })
 }

@@ -1,17 +1,30 @@
 -- The records in front of the first line that is none.
-use Rattle.std.proofs.Common.{◌≡◌, ℕ, ◌+◌, ◌-◌, List, length, Option, Some, None, refl, ap, ◌∙◌}
+use Rattle.std.proofs.Common.{◌≡◌, ℕ, ◌+◌, ◌-◌, List, [], ◌∷◌, ◌++◌, length, Option, Some, None, refl, sym, ap, subst, ◌∙◌}
 use Rattle.std.specs.List.{flat_map}
 use Rattle.kept_records.specs.declared.record.Record.{Record}
 use Rattle.kept_records.specs.declared.record_lines.RecordLine.{RecordLine}
 use Rattle.kept_records.specs.declared.record_lines.RecordLine.TheVariants as lines
 use Rattle.kept_records.specs.Text.{text}
 use Rattle.kept_records.specs.Logs.{IsLog, AreGoodRecords}
-use Rattle.kept_records.specs.Stands.{greatest, plain}
-use Rattle.kept_records.specs.Lines.{Begins, HandsLine}
+use Rattle.kept_records.specs.Stands.{greatest, later, plain}
+use Rattle.kept_records.specs.Lines.{IsRecordAt, Begins, HandsLine}
 use Rattle.kept_records.proofs.Lines.{no_log}
-use Rattle.kept_records.proofs.Walks.{begins_size, ends_there, bad_there}
+use Rattle.kept_records.proofs.Pushes.{greatest_push}
+use Rattle.kept_records.proofs.Walks.{begins_more, begins_size, ends_there, bad_there}
 use Rattle.log_stand.specs.declared.stand.Stand.{Stand}
 use Rattle.log_stand.specs.Stand.{IsStandOf}
+
+-- the records in front of what is left, of which this is the last epoch
+abbrev pub Front : List ℕ → List ℕ → ℕ → Type 0
+Front bytes left epoch = (rs : List Record) × Begins bytes rs left × (epoch ≡ greatest rs)
+
+pub front_more : {bytes left new behind : List ℕ} {epoch after : ℕ} {r : Record} → Front bytes left epoch → IsRecordAt left r new
+    → behind ≡ new → after ≡ later epoch r → Front bytes behind after
+front_more {bytes = bytes} {left = left} {new = new} {r = r} (rs, front, last) at same is = (
+  rs ++ r ∷ [],
+  subst (λ (l : List ℕ). Begins bytes (rs ++ r ∷ []) l) (sym same) (begins_more bytes rs left r new front at),
+  is ∙ ap (λ (n : ℕ). later n r) last ∙ sym (greatest_push rs r),
+)
 
 module _ (bytes : List ℕ) (records : List Record) (left : List ℕ) (so_far : Begins bytes records left) (stand : Stand)
     (last : stand.epoch ≡ greatest records) (new : List ℕ) (size : stand.length ≡ length bytes - length new) where

@@ -4,7 +4,7 @@ ghost use Rattle.std.specs.Prelude.{◌≡◌, ◌↔◌, IsTrue, IfOk};
 ghost use Rattle.kept_records.specs.Stands.{later};
 ghost use Rattle.log_stand.specs.Stand.{IsStandOf};
 
-use kept_records::{LentRecords, Record, RecordLine};
+use kept_records::{LentRecords, Record, RecordLine, by_line};
 use std::alloc::{AllocError, Global};
 
 /// The epoch of a log's last restart, or 0, and the length of its records in bytes.
@@ -26,7 +26,8 @@ impl Stand {
     }
 }
 
-// The epoch behind a record.
+// The epoch behind a record. Once this is inlined nothing of a lent record is moved.
+#[inline(always)]
 fn later(epoch: u32, next: &Record) -> u32
     ensures { result ≡ later epoch next.now }
 {
@@ -48,16 +49,17 @@ pub fn stand_of(alloc: Global, bytes: &[u8]) -> Result<Stand, AllocError>
 {
     let mut epoch = 0;
     let mut lines = LentRecords::new(alloc, bytes);
-    'lines: loop {
-        if let Some(next) = lines.next_common() {
-            epoch = next.epoch_behind(epoch);
-            continue 'lines;
-        }
-        let RecordLine::Record(next) = lines.next_line(alloc)? else {
-            break 'lines;
-        };
-        epoch = later(epoch, &next);
-        lines.give_back(next);
+    by_line! { 'lines: lines.next_common(), lines.next_line(alloc)?;
+        Some(told) => {
+            let next = lines.whole(alloc, told);
+            epoch = later(epoch, &next);
+            lines.give_back(next);
+        },
+        RecordLine::Record(next) => {
+            epoch = later(epoch, &next);
+            lines.give_back(next);
+        },
+        _ => break 'lines,
     }
     Ok(Stand {
         epoch: u64::from(epoch),

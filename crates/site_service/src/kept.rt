@@ -11,7 +11,7 @@ ghost use Rattle.site_service.specs.Index.{IsIndexOf};
 
 use crate::txn_set::TxnSet;
 use field_bounds::TxnId;
-use kept_records::{CommonRecord, LentRecords, Record, RecordLine};
+use kept_records::{CommonRecord, LentRecords, Record, RecordLine, by_line};
 use std::alloc::{AllocError, Global};
 
 /// The transactions whose commits are among the records in the first so many bytes of a log. What
@@ -71,22 +71,19 @@ impl KeptCommits {
         ensures all { OnOk result (HasNoLf (drop self.new.seen log.now)) }
     {
         let mut records = LentRecords::new(alloc, &log[self.seen..]);
-        'records: loop {
-            if let Some(next) = records.next_common() {
+        by_line! { 'records: records.next_common(), records.next_line(alloc)?;
+            Some(next) => {
                 self.take_common(next)?;
                 self.seen = log.len() - records.left();
-                continue 'records;
-            }
-            match records.next_line(alloc)? {
-                RecordLine::Record(record) => {
-                    self.take_in(&record)?;
-                    records.give_back(record);
-                    let left = records.left();
-                    self.seen = log.len() - left;
-                }
-                RecordLine::NoRecord => unreachable!(),
-                RecordLine::End => break 'records,
-            }
+            },
+            RecordLine::Record(record) => {
+                self.take_in(&record)?;
+                records.give_back(record);
+                let left = records.left();
+                self.seen = log.len() - left;
+            },
+            RecordLine::NoRecord => unreachable!(),
+            RecordLine::End => break 'records,
         }
         Ok(())
     }

@@ -1,19 +1,15 @@
 -- Records that are read from the front of bytes one after another.
-use Rattle.std.proofs.Common.{◌≡◌, ℕ, ◌+◌, ◌*◌, ◌≤◌, lit≤, Bool, true, false, not, cond, List, [], ◌∷◌, ◌++◌, length, refl, sym, ap, subst, ◌∙◌, arith, append_assoc, inl, inr}
+use Rattle.std.proofs.Common.{◌≡◌, ℕ, ◌+◌, ◌*◌, ◌≤◌, lit≤, true, false, not, cond, List, [], ◌∷◌, ◌++◌, length, refl, sym, ap, subst, ◌∙◌, arith, append_assoc, inl, inr}
 use Rattle.std.specs.List.{flat_map, join_with_byte, AllByRecursion}
 use Rattle.std.proofs.lemmas.List.{length-append}
-use Rattle.std.proofs.lemmas.List.Elements.{filter-append}
 use Rattle.field_bounds.specs.Schema.{SchemaValue}
 use Rattle.kept_records.specs.declared.record.Record.{Record}
 use Rattle.kept_records.specs.Text.{text, letter_of, words_of, words_spaced, IsRecord}
 use Rattle.kept_records.specs.Logs.{HasNoLf, IsLog, IsBadLine}
-use Rattle.field_bounds.specs.declared.entry.Escrow.{Escrow}
-use Rattle.kept_records.specs.declared.lent_records.CommonRecord.{CommonRecord}
-use Rattle.kept_records.specs.declared.lent_records.CommonRecord.TheVariants as common
-use Rattle.kept_records.specs.Lent.{record_told}
 use Rattle.kept_records.specs.Lines.{IsRecordAt, StartsBad, Begins}
 use Rattle.kept_records.specs.Stands.{is_summary, plain, may_follow, Lawful}
 use Rattle.kept_records.proofs.Spaced.{line_spaced}
+use Rattle.kept_records.proofs.Counts.{plain_push}
 use Rattle.kept_records.proofs.Cursors.{next_in}
 use Rattle.kept_records.proofs.Lines.{no_log}
 use Rattle.kept_records.proofs.Pushes.{lawful_at, lawful_push}
@@ -38,17 +34,6 @@ text_long r =
 -- a record takes two bytes or more
 pub two_fewer : (left : List ℕ) (r : Record) (new : List ℕ) → IsRecordAt left r new → length new + 2 ≤ length left
 two_fewer left r new at = omega (arith, ap length at.parts, length-append (text r) new, text_long r)
-
-pub plain_more : (rs : List Record) (r : Record) → length (plain (rs ++ r ∷ [])) ≡ length (plain rs) + length (plain (r ∷ []))
-plain_more rs r = ap length (filter-append (λ (x : Record). not (is_summary x)) rs (r ∷ [])) ∙ length-append (plain rs) (plain (r ∷ []))
-
--- a record that is lent is no summary
-pub lent_plain : (told : CommonRecord) (escrows : List Escrow) → length (plain (record_told told escrows ∷ [])) ≡ 1
-lent_plain (common.Commit txn) escrows = refl
-lent_plain (common.Gift to field kind total) escrows = refl
-lent_plain (common.Accept from field kind total) escrows = refl
-lent_plain (common.Tighten field kind total) escrows = refl
-lent_plain (common.Restart epoch) escrows = refl
 
 plain_few : (r : Record) → length (plain (r ∷ [])) ≤ 1
 plain_few r = elim (is_summary r) as (λ b. length (cond (not b) (r ∷ []) []) ≤ 1) [ true ↦ lit≤ tt | false ↦ lit≤ tt ]
@@ -91,7 +76,7 @@ module _ {schema : SchemaValue} {s : ℕ} {bytes : List ℕ} {rs : List Record} 
       let whole : HasRead schema s bytes (rs ++ r ∷ []) (number + 1) more after new = record {
         front = begins_more bytes rs left r new so_far.front at;
         number_is = omega (arith, so_far.number_is, length-append rs (r ∷ []));
-        count_is = omega (arith, so_far.count_is, more_is, plain_more rs r);
+        count_is = omega (arith, so_far.count_is, more_is, plain_push rs r);
         fewer = omega (arith, so_far.fewer, more_is, plain_few r);
         small = omega (arith, so_far.small, two_fewer left r new at);
         lawful = lawful_push schema s rs r so_far.lawful (sym (takes.answered s rs so_far.lawful so_far.standing_is));

@@ -1,7 +1,6 @@
 //! What a site finds on the medium over which it is opened.
 
 ghost use Rattle.std.specs.Prelude.{◌≡◌, ◌<◌, ◌≤◌, ◌+◌, ◌^◌, [], ◌∷◌, ◌++◌, true, Some, length, IfOk, IfErr};
-ghost use Rattle.kept_records.specs.Stands.{plain};
 ghost use Rattle.kept_records.specs.Lent.{record_told};
 ghost use Rattle.kept_records.specs.declared.medium.MediumFault.TheVariants as faults;
 ghost use Rattle.kept_records.specs.declared.medium.Mishap.TheVariants.{Read};
@@ -11,7 +10,9 @@ ghost use Rattle.site_step.specs.Opening.{TellsLine, SparesLogs, FailsUnder, IsF
 use crate::extent::Extent;
 use field_bounds::{Schema, SiteNo};
 use history::{GhostHistory, History};
-use kept_records::{CommonRecord, LentRecords, Medium, MediumFault, Record, RecordLine};
+use kept_records::{
+    CommonRecord, LentRecords, Medium, MediumFault, Record, RecordLine, by_line, plain_count,
+};
 use log_replay::{Standing, take_next};
 use std::alloc::{AllocError, Global};
 use thiserror::Error;
@@ -87,21 +88,6 @@ pub(super) fn read_base<M: Medium>(
     find(alloc, schema, site, &bytes)
 }
 
-/// How many records one counts for: a summary for none.
-fn plain_count(kept: &Record) -> usize
-    ensures value { result ≡ length (plain (kept.now ∷ [])) }
-    ensures few { result ≤ 1 }
-{
-    match kept {
-        Record::Summary { .. } => 0,
-        Record::Commit { .. }
-        | Record::Gift { .. }
-        | Record::Accept { .. }
-        | Record::Tighten { .. }
-        | Record::Restart { .. } => 1,
-    }
-}
-
 /// Notes a record that is lent, and leaves the lines as they are. The list that only proofs see
 /// takes a whole one, so its escrows go into it, and come back to the reader, which reads the next
 /// into their memory. Once this is inlined nothing is moved.
@@ -138,28 +124,26 @@ fn find(alloc: Global, schema: &Schema, site: SiteNo, bytes: &[u8]) -> Result<Fo
     let mut number: u64 = 0;
     let mut count: usize = 0;
     let mut lines = LentRecords::new(alloc, bytes);
-    'lines: loop {
-        number += 1;
-        if let Some(told) = lines.next_common() {
+    by_line! { 'lines: lines.next_common(), lines.next_line(alloc)?;
+        Some(told) => {
+            number += 1;
             if !standing.take_common(schema, told, lines.escrows()) {
                 return Err(OpenFault::Line(number));
             }
             count += 1;
             note_lent(alloc, &mut based, &mut lines, told);
-            continue 'lines;
-        }
-        match lines.next_line(alloc)? {
-            RecordLine::Record(next) => {
-                if !take_next(alloc, schema, &mut standing, &next)? {
-                    return Err(OpenFault::Line(number));
-                }
-                count += plain_count(&next);
-                based.note(&next);
-                lines.give_back(next);
+        },
+        RecordLine::Record(next) => {
+            number += 1;
+            if !take_next(alloc, schema, &mut standing, &next)? {
+                return Err(OpenFault::Line(number));
             }
-            RecordLine::NoRecord => return Err(OpenFault::Line(number)),
-            RecordLine::End => break 'lines,
-        }
+            count += plain_count(&next);
+            based.note(&next);
+            lines.give_back(next);
+        },
+        RecordLine::NoRecord => return Err(OpenFault::Line(number + 1)),
+        RecordLine::End => break 'lines,
     }
     let length = bytes.len() - lines.left();
     Ok(Found {

@@ -1,13 +1,10 @@
-use Rattle.std.proofs.Common.{◌≡◌, ◌-◌, ◌+◌, ℕ, List, length, Option, Some, sym, ap, subst, ◌∙◌, arith}
+use Rattle.std.proofs.Common.{◌≡◌, ◌-◌, ◌+◌, ℕ, List, length, Option, Some, refl, sym, ap, subst, ◌∙◌, arith}
 use Rattle.std.specs.List.{flat_map}
-use Rattle.kept_records.specs.declared.lent_records.LentLine.{LentLine}
 use Rattle.kept_records.specs.Text.{text}
 use Rattle.kept_records.specs.Logs.{AreGoodRecords}
-use Rattle.kept_records.specs.Lines.{IsRecordAt}
-use Rattle.kept_records.specs.Lent.{record_told, HandsLent}
 use Rattle.kept_records.proofs.Cursors.{fewer}
-use Rattle.kept_records.proofs.Walks.{begins_size, ends_there, bad_there}
-use Rattle.kept_records.proofs.Counts.{Counted, counted_none, told_plain, counted_summary, counted_plain}
+use Rattle.kept_records.proofs.Walks.{at_line, bad_at_line, end_at_line, begins_size, ends_there, bad_there}
+use Rattle.kept_records.proofs.Counts.{Counted, counted_none, counted_more, lent_plain}
 use Rattle.kept_records.proofs.counting.count_log.Goals as goal
 use Rattle.kept_records.proofs.counting.count_log.Goals.{in-NoRecord, in-End}
 
@@ -19,28 +16,25 @@ lines-init c =
       counted = subst (λ (l : List ℕ). Counted c.args.bytes.now 0 0 l) (sym all) (counted_none c.args.bytes.now);
     }
 
-pub lines-preserved-in-Common : goal.lines-preserved-in-Common
-lines-preserved-in-Common c =
+pub lines-preserved-in-Some : goal.lines-preserved-in-Some
+lines-preserved-in-Some c =
     let before = c.lines in
-    let lent = c.next.new.self in
-    let next = record_told c.in-Common.field-0 lent.escrows in
-    let at : IsRecordAt before.lines.left next lent.left = subst (λ (l : LentLine). HandsLent before.lines.left l lent) c.in-Common.is
-    c.in_ok-next.ensures.handed in
     record {
-      few = omega (arith, before.invariant.few, fewer before.lines.left lent.left next at.parts);
-      counted = counted_plain c.args.bytes.now before.plain before.summaries before.lines.left next lent.left before.invariant.counted at
-          (told_plain c.in-Common.field-0 lent.escrows);
+      few = omega (arith, before.invariant.few, c.in-Some.ensures.shorter);
+      counted = counted_more before.invariant.counted c.in-Some.ensures.handed refl
+          (ap (λ (n : ℕ). before.plain + n) (sym (lent_plain c.in-Some.field-0 c.next_common.new.self.escrows))) (omega arith);
     }
 
 pub lines-preserved : goal.lines-preserved
 lines-preserved c =
     let before = c.lines in
-    let lent = c.next.new.self in
-    let taken = subst (λ (l : LentLine). HandsLent before.lines.left l lent) c.in-Summary.is c.in_ok-next.ensures.handed in
+    let same = c.give_back.ensures.same in
+    let at = at_line _ c.in_default.ensures.handed c.in_ok-next.ensures.handed c.in-Record.is in
+    let few = c.plain_count-one.ensures.few in
     record {
-      few = omega (arith, before.invariant.few, fewer before.lines.left lent.left lent.summary taken.0.parts);
-      counted = counted_summary c.args.bytes.now before.plain before.summaries before.lines.left lent.summary lent.left
-          before.invariant.counted taken.0 taken.1;
+      few = omega (arith, before.invariant.few, fewer _ _ _ at.parts, ap length same, few);
+      counted = counted_more before.invariant.counted at same
+          (ap (λ (n : ℕ). before.plain + n) c.plain_count-one.ensures.value) (omega (arith, few));
     }
 
 pub returns : goal.returns
@@ -48,12 +42,10 @@ returns c =
     let bytes = c.args.bytes.now in
     let left = c.lines.lines.left in
     let counted = c.lines.invariant.counted in
-    let new = c.next.new.self in
-    let handed = c.in_ok-next.ensures.handed in
     let size : ℕ = length bytes - c.left.result in
     elim c.match-branch-2.branch [
       | in-NoRecord w ↦
-          let bad = subst (λ (l : LentLine). HandsLent left l new) w.in-NoRecord.is handed in
+          let bad = bad_at_line _ c.in_default.ensures.handed c.in_ok-next.ensures.handed w.in-NoRecord.is in
           let line : Some (length counted.records + 1) ≡ c.match-branch-2.bad_line =
           ap (λ (n : ℕ). Some (n + 1)) (sym counted.all) ∙ sym w.bad_line-is in
           record {
@@ -66,7 +58,7 @@ returns c =
             };
           }
       | in-End w ↦
-          let none = subst (λ (l : LentLine). HandsLent left l new) w.in-End.is handed in
+          let none = end_at_line _ c.in_default.ensures.handed c.in_ok-next.ensures.handed w.in-End.is in
           let whole : size ≡ length (flat_map text counted.records) =
           omega (arith, c.left.ensures.value, ap length none.1, begins_size bytes counted.records left counted.front) in
           record {

@@ -1,4 +1,4 @@
-use Rattle.std.proofs.Common.{◌≡◌, List, length, take, subst, arith}
+use Rattle.std.proofs.Common.{◌≡◌, List, take, subst, arith}
 use Rattle.std.proofs.lemmas.List.{take_all}
 use Rattle.field_bounds.specs.declared.entry.Escrow.{Escrow}
 use Rattle.kept_records.specs.declared.record.Record.TheVariants.{Commit}

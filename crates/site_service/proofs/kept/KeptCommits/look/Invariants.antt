@@ -4,12 +4,12 @@ use Rattle.kept_records.specs.Keeping.{IsKept}
 use Rattle.site_service.specs.Index.{IsIndexOf}
 use Rattle.site_service.proofs.kept.KeptCommits.look.Given as goal
 
-abbrev pub invariant-records : goal.invariant-records
-invariant-records l = record {
+abbrev pub invariant-loop-of-by_line : goal.invariant-loop-of-by_line
+invariant-loop-of-by_line l = record {
   index : IsIndexOf l.self l.log;
   left : l.records.left ≡ drop l.self.seen l.log;
   kept : IsKept l.records.left;
 }
 
-abbrev pub decreases-records : goal.decreases-records
-decreases-records l = length l.records.left
+abbrev pub decreases-loop-of-by_line : goal.decreases-loop-of-by_line
+decreases-loop-of-by_line l = length l.records.left
