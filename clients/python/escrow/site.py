@@ -5,12 +5,13 @@ from __future__ import annotations
 import asyncio
 import fcntl
 import os
+import time
 import weakref
 from asyncio import get_running_loop
 from collections.abc import Callable
 from typing import Optional
 
-from .asking import ask, ask_behind_stop, async_ask_behind_stop, async_kept, kept
+from .asking import ask, ask_behind_stop, async_ask_behind_stop, async_kept, is_kept, kept
 from .calls import Change, Kept, Line
 from .desk import Desks
 from .errands import Errands
@@ -24,6 +25,13 @@ from .supervisor import Backoff, Orders, Supervisor
 from .transaction import AsyncTransaction, Transaction
 from .values import Command, Interval, Kind, Mark, Outcome, Share, Spared, Statement
 from .waiters import result_of
+
+
+OLDER = (
+    "last_id names it as committed, so this is an older log: put the newest log back; where there is none, its disk is "
+    'lost: see "A disk is lost" in docs/OPERATING.md'
+)
+"""Of a log that hasn't got a commit which it had."""
 
 
 class Site:
@@ -45,6 +53,7 @@ class Site:
         *,
         sync: bool = True,
         not_before: Optional[Mark] = None,
+        last_id: Optional[str] = None,
         metrics: Optional[Watch] = None,
         wait: float = 10.0,
         patience: float = 30.0,
@@ -54,14 +63,18 @@ class Site:
 
         `program` is the path of `escrow_site` (see `find_program`). `trace` keeps a trace: from the first start on and
         always, or never. `sync=False` doesn't sync the log: a stop of the machine may lose what was answered.
-        `not_before` refuses a log that is older. `metrics` counts what happens. `wait` is how many seconds this waits
-        at most, `patience` how many a call waits for a site that doesn't stand, and `backoff` how many pass before a
-        new start.
+        `not_before` refuses a log that is older, and so does `last_id`: the newest id that the caller's own books have
+        as committed. The log is asked for it once, before any other call, and a site whose log hasn't got it is closed.
+        A later start, behind a stop, isn't asked again: it is told the mark of the start before as `not_before`.
+        `metrics` counts what happens. `wait` is how many seconds this waits at most, `patience` how many a call waits
+        for a site that doesn't stand, and `backoff` how many pass before a new start.
 
         Raises `Down` where it doesn't stand in time, at once where the folder or the log is refused (`status` 3), the
         command line is (2), or another `Site` of this machine has the folder (6). `FileNotFoundError` where no program
-        is named and none is found.
+        is named and none is found, `ValueError` where `last_id` is no id.
         """
+        if last_id is not None:
+            read_id(last_id)
         self.folder = os.path.abspath(os.fspath(folder))
         whose = identity(self.folder)
         self.number, self.world, self.schema = whose
@@ -81,7 +94,14 @@ class Site:
         orders = Orders(self.folder, whose, (self._program, "serve", self.folder, *options), backoff, patience)
         self._supervisor = Supervisor(orders, self.pipeline, self._started, metrics, not_before)
         _open_sites.add(self)
-        self._wait(wait)
+        end = time.monotonic() + wait
+        try:
+            self._wait(wait)
+            if last_id is not None and not is_kept(self.pipeline, last_id, end - time.monotonic()):
+                raise Down(f"{self.folder}/log: transaction {last_id} isn't in it: {OLDER}", 3)
+        except Down:
+            self.close(max(0.0, end - time.monotonic()))
+            raise
 
     def _wait(self, seconds: float) -> None:
         stands, why = self._supervisor.wait(seconds), self.pipeline.dead
@@ -89,7 +109,6 @@ class Site:
             told = self.last_error or "the program isn't ready"
             why = Down(f"{self.folder}: doesn't stand after {seconds} seconds: {told}", self.last_status)
         if why is not None:
-            self.close(0.0)
             raise why
 
     def _issued(self, statement: Statement) -> None:
