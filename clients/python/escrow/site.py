@@ -22,7 +22,7 @@ from .program import Path, find_program
 from .schema import identity
 from .steps import GivenKey, Steps, TightenedKey, share
 from .supervisor import Backoff, Orders, Supervisor
-from .transaction import AsyncTransaction, Transaction
+from .transaction import AsyncTransaction, Before, Transaction
 from .values import Command, Interval, Kind, Mark, Outcome, Share, Spared, Statement
 from .waiters import result_of
 
@@ -176,13 +176,21 @@ class Site:
         of the site aborts it."""
         return Transaction(self.pipeline, self._clock, seconds)
 
-    def change(self, field: str, change: int) -> str:
+    def change(self, field: str, change: int, before: Optional[Before] = None) -> str:
         """A transaction of one change in one trip: the id, once it is committed.
 
         Below 0 lowers the field by so many quantities, above 0 raises it. Raises `Short` and other `Refused`, with
         nothing changed; `Down`; `Unknown`, with the id, where a stop left the answer out and the site doesn't stand
         again in time. Else a stop isn't seen: it happens once.
+
+        A caller that dies doesn't know the id. So `before`, where there is one, is called with it once the rights are
+        set aside, ahead of the commit, which then takes a trip of its own: write it beside the order, and ask
+        `outcome` of it later. What is refused isn't told to it. Where a stop comes in between it is called again, with
+        another id: then those before it aren't committed, and never will be. What it raises comes through, with
+        nothing changed. It holds one of the 63 places of open transactions, and may call the site.
         """
+        if before is not None:
+            return self._change_behind(before, field, change)
         shape = self.pipeline.shape(field, change)
         while True:
             call = Change()
@@ -193,6 +201,12 @@ class Site:
             except Interrupted:
                 if kept(self.pipeline, call.id) is Outcome.COMMITTED:
                     return call.id
+
+    def _change_behind(self, before: Before, field: str, change: int) -> str:
+        while True:
+            t = self.transaction()
+            if t.only(field, change, before):
+                return t.id
 
     def give(self, to: int, field: str, kind: Kind, amount: int) -> Statement:
         """Gives free rights of a kind to another site: the statement that has to reach it.
@@ -319,8 +333,11 @@ class AsyncSite:
         """As `Site.transaction`, for `async with`."""
         return AsyncTransaction(self.site.pipeline, self.site._clock, seconds, self._ask)
 
-    async def change(self, field: str, change: int) -> str:
-        """As `Site.change`."""
+    async def change(self, field: str, change: int, before: Optional[Before] = None) -> str:
+        """As `Site.change`. `before` is called in the loop; what it returns is awaited where it can be, as that of an
+        `async def`."""
+        if before is not None:
+            return await self._change_behind(before, field, change)
         shape = self._shapes.get((field, change)) or self._pipeline.shape(field, change)
         while True:
             desk = self._desks.desk
@@ -331,6 +348,12 @@ class AsyncSite:
             await call
             if call.answer is None or await self._was_made(call):
                 return call.id
+
+    async def _change_behind(self, before: Before, field: str, change: int) -> str:
+        while True:
+            t = self.transaction()
+            if await t.only(field, change, before):
+                return t.id
 
     async def _was_made(self, change: Change) -> bool:
         """Whether it was made, though a stop left its answer out. Raises the answer where there is one."""
