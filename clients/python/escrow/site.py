@@ -16,6 +16,7 @@ from .calls import Change, Kept, Line
 from .desk import Desks
 from .errands import Errands
 from .errors import Down, Interrupted
+from .gauges import Gauges
 from .numbers import amount_of, read_id, site_of
 from .pipeline import Counts, Pipeline, Watch
 from .program import Path, find_program
@@ -102,6 +103,8 @@ class Site:
         except Down:
             self.close(max(0.0, end - time.monotonic()))
             raise
+        if hasattr(metrics, "looks_at"):
+            metrics.looks_at(Gauges(self.pipeline, self.folder, whose))
 
     def _wait(self, seconds: float) -> None:
         stands, why = self._supervisor.wait(seconds), self.pipeline.dead
