@@ -71,8 +71,9 @@ class Site:
         for a site that doesn't stand, and `backoff` how many pass before a new start.
 
         Raises `Down` where it doesn't stand in time, at once where the folder or the log is refused (`status` 3), the
-        command line is (2), or another `Site` of this machine has the folder (6). `FileNotFoundError` where no program
-        is named and none is found, `ValueError` where `last_id` is no id.
+        command line is (2), the disk has a fault (5), or another `Site` of this machine has the folder (6); a disk that
+        is full is waited for. `FileNotFoundError` where no program is named and none is found, `ValueError` where
+        `last_id` is no id.
         """
         if last_id is not None:
             read_id(last_id)
@@ -163,7 +164,7 @@ class Site:
 
     @property
     def last_error(self) -> str:
-        """What the process told when it last ended."""
+        """What the process told when it last ended, and whether the disk was full then."""
         return self._supervisor.last_error
 
     @property
