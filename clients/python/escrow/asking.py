@@ -24,6 +24,21 @@ def ask(pipeline: Pipeline, call: Call[T]) -> T:
     return cast(T, waiter.wait())
 
 
+def is_kept(pipeline: Pipeline, id: str, seconds: float) -> bool:
+    """Whether the log has the commit of this transaction: asked of a site that stands, before anybody else may ask it.
+    Raises `Down` where it isn't answered in so many seconds."""
+    call, waiter = Kept(id), ThreadWaiter()
+    call.waiter = waiter
+    pipeline.submit((call,))
+    pipeline.flush()
+    if not waiter.comes(seconds):
+        raise Down(f"whether the log has transaction {id} wasn't answered in time")
+    try:
+        return waiter.wait() is Outcome.COMMITTED
+    except (Unknown, ValueError):  # its epoch is later than any of the log, or the one that has just begun
+        return False
+
+
 def kept(pipeline: Pipeline, id: str) -> Outcome:
     """What became of a transaction whose answer a stop left out. Raises `Unknown` where it can't be asked."""
     return ask_behind_stop(pipeline, Kept(id), id)

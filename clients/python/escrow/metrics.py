@@ -3,6 +3,7 @@
 One `Metrics` for each site. Who talks to the site calls it: `answered` for each answer, `refused` for each refusal besides,
 `shared` where free rights were told, `started` and `stopped` at each start and end of the process, `missed` where a call ends
 without its answer, `waits` and `holds` for what is under way. Each may be called from any thread, and takes about a microsecond.
+What is to be looked at instead, the log's length and the free rights, it tells once, by `looks_at`.
 `text_of` writes the numbers of one or many sites, `write` puts them in a file for a collector that reads files, and
 `serve` answers them over HTTP. Nothing here knows the client.
 """
@@ -12,11 +13,12 @@ import contextlib
 import os
 import re
 import threading
+import time
 from bisect import bisect_left
 from collections import Counter
 from enum import Enum
 from http.server import BaseHTTPRequestHandler, ThreadingHTTPServer
-from typing import Callable, Iterable, NamedTuple, Sequence
+from typing import Callable, Iterable, Mapping, NamedTuple, Protocol, Sequence
 
 _NAME = re.compile("[a-z][a-z0-9_]*")
 CONTENT_TYPE = "text/plain; version=0.0.4; charset=utf-8"
@@ -29,6 +31,11 @@ STATUSES = range(7)
 OUTCOMES = ("down", "lost", "over", "unknown")
 """Refusals, statuses and outcomes that are told from the beginning, as 0: Prometheus tells no increase of a count that it first
 sees at 1, and on these there are alarms."""
+
+LOOK, LONGEST = 5.0, 0.5
+"""Seconds that pass between two looks at the free rights, at least, and that one takes, at most."""
+MOVING = ("abort", "accept", "change", "commit", "escrow", "give", "spare", "tighten")
+"""Commands that move free rights: behind no other they are asked for again."""
 
 
 class Type(Enum):
@@ -65,6 +72,17 @@ class Other(NamedTuple):
     read: Callable[[], float]
 
 
+class Source(Protocol):
+    """A site as its numbers look at it. Neither may wait for one that is down."""
+
+    def length(self) -> int | None:
+        """The bytes of its log's records now, where that can be told."""
+
+    def shares(self, seconds: float) -> Mapping[str, tuple[int, int]] | None:
+        """By field how many rights are free now, to lower it and to raise it; None where that isn't told in so many
+        seconds."""
+
+
 class Metrics:
     """What was counted at one site since the object was made; `site` is its number.
 
@@ -72,7 +90,8 @@ class Metrics:
     """
 
     __slots__ = ("site", "_bounds", "_lock", "_answers", "_seconds", "_refusals", "_shares", "_missed",
-                 "_starts", "_stops", "_up", "_epoch", "_length", "_waiting", "_open", "_others")
+                 "_starts", "_stops", "_up", "_epoch", "_length", "_waiting", "_open", "_others",
+                 "_source", "_due", "_seen")
 
     def __init__(self, site: int, seconds: Sequence[float] = SECONDS) -> None:
         """`seconds`: the upper ends of the buckets of the time to an answer, rising, each above 0; else `ValueError`."""
@@ -91,6 +110,15 @@ class Metrics:
         self._up = False
         self._epoch = self._length = self._waiting = self._open = 0
         self._others: list[Other] = []
+        self._source: Source | None = None
+        self._due = 0.0  # the next look at the free rights, by `time.monotonic`
+        self._seen = (0, 0)  # starts, and answers that move rights, at the last one
+
+    def looks_at(self, source: Source) -> None:
+        """From now on each text has the log's length and the free rights of this site, as they are then. The rights are
+        asked for at most every 5 seconds, where they may have moved; half a second is waited for them at most, and then
+        they are as they were told last."""
+        self._source, self._due, self._seen = source, 0.0, (0, 0)
 
     def answered(self, command: str, seconds: float, count: int = 1) -> None:
         """An answer came, a refusal too: to this command (`commit`, `give`, ..), so many seconds after it was asked.
@@ -149,13 +177,35 @@ class Metrics:
 
         `read` must not wait; where it raises there is no sample. Raises `ValueError` where the name is none, or is there already.
         """
-        families = {it.name for it in self.families()}
+        families = {it.name for it in self._families()}
         if not _NAME.fullmatch(name) or name in families:
             raise ValueError(f"{name!r}: isn't a name, or is there already")
         self._others.append(Other(name, help, type, read))
 
     def families(self) -> list[Family]:
         """All numbers as they are now, each family once, its samples in order."""
+        with contextlib.suppress(Exception):  # what can't be looked at is as it was told last
+            self._look()
+        return self._families()
+
+    def _look(self) -> None:
+        source = self._source
+        if source is None:
+            return
+        length = source.length()
+        with self._lock:
+            self._length = self._length if length is None else length
+            moved = self._starts, sum(sum(self._answers.get(it, ())) for it in MOVING)
+            if moved == self._seen or time.monotonic() < self._due:
+                return
+            self._due = time.monotonic() + LOOK
+        shares = source.shares(LONGEST)
+        if shares is not None:
+            self._seen = moved
+            for field, rights in shares.items():
+                self.shared(field, *rights)
+
+    def _families(self) -> list[Family]:
         others = [Family(it.name, it.help, it.type, _told_by(it.read)) for it in self._others]
         with self._lock:
             return [*self._answer_families(), *self._state_families(), *others]
@@ -184,12 +234,13 @@ class Metrics:
                   for (field, kind), rights in sorted(self._shares.items())]
         stops = [Sample("", (("status", str(status)),), count) for status, count in sorted(self._stops.items())]
         return [
-            Family("escrow_share_rights", "Free rights as last told, in the field's quantities.", Type.GAUGE, shares),
+            Family("escrow_share_rights", "Free rights here, what is left of each field, by kind.", Type.GAUGE, shares),
             Family("escrow_up", "1 where the process is ready, else 0.", Type.GAUGE, _alone(int(self._up))),
             Family("escrow_starts_total", "Times that the process was ready.", Type.COUNTER, _alone(self._starts)),
             Family("escrow_stops_total", "Ends of the process, by status; below 0 the signal.", Type.COUNTER, stops),
             Family("escrow_epoch", "Epoch of the last start.", Type.GAUGE, _alone(self._epoch)),
-            Family("escrow_log_bytes", "Bytes of the log's records at the last start.", Type.GAUGE, _alone(self._length)),
+            Family("escrow_log_bytes", "Bytes of the log now, less its three first lines.", Type.GAUGE,
+                   _alone(self._length)),
             Family("escrow_waiting_calls", "Calls that aren't answered yet.", Type.GAUGE, _alone(self._waiting)),
             Family("escrow_open_transactions", "Open transactions, of 64 places.", Type.GAUGE, _alone(self._open)),
         ]
@@ -302,9 +353,9 @@ def serve(sites: Sequence[Metrics], host: str = "127.0.0.1", port: int = 0,
           refresh: Callable[[], None] | None = None) -> MetricsServer:
     """Answers the numbers of these sites at `http://host:port/metrics`, from a thread of its own.
 
-    Port 0 takes a free one: see `port` of what is returned. `refresh` is called before each answer, so it shouldn't wait long, and
-    what it raises is left aside: there a client can ask `share` of each field, where nothing else does. Who reaches the port
-    reads the numbers: there is no login. Raises `OSError` where the port is taken.
+    Port 0 takes a free one: see `port` of what is returned. `refresh` is called before each answer, so it shouldn't
+    wait long, and what it raises is left aside: there a program can bring numbers of its own up to date. Who reaches
+    the port reads the numbers: there is no login. Raises `OSError` where the port is taken.
     """
     server = MetricsServer((host, port), sites, refresh)
     threading.Thread(target=server.serve_forever, name="escrow metrics", daemon=True).start()

@@ -30,7 +30,10 @@ NUMBERS = 1_000_000_000
 
 
 class Watch(Protocol):
-    """Who counts what happens: `escrow.metrics.Metrics` does. Called from several threads, sometimes under a lock."""
+    """Who counts what happens: `escrow.metrics.Metrics` does. Called from several threads, sometimes under a lock.
+
+    One that has `looks_at`, as that has, is told what it may look at besides (`Gauges`).
+    """
 
     def answered(self, command: str, seconds: float, count: int = 1) -> None:
         """An answer came, so many seconds after it was asked."""
@@ -168,6 +171,14 @@ class Pipeline:
             else:
                 for call in calls:
                     self._place(call)
+
+    def submit_standing(self, calls: Sequence[Call[Any]]) -> bool:
+        """As `submit`, where the site stands: whether it does. Else they aren't asked, and nobody is told."""
+        with self.lock:
+            if self.up:
+                for call in calls:
+                    self.queue(call)
+            return self.up
 
     def _can_begin(self, many: int) -> bool:
         return self.up and self._numbers + many <= self.numbers

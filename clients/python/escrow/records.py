@@ -8,6 +8,11 @@ from .schema import Identity
 from .values import Mark
 
 
+def name_of_log(whose: Identity) -> str:
+    """The lines that a site's log begins with: its length counts what stands behind them."""
+    return f"escrow log 1\nnumber {whose.number}\nworld {whose.world}\n"
+
+
 def served_between(folder: str, whose: Identity, ours: Mark, now: Mark) -> bool:
     """Whether somebody else may have served the site between a run of ours and the one that has just begun.
 
@@ -17,11 +22,10 @@ def served_between(folder: str, whose: Identity, ours: Mark, now: Mark) -> bool:
     """
     if now.epoch == ours.epoch + 1:
         return False
-    name = len(f"escrow log 1\nnumber {whose.number}\nworld {whose.world}\n")
     our_next, is_behind = b"R %d\n" % (ours.epoch + 1), False
     try:
         with open(os.path.join(folder, "log"), "rb") as log:
-            log.seek(name + ours.length)
+            log.seek(len(name_of_log(whose)) + ours.length)
             for record in log:
                 is_behind = is_behind or record == our_next
                 if is_behind and record[:2] not in (b"R ", b"S "):

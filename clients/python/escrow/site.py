@@ -5,25 +5,34 @@ from __future__ import annotations
 import asyncio
 import fcntl
 import os
+import time
 import weakref
 from asyncio import get_running_loop
 from collections.abc import Callable
 from typing import Optional
 
-from .asking import ask, ask_behind_stop, async_ask_behind_stop, async_kept, kept
+from .asking import ask, ask_behind_stop, async_ask_behind_stop, async_kept, is_kept, kept
 from .calls import Change, Kept, Line
 from .desk import Desks
 from .errands import Errands
 from .errors import Down, Interrupted
+from .gauges import Gauges
 from .numbers import amount_of, read_id, site_of
 from .pipeline import Counts, Pipeline, Watch
 from .program import Path, find_program
 from .schema import identity
 from .steps import GivenKey, Steps, TightenedKey, share
 from .supervisor import Backoff, Orders, Supervisor
-from .transaction import AsyncTransaction, Transaction
+from .transaction import AsyncTransaction, Before, Transaction
 from .values import Command, Interval, Kind, Mark, Outcome, Share, Spared, Statement
 from .waiters import result_of
+
+
+OLDER = (
+    "last_id names it as committed, so this is an older log: put the newest log back; where there is none, its disk is "
+    'lost: see "A disk is lost" in docs/OPERATING.md'
+)
+"""Of a log that hasn't got a commit which it had."""
 
 
 class Site:
@@ -45,6 +54,7 @@ class Site:
         *,
         sync: bool = True,
         not_before: Optional[Mark] = None,
+        last_id: Optional[str] = None,
         metrics: Optional[Watch] = None,
         wait: float = 10.0,
         patience: float = 30.0,
@@ -54,14 +64,19 @@ class Site:
 
         `program` is the path of `escrow_site` (see `find_program`). `trace` keeps a trace: from the first start on and
         always, or never. `sync=False` doesn't sync the log: a stop of the machine may lose what was answered.
-        `not_before` refuses a log that is older. `metrics` counts what happens. `wait` is how many seconds this waits
-        at most, `patience` how many a call waits for a site that doesn't stand, and `backoff` how many pass before a
-        new start.
+        `not_before` refuses a log that is older, and so does `last_id`: the newest id that the caller's own books have
+        as committed. The log is asked for it once, before any other call, and a site whose log hasn't got it is closed.
+        A later start, behind a stop, isn't asked again: it is told the mark of the start before as `not_before`.
+        `metrics` counts what happens. `wait` is how many seconds this waits at most, `patience` how many a call waits
+        for a site that doesn't stand, and `backoff` how many pass before a new start.
 
         Raises `Down` where it doesn't stand in time, at once where the folder or the log is refused (`status` 3), the
-        command line is (2), or another `Site` of this machine has the folder (6). `FileNotFoundError` where no program
-        is named and none is found.
+        command line is (2), the disk has a fault (5), or another `Site` of this machine has the folder (6); a disk that
+        is full is waited for. `FileNotFoundError` where no program is named and none is found, `ValueError` where
+        `last_id` is no id.
         """
+        if last_id is not None:
+            read_id(last_id)
         self.folder = os.path.abspath(os.fspath(folder))
         whose = identity(self.folder)
         self.number, self.world, self.schema = whose
@@ -81,7 +96,16 @@ class Site:
         orders = Orders(self.folder, whose, (self._program, "serve", self.folder, *options), backoff, patience)
         self._supervisor = Supervisor(orders, self.pipeline, self._started, metrics, not_before)
         _open_sites.add(self)
-        self._wait(wait)
+        end = time.monotonic() + wait
+        try:
+            self._wait(wait)
+            if last_id is not None and not is_kept(self.pipeline, last_id, end - time.monotonic()):
+                raise Down(f"{self.folder}/log: transaction {last_id} isn't in it: {OLDER}", 3)
+        except Down:
+            self.close(max(0.0, end - time.monotonic()))
+            raise
+        if hasattr(metrics, "looks_at"):
+            metrics.looks_at(Gauges(self.pipeline, self.folder, whose))
 
     def _wait(self, seconds: float) -> None:
         stands, why = self._supervisor.wait(seconds), self.pipeline.dead
@@ -89,7 +113,6 @@ class Site:
             told = self.last_error or "the program isn't ready"
             why = Down(f"{self.folder}: doesn't stand after {seconds} seconds: {told}", self.last_status)
         if why is not None:
-            self.close(0.0)
             raise why
 
     def _issued(self, statement: Statement) -> None:
@@ -141,7 +164,7 @@ class Site:
 
     @property
     def last_error(self) -> str:
-        """What the process told when it last ended."""
+        """What the process told when it last ended, and whether the disk was full then."""
         return self._supervisor.last_error
 
     @property
@@ -157,13 +180,21 @@ class Site:
         of the site aborts it."""
         return Transaction(self.pipeline, self._clock, seconds)
 
-    def change(self, field: str, change: int) -> str:
+    def change(self, field: str, change: int, before: Optional[Before] = None) -> str:
         """A transaction of one change in one trip: the id, once it is committed.
 
         Below 0 lowers the field by so many quantities, above 0 raises it. Raises `Short` and other `Refused`, with
         nothing changed; `Down`; `Unknown`, with the id, where a stop left the answer out and the site doesn't stand
         again in time. Else a stop isn't seen: it happens once.
+
+        A caller that dies doesn't know the id. So `before`, where there is one, is called with it once the rights are
+        set aside, ahead of the commit, which then takes a trip of its own: write it beside the order, and ask
+        `outcome` of it later. What is refused isn't told to it. Where a stop comes in between it is called again, with
+        another id: then those before it aren't committed, and never will be. What it raises comes through, with
+        nothing changed. It holds one of the 63 places of open transactions, and may call the site.
         """
+        if before is not None:
+            return self._change_behind(before, field, change)
         shape = self.pipeline.shape(field, change)
         while True:
             call = Change()
@@ -174,6 +205,12 @@ class Site:
             except Interrupted:
                 if kept(self.pipeline, call.id) is Outcome.COMMITTED:
                     return call.id
+
+    def _change_behind(self, before: Before, field: str, change: int) -> str:
+        while True:
+            t = self.transaction()
+            if t.only(field, change, before):
+                return t.id
 
     def give(self, to: int, field: str, kind: Kind, amount: int) -> Statement:
         """Gives free rights of a kind to another site: the statement that has to reach it.
@@ -300,8 +337,11 @@ class AsyncSite:
         """As `Site.transaction`, for `async with`."""
         return AsyncTransaction(self.site.pipeline, self.site._clock, seconds, self._ask)
 
-    async def change(self, field: str, change: int) -> str:
-        """As `Site.change`."""
+    async def change(self, field: str, change: int, before: Optional[Before] = None) -> str:
+        """As `Site.change`. `before` is called in the loop; what it returns is awaited where it can be, as that of an
+        `async def`."""
+        if before is not None:
+            return await self._change_behind(before, field, change)
         shape = self._shapes.get((field, change)) or self._pipeline.shape(field, change)
         while True:
             desk = self._desks.desk
@@ -312,6 +352,12 @@ class AsyncSite:
             await call
             if call.answer is None or await self._was_made(call):
                 return call.id
+
+    async def _change_behind(self, before: Before, field: str, change: int) -> str:
+        while True:
+            t = self.transaction()
+            if await t.only(field, change, before):
+                return t.id
 
     async def _was_made(self, change: Change) -> bool:
         """Whether it was made, though a stop left its answer out. Raises the answer where there is one."""

@@ -184,7 +184,7 @@ class Steps:
         return ask(self._pipeline, share(self._pipeline.number, field))
 
 
-def share(number: int, field: str) -> Line[Share]:
+def share(number: int, field: str, again: bool = True) -> Line[Share]:
     """Asks for the free rights."""
     line = f"{number} share {field}"
-    return Line(Command.SHARE, line, lambda told: Share(int(told[1]), int(told[2])), again=True, field=field)
+    return Line(Command.SHARE, line, lambda told: Share(int(told[1]), int(told[2])), again=again, field=field)

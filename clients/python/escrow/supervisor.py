@@ -15,20 +15,25 @@ from typing import IO, NamedTuple, Optional
 from .errors import Down, Faulty
 from .pipeline import Pipeline, Watch
 from .records import served_between
+from .room import has_room
 from .schema import Identity
 from .values import Mark
 
 VERSION = "1"
 """The version of the ready line and of all that follows it."""
+DISK = 5
+"""The status behind a fault of the disk."""
 HOPELESS = {
     2: "",
     3: "",
-    5: ": make room or mend the disk; after a sync that failed start the machine anew before the site",
+    DISK: ": make room or mend the disk; after a sync that failed start the machine anew before the site",
 }
 """Statuses behind which it isn't started again, and what there is to add to what the program told: 2 and 3 would come
-again. 5 is a fault of the disk: until it is mended, what the system shows of the log may not be on the disk."""
+again. 5 is a fault of the disk: until it is mended, what the system shows of the log may not be on the disk. Where the
+disk is full it is none: what is written stays, and is synced by the next start."""
+FULL = ": the disk is full: make room on it: the site starts again by itself once 64 KiB can be written in its folder"
 LOOK = 0.5
-"""Seconds between two looks for calls that have waited too long, where a start takes long."""
+"""Seconds between two looks for calls that have waited too long, where a start takes long, and for room on the disk."""
 A_WHILE = 1.0
 """So many seconds a process stands for a while."""
 
@@ -132,12 +137,28 @@ class Supervisor:
                 pause, self._down_since = self._orders.backoff.first, time.monotonic()
             if self._closing.is_set():
                 break
+            if self._is_full():
+                self._wait_for_room()
+                continue
             if self.last_status in HOPELESS:
                 return Down(self.last_error + HOPELESS[self.last_status], self.last_status)
             self._lose_patience()
             self._closing.wait(pause)
             pause = min(2 * pause, self._orders.backoff.most)
         return None
+
+    def _is_full(self) -> bool:
+        """Whether it has ended for want of room on the disk: then its error tells so."""
+        if self.last_status != DISK or has_room(self._orders.folder):
+            return False
+        self.last_error += FULL
+        return True
+
+    def _wait_for_room(self) -> None:
+        """Returns once there is room on the disk, or it is to be closed."""
+        self._lose_patience()
+        while not self._closing.wait(LOOK) and not has_room(self._orders.folder):
+            self._lose_patience()
 
     def _patience_left(self) -> float:
         return self._down_since + self._orders.patience - time.monotonic()

@@ -3,6 +3,8 @@
 from __future__ import annotations
 
 import enum
+import inspect
+from collections.abc import Callable
 from types import TracebackType
 from typing import Optional
 
@@ -25,6 +27,8 @@ class State(enum.Enum):
     EXPIRED = "expired"
 
 
+Before = Callable[[str], object]
+"""What is called with the id of a transaction ahead of its commit."""
 _NEW, _OPEN = State.NEW, State.OPEN
 _WHY = {
     State.ENDED: "the transaction has ended: it was committed or aborted",
@@ -197,6 +201,24 @@ class Transaction(BaseTransaction):
         except (Interrupted, Over, Down, Refused):
             pass
 
+    def only(self, field: str, change: int, before: Before) -> bool:
+        """This change alone, with `before` called ahead of the commit: whether it was committed. It wasn't, and never
+        will be, where a stop of the site ended it. Raises what a change, `before` or a commit does, and ends it."""
+        try:
+            self.change(field, change)
+            if inspect.isawaitable(before(self.id)):
+                raise TypeError("what before returns would have to be awaited: AsyncSite.change does that")
+        except BaseException:
+            self.abort()
+            raise
+        try:
+            ask(self._pipeline, Commit(self))
+        except Interrupted:
+            return kept(self._pipeline, self.id) is Outcome.COMMITTED
+        except Over:
+            return False
+        return True
+
     def __enter__(self) -> Transaction:
         return self
 
@@ -248,6 +270,24 @@ class AsyncTransaction(BaseTransaction):
                 await self._ask(Abort(self))
         except (Interrupted, Over, Down, Refused):
             pass
+
+    async def only(self, field: str, change: int, before: Before) -> bool:
+        """As `Transaction.only`; what `before` returns is awaited where it can be."""
+        try:
+            await self.change(field, change)
+            told = before(self.id)
+            if inspect.isawaitable(told):
+                await told
+        except BaseException:
+            await self.abort()
+            raise
+        try:
+            await self._ask(Commit(self))
+        except Interrupted:
+            return await async_kept(self._pipeline, self._ask, self.id) is Outcome.COMMITTED
+        except Over:
+            return False
+        return True
 
     async def __aenter__(self) -> AsyncTransaction:
         return self

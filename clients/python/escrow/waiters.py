@@ -33,6 +33,13 @@ class ThreadWaiter:
             raise told
         return told
 
+    def comes(self, seconds: float) -> bool:
+        """Whether the answer comes within so many seconds: then `wait` has it at once."""
+        if not self._come.acquire(timeout=max(0.0, seconds)):
+            return False
+        self._come.release()
+        return True
+
 
 class Awaited:
     """What a task awaits in place of a future: the task yields it, and is woken once, by its desk or by `cancel`.

@@ -1,6 +1,7 @@
 """Tests of `escrow.metrics`: the text is compared with what was typed by hand, and read by a reader of its own."""
 from __future__ import annotations
 
+import asyncio
 import math
 import os
 import re
@@ -9,6 +10,7 @@ import tempfile
 import threading
 import time
 import unittest
+import unittest.mock
 import urllib.error
 import urllib.request
 
@@ -87,7 +89,7 @@ escrow_answer_seconds_bucket{site="2",le="1"} 5
 escrow_answer_seconds_bucket{site="2",le="+Inf"} 6
 escrow_answer_seconds_sum{site="2"} 6.5
 escrow_answer_seconds_count{site="2"} 6
-# HELP escrow_share_rights Free rights as last told, in the field's quantities.
+# HELP escrow_share_rights Free rights here, what is left of each field, by kind.
 # TYPE escrow_share_rights gauge
 escrow_share_rights{site="2",field="seats",kind="lower"} 15
 escrow_share_rights{site="2",field="stock",kind="lower"} 4
@@ -111,7 +113,7 @@ escrow_stops_total{site="2",status="6"} 0
 # HELP escrow_epoch Epoch of the last start.
 # TYPE escrow_epoch gauge
 escrow_epoch{site="2"} 8
-# HELP escrow_log_bytes Bytes of the log's records at the last start.
+# HELP escrow_log_bytes Bytes of the log now, less its three first lines.
 # TYPE escrow_log_bytes gauge
 escrow_log_bytes{site="2"} 1500
 # HELP escrow_waiting_calls Calls that aren't answered yet.
@@ -362,18 +364,170 @@ class OverASite(unittest.TestCase):
         self.assertEqual((ended["escrow_up"][alone], ended["escrow_stops_total"][alone + (("status", "0"),)]), (0, 1))
 
     def check_before(self, samples: dict[str, dict[tuple[tuple[str, str], ...], float]]) -> None:
-        """What was counted up to the kill. Of 20 rights to lower three are sold: 17 are told with the refusal."""
+        """What was counted up to the kill. Of 20 rights to lower five are sold, and to raise there are five more. The
+        log has R 1, three records C 1 N 0 -1 and one C 1 5 0 -2."""
         alone = (("site", "0"),)
+        asked = samples["escrow_answers_total"]
         answers = {"change": 4, "escrow": 1, "commit": 1, "accept": 1, "read": 1}
-        self.assertEqual(samples["escrow_answers_total"], {(("command", it),) + alone: count for it, count in answers.items()})
+        told = {key: count for key, count in asked.items() if key != (("command", "share"),) + alone}
+        self.assertEqual(told, {(("command", it),) + alone: count for it, count in answers.items()})
         refused = {key: count for key, count in samples["escrow_refusals_total"].items() if count}
         self.assertEqual(refused, {(("command", "change"), ("number", "7"), ("reason", "short")) + alone: 1,
                                    (("command", "accept"), ("number", "11"), ("reason", "forged")) + alone: 1})
-        self.assertEqual(samples["escrow_share_rights"], {(("field", "stock"), ("kind", "lower")) + alone: 17})
-        self.assertEqual(samples["escrow_answer_seconds_count"], {alone: 8})
-        self.assertEqual([samples[f"escrow_{it}"][alone] for it in ("up", "epoch", "log_bytes", "waiting_calls", "open_transactions")],
-                         [1, 1, 4, 0, 0])
+        self.assertEqual(samples["escrow_share_rights"], {(("field", "stock"), ("kind", "lower")) + alone: 15,
+                                                          (("field", "stock"), ("kind", "raise")) + alone: 35})
+        self.assertEqual(samples["escrow_answer_seconds_count"], {alone: sum(asked.values())})
+        state = [samples[f"escrow_{it}"][alone] for it in ("up", "epoch", "log_bytes", "open_transactions")]
+        self.assertEqual(state, [1, 1, 48, 0])
         self.assertEqual(sum(samples["escrow_stops_total"].values()), 0)
+
+
+SITE = (("site", "0"),)
+SHARES = {(("field", field), ("kind", kind)) + SITE: rights for field, kind, rights in
+          (("stock", "lower", 20), ("stock", "raise", 30), ("seats", "lower", 6), ("seats", "raise", 0))}
+
+
+class Looked(programs.SiteTest):
+    """What is looked at for each text: the length of the log, and what is left."""
+
+    def setUp(self) -> None:
+        super().setUp()
+        self.numbers = Metrics(0)
+
+    def told(self, name: str) -> dict[tuple[tuple[str, str], ...], float]:
+        """The samples of a family in a new text."""
+        return read(text_of([self.numbers])).get(f"escrow_{name}", {})
+
+    def count(self, command: str) -> float:
+        """How many answers to this command were counted, without a look."""
+        found = next(it for it in self.numbers._families() if it.name == "escrow_answers_total")
+        return sum(it.value for it in found.samples if it.labels == (("command", command),))
+
+    def sold(self, stock: int) -> dict[tuple[tuple[str, str], ...], float]:
+        """What is left once so much stock is sold."""
+        return {**SHARES, (("field", "stock"), ("kind", "lower")) + SITE: 20 - stock,
+                (("field", "stock"), ("kind", "raise")) + SITE: 30 + stock}
+
+    def test_length_moves_while_the_site_runs(self) -> None:
+        """R 1 has 4 bytes, each C 1 N 0 -1 has 11 and R 2 has 4, each with its line feed."""
+        site = self.site(metrics=self.numbers)
+        lengths = [self.told("log_bytes")[SITE]]
+        for _ in range(3):
+            site.change("stock", -1)
+            lengths.append(self.told("log_bytes")[SITE])
+        programs.kill(site)
+        programs.wait_until(lambda: site.up and site.epoch == 2)
+        lengths.append(self.told("log_bytes")[SITE])
+        self.assertEqual(lengths, [4, 15, 26, 37, 41])
+        self.assertEqual(site.mark.length, 41)
+        site.close()
+        with open(os.path.join(site.folder, "log"), "a", encoding="ascii") as file:
+            file.write("R 3\n")
+        self.assertEqual(self.told("log_bytes")[SITE], 45)
+        os.unlink(os.path.join(site.folder, "log"))
+        self.assertEqual(self.told("log_bytes")[SITE], 45)
+
+    def test_what_is_left_without_anybody_who_asks(self) -> None:
+        """All fields are there in the first text; later texts ask where something moved."""
+        with unittest.mock.patch("escrow.metrics.LOOK", 0.0):
+            site = self.site(metrics=self.numbers)
+            self.assertEqual(self.told("share_rights"), SHARES)
+            site.change("stock", -3)
+            self.assertEqual(self.told("share_rights"), self.sold(3))
+            t = site.transaction()
+            t.lower("stock", 2)
+            held = {(("field", "stock"), ("kind", "lower")) + SITE: 15}
+            self.assertEqual(self.told("share_rights"), {**self.sold(3), **held})
+            t.abort()
+            self.assertEqual(self.told("share_rights"), self.sold(3))
+            programs.wait_until(lambda: self.count("share") == 8)  # two fields, four times
+            site.read("stock")
+            for _ in range(3):
+                self.assertEqual(self.told("share_rights"), self.sold(3))
+            site.read("stock")
+            self.assertEqual(self.count("share"), 8)
+
+    def test_it_is_asked_at_most_every_five_seconds(self) -> None:
+        site = self.site(metrics=self.numbers)
+        self.assertEqual(self.told("share_rights"), SHARES)
+        site.change("stock", -3)
+        self.assertEqual(self.told("share_rights"), SHARES)
+        with unittest.mock.patch("time.monotonic", lambda at=time.monotonic() + 5.0: at):
+            self.numbers._look()
+        self.assertEqual(self.told("share_rights"), self.sold(3))
+
+    def test_a_site_that_stands_still_is_not_waited_for(self) -> None:
+        """A text takes half a second for it at most, and no more questions are asked of it than one of each field."""
+        with unittest.mock.patch("escrow.metrics.LOOK", 0.0):
+            site = self.site(metrics=self.numbers)
+            site.change("stock", -3)
+            self.assertEqual(self.told("share_rights"), self.sold(3))
+            site.change("stock", -1)
+            pid = programs.pid_of(site)
+            os.kill(pid, signal.SIGSTOP)
+            took = []
+            for _ in range(3):
+                began = time.monotonic()
+                self.assertEqual((self.told("share_rights"), site.unanswered), (self.sold(3), 2))
+                took.append(time.monotonic() - began)
+            self.assertLess(took[0], 5.0)
+            self.assertLess(took[1] + took[2], 0.9)  # it was waited for once
+            os.kill(pid, signal.SIGCONT)
+            programs.wait_until(lambda: site.unanswered == 0)
+            self.assertEqual(self.told("share_rights"), self.sold(4))
+
+    def test_a_site_that_is_down_is_not_asked(self) -> None:
+        """It is told as it was last; what was left unanswered counts as no call that was missed."""
+        with unittest.mock.patch("escrow.metrics.LOOK", 0.0):
+            gate = self.gated(metrics=self.numbers, patience=0.2)
+            site = gate.site
+            self.assertEqual(self.told("share_rights"), SHARES)
+            site.change("stock", -3)
+            gate.stop()
+            began = time.monotonic()
+            for _ in range(3):
+                self.assertEqual((self.told("share_rights"), site.unanswered), (SHARES, 0))
+            self.assertLess(time.monotonic() - began, 1.4)
+            gate.open()
+            programs.wait_until(lambda: site.up)
+            self.assertEqual(self.told("share_rights"), self.sold(3))
+            pid = programs.pid_of(site)
+            os.kill(pid, signal.SIGSTOP)
+            self.numbers.answered("change", 0.1)  # so that it looks: that alone is under way as the process is killed
+            self.assertEqual(self.told("share_rights"), self.sold(3))
+            self.assertEqual(site.unanswered, 2)
+            gate.stop()
+            programs.wait_until(lambda: site.unanswered == 0)
+            gate.open()
+            programs.wait_until(lambda: site.up and site.epoch == 3)
+            self.assertEqual((self.told("share_rights"), site.unanswered), (self.sold(3), 0))
+            self.assertEqual(set(self.told("missed_total").values()), {0})
+            site.close()
+            self.assertEqual(self.told("share_rights"), self.sold(3))
+
+    def test_a_task_gathers_while_others_sell(self) -> None:
+        """The loop reads its own answers then: it lends the reading back, and nothing hangs."""
+        with unittest.mock.patch("escrow.metrics.LOOK", 0.0):
+            site = self.site(programs.LARGE, metrics=self.numbers, sync=False)
+
+            async def sells(shop: escrow.AsyncSite, end: float) -> None:
+                while time.monotonic() < end:
+                    await shop.change("stock", -1)
+
+            async def calls() -> int:
+                shop, end, count = escrow.AsyncSite(site), time.monotonic() + 1.0, 0
+                asked = [asyncio.create_task(sells(shop, end)) for _ in range(16)]
+                while time.monotonic() < end:
+                    await asyncio.sleep(0.02)
+                    self.assertEqual(len(self.told("share_rights")), 4)
+                    count += 1
+                await asyncio.gather(*asked)
+                return count
+
+            self.assertGreater(asyncio.run(calls()), 5)
+            left = site.share("stock").lower
+            site.close()
+            self.assertEqual(left, 500_000 - len(programs.commits(site.folder, programs.LARGE)))
 
 
 if __name__ == "__main__":

@@ -268,11 +268,12 @@ class AnswerTest(SiteTest):
         self.assertEqual([(type(told[at]), told[at].share, told[at].kind.value) for at in (1, 3, 6)],
                          [(escrow.Short, 19, "lower"), (escrow.Short, 33, "raise"), (escrow.Short, 0, "lower")])  # fmt: skip
         self.assertEqual(site.counts.refusals, {Refusal.SHORT: 3})
+        # All 20 are sold, so of 30 there are 50 to raise: the text asks for what is left, once the refusals told of it.
         for line in (
             'escrow_answers_total{site="0",command="change"} 7',
             'escrow_refusals_total{site="0",command="change",number="7",reason="short"} 3',
             'escrow_share_rights{site="0",field="stock",kind="lower"} 0',
-            'escrow_share_rights{site="0",field="stock",kind="raise"} 33',
+            'escrow_share_rights{site="0",field="stock",kind="raise"} 50',
             'escrow_waiting_calls{site="0"} 0',
         ):
             self.assertIn(line + "\n", text_of([metrics]))

@@ -227,6 +227,8 @@ pub(crate) fn txn_at(line: &mut Words<'_>) -> Option<TxnId>
 
 /// The transaction that the word spells: `EPOCH.NUMBER`, each a number from 0 to 4,294,967,295.
 /// None where the word spells none. Costs a pass over the word, and no memory.
+// Not inlined: few lines ask for one by itself, and it would make the answer to each other line dearer.
+#[inline(never)]
 pub fn read_txn(word: &[u8]) -> Option<TxnId>
     ensures found { IfSome result (λ t. word.now ≡ id_text t) }
     ensures fits { IfSome result (λ t. IdFits t) }

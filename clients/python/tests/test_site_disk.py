@@ -1,0 +1,230 @@
+"""A full disk: it is told, nothing that was answered is lost, and the site goes on by itself once there is room."""
+
+from __future__ import annotations
+
+import asyncio
+import errno
+import os
+import subprocess
+import threading
+import time
+import unittest
+import unittest.mock
+
+from programs import LARGE, SiteTest, commits, escrow_site, wait_until
+import escrow
+from escrow import Outcome, Share
+from escrow.metrics import Metrics, text_of
+from escrow.room import has_room
+
+FULL = "the disk is full: make room on it: the site starts again by itself"
+PIECE = bytes(4096)
+
+
+class DiskTest(SiteTest):
+    """A small disk of its own, in memory."""
+
+    def setUp(self) -> None:
+        super().setUp()
+        self.disk = os.path.join(self.place, "disk")
+        os.mkdir(self.disk)
+        words = ["mount", "-t", "tmpfs", "-o", "size=512k", "tmpfs", self.disk]
+        told = subprocess.run(words, capture_output=True, check=False)
+        if told.returncode != 0:
+            self.skipTest(f"no disk may be mounted here: {told.stderr.decode(errors='replace').strip()}")
+        self.addCleanup(subprocess.run, ["umount", "-l", self.disk], check=True)
+        self.filler = os.path.join(self.disk, "filler")
+
+    def fill(self) -> None:
+        """Somebody else takes all the room that is left."""
+        held = os.open(self.filler, os.O_WRONLY | os.O_CREAT | os.O_APPEND)
+        try:
+            while True:
+                os.write(held, PIECE)
+        except OSError as fault:
+            self.assertEqual(fault.errno, errno.ENOSPC)
+        finally:
+            os.close(held)
+
+    def make_room(self) -> None:
+        """And gives it back."""
+        os.unlink(self.filler)
+
+    def small(self, **options: object) -> escrow.Site:
+        """A site on this disk."""
+        return self.served(self.folder(LARGE, name="disk/shop"), **options)
+
+    def sell_until_full(self, site: escrow.Site) -> tuple[list[str], escrow.Unknown]:
+        """The ids of what was sold until the disk was full, and what the last sale was told."""
+        sold: list[str] = []
+        with self.assertRaises(escrow.Unknown) as raised:
+            for _ in range(2000):
+                sold.append(site.change("stock", -1))
+        return sold, raised.exception
+
+
+class FullTest(DiskTest):
+    """The disk is full for a while."""
+
+    def test_it_is_told_and_the_site_goes_on_once_there_is_room(self) -> None:
+        metrics = Metrics(0)
+        site = self.small(patience=1.0, metrics=metrics)
+        sold = [site.change("stock", -1)]
+        self.fill()
+        more, fault = self.sell_until_full(site)
+        sold += more
+        self.assertIn(FULL, str(fault))
+        with self.assertRaises(escrow.Down) as down:
+            site.read("stock")
+        self.assertEqual(down.exception.status, 5)
+        self.assertIn("device fault", str(down.exception))
+        self.assertIn(FULL, str(down.exception))
+        self.assertIn(FULL, site.last_error)
+        time.sleep(1.5)
+        # It isn't tried while the disk is full.
+        self.assertEqual((site.counts.starts, site.counts.stops, site.up), (1, 1, False))
+        self.assertIn('escrow_stops_total{site="0",status="5"} 1\n', text_of([metrics]))
+        self.make_room()
+        wait_until(lambda: site.up, 10.0)
+        self.assertEqual({site.outcome(id) for id in sold}, {Outcome.COMMITTED})
+        assert fault.id is not None
+        kept = site.outcome(fault.id) is Outcome.COMMITTED
+        sold += [fault.id] * kept
+        sold.append(site.change("stock", -1))
+        self.assertEqual((sold[-1], site.counts.starts), ("2.1", 2))
+        self.assertEqual(site.share("stock"), Share(500_000 - len(sold), 500_000 + len(sold)))
+        site.close()
+        # `commits` fails where one is there twice.
+        self.assertEqual(commits(site.folder, LARGE), {id: (("stock", -1),) for id in sold})
+
+    def test_calls_wait_for_room(self) -> None:
+        """Threads and tasks that are patient see nothing of a disk that is full twice: each sale happens once."""
+        site = self.small(patience=60.0)
+        sold: list[str] = []
+        is_over = threading.Event()
+
+        def sells() -> None:
+            while not is_over.is_set():
+                sold.append(site.change("stock", -1))
+                time.sleep(0.002)
+
+        async def task_sells(shop: escrow.AsyncSite) -> None:
+            while not is_over.is_set():
+                sold.append(await shop.change("stock", -1, before=lambda _: None))
+                await asyncio.sleep(0.002)
+
+        async def tasks() -> None:
+            shop = escrow.AsyncSite(site)
+            await asyncio.gather(*(task_sells(shop) for _ in range(4)))
+
+        threads = [threading.Thread(target=sells) for _ in range(4)]
+        threads.append(threading.Thread(target=asyncio.run, args=(tasks(),)))
+        for thread in threads:
+            thread.start()
+        for stops in (1, 2):
+            self.fill()
+            wait_until(lambda stops=stops: site.counts.stops == stops)  # type: ignore[misc]
+            self.make_room()
+            before = len(sold)
+            wait_until(lambda: site.up and len(sold) > before + 20)
+        is_over.set()
+        for thread in threads:
+            thread.join(20.0)
+        self.assertEqual(site.share("stock"), Share(500_000 - len(sold), 500_000 + len(sold)))
+        self.assertEqual(site.open, 0)
+        site.close()
+        self.assertEqual(len(sold), len(set(sold)))
+        self.assertEqual(set(commits(site.folder, LARGE)), set(sold))
+
+    def test_a_site_that_waits_for_room_is_closed_at_once(self) -> None:
+        site = self.small(patience=0.2)
+        self.fill()
+        self.sell_until_full(site)
+        began = time.monotonic()
+        site.close()
+        self.assertLess(time.monotonic() - began, 5.0)
+        with self.assertRaises(escrow.Down):
+            site.read("stock")
+
+
+class StartTest(DiskTest):
+    """A start over a full disk."""
+
+    def full(self) -> str:
+        """A folder in whose log not even a start has room."""
+        folder = self.folder(LARGE, name="disk/shop")
+        site = self.served(folder, patience=0.2)
+        self.fill()
+        self.sell_until_full(site)
+        site.close()
+        for _ in range(20):  # what is left behind a torn record
+            ran = subprocess.run([escrow_site(), "serve", folder], input=b"", capture_output=True, check=False)
+            if ran.returncode == 5:
+                return folder
+        raise AssertionError(ran)
+
+    def test_it_is_waited_for(self) -> None:
+        folder = self.full()
+        began = time.monotonic()
+        with self.assertRaises(escrow.Down) as raised:
+            escrow.Site(folder, program=escrow_site(), wait=1.2)
+        self.assertLess(time.monotonic() - began, 4.0)
+        self.assertEqual(raised.exception.status, 5)
+        self.assertIn(FULL, str(raised.exception))
+        room = threading.Timer(0.7, self.make_room)
+        room.start()
+        site = self.served(folder)
+        room.join()
+        self.assertEqual(site.counts.stops, 1)
+        self.assertIsInstance(site.change("stock", -1), str)
+
+
+class RoomTest(DiskTest):
+    """What counts as full."""
+
+    def test_less_than_64_kib(self) -> None:
+        self.assertTrue(has_room(self.disk))
+        self.fill()
+        self.assertFalse(has_room(self.disk))
+        size = os.stat(self.filler).st_size
+        os.truncate(self.filler, size - 60 * 1024)
+        self.assertFalse(has_room(self.disk))
+        os.truncate(self.filler, size - 64 * 1024)
+        self.assertTrue(has_room(self.disk))
+        self.assertEqual(os.listdir(self.disk), ["filler"])
+        self.assertTrue(has_room(self.disk))  # the last look left nothing there
+
+    def test_without_files_that_have_no_name(self) -> None:
+        with unittest.mock.patch("os.open", side_effect=OSError(errno.EOPNOTSUPP, "none such")):
+            self.assertTrue(has_room(self.disk))
+        self.fill()
+        with unittest.mock.patch("os.open", side_effect=OSError(errno.EOPNOTSUPP, "none such")):
+            self.assertFalse(has_room(self.disk))
+
+    def test_what_cannot_be_looked_at_is_not_full(self) -> None:
+        self.assertTrue(has_room(os.path.join(self.disk, "nothing")))
+
+    def test_a_fault_with_room_is_final(self) -> None:
+        """As a sync that fails: it isn't started again, and no calls wait for it."""
+        program = os.path.join(self.place, "small")
+        with open(program, "w", encoding="ascii") as file:
+            # Files of at most 1,024 bytes.
+            file.write(f"#!/bin/sh\ntrap '' XFSZ\nulimit -f 2\nexec {escrow_site()!r} \"$@\"\n")
+        os.chmod(program, 0o755)
+        site = escrow.Site(self.folder(LARGE, name="disk/shop"), program=program)
+        self.addCleanup(site.close)
+        began = time.monotonic()
+        _, fault = self.sell_until_full(site)
+        with self.assertRaises(escrow.Down) as down:
+            site.read("stock")
+        self.assertLess(time.monotonic() - began, 10.0)
+        self.assertEqual(down.exception.status, 5)
+        for text in (str(fault), str(down.exception)):
+            self.assertIn("after a sync that failed start the machine anew", text)
+            self.assertNotIn("the disk is full", text)
+        time.sleep(1.2)
+        self.assertEqual((site.counts.starts, site.counts.stops), (1, 1))
+
+
+if __name__ == "__main__":
+    unittest.main()
