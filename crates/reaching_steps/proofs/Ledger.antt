@@ -3,7 +3,7 @@ use Rattle.std.proofs.Common.{Some, ◌≡◌, ℕ, ◌+◌, ◌≤◌, Bool, tr
 use Rattle.std.proofs.lemmas.Bool.{cases_Bool, eqb-true, ltb-false, and_parts}
 use Rattle.field_bounds.specs.declared.kind.Kind.{Kind}
 use Rattle.field_bounds.specs.declared.entry.Command.{Command}
-use Rattle.field_bounds.specs.declared.entry.Command.TheVariants.{Begin, Escrow, Commit, Abort, Give, Restate, Spare, Tighten, Accept, Read, Share, Restart}
+use Rattle.field_bounds.specs.declared.entry.Command.TheVariants.{Begin, Escrow, Commit, Abort, Give, Spare, Tighten, Accept}
 use Rattle.field_bounds.specs.declared.entry.Reply.TheVariants.{Unsure}
 use Rattle.field_bounds.specs.declared.entry.Entry.{Entry}
 use Rattle.field_bounds.specs.Kind.{same_kind}
@@ -88,7 +88,6 @@ carried at (Give to field kind amount) h kept l =
     let apart : eqb to.0 at.site ≡ false = none.1.1.1.1.1.0 in
     let made = fair_give at.base at.site at.effects to field kind amount apart (ltb-false _ _ none.1.1.1.1.1.1.0) l in
     (made, either at.base at.site kept _ _ made l)
-carried at (Restate to field kind) h kept l = (l, l)
 carried at (Spare to field kind want) h kept l =
     let none = (none_holds (refusals at (Spare to field kind want)) h).1 in
     let apart : eqb to.0 at.site ≡ false = none.1.1.1.1.1.0 in
@@ -102,9 +101,7 @@ carried at (Accept told) h kept l =
     let made : IsFair at.base at.site (Accepts told.from told.field told.kind told.total ∷ at.effects) =
     record { itself = l.itself; within = l.within } in
     (made, either at.base at.site kept _ _ made l)
-carried at (Read field) h kept l = (l, l)
-carried at (Share field) h kept l = (l, l)
-carried at Restart h kept l = (l, l)
+carried at c h kept l = (l, l)
 
 pub run_is_fair : (schema : SchemaValue) (s : ℕ) (o : List Entry) → IsRun schema s (fresh schema s) o
     → IsFair (fresh schema s) s (effects (fresh schema s) false o)

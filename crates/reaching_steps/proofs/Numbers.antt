@@ -1,8 +1,6 @@
 -- The number of the first such statement.
 use Rattle.std.proofs.Common.{◌≡◌, ℕ, suc, ◌≤◌, ◌≢◌, Bool, true, false, ◌&&◌, cond, List, [], ◌∷◌, length, refl, sym, ◌∙◌, ap, subst, inl, inr, arith, eqb, Option, Some, None}
 use Rattle.std.proofs.lemmas.Bool.{cases_Bool, cases_eq, eq-eqb, ne_eqb, eqb-true, and_parts}
-use Rattle.field_bounds.specs.declared.kind.Kind.{Kind}
-use Rattle.field_bounds.specs.declared.kind.Kind.TheVariants.{Lower, Raise}
 use Rattle.field_bounds.specs.declared.entry.Statement.{Statement}
 use Rattle.field_bounds.specs.declared.entry.Entry.{Entry}
 use Rattle.field_bounds.specs.Kind.{same_kind}
@@ -10,10 +8,7 @@ use Rattle.field_bounds.specs.Statements.{statement_of, IsIssued}
 use Rattle.field_bounds.proofs.Lawful.{same_kind-true}
 use Rattle.world_steps.specs.World.{with_statement, statements_issued, statement_at}
 use Rattle.reaching_steps.specs.Reach.{same_statement, number_of}
-
-same_kind-refl : (k : Kind) → same_kind k k ≡ true
-same_kind-refl Lower = refl
-same_kind-refl Raise = refl
+use Rattle.reaching_steps.proofs.Sites.{same_kind-refl}
 
 same_statement-refl : (x : Statement) → same_statement x x ≡ true
 same_statement-refl x =

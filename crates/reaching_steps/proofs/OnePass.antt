@@ -5,7 +5,7 @@ use Rattle.std.proofs.Math.Seq.{take-append_seam}
 use Rattle.std.proofs.lemmas.Bool.{cases_eq}
 use Rattle.std.proofs.lemmas.List.{get_or_default, take_all, length-append, length-set, get_or-set_same, get_or-set_other, get_or_push, get_or_append_left}
 use Rattle.field_bounds.specs.declared.entry.Reply.{Reply}
-use Rattle.field_bounds.specs.declared.entry.Reply.TheVariants.{Begun, Granted, Committed, Aborted, Given, Stated, Spared, Tightened, Accepted, Between, Shares, Restarted, Unsure, StillDown, Refused}
+use Rattle.field_bounds.specs.declared.entry.Reply.TheVariants.{Restarted}
 use Rattle.field_bounds.specs.declared.entry.Entry.{Entry}
 use Rattle.field_bounds.specs.declared.effect.Effect.{Effect}
 use Rattle.field_bounds.specs.Schema.{SchemaValue}
@@ -110,21 +110,8 @@ read_whole schema f trace t i rows past is was = λ s d below.
 -- ---- a step's entry
 
 no_doubt : (r : Reply) → ends_doubt r ≡ false → doubt_kept_before false r ≡ false
-no_doubt (Begun txn) h = refl
-no_doubt Granted h = refl
-no_doubt Committed h = refl
-no_doubt Aborted h = refl
-no_doubt (Given total) h = refl
-no_doubt (Stated total) h = refl
-no_doubt (Spared amount total) h = refl
-no_doubt (Tightened total) h = refl
-no_doubt (Accepted gain) h = refl
-no_doubt (Between lo hi) h = refl
-no_doubt (Shares lower raise) h = refl
 no_doubt (Restarted epoch found) h = cc
-no_doubt Unsure h = refl
-no_doubt StillDown h = refl
-no_doubt (Refused refusal) h = refl
+no_doubt r h = refl
 
 pub renews_put : (v : WorldValue) (f : ℕ) (e : Entry) (rows more : List Standing) (x d : Standing) → e.site.0 < length rows
     → ends_doubt e.reply ≡ false → IsLawful v.schema (fresh v.schema e.site.0) (at_site v.schema (trace_of v) e.site.0)

@@ -24,9 +24,9 @@ use Rattle.field_bounds.proofs.Sums.{term_below}
 use Rattle.field_bounds.proofs.Sound.{sound_empty}
 use Rattle.field_bounds.proofs.Ledgers.{accepted_is_given}
 use Rattle.field_bounds.proofs.Headline.{within_bounds}
-use Rattle.field_bounds.proofs.Conserved.{is_conserved, traced, open_of, free_of, lawful_at}
+use Rattle.field_bounds.proofs.Conserved.{traced, open_of, free_of, lawful_at}
 use Rattle.field_bounds.specs.Central.{is_open_in}
-use Rattle.reaching_steps.proofs.Balance.{all_near, share_small}
+use Rattle.reaching_steps.proofs.Balance.{all_near, all_small, share_small}
 use Rattle.reaching_steps.proofs.Changing.{committed_is, settled_at}
 use Rattle.reaching_steps.proofs.Ledger.{run_is_fair}
 
@@ -95,97 +95,20 @@ pub given_small : (schema : SchemaValue) (t : List Entry) → IsSound schema t �
 given_small schema t sound from to f k below = (run_is_fair schema from (own from t) (sound.runs from below)).within to f k
 
 module _ (schema : SchemaValue) (good : IsSchema schema) (t : List Entry) (sound : IsSound schema t) where
-  -- the own rights of a site are within the greatest change
-  pub own_small : (s : ℕ) (f : ℕ) (k : Kind) → s < schema.sites → own_rights (fresh schema s) f k (at_site schema t s) ≤ max_change
-  own_small s f Lower below =
-      let law = is_conserved schema good t sound in
-      let near = all_near schema.fields good.each f in
-      omega (
-        arith,
-        ints,
-        law.lowering f,
-        law.raising f,
-        near.least,
-        near.most,
-        term_below schema.sites (free_of schema good t sound f Lower) s below,
-        term_below schema.sites (open_of schema good t sound f Lower) s below,
-        traced schema good t sound (is_open_in schema t) f Lower,
-      )
-  own_small s f Raise below =
-      let law = is_conserved schema good t sound in
-      let near = all_near schema.fields good.each f in
-      omega (
-        arith,
-        ints,
-        law.lowering f,
-        law.raising f,
-        near.least,
-        near.most,
-        term_below schema.sites (free_of schema good t sound f Raise) s below,
-        term_below schema.sites (open_of schema good t sound f Raise) s below,
-        traced schema good t sound (is_open_in schema t) f Raise,
-      )
-
-  -- and so is what it has given up for good
-  pub cut_small : (s : ℕ) (f : ℕ) (k : Kind) → s < schema.sites → cut (fresh schema s) f k (at_site schema t s) ≤ max_change
-  cut_small s f Lower below =
-      let law = is_conserved schema good t sound in
-      let near = all_near schema.fields good.each f in
-      omega (
-        arith,
-        ints,
-        law.lowering f,
-        law.raising f,
-        near.least,
-        near.most,
-        term_below schema.sites (λ j. cut (fresh schema j) f Lower (at_site schema t j)) s below,
-      )
-  cut_small s f Raise below =
-      let law = is_conserved schema good t sound in
-      let near = all_near schema.fields good.each f in
-      omega (
-        arith,
-        ints,
-        law.lowering f,
-        law.raising f,
-        near.least,
-        near.most,
-        term_below schema.sites (λ j. cut (fresh schema j) f Raise (at_site schema t j)) s below,
-      )
-
-  -- and so are both together
+  -- the own rights of a site and what it has given up for good are within the greatest change
   pub guarded_small : (s : ℕ) (f : ℕ) (k : Kind) → s < schema.sites
       → cut (fresh schema s) f k (at_site schema t s) + own_rights (fresh schema s) f k (at_site schema t s) ≤ max_change
-  guarded_small s f Lower below =
-      let law = is_conserved schema good t sound in
-      let near = all_near schema.fields good.each f in
-      omega (
-        arith,
-        ints,
-        law.lowering f,
-        law.raising f,
-        near.least,
-        near.most,
-        term_below schema.sites (free_of schema good t sound f Lower) s below,
-        term_below schema.sites (open_of schema good t sound f Lower) s below,
-        term_below schema.sites (λ j. cut (fresh schema j) f Lower (at_site schema t j)) s below,
-        traced schema good t sound (is_open_in schema t) f Lower,
-      )
-  guarded_small s f Raise below =
-      let law = is_conserved schema good t sound in
-      let near = all_near schema.fields good.each f in
-      omega (
-        arith,
-        ints,
-        law.lowering f,
-        law.raising f,
-        near.least,
-        near.most,
-        term_below schema.sites (free_of schema good t sound f Raise) s below,
-        term_below schema.sites (open_of schema good t sound f Raise) s below,
-        term_below schema.sites (λ j. cut (fresh schema j) f Raise (at_site schema t j)) s below,
-        traced schema good t sound (is_open_in schema t) f Raise,
-      )
+  guarded_small s f k below =
+      let free = term_below schema.sites (free_of schema good t sound f k) s below in
+      let opened = term_below schema.sites (open_of schema good t sound f k) s below in
+      let gone = term_below schema.sites (λ j. cut (fresh schema j) f k (at_site schema t j)) s below in
+      omega (arith, all_small schema good t sound f k, free, opened, gone, traced schema good t sound (is_open_in schema t) f k)
+
+  pub own_small : (s : ℕ) (f : ℕ) (k : Kind) → s < schema.sites → own_rights (fresh schema s) f k (at_site schema t s) ≤ max_change
+  own_small s f k below = omega (arith, guarded_small s f k below)
+
+  pub cut_small : (s : ℕ) (f : ℕ) (k : Kind) → s < schema.sites → cut (fresh schema s) f k (at_site schema t s) ≤ max_change
+  cut_small s f k below = omega (arith, guarded_small s f k below)
 
   -- what is settled of one kind and of the other at a site is not far apart
   pub settled_near : (s f : ℕ) → s < schema.sites

@@ -8,9 +8,9 @@ use Rattle.field_bounds.specs.declared.kind.Kind.{Kind}
 use Rattle.field_bounds.specs.declared.id.SiteNo.{SiteNo}
 use Rattle.field_bounds.specs.declared.id.FieldNo.{FieldNo}
 use Rattle.field_bounds.specs.declared.entry.Command.{Command}
-use Rattle.field_bounds.specs.declared.entry.Command.TheVariants.{Begin, Escrow, Commit, Abort, Give, Restate, Spare, Tighten, Accept, Read, Share, Restart}
+use Rattle.field_bounds.specs.declared.entry.Command.TheVariants.{Spare}
 use Rattle.field_bounds.specs.declared.entry.Reply.{Reply}
-use Rattle.field_bounds.specs.declared.entry.Reply.TheVariants.{Begun, Granted, Committed, Aborted, Given, Stated, Spared, Tightened, Accepted, Between, Shares, Restarted, Unsure, StillDown, Refused}
+use Rattle.field_bounds.specs.declared.entry.Reply.TheVariants.{Unsure}
 use Rattle.field_bounds.specs.declared.entry.Entry.{Entry}
 use Rattle.field_bounds.specs.declared.effect.Effect.{Effect}
 use Rattle.field_bounds.specs.declared.effect.Effect.TheVariants.{Gives}
@@ -43,21 +43,8 @@ own_uncounted schema s f had e kept off = λ es lawful next was.
 
 -- what a spare in doubt gave on another field
 unsure_only : (r : Reply) → is_unsure r ≡ true → r ≡ Unsure
-unsure_only (Begun txn) h = cc
-unsure_only Granted h = cc
-unsure_only Committed h = cc
-unsure_only Aborted h = cc
-unsure_only (Given total) h = cc
-unsure_only (Stated total) h = cc
-unsure_only (Spared amount total) h = cc
-unsure_only (Tightened total) h = cc
-unsure_only (Accepted gain) h = cc
-unsure_only (Between lo hi) h = cc
-unsure_only (Shares lower raise) h = cc
-unsure_only (Restarted epoch found) h = cc
 unsure_only Unsure h = refl
-unsure_only StillDown h = cc
-unsure_only (Refused refusal) h = cc
+unsure_only r h = cc
 
 pushed_none : (b : Bool) (n m : ℕ) → not b ≡ true → eqb n m ≡ b → eqb n m ≡ false
 pushed_none true n m h is = cc
@@ -77,17 +64,7 @@ spared_off f schema base false (Spare to field k want) es had off next was = was
 spared_off f schema base true (Spare to field k want) es had off next was =
     gives_elsewhere f had (Some to) field k (spare_amount (share base field.0 k es) want)
     (pushed_none (eqb field.0 f) field.0 f off refl) schema base es next was
-spared_off f schema base kept Begin es had off next was = cc
-spared_off f schema base kept (Escrow txn field change) es had off next was = cc
-spared_off f schema base kept (Commit txn) es had off next was = cc
-spared_off f schema base kept (Abort txn) es had off next was = cc
-spared_off f schema base kept (Give to field kind amount) es had off next was = cc
-spared_off f schema base kept (Restate to field kind) es had off next was = cc
-spared_off f schema base kept (Tighten field kind amount) es had off next was = cc
-spared_off f schema base kept (Accept told) es had off next was = cc
-spared_off f schema base kept (Read field) es had off next was = cc
-spared_off f schema base kept (Share field) es had off next was = cc
-spared_off f schema base kept Restart es had off next was = cc
+spared_off f schema base kept c es had off next was = cc
 
 pub own_elsewhere : (schema : SchemaValue) (s f : ℕ) (had : Standing) (e : Entry) (kept : Bool) → is_unsure e.reply ≡ true
     → is_elsewhere f (wanted_by e.command) ≡ true → ReadsOwn schema s f had e kept had
@@ -121,7 +98,7 @@ effects_few base kept (e ∷ o) =
     one_more true (Some d) es = omega arith
     one_more false (Some d) es = omega arith
 
-own_few : (s : ℕ) (t : List Entry) → length (own s t) ≤ length t
+pub own_few : (s : ℕ) (t : List Entry) → length (own s t) ≤ length t
 own_few s [] = omega arith
 own_few s (e ∷ t) = by (eqb e.site.0 s) (own_few s t)
   where
@@ -160,21 +137,8 @@ own_noted schema s f had more e kept d on some notes = λ es lawful next was few
 -- ---- one that ends no doubt
 
 sure_counts : (r : Reply) → is_unsure r ≡ false → counts false r ≡ true
-sure_counts (Begun txn) h = refl
-sure_counts Granted h = refl
-sure_counts Committed h = refl
-sure_counts Aborted h = refl
-sure_counts (Given total) h = refl
-sure_counts (Stated total) h = refl
-sure_counts (Spared amount total) h = refl
-sure_counts (Tightened total) h = refl
-sure_counts (Accepted gain) h = refl
-sure_counts (Between lo hi) h = refl
-sure_counts (Shares lower raise) h = refl
-sure_counts (Restarted epoch found) h = refl
 sure_counts Unsure h = cc
-sure_counts StillDown h = refl
-sure_counts (Refused refusal) h = refl
+sure_counts r h = refl
 
 pub unsure_never : {A : Type 0} (b : Bool) → b ≡ false → b ≡ true → A
 unsure_never true h g = cc

@@ -53,24 +53,14 @@ filter_begun p q (Begins txn ∷ es) h =
     ap (λ (b : Bool). cond b (txn ∷ filter p (begun_txns es)) (filter p (begun_txns es))) here
     ∙ ap (λ (l : List TxnId). cond (q txn) (txn ∷ l) l)
     (filter_begun p q es (λ id there. h id (or_right (same_txn txn id) (is_begun id es) there)))
-filter_begun p q (Grants txn field change ∷ es) h = filter_begun p q es h
-filter_begun p q (Commits txn ∷ es) h = filter_begun p q es h
-filter_begun p q (Aborts txn ∷ es) h = filter_begun p q es h
-filter_begun p q (Gives to field kind amount ∷ es) h = filter_begun p q es h
-filter_begun p q (Accepts from field kind total ∷ es) h = filter_begun p q es h
-filter_begun p q (Stops ∷ es) h = filter_begun p q es h
+filter_begun p q (e ∷ es) h = filter_begun p q es h
 
 -- ---- sums over a list with one more at its end
 
 granted_head : (q : TxnId → Bool) (f : ℕ) (k : Kind) (e : Effect) (l : List Effect)
     → granted_sizes q f k (e ∷ l) ≡ granted_sizes q f k (e ∷ []) + granted_sizes q f k l
 granted_head q f k (Grants txn field change) l = omega arith
-granted_head q f k (Begins txn) l = omega arith
-granted_head q f k (Commits txn) l = omega arith
-granted_head q f k (Aborts txn) l = omega arith
-granted_head q f k (Gives to field kind amount) l = omega arith
-granted_head q f k (Accepts from field kind total) l = omega arith
-granted_head q f k Stops l = omega arith
+granted_head q f k e l = omega arith
 
 granted_push : (q : TxnId → Bool) (f : ℕ) (k : Kind) (e : Effect) (l : List Effect)
     → granted_sizes q f k (l ++ e ∷ []) ≡ granted_sizes q f k (e ∷ l)
@@ -88,12 +78,7 @@ granted_push q f k e (x ∷ l) =
 given_head : (p : Option SiteNo → Bool) (f : ℕ) (k : Kind) (e : Effect) (l : List Effect)
     → gifts p f k (e ∷ l) ≡ gifts p f k (e ∷ []) + gifts p f k l
 given_head p f k (Gives to field kind amount) l = omega arith
-given_head p f k (Begins txn) l = omega arith
-given_head p f k (Commits txn) l = omega arith
-given_head p f k (Aborts txn) l = omega arith
-given_head p f k (Grants txn field change) l = omega arith
-given_head p f k (Accepts from field kind total) l = omega arith
-given_head p f k Stops l = omega arith
+given_head p f k e l = omega arith
 
 given_push : (p : Option SiteNo → Bool) (f : ℕ) (k : Kind) (e : Effect) (l : List Effect)
     → gifts p f k (l ++ e ∷ []) ≡ gifts p f k (e ∷ l)
@@ -110,13 +95,8 @@ given_push p f k e (x ∷ l) =
 
 -- the total that an effect accepts
 abbrev pub total_of : ℕ → ℕ → Kind → Effect → ℕ
-total_of from f k (Begins txn) = 0
-total_of from f k (Grants txn field change) = 0
-total_of from f k (Commits txn) = 0
-total_of from f k (Aborts txn) = 0
-total_of from f k (Gives to field kind amount) = 0
 total_of from f k (Accepts site field kind total) = cond (eqb field.0 f && same_kind kind k && eqb site.0 from) total 0
-total_of from f k Stops = 0
+total_of from f k e = 0
 
 accepted_head : (base : Base) (from f : ℕ) (k : Kind) (e : Effect) (l : List Effect)
     → total_accepted base from f k (e ∷ l) ≡ max (total_of from f k e) (total_accepted base from f k l)
@@ -126,12 +106,7 @@ accepted_head base from f k (Accepts site field kind total) l =
     by : (b : Bool) (n x : ℕ) → cond b (max n x) x ≡ max (cond b n 0) x
     by true n x = refl
     by false n x = omega arith
-accepted_head base from f k (Begins txn) l = omega arith
-accepted_head base from f k (Commits txn) l = omega arith
-accepted_head base from f k (Aborts txn) l = omega arith
-accepted_head base from f k (Grants txn field change) l = omega arith
-accepted_head base from f k (Gives to field kind amount) l = omega arith
-accepted_head base from f k Stops l = omega arith
+accepted_head base from f k e l = omega arith
 
 accepted_push : (base : Base) (from f : ℕ) (k : Kind) (e : Effect) (l : List Effect)
     → total_accepted base from f k (l ++ e ∷ []) ≡ total_accepted base from f k (e ∷ l)
@@ -148,7 +123,7 @@ accepted_push base from f k e (x ∷ l) =
 
 -- ---- what a transaction holds
 
-granted_none : (f : ℕ) (k : Kind) (es : List Effect) → granted_sizes (λ _. false) f k es ≡ 0
+pub granted_none : (f : ℕ) (k : Kind) (es : List Effect) → granted_sizes (λ _. false) f k es ≡ 0
 granted_none f k [] = refl
 granted_none f k (Grants txn field change ∷ es) =
     omega (
@@ -156,12 +131,7 @@ granted_none f k (Grants txn field change ∷ es) =
       granted_none f k es,
       weigh_none (eqb field.0 f && same_kind (kind_of change) k) false (unsigned_abs change) refl,
     )
-granted_none f k (Begins txn ∷ es) = granted_none f k es
-granted_none f k (Commits txn ∷ es) = granted_none f k es
-granted_none f k (Aborts txn ∷ es) = granted_none f k es
-granted_none f k (Gives to field kind amount ∷ es) = granted_none f k es
-granted_none f k (Accepts from field kind total ∷ es) = granted_none f k es
-granted_none f k (Stops ∷ es) = granted_none f k es
+granted_none f k (e ∷ es) = granted_none f k es
 
 -- without what one transaction holds
 held_without : (t : TxnId) (q : TxnId → Bool) (k : Kind) (l : List Held)

@@ -14,7 +14,7 @@ use Rattle.field_bounds.specs.Central.{own}
 use Rattle.world_steps.specs.declared.step.WorldStep.{WorldStep}
 use Rattle.world_steps.specs.World.{StepFits, trace_by}
 use Rattle.reaching_steps.specs.declared.fault.ReachFault.{ReachFault}
-use Rattle.reaching_steps.specs.declared.fault.ReachFault.TheVariants.{NoMemory, NoSite, NoField, NotUp, InFlight, Unstated, Tightened, Numbers, Outside}
+use Rattle.reaching_steps.specs.declared.fault.ReachFault.TheVariants.{NoMemory, Outside}
 use Rattle.reaching_steps.specs.Reach.{first_fault, fault_if, lies_outside, reach_fault, reach_steps}
 use Rattle.reaching_steps.specs.Tight.{hindrances, IsUnhindered, LiesWithin}
 use Rattle.reaching_steps.specs.Body.{Does, Explains}
@@ -53,14 +53,7 @@ unhindered_clear schema t site field target free within =
 -- a fault that is told where none holds is want of memory
 memory_alone : (fault : ReachFault) (first : Option ReachFault) → Explains fault first → first ≡ None → fault ≡ NoMemory
 memory_alone NoMemory first told none = refl
-memory_alone NoSite first told none = cc
-memory_alone NoField first told none = cc
-memory_alone (NotUp site) first told none = cc
-memory_alone (InFlight site) first told none = cc
-memory_alone (Unstated site) first told none = cc
-memory_alone Tightened first told none = cc
-memory_alone (Numbers site) first told none = cc
-memory_alone (Outside lo hi) first told none = cc
+memory_alone fault first told none = cc
 
 pub only_memory : {T : Type 0} (r : Result T ReachFault) (schema : SchemaValue) (t : List Entry) (site : SiteNo) (field : FieldNo)
     (target : ℤ)

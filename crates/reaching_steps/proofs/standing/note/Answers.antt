@@ -1,6 +1,6 @@
 use Rattle.std.proofs.Common.{rules, ◌≡◌, eqb, refl, subst, sym}
 use Rattle.field_bounds.specs.declared.effect.Effect.{Effect}
-use Rattle.field_bounds.specs.declared.effect.Effect.TheVariants.{Grants, Gives, Accepts}
+use Rattle.field_bounds.specs.declared.effect.Effect.TheVariants.{Gives, Accepts}
 use Rattle.std.specs.Prelude.{◌≤◌, unsigned_abs, OnOk}
 use Rattle.field_bounds.specs.Kind.{kind_of}
 use Rattle.reaching_steps.specs.Standing.{pushed, Grows, Notes}
