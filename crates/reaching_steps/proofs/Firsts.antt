@@ -11,12 +11,11 @@ use Rattle.field_bounds.specs.Central.{at_site, cuts}
 use Rattle.field_bounds.proofs.Sums.{term_below}
 use Rattle.reaching_steps.specs.Reach.{is_tightened}
 use Rattle.reaching_steps.specs.Body.{is_cut_at}
-use Rattle.std.proofs.Common.{◌≡◌, ℕ, zero, suc, ◌+◌, ◌-◌, ◌<◌, ◌≤◌, ◌⊎◌, Bool, true, false, List, ◌∷◌, refl, sym, ◌∙◌, ap, inl, inr, arith, Option, Some, None}
+use Rattle.std.proofs.Common.{◌≡◌, ℕ, zero, suc, ◌+◌, ◌-◌, ◌<◌, ◌≤◌, ◌⊎◌, Bool, true, false, List, refl, sym, ◌∙◌, ap, inl, inr, arith, Option, Some, None}
 use Rattle.std.specs.Prelude.{ℤ, IfOk, Result, Ok, Err}
 use Rattle.reaching_steps.specs.declared.fault.ReachFault.TheVariants.{Outside}
-use Rattle.field_bounds.specs.declared.id.SiteNo.{SiteNo}
 use Rattle.reaching_steps.specs.declared.fault.ReachFault.{ReachFault}
-use Rattle.reaching_steps.specs.Reach.{least, fault_at, fault_if, first_fault, lies_outside}
+use Rattle.reaching_steps.specs.Reach.{least, fault_if, lies_outside}
 
 -- of what is promised of a value, where there is one
 pub if_ok : {A E : Type 0} (r : Result A E) (P Q : A → Type 0) → ((a : A) → P a → Q a) → IfOk r P → IfOk r Q
@@ -38,14 +37,6 @@ found_is p i n below none on =
 
 pub none_is : (p : ℕ → Bool) (i n : ℕ) → i ≤ n → n ≤ i → least i p ≡ None → None ≡ least n p
 none_is p i n low high none = let same : n ≡ i = omega (arith, low, high) in sym (ap (λ (m : ℕ). least m p) same ∙ none)
-
-pub first_some : (F : SiteNo → ReachFault) (o : Option ℕ) (n : ℕ) (rest : List (Option ReachFault)) → o ≡ Some n
-    → Some (F (record { 0 = n })) ≡ first_fault (fault_at F o ∷ rest)
-first_some F o n rest h = rw h refl
-
-pub first_none : (F : SiteNo → ReachFault) (o : Option ℕ) (x : Option ReachFault) (rest : List (Option ReachFault)) → o ≡ None
-    → x ≡ first_fault rest → x ≡ first_fault (fault_at F o ∷ rest)
-first_none F o x rest h is = rw h is
 
 pub outside_is : (x : Option ReachFault) (lo hi low high target : ℤ) → lo ≡ low → hi ≡ high
     → x ≡ fault_if (lies_outside (lo, hi) target) (Outside lo hi) → x ≡ fault_if (lies_outside (low, high) target) (Outside low high)

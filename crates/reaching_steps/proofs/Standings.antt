@@ -126,11 +126,7 @@ accepted_push base from f k e (x ∷ l) =
 pub granted_none : (f : ℕ) (k : Kind) (es : List Effect) → granted_sizes (λ _. false) f k es ≡ 0
 granted_none f k [] = refl
 granted_none f k (Grants txn field change ∷ es) =
-    omega (
-      arith,
-      granted_none f k es,
-      weigh_none (eqb field.0 f && same_kind (kind_of change) k) false (unsigned_abs change) refl,
-    )
+    omega (arith, granted_none f k es, weigh_none (eqb field.0 f && same_kind (kind_of change) k) false (unsigned_abs change) refl)
 granted_none f k (e ∷ es) = granted_none f k es
 
 -- without what one transaction holds
@@ -247,11 +243,6 @@ grows_first t kind n held more first row first_is low high txn_is sizes is = λ 
     nothing Lower = low
     nothing Raise = high
 
-pub grows_as : (t : TxnId) (kind j : Kind) (n m : ℕ) (held more : List Held) → kind ≡ j → n ≡ m → Grows t kind n held more
-    → Grows t j m held more
-grows_as t kind j n m held more kind_is size_is grows =
-    subst (λ (k : Kind). Grows t k m held more) kind_is (subst (λ (x : ℕ). Grows t kind x held more) size_is grows)
-
 weigh_off : (a b c : Bool) (n : ℕ) → a ≡ false → cond (a && b && c) n 0 ≡ 0
 weigh_off true b c n h = cc
 weigh_off false b c n h = refl
@@ -294,12 +285,7 @@ notes_grant f kept more t field x at small open_is grows raised_is lowered_is gi
     let grown = grows fits in
     record {
       ids = ap (λ v. reverse v.items) open_is ∙ was.ids;
-      held = λ q k. omega (
-        arith,
-        grown q k,
-        was.held q k,
-        by q k (eqb field.0 f) (is_open t es) (eq-eqb field.0 f at) opened,
-      );
+      held = λ q k. omega (arith, grown q k, was.held q k, by q k (eqb field.0 f) (is_open t es) (eq-eqb field.0 f at) opened);
       raised = omega (arith, raised_is, was.raised, none Raise);
       lowered = omega (arith, lowered_is, was.lowered, none Lower);
       given = λ p k. ap (λ v. gifts p f k v.items) gifts_is ∙ was.given p k;
@@ -415,14 +401,7 @@ module _ (f : ℕ) (kept more : Standing) (t : TxnId)
         given = λ p k. ap (λ v. gifts p f k v.items) gifts_is ∙ was.given p k;
         accepted = λ x s from k. ap (λ v. total_accepted (fresh x s) from f k v.items) gifts_is ∙ was.accepted x s from k;
         short = few;
-        few = omega (
-          arith,
-          was.few,
-          raised_is,
-          lowered_is,
-          left Raise,
-          left Lower,
-        );
+        few = omega (arith, was.few, raised_is, lowered_is, left Raise, left Lower);
       }
 
   settled : (schema : SchemaValue) (base : Base) (es : List Effect) → IsLawful schema base (Commits t ∷ es) → Tells f kept es
@@ -453,10 +432,7 @@ module _ (f : ℕ) (kept more : Standing) (t : TxnId)
       × (kept.lowered + held_sizes (is_of (Some t)) Lower kept.held.items ≤ 340282366920938463463374607431768211455)
   fit es short was =
       let up = held_split t Raise kept.held.items in
-      let down = held_split t Lower kept.held.items in (
-        omega (arith, short, was.few, up, down),
-        omega (arith, short, was.few, up, down),
-      )
+      let down = held_split t Lower kept.held.items in (omega (arith, short, was.few, up, down), omega (arith, short, was.few, up, down))
 
   pub notes_commit : (kept.raised + held_sizes (is_of (Some t)) Raise kept.held.items ≤ 340282366920938463463374607431768211455
       → more.raised ≡ kept.raised + held_sizes (is_of (Some t)) Raise kept.held.items)
@@ -563,14 +539,7 @@ notes_stop f kept more open_is held_is raised_is lowered_is gifts_is = λ schema
       given = λ p k. ap (λ v. gifts p f k v.items) gifts_is ∙ was.given p k;
       accepted = λ x s from k. ap (λ v. total_accepted (fresh x s) from f k v.items) gifts_is ∙ was.accepted x s from k;
       short = few;
-      few = omega (
-        arith,
-        was.few,
-        raised_is,
-        lowered_is,
-        held_same (λ _. true) Raise held_is,
-        held_same (λ _. true) Lower held_is,
-      );
+      few = omega (arith, was.few, raised_is, lowered_is, held_same (λ _. true) Raise held_is, held_same (λ _. true) Lower held_is);
     }
 
 -- ---- the start, and a walk over what is held
@@ -587,13 +556,7 @@ stands_first kept open_is held_is raised_is lowered_is gifts_is f = λ few.
       given = λ p k. ap (λ (l : List Effect). gifts p f k l) gifts_is;
       accepted = λ x s from k. ap (λ (l : List Effect). total_accepted (fresh x s) from f k l) gifts_is;
       short = few;
-      few = omega (
-        arith,
-        raised_is,
-        lowered_is,
-        held_same (λ _. true) Raise held_is,
-        held_same (λ _. true) Lower held_is,
-      );
+      few = omega (arith, raised_is, lowered_is, held_same (λ _. true) Raise held_is, held_same (λ _. true) Lower held_is);
     }
 
 -- a row more is added, where all fit
