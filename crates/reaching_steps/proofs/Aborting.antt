@@ -152,7 +152,7 @@ module _ (schema : SchemaValue) (named f : ℕ) where
       → AreApart ids → AreOpen ids (at_site schema (trace_by schema steps) s)
       → Went schema steps (map (λ id. fine s (Abort id)) (reverse ids)) (λ u. Aborted s ids (trace_by schema steps) u)
   abort_each steps s [] fit below apart up distinct opened =
-      went_none schema steps (λ u. Aborted s [] (trace_by schema steps) u)
+      went_none
       (record { leaves = leaves_refl schema named f (trace_by schema steps); shut = λ j h. cc; spared = λ j h. refl; begun_as = λ j. refl })
   abort_each steps s (id ∷ ids) fit below apart up distinct opened =
       let t = trace_by schema steps in
@@ -160,16 +160,15 @@ module _ (schema : SchemaValue) (named f : ℕ) where
       let before = map step (reverse ids) in
       let same : before ++ step id ∷ [] ≡ map step (reverse (id ∷ ids)) =
       sym (ap (map step) (reverse-append (id ∷ []) ids) ∙ map-append step (reverse ids) (id ∷ [])) in
-      went_same schema steps (before ++ step id ∷ []) (map step (reverse (id ∷ ids))) (λ u. Aborted s (id ∷ ids) t u) same
-      (went_on schema steps before (step id ∷ []) (λ u. Aborted s ids t u) (λ u. Aborted s (id ∷ ids) t u) fit
-      (abort_each steps s ids fit below apart up distinct.1 opened.1)
+      went_same same
+      (went_on fit (abort_each steps s ids fit below apart up distinct.1 opened.1)
       (λ fits did.
       let u = trace_by schema (steps ++ before) in
       let up_now = (did.leaves.sites s).up up in
       let begun_now = did.begun_as id ∙ opened.0.0 in
       let open_now = did.spared id distinct.0 ∙ opened.0.1 in
       let went = goes_do schema (steps ++ before) s (Abort id) refl (abort_goes (here schema u s) up_now id begun_now open_now) in
-      went_one schema (steps ++ before) (step id) (λ v. Aborted s (id ∷ ids) t v) (below, refl) refl
+      went_one (below, refl) refl
       (subst (λ (v : List Entry). Aborted s (id ∷ ids) t v) (sym went) (aborted_more s id ids t u apart did))))
 
   -- all that are open, as the task has it
@@ -182,10 +181,9 @@ module _ (schema : SchemaValue) (named f : ℕ) where
       let t = trace_by schema steps in
       let es = at_site schema t s in
       let ids = open_txns es in
-      let list = map (λ id. fine s (Abort id)) (reverse ids) in
-      let is : list ≡ aborts schema named s t = rw (ne_eqb s named apart) refl in
-      went_same schema steps list (aborts schema named s t) _ is
-      (went_as schema steps list (λ u. Aborted s ids t u) (λ u. Leaves schema named f t u × NoneOpen (at_site schema u s))
+      let is : map (λ id. fine s (Abort id)) (reverse ids) ≡ aborts schema named s t = rw (ne_eqb s named apart) refl in
+      went_same is
+      (went_as
       (abort_each steps s ids fit below apart up (begun_apart schema (fresh schema s) (λ id. is_open id es) es lawful) (open_txns_open es))
       (λ did. (
         did.leaves,

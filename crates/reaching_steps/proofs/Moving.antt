@@ -143,13 +143,11 @@ module _ (schema : SchemaValue) (good : IsSchema schema) (named f : ℕ) (known 
             ∙ settles schema s base o run f change k)
             rest;
       } in
-      went_on schema steps (fine s Begin ∷ []) (fine s escrow ∷ fine s (Commit id) ∷ []) Any (Moved s change t) fit
-      (went_one schema steps (fine s Begin) Any (below, refl) refl tt)
-      (λ fits1 _. went_on schema steps1 (fine s escrow ∷ []) (fine s (Commit id) ∷ []) Any (Moved s change t) fits1
-      (went_one schema steps1 (fine s escrow) Any (below, refl) refl tt)
-      (λ fits2 _. went_one schema steps2 (fine s (Commit id)) (Moved s change t) (below, refl) refl
-      (let fits3 = All-append (StepFits schema) steps2 (fine s (Commit id) ∷ []) fits2
-      (went_one schema steps2 (fine s (Commit id)) Any (below, refl) refl tt).fit in
+      let last : Went schema steps2 (fine s (Commit id) ∷ []) Any = went_one (below, refl) refl tt in
+      went_on fit (went_one {step = fine s Begin} {Q = Any} (below, refl) refl tt)
+      (λ fits1 _. went_on fits1 (went_one {step = fine s escrow} {Q = Any} (below, refl) refl tt)
+      (λ fits2 _. went_one (below, refl) refl
+      (let fits3 = All-append (StepFits schema) steps2 (fine s (Commit id) ∷ []) fits2 last.fit in
       let sound3 = subst (λ (l : List Entry). IsSound schema l) went3 (sound_of schema good (steps2 ++ fine s (Commit id) ∷ []) fits3) in
       subst (λ (l : List Entry). Moved s change t l) (sym went3) (after_all sound3))))
 
@@ -213,9 +211,9 @@ module _ (schema : SchemaValue) (good : IsSchema schema) (named f : ℕ) (known 
         elim (cases_eq i named) [
           | inl itself ↦
               let none : F i ≡ 0 = ap F itself ∙ mine_free in
-              went_same schema steps [] (moves schema named f target i t) (Moving (suc i))
+              went_same
               (sym (ap (λ (b : Bool). cond b [] list) (eq-eqb i named itself)))
-              (went_none schema steps (Moving (suc i)) (stays i t m (omega (arith, none))))
+              (went_none (stays i t m (omega (arith, none))))
           | inr apart ↦
               let free = m.free_is i (omega arith) below apart in
               let d : ℕ = all - sum_below i F in
@@ -229,16 +227,15 @@ module _ (schema : SchemaValue) (good : IsSchema schema) (named f : ℕ) (known 
               let list_is : changes_by i f (next_txn schema t i) (signed k q) ≡ moves schema named f target i t =
               ap (λ (z : ℤ). changes_by i f (next_txn schema t i) z) (sym change_is)
               ∙ sym (ap (λ (b : Bool). cond b [] list) (ne_eqb i named apart)) in
-              went_same schema steps (changes_by i f (next_txn schema t i) (signed k q)) (moves schema named f target i t)
-              (Moving (suc i)) list_is
+              went_same list_is
               (elim (cases_eq q 0) [
                 | inl nothing ↦
                     let size : unsigned_abs (signed k q) ≡ 0 = size_signed k q ∙ nothing in
-                    went_same schema steps [] (changes_by i f (next_txn schema t i) (signed k q)) (Moving (suc i))
+                    went_same
                     (sym (ap (λ (b : Bool). cond b []
                     (fine i Begin ∷ fine i (Escrow (next_txn schema t i) (record { 0 = f }) (signed k q))
                     ∷ fine i (Commit (next_txn schema t i)) ∷ [])) (eq-eqb (unsigned_abs (signed k q)) 0 size)))
-                    (went_none schema steps (Moving (suc i)) (stays i t m (omega (arith, nothing))))
+                    (went_none (stays i t m (omega (arith, nothing))))
                 | inr some ↦
                     let size = size_signed k q in
                     let more : unsigned_abs (signed k q) ≢ 0 = λ e. some (sym size ∙ e) in
@@ -248,9 +245,9 @@ module _ (schema : SchemaValue) (good : IsSchema schema) (named f : ℕ) (known 
                     (omega (arith, size, free)) in
                     let three : List WorldStep = fine i Begin ∷ fine i (Escrow (next_txn schema t i) (record { 0 = f }) (signed k q))
                     ∷ fine i (Commit (next_txn schema t i)) ∷ [] in
-                    went_same schema steps three (changes_by i f (next_txn schema t i) (signed k q)) (Moving (suc i))
+                    went_same
                     (sym (ap (λ (b : Bool). cond b [] three) (ne_eqb (unsigned_abs (signed k q)) 0 more)))
-                    (went_as schema steps three (Moved i (signed k q) t) (Moving (suc i))
+                    (went_as
                     (moves_by steps fit i below (signed k q) (m.idle i (omega arith) below apart) more enough)
                     (λ did. goes_on i q t (trace_by schema (steps ++ three)) apart refl m did))
               ])
