@@ -1,8 +1,8 @@
 -- What the parts of the body leave, one after another.
 use Rattle.std.proofs.Common.{◌≡◌, ◌≢◌, ℕ, zero, suc, ◌+◌, ◌<◌, length, take, get_or, map, Bool, true, false, cond, eqb, Some, None, All, List, [], ◌∷◌, ◌++◌, refl, sym, ◌∙◌, ap, subst, arith, add-one}
 use Rattle.std.proofs.lemmas.List.{append_assoc, append-nil, map-append, map_more}
-use Rattle.std.proofs.lemmas.Bool.{ne_eqb, eq-eqb, eqb-false}
-use Rattle.std.specs.Prelude.{OnOk, Result, Ok, Err, ℤ, ◌-ℤ◌, unsigned_abs}
+use Rattle.std.proofs.lemmas.Bool.{ne_eqb, eqb-false, eqb-true}
+use Rattle.std.specs.Prelude.{Option, OnOk, Result, Ok, Err, ℤ, ◌-ℤ◌, unsigned_abs}
 use Rattle.field_bounds.specs.declared.id.SiteNo.{SiteNo}
 use Rattle.field_bounds.specs.declared.id.FieldNo.{FieldNo}
 use Rattle.field_bounds.specs.declared.id.TxnId.{TxnId}
@@ -22,6 +22,7 @@ use Rattle.reaching_steps.specs.Body.{Grew, HasReached, Does, change_of}
 use Rattle.reaching_steps.specs.Taken.{steps_of, with_steps, AreAnswered}
 use Rattle.reaching_steps.specs.declared.taken.StepTaken.{StepTaken}
 use Rattle.reaching_steps.proofs.Plans.{planned_append}
+use Rattle.reaching_steps.proofs.Moving.{change_to, none_are, three_are}
 use Rattle.reaching_steps.proofs.Reaching.{all_reached}
 
 -- ---- what was answered
@@ -144,51 +145,26 @@ change_some z change h = by (eqb (unsigned_abs z) 0) refl h
     by true is h = cc
     by false is h = (cc, eqb-false (unsigned_abs z) 0 is)
 
-pub three_are : (w : WorldValue) (named f : ℕ) (target : ℤ) (s : ℕ) (txn : TxnId) (change : ℤ) → s ≢ named
-    → txn ≡ next_txn w.schema (trace_of w) s
-    → Some change ≡ change_of (towards (target -ℤ committed_value w.schema (trace_of w) f)
-    (share (fresh w.schema s) f Lower (at_site w.schema (trace_of w) s))
-    (share (fresh w.schema s) f Raise (at_site w.schema (trace_of w) s)))
+pub found_three : (w : WorldValue) (named f : ℕ) (target : ℤ) (s : ℕ) {txn : TxnId} {change : ℤ} {found : Option ℤ} → s ≢ named
+    → txn ≡ next_txn w.schema (trace_of w) s → found ≡ Some change → found ≡ change_of (change_to w.schema f target s (trace_of w))
     → (fine s Begin ∷ fine s (Escrow txn (record { 0 = f }) change) ∷ fine s (Commit txn) ∷ [])
     ≡ moves w.schema named f target s (trace_of w)
-three_are w named f target s txn change apart txn_is found =
-    let three : List WorldStep = fine s Begin ∷ fine s (Escrow txn (record { 0 = f }) change) ∷ fine s (Commit txn) ∷ [] in
-    let t = trace_of w in
-    let all = towards (target -ℤ committed_value w.schema t f) (share (fresh w.schema s) f Lower (at_site w.schema t s))
-    (share (fresh w.schema s) f Raise (at_site w.schema t s)) in
-    let is = change_some all change found in
-    let some : unsigned_abs change ≢ 0 = λ e. is.1 (sym (ap unsigned_abs is.0) ∙ e) in
-    let one : three ≡ changes_by s f txn change = sym (ap (λ (b : Bool). cond b [] three) (ne_eqb (unsigned_abs change) 0 some)) in
-    one
-    ∙ ap (λ (id : TxnId). changes_by s f id change) txn_is
-    ∙ ap (λ (z : ℤ). changes_by s f (next_txn w.schema t s) z) is.0
-    ∙ sym (ap (λ (b : Bool). cond b [] (changes_by s f (next_txn w.schema t s) all)) (ne_eqb s named apart))
+found_three w named f target s {change} apart txn_is found_is told =
+    let is = change_some (change_to w.schema f target s (trace_of w)) change (sym found_is ∙ told) in
+    rw txn_is (three_are w.schema named f target s (trace_of w) apart is.0 (rw is.0 is.1))
 
--- no step of a move: at the named site, and where there is nothing to change
-pub none_there : (schema : SchemaValue) (named f : ℕ) (target : ℤ) (s : ℕ) (t : List Entry) → s ≡ named
-    → moves schema named f target s t ≡ []
-none_there schema named f target s t same =
-    ap (λ (b : Bool). cond b [] (changes_by s f (next_txn schema t s)
-    (towards (target -ℤ committed_value schema t f) (share (fresh schema s) f Lower (at_site schema t s))
-    (share (fresh schema s) f Raise (at_site schema t s))))) (eq-eqb s named same)
-
-change_none : (z : ℤ) → None ≡ change_of z → eqb (unsigned_abs z) 0 ≡ true
-change_none z h = by (eqb (unsigned_abs z) 0) h
+-- no step of a move where there is nothing to change
+change_none : (z : ℤ) → None ≡ change_of z → unsigned_abs z ≡ 0
+change_none z h = by (eqb (unsigned_abs z) 0) refl h
   where
-    by : (b : Bool) → None ≡ cond b None (Some z) → b ≡ true
-    by true h = refl
-    by false h = cc
+    by : (b : Bool) → eqb (unsigned_abs z) 0 ≡ b → None ≡ cond b None (Some z) → unsigned_abs z ≡ 0
+    by true is h = eqb-true (unsigned_abs z) 0 is
+    by false is h = cc
 
-pub none_are : (schema : SchemaValue) (named f : ℕ) (target : ℤ) (s : ℕ) (t : List Entry) → s ≢ named
-    → None ≡ change_of (towards (target -ℤ committed_value schema t f) (share (fresh schema s) f Lower (at_site schema t s))
-    (share (fresh schema s) f Raise (at_site schema t s)))
-    → moves schema named f target s t ≡ []
-none_are schema named f target s t apart none =
-    let z = towards (target -ℤ committed_value schema t f) (share (fresh schema s) f Lower (at_site schema t s))
-    (share (fresh schema s) f Raise (at_site schema t s)) in
-    let id = next_txn schema t s in
-    ap (λ (b : Bool). cond b [] (changes_by s f id z)) (ne_eqb s named apart)
-    ∙ ap (λ (b : Bool). cond b [] (fine s Begin ∷ fine s (Escrow id (record { 0 = f }) z) ∷ fine s (Commit id) ∷ [])) (change_none z none)
+pub found_none : (w : WorldValue) (named f : ℕ) (target : ℤ) (s : ℕ) {found : Option ℤ} → s ≢ named → found ≡ None
+    → found ≡ change_of (change_to w.schema f target s (trace_of w)) → moves w.schema named f target s (trace_of w) ≡ []
+found_none w named f target s apart none told =
+    none_are w.schema named f target s (trace_of w) apart (change_none (change_to w.schema f target s (trace_of w)) (sym none ∙ told))
 
 -- ---- the last tasks, closed
 
