@@ -57,22 +57,12 @@ pub cut_found : (schema : SchemaValue) (t : List Entry) (f n s : ℕ) → n ≡ 
 cut_found schema t f n s all below found =
     elim (either_some (cut_at schema t f Lower s) (cut_at schema t f Raise s) found) [
       | inl l ↦
-          let more : 0 < cuts schema t f Lower = omega (
-            arith,
-            l,
-            all,
-            below,
-            term_below schema.sites (cut_at schema t f Lower) s (omega (arith, below, all)),
-          ) in
+          let more : 0 < cuts schema t f Lower =
+          omega (arith, l, term_below schema.sites (cut_at schema t f Lower) s (omega (arith, below, all))) in
           sym (or_left (ltb 0 (cuts schema t f Lower)) (ltb 0 (cuts schema t f Raise)) (lt-ltb _ _ more))
       | inr r ↦
-          let more : 0 < cuts schema t f Raise = omega (
-            arith,
-            r,
-            all,
-            below,
-            term_below schema.sites (cut_at schema t f Raise) s (omega (arith, below, all)),
-          ) in
+          let more : 0 < cuts schema t f Raise =
+          omega (arith, r, term_below schema.sites (cut_at schema t f Raise) s (omega (arith, below, all))) in
           sym (or_right (ltb 0 (cuts schema t f Lower)) (ltb 0 (cuts schema t f Raise)) (lt-ltb _ _ more))
     ]
 

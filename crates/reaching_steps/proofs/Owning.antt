@@ -35,12 +35,8 @@ pub owned_is : (schema : SchemaValue) (s : ℕ) (es : List Effect) → IsLawful 
     ≡ part_of schema s f k + granted_sizes (λ id. is_committed id es) f (other k) es
     + sum_below schema.sites (λ from. total_accepted (fresh schema s) from f k es)
 owned_is schema s es lawful f k =
-    omega (
-      arith,
-      balance schema (fresh schema s) es lawful f k,
-      gains_split schema (fresh schema s) es lawful f k,
-      sum_below-zero schema.sites,
-    )
+    let gains = gains_split schema (fresh schema s) es lawful f k in
+    omega (arith, balance schema (fresh schema s) es lawful f k, gains, sum_below-zero schema.sites)
 
 -- what an open transaction holds, and what is settled, fits
 pub held_fits : (f : ℕ) (had : Standing) (es : List Effect) → Tells f had es

@@ -59,13 +59,8 @@ not_full schema t named s short =
     let count = count_since is_begun_reply (own s t) in
     elim (cases_Bool (has_no_number schema t named s)) [
       | inl full ↦
-          absurd (omega (
-            arith,
-            short,
-            own_few s t,
-            since_few (own s t),
-            leb-true max_number count (and_parts (not (eqb s named)) (leb max_number count) full).1,
-          ))
+          let many = leb-true max_number count (and_parts (not (eqb s named)) (leb max_number count) full).1 in
+          absurd (omega (arith, own_few s t, since_few (own s t), many))
       | inr room ↦ room
     ]
 

@@ -87,11 +87,8 @@ pub effects_few : (base : Base) (kept : Bool) (o : List Entry) → length (effec
 effects_few base kept [] = omega arith
 effects_few base kept (e ∷ o) =
     let es = effects base (doubt_kept_before kept e.reply) o in
-    omega (
-      arith,
-      effects_few base (doubt_kept_before kept e.reply) o,
-      one_more (counts kept e.reply) (effect_of base es e.command e.reply) es,
-    )
+    let more = one_more (counts kept e.reply) (effect_of base es e.command e.reply) es in
+    omega (arith, effects_few base (doubt_kept_before kept e.reply) o, more)
   where
     one_more : (b : Bool) (found : Option Effect) (es : List Effect) → length (with_effect b found es) ≤ suc (length es)
     one_more b None es = omega arith

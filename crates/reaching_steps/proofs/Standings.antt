@@ -66,14 +66,7 @@ granted_push : (q : TxnId → Bool) (f : ℕ) (k : Kind) (e : Effect) (l : List 
     → granted_sizes q f k (l ++ e ∷ []) ≡ granted_sizes q f k (e ∷ l)
 granted_push q f k e [] = refl
 granted_push q f k e (x ∷ l) =
-    omega (
-      arith,
-      granted_head q f k x (l ++ e ∷ []),
-      granted_push q f k e l,
-      granted_head q f k e l,
-      granted_head q f k e (x ∷ l),
-      granted_head q f k x l,
-    )
+    omega (arith, granted_head, granted_push q f k e l)
 
 given_head : (p : Option SiteNo → Bool) (f : ℕ) (k : Kind) (e : Effect) (l : List Effect)
     → gifts p f k (e ∷ l) ≡ gifts p f k (e ∷ []) + gifts p f k l
@@ -84,14 +77,7 @@ given_push : (p : Option SiteNo → Bool) (f : ℕ) (k : Kind) (e : Effect) (l :
     → gifts p f k (l ++ e ∷ []) ≡ gifts p f k (e ∷ l)
 given_push p f k e [] = refl
 given_push p f k e (x ∷ l) =
-    omega (
-      arith,
-      given_head p f k x (l ++ e ∷ []),
-      given_push p f k e l,
-      given_head p f k e l,
-      given_head p f k e (x ∷ l),
-      given_head p f k x l,
-    )
+    omega (arith, given_head, given_push p f k e l)
 
 -- the total that an effect accepts
 abbrev pub total_of : ℕ → ℕ → Kind → Effect → ℕ
@@ -112,14 +98,7 @@ accepted_push : (base : Base) (from f : ℕ) (k : Kind) (e : Effect) (l : List E
     → total_accepted base from f k (l ++ e ∷ []) ≡ total_accepted base from f k (e ∷ l)
 accepted_push base from f k e [] = refl
 accepted_push base from f k e (x ∷ l) =
-    omega (
-      arith,
-      accepted_head base from f k x (l ++ e ∷ []),
-      accepted_push base from f k e l,
-      accepted_head base from f k e l,
-      accepted_head base from f k e (x ∷ l),
-      accepted_head base from f k x l,
-    )
+    omega (arith, accepted_head, accepted_push base from f k e l)
 
 -- ---- what a transaction holds
 
@@ -206,14 +185,8 @@ grows_at t kind n held more i old row below found its txn_is sizes is = λ fits 
     ap (λ (x : TxnId). cond (q x) (size_in k row) 0) (txn_is ∙ old_is) in
     let was_is : counted_of q k (get_or held i old) ≡ cond (q t) (size_in k old) 0 =
     ap (λ (x : Held). counted_of q k x) (sym found) ∙ ap (λ (x : TxnId). cond (q x) (size_in k old) 0) old_is in
-    omega (
-      arith,
-      held_same q k is,
-      held_set q k held i old row below,
-      row_is,
-      was_is,
-      more_counted (q t) (same_kind kind k) (size_in k old) (size_in k row) n here,
-    )
+    let grown = more_counted (q t) (same_kind kind k) (size_in k old) (size_in k row) n here in
+    omega (arith, held_same q k is, held_set q k held i old row below, row_is, was_is, grown)
 
 pub grows_first : (t : TxnId) (kind : Kind) (n : ℕ) (held more : List Held) (first row : Held) → first.txn ≡ t
     → first.lower ≡ 0 → first.raise ≡ 0 → row.txn ≡ first.txn
@@ -226,18 +199,12 @@ grows_first t kind n held more first row first_is low high txn_is sizes is = λ 
     let here = sizes (omega (arith, fits, none kind)) k in
     let row_is : counted_of q k row ≡ cond (q t) (size_in k row) 0 =
     ap (λ (x : TxnId). cond (q x) (size_in k row) 0) (txn_is ∙ first_is) in
-    omega (
-      arith,
-      held_same q k is,
-      held_push q k held row,
-      row_is,
-      more_counted (q t) (same_kind kind k) 0 (size_in k row) n (here ∙ ap (λ (x : ℕ). x + cond (same_kind kind k) n 0) (none k)),
-      cond_none (q t) 0 refl,
-    )
+    let grown = more_counted (q t) (same_kind kind k) 0 (size_in k row) n (here ∙ ap (λ (x : ℕ). x + cond (same_kind kind k) n 0) (none k)) in
+    omega (arith, held_same q k is, held_push q k held row, row_is, grown, same_either (q t))
   where
-    cond_none : (b : Bool) (m : ℕ) → m ≡ 0 → cond b m 0 ≡ 0
-    cond_none true m is = is
-    cond_none false m is = refl
+    same_either : (b : Bool) → cond b zero 0 ≡ zero
+    same_either true = refl
+    same_either false = refl
 
     nothing : (j : Kind) → size_in j first ≡ 0
     nothing Lower = low

@@ -12,20 +12,8 @@ returns c =
     let same = λ (k : Kind). held_same q k c.deref.ensures.value in
     record {
       noted = λ f. notes_commit f had c.end.new.standing c.args.txn c.end.ensures.ids c.end.ensures.held c.end.ensures.gifts
-          (λ fits. c.end.ensures.sums.0 ∙ omega (
-            arith,
-            fits,
-            same Raise,
-            c.saturating_add-standing-2.ensures,
-            c.held_by-lower.ensures.raise
-                (omega (arith, fits, same Raise)),
-          ))
-          (λ fits. c.end.ensures.sums.1 ∙ omega (
-            arith,
-            fits,
-            same Lower,
-            c.saturating_add-standing.ensures,
-            c.held_by-lower.ensures.lower
-                (omega (arith, fits, same Lower)),
-          ));
+          (λ fits. c.end.ensures.sums.0
+          ∙ omega (arith, same Raise, c.saturating_add-standing-2.ensures, c.held_by-lower.ensures.raise (omega (arith, same Raise))))
+          (λ fits. c.end.ensures.sums.1
+          ∙ omega (arith, same Lower, c.saturating_add-standing.ensures, c.held_by-lower.ensures.lower (omega (arith, same Lower))));
     }
