@@ -20,6 +20,9 @@ same_statement-refl x =
       eq-eqb x.total x.total refl,
     ) refl
 
+abbrev copied : Statement → Statement
+copied x = record { from = record { 0 = x.from.0 }; to = record { 0 = x.to.0 }; field = record { 0 = x.field.0 }; kind = x.kind; total = x.total }
+
 same_statement-true : (x y : Statement) → same_statement x y ≡ true → x ≡ y
 same_statement-true x y h =
     let a = and_parts ((eqb x.from.0 y.from.0) && (eqb x.to.0 y.to.0) && (eqb x.field.0 y.field.0) && same_kind x.kind y.kind)
@@ -32,23 +35,7 @@ same_statement-true x y h =
     let field : x.field.0 ≡ y.field.0 = eqb-true _ _ c.1 in
     let kind : x.kind ≡ y.kind = same_kind-true _ _ b.1 in
     let total : x.total ≡ y.total = eqb-true _ _ a.1 in
-    let made : ◌≡◌ {A = Statement}
-    (record {
-      from = record { 0 = x.from.0 };
-      to = record { 0 = x.to.0 };
-      field = record { 0 = x.field.0 };
-      kind = x.kind;
-      total =
-          x.total;
-    })
-    (record {
-      from = record { 0 = y.from.0 };
-      to = record { 0 = y.to.0 };
-      field = record { 0 = y.field.0 };
-      kind = y.kind;
-      total =
-          y.total;
-    }) = cc in
+    let made : ◌≡◌ {A = Statement} (copied x) (copied y) = cc in
     made
 
 -- a number is at most as great as the list is long

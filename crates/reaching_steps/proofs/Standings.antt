@@ -3,7 +3,7 @@ use Rattle.std.proofs.Common.{◌≡◌, ◌≢◌, ℕ, zero, suc, ◌+◌, ◌
 use Rattle.std.proofs.lemmas.Bool.{or_left, or_right, eq-eqb, ne_eqb}
 use Rattle.std.specs.Prelude.{ℤ, unsigned_abs, Option}
 use Rattle.std.proofs.lemmas.List.{drop_more, append-nil, reverse-append}
-use Rattle.std.proofs.lemmas.List.Elements.{filter-append}
+use Rattle.field_bounds.proofs.Lists.{filter-reverse}
 use Rattle.field_bounds.specs.declared.kind.Kind.{Kind}
 use Rattle.field_bounds.specs.declared.kind.Kind.TheVariants.{Lower, Raise}
 use Rattle.field_bounds.specs.declared.id.TxnId.{TxnId}
@@ -23,18 +23,6 @@ use Rattle.reaching_steps.specs.Standing.{is_of, size_in, counted_of, held_sizes
 use Rattle.reaching_steps.proofs.Sites.{same_txn-refl}
 
 -- ---- lists
-
-filter_back : {A : Type 0} (p : A → Bool) (l : List A) → reverse (filter p l) ≡ filter p (reverse l)
-filter_back p [] = refl
-filter_back {A} p (x ∷ l) =
-    let rest : reverse (filter p l) ≡ filter p (reverse l) = filter_back p l in
-    let turned : reverse (x ∷ l) ≡ reverse l ++ x ∷ [] = reverse-append (x ∷ []) l in
-    by (p x) rest ∙ sym (filter-append p (reverse l) (x ∷ [])) ∙ ap (λ (m : List A). filter p m) (sym turned)
-  where
-    by : (b : Bool) → reverse (filter p l) ≡ filter p (reverse l)
-        → reverse (cond b (x ∷ filter p l) (filter p l)) ≡ filter p (reverse l) ++ cond b (x ∷ []) []
-    by true rest = reverse-append (x ∷ []) (filter p l) ∙ ap (λ (m : List A). m ++ x ∷ []) rest
-    by false rest = rest ∙ sym (append-nil (filter p (reverse l)))
 
 filter_twice : (p q : TxnId → Bool) (l : List TxnId) → filter p (filter q l) ≡ filter (λ x. q x && p x) l
 filter_twice p q [] = refl
@@ -309,7 +297,7 @@ module _ (f : ℕ) (kept more : Standing) (t : TxnId)
       → ((id : TxnId) → (is_open id es && not (same_txn id t)) ≡ is_open id (e ∷ es))
       → reverse more.txns.items ≡ open_txns (e ∷ es)
   ended_ids e es was begun same =
-      ap (λ (l : List TxnId). reverse l) ids_is ∙ filter_back (λ (x : TxnId). not (same_txn x t)) kept.txns.items
+      ap (λ (l : List TxnId). reverse l) ids_is ∙ sym (filter-reverse (λ (x : TxnId). not (same_txn x t)) kept.txns.items)
       ∙ ap (λ (l : List TxnId). filter (λ (x : TxnId). not (same_txn x t)) l) was.ids
       ∙ filter_twice (λ (x : TxnId). not (same_txn x t)) (λ id. is_open id es) (begun_txns es)
       ∙ filter_begun (λ id. is_open id es && not (same_txn id t)) (λ id. is_open id (e ∷ es)) es (λ id there. same id)
