@@ -1,5 +1,5 @@
 -- The table of a trial.
-use Rattle.std.proofs.Common.{◌≡◌, ℕ, ◌<◌, ◌≤◌, Bool, true, false, List, ◌∷◌, length, get_or, slice_set, reverse, sym, ◌∙◌, ap, subst, arith, inl, inr}
+use Rattle.std.proofs.Common.{◌≡◌, ℕ, ◌<◌, ◌≤◌, Bool, true, false, List, ◌∷◌, length, get_or, slice_set, reverse, refl, sym, ◌∙◌, ap, subst, arith, inl, inr}
 use Rattle.std.proofs.lemmas.Bool.{cases_eq}
 use Rattle.std.proofs.lemmas.List.{length-reverse, length-set, get_or-set_same, get_or-set_other}
 use Rattle.field_bounds.specs.declared.entry.Entry.{Entry}
@@ -28,15 +28,9 @@ unfolding AllTold
 told_next schema f t u e rows v is here told = λ s d below.
     let inside : s < length rows = omega (arith, below, length-set rows e.site.0 v) in
     elim (cases_eq e.site.0 s) [
-      | inl same ↦
-          subst (λ (n : ℕ). Stands f (get_or (slice_set rows e.site.0 v) n d) (at_site schema u n)) same
-          (subst (λ (x : Standing). Stands f x (at_site schema u e.site.0))
-          (sym (get_or-set_same rows e.site.0 v d (subst (λ (n : ℕ). n < length rows) (sym same) inside))) here)
+      | inl same ↦ rw (← same, get_or-set_same rows e.site.0 v d (rw same inside)) here
       | inr other ↦
-          subst (λ (x : Standing). Stands f x (at_site schema u s)) (sym (get_or-set_other rows e.site.0 s v d (λ h. other (sym h))))
-          (subst (λ (l : List Effect). Stands f (get_or rows s d) l)
-          (ap (λ (o : List Entry). effects (fresh schema s) false o)
-          (sym (own_there s e t other) ∙ ap (λ (l : List Entry). own s l) (sym is))) (told s d inside))
+          rw (get_or-set_other rows e.site.0 s v d (λ h. other (sym h)), is, own_there s e t other) (told s d inside)
     ]
 
 -- what a whole table tells of a site
@@ -60,20 +54,15 @@ none_is w v step is = ap (λ (l : List Lucky). entries l) is.1
 
 pub renews_none : (v : WorldValue) (f : ℕ) (rows : List Standing) → Renews v f NoStatement rows rows
 unfolding Renews
-renews_none v f rows = λ w step is same told. (
-  told.0 ∙ ap (λ (x : SchemaValue). x.sites) (sym same),
-  subst (λ (x : SchemaValue). AllTold x f (trace_of v) rows) (sym same)
-      (subst (λ (l : List Entry). AllTold w.schema f l rows) (sym (none_is w v step is)) told.1),
-)
+renews_none v f rows = λ w step is same told. (rw same told.0, rw (none_is w v step is, same) told.1)
 
 pub renews_made : (v : WorldValue) (f : ℕ) (e : Entry) (rows more : List Standing) (x : Standing)
     → Stands f x (at_site v.schema (trace_of v) e.site.0) → more ≡ slice_set rows e.site.0 x
     → Renews v f (Made e) rows more
 unfolding Renews
 renews_made v f e rows more x here set = λ w step is same told. (
-  ap (λ (l : List Standing). length l) set ∙ length-set rows e.site.0 x ∙ told.0 ∙ ap (λ (y : SchemaValue). y.sites) (sym same),
-  subst (λ (l : List Standing). AllTold v.schema f (trace_of v) l) (sym set)
-      (told_next v.schema f (trace_of w) (trace_of v) e rows x (made_is w v step e is) here
+  rw (set, length-set rows e.site.0 x, told.0, same) refl,
+  rw set (told_next v.schema f (trace_of w) (trace_of v) e rows x (made_is w v step e is) here
       (subst (λ (y : SchemaValue). AllTold y f (trace_of w) rows) (sym same) told.1)),
 )
 
