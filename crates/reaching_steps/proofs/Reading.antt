@@ -53,8 +53,7 @@ pushed_none false n m h is = is
 gives_elsewhere : (f : ℕ) (had : Standing) (to : Option SiteNo) (field : FieldNo) (k : Kind) (n : ℕ) → eqb field.0 f ≡ false
     → Notes f had (Gives to field k n) had
 gives_elsewhere f had to field k n off =
-    notes_give f had had to field k n refl refl refl refl
-    (sym (ap (λ (b : Bool). cond b (had.gifts.items ++ Gives to field k n ∷ []) had.gifts.items) off))
+    notes_give f had had.gifts to field k n (rw off refl)
 
 spared_off : (f : ℕ) (schema : SchemaValue) (base : Base) (kept : Bool) (c : Command) (es : List Effect) (had : Standing)
     → is_elsewhere f (wanted_by c) ≡ true

@@ -2,6 +2,7 @@
 use Rattle.std.proofs.Common.{◌≡◌, ◌≢◌, ℕ, zero, suc, ◌+◌, ◌*◌, ◌<◌, ◌≤◌, max, Bool, true, false, not, ◌&&◌, ◌||◌, cond, eqb, List, [], ◌∷◌, ◌++◌, filter, reverse, drop, length, get_or, slice_set, refl, sym, ◌∙◌, ap, subst, arith, Some}
 use Rattle.std.proofs.lemmas.Bool.{or_left, or_right, eq-eqb, ne_eqb}
 use Rattle.std.specs.Prelude.{ℤ, unsigned_abs, Option}
+use Rattle.std.specs.Global.{Vec}
 use Rattle.std.proofs.lemmas.List.{drop_more, append-nil, reverse-append}
 use Rattle.field_bounds.proofs.Lists.{filter-reverse}
 use Rattle.field_bounds.specs.declared.kind.Kind.{Kind}
@@ -204,33 +205,29 @@ weigh_off false b c n h = refl
 
 -- ---- each effect
 
-pub notes_begin : (f : ℕ) (kept more : Standing) (t : TxnId) → more.txns.items ≡ kept.txns.items ++ t ∷ [] → more.held ≡ kept.held
-    → more.raised ≡ kept.raised → more.lowered ≡ kept.lowered → more.gifts ≡ kept.gifts → Notes f kept (Begins t) more
+pub notes_begin : (f : ℕ) (kept : Standing) (txns : Vec TxnId) (t : TxnId) → txns.items ≡ kept.txns.items ++ t ∷ []
+    → Notes f kept (Begins t) (record kept { txns = txns })
 unfolding Notes Stands
-notes_begin f kept more t ids_is held_is raised_is lowered_is gifts_is = λ schema base es lawful before few.
+notes_begin f kept txns t ids_is = λ schema base es lawful before few.
     let was = before (omega (arith, few)) in
     let unused = new_is_unused schema base t es lawful.0 lawful.1 in
     let opened : is_open t es ≡ true = rw (unused.uncommitted, unused.undropped) refl in
     record {
-      ids = ap (λ (l : List TxnId). reverse l) ids_is ∙ reverse-append kept.txns.items (t ∷ [])
-          ∙ ap (λ (l : List TxnId). t ∷ l) was.ids
-          ∙ sym (ap (λ (b : Bool). cond b (t ∷ open_txns es) (open_txns es)) opened);
-      held = λ q k. ap (λ v. held_sizes q k v.items) held_is ∙ was.held q k;
-      raised = raised_is ∙ was.raised;
-      lowered = lowered_is ∙ was.lowered;
-      given = λ p k. ap (λ v. gifts p f k v.items) gifts_is ∙ was.given p k;
-      accepted = λ x s from k. ap (λ v. total_accepted (fresh x s) from f k v.items) gifts_is ∙ was.accepted x s from k;
+      ids = rw (ids_is, reverse-append kept.txns.items (t ∷ []), was.ids, opened) refl;
+      held = was.held;
+      raised = was.raised;
+      lowered = was.lowered;
+      given = was.given;
+      accepted = was.accepted;
       short = few;
-      few = let same = λ (k : Kind). ap (λ v. held_sizes (λ _. true) k v.items) held_is in
-          omega (arith, was.few, raised_is, lowered_is, same Raise, same Lower);
+      few = omega (arith, was.few);
     }
 
-pub notes_grant : (f : ℕ) (kept more : Standing) (t : TxnId) (field : FieldNo) (x : ℤ) → field.0 ≡ f
-    → unsigned_abs x ≤ 9223372036854775808 → more.txns ≡ kept.txns
-    → Grows t (kind_of x) (unsigned_abs x) kept.held.items more.held.items
-    → more.raised ≡ kept.raised → more.lowered ≡ kept.lowered → more.gifts ≡ kept.gifts → Notes f kept (Grants t field x) more
+pub notes_grant : (f : ℕ) (kept : Standing) (held : Vec Held) (t : TxnId) (field : FieldNo) (x : ℤ) → field.0 ≡ f
+    → unsigned_abs x ≤ 9223372036854775808 → Grows t (kind_of x) (unsigned_abs x) kept.held.items held.items
+    → Notes f kept (Grants t field x) (record kept { held = held })
 unfolding Notes Stands Grows
-notes_grant f kept more t field x at small open_is grows raised_is lowered_is gifts_is = λ schema base es lawful before few.
+notes_grant f kept held t field x at small grows = λ schema base es lawful before few.
     let was = before (omega (arith, few)) in
     let opened = lawful.1.opened in
     let fate = open_parts (is_committed t es) (is_dropped t es) opened in
@@ -239,15 +236,15 @@ notes_grant f kept more t field x at small open_is grows raised_is lowered_is gi
     let fits = all_fit (kind_of x) (length es) (unsigned_abs x) small (omega (arith, few)) was.few in
     let grown = grows fits in
     record {
-      ids = ap (λ v. reverse v.items) open_is ∙ was.ids;
+      ids = was.ids;
       held = λ q k. omega (arith, grown q k, was.held q k, by q k (eqb field.0 f) (is_open t es) (eq-eqb field.0 f at) opened);
-      raised = omega (arith, raised_is, was.raised, none Raise);
-      lowered = omega (arith, lowered_is, was.lowered, none Lower);
-      given = λ p k. ap (λ v. gifts p f k v.items) gifts_is ∙ was.given p k;
-      accepted = λ y s from k. ap (λ v. total_accepted (fresh y s) from f k v.items) gifts_is ∙ was.accepted y s from k;
+      raised = omega (arith, was.raised, none Raise);
+      lowered = omega (arith, was.lowered, none Lower);
+      given = was.given;
+      accepted = was.accepted;
       short = few;
       few = let one = one_kind (kind_of x) (unsigned_abs x) in
-          omega (arith, was.few, raised_is, lowered_is, grown (λ _. true) Raise, grown (λ _. true) Lower, one, small);
+          omega (arith, was.few, grown (λ _. true) Raise, grown (λ _. true) Lower, one, small);
     }
   where
     by : (q : TxnId → Bool) (k : Kind) (a o : Bool) → a ≡ true → o ≡ true
@@ -410,23 +407,21 @@ module _ (f : ℕ) (kept more : Standing) (t : TxnId)
         few = omega (arith, was.few, raised_is, lowered_is, left Raise, left Lower);
       }
 
-pub notes_give : (f : ℕ) (kept more : Standing) (to : Option SiteNo) (field : FieldNo) (kind : Kind) (n : ℕ) → more.txns ≡ kept.txns
-    → more.held ≡ kept.held → more.raised ≡ kept.raised → more.lowered ≡ kept.lowered
-    → more.gifts.items ≡ pushed (eqb field.0 f) kept.gifts.items (Gives to field kind n) → Notes f kept (Gives to field kind n) more
+pub notes_give : (f : ℕ) (kept : Standing) (list : Vec Effect) (to : Option SiteNo) (field : FieldNo) (kind : Kind) (n : ℕ)
+    → list.items ≡ pushed (eqb field.0 f) kept.gifts.items (Gives to field kind n)
+    → Notes f kept (Gives to field kind n) (record kept { gifts = list })
 unfolding Notes Stands
-notes_give f kept more to field kind n open_is held_is raised_is lowered_is gifts_is = λ schema base es lawful before few.
+notes_give f kept list to field kind n is = λ schema base es lawful before few.
     let was = before (omega (arith, few)) in
     record {
-      ids = ap (λ v. reverse v.items) open_is ∙ was.ids;
-      held = λ q k. ap (λ v. held_sizes q k v.items) held_is ∙ was.held q k;
-      raised = raised_is ∙ was.raised;
-      lowered = lowered_is ∙ was.lowered;
-      given = λ p k. ap (λ (l : List Effect). gifts p f k l) gifts_is ∙ by p k (eqb field.0 f) refl (gifts p f k es) (was.given p k);
-      accepted = λ x s from k. ap (λ (l : List Effect). total_accepted (fresh x s) from f k l) gifts_is
-          ∙ taken x s from k (eqb field.0 f) ∙ was.accepted x s from k;
+      ids = was.ids;
+      held = was.held;
+      raised = was.raised;
+      lowered = was.lowered;
+      given = λ p k. rw is (by p k (eqb field.0 f) refl (gifts p f k es) (was.given p k));
+      accepted = λ x s from k. rw is (taken x s from k (eqb field.0 f) ∙ was.accepted x s from k);
       short = few;
-      few = let same = λ (k : Kind). ap (λ v. held_sizes (λ _. true) k v.items) held_is in
-          omega (arith, was.few, raised_is, lowered_is, same Raise, same Lower);
+      few = omega (arith, was.few);
     }
   where
     by : (p : Option SiteNo → Bool) (k : Kind) (b : Bool) → eqb field.0 f ≡ b → (all : ℕ) → gifts p f k kept.gifts.items ≡ all
@@ -440,24 +435,21 @@ notes_give f kept more to field kind n open_is held_is raised_is lowered_is gift
     taken x s from k true = accepted_push (fresh x s) from f k (Gives to field kind n) kept.gifts.items
     taken x s from k false = refl
 
-pub notes_accept : (f : ℕ) (kept more : Standing) (site : SiteNo) (field : FieldNo) (kind : Kind) (n : ℕ) → more.txns ≡ kept.txns
-    → more.held ≡ kept.held → more.raised ≡ kept.raised → more.lowered ≡ kept.lowered
-    → more.gifts.items ≡ pushed (eqb field.0 f) kept.gifts.items (Accepts site field kind n)
-    → Notes f kept (Accepts site field kind n) more
+pub notes_accept : (f : ℕ) (kept : Standing) (list : Vec Effect) (site : SiteNo) (field : FieldNo) (kind : Kind) (n : ℕ)
+    → list.items ≡ pushed (eqb field.0 f) kept.gifts.items (Accepts site field kind n)
+    → Notes f kept (Accepts site field kind n) (record kept { gifts = list })
 unfolding Notes Stands
-notes_accept f kept more site field kind n open_is held_is raised_is lowered_is gifts_is = λ schema base es lawful before few.
+notes_accept f kept list site field kind n is = λ schema base es lawful before few.
     let was = before (omega (arith, few)) in
     record {
-      ids = ap (λ v. reverse v.items) open_is ∙ was.ids;
-      held = λ q k. ap (λ v. held_sizes q k v.items) held_is ∙ was.held q k;
-      raised = raised_is ∙ was.raised;
-      lowered = lowered_is ∙ was.lowered;
-      given = λ p k. ap (λ (l : List Effect). gifts p f k l) gifts_is ∙ by p k (eqb field.0 f) ∙ was.given p k;
-      accepted = λ x s from k. ap (λ (l : List Effect). total_accepted (fresh x s) from f k l) gifts_is
-          ∙ taken x s from k (eqb field.0 f) refl (total_accepted (fresh x s) from f k es) (was.accepted x s from k);
+      ids = was.ids;
+      held = was.held;
+      raised = was.raised;
+      lowered = was.lowered;
+      given = λ p k. rw is (by p k (eqb field.0 f) ∙ was.given p k);
+      accepted = λ x s from k. rw is (taken x s from k (eqb field.0 f) refl (total_accepted (fresh x s) from f k es) (was.accepted x s from k));
       short = few;
-      few = let same = λ (k : Kind). ap (λ v. held_sizes (λ _. true) k v.items) held_is in
-          omega (arith, was.few, raised_is, lowered_is, same Raise, same Lower);
+      few = omega (arith, was.few);
     }
   where
     by : (p : Option SiteNo → Bool) (k : Kind) (b : Bool)
@@ -478,23 +470,22 @@ notes_accept f kept more site field kind n open_is held_is raised_is lowered_is 
         ∙ ap (λ (m : ℕ). cond (eqb field.0 f && same_kind kind k && eqb site.0 from) (max n m) m) was
     taken x s from k false off all was = was ∙ off_is (eqb field.0 f) (same_kind kind k) (eqb site.0 from) (max n all) all off
 
-pub notes_stop : (f : ℕ) (kept more : Standing) → more.txns.items ≡ [] → more.held.items ≡ [] → more.raised ≡ kept.raised
-    → more.lowered ≡ kept.lowered → more.gifts ≡ kept.gifts → Notes f kept Stops more
+pub notes_stop : (f : ℕ) (kept : Standing) (txns : Vec TxnId) (held : Vec Held) → txns.items ≡ [] → held.items ≡ []
+    → Notes f kept Stops (record kept { txns = txns; held = held })
 unfolding Notes Stands
-notes_stop f kept more open_is held_is raised_is lowered_is gifts_is = λ schema base es lawful before few.
+notes_stop f kept txns held open_is held_is = λ schema base es lawful before few.
     let was = before (omega (arith, few)) in
     record {
-      ids = ap (λ (l : List TxnId). reverse l) open_is ∙ sym (stop_closes_all es);
-      held = λ q k. held_same q k held_is
-          ∙ sym (granted-same schema base (λ id. is_open id (Stops ∷ es) && q id) (λ _. false) f k es lawful.0
+      ids = rw open_is (sym (stop_closes_all es));
+      held = λ q k. rw held_is (sym (granted-same schema base (λ id. is_open id (Stops ∷ es) && q id) (λ _. false) f k es lawful.0
           (λ id there. ap (λ (b : Bool). b && q id) (closed_by_stop id es there))
-          ∙ granted_none f k es);
-      raised = raised_is ∙ was.raised;
-      lowered = lowered_is ∙ was.lowered;
-      given = λ p k. ap (λ v. gifts p f k v.items) gifts_is ∙ was.given p k;
-      accepted = λ x s from k. ap (λ v. total_accepted (fresh x s) from f k v.items) gifts_is ∙ was.accepted x s from k;
+          ∙ granted_none f k es));
+      raised = was.raised;
+      lowered = was.lowered;
+      given = was.given;
+      accepted = was.accepted;
       short = few;
-      few = omega (arith, was.few, raised_is, lowered_is, held_same (λ _. true) Raise held_is, held_same (λ _. true) Lower held_is);
+      few = omega (arith, was.few, held_same (λ _. true) Raise held_is, held_same (λ _. true) Lower held_is);
     }
 
 -- ---- the start, and a walk over what is held

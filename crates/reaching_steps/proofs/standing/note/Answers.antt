@@ -9,8 +9,7 @@ use Rattle.reaching_steps.proofs.standing.note.Goals as goal
 pub returns-in_ok-push-in-Begins : goal.returns-in_ok-push-in-Begins
 returns-in_ok-push-in-Begins c = record {
   noted = rw c.in-Begins.is
-      (notes_begin c.args.field.0 c.args.standing.now (record c.args.standing.now { txns = c.push.new.self }) c.in-Begins.txn
-      c.in_ok-push-in-Begins.ensures.items refl refl refl refl);
+      (notes_begin c.args.field.0 c.args.standing.now c.push.new.self c.in-Begins.txn c.in_ok-push-in-Begins.ensures.items);
 }
 
 pub returns-then-at-field : goal.returns-then-at-field
@@ -29,7 +28,7 @@ returns-else-at-field c =
     let grows : OnOk c.grant.result (Grows i.txn (kind_of i.change) (unsigned_abs i.change) had.held.items more.items) = search rules in
     record {
       noted = rw i.is (on_ok c.grant.result _ _
-          (λ grows. notes_grant f had (record had { held = more }) i.txn i.at i.change c.if-at-field.false small refl grows refl refl refl)
+          (λ grows. notes_grant f had more i.txn i.at i.change c.if-at-field.false small grows)
           grows);
     }
 
@@ -50,7 +49,7 @@ returns-in-Gives c =
     let i = c.in-Gives in
     record {
       noted = rw i.is (on_ok c.push_on.result _ _
-          (λ is. notes_give f had (record had { gifts = c.push_on.new.list }) i.to i.at i.kind i.amount refl refl refl refl is)
+          (λ is. notes_give f had c.push_on.new.list i.to i.at i.kind i.amount is)
           c.push_on.ensures.pushed);
     }
 
@@ -61,14 +60,13 @@ returns-in-Accepts c =
     let i = c.in-Accepts in
     record {
       noted = rw i.is (on_ok c.push_on-in-Accepts.result _ _
-          (λ is. notes_accept f had (record had { gifts = c.push_on-in-Accepts.new.list }) i.from i.at i.kind i.total refl refl refl refl is)
+          (λ is. notes_accept f had c.push_on-in-Accepts.new.list i.from i.at i.kind i.total is)
           c.push_on-in-Accepts.ensures.pushed);
     }
 
 pub returns-in-Stops : goal.returns-in-Stops
 returns-in-Stops c = record {
   noted = rw c.in-Stops.is
-      (notes_stop c.args.field.0 c.args.standing.now
-      (record c.args.standing.now { txns = c.clear.new.self; held = c.clear-in-Stops.new.self })
-      c.clear.ensures.items c.clear-in-Stops.ensures.items refl refl refl);
+      (notes_stop c.args.field.0 c.args.standing.now c.clear.new.self c.clear-in-Stops.new.self c.clear.ensures.items
+      c.clear-in-Stops.ensures.items);
 }
