@@ -6,7 +6,7 @@ use Rattle.field_bounds.specs.declared.kind.Kind.{Kind}
 use Rattle.field_bounds.specs.Kind.{same_kind}
 use Rattle.field_bounds.specs.Schema.{SchemaValue}
 use Rattle.kept_records.specs.declared.record.Record.{Record}
-use Rattle.kept_records.specs.declared.record.Record.TheVariants.{Commit, Gift, Accept, Tighten, Restart, Summary}
+use Rattle.kept_records.specs.declared.record.Record.TheVariants.{Gift, Accept}
 use Rattle.kept_records.specs.Stands.{given_more, given_in, accepted_more, accepted_in, is_field, may_follow, LawfulBehind, Lawful}
 use Rattle.kept_records.proofs.Pushes.{given_none, accepted_none, given_push, accepted_push}
 
