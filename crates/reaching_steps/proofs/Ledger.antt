@@ -23,9 +23,6 @@ pub record IsFair (base : Base) (s : ℕ) (es : List Effect) : Type 0 where
   pub itself : (f : ℕ) (k : Kind) → total_given base s f k es ≡ 0
   pub within : (to f : ℕ) (k : Kind) → total_given base to f k es ≤ max_total
 
-not_counted : (b : Bool) (n : ℕ) → b ≡ false → cond b n 0 ≡ 0
-not_counted b n h = rw h refl
-
 either : (base : Base) (s : ℕ) (kept : Bool) (more es : List Effect) → IsFair base s more → IsFair base s es
     → IsFair base s (cond kept more es)
 either base s true more es m l = m
@@ -45,22 +42,21 @@ more_within base es to field f x kind k amount enough before =
           let same : total_given base to.0 field.0 kind es ≡ total_given base x f k es = cc in
           let counted : cond (eqb field.0 f && same_kind kind k && eqb to.0 x) amount 0 ≡ amount = rw on refl in
           omega (arith, counted, same, enough)
-      | inr off ↦ let none = not_counted (eqb field.0 f && same_kind kind k && eqb to.0 x) amount off in omega (arith, none, before)
+      | inr off ↦
+          let none : cond (eqb field.0 f && same_kind kind k && eqb to.0 x) amount 0 ≡ 0 = rw off refl in
+          omega (arith, none, before)
     ]
 
-not_this_site : (a b : Bool) → b ≡ false → (a && b) ≡ false
-not_this_site true b h = h
-not_this_site false b h = refl
+uncounted : (a b : Bool) (n : ℕ) → b ≡ false → cond (a && b) n 0 ≡ 0
+uncounted true b n h = rw h refl
+uncounted false b n h = refl
 
 fair_give : (base : Base) (s : ℕ) (es : List Effect) (to : SiteNo) (field : FieldNo) (kind : Kind) (amount : ℕ) → eqb to.0 s ≡ false
     → total_given base to.0 field.0 kind es + amount ≤ max_total → IsFair base s es
     → IsFair base s (Gives (Some to) field kind amount ∷ es)
 fair_give base s es to field kind amount apart enough l =
     record {
-      itself = λ f k.
-          let none = not_counted (eqb field.0 f && same_kind kind k && eqb to.0 s) amount
-          (not_this_site (eqb field.0 f && same_kind kind k) (eqb to.0 s) apart) in
-          omega (arith, none, l.itself f k);
+      itself = λ f k. omega (arith, uncounted (eqb field.0 f && same_kind kind k) (eqb to.0 s) amount apart, l.itself f k);
       within = λ x f k. more_within base es to field f x kind k amount enough (l.within x f k);
     }
 
@@ -68,10 +64,8 @@ fair_tighten : (base : Base) (s : ℕ) (es : List Effect) (field : FieldNo) (kin
     → IsFair base s (Gives None field kind amount ∷ es)
 fair_tighten base s es field kind amount l =
     record {
-      itself = λ f k. let none = not_counted (eqb field.0 f && same_kind kind k && false) amount
-          (not_this_site (eqb field.0 f && same_kind kind k) false refl) in omega (arith, none, l.itself f k);
-      within = λ x f k. let none = not_counted (eqb field.0 f && same_kind kind k && false) amount
-          (not_this_site (eqb field.0 f && same_kind kind k) false refl) in omega (arith, none, l.within x f k);
+      itself = λ f k. omega (arith, uncounted (eqb field.0 f && same_kind kind k) false amount refl, l.itself f k);
+      within = λ x f k. omega (arith, uncounted (eqb field.0 f && same_kind kind k) false amount refl, l.within x f k);
     }
 
 carried : (at : Place) (c : Command) → first (refusals at c) ≡ None → (kept : Bool) → IsFair at.base at.site at.effects

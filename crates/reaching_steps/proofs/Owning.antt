@@ -51,30 +51,23 @@ settled_fits f Raise had es tells settled is = omega (arith, is, tells.raised, t
 
 -- the rights, from what is kept of the site
 pub rights_are : (schema : SchemaValue) (s f : ℕ) (k : Kind) (had : Standing) (es : List Effect) → IsLawful schema (fresh schema s) es
-    → Tells f had es → (sites part turned gained settled gone held_ own_ free : ℕ) (gone_l gained_l : List Effect)
-    → sites ≡ schema.sites → gone_l ≡ had.gifts.items → gained_l ≡ had.gifts.items
-    → part ≡ part_of schema s f k → turned ≡ granted_sizes (λ id. is_committed id es) f (other k) es
-    → settled ≡ granted_sizes (λ id. is_committed id es) f k es
-    → gained ≡ sum_below sites (λ from. total_accepted (fresh schema s) from f k gained_l)
-    → gone ≡ gifts (λ _. true) f k gone_l → held_ ≡ held_sizes (is_of None) k had.held.items
+    → Tells f had es → (part turned gained settled gone held_ own_ free : ℕ) → part ≡ part_of schema s f k
+    → turned ≡ granted_sizes (λ id. is_committed id es) f (other k) es → settled ≡ granted_sizes (λ id. is_committed id es) f k es
+    → gained ≡ sum_below schema.sites (λ from. total_accepted (fresh schema s) from f k had.gifts.items)
+    → gone ≡ gifts (λ _. true) f k had.gifts.items → held_ ≡ held_sizes (is_of None) k had.held.items
     → own_ ≡ ((part + gained) + turned) - settled - gone → free ≡ own_ - held_
     → (own_ ≡ own_rights (fresh schema s) f k es) × (free ≡ share (fresh schema s) f k es)
-rights_are schema s f k had es lawful stands sites part turned gained settled gone held_ own_ free gone_l gained_l sites_is
-    gone_l_is gained_l_is part_is turned_is settled_is gained_is gone_is held_is own_is free_is =
+rights_are schema s f k had es lawful stands part turned gained settled gone held_ own_ free part_is turned_is settled_is gained_is gone_is held_is own_is free_is =
     let held_all : held_ ≡ held_rights f k es =
     held_is ∙ stands.held (is_of None) k
     ∙ granted-same schema (fresh schema s) (λ id. is_open id es && true) (λ id. is_open id es) f k es lawful
     (λ id there. same (is_open id es)) in
-    let gone_all : gone ≡ gifts (λ _. true) f k es =
-    gone_is ∙ ap (λ (l : List Effect). gifts (λ _. true) f k l) gone_l_is ∙ stands.given (λ _. true) k in
-    let gained_all : gained ≡ sum_below schema.sites (λ from. total_accepted (fresh schema s) from f k es) =
-    gained_is ∙ ap (λ (n : ℕ). sum_below n (λ from. total_accepted (fresh schema s) from f k gained_l)) sites_is
-    ∙ sum_below-same schema.sites (λ from. total_accepted (fresh schema s) from f k gained_l)
-    (λ from. total_accepted (fresh schema s) from f k es)
-    (λ from below. ap (λ (l : List Effect). total_accepted (fresh schema s) from f k l) gained_l_is ∙ stands.accepted schema s from k) in
+    let gone_all = stands.given (λ _. true) k in
+    let gained_all = sum_below-same schema.sites (λ from. total_accepted (fresh schema s) from f k had.gifts.items)
+    (λ from. total_accepted (fresh schema s) from f k es) (λ from below. stands.accepted schema s from k) in
     let whole = owned_is schema s es lawful f k in (
-      omega (arith, whole, held_all, gone_all, gained_all, part_is, turned_is, settled_is, own_is),
-      omega (arith, whole, held_all, gone_all, gained_all, part_is, turned_is, settled_is, own_is, free_is),
+      omega (arith, whole, held_all, gone_all, gained_all, gone_is, gained_is, part_is, turned_is, settled_is, own_is),
+      omega (arith, whole, held_all, gone_all, gained_all, gone_is, gained_is, part_is, turned_is, settled_is, own_is, free_is),
     )
   where
     same : (b : Bool) → (b && true) ≡ b

@@ -9,6 +9,7 @@ use Rattle.field_bounds.specs.declared.id.SiteNo.{SiteNo}
 use Rattle.field_bounds.specs.declared.id.FieldNo.{FieldNo}
 use Rattle.field_bounds.specs.declared.entry.Entry.{Entry}
 use Rattle.field_bounds.specs.Schema.{SchemaValue}
+use Rattle.field_bounds.specs.declared.effect.Effect.{Effect}
 use Rattle.field_bounds.specs.Limits.{IsSchema}
 use Rattle.field_bounds.specs.Parts.{sum_below, field_at}
 use Rattle.field_bounds.specs.Effects.{fresh, share, own_rights, cut, effects}
@@ -81,13 +82,16 @@ module _ (schema : SchemaValue) (good : IsSchema schema) (named f : ℕ) (named_
   abbrev pub Reached : Claim
   Reached u = (own named u ≡ mine) × (committed_value schema u f ≡ target)
 
-  moved_all : (low high : ℤ) → low ≡ ((field_at schema f).floor +ℤ pos
-      (own_rights (fresh schema named) f Lower (effects (fresh schema named) false mine)))
-      → high ≡ ((field_at schema f).ceiling -ℤ pos (own_rights (fresh schema named) f Raise (effects (fresh schema named) false mine)))
-      → low ≤ℤ target → target ≤ℤ high
+  -- what takes effect at the named site
+  abbrev pub here : List Effect
+  here = effects (fresh schema named) false mine
+
+  moved_all : ((k : Kind) → cut (fresh schema named) f k here ≡ 0)
+      → ((field_at schema f).floor +ℤ pos (cut (fresh schema named) f Lower here + own_rights (fresh schema named) f Lower here)) ≤ℤ target
+      → target ≤ℤ ((field_at schema f).ceiling -ℤ pos (cut (fresh schema named) f Raise here + own_rights (fresh schema named) f Raise here))
       → Leads schema (Passed schema named f good known mine schema.sites) Reached
       (over_sites schema.sites (λ s. moves schema named f target s ∷ []))
-  moved_all low high low_is high_is above below steps fit p =
+  moved_all uncut above below steps fit p =
       let t : List Entry = trace_by schema steps in
       let sound = sound_of schema good steps fit in
       let quiet = p.ready.quiet in
@@ -120,7 +124,7 @@ module _ (schema : SchemaValue) (good : IsSchema schema) (named f : ℕ) (named_
       (but_here named (λ s. share (fresh schema s) f k (at_site schema t s))) steps fit start)
       (λ m. (m.mine_is, none_left k all (sum_below schema.sites (F k)) target _ within m.left)) in
       by go (target -ℤ committed_value schema t f) refl
-      (omega (arith, ints, down, low_is, above, rights Lower)) (omega (arith, ints, up, high_is, below, rights Raise))
+      (omega (arith, ints, down, uncut Lower, above, rights Lower)) (omega (arith, ints, up, uncut Raise, below, rights Raise))
     where
       by : (go : (k : Kind) (all : ℕ) → target -ℤ committed_value schema (trace_by schema steps) f ≡ signed k all
           → all ≤ sum_below schema.sites (but named (λ s. share (fresh schema s) f k (at_site schema (trace_by schema steps) s)))
@@ -154,16 +158,6 @@ module _ (schema : SchemaValue) (good : IsSchema schema) (steps : List WorldStep
       let own_cut : (k : Kind) → cut (fresh schema site.0) field.0 k (at_site schema t site.0) ≡ 0 = λ k.
       omega (arith, is.calm.uncut k, term_below schema.sites (λ s. cut (fresh schema s) field.0 k (at_site schema t s)) site.0 is.site_in)
       in
-      let low_is : cut (fresh schema site.0) field.0 Lower (at_site schema t site.0) ≡ 0
-      → ((field_at schema field.0).floor +ℤ pos (cut (fresh schema site.0) field.0 Lower (at_site schema t site.0)
-      + own_rights (fresh schema site.0) field.0 Lower (at_site schema t site.0)))
-      ≡ ((field_at schema field.0).floor +ℤ pos (own_rights (fresh schema site.0) field.0 Lower (at_site schema t site.0))) =
-      λ none. omega (arith, ints, none) in
-      let high_is : cut (fresh schema site.0) field.0 Raise (at_site schema t site.0) ≡ 0
-      → ((field_at schema field.0).ceiling -ℤ pos (cut (fresh schema site.0) field.0 Raise (at_site schema t site.0)
-      + own_rights (fresh schema site.0) field.0 Raise (at_site schema t site.0)))
-      ≡ ((field_at schema field.0).ceiling -ℤ pos (own_rights (fresh schema site.0) field.0 Raise (at_site schema t site.0))) =
-      λ none. omega (arith, ints, none) in
       let plan : List WorldStep = steps_of_tasks schema steps (tasks schema site.0 field.0 target) in
       let there = same_value (committed_value schema t field.0) target in
       elim (cases_Bool there) [
@@ -191,7 +185,6 @@ module _ (schema : SchemaValue) (good : IsSchema schema) (steps : List WorldStep
             (over_sites schema.sites (λ from. over_sites schema.sites (λ to. passes_on schema site.0 field.0 from to)))
             (over_sites schema.sites (λ s. moves schema site.0 field.0 target s ∷ []))
             (all_passed schema site.0 field.0 good is.known mine)
-            (moved_all schema good site.0 field.0 is.site_in is.known mine target _ _ (low_is (own_cut Lower))
-            (high_is (own_cut Raise)) is.low is.high))
+            (moved_all schema good site.0 field.0 is.site_in is.known mine target own_cut is.low is.high))
             steps fit start)
       ]

@@ -29,15 +29,7 @@ pub record Keeps (base : Base) (f : ℕ) (o p : List Entry) : Type 0 where
 
 pub keeps_refl : (base : Base) (f : ℕ) (o : List Entry) → Keeps base f o o
 keeps_refl base f o =
-    record {
-      up = λ h. h;
-      numbers = refl;
-      opens = λ id b h. (b, h);
-      given = λ to k. refl;
-      cuts = λ k. refl;
-      accepted =
-          λ from k. omega arith;
-    }
+    record { up = λ h. h; numbers = refl; opens = λ id b h. (b, h); given = λ to k. refl; cuts = λ k. refl; accepted = λ from k. omega arith }
 
 pub keeps_trans : (base : Base) (f : ℕ) (o p q : List Entry) → Keeps base f o p → Keeps base f p q → Keeps base f o q
 keeps_trans base f o p q a b =
@@ -92,10 +84,9 @@ keeps_restate base f s to field kind total o =
     record {
       up = λ h. h;
       numbers = omega arith;
-      opens = λ j begun_txns opened. (begun_txns, opened);
+      opens = λ j b h. (b, h);
       given = λ to' k. refl;
-      cuts =
-          λ k. refl;
+      cuts = λ k. refl;
       accepted = λ from k. omega arith;
     }
 

@@ -26,9 +26,6 @@ not_below (pos a) (negsuc b) h = refl
 not_below (negsuc a) (pos b) h = absurd (omega (arith, ints, h))
 not_below (negsuc a) (negsuc b) h = le-ltb b a (omega (arith, ints, h))
 
-neither : (a b : Bool) → a ≡ false → b ≡ false → (a || b) ≡ false
-neither a b h g = rw (h, g) refl
-
 -- a fault behind others, none of which holds
 behind : (faults : List (Option ReachFault)) (last : Option ReachFault) → first_fault faults ≡ None → last ≡ None
     → first_fault (faults ++ last ∷ []) ≡ None
@@ -37,18 +34,13 @@ behind [] (Some fault) h none = none
 behind (None ∷ rest) last h none = behind rest last h none
 behind (Some fault ∷ rest) last h none = cc
 
-unfaulted : (b : Bool) (fault : ReachFault) → b ≡ false → fault_if b fault ≡ None
-unfaulted b fault h = rw h refl
-
 -- where nothing stands in the way of a value within, no fault holds
 unhindered_clear : (schema : SchemaValue) (t : List Entry) (site : SiteNo) (field : FieldNo) (target : ℤ)
     → IsUnhindered schema t site field → LiesWithin schema t site field target → reach_fault schema t site field target ≡ None
 unhindered_clear schema t site field target free within =
     let interval = interval_at (place schema site.0 (fresh schema site.0) (own site.0 t)) field in
     behind (hindrances schema t site field) (fault_if (lies_outside interval target) (Outside interval.0 interval.1)) free
-    (unfaulted (lies_outside interval target) (Outside interval.0 interval.1)
-    (neither (int_lt target interval.0) (int_lt interval.1 target) (not_below target interval.0 within.0)
-    (not_below interval.1 target within.1)))
+    (rw (not_below target interval.0 within.0, not_below interval.1 target within.1) refl)
 
 -- a fault that is told where none holds is want of memory
 memory_alone : (fault : ReachFault) (first : Option ReachFault) → Explains fault first → first ≡ None → fault ≡ NoMemory

@@ -29,11 +29,7 @@ gather P none [] each = record { all = []; count = refl; each = λ i d less. abs
 gather P none (x ∷ xs) each =
     let one = each 0 x (omega arith) in
     let later = gather (λ i. P (suc i)) none xs (λ i d less. each (suc i) d (omega (arith, less))) in
-    record {
-      all = one.0 ∷ later.all;
-      count = omega (arith, later.count);
-      each = one_more P none one.0 x xs one.1 later;
-    }
+    record { all = one.0 ∷ later.all; count = omega (arith, later.count); each = one_more P none one.0 x xs one.1 later }
 
 -- ---- all logs
 

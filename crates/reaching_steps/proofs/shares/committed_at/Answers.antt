@@ -48,7 +48,4 @@ returns c =
     let fits : SFits w64 c.value_at.result = search rules in
     let moved = rw (to_z-of_z fits, is) at c.moved_by.ensures.value in
     let out : SFits w64 c.moved_by.result = search rules in
-    record {
-      value = rw (to_z-of_z out) moved;
-      near = rw (to_z-of_z out, moved) (committed_near schema good t sound c.args.field.0);
-    }
+    record { value = rw (to_z-of_z out) moved; near = rw (to_z-of_z out, moved) (committed_near schema good t sound c.args.field.0) }
