@@ -1,5 +1,5 @@
 -- The rights of a site, from sums over what took effect there.
-use Rattle.std.proofs.Common.{◌≡◌, ℕ, zero, suc, ◌+◌, ◌-◌, ◌*◌, ◌<◌, ◌≤◌, Bool, true, false, ◌&&◌, List, [], None, refl, ◌∙◌, ap, arith}
+use Rattle.std.proofs.Common.{◌≡◌, ℕ, zero, suc, ◌+◌, ◌-◌, ◌*◌, ◌<◌, ◌≤◌, Bool, true, false, ◌&&◌, List, [], None, refl, ◌∙◌, ap, arith, add-one}
 use Rattle.std.specs.Prelude.{ℤ, pos, ◌+ℤ◌, ◌-ℤ◌, ◌≤ℤ◌, neg_ℤ}
 use Rattle.std.proofs.lemmas.Int.{ints}
 use Rattle.field_bounds.specs.declared.kind.Kind.{Kind}
@@ -129,11 +129,7 @@ module _ (schema : SchemaValue) (good : IsSchema schema) (t : List Entry) (sound
 -- one site more
 pub both_more : (F G : ℕ → ℕ) (i up down more less : ℕ) → up + sum_below i F ≡ down + sum_below i G → more + F i ≡ less + G i
     → (up + more) + sum_below (i + 1) F ≡ (down + less) + sum_below (i + 1) G
-both_more F G i up down more less was is =
-    let one : i + 1 ≡ suc i = omega arith in
-    let f : sum_below (i + 1) F ≡ sum_below i F + F i = ap (λ (n : ℕ). sum_below n F) one in
-    let g : sum_below (i + 1) G ≡ sum_below i G + G i = ap (λ (n : ℕ). sum_below n G) one in
-    omega (arith, was, is, f, g)
+both_more F G i up down more less was is = rw add-one (omega (arith, was, is))
 
 pub committed_from : (schema : SchemaValue) (good : IsSchema schema) (t : List Entry) → IsSound schema t → (f i n up down : ℕ) (value : ℤ)
     → i ≤ n → n ≤ i → n ≡ schema.sites
@@ -141,8 +137,5 @@ pub committed_from : (schema : SchemaValue) (good : IsSchema schema) (t : List E
     → value ≡ (field_at schema f).value → (value +ℤ (pos up -ℤ pos down)) ≡ committed_value schema t f
 committed_from schema good t sound f i n up down value low high all is value_is =
     let same : i ≡ schema.sites = omega (arith, low, high, all) in
-    let lower : sum_below i (settled_at schema good f Lower t) ≡ sum_below schema.sites (settled_at schema good f Lower t) =
-    ap (λ (m : ℕ). sum_below m (settled_at schema good f Lower t)) same in
-    let raise : sum_below i (settled_at schema good f Raise t) ≡ sum_below schema.sites (settled_at schema good f Raise t) =
-    ap (λ (m : ℕ). sum_below m (settled_at schema good f Raise t)) same in
-    omega (arith, ints, is, lower, raise, value_is, committed_is schema good f t sound)
+    let whole = rw same at is in
+    omega (arith, ints, whole, value_is, committed_is schema good f t sound)

@@ -63,14 +63,7 @@ module _ (schema : SchemaValue) (named f : ℕ) where
 
   telling_same : (t u : List Entry) → Leaves schema named f t u → (k : Kind) (from to : ℕ)
       → telling schema u f k from to ≡ telling schema t f k from to
-  telling_same t u leaves k from to =
-      ap (λ (n : ℕ). (let x : Statement = record {
-        from = record { 0 = from };
-        to = record { 0 = to };
-        field = record { 0 = f };
-        kind = k;
-        total = n;
-      } in x)) (given_same t u leaves k from to)
+  telling_same t u leaves k from to = rw (given_same t u leaves k from to) refl
 
   pub arrived_still : (t u : List Entry) → Leaves schema named f t u → (from to : ℕ) (k : Kind) → Arrived t from to k → Arrived u from to k
   arrived_still t u leaves from to k h = omega (arith, h, given_same t u leaves k from to, accepted_more t u leaves k from to)
@@ -191,9 +184,7 @@ module _ (schema : SchemaValue) (named f : ℕ) where
               let e = made schema t (record { 0 = to }) (Accept told) in
               let leaves = leaves_one schema named f e t w.other (keeps_accept (fresh schema to) f (record { 0 = to }) told _ (own to t)) in
               let all : given_between schema t f k from to ≤ accepted_between schema (e ∷ t) f k from to =
-              subst (λ (o : List Entry). given_between schema t f k from to
-              ≤ total_accepted (fresh schema to) from f k (effects (fresh schema to) false o)) (sym (own_here to e t refl))
-              (accepted_all (fresh schema to) told (at_site schema t to)) in
+              rw (own_here to e t refl) (accepted_all (fresh schema to) told (at_site schema t to)) in
               let q : Q (e ∷ t) = (leaves, omega (arith, all, given_same t (e ∷ t) leaves k from to)) in
               went_same (sym (ap (λ (b : Bool). cond b list []) wanted)) (went_one tt refl (subst Q (sym went) q))
           | inr unwanted ↦

@@ -12,8 +12,7 @@ pub returns : goal.returns
 returns c =
     let w : WorldValue = c.args.trial.now in
     let same = to_z-of_z c.ranges.target in
-    let good : IsSchema w.schema = subst (λ (s : SchemaValue). IsSchema s)
-    (c.schema.ensures.value ∙ ap (λ (x : WorldValue). x.schema) c.world.ensures.value) c.sites-sites.ensures.limits in
+    let good = rw (c.schema.ensures.value, c.world.ensures.value) at c.sites-sites.ensures.limits in
     let reached = rw same at c.plan.ensures.reached in
     record {
       reached = reached;
