@@ -1,7 +1,7 @@
 -- The number of the first such statement, in a list that has the oldest first.
-use Rattle.std.proofs.Common.{◌≡◌, ◌≢◌, ℕ, suc, ◌+◌, ◌<◌, Bool, true, cond, List, [], ◌∷◌, ◌++◌, take, drop, reverse, length, get_or, refl, sym, ◌∙◌, ap, arith, add-one}
+use Rattle.std.proofs.Common.{◌≡◌, ◌≢◌, ℕ, suc, ◌+◌, ◌<◌, true, List, [], ◌∷◌, ◌++◌, take, drop, reverse, length, get_or, refl, sym, ◌∙◌, ap, arith, add-one}
 use Rattle.std.proofs.Math.Seq.{take-suc}
-use Rattle.std.proofs.lemmas.Bool.{eq-eqb, ne_eqb}
+use Rattle.std.proofs.lemmas.Bool.{ne_eqb}
 use Rattle.std.proofs.lemmas.List.{reverse-append, length-reverse, length-take-le, take-append-drop}
 use Rattle.field_bounds.specs.declared.entry.Statement.{Statement}
 use Rattle.reaching_steps.specs.Reach.{same_statement, number_of}

@@ -1,23 +1,20 @@
 -- What the parts of the body leave, one after another.
 use Rattle.std.proofs.Common.{◌≡◌, ◌≢◌, ℕ, zero, suc, ◌+◌, ◌<◌, length, take, get_or, map, Bool, true, false, cond, eqb, Some, None, All, List, [], ◌∷◌, ◌++◌, refl, sym, ◌∙◌, ap, subst, arith, add-one}
 use Rattle.std.proofs.lemmas.List.{append_assoc, append-nil, map-append, map_more}
-use Rattle.std.proofs.lemmas.Bool.{ne_eqb, eqb-false, eqb-true}
-use Rattle.std.specs.Prelude.{Option, OnOk, Result, Ok, Err, ℤ, ◌-ℤ◌, unsigned_abs}
+use Rattle.std.proofs.lemmas.Bool.{eqb-false, eqb-true}
+use Rattle.std.specs.Prelude.{Option, OnOk, Result, Ok, Err, ℤ, unsigned_abs}
 use Rattle.field_bounds.specs.declared.id.SiteNo.{SiteNo}
 use Rattle.field_bounds.specs.declared.id.FieldNo.{FieldNo}
 use Rattle.field_bounds.specs.declared.id.TxnId.{TxnId}
-use Rattle.field_bounds.specs.declared.kind.Kind.TheVariants.{Lower, Raise}
 use Rattle.field_bounds.specs.declared.entry.Command.TheVariants.{Begin, Escrow, Commit}
 use Rattle.field_bounds.specs.declared.kind.Kind.{Kind}
-use Rattle.field_bounds.specs.Effects.{fresh, share}
 use Rattle.field_bounds.specs.Limits.{IsSchema}
-use Rattle.field_bounds.specs.declared.entry.Entry.{Entry}
-use Rattle.field_bounds.specs.Central.{at_site, committed_value}
+use Rattle.field_bounds.specs.Central.{committed_value}
 use Rattle.field_bounds.specs.Schema.{SchemaValue}
 use Rattle.world_steps.specs.declared.step.WorldStep.{WorldStep}
 use Rattle.world_steps.specs.World.{StepFits}
 use Rattle.world_steps.specs.View.{WorldValue, trace_of, Answers}
-use Rattle.reaching_steps.specs.Reach.{is_wanting, restates, delivers, Task, steps_of_tasks, over_sites, fine, towards, next_txn, changes_by, moves, move_tasks, aborts, passes_on, tasks, same_value, reach_fault, reach_steps}
+use Rattle.reaching_steps.specs.Reach.{is_wanting, restates, delivers, Task, steps_of_tasks, over_sites, fine, next_txn, moves, move_tasks, aborts, passes_on, tasks, same_value, reach_fault, reach_steps}
 use Rattle.reaching_steps.specs.Body.{Grew, HasReached, Does, change_of}
 use Rattle.reaching_steps.specs.Taken.{steps_of, with_steps, AreAnswered}
 use Rattle.reaching_steps.specs.declared.taken.StepTaken.{StepTaken}

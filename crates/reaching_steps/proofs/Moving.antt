@@ -1,5 +1,5 @@
 -- The other sites move the field, one after another.
-use Rattle.std.proofs.Common.{◌≡◌, ℕ, zero, suc, ◌-◌, ◌<◌, ◌≤◌, ◌≢◌, min, Bool, true, false, cond, List, [], ◌∷◌, ◌++◌, length, refl, sym, ◌∙◌, ap, subst, inl, inr, arith, None, All}
+use Rattle.std.proofs.Common.{◌≡◌, ℕ, zero, suc, ◌-◌, ◌<◌, ◌≤◌, ◌≢◌, min, true, false, List, [], ◌∷◌, ◌++◌, length, refl, sym, ◌∙◌, ap, subst, inl, inr, arith, None, All}
 use Rattle.std.proofs.lemmas.Bool.{cases_eq, eq-eqb, ne_eqb}
 use Rattle.std.proofs.lemmas.Int.{ints}
 use Rattle.std.proofs.lemmas.List.Elements.{All-append}
@@ -22,7 +22,7 @@ use Rattle.field_bounds.specs.Central.{own, at_site, committed_value, IsSound}
 use Rattle.field_bounds.proofs.Traces.{own_here, own_there}
 use Rattle.world_steps.specs.declared.step.WorldStep.{WorldStep}
 use Rattle.world_steps.specs.World.{StepFits, trace_by}
-use Rattle.reaching_steps.specs.Reach.{fine, towards, next_txn, changes_by, moves, over_sites}
+use Rattle.reaching_steps.specs.Reach.{fine, towards, next_txn, moves, over_sites}
 use Rattle.reaching_steps.proofs.Sites.{NoneOpen}
 use Rattle.reaching_steps.proofs.Plans.{sound_of, Went, went_none, went_one, went_on, went_as, went_same, Leads, leads_task, leads_over, Claim}
 use Rattle.reaching_steps.proofs.Going.{here, made, goes_do}

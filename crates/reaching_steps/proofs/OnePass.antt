@@ -1,5 +1,5 @@
 -- The trace is read once, each entry at its site.
-use Rattle.std.proofs.Common.{◌≡◌, ◌≢◌, ℕ, ◌+◌, ◌-◌, ◌<◌, ◌≤◌, Bool, false, List, [], ◌∷◌, ◌++◌, take, drop, reverse, length, get_or, slice_set, refl, sym, ◌∙◌, ap, subst, arith, inl, inr}
+use Rattle.std.proofs.Common.{◌≡◌, ◌≢◌, ℕ, ◌+◌, ◌-◌, ◌<◌, ◌≤◌, false, List, [], ◌∷◌, ◌++◌, take, drop, reverse, length, get_or, slice_set, refl, sym, ◌∙◌, ap, subst, arith, inl, inr}
 use Rattle.std.proofs.Math.ListN.{drop_of_length-le}
 use Rattle.std.proofs.Math.Seq.{take-append_seam}
 use Rattle.std.proofs.lemmas.Bool.{cases_eq}
@@ -7,17 +7,16 @@ use Rattle.std.proofs.lemmas.List.{get_or_default, take_all, length-append, leng
 use Rattle.field_bounds.specs.declared.entry.Reply.{Reply}
 use Rattle.field_bounds.specs.declared.entry.Reply.TheVariants.{Restarted}
 use Rattle.field_bounds.specs.declared.entry.Entry.{Entry}
-use Rattle.field_bounds.specs.declared.effect.Effect.{Effect}
 use Rattle.field_bounds.specs.Schema.{SchemaValue}
-use Rattle.field_bounds.specs.Effects.{fresh, after, doubt_kept_before, effects}
-use Rattle.field_bounds.specs.Central.{own, at_site, IsSound}
+use Rattle.field_bounds.specs.Effects.{fresh, after, doubt_kept_before}
+use Rattle.field_bounds.specs.Central.{at_site, IsSound}
 use Rattle.field_bounds.proofs.Lawful.{IsLawful}
 use Rattle.field_bounds.proofs.Traces.{own_here}
 use Rattle.world_steps.specs.View.{WorldValue, trace_of}
 use Rattle.world_steps.specs.declared.step.StepReply.TheVariants.{Made}
 use Rattle.reaching_steps.specs.declared.standing.Standing.{Standing}
 use Rattle.reaching_steps.specs.Standing.{Stands}
-use Rattle.reaching_steps.specs.Told.{doubt_kept_in, ends_doubt, Reads, ReadsOwn, Puts, AllRead, AreReadIn, AllTold, Renews}
+use Rattle.reaching_steps.specs.Told.{doubt_kept_in, ends_doubt, ReadsOwn, Puts, AllRead, AreReadIn, AllTold, Renews}
 use Rattle.reaching_steps.proofs.Reading.{reads_there, reads_here, reads_on, front_at}
 use Rattle.reaching_steps.proofs.Table.{told_next, made_is}
 

@@ -9,7 +9,7 @@ use Rattle.field_bounds.specs.declared.entry.Command.TheVariants.{Restate, Accep
 use Rattle.field_bounds.specs.declared.entry.Entry.{Entry}
 use Rattle.field_bounds.specs.Schema.{SchemaValue}
 use Rattle.field_bounds.specs.Limits.{IsSchema}
-use Rattle.field_bounds.specs.Effects.{fresh, effects, cut, total_accepted}
+use Rattle.field_bounds.specs.Effects.{fresh, cut}
 use Rattle.field_bounds.specs.Owed.{is_up, count_since, is_begun_reply, max_number}
 use Rattle.field_bounds.specs.Statements.{IsIssued}
 use Rattle.field_bounds.specs.Central.{own, at_site, cuts, given_between, accepted_between, IsSound}

@@ -20,7 +20,7 @@ use Rattle.field_bounds.specs.Owed.{is_unsure}
 use Rattle.field_bounds.specs.Central.{own, at_site, IsSound}
 use Rattle.field_bounds.proofs.Lawful.{IsLawful}
 use Rattle.field_bounds.proofs.Runs.{run_is_lawful}
-use Rattle.field_bounds.proofs.Traces.{own_here, own_there, sound_front}
+use Rattle.field_bounds.proofs.Traces.{sound_front}
 use Rattle.reaching_steps.specs.declared.standing.Standing.{Standing}
 use Rattle.reaching_steps.specs.Standing.{Tells, Stands, Notes}
 use Rattle.reaching_steps.proofs.Standings.{notes_give}

@@ -3,7 +3,7 @@ use Rattle.std.proofs.Common.{◌≡◌, ◌≢◌, ℕ, zero, suc, ◌+◌, ◌
 use Rattle.std.proofs.lemmas.Bool.{or_left, or_right, eq-eqb, ne_eqb}
 use Rattle.std.specs.Prelude.{ℤ, unsigned_abs, Option}
 use Rattle.std.specs.Global.{Vec}
-use Rattle.std.proofs.lemmas.List.{drop_more, append-nil, reverse-append}
+use Rattle.std.proofs.lemmas.List.{drop_more, reverse-append}
 use Rattle.field_bounds.proofs.Lists.{filter-reverse}
 use Rattle.field_bounds.specs.declared.kind.Kind.{Kind}
 use Rattle.field_bounds.specs.declared.kind.Kind.TheVariants.{Lower, Raise}

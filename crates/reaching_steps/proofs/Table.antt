@@ -1,12 +1,10 @@
 -- The table of a trial.
-use Rattle.std.proofs.Common.{◌≡◌, ℕ, ◌<◌, ◌≤◌, Bool, true, false, List, ◌∷◌, length, get_or, slice_set, reverse, refl, sym, ◌∙◌, ap, subst, arith, inl, inr}
+use Rattle.std.proofs.Common.{◌≡◌, ℕ, ◌<◌, ◌≤◌, Bool, true, List, ◌∷◌, length, get_or, slice_set, reverse, refl, sym, ◌∙◌, ap, subst, arith, inl, inr}
 use Rattle.std.proofs.lemmas.Bool.{cases_eq}
 use Rattle.std.proofs.lemmas.List.{length-reverse, length-set, get_or-set_same, get_or-set_other}
 use Rattle.field_bounds.specs.declared.entry.Entry.{Entry}
-use Rattle.field_bounds.specs.declared.effect.Effect.{Effect}
 use Rattle.field_bounds.specs.Schema.{SchemaValue}
-use Rattle.field_bounds.specs.Effects.{fresh, effects}
-use Rattle.field_bounds.specs.Central.{own, at_site}
+use Rattle.field_bounds.specs.Central.{at_site}
 use Rattle.field_bounds.proofs.Traces.{own_there}
 use Rattle.world_steps.specs.View.{WorldValue, trace_of}
 use Rattle.kept_state.specs.Luck.{Lucky, entries}

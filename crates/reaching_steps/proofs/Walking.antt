@@ -1,5 +1,5 @@
 -- A walk over effects from the newest on.
-use Rattle.std.proofs.Common.{◌≡◌, ℕ, suc, ◌+◌, ◌<◌, ◌≤◌, Bool, List, ◌∷◌, drop, length, get_or, ◌∙◌, ap, arith, add-one}
+use Rattle.std.proofs.Common.{◌≡◌, ℕ, ◌+◌, ◌<◌, ◌≤◌, Bool, List, ◌∷◌, drop, length, get_or, ◌∙◌, ap, arith, add-one}
 use Rattle.std.specs.Prelude.{Option}
 use Rattle.std.proofs.lemmas.List.{drop_more}
 use Rattle.field_bounds.specs.declared.kind.Kind.{Kind}

@@ -1,4 +1,4 @@
-use Rattle.std.proofs.Common.{rules, refl}
+use Rattle.std.proofs.Common.{rules}
 use Rattle.std.specs.Prelude.{◌≤◌, unsigned_abs, OnOk}
 use Rattle.field_bounds.specs.Kind.{kind_of}
 use Rattle.reaching_steps.specs.Standing.{Grows}

@@ -1,7 +1,4 @@
-use Rattle.std.proofs.Common.{◌∙◌, ap, subst}
 use Rattle.std.proofs.Math.Facts.{to_z-of_z}
-use Rattle.field_bounds.specs.Schema.{SchemaValue}
-use Rattle.field_bounds.specs.Limits.{IsSchema}
 use Rattle.world_steps.specs.View.{WorldValue}
 use Rattle.reaching_steps.specs.Taken.{steps_of}
 use Rattle.reaching_steps.proofs.Firsts.{if_ok}
