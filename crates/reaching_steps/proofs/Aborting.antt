@@ -7,7 +7,7 @@ use Rattle.field_bounds.specs.declared.entry.Command.TheVariants.{Abort}
 use Rattle.field_bounds.specs.declared.entry.Entry.{Entry}
 use Rattle.field_bounds.specs.Schema.{SchemaValue}
 use Rattle.field_bounds.specs.declared.effect.Effect.{Effect}
-use Rattle.field_bounds.specs.declared.effect.Effect.TheVariants.{Begins, Grants, Commits, Aborts, Gives, Accepts, Stops}
+use Rattle.field_bounds.specs.declared.effect.Effect.TheVariants.{Begins, Aborts}
 use Rattle.field_bounds.specs.Effects.{Base, fresh, same_txn, is_begun, is_open, begun_txns, open_txns, effects}
 use Rattle.field_bounds.specs.Owed.{is_up}
 use Rattle.field_bounds.specs.Central.{own, at_site}
@@ -55,12 +55,7 @@ open_among p (Begins txn ∷ es) j h g =
       | inl same ↦ here_kept (p txn) (same_txn txn j) (among j (filter p (begun_txns es))) (ap p (same_txn-true txn j same) ∙ g) same
       | inr before ↦ there_kept (p txn && same_txn txn j) (among j (filter p (begun_txns es))) (open_among p es j before g)
     ]
-open_among p (Grants txn field change ∷ es) j h g = open_among p es j h g
-open_among p (Commits txn ∷ es) j h g = open_among p es j h g
-open_among p (Aborts txn ∷ es) j h g = open_among p es j h g
-open_among p (Gives to field kind amount ∷ es) j h g = open_among p es j h g
-open_among p (Accepts from field kind total ∷ es) j h g = open_among p es j h g
-open_among p (Stops ∷ es) j h g = open_among p es j h g
+open_among p (e ∷ es) j h g = open_among p es j h g
 
 -- what stands among the begun was begun
 only_case : (b s rest was : Bool) → ((b && s) || rest) ≡ true → (rest ≡ true → was ≡ true) → (s || was) ≡ true
@@ -73,12 +68,7 @@ among_begun p [] j h = cc
 among_begun p (Begins txn ∷ es) j h =
     only_case (p txn) (same_txn txn j) (among j (filter p (begun_txns es))) (is_begun j es)
     (sym (among_case (p txn) j txn (filter p (begun_txns es))) ∙ h) (among_begun p es j)
-among_begun p (Grants txn field change ∷ es) j h = among_begun p es j h
-among_begun p (Commits txn ∷ es) j h = among_begun p es j h
-among_begun p (Aborts txn ∷ es) j h = among_begun p es j h
-among_begun p (Gives to field kind amount ∷ es) j h = among_begun p es j h
-among_begun p (Accepts from field kind total ∷ es) j h = among_begun p es j h
-among_begun p (Stops ∷ es) j h = among_begun p es j h
+among_begun p (e ∷ es) j h = among_begun p es j h
 
 not_among : (p : TxnId → Bool) (es : List Effect) (j : TxnId) → is_begun j es ≡ false → among j (filter p (begun_txns es)) ≡ false
 not_among p es j new =
@@ -97,12 +87,7 @@ pub begun_apart : (schema : SchemaValue) (base : Base) (p : TxnId → Bool) (es 
 begun_apart schema base p [] lawful = tt
 begun_apart schema base p (Begins txn ∷ es) lawful =
     apart_case (p txn) txn (filter p (begun_txns es)) (not_among p es txn lawful.1) (begun_apart schema base p es lawful.0)
-begun_apart schema base p (Grants txn field change ∷ es) lawful = begun_apart schema base p es lawful.0
-begun_apart schema base p (Commits txn ∷ es) lawful = begun_apart schema base p es lawful.0
-begun_apart schema base p (Aborts txn ∷ es) lawful = begun_apart schema base p es lawful.0
-begun_apart schema base p (Gives to field kind amount ∷ es) lawful = begun_apart schema base p es lawful.0
-begun_apart schema base p (Accepts from field kind total ∷ es) lawful = begun_apart schema base p es lawful.0
-begun_apart schema base p (Stops ∷ es) lawful = begun_apart schema base p es lawful.0
+begun_apart schema base p (e ∷ es) lawful = begun_apart schema base p es lawful.0
 
 open_case : (all : List Effect) (b : Bool) (id : TxnId) (ids : List TxnId) → (b ≡ true → (is_begun id all ≡ true) × (is_open id all ≡ true))
     → AreOpen ids all → AreOpen (cond b (id ∷ ids) ids) all
@@ -116,12 +101,7 @@ opened_of all (Begins txn ∷ es) h =
     let first : is_begun txn (Begins txn ∷ es) ≡ true = rw (same_txn-refl txn) refl in
     open_case all (is_open txn all) txn (filter (λ id. is_open id all) (begun_txns es)) (λ opened. (h txn first, opened))
     (opened_of all es (λ id was. h id (or_right (same_txn txn id) (is_begun id es) was)))
-opened_of all (Grants txn field change ∷ es) h = opened_of all es h
-opened_of all (Commits txn ∷ es) h = opened_of all es h
-opened_of all (Aborts txn ∷ es) h = opened_of all es h
-opened_of all (Gives to field kind amount ∷ es) h = opened_of all es h
-opened_of all (Accepts from field kind total ∷ es) h = opened_of all es h
-opened_of all (Stops ∷ es) h = opened_of all es h
+opened_of all (e ∷ es) h = opened_of all es h
 
 pub open_txns_open : (es : List Effect) → AreOpen (open_txns es) es
 open_txns_open es = opened_of es es (λ id h. h)
@@ -172,7 +152,7 @@ module _ (schema : SchemaValue) (named f : ℕ) where
       → AreApart ids → AreOpen ids (at_site schema (trace_by schema steps) s)
       → Went schema steps (map (λ id. fine s (Abort id)) (reverse ids)) (λ u. Aborted s ids (trace_by schema steps) u)
   abort_each steps s [] fit below apart up distinct opened =
-      went_none schema steps (λ u. Aborted s [] (trace_by schema steps) u)
+      went_none
       (record { leaves = leaves_refl schema named f (trace_by schema steps); shut = λ j h. cc; spared = λ j h. refl; begun_as = λ j. refl })
   abort_each steps s (id ∷ ids) fit below apart up distinct opened =
       let t = trace_by schema steps in
@@ -180,16 +160,15 @@ module _ (schema : SchemaValue) (named f : ℕ) where
       let before = map step (reverse ids) in
       let same : before ++ step id ∷ [] ≡ map step (reverse (id ∷ ids)) =
       sym (ap (map step) (reverse-append (id ∷ []) ids) ∙ map-append step (reverse ids) (id ∷ [])) in
-      went_same schema steps (before ++ step id ∷ []) (map step (reverse (id ∷ ids))) (λ u. Aborted s (id ∷ ids) t u) same
-      (went_on schema steps before (step id ∷ []) (λ u. Aborted s ids t u) (λ u. Aborted s (id ∷ ids) t u) fit
-      (abort_each steps s ids fit below apart up distinct.1 opened.1)
+      went_same same
+      (went_on fit (abort_each steps s ids fit below apart up distinct.1 opened.1)
       (λ fits did.
       let u = trace_by schema (steps ++ before) in
       let up_now = (did.leaves.sites s).up up in
       let begun_now = did.begun_as id ∙ opened.0.0 in
       let open_now = did.spared id distinct.0 ∙ opened.0.1 in
       let went = goes_do schema (steps ++ before) s (Abort id) refl (abort_goes (here schema u s) up_now id begun_now open_now) in
-      went_one schema (steps ++ before) (step id) (λ v. Aborted s (id ∷ ids) t v) (below, refl) refl
+      went_one (below, refl) refl
       (subst (λ (v : List Entry). Aborted s (id ∷ ids) t v) (sym went) (aborted_more s id ids t u apart did))))
 
   -- all that are open, as the task has it
@@ -202,10 +181,9 @@ module _ (schema : SchemaValue) (named f : ℕ) where
       let t = trace_by schema steps in
       let es = at_site schema t s in
       let ids = open_txns es in
-      let list = map (λ id. fine s (Abort id)) (reverse ids) in
-      let is : list ≡ aborts schema named s t = rw (ne_eqb s named apart) refl in
-      went_same schema steps list (aborts schema named s t) _ is
-      (went_as schema steps list (λ u. Aborted s ids t u) (λ u. Leaves schema named f t u × NoneOpen (at_site schema u s))
+      let is : map (λ id. fine s (Abort id)) (reverse ids) ≡ aborts schema named s t = rw (ne_eqb s named apart) refl in
+      went_same is
+      (went_as
       (abort_each steps s ids fit below apart up (begun_apart schema (fresh schema s) (λ id. is_open id es) es lawful) (open_txns_open es))
       (λ did. (
         did.leaves,

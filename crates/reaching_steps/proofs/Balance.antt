@@ -1,20 +1,18 @@
 -- Where nothing is open at the other sites and nothing is in flight, what lies between the committed value and an end of
 -- the named site's interval is what the other sites have free.
-use Rattle.std.proofs.Common.{◌≡◌, ℕ, zero, suc, ◌+◌, ◌-◌, ◌<◌, ◌≤◌, ◌≢◌, Bool, true, false, ◌&&◌, cond, List, [], ◌∷◌, refl, sym, ◌∙◌, ap, inl, inr, arith, eqb}
+use Rattle.std.proofs.Common.{◌≡◌, ℕ, zero, suc, ◌+◌, ◌-◌, ◌<◌, ◌≤◌, ◌≢◌, Bool, false, cond, List, [], ◌∷◌, refl, sym, ◌∙◌, ap, inl, inr, arith, eqb}
 use Rattle.std.proofs.lemmas.Bool.{cases_eq, eq-eqb, ne_eqb}
 use Rattle.std.proofs.lemmas.Int.{ints}
-use Rattle.std.specs.Prelude.{pos, ◌+ℤ◌, ◌-ℤ◌, ◌≤ℤ◌, neg_ℤ, unsigned_abs, slice_index_or}
+use Rattle.std.specs.Prelude.{pos, ◌+ℤ◌, ◌-ℤ◌, ◌≤ℤ◌, neg_ℤ, slice_index_or}
 use Rattle.std.specs.List.{AllByRecursion}
 use Rattle.field_bounds.specs.declared.kind.Kind.{Kind}
 use Rattle.field_bounds.specs.declared.kind.Kind.TheVariants.{Lower, Raise}
 use Rattle.field_bounds.specs.declared.entry.Entry.{Entry}
-use Rattle.field_bounds.specs.Kind.{kind_of, same_kind}
 use Rattle.field_bounds.specs.Schema.{FieldValue, SchemaValue}
 use Rattle.field_bounds.specs.Limits.{IsField, IsSchema, max_quantity}
 use Rattle.field_bounds.specs.Parts.{no_field, field_at, sum_below}
 use Rattle.field_bounds.specs.declared.effect.Effect.{Effect}
-use Rattle.field_bounds.specs.declared.effect.Effect.TheVariants.{Begins, Grants, Commits, Aborts, Gives, Accepts, Stops}
-use Rattle.field_bounds.specs.Effects.{Base, is_open, granted_sizes, share, held_rights, own_rights, fresh}
+use Rattle.field_bounds.specs.Effects.{Base, is_open, share, held_rights, own_rights, fresh}
 use Rattle.field_bounds.specs.Owed.{max_change}
 use Rattle.field_bounds.specs.Central.{at_site, committed_value, cuts, shares, in_flight, is_open_in, open_sizes, given_between, accepted_between, IsSound, IsConserved}
 use Rattle.field_bounds.proofs.Sums.{sum_below-same, sum_below-zero, sum_below_bump, term_below}
@@ -23,6 +21,7 @@ use Rattle.field_bounds.proofs.Steps.{granted-same}
 use Rattle.field_bounds.proofs.Conserved.{is_conserved, traced, open_of, free_of, lawful_at}
 use Rattle.reaching_steps.proofs.Sites.{NoneOpen, open_shut}
 use Rattle.reaching_steps.proofs.Passing.{Arrived}
+use Rattle.reaching_steps.proofs.Standings.{granted_none}
 
 -- ---- sums
 
@@ -59,28 +58,10 @@ sum_but n F i below =
 
 -- ---- no right is held where nothing is open
 
-none_weigh : (on : Bool) (n : ℕ) → cond (on && false) n 0 ≡ 0
-none_weigh true n = refl
-none_weigh false n = refl
-
-granted-none : (f : ℕ) (k : Kind) (es : List Effect) → granted_sizes (λ _. false) f k es ≡ 0
-granted-none f k [] = refl
-granted-none f k (Grants txn field change ∷ es) = omega (
-  arith,
-  granted-none f k es,
-  none_weigh (eqb field.0 f && same_kind (kind_of change) k) (unsigned_abs change),
-)
-granted-none f k (Begins txn ∷ es) = granted-none f k es
-granted-none f k (Commits txn ∷ es) = granted-none f k es
-granted-none f k (Aborts txn ∷ es) = granted-none f k es
-granted-none f k (Gives to field kind amount ∷ es) = granted-none f k es
-granted-none f k (Accepts from field kind total ∷ es) = granted-none f k es
-granted-none f k (Stops ∷ es) = granted-none f k es
-
 pub none_held : (schema : SchemaValue) (base : Base) (es : List Effect) → IsLawful schema base es → NoneOpen es → (f : ℕ) (k : Kind)
     → held_rights f k es ≡ 0
 none_held schema base es lawful none f k =
-    granted-same schema base (λ id. is_open id es) (λ _. false) f k es lawful (open_shut es none) ∙ granted-none f k es
+    granted-same schema base (λ id. is_open id es) (λ _. false) f k es lawful (open_shut es none) ∙ granted_none f k es
 
 -- ---- the bounds of a field
 
@@ -99,30 +80,15 @@ module _ (schema : SchemaValue) (good : IsSchema schema) (t : List Entry) (sound
   law : IsConserved schema t
   law = is_conserved schema good t sound
 
-  -- no share is above the greatest change
+  -- what the sites have free, hold and have given up of a kind is within the greatest change, and so is each share
+  pub all_small : (k : Kind) → shares schema t f k + open_sizes schema t f k + cuts schema t f k ≤ max_change
+  all_small Lower = let near = all_near schema.fields good.each f in
+      omega (arith, ints, law.lowering f, law.raising f, near.least, near.most)
+  all_small Raise = let near = all_near schema.fields good.each f in
+      omega (arith, ints, law.lowering f, law.raising f, near.least, near.most)
+
   pub share_small : (s : ℕ) (k : Kind) → s < schema.sites → share (fresh schema s) f k (at_site schema t s) ≤ max_change
-  share_small s Lower below =
-      let near = all_near schema.fields good.each f in
-      omega (
-        arith,
-        ints,
-        law.lowering f,
-        law.raising f,
-        near.least,
-        near.most,
-        term_below schema.sites (free_of schema good t sound f Lower) s below,
-      )
-  share_small s Raise below =
-      let near = all_near schema.fields good.each f in
-      omega (
-        arith,
-        ints,
-        law.lowering f,
-        law.raising f,
-        near.least,
-        near.most,
-        term_below schema.sites (free_of schema good t sound f Raise) s below,
-      )
+  share_small s k below = omega (arith, all_small k, term_below schema.sites (free_of schema good t sound f k) s below)
 
   module _ (named : ℕ) (named_in : named < schema.sites)
       (uncut : (k : Kind) → cuts schema t f k ≡ 0)

@@ -125,13 +125,8 @@ module _ (schema : SchemaValue) (good : IsSchema schema) (f : ℕ) where
       → committed_value schema t f ≡ ((field_at schema f).value +ℤ
       (pos (sum_below schema.sites (settled_at Raise t)) -ℤ pos (sum_below schema.sites (settled_at Lower t))))
   committed_is t sound =
-      omega (
-        arith,
-        ints,
-        changes_split (is_committed_in schema t) f t,
-        traced schema good t sound (is_committed_in schema t) f Raise,
-        traced schema good t sound (is_committed_in schema t) f Lower,
-      )
+      let each = traced schema good t sound (is_committed_in schema t) f in
+      omega (arith, ints, changes_split (is_committed_in schema t) f t, each Raise, each Lower)
 
   -- where one site has settled one escrow more, the committed value has moved by its change
   pub moved : (t u : List Entry) → IsSound schema t → IsSound schema u → (s : ℕ) → s < schema.sites → (change : ℤ)
@@ -145,12 +140,5 @@ module _ (schema : SchemaValue) (good : IsSchema schema) (f : ℕ) where
       (takes f k (record { field = record { 0 = f }; change = change })) below (here k)
       (λ j apart. ap (λ (o : List Entry). (let es = effects (fresh schema j) false o in granted_sizes (λ x. is_committed x es) f k es))
       (there j apart)) in
-      omega (
-        arith,
-        ints,
-        committed_is t sound_t,
-        committed_is u sound_u,
-        bump Raise,
-        bump Lower,
-        takes_split f (record { 0 = f }) change refl,
-      )
+      let split = takes_split f (record { 0 = f }) change refl in
+      omega (arith, ints, committed_is t sound_t, committed_is u sound_u, bump Raise, bump Lower, split)

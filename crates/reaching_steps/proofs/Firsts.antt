@@ -1,5 +1,5 @@
 -- The first site of which something holds.
-use Rattle.std.proofs.Common.{ltb, ◌||◌}
+use Rattle.std.proofs.Common.{ltb, ◌||◌, add-one}
 use Rattle.std.proofs.lemmas.Bool.{or_cases, or_parts, or_left, or_right, ltb-true, ltb-false, lt-ltb}
 use Rattle.field_bounds.specs.declared.kind.Kind.{Kind}
 use Rattle.field_bounds.specs.declared.kind.Kind.TheVariants.{Lower, Raise}
@@ -11,12 +11,11 @@ use Rattle.field_bounds.specs.Central.{at_site, cuts}
 use Rattle.field_bounds.proofs.Sums.{term_below}
 use Rattle.reaching_steps.specs.Reach.{is_tightened}
 use Rattle.reaching_steps.specs.Body.{is_cut_at}
-use Rattle.std.proofs.Common.{◌≡◌, ℕ, zero, suc, ◌+◌, ◌-◌, ◌<◌, ◌≤◌, ◌⊎◌, Bool, true, false, List, ◌∷◌, refl, sym, ◌∙◌, ap, inl, inr, arith, Option, Some, None}
+use Rattle.std.proofs.Common.{◌≡◌, ℕ, zero, suc, ◌+◌, ◌-◌, ◌<◌, ◌≤◌, ◌⊎◌, Bool, true, false, List, refl, sym, ◌∙◌, ap, inl, inr, arith, Option, Some, None}
 use Rattle.std.specs.Prelude.{ℤ, IfOk, Result, Ok, Err}
 use Rattle.reaching_steps.specs.declared.fault.ReachFault.TheVariants.{Outside}
-use Rattle.field_bounds.specs.declared.id.SiteNo.{SiteNo}
 use Rattle.reaching_steps.specs.declared.fault.ReachFault.{ReachFault}
-use Rattle.reaching_steps.specs.Reach.{least, fault_at, fault_if, first_fault, lies_outside}
+use Rattle.reaching_steps.specs.Reach.{least, fault_if, lies_outside}
 
 -- of what is promised of a value, where there is one
 pub if_ok : {A E : Type 0} (r : Result A E) (P Q : A → Type 0) → ((a : A) → P a → Q a) → IfOk r P → IfOk r Q
@@ -39,14 +38,6 @@ found_is p i n below none on =
 pub none_is : (p : ℕ → Bool) (i n : ℕ) → i ≤ n → n ≤ i → least i p ≡ None → None ≡ least n p
 none_is p i n low high none = let same : n ≡ i = omega (arith, low, high) in sym (ap (λ (m : ℕ). least m p) same ∙ none)
 
-pub first_some : (F : SiteNo → ReachFault) (o : Option ℕ) (n : ℕ) (rest : List (Option ReachFault)) → o ≡ Some n
-    → Some (F (record { 0 = n })) ≡ first_fault (fault_at F o ∷ rest)
-first_some F o n rest h = rw h refl
-
-pub first_none : (F : SiteNo → ReachFault) (o : Option ℕ) (x : Option ReachFault) (rest : List (Option ReachFault)) → o ≡ None
-    → x ≡ first_fault rest → x ≡ first_fault (fault_at F o ∷ rest)
-first_none F o x rest h is = rw h is
-
 pub outside_is : (x : Option ReachFault) (lo hi low high target : ℤ) → lo ≡ low → hi ≡ high
     → x ≡ fault_if (lies_outside (lo, hi) target) (Outside lo hi) → x ≡ fault_if (lies_outside (low, high) target) (Outside low high)
 outside_is x lo hi low high target is also told =
@@ -64,25 +55,11 @@ either_some a b h = elim (or_cases (ltb 0 a) (ltb 0 b) h) [ inl l ↦ inl (ltb-t
 pub cut_found : (schema : SchemaValue) (t : List Entry) (f n s : ℕ) → n ≡ schema.sites → s < n → is_cut_at schema t f s ≡ true
     → true ≡ is_tightened schema t f
 cut_found schema t f n s all below found =
+    let more : (k : Kind) → 0 < cut_at schema t f k s → ltb 0 (cuts schema t f k) ≡ true =
+    λ k some. lt-ltb _ _ (omega (arith, some, term_below schema.sites (cut_at schema t f k) s (omega (arith, below, all)))) in
     elim (either_some (cut_at schema t f Lower s) (cut_at schema t f Raise s) found) [
-      | inl l ↦
-          let more : 0 < cuts schema t f Lower = omega (
-            arith,
-            l,
-            all,
-            below,
-            term_below schema.sites (cut_at schema t f Lower) s (omega (arith, below, all)),
-          ) in
-          sym (or_left (ltb 0 (cuts schema t f Lower)) (ltb 0 (cuts schema t f Raise)) (lt-ltb _ _ more))
-      | inr r ↦
-          let more : 0 < cuts schema t f Raise = omega (
-            arith,
-            r,
-            all,
-            below,
-            term_below schema.sites (cut_at schema t f Raise) s (omega (arith, below, all)),
-          ) in
-          sym (or_right (ltb 0 (cuts schema t f Lower)) (ltb 0 (cuts schema t f Raise)) (lt-ltb _ _ more))
+      | inl l ↦ sym (or_left (ltb 0 (cuts schema t f Lower)) (ltb 0 (cuts schema t f Raise)) (more Lower l))
+      | inr r ↦ sym (or_right (ltb 0 (cuts schema t f Lower)) (ltb 0 (cuts schema t f Raise)) (more Raise r))
     ]
 
 abbrev pub NoneCut : SchemaValue → List Entry → ℕ → ℕ → Type 0
@@ -92,17 +69,12 @@ pub none_cut_more : (schema : SchemaValue) (t : List Entry) (f i : ℕ) → is_c
     → NoneCut schema t f (i + 1)
 none_cut_more schema t f i h none =
     let parts = or_parts (ltb 0 (cut_at schema t f Lower i)) (ltb 0 (cut_at schema t f Raise i)) h in
-    let one : i + 1 ≡ suc i = omega arith in
-    let lower : sum_below (i + 1) (cut_at schema t f Lower) ≡ sum_below i (cut_at schema t f Lower) + cut_at schema t f Lower i =
-    ap (λ (n : ℕ). sum_below n (cut_at schema t f Lower)) one in
-    let raise : sum_below (i + 1) (cut_at schema t f Raise) ≡ sum_below i (cut_at schema t f Raise) + cut_at schema t f Raise i =
-    ap (λ (n : ℕ). sum_below n (cut_at schema t f Raise)) one in
-    (omega (arith, lower, none.0, ltb-false _ _ parts.0), omega (arith, raise, none.1, ltb-false _ _ parts.1))
+    rw add-one (omega (arith, none.0, ltb-false _ _ parts.0), omega (arith, none.1, ltb-false _ _ parts.1))
 
 pub never_cut : (schema : SchemaValue) (t : List Entry) (f i n : ℕ) → n ≡ schema.sites → i ≤ n → n ≤ i → NoneCut schema t f i
     → false ≡ is_tightened schema t f
 never_cut schema t f i n all low high none =
     let same : i ≡ schema.sites = omega (arith, all, low, high) in
-    let lower : cuts schema t f Lower ≡ 0 = ap (λ (m : ℕ). sum_below m (cut_at schema t f Lower)) (sym same) ∙ none.0 in
-    let raise : cuts schema t f Raise ≡ 0 = ap (λ (m : ℕ). sum_below m (cut_at schema t f Raise)) (sym same) ∙ none.1 in
-    sym (ap (λ (m : ℕ). ltb 0 m || ltb 0 (cuts schema t f Raise)) lower ∙ ap (λ (m : ℕ). false || ltb 0 m) raise)
+    let lower : cuts schema t f Lower ≡ 0 = rw same at none.0 in
+    let raise : cuts schema t f Raise ≡ 0 = rw same at none.1 in
+    rw (lower, raise) refl

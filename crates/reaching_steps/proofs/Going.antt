@@ -99,8 +99,7 @@ module _ (schema : SchemaValue) where
               | inl same ↦
                   subst (λ (j : ℕ). Keeps (fresh schema j) f (own j t) (own j (e ∷ t))) same
                   (subst (λ (o : List Entry). Keeps (fresh schema e.site.0) f (own e.site.0 t) o) (sym (own_here e.site.0 e t refl)) keeps)
-              | inr other ↦ subst (λ (o : List Entry). Keeps (fresh schema s) f (own s t) o) (sym (own_there s e t other))
-                  (keeps_refl (fresh schema s) f (own s t))
+              | inr other ↦ rw (own_there s e t other) (keeps_refl (fresh schema s) f (own s t))
             ];
         issued = λ x h. inr h;
       }

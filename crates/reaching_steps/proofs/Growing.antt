@@ -1,30 +1,25 @@
 -- What the parts of the body leave, one after another.
-use Rattle.std.proofs.Common.{◌≡◌, ◌≢◌, ℕ, zero, suc, ◌+◌, ◌<◌, length, take, get_or, map, Bool, true, false, ◌&&◌, cond, eqb, Some, None, All, List, [], ◌∷◌, ◌++◌, refl, sym, ◌∙◌, ap, subst, arith}
+use Rattle.std.proofs.Common.{◌≡◌, ◌≢◌, ℕ, zero, suc, ◌+◌, ◌<◌, length, take, get_or, map, Bool, true, false, cond, eqb, Some, None, All, List, [], ◌∷◌, ◌++◌, refl, sym, ◌∙◌, ap, subst, arith, add-one}
 use Rattle.std.proofs.lemmas.List.{append_assoc, append-nil, map-append, map_more}
-use Rattle.std.proofs.lemmas.Bool.{ne_eqb, eq-eqb, eqb-false}
-use Rattle.std.specs.Prelude.{OnOk, Result, Ok, Err, ℤ, ◌-ℤ◌, unsigned_abs}
+use Rattle.std.proofs.lemmas.Bool.{eqb-false, eqb-true}
+use Rattle.std.specs.Prelude.{Option, OnOk, Result, Ok, Err, ℤ, unsigned_abs}
 use Rattle.field_bounds.specs.declared.id.SiteNo.{SiteNo}
 use Rattle.field_bounds.specs.declared.id.FieldNo.{FieldNo}
 use Rattle.field_bounds.specs.declared.id.TxnId.{TxnId}
-use Rattle.field_bounds.specs.declared.kind.Kind.TheVariants.{Lower, Raise}
-use Rattle.field_bounds.specs.declared.entry.Command.TheVariants.{Begin, Escrow, Commit, Restate}
-use Rattle.kept_state.specs.declared.luck.Luck.TheVariants.{Fine}
-use Rattle.world_steps.specs.declared.step.WorldStep.TheVariants.{Deliver}
+use Rattle.field_bounds.specs.declared.entry.Command.TheVariants.{Begin, Escrow, Commit}
 use Rattle.field_bounds.specs.declared.kind.Kind.{Kind}
-use Rattle.field_bounds.specs.Effects.{fresh, share}
 use Rattle.field_bounds.specs.Limits.{IsSchema}
-use Rattle.field_bounds.specs.declared.entry.Entry.{Entry}
-use Rattle.field_bounds.specs.Central.{at_site, committed_value}
+use Rattle.field_bounds.specs.Central.{committed_value}
 use Rattle.field_bounds.specs.Schema.{SchemaValue}
 use Rattle.world_steps.specs.declared.step.WorldStep.{WorldStep}
-use Rattle.world_steps.specs.declared.step.StepReply.{StepReply}
-use Rattle.world_steps.specs.World.{StepFits, statements_issued}
+use Rattle.world_steps.specs.World.{StepFits}
 use Rattle.world_steps.specs.View.{WorldValue, trace_of, Answers}
-use Rattle.reaching_steps.specs.Reach.{number_of, telling, is_wanting, restates, delivers, Task, steps_of_tasks, over_sites, fine, towards, next_txn, changes_by, moves, move_tasks, aborts, passes_on, tasks, same_value, reach_fault, reach_steps}
+use Rattle.reaching_steps.specs.Reach.{is_wanting, restates, delivers, Task, steps_of_tasks, over_sites, fine, next_txn, moves, move_tasks, aborts, passes_on, tasks, same_value, reach_fault, reach_steps}
 use Rattle.reaching_steps.specs.Body.{Grew, HasReached, Does, change_of}
 use Rattle.reaching_steps.specs.Taken.{steps_of, with_steps, AreAnswered}
 use Rattle.reaching_steps.specs.declared.taken.StepTaken.{StepTaken}
 use Rattle.reaching_steps.proofs.Plans.{planned_append}
+use Rattle.reaching_steps.proofs.Moving.{change_to, none_are, three_are}
 use Rattle.reaching_steps.proofs.Reaching.{all_reached}
 
 -- ---- what was answered
@@ -59,27 +54,16 @@ answered_at w (x ∷ later) (suc i) d below h =
 
 -- ---- what grew
 
-pub grew_none : (w : WorldValue) (had : List StepTaken) → Grew w had [] w had
-grew_none w had = record { world = with_none w; added = []; taken = sym (append-nil had); steps = refl; answered = tt }
+pub grew_none : {w : WorldValue} {had : List StepTaken} → Grew w had [] w had
+grew_none {w} {had} = record { world = with_none w; added = []; taken = sym (append-nil had); steps = refl; answered = tt }
 
-pub grew_step : (w x : WorldValue) (had has : List StepTaken) (step : WorldStep) (reply : StepReply) → x ≡ with_steps w (step ∷ [])
-    → Answers reply w step x → has ≡ had ++ (record { step = step; reply = reply }) ∷ [] → Grew w had (step ∷ []) x has
-grew_step w x had has step reply world answers taken =
-    record {
-      world = world;
-      added = (record { step = step; reply = reply }) ∷ [];
-      taken = taken;
-      steps = refl;
-      answered = (subst (λ (v : WorldValue). Answers reply w step v) world answers, tt);
-    }
-
-pub grew_as : (w x : WorldValue) (had has : List StepTaken) (more others : List WorldStep) → more ≡ others → Grew w had more x has
+pub grew_as : {w x : WorldValue} {had has : List StepTaken} {more others : List WorldStep} → more ≡ others → Grew w had more x has
     → Grew w had others x has
-grew_as w x had has more others same g = subst (λ (l : List WorldStep). Grew w had l x has) same g
+grew_as {w} {x} {had} {has} same g = subst (λ (l : List WorldStep). Grew w had l x has) same g
 
-pub grew_on : (w x y : WorldValue) (had mid has : List StepTaken) (a b : List WorldStep) → Grew w had a x mid → Grew x mid b y has
+pub grew_on : {w x y : WorldValue} {had mid has : List StepTaken} {a b : List WorldStep} → Grew w had a x mid → Grew x mid b y has
     → Grew w had (a ++ b) y has
-grew_on w x y had mid has a b g h =
+grew_on {w} {had} {a} {b} g h =
     record {
       world = h.world ∙ ap (λ (v : WorldValue). with_steps v b) g.world ∙ with_both w a b;
       added = g.added ++ h.added;
@@ -92,92 +76,59 @@ grew_on w x y had mid has a b g h =
           (g.world ∙ ap (λ (l : List WorldStep). with_steps w l) (sym g.steps)) h.answered);
     }
 
-pub grew_nothing : (w : WorldValue) (had : List StepTaken) (more : List WorldStep) → more ≡ [] → Grew w had more w had
-grew_nothing w had more none = grew_as w w had had [] more (sym none) (grew_none w had)
+pub grew_nothing : {w : WorldValue} {had : List StepTaken} {more : List WorldStep} → more ≡ [] → Grew w had more w had
+grew_nothing none = grew_as (sym none) grew_none
 
 -- one more of a list, a step each
-pub grew_map : (w x y : WorldValue) (had mid has : List StepTaken) (f : TxnId → WorldStep) (ids : List TxnId) (i : ℕ) (d : TxnId)
+pub grew_map : {w x y : WorldValue} {had mid has : List StepTaken} (f : TxnId → WorldStep) (ids : List TxnId) (i : ℕ) (d : TxnId)
     → i < length ids → Grew w had (map f (take i ids)) x mid → Grew x mid (f (get_or ids i d) ∷ []) y has
     → Grew w had (map f (take (i + 1) ids)) y has
-grew_map w x y had mid has f ids i d below g h =
-    grew_as w y had has (map f (take i ids) ++ f (get_or ids i d) ∷ []) (map f (take (i + 1) ids)) (sym (map_more f ids i d below))
-    (grew_on w x y had mid has (map f (take i ids)) (f (get_or ids i d) ∷ []) g h)
-
--- one more turn of a loop over sites, told by what the turns before it left
-pub turn_is : (w x : WorldValue) (f : SchemaValue → ℕ → List Task) (i : ℕ)
-    → x ≡ with_steps w (steps_of_tasks w.schema w.steps (over_sites i (f w.schema)))
-    → steps_of_tasks w.schema w.steps (over_sites i (f w.schema)) ++ steps_of_tasks x.schema x.steps (f x.schema i)
-    ≡ steps_of_tasks w.schema w.steps (over_sites (i + 1) (f w.schema))
-turn_is w x f i world =
-    let done = steps_of_tasks w.schema w.steps (over_sites i (f w.schema)) in
-    let next : steps_of_tasks x.schema x.steps (f x.schema i) ≡ steps_of_tasks w.schema (w.steps ++ done) (f w.schema i) =
-    ap (λ (v : WorldValue). steps_of_tasks v.schema v.steps (f v.schema i)) world in
-    let longer : suc i ≡ i + 1 = omega arith in
-    ap (λ (l : List WorldStep). done ++ l) next
-    ∙ sym (planned_append w.schema w.steps (over_sites i (f w.schema)) (f w.schema i))
-    ∙ ap (λ (n : ℕ). steps_of_tasks w.schema w.steps (over_sites n (f w.schema))) longer
-
-pub grew_over : (w x y : WorldValue) (had mid has : List StepTaken) (f : SchemaValue → ℕ → List Task) (i : ℕ)
-    → Grew w had (steps_of_tasks w.schema w.steps (over_sites i (f w.schema))) x mid
-    → Grew x mid (steps_of_tasks x.schema x.steps (f x.schema i)) y has
-    → Grew w had (steps_of_tasks w.schema w.steps (over_sites (i + 1) (f w.schema))) y has
-grew_over w x y had mid has f i g h =
-    let done = steps_of_tasks w.schema w.steps (over_sites i (f w.schema)) in
-    grew_as w y had has (done ++ steps_of_tasks x.schema x.steps (f x.schema i))
-    (steps_of_tasks w.schema w.steps (over_sites (i + 1) (f w.schema))) (turn_is w x f i g.world)
-    (grew_on w x y had mid has done (steps_of_tasks x.schema x.steps (f x.schema i)) g h)
+grew_map f ids i d below g h = grew_as (sym (map_more f ids i d below)) (grew_on g h)
 
 -- one task
-pub grew_task : (w x : WorldValue) (had has : List StepTaken) (task : Task) → Grew w had (task (trace_of w)) x has
+pub grew_task : {w x : WorldValue} {had has : List StepTaken} (task : Task) → Grew w had (task (trace_of w)) x has
     → Grew w had (steps_of_tasks w.schema w.steps (task ∷ [])) x has
-grew_task w x had has task g = grew_as w x had has (task (trace_of w)) (steps_of_tasks w.schema w.steps (task ∷ []))
-    (sym (append-nil (task (trace_of w)))) g
+grew_task {w} task g = grew_as (sym (append-nil (task (trace_of w)))) g
 
--- two tasks, the second told by what the first left
-pub both_are : (w x : WorldValue) (a b : SchemaValue → List Task)
-    → x ≡ with_steps w (steps_of_tasks w.schema w.steps (a w.schema))
+-- some tasks and others, told by what the first left
+pub both_are : (w x : WorldValue) (a b : SchemaValue → List Task) → x ≡ with_steps w (steps_of_tasks w.schema w.steps (a w.schema))
     → steps_of_tasks w.schema w.steps (a w.schema) ++ steps_of_tasks x.schema x.steps (b x.schema)
     ≡ steps_of_tasks w.schema w.steps (a w.schema ++ b w.schema)
 both_are w x a b world =
     let done = steps_of_tasks w.schema w.steps (a w.schema) in
-    let next : steps_of_tasks x.schema x.steps (b x.schema) ≡ steps_of_tasks w.schema (w.steps ++ done) (b w.schema) =
-    ap (λ (v : WorldValue). steps_of_tasks v.schema v.steps (b v.schema)) world in
-    ap (λ (l : List WorldStep). done ++ l) next ∙ sym (planned_append w.schema w.steps (a w.schema) (b w.schema))
+    ap (λ (v : WorldValue). done ++ steps_of_tasks v.schema v.steps (b v.schema)) world
+    ∙ sym (planned_append w.schema w.steps (a w.schema) (b w.schema))
 
-pub grew_tasks : (w x y : WorldValue) (had mid has : List StepTaken) (a b : SchemaValue → List Task)
+pub grew_tasks : {w x y : WorldValue} {had mid has : List StepTaken} (a b : SchemaValue → List Task)
     → Grew w had (steps_of_tasks w.schema w.steps (a w.schema)) x mid → Grew x mid (steps_of_tasks x.schema x.steps (b x.schema)) y has
     → Grew w had (steps_of_tasks w.schema w.steps (a w.schema ++ b w.schema)) y has
-grew_tasks w x y had mid has a b g h =
-    let done = steps_of_tasks w.schema w.steps (a w.schema) in
-    grew_as w y had has (done ++ steps_of_tasks x.schema x.steps (b x.schema)) (steps_of_tasks w.schema w.steps (a w.schema ++ b w.schema))
-    (both_are w x a b g.world)
-    (grew_on w x y had mid has done (steps_of_tasks x.schema x.steps (b x.schema)) g h)
+grew_tasks {w} {x} a b g h = grew_as (both_are w x a b g.world) (grew_on g h)
+
+-- one more turn of a loop over sites
+pub grew_over : {w x y : WorldValue} {had mid has : List StepTaken} (f : SchemaValue → ℕ → List Task) (i : ℕ)
+    → Grew w had (steps_of_tasks w.schema w.steps (over_sites i (f w.schema))) x mid
+    → Grew x mid (steps_of_tasks x.schema x.steps (f x.schema i)) y has
+    → Grew w had (steps_of_tasks w.schema w.steps (over_sites (i + 1) (f w.schema))) y has
+grew_over f i g h = rw add-one (grew_tasks (λ schema. over_sites i (f schema)) (λ schema. f schema i) g h)
 
 -- two tasks of one place
-pub grew_both : (w x y : WorldValue) (had mid has : List StepTaken) (a b : SchemaValue → Task) → Grew w had (a w.schema (trace_of w)) x mid
+pub grew_both : {w x y : WorldValue} {had mid has : List StepTaken} (a b : SchemaValue → Task) → Grew w had (a w.schema (trace_of w)) x mid
     → Grew x mid (b x.schema (trace_of x)) y has
     → Grew w had (steps_of_tasks w.schema w.steps (a w.schema ∷ b w.schema ∷ [])) y has
-grew_both w x y had mid has a b g h =
-    grew_tasks w x y had mid has (λ s. a s ∷ []) (λ s. b s ∷ []) (grew_task w x had mid (a w.schema) g)
-    (grew_task x y mid has (b x.schema) h)
+grew_both {w} {x} a b g h = grew_tasks (λ s. a s ∷ []) (λ s. b s ∷ []) (grew_task (a w.schema) g) (grew_task (b x.schema) h)
 
 not_wanted : (b : Bool) (n : ℕ) → None ≡ cond b (Some n) None → b ≡ false
 not_wanted true n h = cc
 not_wanted false n h = refl
 
 -- nothing is passed on where nothing is wanted
-pub grew_unpassed : (w : WorldValue) (had : List StepTaken) (named f from to n : ℕ) (k : Kind)
+pub grew_unpassed : {w : WorldValue} {had : List StepTaken} (named f from to n : ℕ) (k : Kind)
     → None ≡ cond (is_wanting w.schema named f from to k (trace_of w)) (Some n) None
     → Grew w had (steps_of_tasks w.schema w.steps (restates w.schema named f from to k ∷ delivers w.schema named f from to k ∷ [])) w had
-grew_unpassed w had named f from to n k none =
+grew_unpassed {w} named f from to n k none =
     let off = not_wanted (is_wanting w.schema named f from to k (trace_of w)) n none in
-    let number = number_of (telling w.schema (trace_of w) f k from to) (statements_issued (trace_of w)) in
-    grew_both w w w had had had (λ (schema : SchemaValue). restates schema named f from to k)
-    (λ (schema : SchemaValue). delivers schema named f from to k)
-    (grew_nothing w had (restates w.schema named f from to k (trace_of w))
-    (ap (λ (b : Bool). cond (b && eqb number 0) (fine from (Restate (record { 0 = to }) (record { 0 = f }) k) ∷ []) []) off))
-    (grew_nothing w had (delivers w.schema named f from to k (trace_of w))
-    (ap (λ (b : Bool). cond b (Deliver number Fine ∷ []) []) off))
+    grew_both (λ schema. restates schema named f from to k) (λ schema. delivers schema named f from to k)
+    (grew_nothing (rw off refl)) (grew_nothing (rw off refl))
 
 pub on_ok : {A E : Type 0} (r : Result A E) (P Q : Type 0) → (P → Q) → OnOk r P → OnOk r Q
 on_ok (Ok x) P Q f h = f h
@@ -191,84 +142,57 @@ change_some z change h = by (eqb (unsigned_abs z) 0) refl h
     by true is h = cc
     by false is h = (cc, eqb-false (unsigned_abs z) 0 is)
 
-pub three_are : (w : WorldValue) (named f : ℕ) (target : ℤ) (s : ℕ) (txn : TxnId) (change : ℤ) → s ≢ named
-    → txn ≡ next_txn w.schema (trace_of w) s
-    → Some change ≡ change_of (towards (target -ℤ committed_value w.schema (trace_of w) f)
-    (share (fresh w.schema s) f Lower (at_site w.schema (trace_of w) s))
-    (share (fresh w.schema s) f Raise (at_site w.schema (trace_of w) s)))
+pub found_three : (w : WorldValue) (named f : ℕ) (target : ℤ) (s : ℕ) {txn : TxnId} {change : ℤ} {found : Option ℤ} → s ≢ named
+    → txn ≡ next_txn w.schema (trace_of w) s → found ≡ Some change → found ≡ change_of (change_to w.schema f target s (trace_of w))
     → (fine s Begin ∷ fine s (Escrow txn (record { 0 = f }) change) ∷ fine s (Commit txn) ∷ [])
     ≡ moves w.schema named f target s (trace_of w)
-three_are w named f target s txn change apart txn_is found =
-    let three : List WorldStep = fine s Begin ∷ fine s (Escrow txn (record { 0 = f }) change) ∷ fine s (Commit txn) ∷ [] in
-    let t = trace_of w in
-    let all = towards (target -ℤ committed_value w.schema t f) (share (fresh w.schema s) f Lower (at_site w.schema t s))
-    (share (fresh w.schema s) f Raise (at_site w.schema t s)) in
-    let is = change_some all change found in
-    let some : unsigned_abs change ≢ 0 = λ e. is.1 (sym (ap unsigned_abs is.0) ∙ e) in
-    let one : three ≡ changes_by s f txn change = sym (ap (λ (b : Bool). cond b [] three) (ne_eqb (unsigned_abs change) 0 some)) in
-    one
-    ∙ ap (λ (id : TxnId). changes_by s f id change) txn_is
-    ∙ ap (λ (z : ℤ). changes_by s f (next_txn w.schema t s) z) is.0
-    ∙ sym (ap (λ (b : Bool). cond b [] (changes_by s f (next_txn w.schema t s) all)) (ne_eqb s named apart))
+found_three w named f target s {change} apart txn_is found_is told =
+    let is = change_some (change_to w.schema f target s (trace_of w)) change (sym found_is ∙ told) in
+    rw txn_is (three_are w.schema named f target s (trace_of w) apart is.0 (rw is.0 is.1))
 
--- no step of a move: at the named site, and where there is nothing to change
-pub none_there : (schema : SchemaValue) (named f : ℕ) (target : ℤ) (s : ℕ) (t : List Entry) → s ≡ named
-    → moves schema named f target s t ≡ []
-none_there schema named f target s t same =
-    ap (λ (b : Bool). cond b [] (changes_by s f (next_txn schema t s)
-    (towards (target -ℤ committed_value schema t f) (share (fresh schema s) f Lower (at_site schema t s))
-    (share (fresh schema s) f Raise (at_site schema t s))))) (eq-eqb s named same)
-
-change_none : (z : ℤ) → None ≡ change_of z → eqb (unsigned_abs z) 0 ≡ true
-change_none z h = by (eqb (unsigned_abs z) 0) h
+-- no step of a move where there is nothing to change
+change_none : (z : ℤ) → None ≡ change_of z → unsigned_abs z ≡ 0
+change_none z h = by (eqb (unsigned_abs z) 0) refl h
   where
-    by : (b : Bool) → None ≡ cond b None (Some z) → b ≡ true
-    by true h = refl
-    by false h = cc
+    by : (b : Bool) → eqb (unsigned_abs z) 0 ≡ b → None ≡ cond b None (Some z) → unsigned_abs z ≡ 0
+    by true is h = eqb-true (unsigned_abs z) 0 is
+    by false is h = cc
 
-pub none_are : (schema : SchemaValue) (named f : ℕ) (target : ℤ) (s : ℕ) (t : List Entry) → s ≢ named
-    → None ≡ change_of (towards (target -ℤ committed_value schema t f) (share (fresh schema s) f Lower (at_site schema t s))
-    (share (fresh schema s) f Raise (at_site schema t s)))
-    → moves schema named f target s t ≡ []
-none_are schema named f target s t apart none =
-    let z = towards (target -ℤ committed_value schema t f) (share (fresh schema s) f Lower (at_site schema t s))
-    (share (fresh schema s) f Raise (at_site schema t s)) in
-    let id = next_txn schema t s in
-    ap (λ (b : Bool). cond b [] (changes_by s f id z)) (ne_eqb s named apart)
-    ∙ ap (λ (b : Bool). cond b [] (fine s Begin ∷ fine s (Escrow id (record { 0 = f }) z) ∷ fine s (Commit id) ∷ [])) (change_none z none)
+pub found_none : (w : WorldValue) (named f : ℕ) (target : ℤ) (s : ℕ) {found : Option ℤ} → s ≢ named → found ≡ None
+    → found ≡ change_of (change_to w.schema f target s (trace_of w)) → moves w.schema named f target s (trace_of w) ≡ []
+found_none w named f target s apart none told =
+    none_are w.schema named f target s (trace_of w) apart (change_none (change_to w.schema f target s (trace_of w)) (sym none ∙ told))
 
 -- ---- the last tasks, closed
 
 pub moves_start : (w : WorldValue) (had : List StepTaken) (named f : ℕ) (target : ℤ)
     → Grew w had (steps_of_tasks w.schema w.steps (move_tasks w.schema named f target 0)) w had
 unfolding move_tasks
-moves_start w had named f target = grew_none w had
+moves_start w had named f target = grew_none
 
-pub moves_on : (w x y : WorldValue) (had mid has : List StepTaken) (named f : ℕ) (target : ℤ) (i : ℕ)
+pub moves_on : {w x y : WorldValue} {had mid has : List StepTaken} (named f : ℕ) (target : ℤ) (i : ℕ)
     → Grew w had (steps_of_tasks w.schema w.steps (move_tasks w.schema named f target i)) x mid
     → Grew x mid (moves x.schema named f target i (trace_of x)) y has
     → Grew w had (steps_of_tasks w.schema w.steps (move_tasks w.schema named f target (i + 1))) y has
 unfolding move_tasks
-moves_on w x y had mid has named f target i g h =
-    grew_over w x y had mid has (λ (schema : SchemaValue) (s : ℕ). moves schema named f target s ∷ []) i g
-    (grew_task x y mid has (moves x.schema named f target i) h)
+moves_on {x} named f target i g h =
+    grew_over (λ schema s. moves schema named f target s ∷ []) i g (grew_task (moves x.schema named f target i) h)
 
 -- all three phases, one after another
-pub planned_all : (w x y z : WorldValue) (a b c d : List StepTaken) (named f : ℕ) (target : ℤ) (n : ℕ) → n ≡ w.schema.sites → a ≡ []
+pub planned_all : {w x y z : WorldValue} {a b c d : List StepTaken} (named f : ℕ) (target : ℤ) (n : ℕ) → n ≡ w.schema.sites → a ≡ []
     → same_value (committed_value w.schema (trace_of w) f) target ≡ false
     → Grew w a (steps_of_tasks w.schema w.steps (over_sites n (λ s. aborts w.schema named s ∷ []))) x b
     → Grew x b (steps_of_tasks x.schema x.steps (over_sites n (λ from. over_sites n (λ to. passes_on x.schema named f from to)))) y c
     → Grew y c (steps_of_tasks y.schema y.steps (move_tasks y.schema named f target n)) z d
     → HasReached w (record { 0 = named }) (record { 0 = f }) target z d
 unfolding move_tasks
-planned_all w x y z a b c d named f target n count empty there g h k =
+planned_all {w} {z} {a} {d} named f target n count empty there g h k =
     let first : ℕ → SchemaValue → List Task = λ n schema. over_sites n (λ s. aborts schema named s ∷ []) in
     let second : ℕ → SchemaValue → List Task = λ n schema. over_sites n (λ from. over_sites n (λ to. passes_on schema named f from to)) in
     let third : ℕ → SchemaValue → List Task = λ n schema. over_sites n (λ s. moves schema named f target s ∷ []) in
     let all : ℕ → List WorldStep = λ n. steps_of_tasks w.schema w.steps (first n w.schema ++ (second n w.schema ++ third n w.schema)) in
-    let grew : Grew w a (all n) z d =
-    grew_tasks w x z a b d (λ schema. first n schema) (λ schema. second n schema ++ third n schema) g
-    (grew_tasks x y z b c d (λ schema. second n schema) (λ schema. third n schema) h k) in
+    let grew : Grew w a (all n) z d = grew_tasks (first n) (λ schema. second n schema ++ third n schema) g
+    (grew_tasks (second n) (third n) h k) in
     let is : d ≡ grew.added = grew.taken ∙ ap (λ (l : List StepTaken). l ++ grew.added) empty in
     let steps : steps_of d ≡ all n = ap (λ (l : List StepTaken). steps_of l) is ∙ grew.steps in
     record {

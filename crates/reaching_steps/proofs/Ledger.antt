@@ -3,7 +3,7 @@ use Rattle.std.proofs.Common.{Some, ◌≡◌, ℕ, ◌+◌, ◌≤◌, Bool, tr
 use Rattle.std.proofs.lemmas.Bool.{cases_Bool, eqb-true, ltb-false, and_parts}
 use Rattle.field_bounds.specs.declared.kind.Kind.{Kind}
 use Rattle.field_bounds.specs.declared.entry.Command.{Command}
-use Rattle.field_bounds.specs.declared.entry.Command.TheVariants.{Begin, Escrow, Commit, Abort, Give, Restate, Spare, Tighten, Accept, Read, Share, Restart}
+use Rattle.field_bounds.specs.declared.entry.Command.TheVariants.{Begin, Escrow, Commit, Abort, Give, Spare, Tighten, Accept}
 use Rattle.field_bounds.specs.declared.entry.Reply.TheVariants.{Unsure}
 use Rattle.field_bounds.specs.declared.entry.Entry.{Entry}
 use Rattle.field_bounds.specs.Kind.{same_kind}
@@ -22,9 +22,6 @@ use Rattle.field_bounds.proofs.Doubt.{run_holds}
 pub record IsFair (base : Base) (s : ℕ) (es : List Effect) : Type 0 where
   pub itself : (f : ℕ) (k : Kind) → total_given base s f k es ≡ 0
   pub within : (to f : ℕ) (k : Kind) → total_given base to f k es ≤ max_total
-
-not_counted : (b : Bool) (n : ℕ) → b ≡ false → cond b n 0 ≡ 0
-not_counted b n h = rw h refl
 
 either : (base : Base) (s : ℕ) (kept : Bool) (more es : List Effect) → IsFair base s more → IsFair base s es
     → IsFair base s (cond kept more es)
@@ -45,22 +42,21 @@ more_within base es to field f x kind k amount enough before =
           let same : total_given base to.0 field.0 kind es ≡ total_given base x f k es = cc in
           let counted : cond (eqb field.0 f && same_kind kind k && eqb to.0 x) amount 0 ≡ amount = rw on refl in
           omega (arith, counted, same, enough)
-      | inr off ↦ let none = not_counted (eqb field.0 f && same_kind kind k && eqb to.0 x) amount off in omega (arith, none, before)
+      | inr off ↦
+          let none : cond (eqb field.0 f && same_kind kind k && eqb to.0 x) amount 0 ≡ 0 = rw off refl in
+          omega (arith, none, before)
     ]
 
-not_this_site : (a b : Bool) → b ≡ false → (a && b) ≡ false
-not_this_site true b h = h
-not_this_site false b h = refl
+uncounted : (a b : Bool) (n : ℕ) → b ≡ false → cond (a && b) n 0 ≡ 0
+uncounted true b n h = rw h refl
+uncounted false b n h = refl
 
 fair_give : (base : Base) (s : ℕ) (es : List Effect) (to : SiteNo) (field : FieldNo) (kind : Kind) (amount : ℕ) → eqb to.0 s ≡ false
     → total_given base to.0 field.0 kind es + amount ≤ max_total → IsFair base s es
     → IsFair base s (Gives (Some to) field kind amount ∷ es)
 fair_give base s es to field kind amount apart enough l =
     record {
-      itself = λ f k.
-          let none = not_counted (eqb field.0 f && same_kind kind k && eqb to.0 s) amount
-          (not_this_site (eqb field.0 f && same_kind kind k) (eqb to.0 s) apart) in
-          omega (arith, none, l.itself f k);
+      itself = λ f k. omega (arith, uncounted (eqb field.0 f && same_kind kind k) (eqb to.0 s) amount apart, l.itself f k);
       within = λ x f k. more_within base es to field f x kind k amount enough (l.within x f k);
     }
 
@@ -68,10 +64,8 @@ fair_tighten : (base : Base) (s : ℕ) (es : List Effect) (field : FieldNo) (kin
     → IsFair base s (Gives None field kind amount ∷ es)
 fair_tighten base s es field kind amount l =
     record {
-      itself = λ f k. let none = not_counted (eqb field.0 f && same_kind kind k && false) amount
-          (not_this_site (eqb field.0 f && same_kind kind k) false refl) in omega (arith, none, l.itself f k);
-      within = λ x f k. let none = not_counted (eqb field.0 f && same_kind kind k && false) amount
-          (not_this_site (eqb field.0 f && same_kind kind k) false refl) in omega (arith, none, l.within x f k);
+      itself = λ f k. omega (arith, uncounted (eqb field.0 f && same_kind kind k) false amount refl, l.itself f k);
+      within = λ x f k. omega (arith, uncounted (eqb field.0 f && same_kind kind k) false amount refl, l.within x f k);
     }
 
 carried : (at : Place) (c : Command) → first (refusals at c) ≡ None → (kept : Bool) → IsFair at.base at.site at.effects
@@ -88,7 +82,6 @@ carried at (Give to field kind amount) h kept l =
     let apart : eqb to.0 at.site ≡ false = none.1.1.1.1.1.0 in
     let made = fair_give at.base at.site at.effects to field kind amount apart (ltb-false _ _ none.1.1.1.1.1.1.0) l in
     (made, either at.base at.site kept _ _ made l)
-carried at (Restate to field kind) h kept l = (l, l)
 carried at (Spare to field kind want) h kept l =
     let none = (none_holds (refusals at (Spare to field kind want)) h).1 in
     let apart : eqb to.0 at.site ≡ false = none.1.1.1.1.1.0 in
@@ -102,9 +95,7 @@ carried at (Accept told) h kept l =
     let made : IsFair at.base at.site (Accepts told.from told.field told.kind told.total ∷ at.effects) =
     record { itself = l.itself; within = l.within } in
     (made, either at.base at.site kept _ _ made l)
-carried at (Read field) h kept l = (l, l)
-carried at (Share field) h kept l = (l, l)
-carried at Restart h kept l = (l, l)
+carried at c h kept l = (l, l)
 
 pub run_is_fair : (schema : SchemaValue) (s : ℕ) (o : List Entry) → IsRun schema s (fresh schema s) o
     → IsFair (fresh schema s) s (effects (fresh schema s) false o)

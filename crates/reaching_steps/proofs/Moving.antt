@@ -1,5 +1,5 @@
 -- The other sites move the field, one after another.
-use Rattle.std.proofs.Common.{◌≡◌, ℕ, zero, suc, ◌-◌, ◌<◌, ◌≤◌, ◌≢◌, min, Bool, true, false, cond, List, [], ◌∷◌, ◌++◌, length, refl, sym, ◌∙◌, ap, subst, inl, inr, arith, None, All}
+use Rattle.std.proofs.Common.{◌≡◌, ℕ, zero, suc, ◌-◌, ◌<◌, ◌≤◌, ◌≢◌, min, true, false, List, [], ◌∷◌, ◌++◌, length, refl, sym, ◌∙◌, ap, subst, inl, inr, arith, None, All}
 use Rattle.std.proofs.lemmas.Bool.{cases_eq, eq-eqb, ne_eqb}
 use Rattle.std.proofs.lemmas.Int.{ints}
 use Rattle.std.proofs.lemmas.List.Elements.{All-append}
@@ -22,7 +22,7 @@ use Rattle.field_bounds.specs.Central.{own, at_site, committed_value, IsSound}
 use Rattle.field_bounds.proofs.Traces.{own_here, own_there}
 use Rattle.world_steps.specs.declared.step.WorldStep.{WorldStep}
 use Rattle.world_steps.specs.World.{StepFits, trace_by}
-use Rattle.reaching_steps.specs.Reach.{fine, towards, next_txn, changes_by, moves, over_sites}
+use Rattle.reaching_steps.specs.Reach.{fine, towards, next_txn, moves, over_sites}
 use Rattle.reaching_steps.proofs.Sites.{NoneOpen}
 use Rattle.reaching_steps.proofs.Plans.{sound_of, Went, went_none, went_one, went_on, went_as, went_same, Leads, leads_task, leads_over, Claim}
 use Rattle.reaching_steps.proofs.Going.{here, made, goes_do}
@@ -63,6 +63,29 @@ less_left Raise target before d q left h small is = omega (arith, ints, h, small
 less_left Lower target before d q left h small is =
     let neg : (n : ℕ) → neg_ℤ (pos n) ≡ (pos 0 -ℤ pos n) = λ n. omega (arith, ints) in
     omega (arith, ints, h, small, is, neg d, neg q, neg left)
+
+-- ---- the steps of a site
+
+-- the change that it makes towards the target
+abbrev pub change_to : SchemaValue → ℕ → ℤ → ℕ → List Entry → ℤ
+change_to schema f target s t =
+    towards (target -ℤ committed_value schema t f) (share (fresh schema s) f Lower (at_site schema t s))
+    (share (fresh schema s) f Raise (at_site schema t s))
+
+-- none at the named site, and none where there is nothing to change
+pub none_there : (schema : SchemaValue) (named f : ℕ) (target : ℤ) (s : ℕ) (t : List Entry) → s ≡ named
+    → moves schema named f target s t ≡ []
+none_there schema named f target s t same = rw (eq-eqb s named same) refl
+
+pub none_are : (schema : SchemaValue) (named f : ℕ) (target : ℤ) (s : ℕ) (t : List Entry) → s ≢ named
+    → unsigned_abs (change_to schema f target s t) ≡ 0 → moves schema named f target s t ≡ []
+none_are schema named f target s t apart none = rw (ne_eqb s named apart, none) refl
+
+pub three_are : (schema : SchemaValue) (named f : ℕ) (target : ℤ) (s : ℕ) (t : List Entry) {change : ℤ} → s ≢ named
+    → change ≡ change_to schema f target s t → unsigned_abs change ≢ 0
+    → (fine s Begin ∷ fine s (Escrow (next_txn schema t s) (record { 0 = f }) change) ∷ fine s (Commit (next_txn schema t s)) ∷ [])
+    ≡ moves schema named f target s t
+three_are schema named f target s t {change} apart is some = rw (← is, ne_eqb s named apart, ne_eqb (unsigned_abs change) 0 some) refl
 
 -- ---- one site moves the field
 
@@ -143,13 +166,11 @@ module _ (schema : SchemaValue) (good : IsSchema schema) (named f : ℕ) (known 
             ∙ settles schema s base o run f change k)
             rest;
       } in
-      went_on schema steps (fine s Begin ∷ []) (fine s escrow ∷ fine s (Commit id) ∷ []) Any (Moved s change t) fit
-      (went_one schema steps (fine s Begin) Any (below, refl) refl tt)
-      (λ fits1 _. went_on schema steps1 (fine s escrow ∷ []) (fine s (Commit id) ∷ []) Any (Moved s change t) fits1
-      (went_one schema steps1 (fine s escrow) Any (below, refl) refl tt)
-      (λ fits2 _. went_one schema steps2 (fine s (Commit id)) (Moved s change t) (below, refl) refl
-      (let fits3 = All-append (StepFits schema) steps2 (fine s (Commit id) ∷ []) fits2
-      (went_one schema steps2 (fine s (Commit id)) Any (below, refl) refl tt).fit in
+      let last : Went schema steps2 (fine s (Commit id) ∷ []) Any = went_one (below, refl) refl tt in
+      went_on fit (went_one {step = fine s Begin} {Q = Any} (below, refl) refl tt)
+      (λ fits1 _. went_on fits1 (went_one {step = fine s escrow} {Q = Any} (below, refl) refl tt)
+      (λ fits2 _. went_one (below, refl) refl
+      (let fits3 = All-append (StepFits schema) steps2 (fine s (Commit id) ∷ []) fits2 last.fit in
       let sound3 = subst (λ (l : List Entry). IsSound schema l) went3 (sound_of schema good (steps2 ++ fine s (Commit id) ∷ []) fits3) in
       subst (λ (l : List Entry). Moved s change t l) (sym went3) (after_all sound3))))
 
@@ -207,53 +228,32 @@ module _ (schema : SchemaValue) (good : IsSchema schema) (named f : ℕ) (known 
         → Went schema steps (moves schema named f target i (trace_by schema steps)) (Moving (suc i))
     one_moves i below steps fit m =
         let t : List Entry = trace_by schema steps in
-        let list : List WorldStep = changes_by i f (next_txn schema t i)
-        (towards (target -ℤ committed_value schema t f) (share (fresh schema i) f Lower (at_site schema t i))
-        (share (fresh schema i) f Raise (at_site schema t i))) in
         elim (cases_eq i named) [
           | inl itself ↦
               let none : F i ≡ 0 = ap F itself ∙ mine_free in
-              went_same schema steps [] (moves schema named f target i t) (Moving (suc i))
-              (sym (ap (λ (b : Bool). cond b [] list) (eq-eqb i named itself)))
-              (went_none schema steps (Moving (suc i)) (stays i t m (omega (arith, none))))
+              went_same (sym (none_there schema named f target i t itself)) (went_none (stays i t m (omega (arith, none))))
           | inr apart ↦
               let free = m.free_is i (omega arith) below apart in
               let d : ℕ = all - sum_below i F in
               let q : ℕ = min d (F i) in
-              let change_is : towards (target -ℤ committed_value schema t f) (share (fresh schema i) f Lower (at_site schema t i))
-              (share (fresh schema i) f Raise (at_site schema t i)) ≡ signed k q =
-              ap (λ (z : ℤ). towards z (share (fresh schema i) f Lower (at_site schema t i))
-              (share (fresh schema i) f Raise (at_site schema t i))) m.left
-              ∙ towards_is k d (share (fresh schema i) f Lower (at_site schema t i)) (share (fresh schema i) f Raise (at_site schema t i))
+              let lower = share (fresh schema i) f Lower (at_site schema t i) in
+              let raise = share (fresh schema i) f Raise (at_site schema t i) in
+              let is : change_to schema f target i t ≡ signed k q =
+              ap (λ (z : ℤ). towards z lower raise) m.left ∙ towards_is k d lower raise
               ∙ ap (λ (n : ℕ). signed k (min d n)) (share_of_kind i t k ∙ free) in
-              let list_is : changes_by i f (next_txn schema t i) (signed k q) ≡ moves schema named f target i t =
-              ap (λ (z : ℤ). changes_by i f (next_txn schema t i) z) (sym change_is)
-              ∙ sym (ap (λ (b : Bool). cond b [] list) (ne_eqb i named apart)) in
-              went_same schema steps (changes_by i f (next_txn schema t i) (signed k q)) (moves schema named f target i t)
-              (Moving (suc i)) list_is
-              (elim (cases_eq q 0) [
+              let size = size_signed k q in
+              elim (cases_eq q 0) [
                 | inl nothing ↦
-                    let size : unsigned_abs (signed k q) ≡ 0 = size_signed k q ∙ nothing in
-                    went_same schema steps [] (changes_by i f (next_txn schema t i) (signed k q)) (Moving (suc i))
-                    (sym (ap (λ (b : Bool). cond b []
-                    (fine i Begin ∷ fine i (Escrow (next_txn schema t i) (record { 0 = f }) (signed k q))
-                    ∷ fine i (Commit (next_txn schema t i)) ∷ [])) (eq-eqb (unsigned_abs (signed k q)) 0 size)))
-                    (went_none schema steps (Moving (suc i)) (stays i t m (omega (arith, nothing))))
+                    went_same (sym (none_are schema named f target i t apart (ap unsigned_abs is ∙ size ∙ nothing)))
+                    (went_none (stays i t m (omega (arith, nothing))))
                 | inr some ↦
-                    let size = size_signed k q in
                     let more : unsigned_abs (signed k q) ≢ 0 = λ e. some (sym size ∙ e) in
-                    let kind = kind_signed k q some in
                     let enough : unsigned_abs (signed k q) ≤ share (fresh schema i) f (kind_of (signed k q)) (at_site schema t i) =
-                    subst (λ (x : Kind). unsigned_abs (signed k q) ≤ share (fresh schema i) f x (at_site schema t i)) (sym kind)
-                    (omega (arith, size, free)) in
-                    let three : List WorldStep = fine i Begin ∷ fine i (Escrow (next_txn schema t i) (record { 0 = f }) (signed k q))
-                    ∷ fine i (Commit (next_txn schema t i)) ∷ [] in
-                    went_same schema steps three (changes_by i f (next_txn schema t i) (signed k q)) (Moving (suc i))
-                    (sym (ap (λ (b : Bool). cond b [] three) (ne_eqb (unsigned_abs (signed k q)) 0 more)))
-                    (went_as schema steps three (Moved i (signed k q) t) (Moving (suc i))
-                    (moves_by steps fit i below (signed k q) (m.idle i (omega arith) below apart) more enough)
-                    (λ did. goes_on i q t (trace_by schema (steps ++ three)) apart refl m did))
-              ])
+                    rw (kind_signed k q some) (omega (arith, size, free)) in
+                    went_same (three_are schema named f target i t apart (sym is) more)
+                    (went_as (moves_by steps fit i below (signed k q) (m.idle i (omega arith) below apart) more enough)
+                    (λ did. goes_on i q t _ apart refl m did))
+              ]
         ]
 
     pub all_moved : Leads schema (Moving 0) (Moving schema.sites) (over_sites schema.sites (λ s. moves schema named f target s ∷ []))

@@ -1,8 +1,6 @@
 -- The number of the first such statement.
 use Rattle.std.proofs.Common.{◌≡◌, ℕ, suc, ◌≤◌, ◌≢◌, Bool, true, false, ◌&&◌, cond, List, [], ◌∷◌, length, refl, sym, ◌∙◌, ap, subst, inl, inr, arith, eqb, Option, Some, None}
 use Rattle.std.proofs.lemmas.Bool.{cases_Bool, cases_eq, eq-eqb, ne_eqb, eqb-true, and_parts}
-use Rattle.field_bounds.specs.declared.kind.Kind.{Kind}
-use Rattle.field_bounds.specs.declared.kind.Kind.TheVariants.{Lower, Raise}
 use Rattle.field_bounds.specs.declared.entry.Statement.{Statement}
 use Rattle.field_bounds.specs.declared.entry.Entry.{Entry}
 use Rattle.field_bounds.specs.Kind.{same_kind}
@@ -10,10 +8,7 @@ use Rattle.field_bounds.specs.Statements.{statement_of, IsIssued}
 use Rattle.field_bounds.proofs.Lawful.{same_kind-true}
 use Rattle.world_steps.specs.World.{with_statement, statements_issued, statement_at}
 use Rattle.reaching_steps.specs.Reach.{same_statement, number_of}
-
-same_kind-refl : (k : Kind) → same_kind k k ≡ true
-same_kind-refl Lower = refl
-same_kind-refl Raise = refl
+use Rattle.reaching_steps.proofs.Sites.{same_kind-refl}
 
 same_statement-refl : (x : Statement) → same_statement x x ≡ true
 same_statement-refl x =
@@ -24,6 +19,9 @@ same_statement-refl x =
       same_kind-refl x.kind,
       eq-eqb x.total x.total refl,
     ) refl
+
+abbrev copied : Statement → Statement
+copied x = record { from = record { 0 = x.from.0 }; to = record { 0 = x.to.0 }; field = record { 0 = x.field.0 }; kind = x.kind; total = x.total }
 
 same_statement-true : (x y : Statement) → same_statement x y ≡ true → x ≡ y
 same_statement-true x y h =
@@ -37,23 +35,7 @@ same_statement-true x y h =
     let field : x.field.0 ≡ y.field.0 = eqb-true _ _ c.1 in
     let kind : x.kind ≡ y.kind = same_kind-true _ _ b.1 in
     let total : x.total ≡ y.total = eqb-true _ _ a.1 in
-    let made : ◌≡◌ {A = Statement}
-    (record {
-      from = record { 0 = x.from.0 };
-      to = record { 0 = x.to.0 };
-      field = record { 0 = x.field.0 };
-      kind = x.kind;
-      total =
-          x.total;
-    })
-    (record {
-      from = record { 0 = y.from.0 };
-      to = record { 0 = y.to.0 };
-      field = record { 0 = y.field.0 };
-      kind = y.kind;
-      total =
-          y.total;
-    }) = cc in
+    let made : ◌≡◌ {A = Statement} (copied x) (copied y) = cc in
     made
 
 -- a number is at most as great as the list is long

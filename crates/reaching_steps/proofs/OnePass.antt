@@ -1,23 +1,22 @@
 -- The trace is read once, each entry at its site.
-use Rattle.std.proofs.Common.{◌≡◌, ◌≢◌, ℕ, ◌+◌, ◌-◌, ◌<◌, ◌≤◌, Bool, false, List, [], ◌∷◌, ◌++◌, take, drop, reverse, length, get_or, slice_set, refl, sym, ◌∙◌, ap, subst, arith, inl, inr}
+use Rattle.std.proofs.Common.{◌≡◌, ◌≢◌, ℕ, ◌+◌, ◌-◌, ◌<◌, ◌≤◌, false, List, [], ◌∷◌, ◌++◌, take, drop, reverse, length, get_or, slice_set, refl, sym, ◌∙◌, ap, subst, arith, inl, inr}
 use Rattle.std.proofs.Math.ListN.{drop_of_length-le}
 use Rattle.std.proofs.Math.Seq.{take-append_seam}
 use Rattle.std.proofs.lemmas.Bool.{cases_eq}
 use Rattle.std.proofs.lemmas.List.{get_or_default, take_all, length-append, length-set, get_or-set_same, get_or-set_other, get_or_push, get_or_append_left}
 use Rattle.field_bounds.specs.declared.entry.Reply.{Reply}
-use Rattle.field_bounds.specs.declared.entry.Reply.TheVariants.{Begun, Granted, Committed, Aborted, Given, Stated, Spared, Tightened, Accepted, Between, Shares, Restarted, Unsure, StillDown, Refused}
+use Rattle.field_bounds.specs.declared.entry.Reply.TheVariants.{Restarted}
 use Rattle.field_bounds.specs.declared.entry.Entry.{Entry}
-use Rattle.field_bounds.specs.declared.effect.Effect.{Effect}
 use Rattle.field_bounds.specs.Schema.{SchemaValue}
-use Rattle.field_bounds.specs.Effects.{fresh, after, doubt_kept_before, effects}
-use Rattle.field_bounds.specs.Central.{own, at_site, IsSound}
+use Rattle.field_bounds.specs.Effects.{fresh, after, doubt_kept_before}
+use Rattle.field_bounds.specs.Central.{at_site, IsSound}
 use Rattle.field_bounds.proofs.Lawful.{IsLawful}
 use Rattle.field_bounds.proofs.Traces.{own_here}
 use Rattle.world_steps.specs.View.{WorldValue, trace_of}
 use Rattle.world_steps.specs.declared.step.StepReply.TheVariants.{Made}
 use Rattle.reaching_steps.specs.declared.standing.Standing.{Standing}
 use Rattle.reaching_steps.specs.Standing.{Stands}
-use Rattle.reaching_steps.specs.Told.{doubt_kept_in, ends_doubt, Reads, ReadsOwn, Puts, AllRead, AreReadIn, AllTold, Renews}
+use Rattle.reaching_steps.specs.Told.{doubt_kept_in, ends_doubt, ReadsOwn, Puts, AllRead, AreReadIn, AllTold, Renews}
 use Rattle.reaching_steps.proofs.Reading.{reads_there, reads_here, reads_on, front_at}
 use Rattle.reaching_steps.proofs.Table.{told_next, made_is}
 
@@ -38,15 +37,10 @@ empty_more f rows more v i long is here empty =
       longer,
       λ s d below.
           elim (cases_eq s i) [
-            | inl same ↦
-                subst (λ (x : Standing). Stands f x [])
-                (sym (ap (λ (l : List Standing). get_or l s d) is
-                ∙ ap (λ (n : ℕ). get_or (rows ++ v ∷ []) n d) same
-                ∙ get_or_push rows v d i long)) here
+            | inl same ↦ rw (is, same, get_or_push rows v d i long) here
             | inr other ↦
                 let inside : s < length rows = omega (arith, below, longer, long, other) in
-                subst (λ (x : Standing). Stands f x [])
-                (sym (ap (λ (l : List Standing). get_or l s d) is ∙ get_or_append_left rows (v ∷ []) d s inside)) (empty s d inside)
+                rw (is, get_or_append_left rows (v ∷ []) d s inside) (empty s d inside)
           ],
     )
 
@@ -64,12 +58,8 @@ pub read_one : (schema : SchemaValue) (f : ℕ) (rows : List Standing) (v d : St
 read_one schema f rows v d e later inside did = λ s x below.
     elim (cases_eq e.site.0 s) [
       | inl same ↦
-          subst (λ (n : ℕ). Reads schema n f (get_or rows n x) e later (get_or (slice_set rows e.site.0 v) n x)) same
-          (subst (λ (y : Standing). Reads schema e.site.0 f (get_or rows e.site.0 x) e later y)
-          (sym (get_or-set_same rows e.site.0 v x inside))
-          (reads_here schema e.site.0 f (get_or rows e.site.0 x) v e later refl
-          (subst (λ (y : Standing). ReadsOwn schema e.site.0 f y e (doubt_kept_in e.site.0 later) v)
-          (get_or_default rows e.site.0 d x inside) did)))
+          rw (← same, get_or-set_same rows e.site.0 v x inside)
+          (reads_here schema e.site.0 f (get_or rows e.site.0 x) v e later refl (rw (get_or_default rows e.site.0 d x inside) at did))
       | inr other ↦
           reads_there schema s f (get_or rows s x) (get_or (slice_set rows e.site.0 v) s x) e later other
           (get_or-set_other rows e.site.0 s v x (λ h. other (sym h)))
@@ -95,11 +85,7 @@ read_next schema x same f trace t i e rows more below count long is sound read w
 pub front_whole : (schema : SchemaValue) (s f : ℕ) (trace t : List Entry) (i : ℕ) (had : Standing) → length trace ≤ i
     → reverse trace ≡ t → Stands f had (front_at schema s trace i) → Stands f had (at_site schema t s)
 front_whole schema s f trace t i had past is was =
-    subst (λ (l : List Effect). Stands f had l)
-    (ap (λ (l : List Entry). effects (fresh schema s) (doubt_kept_in s l) (own s (reverse (take i trace)))) (drop_of_length-le trace past)
-    ∙ ap (λ (l : List Entry). effects (fresh schema s) false (own s (reverse l))) (take_all i trace past)
-    ∙ ap (λ (l : List Entry). effects (fresh schema s) false (own s l)) is)
-    was
+    rw (drop_of_length-le trace past, take_all i trace past, is) at was
 
 pub read_whole : (schema : SchemaValue) (f : ℕ) (trace t : List Entry) (i : ℕ) (rows : List Standing) → length trace ≤ i
     → reverse trace ≡ t → AreReadIn schema f trace i rows → AllTold schema f t rows
@@ -110,21 +96,8 @@ read_whole schema f trace t i rows past is was = λ s d below.
 -- ---- a step's entry
 
 no_doubt : (r : Reply) → ends_doubt r ≡ false → doubt_kept_before false r ≡ false
-no_doubt (Begun txn) h = refl
-no_doubt Granted h = refl
-no_doubt Committed h = refl
-no_doubt Aborted h = refl
-no_doubt (Given total) h = refl
-no_doubt (Stated total) h = refl
-no_doubt (Spared amount total) h = refl
-no_doubt (Tightened total) h = refl
-no_doubt (Accepted gain) h = refl
-no_doubt (Between lo hi) h = refl
-no_doubt (Shares lower raise) h = refl
 no_doubt (Restarted epoch found) h = cc
-no_doubt Unsure h = refl
-no_doubt StillDown h = refl
-no_doubt (Refused refusal) h = refl
+no_doubt r h = refl
 
 pub renews_put : (v : WorldValue) (f : ℕ) (e : Entry) (rows more : List Standing) (x d : Standing) → e.site.0 < length rows
     → ends_doubt e.reply ≡ false → IsLawful v.schema (fresh v.schema e.site.0) (at_site v.schema (trace_of v) e.site.0)
@@ -137,20 +110,12 @@ renews_put v f e rows more x d inside calm lawful put set = λ w step is same to
     let now : trace_of v ≡ e ∷ t = made_is w v step e is in
     let before = subst (λ (y : SchemaValue). AllTold y f t rows) (sym same) told.1 in
     let es = at_site v.schema t s in
-    let next : after base false e.command e.reply es ≡ at_site v.schema (trace_of v) s =
-    ap (λ (l : List Effect). after base false e.command e.reply l)
-    (ap (λ (b : Bool). effects base b (own s t)) (sym (no_doubt e.reply calm)))
-    ∙ ap (λ (o : List Entry). effects base false o) (sym (own_here s e t refl) ∙ ap (λ (l : List Entry). own s l) (sym now)) in
-    let here : Stands f x (at_site v.schema (trace_of v) s) =
-    subst (λ (l : List Effect). Stands f x l) next
-    (put v.schema base es (subst (λ (l : List Effect). IsLawful v.schema base l) (sym next) lawful) (before s d inside)) in (
-      ap (λ (l : List Standing). length l) set ∙ length-set rows s x ∙ told.0 ∙ ap (λ (y : SchemaValue). y.sites) (sym same),
-      subst (λ (l : List Standing). AllTold v.schema f (trace_of v) l) (sym set)
-          (told_next v.schema f t (trace_of v) e rows x now here before),
-    )
+    let next : at_site v.schema (trace_of v) s ≡ after base false e.command e.reply es =
+    rw (now, own_here s e t refl, no_doubt e.reply calm) refl in
+    let here : Stands f x (at_site v.schema (trace_of v) s) = rw next (put v.schema base es (rw next at lawful) (before s d inside)) in
+    (rw (set, length-set rows s x, told.0, same) refl, rw set (told_next v.schema f t (trace_of v) e rows x now here before))
 
 pub told_back : (schema : SchemaValue) (f : ℕ) (t : List Entry) (rows all : List Standing) (n : ℕ) → length rows ≡ n
     → AllTold schema f t rows → AllTold schema f t (take n (rows ++ drop (length rows) all))
 told_back schema f t rows all n long told =
-    subst (λ (l : List Standing). AllTold schema f t l)
-    (sym (ap (λ (m : ℕ). take m (rows ++ drop (length rows) all)) (sym long) ∙ take-append_seam rows (drop (length rows) all))) told
+    rw (← long, take-append_seam rows (drop (length rows) all)) told

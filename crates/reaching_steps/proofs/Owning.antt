@@ -1,5 +1,5 @@
 -- The rights of a site, from sums over what took effect there.
-use Rattle.std.proofs.Common.{◌≡◌, ℕ, zero, suc, ◌+◌, ◌-◌, ◌*◌, ◌<◌, ◌≤◌, Bool, true, false, ◌&&◌, List, [], None, refl, ◌∙◌, ap, arith}
+use Rattle.std.proofs.Common.{◌≡◌, ℕ, zero, suc, ◌+◌, ◌-◌, ◌*◌, ◌<◌, ◌≤◌, Bool, true, false, ◌&&◌, List, [], None, refl, ◌∙◌, arith, add-one}
 use Rattle.std.specs.Prelude.{ℤ, pos, ◌+ℤ◌, ◌-ℤ◌, ◌≤ℤ◌, neg_ℤ}
 use Rattle.std.proofs.lemmas.Int.{ints}
 use Rattle.field_bounds.specs.declared.kind.Kind.{Kind}
@@ -24,9 +24,9 @@ use Rattle.field_bounds.proofs.Sums.{term_below}
 use Rattle.field_bounds.proofs.Sound.{sound_empty}
 use Rattle.field_bounds.proofs.Ledgers.{accepted_is_given}
 use Rattle.field_bounds.proofs.Headline.{within_bounds}
-use Rattle.field_bounds.proofs.Conserved.{is_conserved, traced, open_of, free_of, lawful_at}
+use Rattle.field_bounds.proofs.Conserved.{traced, open_of, free_of, lawful_at}
 use Rattle.field_bounds.specs.Central.{is_open_in}
-use Rattle.reaching_steps.proofs.Balance.{all_near, share_small}
+use Rattle.reaching_steps.proofs.Balance.{all_near, all_small, share_small}
 use Rattle.reaching_steps.proofs.Changing.{committed_is, settled_at}
 use Rattle.reaching_steps.proofs.Ledger.{run_is_fair}
 
@@ -35,12 +35,8 @@ pub owned_is : (schema : SchemaValue) (s : ℕ) (es : List Effect) → IsLawful 
     ≡ part_of schema s f k + granted_sizes (λ id. is_committed id es) f (other k) es
     + sum_below schema.sites (λ from. total_accepted (fresh schema s) from f k es)
 owned_is schema s es lawful f k =
-    omega (
-      arith,
-      balance schema (fresh schema s) es lawful f k,
-      gains_split schema (fresh schema s) es lawful f k,
-      sum_below-zero schema.sites,
-    )
+    let gains = gains_split schema (fresh schema s) es lawful f k in
+    omega (arith, balance schema (fresh schema s) es lawful f k, gains, sum_below-zero schema.sites)
 
 -- what an open transaction holds, and what is settled, fits
 pub held_fits : (f : ℕ) (had : Standing) (es : List Effect) → Tells f had es
@@ -55,30 +51,23 @@ settled_fits f Raise had es tells settled is = omega (arith, is, tells.raised, t
 
 -- the rights, from what is kept of the site
 pub rights_are : (schema : SchemaValue) (s f : ℕ) (k : Kind) (had : Standing) (es : List Effect) → IsLawful schema (fresh schema s) es
-    → Tells f had es → (sites part turned gained settled gone held_ own_ free : ℕ) (gone_l gained_l : List Effect)
-    → sites ≡ schema.sites → gone_l ≡ had.gifts.items → gained_l ≡ had.gifts.items
-    → part ≡ part_of schema s f k → turned ≡ granted_sizes (λ id. is_committed id es) f (other k) es
-    → settled ≡ granted_sizes (λ id. is_committed id es) f k es
-    → gained ≡ sum_below sites (λ from. total_accepted (fresh schema s) from f k gained_l)
-    → gone ≡ gifts (λ _. true) f k gone_l → held_ ≡ held_sizes (is_of None) k had.held.items
+    → Tells f had es → (part turned gained settled gone held_ own_ free : ℕ) → part ≡ part_of schema s f k
+    → turned ≡ granted_sizes (λ id. is_committed id es) f (other k) es → settled ≡ granted_sizes (λ id. is_committed id es) f k es
+    → gained ≡ sum_below schema.sites (λ from. total_accepted (fresh schema s) from f k had.gifts.items)
+    → gone ≡ gifts (λ _. true) f k had.gifts.items → held_ ≡ held_sizes (is_of None) k had.held.items
     → own_ ≡ ((part + gained) + turned) - settled - gone → free ≡ own_ - held_
     → (own_ ≡ own_rights (fresh schema s) f k es) × (free ≡ share (fresh schema s) f k es)
-rights_are schema s f k had es lawful stands sites part turned gained settled gone held_ own_ free gone_l gained_l sites_is
-    gone_l_is gained_l_is part_is turned_is settled_is gained_is gone_is held_is own_is free_is =
+rights_are schema s f k had es lawful stands part turned gained settled gone held_ own_ free part_is turned_is settled_is gained_is gone_is held_is own_is free_is =
     let held_all : held_ ≡ held_rights f k es =
     held_is ∙ stands.held (is_of None) k
     ∙ granted-same schema (fresh schema s) (λ id. is_open id es && true) (λ id. is_open id es) f k es lawful
     (λ id there. same (is_open id es)) in
-    let gone_all : gone ≡ gifts (λ _. true) f k es =
-    gone_is ∙ ap (λ (l : List Effect). gifts (λ _. true) f k l) gone_l_is ∙ stands.given (λ _. true) k in
-    let gained_all : gained ≡ sum_below schema.sites (λ from. total_accepted (fresh schema s) from f k es) =
-    gained_is ∙ ap (λ (n : ℕ). sum_below n (λ from. total_accepted (fresh schema s) from f k gained_l)) sites_is
-    ∙ sum_below-same schema.sites (λ from. total_accepted (fresh schema s) from f k gained_l)
-    (λ from. total_accepted (fresh schema s) from f k es)
-    (λ from below. ap (λ (l : List Effect). total_accepted (fresh schema s) from f k l) gained_l_is ∙ stands.accepted schema s from k) in
+    let gone_all = stands.given (λ _. true) k in
+    let gained_all = sum_below-same schema.sites (λ from. total_accepted (fresh schema s) from f k had.gifts.items)
+    (λ from. total_accepted (fresh schema s) from f k es) (λ from below. stands.accepted schema s from k) in
     let whole = owned_is schema s es lawful f k in (
-      omega (arith, whole, held_all, gone_all, gained_all, part_is, turned_is, settled_is, own_is),
-      omega (arith, whole, held_all, gone_all, gained_all, part_is, turned_is, settled_is, own_is, free_is),
+      omega (arith, whole, held_all, gone_all, gained_all, gone_is, gained_is, part_is, turned_is, settled_is, own_is),
+      omega (arith, whole, held_all, gone_all, gained_all, gone_is, gained_is, part_is, turned_is, settled_is, own_is, free_is),
     )
   where
     same : (b : Bool) → (b && true) ≡ b
@@ -95,97 +84,20 @@ pub given_small : (schema : SchemaValue) (t : List Entry) → IsSound schema t �
 given_small schema t sound from to f k below = (run_is_fair schema from (own from t) (sound.runs from below)).within to f k
 
 module _ (schema : SchemaValue) (good : IsSchema schema) (t : List Entry) (sound : IsSound schema t) where
-  -- the own rights of a site are within the greatest change
-  pub own_small : (s : ℕ) (f : ℕ) (k : Kind) → s < schema.sites → own_rights (fresh schema s) f k (at_site schema t s) ≤ max_change
-  own_small s f Lower below =
-      let law = is_conserved schema good t sound in
-      let near = all_near schema.fields good.each f in
-      omega (
-        arith,
-        ints,
-        law.lowering f,
-        law.raising f,
-        near.least,
-        near.most,
-        term_below schema.sites (free_of schema good t sound f Lower) s below,
-        term_below schema.sites (open_of schema good t sound f Lower) s below,
-        traced schema good t sound (is_open_in schema t) f Lower,
-      )
-  own_small s f Raise below =
-      let law = is_conserved schema good t sound in
-      let near = all_near schema.fields good.each f in
-      omega (
-        arith,
-        ints,
-        law.lowering f,
-        law.raising f,
-        near.least,
-        near.most,
-        term_below schema.sites (free_of schema good t sound f Raise) s below,
-        term_below schema.sites (open_of schema good t sound f Raise) s below,
-        traced schema good t sound (is_open_in schema t) f Raise,
-      )
-
-  -- and so is what it has given up for good
-  pub cut_small : (s : ℕ) (f : ℕ) (k : Kind) → s < schema.sites → cut (fresh schema s) f k (at_site schema t s) ≤ max_change
-  cut_small s f Lower below =
-      let law = is_conserved schema good t sound in
-      let near = all_near schema.fields good.each f in
-      omega (
-        arith,
-        ints,
-        law.lowering f,
-        law.raising f,
-        near.least,
-        near.most,
-        term_below schema.sites (λ j. cut (fresh schema j) f Lower (at_site schema t j)) s below,
-      )
-  cut_small s f Raise below =
-      let law = is_conserved schema good t sound in
-      let near = all_near schema.fields good.each f in
-      omega (
-        arith,
-        ints,
-        law.lowering f,
-        law.raising f,
-        near.least,
-        near.most,
-        term_below schema.sites (λ j. cut (fresh schema j) f Raise (at_site schema t j)) s below,
-      )
-
-  -- and so are both together
+  -- the own rights of a site and what it has given up for good are within the greatest change
   pub guarded_small : (s : ℕ) (f : ℕ) (k : Kind) → s < schema.sites
       → cut (fresh schema s) f k (at_site schema t s) + own_rights (fresh schema s) f k (at_site schema t s) ≤ max_change
-  guarded_small s f Lower below =
-      let law = is_conserved schema good t sound in
-      let near = all_near schema.fields good.each f in
-      omega (
-        arith,
-        ints,
-        law.lowering f,
-        law.raising f,
-        near.least,
-        near.most,
-        term_below schema.sites (free_of schema good t sound f Lower) s below,
-        term_below schema.sites (open_of schema good t sound f Lower) s below,
-        term_below schema.sites (λ j. cut (fresh schema j) f Lower (at_site schema t j)) s below,
-        traced schema good t sound (is_open_in schema t) f Lower,
-      )
-  guarded_small s f Raise below =
-      let law = is_conserved schema good t sound in
-      let near = all_near schema.fields good.each f in
-      omega (
-        arith,
-        ints,
-        law.lowering f,
-        law.raising f,
-        near.least,
-        near.most,
-        term_below schema.sites (free_of schema good t sound f Raise) s below,
-        term_below schema.sites (open_of schema good t sound f Raise) s below,
-        term_below schema.sites (λ j. cut (fresh schema j) f Raise (at_site schema t j)) s below,
-        traced schema good t sound (is_open_in schema t) f Raise,
-      )
+  guarded_small s f k below =
+      let free = term_below schema.sites (free_of schema good t sound f k) s below in
+      let opened = term_below schema.sites (open_of schema good t sound f k) s below in
+      let gone = term_below schema.sites (λ j. cut (fresh schema j) f k (at_site schema t j)) s below in
+      omega (arith, all_small schema good t sound f k, free, opened, gone, traced schema good t sound (is_open_in schema t) f k)
+
+  pub own_small : (s : ℕ) (f : ℕ) (k : Kind) → s < schema.sites → own_rights (fresh schema s) f k (at_site schema t s) ≤ max_change
+  own_small s f k below = omega (arith, guarded_small s f k below)
+
+  pub cut_small : (s : ℕ) (f : ℕ) (k : Kind) → s < schema.sites → cut (fresh schema s) f k (at_site schema t s) ≤ max_change
+  cut_small s f k below = omega (arith, guarded_small s f k below)
 
   -- what is settled of one kind and of the other at a site is not far apart
   pub settled_near : (s f : ℕ) → s < schema.sites
@@ -217,11 +129,7 @@ module _ (schema : SchemaValue) (good : IsSchema schema) (t : List Entry) (sound
 -- one site more
 pub both_more : (F G : ℕ → ℕ) (i up down more less : ℕ) → up + sum_below i F ≡ down + sum_below i G → more + F i ≡ less + G i
     → (up + more) + sum_below (i + 1) F ≡ (down + less) + sum_below (i + 1) G
-both_more F G i up down more less was is =
-    let one : i + 1 ≡ suc i = omega arith in
-    let f : sum_below (i + 1) F ≡ sum_below i F + F i = ap (λ (n : ℕ). sum_below n F) one in
-    let g : sum_below (i + 1) G ≡ sum_below i G + G i = ap (λ (n : ℕ). sum_below n G) one in
-    omega (arith, was, is, f, g)
+both_more F G i up down more less was is = rw add-one (omega (arith, was, is))
 
 pub committed_from : (schema : SchemaValue) (good : IsSchema schema) (t : List Entry) → IsSound schema t → (f i n up down : ℕ) (value : ℤ)
     → i ≤ n → n ≤ i → n ≡ schema.sites
@@ -229,8 +137,5 @@ pub committed_from : (schema : SchemaValue) (good : IsSchema schema) (t : List E
     → value ≡ (field_at schema f).value → (value +ℤ (pos up -ℤ pos down)) ≡ committed_value schema t f
 committed_from schema good t sound f i n up down value low high all is value_is =
     let same : i ≡ schema.sites = omega (arith, low, high, all) in
-    let lower : sum_below i (settled_at schema good f Lower t) ≡ sum_below schema.sites (settled_at schema good f Lower t) =
-    ap (λ (m : ℕ). sum_below m (settled_at schema good f Lower t)) same in
-    let raise : sum_below i (settled_at schema good f Raise t) ≡ sum_below schema.sites (settled_at schema good f Raise t) =
-    ap (λ (m : ℕ). sum_below m (settled_at schema good f Raise t)) same in
-    omega (arith, ints, is, lower, raise, value_is, committed_is schema good f t sound)
+    let whole = rw same at is in
+    omega (arith, ints, whole, value_is, committed_is schema good f t sound)

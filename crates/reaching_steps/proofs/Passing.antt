@@ -9,7 +9,7 @@ use Rattle.field_bounds.specs.declared.entry.Command.TheVariants.{Restate, Accep
 use Rattle.field_bounds.specs.declared.entry.Entry.{Entry}
 use Rattle.field_bounds.specs.Schema.{SchemaValue}
 use Rattle.field_bounds.specs.Limits.{IsSchema}
-use Rattle.field_bounds.specs.Effects.{fresh, effects, cut, total_accepted}
+use Rattle.field_bounds.specs.Effects.{fresh, cut}
 use Rattle.field_bounds.specs.Owed.{is_up, count_since, is_begun_reply, max_number}
 use Rattle.field_bounds.specs.Statements.{IsIssued}
 use Rattle.field_bounds.specs.Central.{own, at_site, cuts, given_between, accepted_between, IsSound}
@@ -63,14 +63,7 @@ module _ (schema : SchemaValue) (named f : ℕ) where
 
   telling_same : (t u : List Entry) → Leaves schema named f t u → (k : Kind) (from to : ℕ)
       → telling schema u f k from to ≡ telling schema t f k from to
-  telling_same t u leaves k from to =
-      ap (λ (n : ℕ). (let x : Statement = record {
-        from = record { 0 = from };
-        to = record { 0 = to };
-        field = record { 0 = f };
-        kind = k;
-        total = n;
-      } in x)) (given_same t u leaves k from to)
+  telling_same t u leaves k from to = rw (given_same t u leaves k from to) refl
 
   pub arrived_still : (t u : List Entry) → Leaves schema named f t u → (from to : ℕ) (k : Kind) → Arrived t from to k → Arrived u from to k
   arrived_still t u leaves from to k h = omega (arith, h, given_same t u leaves k from to, accepted_more t u leaves k from to)
@@ -156,8 +149,7 @@ module _ (schema : SchemaValue) (named f : ℕ) where
               let now : IsIssued (telling schema (e ∷ t) f k from to) (e ∷ t) =
               subst (λ (x : Statement). IsIssued x (e ∷ t)) (sym (telling_same t (e ∷ t) leaves k from to)) told_now in
               let q : Q (e ∷ t) = (leaves, λ _. issued_numbered (telling schema (e ∷ t) f k from to) (e ∷ t) now) in
-              went_same schema steps list (restates schema named f from to k t) Q (sym (ap (λ (b : Bool). cond b list []) both))
-              (went_one schema steps (fine from again) Q (from_in, refl) refl (subst Q (sym went) q))
+              went_same (sym (ap (λ (b : Bool). cond b list []) both)) (went_one (from_in, refl) refl (subst Q (sym went) q))
           | inr not_both ↦
               let q : Q t = (
                 leaves_refl schema named f t,
@@ -167,8 +159,7 @@ module _ (schema : SchemaValue) (named f : ℕ) where
                       | inr is_told ↦ eqb-false _ _ is_told e
                     ],
               ) in
-              went_same schema steps [] (restates schema named f from to k t) Q (sym (ap (λ (b : Bool). cond b list []) not_both))
-              (went_none schema steps Q q)
+              went_same (sym (ap (λ (b : Bool). cond b list []) not_both)) (went_none q)
         ]
 
     delivered : (steps : List WorldStep) → All (StepFits schema) steps → Calm (trace_by schema steps) → HasNumber (trace_by schema steps)
@@ -193,12 +184,9 @@ module _ (schema : SchemaValue) (named f : ℕ) where
               let e = made schema t (record { 0 = to }) (Accept told) in
               let leaves = leaves_one schema named f e t w.other (keeps_accept (fresh schema to) f (record { 0 = to }) told _ (own to t)) in
               let all : given_between schema t f k from to ≤ accepted_between schema (e ∷ t) f k from to =
-              subst (λ (o : List Entry). given_between schema t f k from to
-              ≤ total_accepted (fresh schema to) from f k (effects (fresh schema to) false o)) (sym (own_here to e t refl))
-              (accepted_all (fresh schema to) told (at_site schema t to)) in
+              rw (own_here to e t refl) (accepted_all (fresh schema to) told (at_site schema t to)) in
               let q : Q (e ∷ t) = (leaves, omega (arith, all, given_same t (e ∷ t) leaves k from to)) in
-              went_same schema steps list (delivers schema named f from to k t) Q (sym (ap (λ (b : Bool). cond b list []) wanted))
-              (went_one schema steps (Deliver which Fine) Q tt refl (subst Q (sym went) q))
+              went_same (sym (ap (λ (b : Bool). cond b list []) wanted)) (went_one tt refl (subst Q (sym went) q))
           | inr unwanted ↦
               let arrived : Arrived t from to k =
               elim (wanting_cases (eqb from to) (eqb to named)
@@ -214,8 +202,7 @@ module _ (schema : SchemaValue) (named f : ℕ) where
                 ]
               ] in
               let q : Q t = (leaves_refl schema named f t, arrived) in
-              went_same schema steps [] (delivers schema named f from to k t) Q (sym (ap (λ (b : Bool). cond b list []) unwanted))
-              (went_none schema steps Q q)
+              went_same (sym (ap (λ (b : Bool). cond b list []) unwanted)) (went_none q)
         ]
 
   -- ---- all pairs of sites
@@ -251,15 +238,11 @@ module _ (schema : SchemaValue) (named f : ℕ) where
         let End : Claim = λ u. Held u × Arrived u i j k in
         leads_first schema Held Mid R (restates schema named f i j k) (delivers schema named f i j k ∷ rest)
         (λ steps fit held.
-        went_as schema steps (restates schema named f i j k (trace_by schema steps)) (λ u. Leaves schema named f (trace_by schema steps) u
-        × HasNumber good known i j k giver receiver u) Mid
-        (restated good known i j k giver receiver steps fit (calm (trace_by schema steps) held))
+        went_as (restated good known i j k giver receiver steps fit (calm (trace_by schema steps) held))
         (λ q. (still (trace_by schema steps) _ q.0 held, q.1)))
         (leads_first schema Mid End R (delivers schema named f i j k) rest
         (λ steps fit mid.
-        went_as schema steps (delivers schema named f i j k (trace_by schema steps)) (λ u. Leaves schema named f (trace_by schema steps) u
-        × Arrived u i j k) End
-        (delivered good known i j k giver receiver steps fit (calm (trace_by schema steps) mid.0) mid.1)
+        went_as (delivered good known i j k giver receiver steps fit (calm (trace_by schema steps) mid.0) mid.1)
         (λ q. (still (trace_by schema steps) _ q.0 mid.0, q.1)))
         more)
 
@@ -287,12 +270,12 @@ module _ (schema : SchemaValue) (named f : ℕ) where
         (one_kind Low (λ t u leaves p. (passed_to_still i j t u leaves p.0, arrived_still t u leaves i j Lower p.1))
         (λ t p. p.0.passed.ready.calm) i j Raise giver receiver
         [] (PassedTo i (suc j))
-        (λ steps fit p. went_none schema steps (PassedTo i (suc j)) (both i j (trace_by schema steps) p.0.0 p.0.1 p.1)))
+        (λ steps fit p. went_none (both i j (trace_by schema steps) p.0.0 p.0.1 p.1)))
 
     weaken : (steps more : List WorldStep) (i : ℕ) → Went schema steps more (PassedTo i schema.sites)
         → Went schema steps more (Passed (suc i))
     weaken steps more i went =
-        went_as schema steps more (PassedTo i schema.sites) (Passed (suc i)) went
+        went_as went
         (λ p. record {
           ready = p.passed.ready;
           arrived = λ from to k below small.

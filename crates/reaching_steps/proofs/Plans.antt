@@ -26,60 +26,60 @@ module _ (schema : SchemaValue) where
     pub fine : All IsFine more
     pub then : claim (trace_by schema (steps ++ more))
 
-  pub went_none : (steps : List WorldStep) (Q : Claim) → Q (trace_by schema steps) → Went steps [] Q
-  went_none steps Q q =
-      record {
-        fit = All-nil (StepFits schema);
-        fine = All-nil IsFine;
-        then = subst (λ (l : List WorldStep). Q (trace_by schema l)) (sym (append-nil steps)) q;
-      }
+pub went_none : {schema : SchemaValue} {steps : List WorldStep} {Q : Claim} → Q (trace_by schema steps) → Went schema steps [] Q
+went_none {schema} {steps} {Q} q =
+    record {
+      fit = All-nil (StepFits schema);
+      fine = All-nil IsFine;
+      then = subst (λ (l : List WorldStep). Q (trace_by schema l)) (sym (append-nil steps)) q;
+    }
 
-  pub went_one : (steps : List WorldStep) (step : WorldStep) (Q : Claim) → StepFits schema step → IsFine step
-      → Q (trace_by schema (steps ++ step ∷ [])) → Went steps (step ∷ []) Q
-  went_one steps step Q fit fine q =
-      record {
-        fit = All-cons (StepFits schema) step [] fit (All-nil (StepFits schema));
-        fine =
-            All-cons IsFine step [] fine (All-nil IsFine);
-        then = q;
-      }
+pub went_one : {schema : SchemaValue} {steps : List WorldStep} {step : WorldStep} {Q : Claim} → StepFits schema step → IsFine step
+    → Q (trace_by schema (steps ++ step ∷ [])) → Went schema steps (step ∷ []) Q
+went_one {schema} {step} fit fine q = record {
+  fit = All-cons (StepFits schema) step [] fit (All-nil (StepFits schema));
+  fine = All-cons IsFine step [] fine (All-nil IsFine);
+  then = q;
+}
 
-  -- one list of steps after another
-  pub went_on : (steps more rest : List WorldStep) (P Q : Claim) → All (StepFits schema) steps → Went steps more P
-      → (All (StepFits schema) (steps ++ more) → P (trace_by schema (steps ++ more)) → Went (steps ++ more) rest Q)
-      → Went steps (more ++ rest) Q
-  went_on steps more rest P Q fit went next =
-      let later = next (All-append (StepFits schema) steps more fit went.fit) went.then in
-      record {
-        fit = All-append (StepFits schema) more rest went.fit later.fit;
-        fine = All-append IsFine more rest went.fine later.fine;
-        then = subst (λ (l : List WorldStep). Q (trace_by schema l)) (append_assoc steps more rest) later.then;
-      }
+-- one list of steps after another
+pub went_on : {schema : SchemaValue} {steps more rest : List WorldStep} {P Q : Claim} → All (StepFits schema) steps
+    → Went schema steps more P
+    → (All (StepFits schema) (steps ++ more) → P (trace_by schema (steps ++ more)) → Went schema (steps ++ more) rest Q)
+    → Went schema steps (more ++ rest) Q
+went_on {schema} {steps} {more} {rest} {Q} fit went next =
+    let later = next (All-append (StepFits schema) steps more fit went.fit) went.then in
+    record {
+      fit = All-append (StepFits schema) more rest went.fit later.fit;
+      fine = All-append IsFine more rest went.fine later.fine;
+      then = subst (λ (l : List WorldStep). Q (trace_by schema l)) (append_assoc steps more rest) later.then;
+    }
 
-  pub went_as : (steps more : List WorldStep) (P Q : Claim) → Went steps more P
-      → (P (trace_by schema (steps ++ more)) → Q (trace_by schema (steps ++ more))) → Went steps more Q
-  went_as steps more P Q went weaker = record { fit = went.fit; fine = went.fine; then = weaker went.then }
+pub went_as : {schema : SchemaValue} {steps more : List WorldStep} {P Q : Claim} → Went schema steps more P
+    → (P (trace_by schema (steps ++ more)) → Q (trace_by schema (steps ++ more))) → Went schema steps more Q
+went_as went weaker = record { fit = went.fit; fine = went.fine; then = weaker went.then }
 
-  pub went_same : (steps more others : List WorldStep) (Q : Claim) → more ≡ others → Went steps more Q → Went steps others Q
-  went_same steps more others Q same went = subst (λ (l : List WorldStep). Went steps l Q) same went
+pub went_same : {schema : SchemaValue} {steps more others : List WorldStep} {Q : Claim} → more ≡ others → Went schema steps more Q
+    → Went schema steps others Q
+went_same {schema} {steps} {Q} same went = subst (λ (l : List WorldStep). Went schema steps l Q) same went
 
+module _ (schema : SchemaValue) where
   -- tasks that lead from one claim to another
   abbrev pub Leads : Claim → Claim → List Task → Type 0
   Leads P Q tasks = (steps : List WorldStep) → All (StepFits schema) steps → P (trace_by schema steps)
-      → Went steps (steps_of_tasks schema steps tasks) Q
+      → Went schema steps (steps_of_tasks schema steps tasks) Q
 
   pub leads_none : (P : Claim) → Leads P P []
-  leads_none P steps fit p = went_none steps P p
+  leads_none P steps fit p = went_none p
 
   pub leads_first : (P Q R : Claim) (task : Task) (tasks : List Task)
-      → ((steps : List WorldStep) → All (StepFits schema) steps → P (trace_by schema steps) → Went steps (task (trace_by schema steps)) Q)
+      → ((steps : List WorldStep) → All (StepFits schema) steps → P (trace_by schema steps) → Went schema steps (task (trace_by schema steps)) Q)
       → Leads Q R tasks → Leads P R (task ∷ tasks)
   leads_first P Q R task tasks one rest steps fit p =
-      let more = task (trace_by schema steps) in
-      went_on steps more (steps_of_tasks schema (steps ++ more) tasks) Q R fit (one steps fit p) (λ fits q. rest (steps ++ more) fits q)
+      went_on fit (one steps fit p) (λ fits q. rest (steps ++ task (trace_by schema steps)) fits q)
 
   pub leads_task : (P Q : Claim) (task : Task)
-      → ((steps : List WorldStep) → All (StepFits schema) steps → P (trace_by schema steps) → Went steps (task (trace_by schema steps)) Q)
+      → ((steps : List WorldStep) → All (StepFits schema) steps → P (trace_by schema steps) → Went schema steps (task (trace_by schema steps)) Q)
       → Leads P Q (task ∷ [])
   leads_task P Q task one = leads_first P Q Q task [] one (leads_none Q)
 
@@ -96,10 +96,8 @@ module _ (schema : SchemaValue) where
 
   pub leads_on : (P Q R : Claim) (a b : List Task) → Leads P Q a → Leads Q R b → Leads P R (a ++ b)
   leads_on P Q R a b first next steps fit p =
-      let done = steps_of_tasks schema steps a in
-      went_same steps (done ++ steps_of_tasks schema (steps ++ done) b) (steps_of_tasks schema steps (a ++ b)) R
-      (sym (planned_append steps a b))
-      (went_on steps done (steps_of_tasks schema (steps ++ done) b) Q R fit (first steps fit p) (λ fits q. next (steps ++ done) fits q))
+      went_same (sym (planned_append steps a b))
+      (went_on fit (first steps fit p) (λ fits q. next (steps ++ steps_of_tasks schema steps a) fits q))
 
   -- for each site in turn
   pub leads_over : (I : ℕ → Claim) (n : ℕ) (f : ℕ → List Task) → ((i : ℕ) → i < n → Leads (I i) (I (suc i)) (f i))

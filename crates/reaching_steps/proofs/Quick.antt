@@ -6,13 +6,14 @@ use Rattle.field_bounds.specs.declared.id.FieldNo.{FieldNo}
 use Rattle.field_bounds.specs.declared.entry.Entry.{Entry}
 use Rattle.field_bounds.specs.declared.entry.Refusal.TheVariants.{Down, NoField}
 use Rattle.field_bounds.specs.declared.entry.Reply.{Reply}
-use Rattle.field_bounds.specs.declared.entry.Reply.TheVariants.{Begun, Granted, Committed, Aborted, Given, Stated, Spared, Tightened, Accepted, Between, Shares, Restarted, Unsure, StillDown, Refused}
+use Rattle.field_bounds.specs.declared.entry.Reply.TheVariants.{Begun}
 use Rattle.field_bounds.specs.Schema.{SchemaValue}
 use Rattle.field_bounds.specs.declared.kind.Kind.TheVariants.{Lower, Raise}
 use Rattle.field_bounds.specs.Effects.{fresh, share}
 use Rattle.field_bounds.specs.Owed.{place, shares_of, shares_at, first, when, is_up, count_since, count_after, is_begun_reply, max_number}
 use Rattle.field_bounds.specs.Central.{own, at_site}
 use Rattle.reaching_steps.specs.Reach.{least, is_down, has_no_number}
+use Rattle.reaching_steps.proofs.Reading.{own_few}
 
 -- ---- a site that tells its share is up
 
@@ -47,45 +48,19 @@ down_told schema t s field known h =
 
 step_few : (n : ℕ) (r : Reply) → count_after is_begun_reply n r ≤ n + 1
 step_few n (Begun txn) = omega arith
-step_few n Granted = omega arith
-step_few n Committed = omega arith
-step_few n Aborted = omega arith
-step_few n (Given total) = omega arith
-step_few n (Stated total) = omega arith
-step_few n (Spared amount total) = omega arith
-step_few n (Tightened total) = omega arith
-step_few n (Accepted gain) = omega arith
-step_few n (Between lo hi) = omega arith
-step_few n (Shares lower raise) = omega arith
-step_few n (Restarted epoch found) = omega arith
-step_few n Unsure = omega arith
-step_few n StillDown = omega arith
-step_few n (Refused refusal) = omega arith
+step_few n r = omega arith
 
 since_few : (o : List Entry) → count_since is_begun_reply o ≤ length o
 since_few [] = omega arith
 since_few (e ∷ o) = omega (arith, since_few o, step_few (count_since is_begun_reply o) e.reply)
-
-one_few : (b : Bool) (e : Entry) (o : List Entry) → length (cond b (e ∷ o) o) ≤ length o + 1
-one_few true e o = omega arith
-one_few false e o = omega arith
-
-own_few : (s : ℕ) (t : List Entry) → length (own s t) ≤ length t
-own_few s [] = omega arith
-own_few s (e ∷ t) = omega (arith, own_few s t, one_few (eqb e.site.0 s) e (own s t))
 
 not_full : (schema : SchemaValue) (t : List Entry) (named s : ℕ) → length t < max_number → has_no_number schema t named s ≡ false
 not_full schema t named s short =
     let count = count_since is_begun_reply (own s t) in
     elim (cases_Bool (has_no_number schema t named s)) [
       | inl full ↦
-          absurd (omega (
-            arith,
-            short,
-            own_few s t,
-            since_few (own s t),
-            leb-true max_number count (and_parts (not (eqb s named)) (leb max_number count) full).1,
-          ))
+          let many = leb-true max_number count (and_parts (not (eqb s named)) (leb max_number count) full).1 in
+          absurd (omega (arith, own_few s t, since_few (own s t), many))
       | inr room ↦ room
     ]
 

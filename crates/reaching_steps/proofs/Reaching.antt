@@ -1,6 +1,6 @@
 -- Where no fault holds, the steps reach the target.
 use Rattle.std.proofs.Common.{◌≡◌, ℕ, suc, ◌+◌, ◌-◌, ◌<◌, ◌≤◌, ◌≢◌, Bool, true, false, cond, List, [], ◌∷◌, ◌++◌, length, refl, sym, ◌∙◌, ap, subst, inl, inr, arith, None, All}
-use Rattle.std.proofs.lemmas.Bool.{cases_Bool, eqb-true}
+use Rattle.std.proofs.lemmas.Bool.{cases_Bool, cases_eq, eq-eqb, eqb-true}
 use Rattle.std.proofs.lemmas.Int.{ints}
 use Rattle.std.specs.Prelude.{ℤ, pos, negsuc, ◌+ℤ◌, ◌-ℤ◌, ◌≤ℤ◌, unsigned_abs}
 use Rattle.field_bounds.specs.declared.kind.Kind.{Kind}
@@ -9,6 +9,7 @@ use Rattle.field_bounds.specs.declared.id.SiteNo.{SiteNo}
 use Rattle.field_bounds.specs.declared.id.FieldNo.{FieldNo}
 use Rattle.field_bounds.specs.declared.entry.Entry.{Entry}
 use Rattle.field_bounds.specs.Schema.{SchemaValue}
+use Rattle.field_bounds.specs.declared.effect.Effect.{Effect}
 use Rattle.field_bounds.specs.Limits.{IsSchema}
 use Rattle.field_bounds.specs.Parts.{sum_below, field_at}
 use Rattle.field_bounds.specs.Effects.{fresh, share, own_rights, cut, effects}
@@ -47,15 +48,13 @@ module _ (schema : SchemaValue) (good : IsSchema schema) (named f : ℕ) (named_
       → Went schema steps (aborts schema named i (trace_by schema steps)) (Aborting (suc i))
   abort_one i below steps fit a =
       let t : List Entry = trace_by schema steps in
-      elim (Rattle.std.proofs.lemmas.Bool.cases_eq i named) [
+      elim (cases_eq i named) [
         | inl itself ↦
-            went_same schema steps [] (aborts schema named i t) (Aborting (suc i))
-            (rw (Rattle.std.proofs.lemmas.Bool.eq-eqb i named itself) refl)
-            (went_none schema steps (Aborting (suc i))
+            went_same (rw (eq-eqb i named itself) refl)
+            (went_none
             (record { calm = a.calm; mine_is = a.mine_is; quiet = λ s less apart. a.quiet s (omega (arith, less, itself, apart)) apart }))
         | inr other ↦
-            went_as schema steps (aborts schema named i t) (λ u. Leaves schema named f t u
-            × NoneOpen (at_site schema u i)) (Aborting (suc i))
+            went_as
             (abort_all schema named f steps i fit below other (a.calm.ups i below)
             (lawful_at schema good t (sound_of schema good steps fit) i below))
             (λ did.
@@ -65,7 +64,7 @@ module _ (schema : SchemaValue) (good : IsSchema schema) (named f : ℕ) (named_
               calm = calm_still schema named f t u leaves a.calm;
               mine_is = leaves.mine ∙ a.mine_is;
               quiet = λ s less apart.
-                  elim (Rattle.std.proofs.lemmas.Bool.cases_eq i s) [
+                  elim (cases_eq i s) [
                     | inl same ↦ subst (λ (j : ℕ). NoneOpen (at_site schema u j)) same did.1
                     | inr before ↦ λ id begun opened.
                         (let was = (leaves.sites s).opens id begun opened in a.quiet s (omega (arith, less, before)) apart id was.0 was.1)
@@ -83,13 +82,16 @@ module _ (schema : SchemaValue) (good : IsSchema schema) (named f : ℕ) (named_
   abbrev pub Reached : Claim
   Reached u = (own named u ≡ mine) × (committed_value schema u f ≡ target)
 
-  moved_all : (low high : ℤ) → low ≡ ((field_at schema f).floor +ℤ pos
-      (own_rights (fresh schema named) f Lower (effects (fresh schema named) false mine)))
-      → high ≡ ((field_at schema f).ceiling -ℤ pos (own_rights (fresh schema named) f Raise (effects (fresh schema named) false mine)))
-      → low ≤ℤ target → target ≤ℤ high
+  -- what takes effect at the named site
+  abbrev pub here : List Effect
+  here = effects (fresh schema named) false mine
+
+  moved_all : ((k : Kind) → cut (fresh schema named) f k here ≡ 0)
+      → ((field_at schema f).floor +ℤ pos (cut (fresh schema named) f Lower here + own_rights (fresh schema named) f Lower here)) ≤ℤ target
+      → target ≤ℤ ((field_at schema f).ceiling -ℤ pos (cut (fresh schema named) f Raise here + own_rights (fresh schema named) f Raise here))
       → Leads schema (Passed schema named f good known mine schema.sites) Reached
       (over_sites schema.sites (λ s. moves schema named f target s ∷ []))
-  moved_all low high low_is high_is above below steps fit p =
+  moved_all uncut above below steps fit p =
       let t : List Entry = trace_by schema steps in
       let sound = sound_of schema good steps fit in
       let quiet = p.ready.quiet in
@@ -117,12 +119,12 @@ module _ (schema : SchemaValue) (good : IsSchema schema) (named f : ℕ) (named_
         free_is = λ s from small apart. sym (but_there named (λ j. share (fresh schema j) f k (at_site schema t j)) s apart);
         left = is ∙ ap (λ (n : ℕ). signed k n) (let same : all ≡ all - 0 = omega arith in same);
       } in
-      went_as schema steps list (Mv schema.sites) Reached
+      went_as
       (all_moved schema good named f known target k all (F k) mine
       (but_here named (λ s. share (fresh schema s) f k (at_site schema t s))) steps fit start)
       (λ m. (m.mine_is, none_left k all (sum_below schema.sites (F k)) target _ within m.left)) in
       by go (target -ℤ committed_value schema t f) refl
-      (omega (arith, ints, down, low_is, above, rights Lower)) (omega (arith, ints, up, high_is, below, rights Raise))
+      (omega (arith, ints, down, uncut Lower, above, rights Lower)) (omega (arith, ints, up, uncut Raise, below, rights Raise))
     where
       by : (go : (k : Kind) (all : ℕ) → target -ℤ committed_value schema (trace_by schema steps) f ≡ signed k all
           → all ≤ sum_below schema.sites (but named (λ s. share (fresh schema s) f k (at_site schema (trace_by schema steps) s)))
@@ -156,34 +158,23 @@ module _ (schema : SchemaValue) (good : IsSchema schema) (steps : List WorldStep
       let own_cut : (k : Kind) → cut (fresh schema site.0) field.0 k (at_site schema t site.0) ≡ 0 = λ k.
       omega (arith, is.calm.uncut k, term_below schema.sites (λ s. cut (fresh schema s) field.0 k (at_site schema t s)) site.0 is.site_in)
       in
-      let low_is : cut (fresh schema site.0) field.0 Lower (at_site schema t site.0) ≡ 0
-      → ((field_at schema field.0).floor +ℤ pos (cut (fresh schema site.0) field.0 Lower (at_site schema t site.0)
-      + own_rights (fresh schema site.0) field.0 Lower (at_site schema t site.0)))
-      ≡ ((field_at schema field.0).floor +ℤ pos (own_rights (fresh schema site.0) field.0 Lower (at_site schema t site.0))) =
-      λ none. omega (arith, ints, none) in
-      let high_is : cut (fresh schema site.0) field.0 Raise (at_site schema t site.0) ≡ 0
-      → ((field_at schema field.0).ceiling -ℤ pos (cut (fresh schema site.0) field.0 Raise (at_site schema t site.0)
-      + own_rights (fresh schema site.0) field.0 Raise (at_site schema t site.0)))
-      ≡ ((field_at schema field.0).ceiling -ℤ pos (own_rights (fresh schema site.0) field.0 Raise (at_site schema t site.0))) =
-      λ none. omega (arith, ints, none) in
       let plan : List WorldStep = steps_of_tasks schema steps (tasks schema site.0 field.0 target) in
       let there = same_value (committed_value schema t field.0) target in
       elim (cases_Bool there) [
         | inl same ↦
-            went_same schema steps [] (reach_steps schema steps site field target) End (sym (ap (λ (b : Bool). cond b [] plan) same))
-            (went_none schema steps End (refl, same_is (committed_value schema t field.0) target same))
+            went_same (sym (ap (λ (b : Bool). cond b [] plan) same))
+            (went_none (refl, same_is (committed_value schema t field.0) target same))
         | inr other ↦
             let start : Aborting schema good site.0 field.0 is.site_in is.known mine target 0 t =
             record { calm = is.calm; mine_is = refl; quiet = λ s less. absurd (omega (arith, less)) } in
-            went_same schema steps plan (reach_steps schema steps site field target) End (sym (ap (λ (b : Bool). cond b [] plan) other))
+            went_same (sym (ap (λ (b : Bool). cond b [] plan) other))
             (leads_on schema (Aborting schema good site.0 field.0 is.site_in is.known mine target 0)
             (Passed schema site.0 field.0 good is.known mine 0) End
             (over_sites schema.sites (λ s. aborts schema site.0 s ∷ []))
             (over_sites schema.sites (λ from. over_sites schema.sites (λ to. passes_on schema site.0 field.0 from to))
             ++ over_sites schema.sites (λ s. moves schema site.0 field.0 target s ∷ []))
             (λ steps fit a.
-            went_as schema steps _ (Aborting schema good site.0 field.0 is.site_in is.known mine target schema.sites)
-            (Passed schema site.0 field.0 good is.known mine 0)
+            went_as
             (all_aborted schema good site.0 field.0 is.site_in is.known mine target steps fit a)
             (λ b. record {
               ready = record { calm = b.calm; mine_is = b.mine_is; quiet = b.quiet };
@@ -194,7 +185,6 @@ module _ (schema : SchemaValue) (good : IsSchema schema) (steps : List WorldStep
             (over_sites schema.sites (λ from. over_sites schema.sites (λ to. passes_on schema site.0 field.0 from to)))
             (over_sites schema.sites (λ s. moves schema site.0 field.0 target s ∷ []))
             (all_passed schema site.0 field.0 good is.known mine)
-            (moved_all schema good site.0 field.0 is.site_in is.known mine target _ _ (low_is (own_cut Lower))
-            (high_is (own_cut Raise)) is.low is.high))
+            (moved_all schema good site.0 field.0 is.site_in is.known mine target own_cut is.low is.high))
             steps fit start)
       ]

@@ -1,5 +1,5 @@
 -- A trace is read from its oldest entry on.
-use Rattle.std.proofs.Common.{◌≡◌, ◌≢◌, ℕ, suc, ◌+◌, ◌-◌, ◌<◌, ◌≤◌, Bool, true, false, not, cond, eqb, List, [], ◌∷◌, ◌++◌, take, drop, reverse, length, get_or, refl, sym, ◌∙◌, ap, subst, arith, Some, None}
+use Rattle.std.proofs.Common.{◌≡◌, ◌≢◌, ℕ, suc, ◌+◌, ◌-◌, ◌<◌, ◌≤◌, Bool, true, false, not, cond, eqb, List, [], ◌∷◌, ◌++◌, take, drop, reverse, length, get_or, refl, sym, ◌∙◌, ap, subst, arith, add-one, Some, None}
 use Rattle.std.specs.Prelude.{Option}
 use Rattle.std.proofs.Math.Seq.{take-suc, take-length}
 use Rattle.std.proofs.lemmas.Bool.{eq-eqb, ne_eqb}
@@ -8,9 +8,9 @@ use Rattle.field_bounds.specs.declared.kind.Kind.{Kind}
 use Rattle.field_bounds.specs.declared.id.SiteNo.{SiteNo}
 use Rattle.field_bounds.specs.declared.id.FieldNo.{FieldNo}
 use Rattle.field_bounds.specs.declared.entry.Command.{Command}
-use Rattle.field_bounds.specs.declared.entry.Command.TheVariants.{Begin, Escrow, Commit, Abort, Give, Restate, Spare, Tighten, Accept, Read, Share, Restart}
+use Rattle.field_bounds.specs.declared.entry.Command.TheVariants.{Spare}
 use Rattle.field_bounds.specs.declared.entry.Reply.{Reply}
-use Rattle.field_bounds.specs.declared.entry.Reply.TheVariants.{Begun, Granted, Committed, Aborted, Given, Stated, Spared, Tightened, Accepted, Between, Shares, Restarted, Unsure, StillDown, Refused}
+use Rattle.field_bounds.specs.declared.entry.Reply.TheVariants.{Unsure}
 use Rattle.field_bounds.specs.declared.entry.Entry.{Entry}
 use Rattle.field_bounds.specs.declared.effect.Effect.{Effect}
 use Rattle.field_bounds.specs.declared.effect.Effect.TheVariants.{Gives}
@@ -20,7 +20,7 @@ use Rattle.field_bounds.specs.Owed.{is_unsure}
 use Rattle.field_bounds.specs.Central.{own, at_site, IsSound}
 use Rattle.field_bounds.proofs.Lawful.{IsLawful}
 use Rattle.field_bounds.proofs.Runs.{run_is_lawful}
-use Rattle.field_bounds.proofs.Traces.{own_here, own_there, sound_front}
+use Rattle.field_bounds.proofs.Traces.{sound_front}
 use Rattle.reaching_steps.specs.declared.standing.Standing.{Standing}
 use Rattle.reaching_steps.specs.Standing.{Tells, Stands, Notes}
 use Rattle.reaching_steps.proofs.Standings.{notes_give}
@@ -33,31 +33,18 @@ without None es = refl
 without (Some e) es = refl
 
 -- it doesn't count
+uncounted : (base : Base) (kept : Bool) (c : Command) (r : Reply) (es : List Effect) → counts kept r ≡ false → after base kept c r es ≡ es
+uncounted base kept c r es off = rw off (without (effect_of base es c r) es)
+
 pub own_uncounted : (schema : SchemaValue) (s f : ℕ) (had : Standing) (e : Entry) (kept : Bool) → counts kept e.reply ≡ false
     → ReadsOwn schema s f had e kept had
 unfolding ReadsOwn
-own_uncounted schema s f had e kept off = λ es lawful next was.
-    let base = fresh schema s in
-    subst (λ (l : List Effect). Stands f had l)
-    (sym (ap (λ (b : Bool). with_effect b (effect_of base es e.command e.reply) es) off ∙ without (effect_of base es e.command e.reply) es)) was
+own_uncounted schema s f had e kept off = λ es lawful next was. rw (uncounted (fresh schema s) kept e.command e.reply es off) was
 
 -- what a spare in doubt gave on another field
 unsure_only : (r : Reply) → is_unsure r ≡ true → r ≡ Unsure
-unsure_only (Begun txn) h = cc
-unsure_only Granted h = cc
-unsure_only Committed h = cc
-unsure_only Aborted h = cc
-unsure_only (Given total) h = cc
-unsure_only (Stated total) h = cc
-unsure_only (Spared amount total) h = cc
-unsure_only (Tightened total) h = cc
-unsure_only (Accepted gain) h = cc
-unsure_only (Between lo hi) h = cc
-unsure_only (Shares lower raise) h = cc
-unsure_only (Restarted epoch found) h = cc
 unsure_only Unsure h = refl
-unsure_only StillDown h = cc
-unsure_only (Refused refusal) h = cc
+unsure_only r h = cc
 
 pushed_none : (b : Bool) (n m : ℕ) → not b ≡ true → eqb n m ≡ b → eqb n m ≡ false
 pushed_none true n m h is = cc
@@ -66,8 +53,7 @@ pushed_none false n m h is = is
 gives_elsewhere : (f : ℕ) (had : Standing) (to : Option SiteNo) (field : FieldNo) (k : Kind) (n : ℕ) → eqb field.0 f ≡ false
     → Notes f had (Gives to field k n) had
 gives_elsewhere f had to field k n off =
-    notes_give f had had to field k n refl refl refl refl
-    (sym (ap (λ (b : Bool). cond b (had.gifts.items ++ Gives to field k n ∷ []) had.gifts.items) off))
+    notes_give f had had.gifts to field k n (rw off refl)
 
 spared_off : (f : ℕ) (schema : SchemaValue) (base : Base) (kept : Bool) (c : Command) (es : List Effect) (had : Standing)
     → is_elsewhere f (wanted_by c) ≡ true
@@ -77,27 +63,14 @@ spared_off f schema base false (Spare to field k want) es had off next was = was
 spared_off f schema base true (Spare to field k want) es had off next was =
     gives_elsewhere f had (Some to) field k (spare_amount (share base field.0 k es) want)
     (pushed_none (eqb field.0 f) field.0 f off refl) schema base es next was
-spared_off f schema base kept Begin es had off next was = cc
-spared_off f schema base kept (Escrow txn field change) es had off next was = cc
-spared_off f schema base kept (Commit txn) es had off next was = cc
-spared_off f schema base kept (Abort txn) es had off next was = cc
-spared_off f schema base kept (Give to field kind amount) es had off next was = cc
-spared_off f schema base kept (Restate to field kind) es had off next was = cc
-spared_off f schema base kept (Tighten field kind amount) es had off next was = cc
-spared_off f schema base kept (Accept told) es had off next was = cc
-spared_off f schema base kept (Read field) es had off next was = cc
-spared_off f schema base kept (Share field) es had off next was = cc
-spared_off f schema base kept Restart es had off next was = cc
+spared_off f schema base kept c es had off next was = cc
 
 pub own_elsewhere : (schema : SchemaValue) (s f : ℕ) (had : Standing) (e : Entry) (kept : Bool) → is_unsure e.reply ≡ true
     → is_elsewhere f (wanted_by e.command) ≡ true → ReadsOwn schema s f had e kept had
 unfolding ReadsOwn
 own_elsewhere schema s f had e kept unsure off = λ es lawful next was.
-    let base = fresh schema s in
     let is = unsure_only e.reply unsure in
-    subst (λ (r : Reply). Stands f had (after base kept e.command r es)) (sym is)
-    (spared_off f schema base kept e.command es had off
-    (subst (λ (r : Reply). IsLawful schema base (after base kept e.command r es)) is next) was)
+    rw is (spared_off f schema (fresh schema s) kept e.command es had off (rw is at next) was)
 
 -- an entry takes nothing back
 pub no_shorter : (b : Bool) (found : Option Effect) (es : List Effect) → length es ≤ length (with_effect b found es)
@@ -110,18 +83,15 @@ pub effects_few : (base : Base) (kept : Bool) (o : List Entry) → length (effec
 effects_few base kept [] = omega arith
 effects_few base kept (e ∷ o) =
     let es = effects base (doubt_kept_before kept e.reply) o in
-    omega (
-      arith,
-      effects_few base (doubt_kept_before kept e.reply) o,
-      one_more (counts kept e.reply) (effect_of base es e.command e.reply) es,
-    )
+    let more = one_more (counts kept e.reply) (effect_of base es e.command e.reply) es in
+    omega (arith, effects_few base (doubt_kept_before kept e.reply) o, more)
   where
     one_more : (b : Bool) (found : Option Effect) (es : List Effect) → length (with_effect b found es) ≤ suc (length es)
     one_more b None es = omega arith
     one_more true (Some d) es = omega arith
     one_more false (Some d) es = omega arith
 
-own_few : (s : ℕ) (t : List Entry) → length (own s t) ≤ length t
+pub own_few : (s : ℕ) (t : List Entry) → length (own s t) ≤ length t
 own_few s [] = omega arith
 own_few s (e ∷ t) = by (eqb e.site.0 s) (own_few s t)
   where
@@ -139,8 +109,7 @@ pub own_nothing : (schema : SchemaValue) (s f : ℕ) (had : Standing) (e : Entry
 unfolding ReadsOwn Stands
 own_nothing schema s f had e kept none = λ es lawful next was few.
     let here = was (omega (arith, few, no_shorter (counts kept e.reply) (effect_of (fresh schema s) es e.command e.reply) es)) in
-    subst (λ (l : List Effect). Tells f had l)
-    (ap (λ (found : Option Effect). with_effect (counts kept e.reply) found es) (none es lawful here)) here
+    rw (← none es lawful here) here
 
 -- it does this
 pub own_noted : (schema : SchemaValue) (s f : ℕ) (had more : Standing) (e : Entry) (kept : Bool) (d : Effect) → counts kept e.reply ≡ true
@@ -150,31 +119,14 @@ unfolding ReadsOwn Notes Stands
 own_noted schema s f had more e kept d on some notes = λ es lawful next was few.
     let base = fresh schema s in
     let here = was (omega (arith, few, no_shorter (counts kept e.reply) (effect_of base es e.command e.reply) es)) in
-    let is : d ∷ es ≡ after base kept e.command e.reply es =
-    ap (λ (b : Bool). with_effect b (Some d) es) (sym on)
-    ∙ ap (λ (found : Option Effect). with_effect (counts kept e.reply) found es) (some es lawful here) in
-    subst (λ (l : List Effect). Tells f more l) is
-    (notes schema base es (subst (λ (l : List Effect). IsLawful schema base l) (sym is) next) was
-    (subst (λ (l : List Effect). length l ≤ 18446744073709551615) (sym is) few))
+    let is : after base kept e.command e.reply es ≡ d ∷ es = rw (on, ← some es lawful here) refl in
+    rw is (notes schema base es (rw is at next) was (rw is at few))
 
 -- ---- one that ends no doubt
 
 sure_counts : (r : Reply) → is_unsure r ≡ false → counts false r ≡ true
-sure_counts (Begun txn) h = refl
-sure_counts Granted h = refl
-sure_counts Committed h = refl
-sure_counts Aborted h = refl
-sure_counts (Given total) h = refl
-sure_counts (Stated total) h = refl
-sure_counts (Spared amount total) h = refl
-sure_counts (Tightened total) h = refl
-sure_counts (Accepted gain) h = refl
-sure_counts (Between lo hi) h = refl
-sure_counts (Shares lower raise) h = refl
-sure_counts (Restarted epoch found) h = refl
 sure_counts Unsure h = cc
-sure_counts StillDown h = refl
-sure_counts (Refused refusal) h = refl
+sure_counts r h = refl
 
 pub unsure_never : {A : Type 0} (b : Bool) → b ≡ false → b ≡ true → A
 unsure_never true h g = cc
@@ -183,26 +135,19 @@ unsure_never false h g = cc
 pub puts_unsure : (f : ℕ) (had : Standing) (e : Entry) → is_unsure e.reply ≡ true → Puts f had e had
 unfolding Puts
 puts_unsure f had e unsure = λ schema base es next was.
-    let off : counts false e.reply ≡ false = ap (λ (r : Reply). counts false r) (unsure_only e.reply unsure) in
-    subst (λ (l : List Effect). Stands f had l)
-    (sym (ap (λ (b : Bool). with_effect b (effect_of base es e.command e.reply) es) off ∙ without (effect_of base es e.command e.reply) es)) was
+    rw (uncounted base false e.command e.reply es (rw (unsure_only e.reply unsure) refl)) was
 
 pub puts_nothing : (f : ℕ) (had : Standing) (e : Entry)
     → ((base : Base) (es : List Effect) → None ≡ effect_of base es e.command e.reply) → Puts f had e had
 unfolding Puts
-puts_nothing f had e none = λ schema base es next was.
-    subst (λ (l : List Effect). Stands f had l)
-    (ap (λ (found : Option Effect). with_effect (counts false e.reply) found es) (none base es)) was
+puts_nothing f had e none = λ schema base es next was. rw (← none base es) was
 
 pub puts_noted : (f : ℕ) (had more : Standing) (e : Entry) (d : Effect) → is_unsure e.reply ≡ false
     → ((base : Base) (es : List Effect) → Some d ≡ effect_of base es e.command e.reply) → Notes f had d more → Puts f had e more
 unfolding Puts Notes
 puts_noted f had more e d sure some notes = λ schema base es next was.
-    let is : d ∷ es ≡ after base false e.command e.reply es =
-    ap (λ (b : Bool). with_effect b (Some d) es) (sym (sure_counts e.reply sure))
-    ∙ ap (λ (found : Option Effect). with_effect (counts false e.reply) found es) (some base es) in
-    subst (λ (l : List Effect). Stands f more l) is
-    (notes schema base es (subst (λ (l : List Effect). IsLawful schema base l) (sym is) next) was)
+    let is : after base false e.command e.reply es ≡ d ∷ es = rw (sure_counts e.reply sure, ← some base es) refl in
+    rw is (notes schema base es (rw is at next) was)
 
 -- ---- one entry of the trace
 
@@ -211,29 +156,16 @@ pub reads_there : (schema : SchemaValue) (s f : ℕ) (had more : Standing) (e : 
     → Reads schema s f had e later more
 unfolding Reads
 reads_there schema s f had more e later apart same = λ t lawful next was.
-    let is : effects (fresh schema s) (doubt_kept_in s (e ∷ later)) (own s t) ≡ effects (fresh schema s) (doubt_kept_in s later) (own s (e ∷ t)) =
-    ap (λ (b : Bool). effects (fresh schema s) (cond b (doubt_kept_before (doubt_kept_in s later) e.reply) (doubt_kept_in s later))
-    (own s t)) (ne_eqb e.site.0 s apart)
-    ∙ ap (λ (o : List Entry). effects (fresh schema s) (doubt_kept_in s later) o) (sym (own_there s e t apart)) in
-    subst (λ (x : Standing). Stands f x (effects (fresh schema s) (doubt_kept_in s later) (own s (e ∷ t)))) (sym same)
-    (subst (λ (l : List Effect). Stands f had l) is was)
+    rw (same, ne_eqb e.site.0 s apart) (rw (ne_eqb e.site.0 s apart) at was)
 
 -- an entry of the site
 pub reads_here : (schema : SchemaValue) (s f : ℕ) (had more : Standing) (e : Entry) (later : List Entry) → e.site.0 ≡ s
     → ReadsOwn schema s f had e (doubt_kept_in s later) more → Reads schema s f had e later more
 unfolding Reads ReadsOwn
 reads_here schema s f had more e later mine did = λ t lawful next was.
-    let base = fresh schema s in
-    let kept = doubt_kept_in s later in
-    let es = effects base (doubt_kept_before kept e.reply) (own s t) in
-    let before : effects base (doubt_kept_in s (e ∷ later)) (own s t) ≡ es =
-    ap (λ (b : Bool). effects base (cond b (doubt_kept_before kept e.reply) kept) (own s t)) (eq-eqb e.site.0 s mine) in
-    let now : after base kept e.command e.reply es ≡ effects base kept (own s (e ∷ t)) =
-    ap (λ (o : List Entry). effects base kept o) (sym (own_here s e t mine)) in
-    subst (λ (l : List Effect). Stands f more l) now
-    (did es (subst (λ (l : List Effect). IsLawful schema base l) before lawful)
-    (subst (λ (l : List Effect). IsLawful schema base l) (sym now) next)
-    (subst (λ (l : List Effect). Stands f had l) before was))
+    let on = eq-eqb e.site.0 s mine in
+    rw on (did (effects (fresh schema s) (doubt_kept_before (doubt_kept_in s later) e.reply) (own s t)) (rw on at lawful) (rw on at next)
+    (rw on at was))
 
 -- ---- the fronts of a sound trace are sound
 
@@ -261,24 +193,13 @@ pub reads_so : (schema : SchemaValue) (s f i : ℕ) (trace t : List Entry) (d : 
     → Stands f had (front_at schema s trace i) → Stands f more (front_at schema s trace (i + 1))
 unfolding Reads
 reads_so schema s f i trace t d had more below inside is sound reads was =
-    let base = fresh schema s in
-    let e = get_or trace i d in
-    let front = reverse (take i trace) in
-    let one : i + 1 ≡ suc i = omega arith in
-    let next : reverse (take (i + 1) trace) ≡ e ∷ front =
-    ap (λ (n : ℕ). reverse (take n trace)) one ∙ ap (λ (l : List Entry). reverse l) (take-suc trace i d below)
-    ∙ reverse-append (take i trace) (e ∷ []) in
-    let before : front_at schema s trace i ≡ effects base (doubt_kept_in s (e ∷ drop (i + 1) trace)) (own s front) =
-    ap (λ (l : List Entry). effects base (doubt_kept_in s l) (own s front)) (drop_more trace i d below) in
-    let now : front_at schema s trace (i + 1) ≡ effects base (doubt_kept_in s (drop (i + 1) trace)) (own s (e ∷ front)) =
-    ap (λ (l : List Entry). effects base (doubt_kept_in s (drop (i + 1) trace)) (own s l)) next in
-    subst (λ (l : List Effect). Stands f more l) (sym now)
-    (reads front
-    (subst (λ (l : List Effect). IsLawful schema base l) before
-    (lawful_front schema s i trace t (doubt_kept_in s (drop i trace)) inside is sound))
-    (subst (λ (l : List Effect). IsLawful schema base l) now
-    (lawful_front schema s (i + 1) trace t (doubt_kept_in s (drop (i + 1) trace)) inside is sound))
-    (subst (λ (l : List Effect). Stands f had l) before was))
+    let next : reverse (take (i + 1) trace) ≡ get_or trace i d ∷ reverse (take i trace) =
+    rw (add-one, take-suc trace i d below) (reverse-append (take i trace) (get_or trace i d ∷ [])) in
+    let first = drop_more trace i d below in
+    rw next (reads (reverse (take i trace))
+    (rw first at (lawful_front schema s i trace t (doubt_kept_in s (drop i trace)) inside is sound))
+    (rw next at (lawful_front schema s (i + 1) trace t (doubt_kept_in s (drop (i + 1) trace)) inside is sound))
+    (rw first at was))
 
 rest_is : (trace : List Entry) (m : ℕ) → take (length trace - m) (drop m trace) ≡ drop m trace
 rest_is trace m = ap (λ (n : ℕ). take n (drop m trace)) (sym (length-drop m trace)) ∙ take-length (drop m trace)
@@ -288,7 +209,4 @@ pub reads_on : (schema x : SchemaValue) → x ≡ schema → (s f i : ℕ) (trac
     → Reads x s f had (get_or trace i d) (take (length trace - (i + 1)) (drop (i + 1) trace)) more
     → Stands f had (front_at schema s trace i) → Stands f more (front_at schema s trace (i + 1))
 reads_on schema x same s f i trace t d had more below inside is sound read was =
-    reads_so schema s f i trace t d had more below inside is sound
-    (subst (λ (l : List Entry). Reads schema s f had (get_or trace i d) l more) (rest_is trace (i + 1))
-    (subst (λ (y : SchemaValue). Reads y s f had (get_or trace i d) (take (length trace - (i + 1)) (drop (i + 1) trace)) more) same read))
-    was
+    reads_so schema s f i trace t d had more below inside is sound (rw (same, rest_is trace (i + 1)) at read) was

@@ -12,7 +12,7 @@ use Rattle.field_bounds.specs.declared.entry.Reply.TheVariants.{Aborted, Stated,
 use Rattle.field_bounds.specs.declared.entry.Entry.{Entry}
 use Rattle.field_bounds.specs.Kind.{same_kind}
 use Rattle.field_bounds.specs.declared.effect.Effect.{Effect}
-use Rattle.field_bounds.specs.declared.effect.Effect.TheVariants.{Begins, Grants, Commits, Aborts, Gives, Accepts, Stops}
+use Rattle.field_bounds.specs.declared.effect.Effect.TheVariants.{Begins, Aborts, Accepts}
 use Rattle.field_bounds.specs.Effects.{Base, same_txn, is_begun, is_committed, is_dropped, is_open, begun_txns, open_txns, effects, total_given, cut, total_accepted}
 use Rattle.field_bounds.specs.Owed.{is_up, count_since, is_begun_reply}
 
@@ -29,15 +29,7 @@ pub record Keeps (base : Base) (f : ℕ) (o p : List Entry) : Type 0 where
 
 pub keeps_refl : (base : Base) (f : ℕ) (o : List Entry) → Keeps base f o o
 keeps_refl base f o =
-    record {
-      up = λ h. h;
-      numbers = refl;
-      opens = λ id b h. (b, h);
-      given = λ to k. refl;
-      cuts = λ k. refl;
-      accepted =
-          λ from k. omega arith;
-    }
+    record { up = λ h. h; numbers = refl; opens = λ id b h. (b, h); given = λ to k. refl; cuts = λ k. refl; accepted = λ from k. omega arith }
 
 pub keeps_trans : (base : Base) (f : ℕ) (o p q : List Entry) → Keeps base f o p → Keeps base f p q → Keeps base f o q
 keeps_trans base f o p q a b =
@@ -92,10 +84,9 @@ keeps_restate base f s to field kind total o =
     record {
       up = λ h. h;
       numbers = omega arith;
-      opens = λ j begun_txns opened. (begun_txns, opened);
+      opens = λ j b h. (b, h);
       given = λ to' k. refl;
-      cuts =
-          λ k. refl;
+      cuts = λ k. refl;
       accepted = λ from k. omega arith;
     }
 
@@ -118,7 +109,7 @@ keeps_accept base f s told gain o =
           (total_accepted base from f k (effects base false o));
     }
 
-same_kind-refl : (k : Kind) → same_kind k k ≡ true
+pub same_kind-refl : (k : Kind) → same_kind k k ≡ true
 same_kind-refl Lower = refl
 same_kind-refl Raise = refl
 
@@ -144,12 +135,7 @@ none_passes p [] h = refl
 none_passes p (Begins txn ∷ es) h =
     let here : is_begun txn (Begins txn ∷ es) ≡ true = rw (same_txn-refl txn) refl in
     rw (h txn here) (none_passes p es (λ id begun_txns. h id (or_right (same_txn txn id) (is_begun id es) begun_txns)))
-none_passes p (Grants txn field change ∷ es) h = none_passes p es h
-none_passes p (Commits txn ∷ es) h = none_passes p es h
-none_passes p (Aborts txn ∷ es) h = none_passes p es h
-none_passes p (Gives to field kind amount ∷ es) h = none_passes p es h
-none_passes p (Accepts from field kind total ∷ es) h = none_passes p es h
-none_passes p (Stops ∷ es) h = none_passes p es h
+none_passes p (e ∷ es) h = none_passes p es h
 
 pub open_shut : (es : List Effect) → NoneOpen es → (id : TxnId) → is_begun id es ≡ true → is_open id es ≡ false
 open_shut es none id begun_txns = elim (cases_Bool (is_open id es)) as (λ _. is_open id es ≡ false)

@@ -2,8 +2,9 @@
 use Rattle.std.proofs.Common.{◌≡◌, ◌≢◌, ℕ, zero, suc, ◌+◌, ◌*◌, ◌<◌, ◌≤◌, max, Bool, true, false, not, ◌&&◌, ◌||◌, cond, eqb, List, [], ◌∷◌, ◌++◌, filter, reverse, drop, length, get_or, slice_set, refl, sym, ◌∙◌, ap, subst, arith, Some}
 use Rattle.std.proofs.lemmas.Bool.{or_left, or_right, eq-eqb, ne_eqb}
 use Rattle.std.specs.Prelude.{ℤ, unsigned_abs, Option}
-use Rattle.std.proofs.lemmas.List.{drop_more, append-nil, reverse-append}
-use Rattle.std.proofs.lemmas.List.Elements.{filter-append}
+use Rattle.std.specs.Global.{Vec}
+use Rattle.std.proofs.lemmas.List.{drop_more, reverse-append}
+use Rattle.field_bounds.proofs.Lists.{filter-reverse}
 use Rattle.field_bounds.specs.declared.kind.Kind.{Kind}
 use Rattle.field_bounds.specs.declared.kind.Kind.TheVariants.{Lower, Raise}
 use Rattle.field_bounds.specs.declared.id.TxnId.{TxnId}
@@ -24,18 +25,6 @@ use Rattle.reaching_steps.proofs.Sites.{same_txn-refl}
 
 -- ---- lists
 
-filter_back : {A : Type 0} (p : A → Bool) (l : List A) → reverse (filter p l) ≡ filter p (reverse l)
-filter_back p [] = refl
-filter_back {A} p (x ∷ l) =
-    let rest : reverse (filter p l) ≡ filter p (reverse l) = filter_back p l in
-    let turned : reverse (x ∷ l) ≡ reverse l ++ x ∷ [] = reverse-append (x ∷ []) l in
-    by (p x) rest ∙ sym (filter-append p (reverse l) (x ∷ [])) ∙ ap (λ (m : List A). filter p m) (sym turned)
-  where
-    by : (b : Bool) → reverse (filter p l) ≡ filter p (reverse l)
-        → reverse (cond b (x ∷ filter p l) (filter p l)) ≡ filter p (reverse l) ++ cond b (x ∷ []) []
-    by true rest = reverse-append (x ∷ []) (filter p l) ∙ ap (λ (m : List A). m ++ x ∷ []) rest
-    by false rest = rest ∙ sym (append-nil (filter p (reverse l)))
-
 filter_twice : (p q : TxnId → Bool) (l : List TxnId) → filter p (filter q l) ≡ filter (λ x. q x && p x) l
 filter_twice p q [] = refl
 filter_twice p q (x ∷ l) = by (q x) (filter_twice p q l)
@@ -53,70 +42,36 @@ filter_begun p q (Begins txn ∷ es) h =
     ap (λ (b : Bool). cond b (txn ∷ filter p (begun_txns es)) (filter p (begun_txns es))) here
     ∙ ap (λ (l : List TxnId). cond (q txn) (txn ∷ l) l)
     (filter_begun p q es (λ id there. h id (or_right (same_txn txn id) (is_begun id es) there)))
-filter_begun p q (Grants txn field change ∷ es) h = filter_begun p q es h
-filter_begun p q (Commits txn ∷ es) h = filter_begun p q es h
-filter_begun p q (Aborts txn ∷ es) h = filter_begun p q es h
-filter_begun p q (Gives to field kind amount ∷ es) h = filter_begun p q es h
-filter_begun p q (Accepts from field kind total ∷ es) h = filter_begun p q es h
-filter_begun p q (Stops ∷ es) h = filter_begun p q es h
+filter_begun p q (e ∷ es) h = filter_begun p q es h
 
 -- ---- sums over a list with one more at its end
 
 granted_head : (q : TxnId → Bool) (f : ℕ) (k : Kind) (e : Effect) (l : List Effect)
     → granted_sizes q f k (e ∷ l) ≡ granted_sizes q f k (e ∷ []) + granted_sizes q f k l
 granted_head q f k (Grants txn field change) l = omega arith
-granted_head q f k (Begins txn) l = omega arith
-granted_head q f k (Commits txn) l = omega arith
-granted_head q f k (Aborts txn) l = omega arith
-granted_head q f k (Gives to field kind amount) l = omega arith
-granted_head q f k (Accepts from field kind total) l = omega arith
-granted_head q f k Stops l = omega arith
+granted_head q f k e l = omega arith
 
 granted_push : (q : TxnId → Bool) (f : ℕ) (k : Kind) (e : Effect) (l : List Effect)
     → granted_sizes q f k (l ++ e ∷ []) ≡ granted_sizes q f k (e ∷ l)
 granted_push q f k e [] = refl
 granted_push q f k e (x ∷ l) =
-    omega (
-      arith,
-      granted_head q f k x (l ++ e ∷ []),
-      granted_push q f k e l,
-      granted_head q f k e l,
-      granted_head q f k e (x ∷ l),
-      granted_head q f k x l,
-    )
+    omega (arith, granted_head, granted_push q f k e l)
 
 given_head : (p : Option SiteNo → Bool) (f : ℕ) (k : Kind) (e : Effect) (l : List Effect)
     → gifts p f k (e ∷ l) ≡ gifts p f k (e ∷ []) + gifts p f k l
 given_head p f k (Gives to field kind amount) l = omega arith
-given_head p f k (Begins txn) l = omega arith
-given_head p f k (Commits txn) l = omega arith
-given_head p f k (Aborts txn) l = omega arith
-given_head p f k (Grants txn field change) l = omega arith
-given_head p f k (Accepts from field kind total) l = omega arith
-given_head p f k Stops l = omega arith
+given_head p f k e l = omega arith
 
 given_push : (p : Option SiteNo → Bool) (f : ℕ) (k : Kind) (e : Effect) (l : List Effect)
     → gifts p f k (l ++ e ∷ []) ≡ gifts p f k (e ∷ l)
 given_push p f k e [] = refl
 given_push p f k e (x ∷ l) =
-    omega (
-      arith,
-      given_head p f k x (l ++ e ∷ []),
-      given_push p f k e l,
-      given_head p f k e l,
-      given_head p f k e (x ∷ l),
-      given_head p f k x l,
-    )
+    omega (arith, given_head, given_push p f k e l)
 
 -- the total that an effect accepts
 abbrev pub total_of : ℕ → ℕ → Kind → Effect → ℕ
-total_of from f k (Begins txn) = 0
-total_of from f k (Grants txn field change) = 0
-total_of from f k (Commits txn) = 0
-total_of from f k (Aborts txn) = 0
-total_of from f k (Gives to field kind amount) = 0
 total_of from f k (Accepts site field kind total) = cond (eqb field.0 f && same_kind kind k && eqb site.0 from) total 0
-total_of from f k Stops = 0
+total_of from f k e = 0
 
 accepted_head : (base : Base) (from f : ℕ) (k : Kind) (e : Effect) (l : List Effect)
     → total_accepted base from f k (e ∷ l) ≡ max (total_of from f k e) (total_accepted base from f k l)
@@ -126,42 +81,21 @@ accepted_head base from f k (Accepts site field kind total) l =
     by : (b : Bool) (n x : ℕ) → cond b (max n x) x ≡ max (cond b n 0) x
     by true n x = refl
     by false n x = omega arith
-accepted_head base from f k (Begins txn) l = omega arith
-accepted_head base from f k (Commits txn) l = omega arith
-accepted_head base from f k (Aborts txn) l = omega arith
-accepted_head base from f k (Grants txn field change) l = omega arith
-accepted_head base from f k (Gives to field kind amount) l = omega arith
-accepted_head base from f k Stops l = omega arith
+accepted_head base from f k e l = omega arith
 
 accepted_push : (base : Base) (from f : ℕ) (k : Kind) (e : Effect) (l : List Effect)
     → total_accepted base from f k (l ++ e ∷ []) ≡ total_accepted base from f k (e ∷ l)
 accepted_push base from f k e [] = refl
 accepted_push base from f k e (x ∷ l) =
-    omega (
-      arith,
-      accepted_head base from f k x (l ++ e ∷ []),
-      accepted_push base from f k e l,
-      accepted_head base from f k e l,
-      accepted_head base from f k e (x ∷ l),
-      accepted_head base from f k x l,
-    )
+    omega (arith, accepted_head, accepted_push base from f k e l)
 
 -- ---- what a transaction holds
 
-granted_none : (f : ℕ) (k : Kind) (es : List Effect) → granted_sizes (λ _. false) f k es ≡ 0
+pub granted_none : (f : ℕ) (k : Kind) (es : List Effect) → granted_sizes (λ _. false) f k es ≡ 0
 granted_none f k [] = refl
 granted_none f k (Grants txn field change ∷ es) =
-    omega (
-      arith,
-      granted_none f k es,
-      weigh_none (eqb field.0 f && same_kind (kind_of change) k) false (unsigned_abs change) refl,
-    )
-granted_none f k (Begins txn ∷ es) = granted_none f k es
-granted_none f k (Commits txn ∷ es) = granted_none f k es
-granted_none f k (Aborts txn ∷ es) = granted_none f k es
-granted_none f k (Gives to field kind amount ∷ es) = granted_none f k es
-granted_none f k (Accepts from field kind total ∷ es) = granted_none f k es
-granted_none f k (Stops ∷ es) = granted_none f k es
+    omega (arith, granted_none f k es, weigh_none (eqb field.0 f && same_kind (kind_of change) k) false (unsigned_abs change) refl)
+granted_none f k (e ∷ es) = granted_none f k es
 
 -- without what one transaction holds
 held_without : (t : TxnId) (q : TxnId → Bool) (k : Kind) (l : List Held)
@@ -240,14 +174,8 @@ grows_at t kind n held more i old row below found its txn_is sizes is = λ fits 
     ap (λ (x : TxnId). cond (q x) (size_in k row) 0) (txn_is ∙ old_is) in
     let was_is : counted_of q k (get_or held i old) ≡ cond (q t) (size_in k old) 0 =
     ap (λ (x : Held). counted_of q k x) (sym found) ∙ ap (λ (x : TxnId). cond (q x) (size_in k old) 0) old_is in
-    omega (
-      arith,
-      held_same q k is,
-      held_set q k held i old row below,
-      row_is,
-      was_is,
-      more_counted (q t) (same_kind kind k) (size_in k old) (size_in k row) n here,
-    )
+    let grown = more_counted (q t) (same_kind kind k) (size_in k old) (size_in k row) n here in
+    omega (arith, held_same q k is, held_set q k held i old row below, row_is, was_is, grown)
 
 pub grows_first : (t : TxnId) (kind : Kind) (n : ℕ) (held more : List Held) (first row : Held) → first.txn ≡ t
     → first.lower ≡ 0 → first.raise ≡ 0 → row.txn ≡ first.txn
@@ -260,27 +188,16 @@ grows_first t kind n held more first row first_is low high txn_is sizes is = λ 
     let here = sizes (omega (arith, fits, none kind)) k in
     let row_is : counted_of q k row ≡ cond (q t) (size_in k row) 0 =
     ap (λ (x : TxnId). cond (q x) (size_in k row) 0) (txn_is ∙ first_is) in
-    omega (
-      arith,
-      held_same q k is,
-      held_push q k held row,
-      row_is,
-      more_counted (q t) (same_kind kind k) 0 (size_in k row) n (here ∙ ap (λ (x : ℕ). x + cond (same_kind kind k) n 0) (none k)),
-      cond_none (q t) 0 refl,
-    )
+    let grown = more_counted (q t) (same_kind kind k) 0 (size_in k row) n (here ∙ ap (λ (x : ℕ). x + cond (same_kind kind k) n 0) (none k)) in
+    omega (arith, held_same q k is, held_push q k held row, row_is, grown, same_either (q t))
   where
-    cond_none : (b : Bool) (m : ℕ) → m ≡ 0 → cond b m 0 ≡ 0
-    cond_none true m is = is
-    cond_none false m is = refl
+    same_either : (b : Bool) → cond b zero 0 ≡ zero
+    same_either true = refl
+    same_either false = refl
 
     nothing : (j : Kind) → size_in j first ≡ 0
     nothing Lower = low
     nothing Raise = high
-
-pub grows_as : (t : TxnId) (kind j : Kind) (n m : ℕ) (held more : List Held) → kind ≡ j → n ≡ m → Grows t kind n held more
-    → Grows t j m held more
-grows_as t kind j n m held more kind_is size_is grows =
-    subst (λ (k : Kind). Grows t k m held more) kind_is (subst (λ (x : ℕ). Grows t kind x held more) size_is grows)
 
 weigh_off : (a b c : Bool) (n : ℕ) → a ≡ false → cond (a && b && c) n 0 ≡ 0
 weigh_off true b c n h = cc
@@ -288,33 +205,29 @@ weigh_off false b c n h = refl
 
 -- ---- each effect
 
-pub notes_begin : (f : ℕ) (kept more : Standing) (t : TxnId) → more.txns.items ≡ kept.txns.items ++ t ∷ [] → more.held ≡ kept.held
-    → more.raised ≡ kept.raised → more.lowered ≡ kept.lowered → more.gifts ≡ kept.gifts → Notes f kept (Begins t) more
+pub notes_begin : (f : ℕ) (kept : Standing) (txns : Vec TxnId) (t : TxnId) → txns.items ≡ kept.txns.items ++ t ∷ []
+    → Notes f kept (Begins t) (record kept { txns = txns })
 unfolding Notes Stands
-notes_begin f kept more t ids_is held_is raised_is lowered_is gifts_is = λ schema base es lawful before few.
+notes_begin f kept txns t ids_is = λ schema base es lawful before few.
     let was = before (omega (arith, few)) in
     let unused = new_is_unused schema base t es lawful.0 lawful.1 in
     let opened : is_open t es ≡ true = rw (unused.uncommitted, unused.undropped) refl in
     record {
-      ids = ap (λ (l : List TxnId). reverse l) ids_is ∙ reverse-append kept.txns.items (t ∷ [])
-          ∙ ap (λ (l : List TxnId). t ∷ l) was.ids
-          ∙ sym (ap (λ (b : Bool). cond b (t ∷ open_txns es) (open_txns es)) opened);
-      held = λ q k. ap (λ v. held_sizes q k v.items) held_is ∙ was.held q k;
-      raised = raised_is ∙ was.raised;
-      lowered = lowered_is ∙ was.lowered;
-      given = λ p k. ap (λ v. gifts p f k v.items) gifts_is ∙ was.given p k;
-      accepted = λ x s from k. ap (λ v. total_accepted (fresh x s) from f k v.items) gifts_is ∙ was.accepted x s from k;
+      ids = rw (ids_is, reverse-append kept.txns.items (t ∷ []), was.ids, opened) refl;
+      held = was.held;
+      raised = was.raised;
+      lowered = was.lowered;
+      given = was.given;
+      accepted = was.accepted;
       short = few;
-      few = let same = λ (k : Kind). ap (λ v. held_sizes (λ _. true) k v.items) held_is in
-          omega (arith, was.few, raised_is, lowered_is, same Raise, same Lower);
+      few = omega (arith, was.few);
     }
 
-pub notes_grant : (f : ℕ) (kept more : Standing) (t : TxnId) (field : FieldNo) (x : ℤ) → field.0 ≡ f
-    → unsigned_abs x ≤ 9223372036854775808 → more.txns ≡ kept.txns
-    → Grows t (kind_of x) (unsigned_abs x) kept.held.items more.held.items
-    → more.raised ≡ kept.raised → more.lowered ≡ kept.lowered → more.gifts ≡ kept.gifts → Notes f kept (Grants t field x) more
+pub notes_grant : (f : ℕ) (kept : Standing) (held : Vec Held) (t : TxnId) (field : FieldNo) (x : ℤ) → field.0 ≡ f
+    → unsigned_abs x ≤ 9223372036854775808 → Grows t (kind_of x) (unsigned_abs x) kept.held.items held.items
+    → Notes f kept (Grants t field x) (record kept { held = held })
 unfolding Notes Stands Grows
-notes_grant f kept more t field x at small open_is grows raised_is lowered_is gifts_is = λ schema base es lawful before few.
+notes_grant f kept held t field x at small grows = λ schema base es lawful before few.
     let was = before (omega (arith, few)) in
     let opened = lawful.1.opened in
     let fate = open_parts (is_committed t es) (is_dropped t es) opened in
@@ -323,20 +236,15 @@ notes_grant f kept more t field x at small open_is grows raised_is lowered_is gi
     let fits = all_fit (kind_of x) (length es) (unsigned_abs x) small (omega (arith, few)) was.few in
     let grown = grows fits in
     record {
-      ids = ap (λ v. reverse v.items) open_is ∙ was.ids;
-      held = λ q k. omega (
-        arith,
-        grown q k,
-        was.held q k,
-        by q k (eqb field.0 f) (is_open t es) (eq-eqb field.0 f at) opened,
-      );
-      raised = omega (arith, raised_is, was.raised, none Raise);
-      lowered = omega (arith, lowered_is, was.lowered, none Lower);
-      given = λ p k. ap (λ v. gifts p f k v.items) gifts_is ∙ was.given p k;
-      accepted = λ y s from k. ap (λ v. total_accepted (fresh y s) from f k v.items) gifts_is ∙ was.accepted y s from k;
+      ids = was.ids;
+      held = λ q k. omega (arith, grown q k, was.held q k, by q k (eqb field.0 f) (is_open t es) (eq-eqb field.0 f at) opened);
+      raised = omega (arith, was.raised, none Raise);
+      lowered = omega (arith, was.lowered, none Lower);
+      given = was.given;
+      accepted = was.accepted;
       short = few;
       few = let one = one_kind (kind_of x) (unsigned_abs x) in
-          omega (arith, was.few, raised_is, lowered_is, grown (λ _. true) Raise, grown (λ _. true) Lower, one, small);
+          omega (arith, was.few, grown (λ _. true) Raise, grown (λ _. true) Lower, one, small);
     }
   where
     by : (q : TxnId → Bool) (k : Kind) (a o : Bool) → a ≡ true → o ≡ true
@@ -386,7 +294,7 @@ module _ (f : ℕ) (kept more : Standing) (t : TxnId)
       → ((id : TxnId) → (is_open id es && not (same_txn id t)) ≡ is_open id (e ∷ es))
       → reverse more.txns.items ≡ open_txns (e ∷ es)
   ended_ids e es was begun same =
-      ap (λ (l : List TxnId). reverse l) ids_is ∙ filter_back (λ (x : TxnId). not (same_txn x t)) kept.txns.items
+      ap (λ (l : List TxnId). reverse l) ids_is ∙ sym (filter-reverse (λ (x : TxnId). not (same_txn x t)) kept.txns.items)
       ∙ ap (λ (l : List TxnId). filter (λ (x : TxnId). not (same_txn x t)) l) was.ids
       ∙ filter_twice (λ (x : TxnId). not (same_txn x t)) (λ id. is_open id es) (begun_txns es)
       ∙ filter_begun (λ id. is_open id es && not (same_txn id t)) (λ id. is_open id (e ∷ es)) es (λ id there. same id)
@@ -445,14 +353,7 @@ module _ (f : ℕ) (kept more : Standing) (t : TxnId)
         given = λ p k. ap (λ v. gifts p f k v.items) gifts_is ∙ was.given p k;
         accepted = λ x s from k. ap (λ v. total_accepted (fresh x s) from f k v.items) gifts_is ∙ was.accepted x s from k;
         short = few;
-        few = omega (
-          arith,
-          was.few,
-          raised_is,
-          lowered_is,
-          left Raise,
-          left Lower,
-        );
+        few = omega (arith, was.few, raised_is, lowered_is, left Raise, left Lower);
       }
 
   settled : (schema : SchemaValue) (base : Base) (es : List Effect) → IsLawful schema base (Commits t ∷ es) → Tells f kept es
@@ -483,10 +384,7 @@ module _ (f : ℕ) (kept more : Standing) (t : TxnId)
       × (kept.lowered + held_sizes (is_of (Some t)) Lower kept.held.items ≤ 340282366920938463463374607431768211455)
   fit es short was =
       let up = held_split t Raise kept.held.items in
-      let down = held_split t Lower kept.held.items in (
-        omega (arith, short, was.few, up, down),
-        omega (arith, short, was.few, up, down),
-      )
+      let down = held_split t Lower kept.held.items in (omega (arith, short, was.few, up, down), omega (arith, short, was.few, up, down))
 
   pub notes_commit : (kept.raised + held_sizes (is_of (Some t)) Raise kept.held.items ≤ 340282366920938463463374607431768211455
       → more.raised ≡ kept.raised + held_sizes (is_of (Some t)) Raise kept.held.items)
@@ -509,23 +407,21 @@ module _ (f : ℕ) (kept more : Standing) (t : TxnId)
         few = omega (arith, was.few, raised_is, lowered_is, left Raise, left Lower);
       }
 
-pub notes_give : (f : ℕ) (kept more : Standing) (to : Option SiteNo) (field : FieldNo) (kind : Kind) (n : ℕ) → more.txns ≡ kept.txns
-    → more.held ≡ kept.held → more.raised ≡ kept.raised → more.lowered ≡ kept.lowered
-    → more.gifts.items ≡ pushed (eqb field.0 f) kept.gifts.items (Gives to field kind n) → Notes f kept (Gives to field kind n) more
+pub notes_give : (f : ℕ) (kept : Standing) (list : Vec Effect) (to : Option SiteNo) (field : FieldNo) (kind : Kind) (n : ℕ)
+    → list.items ≡ pushed (eqb field.0 f) kept.gifts.items (Gives to field kind n)
+    → Notes f kept (Gives to field kind n) (record kept { gifts = list })
 unfolding Notes Stands
-notes_give f kept more to field kind n open_is held_is raised_is lowered_is gifts_is = λ schema base es lawful before few.
+notes_give f kept list to field kind n is = λ schema base es lawful before few.
     let was = before (omega (arith, few)) in
     record {
-      ids = ap (λ v. reverse v.items) open_is ∙ was.ids;
-      held = λ q k. ap (λ v. held_sizes q k v.items) held_is ∙ was.held q k;
-      raised = raised_is ∙ was.raised;
-      lowered = lowered_is ∙ was.lowered;
-      given = λ p k. ap (λ (l : List Effect). gifts p f k l) gifts_is ∙ by p k (eqb field.0 f) refl (gifts p f k es) (was.given p k);
-      accepted = λ x s from k. ap (λ (l : List Effect). total_accepted (fresh x s) from f k l) gifts_is
-          ∙ taken x s from k (eqb field.0 f) ∙ was.accepted x s from k;
+      ids = was.ids;
+      held = was.held;
+      raised = was.raised;
+      lowered = was.lowered;
+      given = λ p k. rw is (by p k (eqb field.0 f) refl (gifts p f k es) (was.given p k));
+      accepted = λ x s from k. rw is (taken x s from k (eqb field.0 f) ∙ was.accepted x s from k);
       short = few;
-      few = let same = λ (k : Kind). ap (λ v. held_sizes (λ _. true) k v.items) held_is in
-          omega (arith, was.few, raised_is, lowered_is, same Raise, same Lower);
+      few = omega (arith, was.few);
     }
   where
     by : (p : Option SiteNo → Bool) (k : Kind) (b : Bool) → eqb field.0 f ≡ b → (all : ℕ) → gifts p f k kept.gifts.items ≡ all
@@ -539,24 +435,21 @@ notes_give f kept more to field kind n open_is held_is raised_is lowered_is gift
     taken x s from k true = accepted_push (fresh x s) from f k (Gives to field kind n) kept.gifts.items
     taken x s from k false = refl
 
-pub notes_accept : (f : ℕ) (kept more : Standing) (site : SiteNo) (field : FieldNo) (kind : Kind) (n : ℕ) → more.txns ≡ kept.txns
-    → more.held ≡ kept.held → more.raised ≡ kept.raised → more.lowered ≡ kept.lowered
-    → more.gifts.items ≡ pushed (eqb field.0 f) kept.gifts.items (Accepts site field kind n)
-    → Notes f kept (Accepts site field kind n) more
+pub notes_accept : (f : ℕ) (kept : Standing) (list : Vec Effect) (site : SiteNo) (field : FieldNo) (kind : Kind) (n : ℕ)
+    → list.items ≡ pushed (eqb field.0 f) kept.gifts.items (Accepts site field kind n)
+    → Notes f kept (Accepts site field kind n) (record kept { gifts = list })
 unfolding Notes Stands
-notes_accept f kept more site field kind n open_is held_is raised_is lowered_is gifts_is = λ schema base es lawful before few.
+notes_accept f kept list site field kind n is = λ schema base es lawful before few.
     let was = before (omega (arith, few)) in
     record {
-      ids = ap (λ v. reverse v.items) open_is ∙ was.ids;
-      held = λ q k. ap (λ v. held_sizes q k v.items) held_is ∙ was.held q k;
-      raised = raised_is ∙ was.raised;
-      lowered = lowered_is ∙ was.lowered;
-      given = λ p k. ap (λ (l : List Effect). gifts p f k l) gifts_is ∙ by p k (eqb field.0 f) ∙ was.given p k;
-      accepted = λ x s from k. ap (λ (l : List Effect). total_accepted (fresh x s) from f k l) gifts_is
-          ∙ taken x s from k (eqb field.0 f) refl (total_accepted (fresh x s) from f k es) (was.accepted x s from k);
+      ids = was.ids;
+      held = was.held;
+      raised = was.raised;
+      lowered = was.lowered;
+      given = λ p k. rw is (by p k (eqb field.0 f) ∙ was.given p k);
+      accepted = λ x s from k. rw is (taken x s from k (eqb field.0 f) refl (total_accepted (fresh x s) from f k es) (was.accepted x s from k));
       short = few;
-      few = let same = λ (k : Kind). ap (λ v. held_sizes (λ _. true) k v.items) held_is in
-          omega (arith, was.few, raised_is, lowered_is, same Raise, same Lower);
+      few = omega (arith, was.few);
     }
   where
     by : (p : Option SiteNo → Bool) (k : Kind) (b : Bool)
@@ -577,30 +470,22 @@ notes_accept f kept more site field kind n open_is held_is raised_is lowered_is 
         ∙ ap (λ (m : ℕ). cond (eqb field.0 f && same_kind kind k && eqb site.0 from) (max n m) m) was
     taken x s from k false off all was = was ∙ off_is (eqb field.0 f) (same_kind kind k) (eqb site.0 from) (max n all) all off
 
-pub notes_stop : (f : ℕ) (kept more : Standing) → more.txns.items ≡ [] → more.held.items ≡ [] → more.raised ≡ kept.raised
-    → more.lowered ≡ kept.lowered → more.gifts ≡ kept.gifts → Notes f kept Stops more
+pub notes_stop : (f : ℕ) (kept : Standing) (txns : Vec TxnId) (held : Vec Held) → txns.items ≡ [] → held.items ≡ []
+    → Notes f kept Stops (record kept { txns = txns; held = held })
 unfolding Notes Stands
-notes_stop f kept more open_is held_is raised_is lowered_is gifts_is = λ schema base es lawful before few.
+notes_stop f kept txns held open_is held_is = λ schema base es lawful before few.
     let was = before (omega (arith, few)) in
     record {
-      ids = ap (λ (l : List TxnId). reverse l) open_is ∙ sym (stop_closes_all es);
-      held = λ q k. held_same q k held_is
-          ∙ sym (granted-same schema base (λ id. is_open id (Stops ∷ es) && q id) (λ _. false) f k es lawful.0
+      ids = rw open_is (sym (stop_closes_all es));
+      held = λ q k. rw held_is (sym (granted-same schema base (λ id. is_open id (Stops ∷ es) && q id) (λ _. false) f k es lawful.0
           (λ id there. ap (λ (b : Bool). b && q id) (closed_by_stop id es there))
-          ∙ granted_none f k es);
-      raised = raised_is ∙ was.raised;
-      lowered = lowered_is ∙ was.lowered;
-      given = λ p k. ap (λ v. gifts p f k v.items) gifts_is ∙ was.given p k;
-      accepted = λ x s from k. ap (λ v. total_accepted (fresh x s) from f k v.items) gifts_is ∙ was.accepted x s from k;
+          ∙ granted_none f k es));
+      raised = was.raised;
+      lowered = was.lowered;
+      given = was.given;
+      accepted = was.accepted;
       short = few;
-      few = omega (
-        arith,
-        was.few,
-        raised_is,
-        lowered_is,
-        held_same (λ _. true) Raise held_is,
-        held_same (λ _. true) Lower held_is,
-      );
+      few = omega (arith, was.few, held_same (λ _. true) Raise held_is, held_same (λ _. true) Lower held_is);
     }
 
 -- ---- the start, and a walk over what is held
@@ -617,13 +502,7 @@ stands_first kept open_is held_is raised_is lowered_is gifts_is f = λ few.
       given = λ p k. ap (λ (l : List Effect). gifts p f k l) gifts_is;
       accepted = λ x s from k. ap (λ (l : List Effect). total_accepted (fresh x s) from f k l) gifts_is;
       short = few;
-      few = omega (
-        arith,
-        raised_is,
-        lowered_is,
-        held_same (λ _. true) Raise held_is,
-        held_same (λ _. true) Lower held_is,
-      );
+      few = omega (arith, raised_is, lowered_is, held_same (λ _. true) Raise held_is, held_same (λ _. true) Lower held_is);
     }
 
 -- a row more is added, where all fit

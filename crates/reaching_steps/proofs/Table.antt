@@ -1,13 +1,10 @@
 -- The table of a trial.
-use Rattle.std.proofs.Common.{◌≡◌, ℕ, ◌<◌, ◌≤◌, Bool, true, false, List, ◌∷◌, length, get_or, slice_set, reverse, sym, ◌∙◌, ap, subst, arith, inl, inr}
+use Rattle.std.proofs.Common.{◌≡◌, ℕ, ◌<◌, ◌≤◌, Bool, true, List, ◌∷◌, length, get_or, slice_set, reverse, refl, sym, ◌∙◌, ap, subst, arith, inl, inr}
 use Rattle.std.proofs.lemmas.Bool.{cases_eq}
-use Rattle.std.proofs.lemmas.List.{length-set, get_or-set_same, get_or-set_other}
-use Rattle.field_bounds.specs.declared.id.TxnId.{TxnId}
+use Rattle.std.proofs.lemmas.List.{length-reverse, length-set, get_or-set_same, get_or-set_other}
 use Rattle.field_bounds.specs.declared.entry.Entry.{Entry}
-use Rattle.field_bounds.specs.declared.effect.Effect.{Effect}
 use Rattle.field_bounds.specs.Schema.{SchemaValue}
-use Rattle.field_bounds.specs.Effects.{fresh, effects, open_txns}
-use Rattle.field_bounds.specs.Central.{own, at_site}
+use Rattle.field_bounds.specs.Central.{at_site}
 use Rattle.field_bounds.proofs.Traces.{own_there}
 use Rattle.world_steps.specs.View.{WorldValue, trace_of}
 use Rattle.kept_state.specs.Luck.{Lucky, entries}
@@ -29,37 +26,22 @@ unfolding AllTold
 told_next schema f t u e rows v is here told = λ s d below.
     let inside : s < length rows = omega (arith, below, length-set rows e.site.0 v) in
     elim (cases_eq e.site.0 s) [
-      | inl same ↦
-          subst (λ (n : ℕ). Stands f (get_or (slice_set rows e.site.0 v) n d) (at_site schema u n)) same
-          (subst (λ (x : Standing). Stands f x (at_site schema u e.site.0))
-          (sym (get_or-set_same rows e.site.0 v d (subst (λ (n : ℕ). n < length rows) (sym same) inside))) here)
+      | inl same ↦ rw (← same, get_or-set_same rows e.site.0 v d (rw same inside)) here
       | inr other ↦
-          subst (λ (x : Standing). Stands f x (at_site schema u s)) (sym (get_or-set_other rows e.site.0 s v d (λ h. other (sym h))))
-          (subst (λ (l : List Effect). Stands f (get_or rows s d) l)
-          (ap (λ (o : List Entry). effects (fresh schema s) false o)
-          (sym (own_there s e t other) ∙ ap (λ (l : List Entry). own s l) (sym is))) (told s d inside))
+          rw (get_or-set_other rows e.site.0 s v d (λ h. other (sym h)), is, own_there s e t other) (told s d inside)
     ]
 
 -- what a whole table tells of a site
-pub told_of : (w v : WorldValue) (f : ℕ) (rows : List Standing) (whole : Bool) (s i : ℕ) (x : Standing) → w ≡ v
-    → IsTrial v f rows whole → whole ≡ true → s < w.schema.sites
-    → i ≡ s → x ≡ get_or rows i x → length (trace_of w) ≤ 18446744073709551615 → Tells f x (at_site w.schema (trace_of w) s)
+pub told_of : {w v : WorldValue} (f : ℕ) (rows : List Standing) {whole : Bool} {s i : ℕ} {x : Standing} (trace : List Entry) → w ≡ v
+    → IsTrial v f rows whole → whole ≡ true → s < w.schema.sites → i ≡ s → x ≡ get_or rows i x
+    → length trace ≤ 18446744073709551615 → reverse trace ≡ trace_of v → Tells f x (at_site w.schema (trace_of w) s)
 unfolding AllTold
-told_of w v f rows whole s i x same trial is below at found few =
+told_of {w} {v} f rows {s} {x} trace same trial is below at found short read =
     let all = trial is in
     let count : w.schema.sites ≡ length rows = ap (λ (y : WorldValue). y.schema.sites) same ∙ sym all.0 in
-    told_so f x (at_site w.schema (trace_of w) s)
-    (subst (λ (y : Standing). Stands f y (at_site w.schema (trace_of w) s)) (sym (found ∙ ap (λ (n : ℕ). get_or rows n x) at))
-    (subst (λ (y : WorldValue). Stands f (get_or rows s x) (at_site y.schema (trace_of y) s)) (sym same)
-    (all.1 s x (omega (arith, below, count)))))
-    (omega (arith, few, site_few w.schema s (trace_of w)))
-
-pub open_of : (w v : WorldValue) (f : ℕ) (rows : List Standing) (whole : Bool) (s i : ℕ) (x : Standing) (ids : List TxnId) → w ≡ v
-    → IsTrial v f rows whole → whole ≡ true → s < w.schema.sites
-    → i ≡ s → x ≡ get_or rows i x → ids ≡ x.txns.items
-    → length (trace_of w) ≤ 18446744073709551615 → reverse ids ≡ open_txns (at_site w.schema (trace_of w) s)
-open_of w v f rows whole s i x ids same trial is below at found ids_is few =
-    ap (λ (l : List TxnId). reverse l) ids_is ∙ (told_of w v f rows whole s i x same trial is below at found few).ids
+    let few : length (trace_of v) ≤ 18446744073709551615 = omega (arith, short, length-reverse trace, ap (λ (l : List Entry). length l) read) in
+    rw same (told_so f x (at_site v.schema (trace_of v) s) (rw (found ∙ ap (λ (n : ℕ). get_or rows n x) at) (all.1 s x (omega (arith, below, count))))
+    (omega (arith, few, site_few v.schema s (trace_of v))))
 
 -- what a step made is the newest entry
 pub made_is : (w v : WorldValue) (step : WorldStep) (e : Entry) → Answers (Made e) w step v → trace_of v ≡ e ∷ trace_of w
@@ -70,20 +52,15 @@ none_is w v step is = ap (λ (l : List Lucky). entries l) is.1
 
 pub renews_none : (v : WorldValue) (f : ℕ) (rows : List Standing) → Renews v f NoStatement rows rows
 unfolding Renews
-renews_none v f rows = λ w step is same told. (
-  told.0 ∙ ap (λ (x : SchemaValue). x.sites) (sym same),
-  subst (λ (x : SchemaValue). AllTold x f (trace_of v) rows) (sym same)
-      (subst (λ (l : List Entry). AllTold w.schema f l rows) (sym (none_is w v step is)) told.1),
-)
+renews_none v f rows = λ w step is same told. (rw same told.0, rw (none_is w v step is, same) told.1)
 
 pub renews_made : (v : WorldValue) (f : ℕ) (e : Entry) (rows more : List Standing) (x : Standing)
     → Stands f x (at_site v.schema (trace_of v) e.site.0) → more ≡ slice_set rows e.site.0 x
     → Renews v f (Made e) rows more
 unfolding Renews
 renews_made v f e rows more x here set = λ w step is same told. (
-  ap (λ (l : List Standing). length l) set ∙ length-set rows e.site.0 x ∙ told.0 ∙ ap (λ (y : SchemaValue). y.sites) (sym same),
-  subst (λ (l : List Standing). AllTold v.schema f (trace_of v) l) (sym set)
-      (told_next v.schema f (trace_of w) (trace_of v) e rows x (made_is w v step e is) here
+  rw (set, length-set rows e.site.0 x, told.0, same) refl,
+  rw set (told_next v.schema f (trace_of w) (trace_of v) e rows x (made_is w v step e is) here
       (subst (λ (y : SchemaValue). AllTold y f (trace_of w) rows) (sym same) told.1)),
 )
 

@@ -1,8 +1,8 @@
 -- Each value of an interval is reached.
-use Rattle.std.proofs.Common.{◌≡◌, Bool, false, List, [], ◌∷◌, ◌++◌, refl, arith, Option, Some, None, All}
+use Rattle.std.proofs.Common.{◌≡◌, false, List, [], ◌∷◌, ◌++◌, refl, arith, Option, Some, None, All}
 use Rattle.std.proofs.lemmas.Bool.{le-ltb}
 use Rattle.std.proofs.lemmas.Int.{ints}
-use Rattle.std.specs.Prelude.{ℤ, pos, negsuc, ◌≤ℤ◌, int_lt, ◌||◌, Result, Ok, Err, IfErr}
+use Rattle.std.specs.Prelude.{ℤ, pos, negsuc, ◌≤ℤ◌, int_lt, Result, Ok, Err, IfErr}
 use Rattle.field_bounds.specs.declared.id.SiteNo.{SiteNo}
 use Rattle.field_bounds.specs.declared.id.FieldNo.{FieldNo}
 use Rattle.field_bounds.specs.declared.entry.Entry.{Entry}
@@ -14,7 +14,7 @@ use Rattle.field_bounds.specs.Central.{own}
 use Rattle.world_steps.specs.declared.step.WorldStep.{WorldStep}
 use Rattle.world_steps.specs.World.{StepFits, trace_by}
 use Rattle.reaching_steps.specs.declared.fault.ReachFault.{ReachFault}
-use Rattle.reaching_steps.specs.declared.fault.ReachFault.TheVariants.{NoMemory, NoSite, NoField, NotUp, InFlight, Unstated, Tightened, Numbers, Outside}
+use Rattle.reaching_steps.specs.declared.fault.ReachFault.TheVariants.{NoMemory, Outside}
 use Rattle.reaching_steps.specs.Reach.{first_fault, fault_if, lies_outside, reach_fault, reach_steps}
 use Rattle.reaching_steps.specs.Tight.{hindrances, IsUnhindered, LiesWithin}
 use Rattle.reaching_steps.specs.Body.{Does, Explains}
@@ -26,9 +26,6 @@ not_below (pos a) (negsuc b) h = refl
 not_below (negsuc a) (pos b) h = absurd (omega (arith, ints, h))
 not_below (negsuc a) (negsuc b) h = le-ltb b a (omega (arith, ints, h))
 
-neither : (a b : Bool) → a ≡ false → b ≡ false → (a || b) ≡ false
-neither a b h g = rw (h, g) refl
-
 -- a fault behind others, none of which holds
 behind : (faults : List (Option ReachFault)) (last : Option ReachFault) → first_fault faults ≡ None → last ≡ None
     → first_fault (faults ++ last ∷ []) ≡ None
@@ -37,30 +34,18 @@ behind [] (Some fault) h none = none
 behind (None ∷ rest) last h none = behind rest last h none
 behind (Some fault ∷ rest) last h none = cc
 
-unfaulted : (b : Bool) (fault : ReachFault) → b ≡ false → fault_if b fault ≡ None
-unfaulted b fault h = rw h refl
-
 -- where nothing stands in the way of a value within, no fault holds
 unhindered_clear : (schema : SchemaValue) (t : List Entry) (site : SiteNo) (field : FieldNo) (target : ℤ)
     → IsUnhindered schema t site field → LiesWithin schema t site field target → reach_fault schema t site field target ≡ None
 unhindered_clear schema t site field target free within =
     let interval = interval_at (place schema site.0 (fresh schema site.0) (own site.0 t)) field in
     behind (hindrances schema t site field) (fault_if (lies_outside interval target) (Outside interval.0 interval.1)) free
-    (unfaulted (lies_outside interval target) (Outside interval.0 interval.1)
-    (neither (int_lt target interval.0) (int_lt interval.1 target) (not_below target interval.0 within.0)
-    (not_below interval.1 target within.1)))
+    (rw (not_below target interval.0 within.0, not_below interval.1 target within.1) refl)
 
 -- a fault that is told where none holds is want of memory
 memory_alone : (fault : ReachFault) (first : Option ReachFault) → Explains fault first → first ≡ None → fault ≡ NoMemory
 memory_alone NoMemory first told none = refl
-memory_alone NoSite first told none = cc
-memory_alone NoField first told none = cc
-memory_alone (NotUp site) first told none = cc
-memory_alone (InFlight site) first told none = cc
-memory_alone (Unstated site) first told none = cc
-memory_alone Tightened first told none = cc
-memory_alone (Numbers site) first told none = cc
-memory_alone (Outside lo hi) first told none = cc
+memory_alone fault first told none = cc
 
 pub only_memory : {T : Type 0} (r : Result T ReachFault) (schema : SchemaValue) (t : List Entry) (site : SiteNo) (field : FieldNo)
     (target : ℤ)

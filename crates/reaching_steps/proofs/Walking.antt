@@ -1,5 +1,5 @@
 -- A walk over effects from the newest on.
-use Rattle.std.proofs.Common.{◌≡◌, ℕ, suc, ◌+◌, ◌<◌, ◌≤◌, Bool, List, ◌∷◌, drop, length, get_or, ◌∙◌, ap, arith}
+use Rattle.std.proofs.Common.{◌≡◌, ℕ, ◌+◌, ◌<◌, ◌≤◌, Bool, List, ◌∷◌, drop, length, get_or, ◌∙◌, ap, arith, add-one}
 use Rattle.std.specs.Prelude.{Option}
 use Rattle.std.proofs.lemmas.List.{drop_more}
 use Rattle.field_bounds.specs.declared.kind.Kind.{Kind}
@@ -18,10 +18,7 @@ gift_step p f k deeds i d x a b all below adds same was =
     omega (arith, is, adds (drop (i + 1) deeds), was, same)
 
 pub sum_next : (F : ℕ → ℕ) (i all more : ℕ) → all ≡ sum_below i F → more ≡ F i → all + more ≡ sum_below (i + 1) F
-sum_next F i all more was is =
-    let one : i + 1 ≡ suc i = omega arith in
-    let next : sum_below (i + 1) F ≡ sum_below i F + F i = ap (λ (n : ℕ). sum_below n F) one in
-    omega (arith, next, was, is)
+sum_next F i all more was is = rw add-one (omega (arith, was, is))
 
 pub sum_whole : (F : ℕ → ℕ) (i n all : ℕ) → i ≤ n → n ≤ i → all ≡ sum_below i F → all ≡ sum_below n F
 sum_whole F i n all low high was = let same : i ≡ n = omega (arith, low, high) in was ∙ ap (λ (m : ℕ). sum_below m F) same

@@ -122,7 +122,4 @@ module _ (schema : SchemaValue) (good : IsSchema schema) (logs : List (List Reco
 -- so the value lies within the bounds
 pub bounded : (schema : SchemaValue) (logs : List (List Record)) → IsConserved schema logs → (f : ℕ) → f < length schema.fields
     → (floor_in schema logs f ≤ℤ value_in schema logs f) × (value_in schema logs f ≤ℤ ceiling_in schema logs f)
-bounded schema logs is f field_in = (
-  omega (arith, ints, is.lowering f field_in),
-  omega (arith, ints, is.raising f field_in),
-)
+bounded schema logs is f field_in = (omega (arith, ints, is.lowering f field_in), omega (arith, ints, is.raising f field_in))

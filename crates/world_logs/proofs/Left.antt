@@ -1,5 +1,5 @@
 -- The logs that a trace left add up, and to what the trace comes to.
-use Rattle.std.proofs.Common.{◌≡◌, ℕ, ◌+◌, ◌-◌, ◌<◌, Bool, false, List, [], length, sym, ◌∙◌, arith}
+use Rattle.std.proofs.Common.{◌≡◌, ℕ, ◌+◌, ◌-◌, ◌<◌, Bool, false, List, length, sym, ◌∙◌, arith}
 use Rattle.std.proofs.lemmas.Int.{ints}
 use Rattle.field_bounds.specs.declared.kind.Kind.{Kind}
 use Rattle.field_bounds.specs.declared.kind.Kind.TheVariants.{Lower, Raise}
@@ -28,28 +28,24 @@ module _ (schema : SchemaValue) (t : List Entry) (sound : IsSound schema t) (kep
     pub gave_is : (to f : ℕ) (k : Kind) → total_given (fresh schema s) to f k (effects (fresh schema s) (kept s) (own s t))
         ≡ given_in (log_of logs s) to f k
     gave_is to f k =
-        run_gives schema s (fresh schema s) [] (kept s) (own s t) (plain (log_of logs s)) (fresh_is_base schema s) (sound.runs s below)
-        (are.left s below) to f k
+        run_gives schema s _ _ _ _ _ (fresh_is_base schema s) (sound.runs s below) (are.left s below) to f k
         ∙ (plain_same (log_of logs s)).given to f k
 
     pub accepted_is : (from f : ℕ) (k : Kind) → total_accepted (fresh schema s) from f k (effects (fresh schema s) (kept s) (own s t))
         ≡ accepted_in (log_of logs s) from f k
     accepted_is from f k =
-        run_accepts schema s (fresh schema s) [] (kept s) (own s t) (plain (log_of logs s)) (fresh_is_base schema s) (sound.runs s below)
-        (are.left s below) from f k
+        run_accepts schema s _ _ _ _ _ (fresh_is_base schema s) (sound.runs s below) (are.left s below) from f k
         ∙ (plain_same (log_of logs s)).accepted from f k
 
     pub cut_is : (f : ℕ) (k : Kind) → cut (fresh schema s) f k (effects (fresh schema s) (kept s) (own s t)) ≡ cut_in (log_of logs s) f k
     cut_is f k =
-        run_cuts schema s (fresh schema s) [] (kept s) (own s t) (plain (log_of logs s)) (fresh_is_base schema s) (sound.runs s below)
-        (are.left s below) f k
+        run_cuts schema s _ _ _ _ _ (fresh_is_base schema s) (sound.runs s below) (are.left s below) f k
         ∙ (plain_same (log_of logs s)).cut f k
 
     pub own_is : (f : ℕ) (k : Kind) → own_rights (fresh schema s) f k (effects (fresh schema s) (kept s) (own s t))
         ≡ own_in schema s (log_of logs s) f k
     own_is f k =
-        run_owns schema s (fresh schema s) [] (kept s) (own s t) (plain (log_of logs s)) (fresh_is_base schema s) (sound.runs s below)
-        (are.left s below) f k
+        run_owns schema s _ _ _ _ _ (fresh_is_base schema s) (sound.runs s below) (are.left s below) f k
         ∙ own_same schema s (plain (log_of logs s)) (log_of logs s) (plain_same (log_of logs s)) f k
 
   -- no site has accepted more than it was given, whatever is kept of what is in doubt

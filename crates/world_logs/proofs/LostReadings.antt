@@ -63,9 +63,8 @@ unlawful_at schema logs s rs (BreaksRule site number) site_in is before told =
       broken = subst (λ (log : List Record). IsFirstBroken schema s log number) (sym is) told.1;
       before = before;
     })
-unlawful_at schema logs s rs (AcceptedMore excess) site_in is before told = absurd told
-unlawful_at schema logs s rs (TooMuch field) site_in is before told = absurd told
 unlawful_at schema logs s rs NoMemory site_in is before told = tt
+unlawful_at schema logs s rs fault site_in is before told = absurd told
 
 -- ---- the whole
 
@@ -79,20 +78,14 @@ pub records_are : (logs : List (Option (Vec Record))) → map (λ (o : Option (V
 records_are [] = refl
 records_are (o ∷ logs) = ap (λ (ls : List (List Record)). records_in o ∷ ls) (records_are logs)
 
--- which logs are lost, as it was told
-told_lost_is : (logs : List (Option (Vec Record))) (lost told_lost : List Bool) → told_lost ≡ lost
-    → lost ≡ map (λ (o : Option (Vec Record)). is_none o) logs → told_lost ≡ lost_in (known_of logs)
-told_lost_is logs lost told_lost same is = same ∙ is ∙ lost_same logs
-
-pub stand_for_known : (schema : SchemaValue) (logs : List (Option (Vec Record))) (standings told : List Standing) (lost told_lost : List Bool)
-    → length logs ≡ schema.sites → StandFor schema (map (λ (o : Option (Vec Record)). records_in o) logs) standings → told ≡ standings → told_lost ≡ lost
-    → lost ≡ map (λ (o : Option (Vec Record)). is_none o) logs → StandForKnown schema (known_of logs) told told_lost
-stand_for_known schema logs standings told lost told_lost count stand same same_lost is =
+pub stand_for_known : {schema : SchemaValue} (logs : List (Option (Vec Record))) {standings told : List Standing} {lost told_lost : List Bool}
+    → length logs ≡ schema.sites → StandFor schema (map (λ (o : Option (Vec Record)). records_in o) logs) standings → told ≡ standings
+    → told_lost ≡ lost → lost ≡ map (λ (o : Option (Vec Record)). is_none o) logs → StandForKnown schema (known_of logs) told told_lost
+stand_for_known {schema} logs count stand same same_lost is =
     record {
-      stand = subst (λ (xs : List Standing). StandFor schema (known_records (known_of logs)) xs) (sym same)
-          (subst (λ (ls : List (List Record)). StandFor schema ls standings) (records_are logs) stand);
+      stand = rw (same, ← records_are logs) stand;
       count = length-map logs (λ (o : Option (Vec Record)). option_map (λ (v : Vec Record). v.items) o) ∙ count;
-      lost_is = λ s. ap (λ (l : List Bool). is_lost l s) (told_lost_is logs lost told_lost same_lost is);
+      lost_is = λ s. ap (λ (l : List Bool). is_lost l s) (same_lost ∙ is ∙ lost_same logs);
     }
 
 -- which pairs of sites are known, by which logs are lost
@@ -104,19 +97,18 @@ known_pair schema lost others same from to f known = record {
   to_known = sym (same to) ∙ known.to_known;
 }
 
-pub known_within : (schema : SchemaValue) (known : List (Option (List Record))) (lost : List Bool)
-    → ((s : ℕ) → is_lost lost s ≡ is_lost (lost_in known) s)
+pub known_within : {schema : SchemaValue} {known : List (Option (List Record))} {standings : List Standing} {lost : List Bool}
+    → StandForKnown schema known standings lost
     → ((from to f : ℕ) (k : Kind) → IsKnownPair schema lost from to f → IsGiven (known_records known) from to f k)
     → KnownWithin schema known
-known_within schema known lost same within from to f k pair =
-    within from to f k (known_pair schema (lost_in known) lost (λ s. sym (same s)) from to f pair)
+known_within {schema} {known} {lost} is within from to f k pair =
+    within from to f k (known_pair schema (lost_in known) lost (λ s. sym (is.lost_is s)) from to f pair)
 
-pub excess_tells : (schema : SchemaValue) (known : List (Option (List Record))) (standings : List Standing) (lost : List Bool) (e : Excess)
+pub excess_tells : {schema : SchemaValue} {known : List (Option (List Record))} {standings : List Standing} {lost : List Bool} {e : Excess}
     → StandForKnown schema known standings lost → IsFirstExcess (IsKnownPair schema lost) (known_records known) e
     → TellsKnownFault schema known (AcceptedMore e)
-excess_tells schema known standings lost e is first =
-    let back : (from to f : ℕ) → IsKnownPair schema (lost_in known) from to f → IsKnownPair schema lost from to f =
-    known_pair schema (lost_in known) lost (λ s. sym (is.lost_is s)) in (
+excess_tells {schema} {known} {lost} {e} is first =
+    let back = known_pair schema (lost_in known) lost (λ s. sym (is.lost_is s)) in (
       is.stand.lawful,
       record {
         pair = known_pair schema lost (lost_in known) is.lost_is e.from.0 e.to.0 e.field.0 first.pair;
@@ -130,17 +122,15 @@ excess_tells schema known standings lost e is first =
 
 pub too_much_tells : (schema : SchemaValue) (known : List (Option (List Record))) (fault : WorldFault) → KnownWithin schema known
     → TellsTooMuch schema known fault → TellsKnownFault schema known fault
-too_much_tells schema known (BreaksRule site number) within told = absurd told
-too_much_tells schema known (AcceptedMore excess) within told = absurd told
 too_much_tells schema known (TooMuch field) within told = (within, told)
 too_much_tells schema known NoMemory within told = tt
+too_much_tells schema known fault within told = absurd told
 
 pub unlawful_tells : (schema : SchemaValue) (known : List (Option (List Record))) (fault : WorldFault)
     → TellsUnlawful schema (known_records known) fault → TellsKnownFault schema known fault
 unlawful_tells schema known (BreaksRule site number) told = told
-unlawful_tells schema known (AcceptedMore excess) told = absurd told
-unlawful_tells schema known (TooMuch field) told = absurd told
 unlawful_tells schema known NoMemory told = tt
+unlawful_tells schema known fault told = absurd told
 
 -- ---- standings where logs are known
 
@@ -154,17 +144,14 @@ lawful_at schema s (Some rs) (Some standing) stands = stands.0
 filled_at : (schema : SchemaValue) (s : ℕ) (log : Option (List Record)) (told : Option Standing) (one : Standing)
     → StandsWhereKnown schema s log told → IsFilled schema s told one → IsStandingFor schema s (unwrap_or log []) one
 filled_at schema s None None one stands filled = filled
-filled_at schema s None (Some standing) one stands filled = absurd stands
-filled_at schema s (Some rs) None one stands filled = absurd stands
-filled_at schema s (Some rs) (Some standing) one stands filled =
-    subst (λ (x : Standing). IsStandingFor schema s rs x) (sym filled) stands.1
+filled_at schema s (Some rs) (Some standing) one stands filled = rw filled stands.1
+filled_at schema s log told one stands filled = absurd stands
 
 none_at : (schema : SchemaValue) (s : ℕ) (log : Option (List Record)) (told : Option Standing) → StandsWhereKnown schema s log told
     → is_none told ≡ is_none log
 none_at schema s None None stands = refl
-none_at schema s None (Some standing) stands = absurd stands
-none_at schema s (Some rs) None stands = absurd stands
 none_at schema s (Some rs) (Some standing) stands = refl
+none_at schema s log told stands = absurd stands
 
 -- which logs are lost, site by site
 none_where_lost : (schema : SchemaValue) (known : List (Option (List Record))) (standings : List (Option Standing))
@@ -181,25 +168,24 @@ none_where_lost schema known standings for_ s = elim (cases_lt s schema.sites) [
       ∙ sym (get_or_past (lost_in known) s false (omega (arith, past, for_.logs, length-map known (λ (o : Option (List Record)). is_none o))))
 ]
 
-pub stand_where_known : (schema : SchemaValue) (known : List (Option (List Record))) (standings : List (Option Standing))
-    (all told : List Standing) (lost told_lost : List Bool) → AreForKnown schema known standings → AreFilled schema standings all → told ≡ all
-    → lost ≡ map (λ (o : Option Standing). is_none o) standings → told_lost ≡ lost → StandForKnown schema known told told_lost
-stand_where_known schema known standings all told lost told_lost for_ filled same is same_lost =
-    let at : (s : ℕ) → s < schema.sites → unwrap_or (known_log known s) [] ≡ log_of (known_records known) s =
-    λ s site_in. sym (records_at known s (omega (arith, site_in, for_.logs))) in
+pub stand_where_known : {schema : SchemaValue} {known : List (Option (List Record))} {standings kept : List (Option Standing)}
+    {all told : List Standing} {lost told_lost : List Bool} → AreForKnown schema known standings → AreFilled schema standings all
+    → told ≡ all → lost ≡ map (λ (o : Option Standing). is_none o) kept → kept ≡ standings → told_lost ≡ lost
+    → StandForKnown schema known told told_lost
+stand_where_known {schema} {known} {standings} {all} for_ filled same is kept_is same_lost =
+    let at : (s : ℕ) → s < schema.sites → log_of (known_records known) s ≡ unwrap_or (known_log known s) [] =
+    λ s site_in. records_at known s (omega (arith, site_in, for_.logs)) in
     record {
       stand = record {
         lawful = record {
           count = length-map known (λ (o : Option (List Record)). unwrap_or o []) ∙ for_.logs;
-          each = λ s site_in. subst (λ (rs : List Record). Lawful schema s rs) (at s site_in)
-              (lawful_at schema s (known_log known s) (get_or standings s None) (for_.each s site_in));
+          each = λ s site_in. rw (at s site_in) (lawful_at schema s (known_log known s) (get_or standings s None) (for_.each s site_in));
         };
         count = ap length same ∙ filled.count ∙ for_.count;
-        each = λ s d site_in. subst (λ (rs : List Record). IsStandingFor schema s rs (get_or told s d)) (at s site_in)
-            (subst (λ (xs : List Standing). IsStandingFor schema s (unwrap_or (known_log known s) []) (get_or xs s d)) (sym same)
+        each = λ s d site_in. rw (at s site_in, same)
             (filled_at schema s (known_log known s) (get_or standings s None) (get_or all s d) (for_.each s site_in)
-            (filled.each s d (omega (arith, site_in, for_.count)))));
+            (filled.each s d (omega (arith, site_in, for_.count))));
       };
       count = for_.logs;
-      lost_is = λ s. ap (λ (l : List Bool). is_lost l s) (same_lost ∙ is) ∙ none_where_lost schema known standings for_ s;
+      lost_is = λ s. rw (same_lost, is, kept_is) (none_where_lost schema known standings for_ s);
     }

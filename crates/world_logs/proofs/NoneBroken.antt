@@ -1,12 +1,12 @@
 -- What each log came to, where none breaks a rule.
-use Rattle.std.proofs.Common.{◌≡◌, ℕ, ◌<◌, List, Option, None, length, map, get_or, sym, ◌∙◌, ap, subst, arith}
+use Rattle.std.proofs.Common.{◌≡◌, ℕ, ◌<◌, List, Option, None, length, map, get_or, sym, ◌∙◌, ap, arith}
 use Rattle.std.specs.Prelude.{Result, Ok, Err}
 use Rattle.std.proofs.lemmas.List.{get_or-map, length-map}
 use Rattle.field_bounds.specs.Schema.{SchemaValue}
 use Rattle.log_replay.specs.declared.standing.Standing.{Standing}
 use Rattle.world_logs.specs.Body.{StandsForLog, AreForLogs}
 use Rattle.world_logs.specs.LostBody.{StandsIfKnown, AreForKnownLogs}
-use Rattle.world_logs.specs.Outcomes.{IsOutcome, AreOutcomes}
+use Rattle.world_logs.specs.Outcomes.{AreOutcomes}
 
 abbrev pub ok : (A : Type 0) → A → Result A ℕ
 ok A x = Ok x
@@ -18,10 +18,7 @@ module _ {A : Type 0} (schema : SchemaValue) (StandsFor : ℕ → A → Type 0) 
 
   stands : (s : ℕ) (d : A) → s < schema.sites → StandsFor s (get_or xs s d)
   stands s d site_in =
-      subst (λ (r : Result A ℕ). IsOutcome schema StandsFor s r)
-      (ap (λ (l : List (Result A ℕ)). get_or l s (Err 0)) same
-      ∙ get_or-map (ok A) xs s d (Err 0) (omega (arith, site_in, count)))
-      (are.each s site_in)
+      rw (same, get_or-map (ok A) xs s d (Err 0) (omega (arith, site_in, count))) at (are.each s site_in)
 
 pub are_for_logs : (schema : SchemaValue) (outcomes : List (Result Standing ℕ)) (standings : List Standing)
     → AreOutcomes schema (StandsForLog schema) outcomes → outcomes ≡ map (ok Standing) standings → AreForLogs schema standings

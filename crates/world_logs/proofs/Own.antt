@@ -6,7 +6,7 @@ use Rattle.field_bounds.specs.declared.kind.Kind.{Kind}
 use Rattle.field_bounds.specs.Kind.{same_kind}
 use Rattle.field_bounds.specs.Schema.{SchemaValue}
 use Rattle.kept_records.specs.declared.record.Record.{Record}
-use Rattle.kept_records.specs.declared.record.Record.TheVariants.{Commit, Gift, Accept, Tighten, Restart, Summary}
+use Rattle.kept_records.specs.declared.record.Record.TheVariants.{Gift, Accept}
 use Rattle.kept_records.specs.Stands.{given_more, given_in, accepted_more, accepted_in, is_field, may_follow, LawfulBehind, Lawful}
 use Rattle.kept_records.proofs.Pushes.{given_none, accepted_none, given_push, accepted_push}
 
@@ -20,22 +20,14 @@ apart false true false c d e total n h = refl
 
 module _ (schema : SchemaValue) (s f : ℕ) (k : Kind) where
   given_same : (front : List Record) (r : Record) → may_follow schema s front r ≡ true → (n : ℕ) → given_more s f k n r ≡ n
-  given_same front (Commit txn escrows) may n = refl
   given_same front (Gift to field kind total) may n =
       apart ((field.0 == f) && same_kind kind k) (nat_lt to.0 schema.sites) (to.0 == s) (is_field schema field.0) _ _ total n may
-  given_same front (Accept from field kind total) may n = refl
-  given_same front (Tighten field kind total) may n = refl
-  given_same front (Restart epoch) may n = refl
-  given_same front (Summary epoch rights gifts accepts tightenings) may n = refl
+  given_same front r may n = refl
 
   accepted_same : (front : List Record) (r : Record) → may_follow schema s front r ≡ true → (n : ℕ) → accepted_more s f k n r ≡ n
-  accepted_same front (Commit txn escrows) may n = refl
-  accepted_same front (Gift to field kind total) may n = refl
   accepted_same front (Accept from field kind total) may n =
       apart ((field.0 == f) && same_kind kind k) (nat_lt from.0 schema.sites) (from.0 == s) (is_field schema field.0) _ _ total n may
-  accepted_same front (Tighten field kind total) may n = refl
-  accepted_same front (Restart epoch) may n = refl
-  accepted_same front (Summary epoch rights gifts accepts tightenings) may n = refl
+  accepted_same front r may n = refl
 
   given_behind : (front rs : List Record) → given_in front s f k ≡ 0 → LawfulBehind schema s front rs → given_in (front ++ rs) s f k ≡ 0
   given_behind front [] none lawful = subst (λ (all : List Record). given_in all s f k ≡ 0) (sym (append-nil front)) none

@@ -6,7 +6,7 @@ use Rattle.std.proofs.lemmas.Bool.{le-leb}
 use Rattle.std.proofs.lemmas.Int.{ints}
 use Rattle.std.proofs.lemmas.Option.{get_or_from_slice_get}
 use Rattle.field_bounds.specs.declared.fault.SchemaFault.{SchemaFault}
-use Rattle.field_bounds.specs.declared.fault.SchemaFault.TheVariants.{NotJson, Shape, SiteCount, FieldCount, Name, NameUsed, Bounds, NoMemory, TooLong}
+use Rattle.field_bounds.specs.declared.fault.SchemaFault.TheVariants.{NoMemory}
 use Rattle.field_bounds.specs.Schema.{FieldValue, SchemaValue, Fails}
 use Rattle.field_bounds.specs.Limits.{max_quantity, max_sites, max_fields, is_name, has_bounds, is_used, field_fault, or_else, first_fault, of_parts, IsField, HasOwnNames, IsSchema}
 use Rattle.field_bounds.specs.Parts.{field_at, no_field}
@@ -54,54 +54,42 @@ faultless schema good =
 
 -- so a fault is want of memory
 pub only_memory : {X : Type 0} (e : SchemaFault) (x : X) → Fails e (Ok x) → e ≡ NoMemory
-only_memory NotJson x h = absurd cc
-only_memory Shape x h = absurd cc
-only_memory SiteCount x h = absurd cc
-only_memory FieldCount x h = absurd cc
-only_memory Name x h = absurd cc
-only_memory NameUsed x h = absurd cc
-only_memory Bounds x h = absurd cc
 only_memory NoMemory x h = refl
-only_memory TooLong x h = absurd cc
+only_memory e x h = absurd cc
 
 -- ---- fields of the same names
 
 -- two lists of fields have the same names
 abbrev pub SameNames : List FieldValue → List FieldValue → Type 0
 SameNames [] [] = Unit {0}
-SameNames [] (g ∷ gs) = ⊥
-SameNames (f ∷ fs) [] = ⊥
 SameNames (f ∷ fs) (g ∷ gs) = (f.name ≡ g.name) × SameNames fs gs
+SameNames fs gs = ⊥
 
 same_at : (fs gs : List FieldValue) → length fs ≡ length gs
     → ((i : ℕ) → i < length fs → (get_or fs i no_field).name ≡ (get_or gs i no_field).name) → SameNames fs gs
 same_at [] [] count each = tt
-same_at [] (g ∷ gs) count each = absurd (omega (arith, count))
-same_at (f ∷ fs) [] count each = absurd (omega (arith, count))
 same_at (f ∷ fs) (g ∷ gs) count each =
     (each 0 (omega arith), same_at fs gs (omega (arith, count)) (λ i below. each (suc i) (omega (arith, below))))
+same_at fs gs count each = absurd (omega (arith, count))
 
 same_more : (as1 bs : List FieldValue) (f g : FieldValue) → SameNames as1 bs → f.name ≡ g.name → SameNames (as1 ++ f ∷ []) (bs ++ g ∷ [])
 same_more [] [] f g same name = (name, tt)
-same_more [] (b ∷ bs) f g same name = absurd same
-same_more (a ∷ as1) [] f g same name = absurd same
 same_more (a ∷ as1) (b ∷ bs) f g same name = (same.0, same_more as1 bs f g same.1 name)
+same_more as1 bs f g same name = absurd same
 
 used_same : (as1 bs : List FieldValue) (name : List ℕ) → SameNames as1 bs → is_used as1 name ≡ is_used bs name
 unfolding is_used
 used_same [] [] name same = refl
-used_same [] (b ∷ bs) name same = absurd same
-used_same (a ∷ as1) [] name same = absurd same
 used_same (a ∷ as1) (b ∷ bs) name same = rw (same.0, used_same as1 bs name same.1) refl
+used_same as1 bs name same = absurd same
 
 own_same : (as1 bs fs gs : List FieldValue) → SameNames as1 bs → SameNames fs gs → HasOwnNames bs gs → HasOwnNames as1 fs
 own_same as1 bs [] [] before same own = tt
-own_same as1 bs [] (g ∷ gs) before same own = absurd same
-own_same as1 bs (f ∷ fs) [] before same own = absurd same
 own_same as1 bs (f ∷ fs) (g ∷ gs) before same own = (
   ap (is_used as1) same.0 ∙ used_same as1 bs g.name before ∙ own.0,
   own_same (as1 ++ f ∷ []) (bs ++ g ∷ []) fs gs (same_more as1 bs f g before same.0) same.1 own.1,
 )
+own_same as1 bs fs gs before same own = absurd same
 
 -- ---- each field of the new schema
 

@@ -1,5 +1,4 @@
 use Rattle.std.proofs.Common.{refl}
-use Rattle.reaching_steps.specs.Told.{doubt_kept_in, Reads, ReadsOwn}
 use Rattle.reaching_steps.proofs.Growing.{on_ok}
 use Rattle.reaching_steps.proofs.Reading.{reads_there, reads_here}
 use Rattle.reaching_steps.proofs.site_effects.read_entry.Goals as goal
@@ -12,11 +11,7 @@ returns-then-entry-site c = record {
 pub returns : goal.returns
 returns c =
     record {
-      read = on_ok c.read_own.result
-          (ReadsOwn c.args.schema.now c.args.site.0 c.args.field.0 c.args.standing.now c.args.entry.now
-          (doubt_kept_in c.args.site.0 c.args.later.now) c.read_own.new.standing)
-          (Reads c.args.schema.now c.args.site.0 c.args.field.0 c.args.standing.now c.args.entry.now c.args.later.now
-          c.read_own.new.standing)
+      read = on_ok c.read_own.result _ _
           (λ did. reads_here c.args.schema.now c.args.site.0 c.args.field.0 c.args.standing.now c.read_own.new.standing c.args.entry.now
           c.args.later.now c.if-entry-site.false did) c.read_own.ensures.read;
     }

@@ -1,7 +1,6 @@
 use Rattle.std.proofs.Common.{◌∙◌, sym}
 use Rattle.field_bounds.specs.Effects.{fresh}
-use Rattle.reaching_steps.specs.Told.{doubt_kept_in, ReadsOwn}
-use Rattle.reaching_steps.specs.Standing.{Notes}
+use Rattle.reaching_steps.specs.Told.{doubt_kept_in}
 use Rattle.reaching_steps.proofs.Growing.{on_ok}
 use Rattle.reaching_steps.proofs.Reading.{own_uncounted, own_elsewhere, own_nothing, own_noted}
 use Rattle.reaching_steps.proofs.site_effects.read_own.Goals as goal
@@ -31,17 +30,11 @@ returns-in-None c = record {
 
 pub returns-in-Some : goal.returns-in-Some
 returns-in-Some c =
-    let schema = c.args.schema.now in
-    let s = c.args.site.0 in
-    let f = c.args.field.0 in
-    let had = c.args.standing.now in
-    let e = c.args.entry.now in
-    let kept = doubt_kept_in s c.args.later.now in
-    let more = c.note.new.standing in
     record {
-      read = on_ok c.note.result (Notes f had c.in-Some.effect more) (ReadsOwn schema s f had e kept more)
-          (λ notes. own_noted schema s f had more e kept c.in-Some.effect (sym c.counts.ensures.value ∙ c.if-not-counts.false)
-          (λ es lawful was. sym c.in-Some.is ∙ c.effect_of.ensures.value (fresh schema s) es
+      read = on_ok c.note.result _ _
+          (λ notes. own_noted c.args.schema.now c.args.site.0 c.args.field.0 c.args.standing.now c.note.new.standing c.args.entry.now
+          (doubt_kept_in c.args.site.0 c.args.later.now) c.in-Some.effect (sym c.counts.ensures.value ∙ c.if-not-counts.false)
+          (λ es lawful was. sym c.in-Some.is ∙ c.effect_of.ensures.value (fresh c.args.schema.now c.args.site.0) es
           (λ unsure. c.spared_in_doubt-amount.ensures.value es lawful was unsure
           (c.is_spared_elsewhere.ensures.other c.if-is_spared_elsewhere.false unsure))) notes) c.note.ensures.noted;
     }

@@ -11,9 +11,7 @@ loop-i-init c = (
 )
 
 pub read_there-requires : goal.read_there-requires
-read_there-requires c = record {
-  count = c.loop-i.invariant.0 ∙ ap (λ (x : SchemaValue). x.sites) (sym c.schema-schema.ensures.value);
-}
+read_there-requires c = record { count = c.loop-i.invariant.0 ∙ ap (λ (x : SchemaValue). x.sites) (sym c.schema-schema.ensures.value) }
 
 pub loop-i-preserved : goal.loop-i-preserved
 loop-i-preserved c = (

@@ -10,18 +10,14 @@ use Rattle.reaching_steps.proofs.OnePass.{renews_put}
 use Rattle.reaching_steps.proofs.site_table.renew.Goals as goal
 
 pub returns-in-NoStatement : goal.returns-in-NoStatement
-returns-in-NoStatement c = record {
-  renewed = rw c.in-NoStatement.is (renews_none c.args.world.now c.args.field.0 c.args.table.now.items);
-}
+returns-in-NoStatement c = record { renewed = rw c.in-NoStatement.is (renews_none c.args.world.now c.args.field.0 c.args.table.now.items) }
 
 pub returns-then-place-len : goal.returns-then-place-len
 returns-then-place-len c =
     let within = rw c.in-Made.is at c.requires.made in
     let past : length c.args.table.now.items ≤ c.in-Made.entry.site.0 =
     omega (arith, c.if-place-len.true, c.from-place.ensures, c.len.ensures) in
-    record {
-      renewed = rw c.in-Made.is (renews_past c.args.world.now c.args.field.0 c.in-Made.entry c.args.table.now.items past within);
-    }
+    record { renewed = rw c.in-Made.is (renews_past c.args.world.now c.args.field.0 c.in-Made.entry c.args.table.now.items past within) }
 
 pub returns-then-ends_doubt : goal.returns-then-ends_doubt
 returns-then-ends_doubt c =

@@ -1,9 +1,7 @@
-use Rattle.std.proofs.Common.{rules, ◌≡◌, eqb, refl, subst, sym}
-use Rattle.field_bounds.specs.declared.effect.Effect.{Effect}
-use Rattle.field_bounds.specs.declared.effect.Effect.TheVariants.{Grants, Gives, Accepts}
+use Rattle.std.proofs.Common.{rules}
 use Rattle.std.specs.Prelude.{◌≤◌, unsigned_abs, OnOk}
 use Rattle.field_bounds.specs.Kind.{kind_of}
-use Rattle.reaching_steps.specs.Standing.{pushed, Grows, Notes}
+use Rattle.reaching_steps.specs.Standing.{Grows}
 use Rattle.reaching_steps.proofs.Growing.{on_ok}
 use Rattle.reaching_steps.proofs.Standings.{notes_begin, notes_grant, notes_elsewhere, notes_abort, notes_give, notes_accept, notes_stop}
 use Rattle.reaching_steps.proofs.standing.note.Goals as goal
@@ -11,8 +9,7 @@ use Rattle.reaching_steps.proofs.standing.note.Goals as goal
 pub returns-in_ok-push-in-Begins : goal.returns-in_ok-push-in-Begins
 returns-in_ok-push-in-Begins c = record {
   noted = rw c.in-Begins.is
-      (notes_begin c.args.field.0 c.args.standing.now (record c.args.standing.now { txns = c.push.new.self }) c.in-Begins.txn
-      c.in_ok-push-in-Begins.ensures.items refl refl refl refl);
+      (notes_begin c.args.field.0 c.args.standing.now c.push.new.self c.in-Begins.txn c.in_ok-push-in-Begins.ensures.items);
 }
 
 pub returns-then-at-field : goal.returns-then-at-field
@@ -30,11 +27,9 @@ returns-else-at-field c =
     let small : unsigned_abs i.change ≤ 9223372036854775808 = search rules in
     let grows : OnOk c.grant.result (Grows i.txn (kind_of i.change) (unsigned_abs i.change) had.held.items more.items) = search rules in
     record {
-      noted = on_ok c.grant.result (Grows i.txn (kind_of i.change) (unsigned_abs i.change) had.held.items more.items)
-          (Notes f had c.args.effect (record had { held = more }))
-          (λ grows. subst (λ (e : Effect). Notes f had e (record had { held = more })) (sym i.is)
-          (notes_grant f had (record had { held = more }) i.txn i.at i.change c.if-at-field.false small refl grows refl refl refl))
-          grows;
+      noted = rw i.is (on_ok c.grant.result _ _
+          (λ grows. notes_grant f had more i.txn i.at i.change c.if-at-field.false small grows)
+          grows);
     }
 
 pub returns-in-Commits : goal.returns-in-Commits
@@ -52,13 +47,10 @@ returns-in-Gives c =
     let f = c.args.field.0 in
     let had = c.args.standing.now in
     let i = c.in-Gives in
-    let more = c.push_on.new.list in
     record {
-      noted = on_ok c.push_on.result (more.items ≡ pushed (eqb i.at.0 f) had.gifts.items (Gives i.to i.at i.kind i.amount))
-          (Notes f had c.args.effect (record had { gifts = more }))
-          (λ is. subst (λ (e : Effect). Notes f had e (record had { gifts = more })) (sym i.is)
-          (notes_give f had (record had { gifts = more }) i.to i.at i.kind i.amount refl refl refl refl is))
-          c.push_on.ensures.pushed;
+      noted = rw i.is (on_ok c.push_on.result _ _
+          (λ is. notes_give f had c.push_on.new.list i.to i.at i.kind i.amount is)
+          c.push_on.ensures.pushed);
     }
 
 pub returns-in-Accepts : goal.returns-in-Accepts
@@ -66,20 +58,15 @@ returns-in-Accepts c =
     let f = c.args.field.0 in
     let had = c.args.standing.now in
     let i = c.in-Accepts in
-    let more = c.push_on-in-Accepts.new.list in
     record {
-      noted = on_ok c.push_on-in-Accepts.result
-          (more.items ≡ pushed (eqb i.at.0 f) had.gifts.items (Accepts i.from i.at i.kind i.total))
-          (Notes f had c.args.effect (record had { gifts = more }))
-          (λ is. subst (λ (e : Effect). Notes f had e (record had { gifts = more })) (sym i.is)
-          (notes_accept f had (record had { gifts = more }) i.from i.at i.kind i.total refl refl refl refl is))
-          c.push_on-in-Accepts.ensures.pushed;
+      noted = rw i.is (on_ok c.push_on-in-Accepts.result _ _
+          (λ is. notes_accept f had c.push_on-in-Accepts.new.list i.from i.at i.kind i.total is)
+          c.push_on-in-Accepts.ensures.pushed);
     }
 
 pub returns-in-Stops : goal.returns-in-Stops
 returns-in-Stops c = record {
   noted = rw c.in-Stops.is
-      (notes_stop c.args.field.0 c.args.standing.now
-      (record c.args.standing.now { txns = c.clear.new.self; held = c.clear-in-Stops.new.self })
-      c.clear.ensures.items c.clear-in-Stops.ensures.items refl refl refl);
+      (notes_stop c.args.field.0 c.args.standing.now c.clear.new.self c.clear-in-Stops.new.self c.clear.ensures.items
+      c.clear-in-Stops.ensures.items);
 }

@@ -1,10 +1,9 @@
-use Rattle.std.proofs.Common.{[], ◌∷◌, ◌∙◌, refl, sym, rules}
-use Rattle.field_bounds.specs.Schema.{SchemaValue}
+use Rattle.std.proofs.Common.{[], ◌∷◌, ◌∙◌, sym, rules}
 use Rattle.world_steps.specs.World.{statements_issued}
 use Rattle.world_steps.specs.View.{trace_of}
-use Rattle.reaching_steps.specs.Reach.{restates, delivers, steps_of_tasks, number_of, telling}
+use Rattle.reaching_steps.specs.Reach.{steps_of_tasks, restates, delivers, number_of, telling}
 use Rattle.reaching_steps.proofs.Growing.{grew_unpassed}
-use Rattle.reaching_steps.proofs.Fronts.{took_none, took_task, carried_both}
+use Rattle.reaching_steps.proofs.Fronts.{took_none, took_first, carried_both}
 use Rattle.reaching_steps.proofs.steps.pass_on.Goals as goal
 
 pub returns-in-None : goal.returns-in-None
@@ -14,7 +13,7 @@ returns-in-None c =
     let i = c.args.from.0 in
     let j = c.args.to.0 in
     record {
-      grew = grew_unpassed w c.args.taken.now.items c.args.named.0 f i j
+      grew = grew_unpassed c.args.named.0 f i j
           (number_of (telling w.schema (trace_of w) f c.args.kind i j) (statements_issued (trace_of w))) c.args.kind
           (sym c.in-None.is ∙ c.in_ok-wanted.ensures.value);
     }
@@ -22,17 +21,12 @@ returns-in-None c =
 pub returns-in_err-wanted : goal.returns-in_err-wanted
 returns-in_err-wanted c =
     let w = c.args.trial.now in
-    let t = took_none w w (steps_of_tasks w.schema w.steps (restates w.schema c.args.named.0 c.args.field.0 c.args.from.0 c.args.to.0 c.args.kind
-    ∷ delivers w.schema c.args.named.0 c.args.field.0 c.args.from.0 c.args.to.0 c.args.kind ∷ [])) refl in
+    let t = took_none w (steps_of_tasks w.schema w.steps (restates w.schema c.args.named.0 c.args.field.0 c.args.from.0 c.args.to.0 c.args.kind
+    ∷ delivers w.schema c.args.named.0 c.args.field.0 c.args.from.0 c.args.to.0 c.args.kind ∷ [])) in
     search (rules, t)
 
 pub returns-in_err-tell_again-in-Some : goal.returns-in_err-tell_again-in-Some
-returns-in_err-tell_again-in-Some c =
-    let w = c.args.trial.now in
-    let t = took_task w c.tell_again.new.trial (restates w.schema c.args.named.0 c.args.field.0 c.args.from.0 c.args.to.0 c.args.kind)
-    (delivers w.schema c.args.named.0 c.args.field.0 c.args.from.0 c.args.to.0 c.args.kind ∷ [])
-    c.in_err-tell_again-in-Some.ensures.grew in
-    search (rules, t)
+returns-in_err-tell_again-in-Some c = search (rules, took_first, c.in_err-tell_again-in-Some.ensures.grew)
 
 pub returns-in_ok-tell_again-in-Some : goal.returns-in_ok-tell_again-in-Some
 returns-in_ok-tell_again-in-Some c =
@@ -40,9 +34,7 @@ returns-in_ok-tell_again-in-Some c =
     let f = c.args.field.0 in
     let i = c.args.from.0 in
     let j = c.args.to.0 in
-    let k = c.args.kind in
     record {
-      grew = carried_both c.deliver.result c.args.trial.now c.tell_again.new.trial c.deliver.new.trial c.args.taken.now.items
-          c.tell_again.new.taken.items c.deliver.new.taken.items (λ (schema : SchemaValue). restates schema m f i j k)
-          (λ (schema : SchemaValue). delivers schema m f i j k) c.in_ok-tell_again-in-Some.ensures.grew c.deliver.ensures.grew;
+      grew = carried_both c.deliver.result c.deliver.new.trial c.deliver.new.taken.items (λ schema. restates schema m f i j c.args.kind) (λ schema. delivers schema m f i j c.args.kind)
+          c.in_ok-tell_again-in-Some.ensures.grew c.deliver.ensures.grew;
     }

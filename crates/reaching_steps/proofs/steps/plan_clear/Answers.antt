@@ -1,12 +1,6 @@
-use Rattle.std.proofs.Common.{◌∙◌, ap, subst}
-use Rattle.std.specs.Prelude.{IfOk, OnErr, ℤ}
 use Rattle.std.proofs.Math.Facts.{to_z-of_z}
-use Rattle.field_bounds.specs.Schema.{SchemaValue}
-use Rattle.field_bounds.specs.Limits.{IsSchema}
 use Rattle.world_steps.specs.View.{WorldValue}
-use Rattle.reaching_steps.specs.Body.{HasReached, DoesWhereFit}
-use Rattle.reaching_steps.specs.Reach.{reach_steps}
-use Rattle.reaching_steps.specs.Taken.{steps_of, TookFront}
+use Rattle.reaching_steps.specs.Taken.{steps_of}
 use Rattle.reaching_steps.proofs.Firsts.{if_ok}
 use Rattle.reaching_steps.proofs.Growing.{does}
 use Rattle.reaching_steps.proofs.steps.plan_clear.Goals as goal
@@ -15,16 +9,12 @@ pub returns : goal.returns
 returns c =
     let w : WorldValue = c.args.trial.now in
     let same = to_z-of_z c.ranges.target in
-    let good : IsSchema w.schema = subst (λ (s : SchemaValue). IsSchema s)
-    (c.schema.ensures.value ∙ ap (λ (x : WorldValue). x.schema) c.world.ensures.value) c.sites-sites.ensures.limits in
-    let reached = subst (λ (z : ℤ). IfOk c.plan.result (λ taken. HasReached w c.args.named c.args.field z c.plan.new.trial taken.items))
-    same c.plan.ensures.reached in
+    let good = rw (c.schema.ensures.value, c.world.ensures.value) at c.sites-sites.ensures.limits in
+    let reached = rw same at c.plan.ensures.reached in
     record {
       reached = reached;
-      does = if_ok c.plan.result (λ taken. HasReached w c.args.named c.args.field c.args.target c.plan.new.trial taken.items)
-          (λ taken. DoesWhereFit w c.args.named c.args.field c.args.target (steps_of taken.items))
+      does = if_ok c.plan.result _ _
           (λ taken is fit. does w c.args.named c.args.field c.args.target (steps_of taken.items) good fit c.requires.clear is.steps)
           reached;
-      front = subst (λ (z : ℤ). OnErr c.plan.result (TookFront w (reach_steps w.schema w.steps c.args.named c.args.field z) c.plan.new.trial))
-          same c.plan.ensures.front;
+      front = rw same at c.plan.ensures.front;
     }

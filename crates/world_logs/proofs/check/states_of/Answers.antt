@@ -1,8 +1,6 @@
-use Rattle.std.proofs.Common.{◌≡◌, ℕ, ◌<◌, ◌++◌, ◌∷◌, [], Some, sym, ◌∙◌, ap, inl, inr, arith}
+use Rattle.std.proofs.Common.{◌≡◌, ◌<◌, ◌++◌, ◌∷◌, [], refl, sym, ◌∙◌, inl, inr, arith}
 use Rattle.std.proofs.lemmas.Bool.{cases_eq}
 use Rattle.std.proofs.lemmas.Grind.{common_steps}
-use Rattle.world_logs.specs.declared.field_state.FieldState.{FieldState}
-use Rattle.world_logs.specs.States.{state_of}
 use Rattle.world_logs.proofs.Lists.{slice_get_before, slice_get_last}
 use Rattle.world_logs.proofs.check.states_of.Goals as goal
 
@@ -18,8 +16,7 @@ loop-number-preserved c =
       each = λ logs is f below.
           rw grown (elim (cases_eq f n) [
             | inl same ↦
-                slice_get_last old x f (c.loop-number.invariant.count ∙ sym same)
-                ∙ ap (λ (v : FieldState). Some v) (c.state_of.ensures.state logs is ∙ ap (λ (i : ℕ). state_of schema logs i) (sym same))
+                slice_get_last old x f (c.loop-number.invariant.count ∙ sym same) ∙ rw (c.state_of.ensures.state logs is, same) refl
             | inr apart ↦
                 let less : f < n = omega (arith, below, apart) in
                 slice_get_before old x f (omega (arith, less, c.loop-number.invariant.count)) ∙ c.loop-number.invariant.each logs is f less

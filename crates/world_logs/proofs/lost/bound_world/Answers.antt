@@ -25,43 +25,29 @@ returns-in_err-standings-clause-fault c =
 
 pub first_excess-requires : goal.first_excess-requires
 first_excess-requires c =
-    record {
-      of_logs = (
-        known_records (known_of c.args.logs.now),
-        (stand_for_known c.args.schema.now c.args.logs.now c.in_ok-standings.standings.items c.as_slice-all.result.now
-            c.in_ok-lost.lost.items c.as_slice-lost.result.now c.requires.count c.in_ok-standings.ensures.stand c.as_slice-all.ensures.value
-            c.as_slice-lost.ensures.value c.in_ok-lost.ensures).stand,
-      );
-    }
+    let is = stand_for_known c.args.logs.now c.requires.count c.in_ok-standings.ensures.stand c.as_slice-all.ensures.value
+    c.as_slice-lost.ensures.value c.in_ok-lost.ensures in
+    record { of_logs = (known_records (known_of c.args.logs.now), is.stand) }
 
 pub ranges_of-requires : goal.ranges_of-requires
 ranges_of-requires c =
-    record {
-      of_known = (
-        known_of c.args.logs.now,
-        stand_for_known c.args.schema.now c.args.logs.now c.in_ok-standings.standings.items c.as_slice-all.result.now
-            c.in_ok-lost.lost.items c.as_slice-lost.result.now c.requires.count c.in_ok-standings.ensures.stand c.as_slice-all.ensures.value
-            c.as_slice-lost.ensures.value c.in_ok-lost.ensures,
-      );
-    }
+    let is = stand_for_known c.args.logs.now c.requires.count c.in_ok-standings.ensures.stand c.as_slice-all.ensures.value
+    c.as_slice-lost.ensures.value c.in_ok-lost.ensures in
+    record { of_known = (known_of c.args.logs.now, is) }
 
 pub returns-in-Some-clause-fault : goal.returns-in-Some-clause-fault
 returns-in-Some-clause-fault c =
-    let known = known_of c.args.logs.now in
-    let is = stand_for_known c.args.schema.now c.args.logs.now c.in_ok-standings.standings.items c.as_slice-all.result.now
-    c.in_ok-lost.lost.items c.as_slice-lost.result.now c.requires.count c.in_ok-standings.ensures.stand c.as_slice-all.ensures.value
+    let is = stand_for_known c.args.logs.now c.requires.count c.in_ok-standings.ensures.stand c.as_slice-all.ensures.value
     c.as_slice-lost.ensures.value c.in_ok-lost.ensures in
-    excess_tells c.args.schema.now known c.as_slice-all.result.now c.as_slice-lost.result.now c.in-Some.excess is
-    (c.in-Some.ensures.some (known_records known) is.stand)
+    excess_tells is (c.in-Some.ensures.some (known_records (known_of c.args.logs.now)) is.stand)
 
 pub returns : goal.returns
 returns c =
     let schema = c.args.schema.now in
     let known = known_of c.args.logs.now in
-    let is = stand_for_known c.args.schema.now c.args.logs.now c.in_ok-standings.standings.items c.as_slice-all.result.now
-    c.in_ok-lost.lost.items c.as_slice-lost.result.now c.requires.count c.in_ok-standings.ensures.stand c.as_slice-all.ensures.value
+    let is = stand_for_known c.args.logs.now c.requires.count c.in_ok-standings.ensures.stand c.as_slice-all.ensures.value
     c.as_slice-lost.ensures.value c.in_ok-lost.ensures in
-    let within = known_within schema known c.as_slice-lost.result.now is.lost_is (c.in-None.ensures.none (known_records known) is.stand) in
+    let within = known_within is (c.in-None.ensures.none (known_records known) is.stand) in
     record {
       lawful = IfOk-weaker c.ranges_of.result _ _ (λ ranges told. is.stand.lawful) c.ranges_of.ensures.ranges;
       within = IfOk-weaker c.ranges_of.result _ _ (λ ranges told. within) c.ranges_of.ensures.ranges;

@@ -1,4 +1,4 @@
-use Rattle.std.proofs.Common.{◌≡◌, ◌<◌, ◌++◌, ◌∷◌, [], None, ℕ, List, Option, length, get_or, sym, ap, subst, ◌∙◌, inl, inr, arith, append_assoc}
+use Rattle.std.proofs.Common.{◌≡◌, ◌<◌, ◌++◌, ◌∷◌, [], None, ℕ, List, Option, length, sym, ap, ◌∙◌, inl, inr, arith, append_assoc}
 use Rattle.std.proofs.lemmas.Bool.{cases_eq}
 use Rattle.std.proofs.lemmas.List.{get_or_push, get_or_append_left, length-append}
 use Rattle.field_bounds.specs.Schema.{SchemaValue}
@@ -14,16 +14,11 @@ one_more schema told all next new n was count is = record {
   each = λ s d less.
       elim (cases_eq s n) [
         | inl same ↦
-            subst (λ (o : Option Standing). IsFilled schema s o (get_or (all ++ new ∷ []) s d))
-            (sym (get_or_push told next None s (sym count ∙ sym same)))
-            (subst (λ (x : Standing). IsFilled schema s next x) (sym (get_or_push all new d s (was.count ∙ sym count ∙ sym same)))
-            (subst (λ (i : ℕ). IsFilled schema i next new) (sym same) is))
+            rw (get_or_push told next None s (sym count ∙ sym same), get_or_push all new d s (was.count ∙ sym count ∙ sym same), same) is
         | inr apart ↦
             let there : s < length told = omega (arith, less, apart, count, length-append told (next ∷ [])) in
-            subst (λ (o : Option Standing). IsFilled schema s o (get_or (all ++ new ∷ []) s d))
-            (sym (get_or_append_left told (next ∷ []) None s there))
-            (subst (λ (x : Standing). IsFilled schema s (get_or told s None) x)
-            (sym (get_or_append_left all (new ∷ []) d s (omega (arith, there, was.count)))) (was.each s d there))
+            rw (get_or_append_left told (next ∷ []) None s there, get_or_append_left all (new ∷ []) d s (omega (arith, there, was.count)))
+            (was.each s d there)
       ];
 }
 
@@ -52,7 +47,7 @@ loop-standing-preserved c =
       count = omega (arith, c.loop-standing.invariant.count, length-append told (next ∷ []));
       whole = append_assoc told (next ∷ []) rest ∙ ap (λ (l : List (Option Standing)). told ++ l) (sym c.in-Some.ensures.steps.0)
           ∙ c.loop-standing.invariant.whole;
-      filled = subst (λ (l : List Standing). AreFilled schema (told ++ next ∷ []) l) (sym {A = List Standing} c.in_ok-push.ensures.items)
+      filled = rw c.in_ok-push.ensures.items
           (one_more schema told all next new c.loop-standing.number c.loop-standing.invariant.filled c.loop-standing.invariant.count
           c.in_ok-or_none.ensures);
     }

@@ -1,8 +1,6 @@
-use Rattle.std.proofs.Common.{◌≡◌, ℕ, ◌<◌, ◌++◌, ◌∷◌, [], Some, length, sym, ◌∙◌, ap, subst, inl, inr, arith}
+use Rattle.std.proofs.Common.{◌≡◌, ◌<◌, ◌++◌, ◌∷◌, [], refl, length, sym, ◌∙◌, inl, inr, arith}
 use Rattle.std.proofs.lemmas.Bool.{cases_eq}
 use Rattle.std.proofs.lemmas.Grind.{common_steps}
-use Rattle.world_logs.specs.declared.field_state.FieldRange.{FieldRange}
-use Rattle.world_logs.specs.Lost.{range_of, HasRoom}
 use Rattle.world_logs.proofs.Lists.{slice_get_before, slice_get_last}
 use Rattle.world_logs.proofs.Known.{none_goes}
 use Rattle.world_logs.proofs.lost.ranges_of.Goals as goal
@@ -32,16 +30,14 @@ loop-number-preserved c =
       count = grind (arith, common_steps);
       each = λ known is f below.
           rw grown (elim (cases_eq f n) [
-            | inl same ↦
-                slice_get_last old x f (was.count ∙ sym same)
-                ∙ ap (λ (v : FieldRange). Some v) (c.in-Some.ensures.range known is ∙ ap (λ (i : ℕ). range_of schema known i) (sym same))
+            | inl same ↦ slice_get_last old x f (was.count ∙ sym same) ∙ rw (c.in-Some.ensures.range known is, same) refl
             | inr apart ↦
                 let less : f < n = omega (arith, below, apart) in
                 slice_get_before old x f (omega (arith, less, was.count)) ∙ was.each known is f less
           ]);
       room = λ known is f below.
           elim (cases_eq f n) [
-            | inl same ↦ subst (λ (i : ℕ). HasRoom schema known i) (sym same) (c.in-Some.ensures.room known is)
+            | inl same ↦ rw same (c.in-Some.ensures.room known is)
             | inr apart ↦ was.room known is f (omega (arith, below, apart))
           ];
     }

@@ -14,29 +14,5 @@ returns-clause-range c = λ known is.
     let floor_is = ap (λ (b : ℤ × ℤ × ℤ). b.0) c.bounds-floor.ensures.value in
     let ceiling_is = ap (λ (b : ℤ × ℤ × ℤ). b.1) c.bounds-floor.ensures.value in
     same_range _ (range_of c.args.schema.now known c.args.field.0)
-    (omega (
-      arith,
-      ints,
-      floor_is,
-      ceiling_is,
-      field.least,
-      field.floor,
-      field.ceiling,
-      field.most,
-      c.abs_diff-width.ensures,
-      c.if-lower-width.false,
-      c.rights_known-lower.ensures.value known is,
-    ))
-    (omega (
-      arith,
-      ints,
-      floor_is,
-      ceiling_is,
-      field.least,
-      field.floor,
-      field.ceiling,
-      field.most,
-      c.abs_diff-width.ensures,
-      c.if-raise-width.false,
-      c.rights_known-raise.ensures.value known is,
-    ))
+    (omega (arith, ints, field, floor_is, ceiling_is, c.abs_diff-width.ensures, c.if-lower-width.false, c.rights_known-lower.ensures.value known is))
+    (omega (arith, ints, field, floor_is, ceiling_is, c.abs_diff-width.ensures, c.if-raise-width.false, c.rights_known-raise.ensures.value known is))

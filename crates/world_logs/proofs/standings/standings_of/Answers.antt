@@ -1,14 +1,9 @@
-use Rattle.std.proofs.Common.{◌≡◌, ℕ, ◌<◌, ◌++◌, ◌∷◌, [], List, length, map, sym, ◌∙◌, ap, subst, inl, inr, arith, below_more}
+use Rattle.std.proofs.Common.{◌≡◌, ◌<◌, ◌++◌, ◌∷◌, [], length, map, sym, ◌∙◌, ap, inl, inr, arith, below_more}
 use Rattle.std.proofs.lemmas.Bool.{cases_eq}
 use Rattle.std.proofs.lemmas.Grind.{common_steps}
 use Rattle.std.proofs.lemmas.List.{get_or_push, get_or_append_left}
 use Rattle.std.proofs.lemmas.Result.{err_from_is_err_and}
-use Rattle.std.specs.List.{AllByRecursion}
-use Rattle.kept_records.specs.declared.record.Record.{Record}
-use Rattle.kept_records.specs.Text.{IsRecord}
 use Rattle.kept_records.specs.Stands.{Lawful}
-use Rattle.log_replay.specs.declared.standing.Standing.{Standing}
-use Rattle.log_replay.specs.Standing.{IsStandingFor}
 use Rattle.world_logs.specs.Logs.{log_of}
 use Rattle.world_logs.proofs.Readings.{log_at}
 use Rattle.world_logs.proofs.LostReadings.{unlawful_at}
@@ -19,9 +14,7 @@ standing_of-requires-clause-in_range g c =
     let kept = g.L.KeptLog.kept in
     let n = c.loop-number.number in
     let below : n < length c.args.logs.now = omega (arith, c.requires.count, c.loop-number-test.true, c.sites-number-end.ensures.value) in
-    subst (λ (rs : List Record). AllByRecursion IsRecord rs)
-    (log_at kept c.args.logs.now n c.from.result c.index-logs-from.result below c.from.ensures
-    ∙ ap kept (sym c.index-logs-from.is) ∙ sym c.records-log.ensures)
+    rw (c.records-log.ensures, c.index-logs-from.is, ← log_at kept c.args.logs.now n c.from.result c.index-logs-from.result below c.from.ensures)
     (c.requires.in_range n)
 
 pub returns-in_err-standing_of-clause-fault : goal.returns-in_err-standing_of-clause-fault
@@ -51,24 +44,18 @@ loop-number-preserved g c =
     let same : c.records-log.result.now ≡ log_of logs n =
     c.records-log.ensures ∙ ap kept c.index-logs-from.is
     ∙ sym (log_at kept c.args.logs.now n c.from.result c.index-logs-from.result below c.from.ensures) in
-    let lawful : Lawful schema n (log_of logs n) =
-    subst (λ (rs : List Record). Lawful schema n rs) same c.in_ok-standing_of.ensures.lawful in
-    let stands : IsStandingFor schema n (log_of logs n) x =
-    subst (λ (rs : List Record). IsStandingFor schema n rs x) same c.in_ok-standing_of.ensures.stands in
+    let lawful = rw same at c.in_ok-standing_of.ensures.lawful in
+    let stands = rw same at c.in_ok-standing_of.ensures.stands in
     let grown : c.push.new.self.items ≡ old ++ x ∷ [] = c.in_ok-push.ensures.items in
     record {
       count = grind (arith, common_steps);
       lawful = below_more (λ s. Lawful schema s (log_of logs s)) n c.loop-number.invariant.lawful lawful;
       each = λ s d less.
           rw grown (elim (cases_eq s n) [
-            | inl same ↦
-                subst (λ (y : Standing). IsStandingFor schema s (log_of logs s) y)
-                (sym (get_or_push old x d s (c.loop-number.invariant.count ∙ sym same)))
-                (subst (λ (j : ℕ). IsStandingFor schema j (log_of logs j) x) (sym same) stands)
+            | inl same ↦ rw (get_or_push old x d s (c.loop-number.invariant.count ∙ sym same), same) stands
             | inr apart ↦
                 let there : s < n = omega (arith, less, apart) in
-                subst (λ (y : Standing). IsStandingFor schema s (log_of logs s) y)
-                (sym (get_or_append_left old (x ∷ []) d s (omega (arith, there, c.loop-number.invariant.count))))
+                rw (get_or_append_left old (x ∷ []) d s (omega (arith, there, c.loop-number.invariant.count)))
                 (c.loop-number.invariant.each s d there)
           ]);
     }

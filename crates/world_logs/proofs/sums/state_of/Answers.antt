@@ -73,16 +73,6 @@ returns c =
           (c.rights_known-above.ensures.value (all_known logs) (stand_for_all schema logs c.args.standings.now is.stand)) in
           let above = (is_conserved schema c.requires.limits logs is.stand.lawful is.within).lowering f c.requires.field_in in
           let value : c.state_above.result.value ≡ value_in schema logs f =
-          omega (
-            arith,
-            ints,
-            told.value,
-            floor_is,
-            field.least,
-            low,
-            above,
-            all.0,
-            all.1,
-          ) in
+          omega (arith, ints, told.value, floor_is, field.least, low, above, all.0, all.1) in
           same_state c.state_above.result (state_of schema logs f) value floor ceiling;
     }

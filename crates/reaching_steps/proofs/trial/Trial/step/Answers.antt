@@ -13,11 +13,10 @@ invariant_of-self-2 c =
 
 pub returns-in_err-reply-clause-front : goal.returns-in_err-reply-clause-front
 returns-in_err-reply-clause-front c =
-    let t = took_none c.args.self.now c.step.new.self (c.args.step.now ∷ []) (c.in_err-reply.ensures.err ∙ c.self.view_is) in
-    search (rules, t)
+    let same = c.in_err-reply.ensures.err ∙ c.self.view_is in
+    rw same (search (rules, took_none))
 
 pub returns-in_err-renew-clause-front : goal.returns-in_err-renew-clause-front
 returns-in_err-renew-clause-front c =
-    let t = took_all c.args.self.now c.step.new.self (c.args.step.now ∷ [])
-    (c.in_ok-reply.ensures.steps ∙ ap (λ (w : WorldValue). with_steps w (c.args.step.now ∷ [])) c.self.view_is) in
-    search (rules, t)
+    let all = c.in_ok-reply.ensures.steps ∙ ap (λ (w : WorldValue). with_steps w (c.args.step.now ∷ [])) c.self.view_is in
+    search (rules, took_all c.args.self.now c.step.new.self (c.args.step.now ∷ []) all)
