@@ -90,7 +90,7 @@ fn tell(alloc: Global, verdict: Verdict, count: u64) -> Result<(AuditEnd, String
     Ok((end_of(verdict), text))
 }
 
-// Judges the entries that were kept, by windows of fields in threads.
+// Judges the entries that were kept, in parts by threads.
 fn judge_kept(
     rt: &(impl Threads + Sync),
     alloc: Global,
@@ -224,9 +224,9 @@ fn answer<R: Source>(
 /// Reader and writer tell the contract how their calls end, and how many failed; `Watched::new`
 /// makes such ones of std's. No call is made again after one that failed.
 ///
-/// With `fields` the entries are kept, and judged once all are read: in parts by threads, the rules
-/// on fields by windows of fields. Else each is judged as it is read, and none is kept. The answer
-/// is the same.
+/// With `fields` the entries are kept, and judged once all are read: in parts by threads, of which the
+/// rules on fields are one. Else each is judged as it is read, and none is kept. The answer is the
+/// same.
 ///
 /// Costs 128 KiB for input, memory for the judge and, with `fields`, for the entries, and time in
 /// proportion to the input. Want of memory for the judge is told only where all lines are good

@@ -252,7 +252,7 @@ pub fn reaches(
     Ok(digest)
 }
 
-/// The answers of scripts are audited, in one pass and by windows of fields; and once more with an
+/// The answers of scripts are audited, in one pass and in parts by threads; and once more with an
 /// entry behind them that is illegal.
 pub fn audits(
     rt: &(impl Threads + Sync),
