@@ -20,6 +20,7 @@ from .messages import Ask, Garbage, Marked, Message, Shares, Topics
 from .policy import Policy
 
 AWAY, FRESH = 3, 1.25                                   # after so many looks a site is away, or may stand still
+CLOSING = 10.0                                          # seconds that the end waits for a site which stands still
 Place = tuple[str, Kind]                                # a field, and the kind of its rights
 Total = tuple[int, str, Kind]                           # the other site, the field, the kind
 
@@ -79,6 +80,7 @@ class Carrier:
         self._told: dict[Total, Statement] = {}         # what this site gave: the greatest totals that it answered
         self._accepted: dict[Total, int] = {}           # the greatest totals that it answered to have accepted
         self._own, self._answers = Shares(site.number, {}), -1
+        self._mark = site.mark                          # how far its log has come, as was told last
         self._moved = dict.fromkeys(self._places, time.monotonic())
         self._changed = threading.Condition()           # guards what follows
         self._reports: dict[int, Report] = {}
@@ -129,13 +131,14 @@ class Carrier:
             return self._known((field, kind), AWAY)
 
     def close(self) -> None:
-        """Ends it, once what came so far is handed to the site. A second time does nothing."""
+        """Ends it, once what came so far is handed to the site, and tells how far the site's log has come. It waits at
+        most 10 seconds for a site that stands still. A second time does nothing."""
         if self._started not in self.site.on_start:
             return
         self.site.on_start.remove(self._started)
         self.site.on_statement.remove(self._events.put)
         self._events.put(Signal.CLOSE)
-        self._worker.join()
+        self._worker.join(CLOSING)
         self.medium.close()
 
     def __enter__(self) -> Carrier:
@@ -208,6 +211,8 @@ class Carrier:
             if time.monotonic() >= due:
                 self._try(self._look)
                 due = time.monotonic() + self.refresh
+        if self.site.up:
+            self._try(self._renew_mark)
 
     def _try(self, act: Callable[[], None]) -> None:
         try:
@@ -228,9 +233,10 @@ class Carrier:
             self.counts.connects += 1
             self._tell_all()
             self._tell_shares(self._fields)
+            self._tell_mark(self._mark)
         elif event is Signal.STARTED:
             self._restate()
-            self._tell_mark()
+            self._tell_mark(self.site.mark)
         elif isinstance(event, Statement):
             self._tell(event)
         elif isinstance(event, Heard):
@@ -335,16 +341,27 @@ class Carrier:
                 except NothingGiven:
                     pass
 
-    def _tell_mark(self) -> None:
-        self._publish(Marked(self.site.number, self.site.mark), True)
+    def _renew_mark(self) -> None:
+        self._tell_mark(self.site.newest_mark())
+
+    def _tell_mark(self, mark: Mark) -> None:
+        """Tells how far the log has come: never less than what was told before."""
+        if mark.epoch >= self._mark.epoch and mark.length >= self._mark.length:
+            self._mark = mark
+        self._publish(Marked(self.site.number, self._mark), True)
 
     def _look(self) -> None:
         """Tells all anew, and evens out what is quiet. The site isn't asked where it has answered nothing since the
         last look."""
-        self._tell_shares(self._fields if self.site.counts.answers != self._answers else [])
-        self._answers = self.site.counts.answers
+        answers = self.site.counts.answers
+        if answers == self._answers:
+            self._tell_shares([])
+            self._tell_mark(self._mark)
+        else:
+            self._tell_shares(self._fields)
+            self._renew_mark()
+            self._answers = answers + len(self._fields) + 1     # what came between is of the next look
         self._tell_all()
-        self._tell_mark()
         for place in self._places if self.medium.is_connected else []:
             if time.monotonic() - self._moved[place] >= self.policy.quiet:
                 self._even_out(place)

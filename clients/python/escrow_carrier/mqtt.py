@@ -1,12 +1,15 @@
 """Messages over an MQTT broker, such as mosquitto, by paho: tried with 1.6.1 and mosquitto 2.0.11."""
 from __future__ import annotations
 
+import contextlib
 import ssl
 from typing import Any, Callable, Optional, Sequence
 
 import paho.mqtt.client as paho  # type: ignore
 
 from .medium import Hear
+
+CLOSING = 2.0                                           # seconds in which the broker has to take what was told last
 
 
 class Mqtt:
@@ -21,6 +24,7 @@ class Mqtt:
         self.last_refusal = ""
         """Why the broker last refused the login; empty where it never did."""
         self._client: Any = None
+        self._last: Any = None                          # the last message that the broker is to keep
 
     def open(self, name: str, filters: Sequence[str], hear: Hear, opened: Callable[[], None]) -> None:
         """Connects in the background, now or as soon as the broker is there."""
@@ -47,7 +51,8 @@ class Mqtt:
     def publish(self, topic: str, payload: str, is_kept: bool) -> None:
         """Sends a message; while there is no connection it is lost, and not gathered."""
         if self.is_connected:
-            self._client.publish(topic, payload, 1 if is_kept else 0, is_kept)
+            sent = self._client.publish(topic, payload, 1 if is_kept else 0, is_kept)
+            self._last = sent if is_kept else self._last
 
     @property
     def is_connected(self) -> bool:
@@ -55,8 +60,11 @@ class Mqtt:
         return self._client is not None and bool(self._client.is_connected())
 
     def close(self) -> None:
-        """Disconnects."""
+        """Disconnects, once the broker has what it is to keep, or after two seconds."""
         if self._client is not None:
+            if self._last is not None and self.is_connected:
+                with contextlib.suppress(ValueError, RuntimeError):     # it wasn't sent: the connection was lost
+                    self._last.wait_for_publish(CLOSING)
             self._client.disconnect()
             self._client.loop_stop()
 

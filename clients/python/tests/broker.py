@@ -8,6 +8,7 @@ import shutil
 import signal
 import socket
 import subprocess
+import threading
 import time
 from typing import NamedTuple, Optional
 
@@ -85,6 +86,12 @@ class Broker:
             time.sleep(0.01)
         self.stop()
         raise RuntimeError("mosquitto doesn't listen")
+
+    def pause(self, seconds: float) -> None:
+        """It stands still for so long, while this goes on."""
+        assert self._process is not None
+        self._process.send_signal(signal.SIGSTOP)
+        threading.Timer(seconds, self._process.send_signal, (signal.SIGCONT,)).start()
 
     def stop(self, how: int = signal.SIGTERM) -> None:
         """Stops it, by SIGTERM or SIGKILL, and waits for its end."""

@@ -11,7 +11,7 @@ from broker import MISSING, Broker, Login
 from test_carrier_sites import Sites
 
 from escrow import Kind
-from escrow_carrier import Policy, Topics
+from escrow_carrier import Policy, Topics, last_mark
 
 if not MISSING:
     import paho.mqtt.client as paho  # type: ignore
@@ -48,6 +48,17 @@ class BrokerTest(Sites):
         broker.start()
         self.carrier(0, PATIENT, 1.0, Mqtt(port=broker.port))
         self.await_it(lambda: self.lower() == [15, 5, 10])
+
+    def test_the_end_tells_the_mark_behind_all_else(self) -> None:
+        broker, site = self.broker(), self.sites[0]
+        carrier = self.carrier(0, PATIENT, 3_600.0, Mqtt(port=broker.port))
+        self.await_it(lambda: carrier.medium.is_connected)
+        broker.pause(0.5)
+        for _ in range(24):                             # more than are on their way at once
+            site.give(1, "stock", Kind.RAISE, 1)
+        mark = site.newest_mark()
+        carrier.close()
+        self.assertEqual(last_mark(site.folder, Mqtt(port=broker.port)), mark)
 
     @unittest.skipUnless(shutil.which("openssl"), "openssl isn't installed")
     def test_over_tls(self) -> None:
