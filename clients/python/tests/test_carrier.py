@@ -107,12 +107,12 @@ class FolderTest(unittest.TestCase):
             far.open("far", ["w/+/given/1/+/+", "w/+/ask/1/+/+"], lambda *it: heard.append((it[0], it[1])),
                      lambda: heard.append(("opened", b"")))
             given, asked = ("w/0/given/1/stock/lower", b"5"), ("w/0/ask/1/stock/lower", b"9")
-            self.await_heard(heard, [("opened", b""), given])
+            self.await_heard(heard, [given, ("opened", b"")])    # what is kept comes first
             near.publish("w/0/ask/1/stock/lower", "9", False)
             near.publish("w/0/given/2/stock/lower", "6", True)
-            self.await_heard(heard, [("opened", b""), given, asked])
+            self.await_heard(heard, [given, ("opened", b""), asked])
             near.publish("w/0/given/1/stock/lower", "5", True)
-            self.await_heard(heard, [("opened", b""), given, asked, given])
+            self.await_heard(heard, [given, ("opened", b""), asked, given])
             near.close()
             far.close()
             self.assertEqual(sorted(os.listdir(f"{path}/w/0/given/1/stock")), ["lower"])

@@ -42,8 +42,8 @@ class Sites(unittest.TestCase):
         return site
 
     def carrier(self, number: int, policy: Policy = CALM, refresh: float = 30.0,
-                medium: Optional[Medium] = None) -> Carrier:
-        made = Carrier(self.sites[number], medium or self.hub.port(), policy, refresh)
+                medium: Optional[Medium] = None, wait: float = 2.0) -> Carrier:
+        made = Carrier(self.sites[number], medium or self.hub.port(), policy, refresh, wait=wait)
         self.addCleanup(made.close)
         return made
 
