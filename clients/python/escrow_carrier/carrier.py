@@ -148,15 +148,17 @@ class Carrier:
                     raise
 
     def fetch(self, field: str, kind: Kind, amount: int) -> bool:
-        """Gets rights from other sites, until this one has so many of the kind free. False where they don't come.
-        One thread at a time asks about a kind of a field: the next finds what it got. Raises KeyError where the
-        world has no such field, and `Down`."""
+        """Gets rights from other sites, until this one has so many of the kind free. False where they don't come; at
+        once, with nobody asked, where all that others told of is too little. One thread at a time asks about a kind of
+        a field: the next finds what it got. Raises KeyError where the world has no such field, and `Down`."""
         place = field, kind
         with self._fetching[place]:
             if self._has(place, amount):
                 return True
             if not self.medium.is_connected or time.monotonic() - self._failed[place] < self.policy.patience:
                 return False                            # somebody else has just asked them all
+            if self._is_beyond(place, amount):
+                return False
             if self._ask_others(place, amount):
                 return True
             self._failed[place] = time.monotonic()
@@ -206,7 +208,17 @@ class Carrier:
                 return True
             else:
                 asked.clear()
+            if self._is_beyond(place, amount):
+                return False
         return False
+
+    def _is_beyond(self, place: Place, amount: int) -> bool:
+        """Whether this site and all that can be asked have less, as they told last. Not where one has told nothing
+        yet."""
+        with self._changed:
+            known = list(self._known(place, AWAY).values())
+        shares = [it for it in known if it is not None]     # and then the own: what moves between counts twice
+        return len(shares) == len(known) and sum(shares) + self.site.share(place[0]).of(place[1]) < amount
 
     def _known(self, place: Place, looks: float) -> dict[int, Optional[int]]:
         since = time.monotonic() - looks * self.refresh

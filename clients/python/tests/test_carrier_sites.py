@@ -6,6 +6,7 @@ import os
 import shutil
 import signal
 import tempfile
+import threading
 import time
 import unittest
 from collections.abc import Callable
@@ -84,17 +85,40 @@ class CarrierTest(Sites):
             carriers[0].change("stock", -1)
         self.assertEqual([site.read("stock").lo for site in self.sites], [0, 0, 0])
 
-    def test_who_was_empty_is_asked_too(self) -> None:
-        policy = Policy(quiet=NEVER, patience=2.0)
-        carriers = self.met([self.carrier(number, policy) for number in range(3)])
+    def test_who_was_empty_is_asked_once_it_tells_of_more(self) -> None:
+        carriers = self.met([self.carrier(number, CALM, 0.2) for number in range(3)])
         for site in self.sites:
             site.change("stock", -10)
+        self.await_it(lambda: carriers[0].known("stock", Kind.LOWER) == {1: 0, 2: 0})
         with self.assertRaises(Short):
-            carriers[0].change("stock", -1)             # and both others told that they have none
+            carriers[0].change("stock", -1)
         self.sites[2].change("stock", 12)
-        time.sleep(policy.patience)                     # until then nobody is asked again
+        self.await_it(lambda: carriers[0].known("stock", Kind.LOWER) == {1: 0, 2: 12})
         carriers[0].change("stock", -5)                 # 50 are asked of site 2, which gives 6, half of its 12
-        self.assertEqual(self.lower(), [1, 0, 6])
+        self.assertEqual((self.lower(), carriers[0].counts.asked), ([1, 0, 6], 1))
+
+    def test_what_all_together_have_not_got_is_asked_of_nobody(self) -> None:
+        carriers = self.carriers()
+        began = time.monotonic()
+        with self.assertRaises(Short) as short:
+            carriers[0].change("stock", -31)
+        self.assertLess(time.monotonic() - began, 1)
+        self.assertEqual((short.exception.share, self.lower(), carriers[0].counts.asked), (10, [10, 10, 10], 0))
+        carriers[0].change("stock", -30)                # and that holds up no other sale
+        self.assertEqual(self.lower(), [0, 0, 0])
+
+    def test_who_has_told_nothing_is_asked_and_no_more_once_it_has_told(self) -> None:
+        carrier = self.carrier(0, Policy(quiet=NEVER, patience=1.0))
+        self.hub.tell(f"{self.top}/1/shares", "stock 10 23\n", True)
+        self.await_it(lambda: carrier.known("stock", Kind.LOWER) == {1: 10, 2: None})
+        self.assertFalse(carrier.fetch("stock", Kind.LOWER, 31))
+        self.assertEqual(carrier.counts.asked, 2)       # of site 1 and site 2, for which nobody answers
+        time.sleep(1)                                   # until then nobody is asked again
+        timer = threading.Timer(0.3, self.hub.tell, (f"{self.top}/2/shares", "stock 10 23\n", True))
+        timer.start()
+        self.assertFalse(carrier.fetch("stock", Kind.LOWER, 31))
+        self.assertEqual(carrier.counts.asked, 3)
+        timer.join()
 
     def test_tasks_sell_all_that_there_is(self) -> None:
         carriers = self.carriers()
@@ -215,11 +239,11 @@ class CarrierTest(Sites):
         time.sleep(2)
         self.sites[0].change("stock", -10)
         self.await_it(lambda: self.lower() == [5, 5, 10])
-        asked = carriers[0].counts.asked
         with self.assertRaises(Short):
-            carriers[0].change("stock", -11)
-        self.assertEqual(self.lower()[0] + self.lower()[1], 10)
-        self.assertGreater(carriers[0].counts.asked, asked)
+            carriers[0].change("stock", -11)            # the two that are there have 10
+        self.assertEqual((self.lower()[:2], carriers[0].counts.asked), ([5, 5], 0))
+        carriers[0].change("stock", -7)                 # site 1 gives 3, half of its 5
+        self.assertEqual((sum(self.lower()[:2]), carriers[0].counts.asked), (3, 1))
         self.assertEqual(self.sites[2].read("stock"), Interval(10, 77))
 
     def test_an_old_copy_of_a_log_is_found(self) -> None:
