@@ -2,6 +2,7 @@
 from __future__ import annotations
 
 import contextlib
+import socket
 import ssl
 from typing import Any, Callable, Optional, Sequence
 
@@ -42,6 +43,7 @@ class Mqtt:
         if self._ca is not None:
             client.tls_set_context(ssl.create_default_context(cafile=self._ca))
         client.reconnect_delay_set(1, 8)
+        client.on_socket_open = _without_delay
         client.on_connect = connected
         client.on_message = lambda _client, _data, message: hear(message.topic, message.payload)
         self._client = client
@@ -67,6 +69,11 @@ class Mqtt:
                     self._last.wait_for_publish(CLOSING)
             self._client.disconnect()
             self._client.loop_stop()
+
+
+def _without_delay(_client: Any, _data: Any, sock: Any) -> None:
+    """A small message goes out at once, and not only once the one before it was acknowledged."""
+    sock.setsockopt(socket.IPPROTO_TCP, socket.TCP_NODELAY, 1)
 
 
 def _client(name: str) -> Any:

@@ -88,8 +88,9 @@ class Played:
         self.put_back(self.copy)
         self.serve()
         why = self.refused(self.medium())
-        self.assertTrue(why.startswith(f"{self.shop}/log: epoch 1, length {START + SALE}: older than its mark, epoch 1, "
-                                       f"length {START + 2 * SALE}: put the newest log back"), why)
+        wanted = (f"{self.shop}/log: epoch 1, length {START + SALE}: older than its mark, epoch 1, "
+                  f"length {START + 2 * SALE}: put the newest log back")
+        self.assertEqual(why[:len(wanted)], wanted)
         self.put_back(f"{self.copy}.other")
         site = self.serve()
         carrier = self.carrier(0, CALM, 0.1, self.medium())
@@ -125,7 +126,8 @@ class Process(Copied):
     """A shop in a process of its own."""
 
     def shop_process(self) -> subprocess.Popen[str]:
-        words = [sys.executable, os.path.join(PACKAGES, "tests", "carrying.py"), self.shop, escrow_site(), self.address()]
+        program = os.path.join(PACKAGES, "tests", "carrying.py")
+        words = [sys.executable, program, self.shop, escrow_site(), self.address()]
         shop = subprocess.Popen(words, stdout=subprocess.PIPE, stderr=subprocess.DEVNULL, text=True)
         self.addCleanup(shop.kill)
         assert shop.stdout
