@@ -50,7 +50,8 @@ class Broker:
         self._folder = folder
         os.makedirs(folder, exist_ok=True)
         lines = ["set_tcp_nodelay true", f"listener {self.port} 127.0.0.1", "persistence false",
-                 f"user {getpass.getuser()}", *(self._certify() if is_secret else []), *(self._guard(logins) if logins else ANYBODY)]
+                 f"user {getpass.getuser()}", *(self._certify() if is_secret else []),
+                 *(self._guard(logins) if logins else ANYBODY)]
         self._config = self._write("mosquitto.conf", lines)
         self.start()
 
