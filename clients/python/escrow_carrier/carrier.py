@@ -105,7 +105,7 @@ class Carrier:
         self._fetching = {place: threading.Lock() for place in self._places}
         self._worker = threading.Thread(target=self._work, name=f"carrier {site.number}", daemon=True)
         if metrics is not None:
-            count_in(metrics, self.counts, medium)
+            count_in(metrics, self.counts, medium, self._others, self._fields)
         self._begin(f"escrow-{world.world[:16]}-{site.number}")
 
     def _begin(self, name: str) -> None:
@@ -345,8 +345,8 @@ class Carrier:
             return
         try:
             gain = self.site.accept(given)
-        except Forged:
-            self.counts.forged += 1
+        except Forged as fault:
+            self._count_forged(given, fault)
             return
         except Refused:
             self.counts.garbage += 1
@@ -364,6 +364,13 @@ class Carrier:
             self._expect(given.giver, place, -gain, at)
             self._changed.notify_all()
         self._tell_shares([given.field])
+
+    def _count_forged(self, given: Statement, fault: Forged) -> None:
+        self.counts.forged += 1
+        self.counts.forged_by[given.giver, given.field] += 1
+        log.error("%s: a forged statement: that site %s gave %s rights to %s %s, where there is room for %s: see who can "
+                  "write to its topics", self.site.folder, given.giver, given.total, given.kind.value, given.field,
+                  fault.told)
 
     def _spare(self, ask: Ask) -> None:
         place = ask.field, ask.kind

@@ -115,7 +115,7 @@ def _trusting(ca: str) -> ssl.SSLContext:
     try:
         return ssl.create_default_context(cafile=ca)
     except ssl.SSLError as fault:
-        raise ValueError(f"{ca}: no certificate is in it: name the file of the certificates to trust, as PEM") from fault
+        raise ValueError(f"{ca}: no certificate is in it: name a PEM file of the certificates to trust") from fault
     except OSError as fault:
         raise OSError(fault.errno, os.strerror(fault.errno or 0), ca) from fault
 

@@ -49,7 +49,7 @@ class FaultsTest(unittest.TestCase):
         self.assertEqual(self.fault(Mqtt(port=free_port())), "no broker listens there (Connection refused): start it, "
                          "or look at the host and the port")
         for host in ("nowhere.invalid", "no..name"):
-            self.assertRegex(self.fault(Mqtt(host)), "^the host isn't found [(].*[)]: look at its name, and at the name")
+            self.assertRegex(self.fault(Mqtt(host)), "^the host isn't found [(].*[)]: look at its name, and at the")
 
     def test_a_login_that_is_refused(self) -> None:
         broker = self.broker(logins=[Login("site0", "word0", ["topic read #"])])
@@ -63,9 +63,9 @@ class FaultsTest(unittest.TestCase):
         broker, plain = self.broker(is_secret=True), self.broker("plain")
         other = self.broker("other", is_secret=True).certificate
         self.assertRegex(self.fault(Mqtt("localhost", broker.port, ca=other)),
-                         "^TLS: the broker's certificate isn't trusted [(]self.signed certificate[)]: name by `ca` the one")
+                         "^TLS: the broker's certificate isn't trusted [(]self.signed certificate[)]: name by `ca` the")
         self.assertRegex(self.fault(Mqtt("127.0.0.1", broker.port, ca=broker.certificate)),
-                         "^TLS: the broker's certificate isn't for 127.0.0.1 [(]IP address mismatch.*[)]: connect by a name")
+                         "^TLS: the broker's certificate isn't for 127.0.0.1 [(]IP address mismatch.*[)]: connect by a")
         self.assertRegex(self.fault(Mqtt("localhost", plain.port, ca=broker.certificate)),
                          "^TLS: no connection comes about [(].+[)]: look whether the broker has TLS on this port")
         self.assertRegex(self.fault(Mqtt("localhost", broker.port)),

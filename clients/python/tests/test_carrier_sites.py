@@ -270,14 +270,22 @@ class CarrierTest(Sites):
         numbers = Metrics(0)
         carrier = Carrier(self.sites[0], self.hub.port(), CALM, metrics=numbers)
         self.addCleanup(carrier.close)
-        self.hub.tell(f"{self.top}/1/given/0/stock/lower", str(10**17), False)
+        with self.assertLogs("escrow.carrier", "ERROR") as logs:
+            self.hub.tell(f"{self.top}/1/given/0/stock/lower", str(10**17), False)
+            self.await_it(lambda: carrier.counts.forged == 1)
+        self.assertEqual([it.getMessage() for it in logs.records], [
+            f"{self.sites[0].folder}: a forged statement: that site 1 gave {10**17} rights to lower stock, where there "
+            "is room for 66: see who can write to its topics"])
         self.sites[1].give(0, "stock", Kind.LOWER, 3)
         self.carrier(1)
         self.await_it(lambda: self.lower() == [13, 7, 10])
         told = text_of([numbers]).splitlines()
-        for line in ('escrow_carrier_forged_total{site="0"} 1', 'escrow_carrier_gained_total{site="0"} 3',
-                     'escrow_carrier_accepted_total{site="0"} 1', 'escrow_carrier_connected{site="0"} 1'):
+        for line in ('escrow_carrier_forged_total{site="0",giver="1",field="stock"} 1',
+                     'escrow_carrier_forged_total{site="0",giver="2",field="stock"} 0',
+                     'escrow_carrier_gained_total{site="0"} 3', 'escrow_carrier_accepted_total{site="0"} 1',
+                     'escrow_carrier_connected{site="0"} 1'):
             self.assertIn(line, told)
+        self.assertEqual(sum(it.startswith("escrow_carrier_forged") for it in told), 2)
 
     def test_garbage_is_counted_and_does_nothing(self) -> None:
         carriers = self.carriers()
