@@ -368,8 +368,8 @@ class Carrier:
     def _count_forged(self, given: Statement, fault: Forged) -> None:
         self.counts.forged += 1
         self.counts.forged_by[given.giver, given.field] += 1
-        log.error("%s: a forged statement: that site %s gave %s rights to %s %s, where there is room for %s: see who can "
-                  "write to its topics", self.site.folder, given.giver, given.total, given.kind.value, given.field,
+        log.error("%s: a forged statement: that site %s gave %s rights to %s %s, where there is room for %s: see who "
+                  "can write to its topics", self.site.folder, given.giver, given.total, given.kind.value, given.field,
                   fault.told)
 
     def _spare(self, ask: Ask) -> None:
