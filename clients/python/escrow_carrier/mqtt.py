@@ -14,7 +14,7 @@ from .medium import Hear
 
 CLOSING = 2.0                                           # seconds in which the broker has to take what was told last
 NOT_FOR_HOST = (62, 64)                                 # OpenSSL's faults of a certificate: of its name, of its address
-EXPIRED = 10
+NOT_NOW = (9, 10)                                       # not valid yet, and not any more
 log = logging.getLogger("escrow.carrier")
 
 
@@ -126,8 +126,8 @@ def _why(fault: OSError, host: str, is_tls: bool) -> str:
         told = fault.verify_message
         if fault.verify_code in NOT_FOR_HOST:
             return f"TLS: the broker's certificate isn't for {host} ({told}): connect by a name that is in it"
-        if fault.verify_code == EXPIRED:
-            return f"TLS: the broker's certificate isn't valid any more ({told}): make a new one"
+        if fault.verify_code in NOT_NOW:
+            return f"TLS: the broker's certificate isn't valid now ({told}): make a new one, or set the clock"
         return f"TLS: the broker's certificate isn't trusted ({told}): name by `ca` the one that it is signed by"
     if isinstance(fault, ssl.SSLError) or is_tls and isinstance(fault, ConnectionResetError):
         told = getattr(fault, "reason", None) or fault.strerror

@@ -4,9 +4,11 @@ from __future__ import annotations
 import os
 import shutil
 import socket
+import ssl
 import tempfile
 import threading
 import unittest
+from unittest.mock import patch
 
 from broker import MISSING, Broker, Login, free_port
 from programs import wait_until
@@ -73,6 +75,14 @@ class FaultsTest(unittest.TestCase):
         good = self.opened(Mqtt("localhost", broker.port, ca=broker.certificate))
         wait_until(lambda: good.is_connected)
         self.assertEqual((good.last_fault, good.last_refusal), ("", ""))
+
+    def test_a_certificate_that_is_not_valid_now(self) -> None:
+        fault = ssl.SSLCertVerificationError(1, "certificate verify failed")
+        for code, told in (9, "certificate is not yet valid"), (10, "certificate has expired"):
+            fault.verify_code, fault.verify_message = code, told
+            with self.subTest(told), patch("paho.mqtt.client.Client.reconnect", side_effect=fault):
+                self.assertEqual(self.fault(Mqtt()), f"TLS: the broker's certificate isn't valid now "
+                                 f"({told}): make a new one, or set the clock")
 
     def test_a_file_of_certificates_that_is_none(self) -> None:
         path = os.path.join(self.folder, "ca.pem")
