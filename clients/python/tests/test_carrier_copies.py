@@ -3,6 +3,7 @@ over a folder of files. Bytes of records are counted by hand."""
 from __future__ import annotations
 
 import fcntl
+import io
 import os
 import shutil
 import signal
@@ -21,7 +22,7 @@ from test_carrier_sites import CALM, NEVER, SHOPS, Sites
 
 from escrow import Down, Kind, Mark, Site
 from escrow_carrier import Carrier, Folder, Medium, last_mark
-from escrow_carrier.marks import marks_of
+from escrow_carrier.marks import _find_last, marks_of
 
 if not MISSING:
     from escrow_carrier import Mqtt
@@ -220,6 +221,8 @@ class BrokerCopiesTest(Played, Process):
         self.assertIsNone(first.found_mark)
         self.assertLess(0.4, time.monotonic() - began)
         wait_until(lambda: self.told() == Mark(1, START))
+        time.sleep(0.3)                                 # and its own, which it hears too, isn't one that it found
+        self.assertIsNone(first.found_mark)
         first.close()
         self.sites[0].close()
         self.serve()
@@ -315,6 +318,14 @@ class MarksTest(Copied):
             site.change("stock", -1)
             self.assertEqual(marks_of(site).start, Mark(1, size - name))
 
+    def test_bytes_are_found_across_windows(self) -> None:
+        with patch("escrow_carrier.marks.WINDOW", 8):
+            for place in range(40):
+                text = b"-" * place + b"\nR 2\n" + b"-" * 20
+                self.assertEqual(_find_last(io.BytesIO(text), b"\nR 2\n", len(text)), place)
+                self.assertEqual(_find_last(io.BytesIO(text), b"\nR 3\n", len(text)), -1)
+                self.assertEqual(_find_last(io.BytesIO(text), b"\nR 2\n", place + 4), -1)
+
     def test_a_copy_carries_nothing(self) -> None:
         topic = f"{self.top}/0/given/1/stock/lower"
         self.sites[0].give(1, "stock", Kind.LOWER, 1)
@@ -332,7 +343,7 @@ class MarksTest(Copied):
     def test_a_newer_mark_that_comes_later_is_kept_and_ends_the_site(self) -> None:
         site, carrier = self.sites[0], self.carrier(0, refresh=0.1)
         wait_until(lambda: self.mark() == f"1 {START}")
-        self.hub.tell(f"{self.top}/0/mark", "7 900", True)
+        self.hub.tell(f"{self.top}/0/mark", "7 900", False)     # it was kept until this one told its own
         with self.assertRaises(Down):
             site.change("stock", -1)                    # at once
         wait_until(lambda: site.pid is None)

@@ -9,10 +9,12 @@ import time
 import unittest
 from unittest.mock import patch
 
-from programs import wait_until
+from hub import Hub
+from programs import SiteTest, wait_until
 from test_carrier_sites import CALM, NEVER, Sites
 
 from escrow import Down, Mark, Site
+from escrow_carrier import Carrier
 
 # `R 1` and `R 2`, the starts, have 4 bytes with the line feed; `C 1 1 0 -3`, a sale of 3, has 11.
 START, SALE = 4, 11
@@ -91,6 +93,21 @@ class NewestMarkTest(Sites):
         self.addCleanup(self.sites[0].close)
 
 
+class GatedTest(SiteTest):
+    """A site whose process can be held up."""
+
+    def test_the_end_does_not_wait_for_a_site_between_two_starts(self) -> None:
+        gate = self.gated()
+        carrier = Carrier(gate.site, Hub().port(), CALM, NEVER)
+        wait_until(lambda: carrier.counts.connects == 1)
+        time.sleep(0.3)
+        gate.stop()
+        began = time.monotonic()
+        carrier.close()
+        self.assertLess(time.monotonic() - began, 3)
+        gate.open()
+
+
 class ToldMarkTest(Sites):
     """What a carrier tells of it."""
 
@@ -116,18 +133,21 @@ class ToldMarkTest(Sites):
         self.assertEqual(self.sites[0].counts.answers, answers)
 
     def test_a_sale_between_the_questions_of_a_look_is_seen_by_the_next(self) -> None:
-        site, sold = self.sites[0], threading.Event()
+        site, is_awaited = self.sites[0], threading.Event()
         newest = site.newest_mark
 
         def sells_behind_it() -> Mark:
             mark = newest()
-            if not sold.is_set():
+            if is_awaited.is_set():
+                is_awaited.clear()
                 site.change("stock", -3)
-                sold.set()
             return mark
         site.newest_mark = sells_behind_it              # type: ignore[method-assign]
         self.carrier(0, refresh=0.1)
-        self.await_it(lambda: self.kept() == f"1 {START + SALE}")
+        time.sleep(0.5)
+        is_awaited.set()
+        site.change("stock", -3)
+        wait_until(lambda: self.kept() == f"1 {START + 2 * SALE}")
 
     def test_the_end_tells_it_at_once_and_last(self) -> None:
         told: list[str] = []
