@@ -351,6 +351,19 @@ class MarksTest(Copied):
         time.sleep(0.3)
         self.assertEqual(self.mark(), "7 900")
 
+    def test_of_two_folders_that_are_served_at_once_the_one_started_last_goes_on(self) -> None:
+        site, first = self.sites[0], self.carrier(0, refresh=0.1)
+        wait_until(lambda: self.mark() == f"1 {START}")
+        self.take_copy()
+        with Site(self.copy, trace=True) as other, Carrier(other, self.hub.port(), CALM, 0.1) as second:
+            wait_until(lambda: site.pid is None)
+            with self.assertRaises(Down) as down:
+                site.change("stock", -1)
+            self.assertIn(f"older than its mark, epoch 2, length {2 * START}", str(down.exception))
+            other.change("stock", -3)
+            wait_until(lambda: self.mark() == f"2 {2 * START + SALE}")
+            self.assertEqual((str(first.last_fault), second.last_fault), (str(down.exception), None))
+
     def test_a_new_site_is_no_warning(self) -> None:
         with self.assertLogs("escrow.carrier", "INFO") as logs:
             carrier = self.carrier(0)
