@@ -478,7 +478,7 @@ class Carrier:
 
 class AsyncCarrier:
     """The same carrier for the tasks of one event loop: they sell in the loop what the site has, and wait for
-    rights of others in a thread."""
+    rights of others in a thread. Make the `Carrier` before the loop runs: it waits for the mark of its site."""
 
     def __init__(self, carrier: Carrier, site: AsyncSite) -> None:
         self._carrier, self._site = carrier, site

@@ -2,6 +2,7 @@
 less than before. The bytes of the records are counted by hand."""
 from __future__ import annotations
 
+import asyncio
 import os
 import signal
 import threading
@@ -13,7 +14,7 @@ from hub import Hub
 from programs import SiteTest, wait_until
 from test_carrier_sites import CALM, NEVER, Sites
 
-from escrow import Down, Mark, Site
+from escrow import AsyncSite, Down, Mark, Site
 from escrow_carrier import Carrier
 
 # `R 1` and `R 2`, the starts, have 4 bytes with the line feed; `C 1 1 0 -3`, a sale of 3, has 11.
@@ -31,6 +32,11 @@ class NewestMarkTest(Sites):
         os.kill(site.pid or 0, signal.SIGKILL)
         site.change("stock", -3)
         self.assertEqual(site.newest_mark(), Mark(2, START + SALE + START + SALE))
+
+    def test_tasks_have_it_too(self) -> None:
+        site = self.sites[0]
+        site.change("stock", -3)
+        self.assertEqual(asyncio.run(AsyncSite(site).newest_mark()), Mark(1, START + SALE))
 
     def test_a_start_over_the_same_log_is_not_refused(self) -> None:
         site = self.sites[0]

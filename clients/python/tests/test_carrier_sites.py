@@ -218,7 +218,7 @@ class CarrierTest(Sites):
         self.assertEqual(self.lower(), left)
 
     def test_what_is_on_its_way_is_not_given_twice(self) -> None:
-        carriers = self.met([self.carrier(number, CALM, 1.0) for number in range(3)])
+        carriers = self.met([self.carrier(number, CALM, 2.0) for number in range(3)])
         carriers[2].close()                             # of the others one is left to give
         self.sites[0].change("stock", -10)
         self.await_it(lambda: carriers[1].known("stock", Kind.LOWER) == {0: 0})
@@ -226,7 +226,7 @@ class CarrierTest(Sites):
         assert pid is not None
         os.kill(pid, signal.SIGSTOP)
         carriers[1].policy = Policy(quiet=0.3)
-        time.sleep(2.5)                                 # two or three looks, before site 0 is held for away
+        time.sleep(5)                                   # two or three looks, before site 0 is held for away
         given = carriers[1].counts.evened
         os.kill(pid, signal.SIGCONT)
         self.assertEqual(given, 5)
