@@ -33,7 +33,7 @@ class Signal(Enum):
 
     OPENED = auto()                                     # the medium is connected
     STARTED = auto()                                    # the site stands anew
-    REFUSED = auto()                                    # the site's log is an older copy
+    REFUSED = auto()                                    # the site's log is an older copy: no more is carried
     CLOSE = auto()
 
 
@@ -281,15 +281,14 @@ class Carrier:
 
     def _work(self) -> None:
         due = time.monotonic()
-        while (event := self._next(due)) is not Signal.CLOSE:
-            if event is Signal.REFUSED and self._newer is not None:
-                self._end_site(self._newer)
-                break
+        while self._newer is None and (event := self._next(due)) is not Signal.CLOSE:
             self._try(lambda: self._take(event))
             if time.monotonic() >= due:
                 self._try(self._look)
                 due = time.monotonic() + self.refresh
-        if self.site.up:
+        if self._newer is not None:
+            self._end_site(self._newer)
+        elif self.site.up:
             self._try(self._renew_mark)
 
     def _try(self, act: Callable[[], None]) -> None:

@@ -10,6 +10,7 @@ import signal
 import subprocess
 import sys
 import tempfile
+import threading
 import time
 import unittest
 from typing import Optional
@@ -350,6 +351,21 @@ class MarksTest(Copied):
         self.assertIn("older than its mark, epoch 7, length 900", str(carrier.last_fault))
         time.sleep(0.3)
         self.assertEqual(self.mark(), "7 900")
+
+    def test_a_newer_mark_at_the_very_end_is_kept_too(self) -> None:
+        site, carrier = self.sites[0], self.carrier(0)
+        wait_until(lambda: self.mark() == f"1 {START}")
+        pid = site.pid or 0
+        os.kill(pid, signal.SIGSTOP)                    # the carrier waits for an answer, and hears the mark meanwhile
+        self.hub.tell(f"{self.top}/1/given/0/stock/lower", "1", False)
+        wait_until(lambda: site.unanswered == 1)
+        ended = threading.Thread(target=carrier.close)
+        ended.start()
+        wait_until(lambda: not site.on_start)
+        self.hub.tell(f"{self.top}/0/mark", "7 900", False)
+        os.kill(pid, signal.SIGCONT)
+        ended.join()
+        self.assertEqual((self.mark(), site.pid), ("7 900", None))
 
     def test_of_two_folders_that_are_served_at_once_the_one_started_last_goes_on(self) -> None:
         site, first = self.sites[0], self.carrier(0, refresh=0.1)
